@@ -1,0 +1,44 @@
+-- Laws of conjunctions, and of a test of every number below a bound.
+use Prim.Native.Nat.{ℕ, zero, suc, _+_, _<_, _≤_}
+use mathlib.Core.Bool.{Bool, true, false, _&&_, true≢false}
+use mathlib.Core.Path.{_≡_, refl, sym}
+use native.Mathlib.Omega.{arith}
+use native.Mathlib.Numerals.{add-one}
+use lib.Dec.{ltb}
+use borrow.Author.Tests.{ltb-true, ltb-false}
+use Rattle.octets.specs.All.{allBelow}
+
+pub and-left : (a b : Bool) → (a && b) ≡ true → a ≡ true
+and-left true b e = refl
+and-left false b e = absurd (true≢false (sym e))
+
+pub and-right : (a b : Bool) → (a && b) ≡ true → b ≡ true
+and-right true b e = e
+and-right false b e = absurd (true≢false (sym e))
+
+-- The turns of a loop that tests every number below a bound: nothing yet, one more, and all.
+pub all-none : (p : ℕ → Bool) → true ≡ allBelow p 0
+unfolding allBelow
+all-none p = refl
+
+pub all-more : (p : ℕ → Bool) (i : ℕ) {good x : Bool} → good ≡ allBelow p i → x ≡ p i → (good && x) ≡ allBelow p (i + 1)
+unfolding allBelow
+all-more p i e f = rw (add-one, e, f)
+
+pub all-end : (p : ℕ → Bool) (i n : ℕ) {good : Bool} → good ≡ allBelow p i → i ≤ n → n ≤ i → good ≡ allBelow p n
+all-end p i n e a b = let k : i ≡ n = omega arith in cc
+
+-- What holds of every number below a bound holds of each, and the other way round.
+pub all-at : (p : ℕ → Bool) (n : ℕ) → allBelow p n ≡ true → (i : ℕ) → i < n → p i ≡ true
+unfolding allBelow
+all-at p zero e i h = absurd (omega arith)
+all-at p (suc n) e i h = go (ltb i n) refl (all-at p n (and-left (allBelow p n) (p n) e) i)
+  where
+    go : (x : Bool) → ltb i n ≡ x → (i < n → p i ≡ true) → p i ≡ true
+    go true f r = r (ltb-true _ _ f)
+    go false f r = let k : i ≡ n = omega (arith, ltb-false i n f) in rw k (and-right (allBelow p n) (p n) e)
+
+pub all-true : (p : ℕ → Bool) (n : ℕ) → ((i : ℕ) → i < n → p i ≡ true) → allBelow p n ≡ true
+unfolding allBelow
+all-true p zero h = refl
+all-true p (suc n) h = rw (all-true p n (λ i k. h i (omega arith)), h n (omega arith))

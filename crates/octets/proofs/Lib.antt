@@ -1,0 +1,7 @@
+pub mod All
+pub mod Names
+pub mod Numbers
+pub mod Orders
+pub mod Runs
+pub mod Sums
+pub mod Writes

@@ -1,0 +1,126 @@
+-- Laws of names: alike is equal, and the order is strict and passes on.
+use Prim.Native.Nat.{ℕ, _<_, _≤_}
+use mathlib.Core.Bool.{Bool, true, false, cond}
+use mathlib.Core.Path.{_≡_, refl}
+use mathlib.Core.Logic.{_⊎_, inl, inr}
+use mathlib.Core.List.{List, [], _∷_}
+use native.Mathlib.Omega.{arith}
+use lib.Dec.{eqb, ltb}
+use lib.ListN.{length, getD}
+use lib.Seq.{ext-getD}
+use borrow.Author.Tests.{lt-ltb, le-ltb, ltb-true, ltb-false, eqb-true, eq-eqb, ne-eqb}
+use Rattle.octets.specs.All.{allBelow}
+use Rattle.octets.specs.Name.{orderOf, alikeAt, same}
+use Rattle.octets.specs.declared.name.Order.{Order}
+use Rattle.octets.specs.declared.name.Order.the-variants.{Less, Equal, Greater}
+use Rattle.octets.proofs.All.{and-left, and-right, all-at, all-true}
+
+pub same-eq : (s t : List ℕ) → same s t ≡ true → s ≡ t
+unfolding same alikeAt
+same-eq s t e =
+    ext-getD 0 s t (eqb-true _ _ (and-left (eqb (length s) (length t)) _ e))
+    (λ i h. eqb-true _ _ (all-at (alikeAt s t) (length s) (and-right (eqb (length s) (length t)) _ e) i h))
+
+pub same-refl : (s : List ℕ) → same s s ≡ true
+unfolding same alikeAt
+same-refl s = rw (eq-eqb (length s) (length s) refl) (all-true (alikeAt s s) (length s) (λ i h. eq-eqb (getD s i 0) (getD s i 0) refl))
+
+pub same-yes : (s t : List ℕ) → s ≡ t → same s t ≡ true
+same-yes s t e = rw e (same-refl t)
+
+pub same-no : (s t : List ℕ) → (s ≡ t → ⊥) → same s t ≡ false
+same-no s t h = go (same s t) refl
+  where
+    go : (x : Bool) → same s t ≡ x → same s t ≡ false
+    go true e = absurd (h (same-eq s t e))
+    go false e = e
+
+-- The turns of the loop that compares.
+pub same-end : (s t : List ℕ) (good : Bool) (i : ℕ) → length s ≡ length t → i ≤ length s → length s ≤ i → good ≡ allBelow (alikeAt s t) i → good ≡ same s t
+unfolding same
+same-end s t good i e a b f = let k : i ≡ length s = omega arith in rw (eq-eqb _ _ e, ← k) f
+
+pub same-lengths : (s t : List ℕ) → (length s ≡ length t → ⊥) → false ≡ same s t
+unfolding same
+same-lengths s t h = rw (ne-eqb _ _ h)
+
+-- The order.
+less-head : (x y : ℕ) (s t : List ℕ) → x < y → orderOf (x ∷ s) (y ∷ t) ≡ Less
+unfolding orderOf
+less-head x y s t h = rw (lt-ltb _ _ h)
+
+less-tail : (x y : ℕ) (s t : List ℕ) → x ≡ y → orderOf s t ≡ Less → orderOf (x ∷ s) (y ∷ t) ≡ Less
+unfolding orderOf
+less-tail x y s t e h =
+    let a : y ≤ x = omega arith in
+    let b : x ≤ y = omega arith in
+    rw (le-ltb _ _ a, le-ltb _ _ b) h
+
+never : {A : Type 0} (o : Order) → o ≡ Less → o ≡ Greater → A
+never o a b = let z : _≡_ {A = ℕ} 0 1 = cc in absurd (omega arith)
+
+never2 : {A : Type 0} (o : Order) → o ≡ Less → o ≡ Equal → A
+never2 o a b = let z : _≡_ {A = ℕ} 0 1 = cc in absurd (omega arith)
+
+never3 : {A : Type 0} (o : Order) → o ≡ Greater → o ≡ Equal → A
+never3 o a b = let z : _≡_ {A = ℕ} 0 1 = cc in absurd (omega arith)
+
+less-cases : (x y : ℕ) (s t : List ℕ) → orderOf (x ∷ s) (y ∷ t) ≡ Less → (x < y) ⊎ ((x ≡ y) × (orderOf s t ≡ Less))
+unfolding orderOf
+less-cases x y s t h = go (ltb x y) (ltb y x) refl refl h
+  where
+    go : (a b : Bool) → ltb x y ≡ a → ltb y x ≡ b → cond a Less (cond b Greater (orderOf s t)) ≡ Less → (x < y) ⊎ ((x ≡ y) × (orderOf s t ≡ Less))
+    go true b e f k = inl (ltb-true _ _ e)
+    go false true e f k = never Greater k refl
+    go false false e f k = inr (omega (arith, ltb-false x y e, ltb-false y x f), k)
+
+pub order-refl : (s : List ℕ) → orderOf s s ≡ Equal
+unfolding orderOf
+order-refl [] = refl
+order-refl (x ∷ s) = let a : x ≤ x = omega arith in rw (le-ltb x x a) (order-refl s)
+
+pub order-eq : (s t : List ℕ) → orderOf s t ≡ Equal → s ≡ t
+unfolding orderOf
+order-eq [] [] e = refl
+order-eq [] (y ∷ t) e = never2 Less refl e
+order-eq (x ∷ s) [] e = never3 Greater refl e
+order-eq (x ∷ s) (y ∷ t) e = go (ltb x y) (ltb y x) refl refl e (order-eq s t)
+  where
+    go : (a b : Bool) → ltb x y ≡ a → ltb y x ≡ b → cond a Less (cond b Greater (orderOf s t)) ≡ Equal → (orderOf s t ≡ Equal → s ≡ t) → (x ∷ s) ≡ (y ∷ t)
+    go true b e f k i = never2 Less refl k
+    go false true e f k i = never3 Greater refl k
+    go false false e f k i =
+        let h : x ≡ y = omega (arith, ltb-false x y e, ltb-false y x f) in
+        let r : s ≡ t = i k in
+        cc
+
+pub order-flip : (s t : List ℕ) → orderOf s t ≡ Greater → orderOf t s ≡ Less
+unfolding orderOf
+order-flip [] [] e = never3 Equal e refl
+order-flip [] (y ∷ t) e = never Less refl e
+order-flip (x ∷ s) [] e = refl
+order-flip (x ∷ s) (y ∷ t) e = go (ltb x y) (ltb y x) refl refl e (order-flip s t)
+  where
+    go : (a b : Bool) → ltb x y ≡ a → ltb y x ≡ b → cond a Less (cond b Greater (orderOf s t)) ≡ Greater → (orderOf s t ≡ Greater → orderOf t s ≡ Less) → orderOf (y ∷ t) (x ∷ s) ≡ Less
+    go true b e f k i = never Less refl k
+    go false true e f k i = less-head y x t s (ltb-true _ _ f)
+    go false false e f k i = less-tail y x t s (omega (arith, ltb-false x y e, ltb-false y x f)) (i k)
+
+pub order-trans : (s t u : List ℕ) → orderOf s t ≡ Less → orderOf t u ≡ Less → orderOf s u ≡ Less
+unfolding orderOf
+order-trans [] [] u e f = never2 Equal e refl
+order-trans [] (y ∷ t) [] e f = never Greater f refl
+order-trans [] (y ∷ t) (z ∷ u) e f = refl
+order-trans (x ∷ s) [] u e f = never Greater e refl
+order-trans (x ∷ s) (y ∷ t) [] e f = never Greater f refl
+order-trans (x ∷ s) (y ∷ t) (z ∷ u) e f = go (less-cases x y s t e) (less-cases y z t u f) (order-trans s t u)
+  where
+    go : (x < y) ⊎ ((x ≡ y) × (orderOf s t ≡ Less)) → (y < z) ⊎ ((y ≡ z) × (orderOf t u ≡ Less)) → (orderOf s t ≡ Less → orderOf t u ≡ Less → orderOf s u ≡ Less) → orderOf (x ∷ s) (z ∷ u) ≡ Less
+    go (inl a) (inl b) i = less-head x z s u (omega arith)
+    go (inl a) (inr b) i = less-head x z s u (omega (arith, b .0))
+    go (inr a) (inl b) i = less-head x z s u (omega (arith, a .0))
+    go (inr a) (inr b) i = less-tail x z s u (omega (arith, a .0, b .0)) (i (a .1) (b .1))
+
+-- A name that comes before or after another is another.
+pub less-differs : (s t : List ℕ) → orderOf s t ≡ Less → s ≡ t → ⊥
+less-differs s t e f = never2 (orderOf s t) e (rw f (order-refl t))

@@ -1,0 +1,11 @@
+use borrow.Author.Tests.{lt-ltb, le-ltb}
+use borrow.Author.Needs.{needs}
+use Rattle.octets.proofs.name.by_byte.Statement.{statement}
+use Rattle.octets.proofs.name.by_byte.Tie as tie
+
+pub by-byte-spec : {M : Type 1} → statement M
+by-byte-spec =
+    tie.close
+    (tie.spec
+    (λ c. rw (lt-ltb _ _ (c .if1 .taken)))
+    (λ c. rw (le-ltb _ _ (c .if1 .left))))

@@ -1,0 +1,22 @@
+use lib.ListN.{length-set}
+use native.Mathlib.Omega.{arith}
+use Rattle.octets.specs.Number.{putBe16}
+use borrow.Author.Needs.{needs}
+use Rattle.octets.proofs.number.put_be16.Statement.{statement}
+use Rattle.octets.proofs.number.put_be16.Tie as tie
+
+returns : tie.Need-returns
+unfolding putBe16
+returns c = search needs
+
+pub put-be16-spec : {M : Type 1} → statement M
+put-be16-spec =
+    tie.close
+    (tie.spec
+    (λ c. search needs)
+    (λ c. search needs)
+    (λ c. search needs)
+    (λ c. search needs)
+    (λ c. simp length-set (omega arith))
+    (λ c. search needs)
+    returns)

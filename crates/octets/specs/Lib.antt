@@ -1,0 +1,5 @@
+pub mod All
+pub mod Name
+pub mod Number
+pub mod Run
+pub mod Sum

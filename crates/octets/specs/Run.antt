@@ -1,0 +1,29 @@
+-- Runs of bytes: zeros in a list, a name in its field, bytes written over the front of a buffer.
+use Prim.Native.Nat.{ℕ, zero, suc, _+_, _-_}
+use mathlib.Core.Bool.{Bool, true, _&&_}
+use mathlib.Core.Path.{_≡_}
+use mathlib.Core.List.{List, _++_}
+use lib.ListN.{length, getD, set, drop}
+use lib.Dec.{eqb}
+
+-- the n bytes from a place are all zero; the bytes from one place up to another
+unfoldable pub zeros : List ℕ → ℕ → ℕ → Bool
+zeros s at zero = true
+zeros s at (suc n) = zeros s at n && eqb (getD s (at + n) 0) 0
+
+unfoldable pub zeroBetween : List ℕ → ℕ → ℕ → Bool
+zeroBetween s from to = zeros s from (to - from)
+
+-- a field of n bytes at a place: the name, and zeros past its end
+unfoldable pub putName : List ℕ → ℕ → List ℕ → ℕ → List ℕ
+putName s at name zero = s
+putName s at name (suc n) = set (putName s at name n) (at + n) (getD name n 0)
+
+-- a buffer with w written over its front
+unfoldable pub over : List ℕ → List ℕ → List ℕ
+over w b = w ++ drop (length w) b
+
+-- w, r bytes long, was written over the front of a buffer; what is past it stayed
+pub record Wrote (w before after : List ℕ) (r : ℕ) : Type 0 where
+  pub count : r ≡ length w
+  pub bytes : after ≡ over w before
