@@ -1,0 +1,4 @@
+pub mod Avp
+pub mod Put
+pub mod Reader
+pub mod Walk

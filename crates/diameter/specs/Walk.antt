@@ -1,0 +1,25 @@
+-- A message's body cut into its AVPs.
+use Prim.Native.Nat.{ℕ, zero, suc, pred}
+use mathlib.Core.List.{List, [], _∷_}
+use mathlib.Core.Bool.{Bool, true, false}
+use lib.ListN.{take}
+use Rattle.diameter.specs.Avp.{padded, avpLen, sound}
+
+-- The AVPs in order, each its own bytes without padding; then the end, or what is left from an AVP on whose length is faulty.
+pub data Walk : Type 0 where
+  ended : Walk
+  faulty : List ℕ → Walk
+  avp : List ℕ → Walk → Walk
+
+abbrev pub onSound : Bool → List ℕ → Walk → Walk
+onSound true t w = avp (take (avpLen t) t) w
+onSound false t w = faulty t
+
+-- the body after so many bytes that are still to be passed over
+unfoldable pub walkFrom : ℕ → List ℕ → Walk
+walkFrom k [] = ended
+walkFrom (suc k) (x ∷ t) = walkFrom k t
+walkFrom zero (x ∷ t) = onSound (sound (x ∷ t)) (x ∷ t) (walkFrom (pred (padded (avpLen (x ∷ t)))) t)
+
+unfoldable pub walk : List ℕ → Walk
+walk t = walkFrom zero t

@@ -1,0 +1,40 @@
+-- The names that stand in a block, and the bits of a record.
+use Prim.Native.Nat.{ℕ, _/_, _%_, _-_}
+use mathlib.Core.Bool.{Bool}
+use mathlib.Core.List.{List}
+use lib.ListN.{getD, take, drop}
+use lib.Dec.{eqb}
+
+-- Header: "13, 14 lengths of host and realm; 16-79 host; 80-143 realm"
+unfoldable pub hostOf : List ℕ → List ℕ
+hostOf b = take (getD b 13 0) (drop 16 b)
+
+unfoldable pub realmOf : List ℕ → List ℕ
+realmOf b = take (getD b 14 0) (drop 80 b)
+
+-- Record: "13, 14, 15 lengths of public identity, private identity, server name; 16-143, 144-271, 272-367 these names"
+unfoldable pub publicOf : List ℕ → List ℕ
+publicOf b = take (getD b 13 0) (drop 16 b)
+
+unfoldable pub privateOf : List ℕ → List ℕ
+privateOf b = take (getD b 14 0) (drop 144 b)
+
+unfoldable pub serverOf : List ℕ → List ℕ
+serverOf b = take (getD b 15 0) (drop 272 b)
+
+-- "8 state"; "9 bits 0 pending, 1 barred, 2 unregistered services"
+abbrev pub stateOf : List ℕ → ℕ
+stateOf b = getD b 8 0
+
+abbrev pub pending : ℕ → Bool
+pending bits = eqb (bits % 2) 1
+
+abbrev pub barred : ℕ → Bool
+barred bits = eqb (bits / 2 % 2) 1
+
+abbrev pub unregisteredServices : ℕ → Bool
+unregisteredServices bits = eqb (bits / 4 % 2) 1
+
+-- "pending cleared"
+abbrev pub cleared : ℕ → ℕ
+cleared bits = bits - bits % 2

@@ -1,0 +1,36 @@
+-- "Header: 0 kind 1; 1 edition 1; 4-7 block number 0; 8-11 count; 12 keep (0 or 1); 13, 14 lengths of host and realm (1 to 64);
+-- 15 networks (0 to 8); 16-79 host; 80-143 realm; 144-399 eight places of 32"
+use Prim.Native.Nat.{ℕ, _+_}
+use mathlib.Core.Bool.{Bool, _&&_}
+use mathlib.Core.List.{List}
+use lib.ListN.{getD}
+use lib.Dec.{eqb, leb}
+use Rattle.octets.specs.Number.{be32At}
+use Rattle.octets.specs.Run.{zeroBetween}
+use Rattle.octets.specs.Sum.{sumWords}
+use Rattle.record.specs.Networks.{soundNetworks}
+use Rattle.record.specs.declared.header.Header.{Header}
+
+unfoldable pub headerOf : List ℕ → Header
+headerOf b = record { count = be32At b 8; keep = getD b 12 0; host = getD b 13 0; realm = getD b 14 0; networks = getD b 15 0 }
+
+-- kind, edition, the two bytes not named, and the block's number
+abbrev pub soundTop : List ℕ → Bool
+soundTop b = eqb (getD b 0 0) 1 && eqb (getD b 1 0) 1 && eqb (getD b 2 0) 0 && eqb (getD b 3 0) 0 && eqb (be32At b 4) 0
+
+-- "0 to 4,096" records; networks "0 to 8"
+abbrev pub soundCounts : Header → Bool
+soundCounts h = leb (h .count) 4096 && leb (h .networks) 8
+
+abbrev pub soundNumbers : Header → Bool
+soundNumbers h = leb (h .keep) 1 && leb 1 (h .host) && leb (h .host) 64 && leb 1 (h .realm) && leb (h .realm) 64
+
+-- "Bytes not named are zero, and so are unused places in a field."
+abbrev pub soundRest : List ℕ → Header → Bool
+soundRest b h = zeroBetween b (16 + h .host) 80 && zeroBetween b (80 + h .realm) 144 && zeroBetween b 400 508
+
+-- a sound header block; the counts stand first, since the check of the records rests on them
+unfoldable pub soundHeader : List ℕ → Bool
+soundHeader b =
+    soundCounts (headerOf b)
+    && (eqb (sumWords b 128) 0 && soundTop b && soundNumbers (headerOf b) && soundRest b (headerOf b) && soundNetworks b (headerOf b .networks))

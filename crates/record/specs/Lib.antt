@@ -1,0 +1,4 @@
+pub mod Fields
+pub mod HeaderBlock
+pub mod Networks
+pub mod RecordBlock

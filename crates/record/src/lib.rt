@@ -1,0 +1,4 @@
+// One block of the table: the header with its networks, and a record.
+pub mod header;
+pub mod networks;
+pub mod subscriber;

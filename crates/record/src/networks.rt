@@ -1,0 +1,1 @@
+// The eight places of visited networks in the header block.
