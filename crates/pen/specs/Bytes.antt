@@ -1,8 +1,9 @@
 -- The bytes of AVPs that are written.
-use Prim.Native.Nat.{ℕ, _+_, _-_, _*_, _/_, _%_}
+use Prim.Native.Nat.{ℕ, zero, suc, _+_, _-_, _*_, _/_, _%_}
 use mathlib.Core.List.{List, [], _∷_, _++_}
-use mathlib.Core.Bool.{Bool, true, false}
-use lib.ListN.{length, replicate}
+use mathlib.Core.Bool.{Bool, true, false, _||_}
+use lib.Dec.{ltb}
+use lib.ListN.{length, replicate, take, drop}
 
 -- the zero bytes that pad n bytes to a multiple of 4
 unfoldable pub padding : ℕ → List ℕ
@@ -51,3 +52,20 @@ vendorGroup code members = vendorHead code (12 + length members) ++ members
 unfoldable pub ifThere : Bool → List ℕ → List ℕ
 ifThere true w = w
 ifThere false w = []
+
+-- "260 (266, 258)"; "Experimental-Result 297 (266, 298)"; "Failed-AVP 279"
+unfoldable pub vendorApplication : List ℕ
+vendorApplication = group 260 (numberBytes 266 10415 ++ numberBytes 258 16777216)
+
+unfoldable pub experimental : ℕ → List ℕ
+experimental n = group 297 (numberBytes 266 10415 ++ numberBytes 298 n)
+
+unfoldable pub failed : List ℕ → List ℕ
+failed a = group 279 (copied a)
+
+unfoldable pub vendorNumbers : ℕ → List ℕ → ℕ → List ℕ
+vendorNumbers code words zero = []
+vendorNumbers code words (suc n) = vendorNumbers code words n ++ (vendorHead code 16 ++ take 4 (drop (4 * n) words))
+
+unfoldable pub capabilities : List ℕ → List ℕ → List ℕ
+capabilities m o = ifThere (ltb 0 (length m) || ltb 0 (length o)) (vendorGroup 603 (vendorNumbers 604 m (length m / 4) ++ vendorNumbers 605 o (length o / 4)))

@@ -1,0 +1,42 @@
+-- "Decisions": one request over a sound table of count records and a profile file.
+use Prim.Native.Nat.{ℕ}
+use mathlib.Core.List.{List}
+use mathlib.Core.Bool.{cond}
+use lib.ListN.{getD}
+use lib.Dec.{eqb}
+use Rattle.table.specs.Blocks.{blockOf}
+use Rattle.reading.specs.Kinds.{userName, publicIdentity, visitedNetwork, serverName, assignmentType, dataAvailable, authorizationType}
+use Rattle.reading.specs.Rules.{Seen, Judged, bad, fine}
+use Rattle.reading.specs.Request.{commandOf, bodyOf, readRequest, given, dataIn, valueIn, identities}
+use Rattle.reading.specs.declared.Outcome.the-variants.{Base}
+use Rattle.decisions.specs.Reply.{failing}
+use Rattle.decisions.specs.Authorization.{authorize}
+use Rattle.decisions.specs.Location.{locate}
+use Rattle.decisions.specs.Assignment.{Decision, Assignment, unaltered, assign}
+
+-- what a SAR says
+unfoldable pub assignmentOf : Seen → List ℕ → Assignment
+assignmentOf seen req =
+    record {
+      kind = valueIn seen assignmentType;
+      server = dataIn seen serverName;
+      already = valueIn seen dataAvailable;
+      named = given seen userName;
+      user = dataIn seen userName;
+      identities = identities (bodyOf req);
+    }
+
+-- UAR 300, SAR 301, LIR 302
+unfoldable pub decideRead : List ℕ → List ℕ → ℕ → List ℕ → Seen → Decision
+decideRead req t count file seen =
+    cond (eqb (commandOf req) 300)
+    (unaltered t (authorize t count (dataIn seen userName) (dataIn seen publicIdentity) (dataIn seen visitedNetwork) (valueIn seen authorizationType)))
+    (cond (eqb (commandOf req) 301) (assign t count file (eqb (getD (blockOf t 0) 12 0) 1) (assignmentOf seen req))
+    (unaltered t (locate t count (dataIn seen publicIdentity))))
+
+unfoldable pub decideJudged : List ℕ → List ℕ → ℕ → List ℕ → Judged → Decision
+decideJudged req t count file (bad n f) = unaltered t (failing (Base n) f)
+decideJudged req t count file (fine seen) = decideRead req t count file seen
+
+unfoldable pub decide : List ℕ → List ℕ → ℕ → List ℕ → Decision
+decide req t count file = decideJudged req t count file (readRequest req)

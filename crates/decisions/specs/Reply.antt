@@ -1,0 +1,58 @@
+-- What a decision gives the answer to carry.
+use Prim.Native.Nat.{ℕ, _*_}
+use mathlib.Core.List.{List, []}
+use mathlib.Core.Option.{Option, none, some}
+use mathlib.Core.Bool.{cond}
+use lib.ListN.{length, getD, take, drop}
+use lib.Dec.{eqb}
+use Rattle.octets.specs.Number.{be16At, be32At}
+use Rattle.record.specs.Fields.{serverOf}
+use Rattle.table.specs.Blocks.{blockOf}
+use Rattle.lookup.specs.declared.Found.{Found}
+use Rattle.lookup.specs.declared.Found.the-variants.{At, Nothing}
+use Rattle.reading.specs.declared.Outcome.{Outcome}
+use Rattle.reading.specs.declared.Outcome.the-variants.{Base, Experimental}
+
+-- An empty list is an AVP that is absent: no name that is stored is empty. Capabilities are the bytes of their words.
+pub record Reply : Type 0 where
+  pub result : Outcome
+  pub user : List ℕ
+  pub server : List ℕ
+  pub mandatory : List ℕ
+  pub optional : List ℕ
+  pub profile : List ℕ
+  pub failed : Option (List ℕ)
+
+-- a result alone; with Failed-AVP
+abbrev pub plain : Outcome → Reply
+plain r = record { result = r; user = []; server = []; mandatory = []; optional = []; profile = []; failed = none }
+
+abbrev pub failing : Outcome → Option (List ℕ) → Reply
+failing r f = record { result = r; user = []; server = []; mandatory = []; optional = []; profile = []; failed = f }
+
+-- with a server name
+abbrev pub serving : Outcome → List ℕ → Reply
+serving r name = record { result = r; user = []; server = name; mandatory = []; optional = []; profile = []; failed = none }
+
+-- "the server name (none stored: B5012)"
+unfoldable pub served : Outcome → List ℕ → Reply
+served r name = cond (eqb (length name) 0) (plain (Base 5012)) (serving r name)
+
+-- with the asked record's capabilities: "11, 12 counts of mandatory and optional capabilities; 368-383, 384-399 capabilities, 32 bits each"
+unfoldable pub mandatoryOf : List ℕ → List ℕ
+mandatoryOf b = take (4 * getD b 11 0) (drop 368 b)
+
+unfoldable pub optionalOf : List ℕ → List ℕ
+optionalOf b = take (4 * getD b 12 0) (drop 384 b)
+
+abbrev pub capable : Outcome → List ℕ → Reply
+capable r b = record { result = r; user = []; server = []; mandatory = mandatoryOf b; optional = optionalOf b; profile = []; failed = none }
+
+-- the server name of a record that was found, or else another reply
+abbrev pub servedBy : List ℕ → Found → Outcome → Reply → Reply
+servedBy t (At k) r other = serving r (serverOf (blockOf t k))
+servedBy t Nothing r other = other
+
+-- the part of the profile file that is a record's: "400-403 and 404-405 profile start and length"
+unfoldable pub profileOf : List ℕ → List ℕ → List ℕ
+profileOf b file = take (be16At b 404) (drop (be32At b 400) file)

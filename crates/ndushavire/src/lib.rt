@@ -1,0 +1,1 @@
+// The two entries that the daemon calls.

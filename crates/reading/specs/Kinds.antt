@@ -1,0 +1,120 @@
+-- "Known, vendor 0 without V: .. With V and 10415: .." and "Needed everywhere: ..": one table.
+use Prim.Native.Nat.{ℕ, suc}
+use mathlib.Core.Bool.{Bool, true, false, cond, _&&_}
+use mathlib.Core.List.{List, [], _∷_}
+use lib.ListN.{getD}
+use lib.Dec.{eqb, leb, ltb}
+use Rattle.diameter.specs.Avp.{avpFlags, avpCode, vendorOf}
+use Rattle.reading.specs.declared.Use.{Use}
+use Rattle.reading.specs.declared.Use.the-variants.{Unnamed, Needed, Optional, Repeated}
+
+-- what the data of a kind must be: anything; a number of 4 bytes within limits; so many bytes; the members of 260
+pub data Content : Type 0 where
+  free : Content
+  number : ℕ → ℕ → Content
+  sized : ℕ → ℕ → Content
+  application : Content
+
+pub record Kind : Type 0 where
+  pub code : ℕ
+  pub vendor : ℕ
+  pub content : Content
+  pub uar : Use
+  pub sar : Use
+  pub lir : Use
+
+abbrev pub row : ℕ → ℕ → Content → Use → Use → Use → Kind
+row code vendor content uar sar lir = record { code = code; vendor = vendor; content = content; uar = uar; sar = sar; lir = lir }
+
+-- The known kinds, in the order in which a missing one is looked for; a kind's number is its place here, from 1 on.
+unfoldable pub known : List Kind
+known =
+    row 263 0 free Needed Needed Needed
+    ∷ row 260 0 application Needed Needed Needed
+    ∷ row 277 0 (number 1 1) Needed Needed Needed
+    ∷ row 264 0 free Needed Needed Needed
+    ∷ row 296 0 free Needed Needed Needed
+    ∷ row 283 0 free Needed Needed Needed
+    ∷ row 1 0 free Needed Optional Unnamed
+    ∷ row 601 10415 free Needed Repeated Needed
+    ∷ row 600 10415 free Needed Unnamed Unnamed
+    ∷ row 602 10415 (sized 1 96) Unnamed Needed Unnamed
+    ∷ row 614 10415 (number 0 11) Unnamed Needed Unnamed
+    ∷ row 624 10415 (number 0 1) Unnamed Needed Unnamed
+    ∷ row 623 10415 (number 0 2) Optional Unnamed Unnamed
+    ∷ row 293 0 free Optional Optional Optional
+    ∷ row 284 0 free Repeated Repeated Repeated
+    ∷ row 282 0 free Repeated Repeated Repeated
+    ∷ []
+
+-- the numbers of kinds that the decisions and the answer name
+abbrev pub sessionId : ℕ
+sessionId = 1
+
+abbrev pub userName : ℕ
+userName = 7
+
+abbrev pub publicIdentity : ℕ
+publicIdentity = 8
+
+abbrev pub visitedNetwork : ℕ
+visitedNetwork = 9
+
+abbrev pub serverName : ℕ
+serverName = 10
+
+abbrev pub assignmentType : ℕ
+assignmentType = 11
+
+abbrev pub dataAvailable : ℕ
+dataAvailable = 12
+
+abbrev pub authorizationType : ℕ
+authorizationType = 13
+
+abbrev pub proxyInfo : ℕ
+proxyInfo = 15
+
+-- "kind (vendor, code)": vendor 0 is without V, and "V with vendor 0 is an unknown kind"
+abbrev pub isKind : Kind → ℕ → ℕ → ℕ → Bool
+isKind k flags vendor code = eqb code (k .code) && cond (leb 128 flags) (ltb 0 (k .vendor) && eqb vendor (k .vendor)) (eqb (k .vendor) 0)
+
+unfoldable pub kindFrom : List Kind → ℕ → ℕ → ℕ → ℕ → ℕ
+kindFrom [] n flags vendor code = 0
+kindFrom (k ∷ ks) n flags vendor code = cond (isKind k flags vendor code) n (kindFrom ks (suc n) flags vendor code)
+
+-- the number of a kind, 0 where it is unknown
+unfoldable pub kindBy : ℕ → ℕ → ℕ → ℕ
+kindBy flags vendor code = kindFrom known 1 flags vendor code
+
+abbrev pub kindOf : List ℕ → ℕ
+kindOf a = kindBy (avpFlags a) (vendorOf a) (avpCode a)
+
+-- the row of a kind number; that of an unknown kind is empty
+abbrev pub unknown : Kind
+unknown = row 0 0 free Unnamed Unnamed Unnamed
+
+unfoldable pub rowOf : ℕ → Kind
+rowOf n = getD (unknown ∷ known) n unknown
+
+-- what a command makes of a kind: UAR 300, SAR 301, LIR 302
+unfoldable pub useIn : ℕ → Kind → Use
+useIn command k = cond (eqb command 300) (k .uar) (cond (eqb command 301) (k .sar) (k .lir))
+
+abbrev pub isUnnamed : Use → Bool
+isUnnamed Unnamed = true
+isUnnamed Needed = false
+isUnnamed Optional = false
+isUnnamed Repeated = false
+
+abbrev pub isNeeded : Use → Bool
+isNeeded Unnamed = false
+isNeeded Needed = true
+isNeeded Optional = false
+isNeeded Repeated = false
+
+abbrev pub isRepeated : Use → Bool
+isRepeated Unnamed = false
+isRepeated Needed = false
+isRepeated Optional = false
+isRepeated Repeated = true

@@ -1,0 +1,84 @@
+-- "Then AVPs by position; the first fault decides": rules (a) to (h).
+use Prim.Native.Nat.{ℕ, _+_}
+use mathlib.Core.List.{List, []}
+use mathlib.Core.Option.{Option, none, some}
+use mathlib.Core.Bool.{Bool, true, false, cond, not, _&&_}
+use lib.ListN.{length, getD, take, set, replicate}
+use lib.Dec.{leb, ltb, eqb}
+use Rattle.octets.specs.Number.{be32At}
+use Rattle.diameter.specs.Avp.{avpCode, avpFlags, avpHead, avpLen, dataOf, valueOf, reserved, marked}
+use Rattle.diameter.specs.Walk.{Walk, ended, faulty, avp, walk}
+use Rattle.diameter.specs.Reader.{present}
+use Rattle.reading.specs.Kinds.{Content, free, number, sized, application, Kind, kindOf, rowOf, useIn, isUnnamed, isRepeated}
+
+-- "260 holds, in any order, one or more Vendor-Id 266, each 10415, and one Auth-Application-Id 258 of 16777216, all 4-byte AVPs passing (a) and (c),
+-- without V, and no other"
+unfoldable pub isMember : List ℕ → ℕ → ℕ → Bool
+isMember m code value = eqb (reserved (avpFlags m)) 0 && ltb (avpFlags m) 128 && eqb (length m) 12 && eqb (avpCode m) code && eqb (be32At m 8) value
+
+-- the members still to come, when a vendor and the application were seen or not
+unfoldable pub members : Walk → Bool → Bool → Bool
+members ended vendor app = vendor && app
+members (faulty t) vendor app = false
+members (avp m w) vendor app =
+    cond (isMember m 266 10415) (members w true app)
+    (cond (isMember m 258 16777216 && not app) (members w vendor true)
+    false)
+
+-- (g) "a 4-byte kind of another length"; (h) "bad content"
+abbrev pub isFour : Content → Bool
+isFour free = false
+isFour (number least most) = true
+isFour (sized least most) = false
+isFour application = false
+
+unfoldable pub goodContent : Content → List ℕ → Bool
+goodContent free a = true
+goodContent (number least most) a = leb least (valueOf a) && leb (valueOf a) most
+goodContent (sized least most) a = leb least (length (dataOf a)) && leb (length (dataOf a)) most
+goodContent application a = members (walk (dataOf a)) false false
+
+-- The state of the walk: for each kind number, the last AVP of it that was taken
+abbrev pub Seen : Type 0
+Seen = List (Option (List ℕ))
+
+unfoldable pub nothing : Seen
+nothing = replicate 17 none
+
+-- What (c) to (h) say of one AVP of kind k: 0 it is taken, 1 it is skipped, else the base result of the fault
+unfoldable pub ruleBy : ℕ → Bool → ℕ → ℕ → Bool → Bool → ℕ
+ruleBy command earlier k flags four good =
+    cond (not (eqb (reserved flags) 0)) 3009
+    (cond (eqb k 0) (cond (marked flags) 5001 1)
+    (cond (isUnnamed (useIn command (rowOf k))) 1
+    (cond (earlier && not (isRepeated (useIn command (rowOf k)))) 5009
+    (cond (isFour (rowOf k .content) && not four) 5014
+    (cond (not good) 5004
+    0)))))
+
+unfoldable pub rule : ℕ → Seen → List ℕ → ℕ
+rule command seen a =
+    ruleBy command (present (getD seen (kindOf a) none)) (kindOf a) (avpFlags a) (eqb (length a) (avpHead a + 4)) (goodContent (rowOf (kindOf a) .content) a)
+
+-- "Failed-AVP holds the faulty top-level AVP; for B5014 its header alone with the length set to 8 or 12, and a 279 without data if that header is cut off"
+unfoldable pub failedOf : ℕ → List ℕ → List ℕ
+failedOf n t =
+    cond (eqb n 5014)
+    (cond (leb (avpHead t) (length t)) (set (set (set (take (avpHead t) t) 5 0) 6 0) 7 (avpHead t)) [])
+    (take (avpLen t) t)
+
+-- A request read: the first fault, a base result with what Failed-AVP holds, if it has one; or what the command names
+pub data Judged : Type 0 where
+  bad : ℕ → Option (List ℕ) → Judged
+  fine : Seen → Judged
+
+abbrev pub onRule : ℕ → Seen → List ℕ → (Seen → Judged) → Judged
+onRule n seen a next =
+    cond (eqb n 0) (next (set seen (kindOf a) (some a)))
+    (cond (eqb n 1) (next seen)
+    (bad n (some (failedOf n a))))
+
+unfoldable pub judge : ℕ → Walk → Seen → Judged
+judge command ended seen = fine seen
+judge command (faulty t) seen = bad 5014 (some (failedOf 5014 t))
+judge command (avp a w) seen = onRule (rule command seen a) seen a (judge command w)

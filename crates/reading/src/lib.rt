@@ -1,0 +1,22 @@
+// Reading a request: its header, its AVPs by the rules (a) to (h), what is missing.
+
+// "B is a base Result-Code, X an Experimental-Result of vendor 10415. They share numbers and never stand for one another."
+pub enum Outcome {
+    Base(u32),
+    Experimental(u32),
+}
+
+// A result beside the place of the AVP at fault (0: no AVP of the request is) and the kind that is missing (0: none is).
+pub struct Verdict {
+    pub result: Outcome,
+    pub place: usize,
+    pub lacks: usize,
+}
+
+// What a command makes of a kind of AVP.
+pub enum Use {
+    Unnamed,
+    Needed,
+    Optional,
+    Repeated,
+}

@@ -1,0 +1,1 @@
+// The answer, written in document 01's order.
