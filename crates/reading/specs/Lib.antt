@@ -1,3 +1,4 @@
+pub mod Found
 pub mod Kinds
 pub mod Request
 pub mod Rules

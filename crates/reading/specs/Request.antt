@@ -10,6 +10,7 @@ use Rattle.diameter.specs.Avp.{dataOf, valueOf, avpFlags, reserved}
 use Rattle.diameter.specs.Walk.{Walk, ended, faulty, avp, walk}
 use Rattle.diameter.specs.Reader.{present}
 use Rattle.pen.specs.Bytes.{avpBytes, vendorBytes}
+use Rattle.reading.specs.declared.Outcome.the-variants.{Base}
 use Rattle.reading.specs.Kinds.{Kind, known, kindOf, rowOf, useIn, isNeeded, sessionId, publicIdentity}
 use Rattle.reading.specs.Rules.{Seen, Judged, bad, fine, isFour, nothing, judge}
 
@@ -53,18 +54,18 @@ missing command seen = missingFrom command seen known 1
 
 -- "After the walk, the first missing AVP in the order below: B5005. With no AVPs, Session-Id is missing."
 unfoldable pub complete : ℕ → Judged → Judged
-complete command (bad n f) = bad n f
-complete command (fine seen) = cond (eqb (missing command seen) 0) (fine seen) (bad 5005 (some (example (missing command seen))))
+complete command (bad r f) = bad r f
+complete command (fine seen) = cond (eqb (missing command seen) 0) (fine seen) (bad (Base 5005) (some (example (missing command seen))))
 
 unfoldable pub readWalk : ℕ → Walk → Judged
-readWalk command w = cond (firstOther w) (bad 5005 (some (example sessionId))) (complete command (judge command w nothing))
+readWalk command w = cond (firstOther w) (bad (Base 5005) (some (example sessionId))) (complete command (judge command w nothing))
 
 -- the body's AVPs
 abbrev pub bodyOf : List ℕ → Walk
 bodyOf req = walk (drop 20 req)
 
 unfoldable pub readRequest : List ℕ → Judged
-readRequest req = cond (eqb (headerFault req) 0) (readWalk (commandOf req) (bodyOf req)) (bad (headerFault req) none)
+readRequest req = cond (eqb (headerFault req) 0) (readWalk (commandOf req) (bodyOf req)) (bad (Base (headerFault req)) none)
 
 -- What a read request says: whether an AVP of a kind came, its data, its number
 abbrev pub given : Seen → ℕ → Bool

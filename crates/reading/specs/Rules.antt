@@ -9,6 +9,8 @@ use Rattle.octets.specs.Number.{be32At}
 use Rattle.diameter.specs.Avp.{avpCode, avpFlags, avpHead, avpLen, dataOf, valueOf, reserved, marked}
 use Rattle.diameter.specs.Walk.{Walk, ended, faulty, avp, walk}
 use Rattle.diameter.specs.Reader.{present}
+use Rattle.reading.specs.declared.Outcome.{Outcome}
+use Rattle.reading.specs.declared.Outcome.the-variants.{Base}
 use Rattle.reading.specs.Kinds.{Content, free, number, sized, application, Kind, kindOf, rowOf, useIn, isUnnamed, isRepeated}
 
 -- "260 holds, in any order, one or more Vendor-Id 266, each 10415, and one Auth-Application-Id 258 of 16777216, all 4-byte AVPs passing (a) and (c),
@@ -67,18 +69,18 @@ failedOf n t =
     (cond (leb (avpHead t) (length t)) (set (set (set (take (avpHead t) t) 5 0) 6 0) 7 (avpHead t)) [])
     (take (avpLen t) t)
 
--- A request read: the first fault, a base result with what Failed-AVP holds, if it has one; or what the command names
+-- A request read: the first fault's result with what Failed-AVP holds, if it has one; or what the command names
 pub data Judged : Type 0 where
-  bad : ℕ → Option (List ℕ) → Judged
+  bad : Outcome → Option (List ℕ) → Judged
   fine : Seen → Judged
 
 abbrev pub onRule : ℕ → Seen → List ℕ → (Seen → Judged) → Judged
 onRule n seen a next =
     cond (eqb n 0) (next (set seen (kindOf a) (some a)))
     (cond (eqb n 1) (next seen)
-    (bad n (some (failedOf n a))))
+    (bad (Base n) (some (failedOf n a))))
 
 unfoldable pub judge : ℕ → Walk → Seen → Judged
 judge command ended seen = fine seen
-judge command (faulty t) seen = bad 5014 (some (failedOf 5014 t))
+judge command (faulty t) seen = bad (Base 5014) (some (failedOf 5014 t))
 judge command (avp a w) seen = onRule (rule command seen a) seen a (judge command w)

@@ -20,3 +20,10 @@ pub enum Use {
     Optional,
     Repeated,
 }
+
+// What reading a request found: for each kind number the place of its last AVP (the message's length: none came), or the first fault.
+pub struct Walked {
+    pub ok: bool,
+    pub verdict: Verdict,
+    pub places: [usize; 17],
+}

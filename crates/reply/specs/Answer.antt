@@ -10,14 +10,10 @@ use Rattle.diameter.specs.Walk.{Walk, ended, faulty, avp}
 use Rattle.pen.specs.Bytes.{copied, avpBytes, vendorBytes, numberBytes, group, ifThere, vendorApplication, experimental, capabilities, failed}
 use Rattle.reading.specs.Kinds.{kindOf, proxyInfo}
 use Rattle.reading.specs.Request.{bodyOf, sessionOf}
+use Rattle.reading.specs.Found.{numberOf}
 use Rattle.reading.specs.declared.Outcome.{Outcome}
 use Rattle.reading.specs.declared.Outcome.the-variants.{Base, Experimental}
 use Rattle.decisions.specs.Reply.{Reply}
-
--- the paper's number of a result, B or X
-unfoldable pub numberOf : Outcome → ℕ
-numberOf (Base n) = n
-numberOf (Experimental n) = n
 
 -- "Result-Code 268 or Experimental-Result 297 (266, 298)"
 unfoldable pub resultBytes : Outcome → List ℕ
