@@ -1,9 +1,8 @@
 -- The bytes of AVPs that are written.
-use Prim.Native.Nat.{ℕ, zero, suc, _+_, _-_, _*_, _/_, _%_}
+use Prim.Native.Nat.{ℕ, _+_, _-_, _*_, _/_, _%_}
 use mathlib.Core.List.{List, [], _∷_, _++_}
-use mathlib.Core.Bool.{Bool, true, false, _||_}
-use lib.Dec.{ltb}
-use lib.ListN.{length, replicate, take, drop}
+use mathlib.Core.Bool.{Bool, true, false}
+use lib.ListN.{length, replicate}
 
 -- the zero bytes that pad n bytes to a multiple of 4
 unfoldable pub padding : ℕ → List ℕ
@@ -34,6 +33,13 @@ avpBytes code d = headBytes code 64 (8 + length d) ++ copied d
 unfoldable pub vendorBytes : ℕ → List ℕ → List ℕ
 vendorBytes code d = vendorHead code (12 + length d) ++ copied d
 
+-- the bytes that an AVP takes up, of n bytes of data
+abbrev pub avpSize : ℕ → ℕ
+avpSize n = 8 + copiedSize n
+
+abbrev pub vendorSize : ℕ → ℕ
+vendorSize n = 12 + copiedSize n
+
 -- an AVP of one number; of vendor 10415
 unfoldable pub numberBytes : ℕ → ℕ → List ℕ
 numberBytes code n = headBytes code 64 12 ++ wordBytes n
@@ -52,20 +58,3 @@ vendorGroup code members = vendorHead code (12 + length members) ++ members
 unfoldable pub ifThere : Bool → List ℕ → List ℕ
 ifThere true w = w
 ifThere false w = []
-
--- "260 (266, 258)"; "Experimental-Result 297 (266, 298)"; "Failed-AVP 279"
-unfoldable pub vendorApplication : List ℕ
-vendorApplication = group 260 (numberBytes 266 10415 ++ numberBytes 258 16777216)
-
-unfoldable pub experimental : ℕ → List ℕ
-experimental n = group 297 (numberBytes 266 10415 ++ numberBytes 298 n)
-
-unfoldable pub failed : List ℕ → List ℕ
-failed a = group 279 (copied a)
-
-unfoldable pub vendorNumbers : ℕ → List ℕ → ℕ → List ℕ
-vendorNumbers code words zero = []
-vendorNumbers code words (suc n) = vendorNumbers code words n ++ (vendorHead code 16 ++ take 4 (drop (4 * n) words))
-
-unfoldable pub capabilities : List ℕ → List ℕ → List ℕ
-capabilities m o = ifThere (ltb 0 (length m) || ltb 0 (length o)) (vendorGroup 603 (vendorNumbers 604 m (length m / 4) ++ vendorNumbers 605 o (length o / 4)))

@@ -1,4 +1,11 @@
 // The header block.
+use crate::networks;
+use octets::number;
+use octets::run;
+use octets::sum;
+ghost use mathlib.Core.Path.{_≡_};
+ghost use lib.ListN.{length};
+ghost use Rattle.record.specs.HeaderBlock.{headerOf, soundTop, soundCounts, soundNumbers, soundRest, soundHeader};
 
 // The numbers of the header block. Its names stay in the table.
 pub struct Header {
@@ -7,4 +14,116 @@ pub struct Header {
     pub host: u8,
     pub realm: u8,
     pub networks: u8,
+}
+
+impl Header {
+    // Where each field stands.
+    pub const KIND_AT: usize = 0;
+
+    pub const EDITION_AT: usize = 1;
+
+    pub const NUMBER_AT: usize = 4;
+
+    pub const COUNT_AT: usize = 8;
+
+    pub const KEEP_AT: usize = 12;
+
+    pub const HOST_LENGTH_AT: usize = 13;
+
+    pub const REALM_LENGTH_AT: usize = 14;
+
+    pub const NETWORKS_AT: usize = 15;
+
+    pub const HOST_AT: usize = 16;
+
+    pub const REALM_AT: usize = 80;
+
+    pub const PLACES_AT: usize = 144;
+
+    pub const REST_AT: usize = 400;
+
+    pub const CHECK_AT: usize = 508;
+
+    // What each may hold.
+    pub const KIND: u8 = 1;
+
+    pub const EDITION: u8 = 1;
+
+    pub const NUMBER: u32 = 0;
+
+    pub const MOST_COUNT: u32 = 4096;
+
+    pub const MOST_KEEP: u8 = 1;
+
+    pub const MOST_NAME: u8 = 64;
+
+    pub const MOST_NETWORKS: u8 = 8;
+
+    // The numbers of a block.
+    pub fn read(b: &[u8]) -> Header
+        requires { ⌜ length (now b) ≡ 512 ⌝ }
+        ensures { λ r. ⌜ r ≡ headerOf (now (b .entry)) ⌝ }
+    {
+        Header {
+            count: number::be32(b, Header::COUNT_AT),
+            keep: b[Header::KEEP_AT],
+            host: b[Header::HOST_LENGTH_AT],
+            realm: b[Header::REALM_LENGTH_AT],
+            networks: b[Header::NETWORKS_AT],
+        }
+    }
+}
+
+// Kind, edition, the two bytes not named, and the block's number.
+fn top(b: &[u8]) -> bool
+    requires { ⌜ length (now b) ≡ 512 ⌝ }
+    ensures { λ r. ⌜ r ≡ soundTop (now (b .entry)) ⌝ }
+{
+    (b[Header::KIND_AT] == Header::KIND)
+        & (b[Header::EDITION_AT] == Header::EDITION)
+        & (b[2] == 0)
+        & (b[3] == 0)
+        & (number::be32(b, Header::NUMBER_AT) == Header::NUMBER)
+}
+
+// The counts of records and of networks.
+fn counts(h: Header) -> bool
+    ensures { λ r. ⌜ r ≡ soundCounts h ⌝ }
+{
+    (h.count <= Header::MOST_COUNT) & (h.networks <= Header::MOST_NETWORKS)
+}
+
+// Keep, and the lengths of host and realm.
+fn numbers(h: Header) -> bool
+    ensures { λ r. ⌜ r ≡ soundNumbers h ⌝ }
+{
+    (h.keep <= Header::MOST_KEEP)
+        & (1 <= h.host)
+        & (h.host <= Header::MOST_NAME)
+        & (1 <= h.realm)
+        & (h.realm <= Header::MOST_NAME)
+}
+
+// The tails of host and realm, and the bytes not named.
+fn rest(b: &[u8], h: Header) -> bool
+    requires { ⌜ length (now b) ≡ 512 ⌝ }
+    ensures { λ r. ⌜ r ≡ soundRest (now (b .entry)) h ⌝ }
+{
+    run::zero_between(b, Header::HOST_AT + (h.host as usize), Header::REALM_AT)
+        & run::zero_between(b, Header::REALM_AT + (h.realm as usize), Header::PLACES_AT)
+        & run::zero_between(b, Header::REST_AT, Header::CHECK_AT)
+}
+
+// Whether a block is a sound header.
+pub fn sound(b: &[u8]) -> bool
+    requires { ⌜ length (now b) ≡ 512 ⌝ }
+    ensures { λ r. ⌜ r ≡ soundHeader (now (b .entry)) ⌝ }
+{
+    let h = Header::read(b);
+    counts(h)
+        & ((sum::sum_pairs(b, 64) == 0)
+            & top(b)
+            & numbers(h)
+            & rest(b, h)
+            & networks::sound(b, h.networks as usize))
 }

@@ -1,4 +1,11 @@
 // A record block: one public identity of a subscriber.
+use octets::number;
+use octets::run;
+use octets::sum;
+ghost use mathlib.Core.Path.{_≡_};
+ghost use Prim.Native.Nat.{_≤_};
+ghost use lib.ListN.{length};
+ghost use Rattle.record.specs.RecordBlock.{recordOf, soundHead, soundLimits, soundServer, soundRoaming, soundProfile, soundRest, soundRecord};
 
 // The numbers of a record block. Its names stay in the table.
 pub struct Record {
@@ -12,4 +19,182 @@ pub struct Record {
     pub server: u8,
     pub start: u32,
     pub size: u32,
+}
+
+impl Record {
+    // Where each field stands.
+    pub const KIND_AT: usize = 0;
+
+    pub const EDITION_AT: usize = 1;
+
+    pub const NUMBER_AT: usize = 4;
+
+    pub const STATE_AT: usize = 8;
+
+    pub const BITS_AT: usize = 9;
+
+    pub const ROAMING_AT: usize = 10;
+
+    pub const MANDATORY_COUNT_AT: usize = 11;
+
+    pub const OPTIONAL_COUNT_AT: usize = 12;
+
+    pub const PUBLIC_LENGTH_AT: usize = 13;
+
+    pub const PRIVATE_LENGTH_AT: usize = 14;
+
+    pub const SERVER_LENGTH_AT: usize = 15;
+
+    pub const PUBLIC_AT: usize = 16;
+
+    pub const PRIVATE_AT: usize = 144;
+
+    pub const SERVER_AT: usize = 272;
+
+    pub const MANDATORY_AT: usize = 368;
+
+    pub const OPTIONAL_AT: usize = 384;
+
+    pub const PROFILE_START_AT: usize = 400;
+
+    pub const PROFILE_LENGTH_AT: usize = 404;
+
+    pub const REST_AT: usize = 406;
+
+    pub const CHECK_AT: usize = 508;
+
+    // What each may hold.
+    pub const KIND: u8 = 2;
+
+    pub const EDITION: u8 = 1;
+
+    pub const MOST_STATE: u8 = 2;
+
+    pub const MOST_BITS: u8 = 7;
+
+    pub const MOST_CAPABILITIES: u8 = 4;
+
+    pub const MOST_IDENTITY: u8 = 128;
+
+    pub const MOST_SERVER: u8 = 96;
+
+    pub const MOST_PROFILE: u32 = 4096;
+
+    // The numbers of a block.
+    pub fn read(b: &[u8]) -> Record
+        requires { ⌜ length (now b) ≡ 512 ⌝ }
+        ensures { λ r. ⌜ r ≡ recordOf (now (b .entry)) ⌝ }
+    {
+        Record {
+            state: b[Record::STATE_AT],
+            bits: b[Record::BITS_AT],
+            roaming: b[Record::ROAMING_AT],
+            mandatory: b[Record::MANDATORY_COUNT_AT],
+            optional: b[Record::OPTIONAL_COUNT_AT],
+            public: b[Record::PUBLIC_LENGTH_AT],
+            private: b[Record::PRIVATE_LENGTH_AT],
+            server: b[Record::SERVER_LENGTH_AT],
+            start: number::be32(b, Record::PROFILE_START_AT),
+            size: number::be16(b, Record::PROFILE_LENGTH_AT),
+        }
+    }
+}
+
+// Kind, edition, the two bytes not named, and the block's number.
+fn head(b: &[u8], k: u32) -> bool
+    requires { ⌜ length (now b) ≡ 512 ⌝ }
+    ensures { λ r. ⌜ r ≡ soundHead (now (b .entry)) k ⌝ }
+{
+    (b[Record::KIND_AT] == Record::KIND)
+        & (b[Record::EDITION_AT] == Record::EDITION)
+        & (b[2] == 0)
+        & (b[3] == 0)
+        & (number::be32(b, Record::NUMBER_AT) == k)
+}
+
+// Each number within its limits.
+fn limits(r: Record) -> bool
+    ensures { λ x. ⌜ x ≡ soundLimits r ⌝ }
+{
+    (r.state <= Record::MOST_STATE)
+        & (r.bits <= Record::MOST_BITS)
+        & (r.mandatory <= Record::MOST_CAPABILITIES)
+        & (r.optional <= Record::MOST_CAPABILITIES)
+        & (1 <= r.public)
+        & (r.public <= Record::MOST_IDENTITY)
+        & (1 <= r.private)
+        & (r.private <= Record::MOST_IDENTITY)
+        & (r.server <= Record::MOST_SERVER)
+        & (r.size <= Record::MOST_PROFILE)
+}
+
+// "State 1 or 2 needs a server name; state 0 has one exactly if pending is set."
+fn named(r: Record) -> bool
+    ensures { λ x. ⌜ x ≡ soundServer r ⌝ }
+{
+    (r.server == 0) & ((r.state == 0) & (r.bits % 2 == 0))
+        | (0 < r.server) & ((0 < r.state) | (r.bits % 2 == 1))
+}
+
+// No roaming bit past the last network.
+fn roams(r: Record, networks: u32) -> bool
+    requires { ⌜ networks ≤ 8 ⌝ }
+    ensures { λ x. ⌜ x ≡ soundRoaming r networks ⌝ }
+{
+    (r.roaming as u32) < (1u32 << networks)
+}
+
+// The profile within the profile file.
+fn within(r: Record, file: usize) -> bool
+    ensures { λ x. ⌜ x ≡ soundProfile r file ⌝ }
+{
+    (r.start as usize) + (r.size as usize) <= file
+}
+
+// The tails of the names and of the capabilities, and the bytes not named.
+fn rest(b: &[u8], r: Record) -> bool
+    requires { ⌜ length (now b) ≡ 512 ⌝ }
+    ensures { λ x. ⌜ x ≡ soundRest (now (b .entry)) r ⌝ }
+{
+    run::zero_between(
+        b,
+        Record::PUBLIC_AT + (r.public as usize),
+        Record::PRIVATE_AT,
+    )
+        & run::zero_between(
+            b,
+            Record::PRIVATE_AT + (r.private as usize),
+            Record::SERVER_AT,
+        )
+        & run::zero_between(
+            b,
+            Record::SERVER_AT + (r.server as usize),
+            Record::MANDATORY_AT,
+        )
+        & run::zero_between(
+            b,
+            Record::MANDATORY_AT + 4 * (r.mandatory as usize),
+            Record::OPTIONAL_AT,
+        )
+        & run::zero_between(
+            b,
+            Record::OPTIONAL_AT + 4 * (r.optional as usize),
+            Record::PROFILE_START_AT,
+        )
+        & run::zero_between(b, Record::REST_AT, Record::CHECK_AT)
+}
+
+// Whether a block is sound as record k, under a header with so many networks and beside a profile file of such a length.
+pub fn sound(b: &[u8], k: u32, networks: u32, file: usize) -> bool
+    requires { ⌜ (length (now b) ≡ 512) × (networks ≤ 8) ⌝ }
+    ensures { λ x. ⌜ x ≡ soundRecord (now (b .entry)) k networks file ⌝ }
+{
+    let r = Record::read(b);
+    (sum::sum_pairs(b, 64) == 0)
+        & head(b, k)
+        & limits(r)
+        & named(r)
+        & roams(r, networks)
+        & within(r, file)
+        & rest(b, r)
 }

@@ -7,7 +7,8 @@ use lib.ListN.{length, getD, take, drop}
 use lib.Dec.{eqb, ltb}
 use Rattle.record.specs.Fields.{hostOf, realmOf}
 use Rattle.diameter.specs.Walk.{Walk, ended, faulty, avp}
-use Rattle.pen.specs.Bytes.{copied, avpBytes, vendorBytes, numberBytes, group, ifThere, vendorApplication, experimental, capabilities, failed}
+use Rattle.pen.specs.Bytes.{copied, avpBytes, vendorBytes, numberBytes, ifThere}
+use Rattle.pen.specs.Groups.{vendorApplication, experimental, capabilities, failed}
 use Rattle.reading.specs.Kinds.{kindOf, proxyInfo}
 use Rattle.reading.specs.Request.{bodyOf, sessionOf}
 use Rattle.reading.specs.Found.{numberOf}

@@ -1,7 +1,100 @@
 // The check of a whole table, block by block.
+use octets::name;
+use octets::name::Order;
+use record::fields;
+use record::header;
+use record::header::Header;
+use record::subscriber;
+ghost use mathlib.Core.Path.{_≡_};
+ghost use Prim.Native.Nat.{_+_, _*_, _≤_};
+ghost use lib.ListN.{length};
+ghost use Rattle.octets.specs.Name.{orderOf};
+ghost use Rattle.record.specs.Fields.{publicOf};
+ghost use Rattle.table.specs.Blocks.{blockOf};
+ghost use Rattle.table.specs.Check.{isLess, risesAt, soundAt, checkRecords, checkTable};
+
+// "Blocks of 512 bytes"
+pub const BLOCK: usize = 512;
 
 // How many records a sound table has, or the number of the first bad block.
 pub enum Checked {
     Sound(u32),
     Bad(u32),
+}
+
+// Block k of a table.
+pub fn block(t: &[u8], k: usize) -> &[u8]
+    requires { ⌜ 512 * k + 512 ≤ length (now t) ⌝ }
+    ensures { λ r. ⌜ (now r ≡ blockOf (now (t .entry)) k) × (length (now r) ≡ 512) ⌝ }
+{
+    let at = BLOCK * k;
+    &t[at..at + BLOCK]
+}
+
+// Whether the public identity of one block is less than that of another.
+pub fn less(a: &[u8], b: &[u8]) -> bool
+    requires { ⌜ (length (now a) ≡ 512) × (length (now b) ≡ 512) ⌝ }
+    ensures { λ r. ⌜ r ≡ isLess (orderOf (publicOf (now (a .entry))) (publicOf (now (b .entry)))) ⌝ }
+{
+    match name::order_of(fields::public(a), fields::public(b)) {
+        Order::Less => true,
+        Order::Equal => false,
+        Order::Greater => false,
+    }
+}
+
+// Whether the public identity of block k comes after that of the record before, if there is one.
+pub fn rises(t: &[u8], k: usize) -> bool
+    requires { ⌜ (1 ≤ k) × (512 * k + 512 ≤ length (now t)) ⌝ }
+    ensures { λ r. ⌜ r ≡ risesAt (now (t .entry)) k ⌝ }
+{
+    if k <= 1 {
+        return true;
+    }
+    less(block(t, k - 1), block(t, k))
+}
+
+// Whether block k is a sound record in its place.
+pub fn record_at(t: &[u8], networks: u32, file: usize, k: usize) -> bool
+    requires { ⌜ (1 ≤ k) × (k ≤ 4096) × (networks ≤ 8) × (512 * k + 512 ≤ length (now t)) ⌝ }
+    ensures { λ r. ⌜ r ≡ soundAt (now (t .entry)) networks file k ⌝ }
+{
+    subscriber::sound(block(t, k), k as u32, networks, file) & rises(t, k)
+}
+
+// The records of a table, one after the other.
+pub fn records(t: &[u8], count: usize, networks: u32, file: usize) -> Checked
+    requires { ⌜ (count ≤ 4096) × (networks ≤ 8) × (length (now t) ≡ 512 * (count + 1)) ⌝ }
+    ensures { λ r. ⌜ r ≡ checkRecords (now (t .entry)) count networks file ⌝ }
+{
+    let mut k = 1;
+    while k <= count {
+        if record_at(t, networks, file, k) {
+            k += 1;
+        } else {
+            return Checked::Bad(k as u32);
+        }
+    }
+    Checked::Sound(count as u32)
+}
+
+// The whole table against a profile file of such a length.
+pub fn check(t: &[u8], file: usize) -> Checked
+    ensures { λ r. ⌜ r ≡ checkTable (now (t .entry)) file ⌝ }
+{
+    if t.len() < BLOCK {
+        return Checked::Bad(0);
+    }
+    let b = block(t, 0);
+    let h = Header::read(b);
+    let count = h.count as usize;
+    if header::sound(b) {
+        if t.len() == BLOCK * (count + 1) {
+            records(t, count, h.networks as u32, file)
+        } else {
+            Checked::Bad(0)
+        }
+    } else {
+        Checked::Bad(0)
+    }
 }

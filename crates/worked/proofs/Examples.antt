@@ -21,7 +21,8 @@ use Rattle.rewrite.specs.Renew.{lacking, sealed, renewed, rewritten}
 use Rattle.rewrite.specs.Effect.{settled, settledAt, afterOf}
 use Rattle.diameter.specs.Avp.{padded, headOf, vendorOf, valueOf, sound}
 use Rattle.diameter.specs.Walk.{walkFrom, walk}
-use Rattle.pen.specs.Bytes.{padding, vendorHead, copied, avpBytes, vendorBytes, numberBytes, vendorNumber, group, vendorGroup, ifThere, vendorApplication, experimental, failed, vendorNumbers, capabilities}
+use Rattle.pen.specs.Bytes.{padding, vendorHead, copied, avpBytes, vendorBytes, numberBytes, vendorNumber, group, vendorGroup, ifThere}
+use Rattle.pen.specs.Groups.{vendorApplication, experimental, failed, vendorNumbers, capabilities}
 use Rattle.reading.specs.Kinds.{known, kindFrom, kindBy, rowOf, useIn}
 use Rattle.reading.specs.Rules.{isMember, members, goodContent, nothing, ruleBy, rule, failedOf, judge}
 use Rattle.reading.specs.Request.{headerFault, exampleOf, example, missingFrom, missing, complete, readWalk, readRequest, identities}

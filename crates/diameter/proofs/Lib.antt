@@ -1,0 +1,4 @@
+pub mod Parts
+pub mod Pieces
+pub mod Reading
+pub mod Walks

@@ -1,0 +1,14 @@
+use Rattle.diameter.proofs.Parts.{value-there, value-none}
+use borrow.Author.Needs.{needs}
+use Rattle.diameter.proofs.value_at.Statement.{statement}
+use Rattle.diameter.proofs.value_at.Tie as tie
+
+pub value-at-spec : {M : Type 1} → statement M
+value-at-spec =
+    tie.close
+    (tie.spec
+    (λ c. search needs)
+    (λ c. search needs)
+    (λ c κs. search needs)
+    (λ c. search (needs, value-there))
+    (λ c. search (needs, value-none)))

@@ -1,0 +1,13 @@
+use Rattle.diameter.proofs.Parts.{vendor-there, vendor-none}
+use borrow.Author.Needs.{needs}
+use Rattle.diameter.proofs.vendor_at.Statement.{statement}
+use Rattle.diameter.proofs.vendor_at.Tie as tie
+
+pub vendor-at-spec : {M : Type 1} → statement M
+vendor-at-spec =
+    tie.close
+    (tie.spec
+    (λ c. search needs)
+    (λ c κs. search needs)
+    (λ c. search (needs, vendor-there))
+    (λ c. search (needs, vendor-none)))

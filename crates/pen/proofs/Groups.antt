@@ -1,0 +1,94 @@
+-- Groups: how long they are, and how their members are written.
+use Prim.Native.Nat.{ℕ, zero, suc, _+_, _-_, _*_, _≤_, _<_}
+use native.Mathlib.Nat.{add-sub-cancel-left}
+use native.Mathlib.Numerals.{add-one}
+use native.Mathlib.Omega.{arith}
+use mathlib.Core.Path.{_≡_, refl, sym, ap, _∙_}
+use mathlib.Core.List.{List, [], _++_, append-assoc, append-nil}
+use borrow.Rule.Slice.PartMut.{midOf, putMid}
+use lib.Dec.{ltb}
+use lib.ListN.{length, take, drop, length-append, length-take, length-drop}
+use Rattle.octets.specs.Run.{over, Wrote}
+use Rattle.octets.proofs.Writes.{then, named}
+use Rattle.pen.specs.Bytes.{padding, headBytes, vendorHead, copied, copiedSize, vendorBytes, numberBytes, group, vendorGroup}
+use Rattle.pen.specs.Groups.{vendorApplication, experimental, failed, failedSize, vendorNumbers, words, capabilities, capabilitiesSize}
+use Rattle.pen.proofs.Sizes.{there-length, copied-length, vendorHead-length, group-length, vendorGroup-length}
+use Rattle.pen.proofs.Writers.{wrote-there, wrote-none}
+
+pub application-length : length vendorApplication ≡ 32
+unfolding vendorApplication group numberBytes
+application-length = refl
+
+pub experimental-length : (n : ℕ) → length (experimental n) ≡ 32
+unfolding experimental group numberBytes
+experimental-length n = refl
+
+pub failed-length : (a : List ℕ) → length (failed a) ≡ failedSize (length a)
+unfolding failed
+failed-length a = group-length 279 (copied a) ∙ rw copied-length
+
+-- the group's length is 8 and two numbers of 12
+pub wrote-pair : (code c m d n : ℕ) {b xs ys zs : List ℕ} {r t : ℕ} → Wrote (headBytes code 64 32) b xs 8 → Wrote (numberBytes c m) (midOf 8 (length xs - 8) xs) ys r
+    → Wrote (numberBytes d n) (midOf (8 + r) (length (putMid 8 (length xs - 8) xs ys) - (8 + r)) (putMid 8 (length xs - 8) xs ys)) zs t
+    → Wrote (group code (numberBytes c m ++ numberBytes d n)) b (putMid (8 + r) (length (putMid 8 (length xs - 8) xs ys) - (8 + r)) (putMid 8 (length xs - 8) xs ys) zs) (8 + r + t)
+unfolding group numberBytes
+wrote-pair code c m d n p q s = then (then p q) s
+
+pub wrote-failed : (d : List ℕ) {b xs ys : List ℕ} {r : ℕ} → Wrote (headBytes 279 64 (failedSize (length d))) b xs 8 → Wrote (copied d) (midOf 8 (length xs - 8) xs) ys r
+    → Wrote (failed d) b (putMid 8 (length xs - 8) xs ys) (8 + r)
+unfolding failed group
+wrote-failed d p q = named (rw copied-length) refl (then p q)
+
+-- 4 bytes of data have no padding
+four-bytes : (code : ℕ) (d : List ℕ) → length d ≡ 4 → vendorBytes code d ≡ vendorHead code 16 ++ d
+unfolding vendorBytes copied padding
+four-bytes code d e = rw (e, append-nil)
+
+word-length : (s : List ℕ) (i : ℕ) → 4 * i + 4 ≤ length s → length (take 4 (drop (4 * i) s)) ≡ 4
+word-length s i h = simp (length-take, length-drop) (omega arith)
+
+pub numbers-length : (code : ℕ) (s : List ℕ) (n : ℕ) → 4 * n ≤ length s → length (vendorNumbers code s n) ≡ 16 * n
+unfolding vendorNumbers
+numbers-length code s zero h = refl
+numbers-length code s (suc n) h =
+    simp (length-append, vendorHead-length) (omega (arith, numbers-length code s n (omega arith), word-length s n (omega arith)))
+
+-- The turns of the loop that writes numbers.
+pub wrote-no-number : (code : ℕ) (s b : List ℕ) → Wrote (vendorNumbers code s 0) b b 0
+unfolding vendorNumbers over
+wrote-no-number code s b = record { count = refl; bytes = refl }
+
+pub wrote-next-number : (code : ℕ) (s : List ℕ) (i m : ℕ) {b xs ys : List ℕ} {n r : ℕ} → i < m → 4 * m ≤ length s → Wrote (vendorNumbers code s i) b xs n
+    → Wrote (vendorBytes code (take (4 * i + 4 - 4 * i) (drop (4 * i) s))) (midOf n (length xs - n) xs) ys r
+    → Wrote (vendorNumbers code s (i + 1)) b (putMid n (length xs - n) xs ys) (n + r)
+unfolding vendorNumbers
+wrote-next-number code s i m h room p q =
+    let e : take (4 * i + 4 - 4 * i) (drop (4 * i) s) ≡ take 4 (drop (4 * i) s) = rw (add-sub-cancel-left (4 * i) 4) in
+    rw (add-one i) (named (rw (e, four-bytes code (take 4 (drop (4 * i) s)) (word-length s i (omega arith)))) refl (then p q))
+
+pub wrote-all-numbers : (code : ℕ) (s : List ℕ) (i m : ℕ) {b xs : List ℕ} {n : ℕ} → i ≤ m → m ≤ i → Wrote (vendorNumbers code s i) b xs n → Wrote (vendorNumbers code s m) b xs n
+wrote-all-numbers code s i m h k p = let e : i ≡ m = omega arith in rw e at p
+
+members-length : (m o : List ℕ) → length (vendorNumbers 604 m (words m) ++ vendorNumbers 605 o (words o)) ≡ 16 * words m + 16 * words o
+members-length m o =
+    simp length-append
+    (omega (arith, numbers-length 604 m (words m) (omega arith), numbers-length 605 o (words o) (omega arith)))
+
+pub capabilities-length : (m o : List ℕ) → length (capabilities m o) ≤ capabilitiesSize (words m) (words o)
+unfolding capabilities
+capabilities-length m o =
+    let w : List ℕ = vendorNumbers 604 m (words m) ++ vendorNumbers 605 o (words o) in
+    omega (arith, there-length (ltb 0 (words m + words o)) (vendorGroup 603 w), vendorGroup-length 603 w, members-length m o)
+
+pub wrote-no-capabilities : (m o b : List ℕ) → words m + words o ≡ 0 → Wrote (capabilities m o) b b 0
+unfolding capabilities
+wrote-no-capabilities m o b h = wrote-none (words m + words o) _ b (omega arith)
+
+pub wrote-capabilities : (m o : List ℕ) {b xs ys zs : List ℕ} {r t : ℕ} → (words m + words o ≡ 0 → ⊥) → Wrote (vendorHead 603 (capabilitiesSize (words m) (words o))) b xs 12
+    → Wrote (vendorNumbers 604 m (words m)) (midOf 12 (length xs - 12) xs) ys r
+    → Wrote (vendorNumbers 605 o (words o)) (midOf (12 + r) (length (putMid 12 (length xs - 12) xs ys) - (12 + r)) (putMid 12 (length xs - 12) xs ys)) zs t
+    → Wrote (capabilities m o) b (putMid (12 + r) (length (putMid 12 (length xs - 12) xs ys) - (12 + r)) (putMid 12 (length xs - 12) xs ys) zs) (12 + r + t)
+unfolding capabilities vendorGroup
+wrote-capabilities m o h p q s =
+    let l : 12 + length (vendorNumbers 604 m (words m) ++ vendorNumbers 605 o (words o)) ≡ capabilitiesSize (words m) (words o) = omega (arith, members-length m o) in
+    wrote-there (words m + words o) _ (omega arith) (named (append-assoc (vendorHead 603 (capabilitiesSize (words m) (words o))) _ _ ∙ rw l) refl (then (then p q) s))

@@ -1,0 +1,16 @@
+use Rattle.pen.proofs.Writers.{wrote-number}
+use borrow.Author.Needs.{needs}
+use Rattle.pen.proofs.put_number.Statement.{statement}
+use Rattle.pen.proofs.put_number.Tie as tie
+
+pub put-number-spec : {M : Type 1} → statement M
+put-number-spec =
+    tie.close
+    (tie.spec
+    (λ c κs. search needs)
+    (λ c. search needs)
+    (λ c. search needs)
+    (λ c. search needs)
+    (λ c κs. search needs)
+    (λ c. search needs)
+    (λ c. search (needs, wrote-number)))

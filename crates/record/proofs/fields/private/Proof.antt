@@ -1,0 +1,16 @@
+use Rattle.record.specs.Fields.{privateOf}
+use borrow.Author.Needs.{needs}
+use Rattle.record.proofs.fields.private.Statement.{statement}
+use Rattle.record.proofs.fields.private.Tie as tie
+
+returns : tie.Need-returns
+unfolding privateOf
+returns c = (cc, c .part .ensures .1)
+
+pub private-spec : {M : Type 1} → statement M
+private-spec =
+    tie.close
+    (tie.spec
+    (λ c κs. search needs)
+    (λ c κs. search needs)
+    returns)

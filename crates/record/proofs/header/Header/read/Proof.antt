@@ -1,0 +1,19 @@
+use Rattle.record.specs.HeaderBlock.{headerOf}
+use borrow.Author.Needs.{needs}
+use Rattle.record.proofs.header.Header.read.Statement.{statement}
+use Rattle.record.proofs.header.Header.read.Tie as tie
+
+returns : tie.Need-returns
+unfolding headerOf
+returns c = cc
+
+pub read-spec : {M : Type 1} → statement M
+read-spec =
+    tie.close
+    (tie.spec
+    (λ c κs. search needs)
+    (λ c. search needs)
+    (λ c. search needs)
+    (λ c. search needs)
+    (λ c. search needs)
+    returns)

@@ -1,0 +1,27 @@
+use Prim.Native.Nat.{_≤_, _-_}
+use mathlib.Core.Path.{_≡_}
+use Rattle.octets.specs.All.{allBelow}
+use Rattle.octets.proofs.All.{all-none, all-more, all-end}
+use Rattle.record.specs.Networks.{newPlace}
+use borrow.Author.Needs.{needs}
+use Rattle.record.proofs.networks.each_new.Statement.{statement}
+use Rattle.record.proofs.networks.each_new.Tie as tie
+
+abbrev Inv-loop : tie.InvT-loop
+Inv-loop b n good₀ j₀ good j = (j ≤ 8) × (good ≡ allBelow (newPlace b n) j)
+
+abbrev μ-loop : tie.MeasureT-loop
+μ-loop b n good₀ j₀ good j = 8 - j
+
+pub each-new-spec : {M : Type 1} → statement M
+each-new-spec =
+    tie.close
+    (tie.spec
+    Inv-loop
+    μ-loop
+    (λ c. search (needs, all-none))
+    (λ c κs. search needs)
+    (λ c. search needs)
+    (λ c. search needs)
+    (λ c. search (needs, all-more))
+    (λ c. search (needs, all-end)))

@@ -1,0 +1,27 @@
+use Prim.Native.Nat.{_≤_, _-_}
+use mathlib.Core.Path.{_≡_}
+use Rattle.octets.specs.All.{allBelow}
+use Rattle.octets.proofs.All.{all-none, all-more, all-end}
+use Rattle.record.specs.Networks.{soundPlace}
+use borrow.Author.Needs.{needs}
+use Rattle.record.proofs.networks.each_sound.Statement.{statement}
+use Rattle.record.proofs.networks.each_sound.Tie as tie
+
+abbrev Inv-loop : tie.InvT-loop
+Inv-loop b n good₀ i₀ good i = (i ≤ 8) × (good ≡ allBelow (soundPlace b n) i)
+
+abbrev μ-loop : tie.MeasureT-loop
+μ-loop b n good₀ i₀ good i = 8 - i
+
+pub each-sound-spec : {M : Type 1} → statement M
+each-sound-spec =
+    tie.close
+    (tie.spec
+    Inv-loop
+    μ-loop
+    (λ c. search (needs, all-none))
+    (λ c κs. search needs)
+    (λ c. search needs)
+    (λ c. search needs)
+    (λ c. search (needs, all-more))
+    (λ c. search (needs, all-end)))

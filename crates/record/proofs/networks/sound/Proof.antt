@@ -1,0 +1,12 @@
+use Rattle.record.proofs.Places.{places-all}
+use borrow.Author.Needs.{needs}
+use Rattle.record.proofs.networks.sound.Statement.{statement}
+use Rattle.record.proofs.networks.sound.Tie as tie
+
+pub sound-spec : {M : Type 1} → statement M
+sound-spec =
+    tie.close
+    (tie.spec
+    (λ c κs. search needs)
+    (λ c κs. search needs)
+    (λ c. search (needs, places-all)))

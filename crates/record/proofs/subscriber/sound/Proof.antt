@@ -1,0 +1,18 @@
+use Rattle.record.proofs.Sound.{record-all}
+use borrow.Author.Needs.{needs}
+use Rattle.record.proofs.subscriber.sound.Statement.{statement}
+use Rattle.record.proofs.subscriber.sound.Tie as tie
+
+pub sound-spec : {M : Type 1} → statement M
+sound-spec =
+    tie.close
+    (tie.spec
+    (λ c κs. search needs)
+    (λ c κs. search needs)
+    (λ c κs. search needs)
+    (λ c κs. search needs)
+    (λ c κs. search needs)
+    (λ c κs. search needs)
+    (λ c κs. search needs)
+    (λ c κs. search needs)
+    (λ c. search (needs, record-all)))

@@ -1,0 +1,17 @@
+use borrow.Author.Needs.{needs}
+use Rattle.table.proofs.less.Statement.{statement}
+use Rattle.table.proofs.less.Tie as tie
+
+pub less-spec : {M : Type 1} → statement M
+less-spec =
+    tie.close
+    (tie.spec
+    (λ c κs. search needs)
+    (λ c κs. search needs)
+    (λ c κs. search needs)
+    (λ c. search needs)
+    (λ c. search needs)
+    (λ c. search needs)
+    (λ c. cc)
+    (λ c. cc)
+    (λ c. cc))

@@ -1,0 +1,15 @@
+use Rattle.table.proofs.Blocks.{rises-first, rises-later}
+use borrow.Author.Needs.{needs}
+use Rattle.table.proofs.rises.Statement.{statement}
+use Rattle.table.proofs.rises.Tie as tie
+
+pub rises-spec : {M : Type 1} → statement M
+rises-spec =
+    tie.close
+    (tie.spec
+    (λ c. search (needs, rises-first))
+    (λ c. search needs)
+    (λ c κs. search needs)
+    (λ c κs. search needs)
+    (λ c κs. search needs)
+    (λ c. search (needs, rises-later)))
