@@ -1,7 +1,157 @@
 // Records found by their identities, a subscription's first server name, a visited network's number.
+use octets::name;
+use octets::name::Order;
+use record::fields;
+use record::networks;
+use record::subscriber::Record;
+ghost use mathlib.Core.Path.{_≡_};
+ghost use Prim.Native.Nat.{_+_, _*_, _/_, _%_, _^_, _≤_, _<_};
+ghost use lib.ListN.{length};
+ghost use lib.Dec.{eqb};
+ghost use Rattle.lookup.specs.Find.{isAt, findPublic, findPrivate, serverHere, findServer};
+ghost use Rattle.lookup.specs.Network.{agreeAt, networkNumber, roamsIn, Short};
+ghost use Rattle.lookup.specs.SoundTable.{Ordered};
 
 // The number of a record's block, or none.
 pub enum Found {
     At(u32),
     Nothing,
+}
+
+// Whether a record was found.
+pub fn is_at(f: Found) -> bool
+    ensures { λ r. ⌜ r ≡ isAt f ⌝ }
+{
+    match f {
+        Found::At(_) => true,
+        Found::Nothing => false,
+    }
+}
+
+// A number from one up to another, halfway.
+fn middle(low: usize, high: usize) -> usize
+    requires { ⌜ low < high ⌝ }
+    ensures { λ r. ⌜ (low ≤ r) × (r < high) ⌝ }
+{
+    low + (high - low) / 2
+}
+
+// The record with a public identity, by halving: public identities rise. It finds what a scan finds.
+pub fn find_public(t: &[u8], count: usize, name: &[u8]) -> Found
+    requires { ⌜ (count ≤ 4096) × Ordered (now t) count ⌝ }
+    ensures { λ r. ⌜ r ≡ findPublic (now (t .entry)) count (now (name .entry)) ⌝ }
+{
+    let mut low = 1;
+    let mut high = count + 1;
+    while low < high {
+        let k = middle(low, high);
+        match name::order_of(fields::public(table::block(t, k)), name) {
+            Order::Less => {
+                low = k + 1;
+            }
+            Order::Equal => {
+                return Found::At(k as u32);
+            }
+            Order::Greater => {
+                high = k;
+            }
+        }
+    }
+    Found::Nothing
+}
+
+// The first record with a private identity.
+pub fn find_private(t: &[u8], count: usize, name: &[u8]) -> Found
+    requires { ⌜ (count ≤ 4096) × (length (now t) ≡ 512 * (count + 1)) ⌝ }
+    ensures { λ r. ⌜ r ≡ findPrivate (now (t .entry)) count (now (name .entry)) ⌝ }
+{
+    let mut k = 1;
+    while k <= count {
+        if name::same(fields::private(table::block(t, k)), name) {
+            return Found::At(k as u32);
+        }
+        k += 1;
+    }
+    Found::Nothing
+}
+
+// Whether a private identity is in the table.
+pub fn known_private(t: &[u8], count: usize, name: &[u8]) -> bool
+    requires { ⌜ (count ≤ 4096) × (length (now t) ≡ 512 * (count + 1)) ⌝ }
+    ensures { λ r. ⌜ r ≡ isAt (findPrivate (now (t .entry)) count (now (name .entry))) ⌝ }
+{
+    is_at(find_private(t, count, name))
+}
+
+// Whether a record block belongs to a subscription and stores a server name.
+pub fn serves(b: &[u8], name: &[u8]) -> bool
+    requires { ⌜ length (now b) ≡ 512 ⌝ }
+    ensures { λ r. ⌜ r ≡ serverHere (now (b .entry)) (now (name .entry)) ⌝ }
+{
+    (0 < b[Record::SERVER_LENGTH_AT]) & name::same(fields::private(b), name)
+}
+
+// The first record of a subscription that stores a server name.
+pub fn first_server(t: &[u8], count: usize, name: &[u8]) -> Found
+    requires { ⌜ (count ≤ 4096) × (length (now t) ≡ 512 * (count + 1)) ⌝ }
+    ensures { λ r. ⌜ r ≡ findServer (now (t .entry)) count (now (name .entry)) ⌝ }
+{
+    let mut k = 1;
+    while k <= count {
+        if serves(table::block(t, k), name) {
+            return Found::At(k as u32);
+        }
+        k += 1;
+    }
+    Found::Nothing
+}
+
+// Whether byte i of a network's place, first its length, is as the name asks.
+fn agree(b: &[u8], at: usize, name: &[u8], i: usize) -> bool
+    requires { ⌜ (length (now b) ≡ 512) × (at ≤ 368) × (i ≤ length (now name)) ⌝ }
+    ensures { λ r. ⌜ r ≡ agreeAt (now (b .entry)) at (now (name .entry)) i ⌝ }
+{
+    if i == 0 {
+        octets::byte(b, at) == name.len()
+    } else {
+        octets::byte_or_zero(b, at + i) == name[i - 1]
+    }
+}
+
+// The number of the visited network with a name, or the count of networks where none has it.
+pub fn network(b: &[u8], count: usize, name: &[u8]) -> usize
+    requires { ⌜ (length (now b) ≡ 512) × (count ≤ 8) × Short (now b) count ⌝ }
+    ensures { λ r. ⌜ r ≡ networkNumber (now (b .entry)) count (now (name .entry)) ⌝ }
+{
+    let mut k = 0;
+    'places: while k < count {
+        let at = networks::place(k);
+        let mut i = 0;
+        while agree(b, at, name, i) {
+            if i == name.len() {
+                break 'places;
+            }
+            i += 1;
+        }
+        k += 1;
+    }
+    k
+}
+
+// Bit n of a roaming byte.
+fn roams_at(roaming: u8, n: usize) -> bool
+    ensures { λ r. ⌜ r ≡ eqb (roaming / 2 ^ n % 2) 1 ⌝ }
+{
+    if n < 8 {
+        (roaming >> n) % 2 == 1
+    } else {
+        false
+    }
+}
+
+// Whether network n is one of them, and its bit is set.
+pub fn roams_in(roaming: u8, networks: usize, n: usize) -> bool
+    ensures { λ r. ⌜ r ≡ roamsIn roaming networks n ⌝ }
+{
+    (n < networks) & roams_at(roaming, n)
 }

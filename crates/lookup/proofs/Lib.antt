@@ -1,0 +1,7 @@
+pub mod Chains
+pub mod First
+pub mod Halves
+pub mod Places
+pub mod Scans
+pub mod Sound
+pub mod Tests

@@ -1,0 +1,51 @@
+-- Scans by the subscription, and where a record that was found ends.
+use Prim.Native.Nat.{ℕ, _+_, _*_, _<_, _≤_}
+use mathlib.Core.Bool.{Bool, _&&_}
+use mathlib.Core.Path.{_≡_, sym, ap}
+use mathlib.Core.List.{List}
+use native.Mathlib.Omega.{arith}
+use lib.ListN.{length, getD}
+use lib.Dec.{ltb}
+use Rattle.octets.specs.Name.{same}
+use Rattle.record.specs.Fields.{privateOf}
+use Rattle.table.specs.Blocks.{blockOf, privateAt}
+use Rattle.lookup.specs.Find.{firstFrom, endOf, findPublic, publicIs, privateIs, findPrivate, serverHere, servesAt, findServer}
+use Rattle.lookup.specs.declared.Found.{Found}
+use Rattle.lookup.specs.declared.Found.the-variants.{At, Nothing}
+use Rattle.lookup.proofs.First.{first-stands, first-same}
+
+-- The test of a block, by what is read of it.
+pub private-here : (t name : List ℕ) (k : ℕ) {b n : List ℕ} {x : Bool} → b ≡ blockOf t k → n ≡ privateOf b → x ≡ same n name → x ≡ privateIs t name k
+unfolding privateIs privateAt
+private-here t name k e f g = rw (← e, ← f) g
+
+pub serves-here : (t name : List ℕ) (k : ℕ) {b : List ℕ} {x : Bool} → b ≡ blockOf t k → x ≡ serverHere b name → x ≡ servesAt t name k
+unfolding servesAt
+serves-here t name k e g = rw (← e) g
+
+pub serves-all : (b name : List ℕ) {n : List ℕ} {x : Bool} → n ≡ privateOf b → x ≡ same n name → (ltb 0 (getD b 15 0) && x) ≡ serverHere b name
+unfolding serverHere
+serves-all b name e f = rw (f, e)
+
+-- A record that was found lies in the table.
+module _ (t : List ℕ) (count : ℕ) (size : length t ≡ 512 * (count + 1)) where
+  first-end : (p : ℕ → Bool) (f : Found) → firstFrom p count 1 ≡ f → endOf f ≤ length t
+  first-end p (At k) e = omega (arith, first-stands p count 1 k e .to)
+  first-end p Nothing e = omega arith
+
+  pub public-end : (name : List ℕ) {f : Found} → f ≡ findPublic t count name → endOf f ≤ length t
+  unfolding findPublic
+  public-end name {f} e = first-end (publicIs t name) f (sym e)
+
+  pub private-end : (name : List ℕ) {f : Found} → f ≡ findPrivate t count name → endOf f ≤ length t
+  unfolding findPrivate
+  private-end name {f} e = first-end (privateIs t name) f (sym e)
+
+  pub server-end : (name : List ℕ) {f : Found} → f ≡ findServer t count name → endOf f ≤ length t
+  unfolding findServer
+  server-end name {f} e = first-end (servesAt t name) f (sym e)
+
+-- Tables with the same private identities give one answer.
+pub private-alike : (x t : List ℕ) (count : ℕ) (name : List ℕ) → ((k : ℕ) → 1 ≤ k → k ≤ count → privateAt x k ≡ privateAt t k) → findPrivate x count name ≡ findPrivate t count name
+unfolding findPrivate privateIs
+private-alike x t count name h = first-same (privateIs x name) (privateIs t name) count 1 (λ j a b. ap (λ (l : List ℕ). same l name) (h j a (omega arith)))

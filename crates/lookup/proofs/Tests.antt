@@ -1,0 +1,118 @@
+-- What a sound block says, a field for each test of it.
+use Prim.Native.Nat.{ℕ, _+_, _*_, _<_, _≤_, _^_}
+use mathlib.Core.Bool.{true}
+use mathlib.Core.Path.{_≡_}
+use mathlib.Core.List.{List, [], _∷_}
+use lib.ListN.{getD}
+use lib.Dec.{eqb, leb, ltb}
+use borrow.Author.Tests.{eqb-true, leb-true, ltb-true, eq-eqb, le-leb, lt-ltb}
+use Rattle.octets.specs.Run.{zeroBetween}
+use Rattle.octets.specs.Sum.{sumWords}
+use Rattle.octets.proofs.All.{and-left, and-right}
+use Rattle.record.specs.HeaderBlock as header
+use Rattle.record.specs.HeaderBlock.{headerOf, soundCounts, soundNumbers, soundHeader}
+use Rattle.record.specs.Networks.{soundNetworks}
+use Rattle.record.specs.RecordBlock.{recordOf, soundHead, soundLimits, soundServer, soundRoaming, soundProfile, soundRest, soundRecord}
+use Rattle.record.specs.declared.header.Header.{Header}
+use Rattle.record.specs.declared.subscriber.Record.{Record}
+use Rattle.lookup.proofs.Chains.{chain-says, _also_}
+
+-- A record block: its tests, its limits, and what is zero in it.
+pub record RecordTests (b : List ℕ) (k networks file : ℕ) : Type 0 where
+  pub sum : sumWords b 128 ≡ 0
+  pub head : soundHead b k ≡ true
+  pub limits : soundLimits (recordOf b) ≡ true
+  pub server : soundServer (recordOf b) ≡ true
+  pub roaming : soundRoaming (recordOf b) networks ≡ true
+  pub profile : soundProfile (recordOf b) file ≡ true
+  pub rest : soundRest b (recordOf b) ≡ true
+
+module _ (b : List ℕ) (k networks file : ℕ) where
+  pub record-says : soundRecord b k networks file ≡ true → RecordTests b k networks file
+  unfolding soundRecord
+  record-says e =
+      let s = chain-says _ (_ ∷ _ ∷ _ ∷ _ ∷ _ ∷ _ ∷ []) e in
+      record { sum = eqb-true _ _ (s 0); head = s 1; limits = s 2; server = s 3; roaming = s 4; profile = s 5; rest = s 6 }
+
+  pub record-holds : RecordTests b k networks file → soundRecord b k networks file ≡ true
+  unfolding soundRecord
+  record-holds p = eq-eqb _ _ (p .sum) also p .head also p .limits also p .server also p .roaming also p .profile also p .rest
+
+pub record Limits (r : Record) : Type 0 where
+  pub state : r .state ≤ 2
+  pub bits : r .bits ≤ 7
+  pub mandatory : r .mandatory ≤ 4
+  pub optional : r .optional ≤ 4
+  pub public-some : 1 ≤ r .public
+  pub public : r .public ≤ 128
+  pub private-some : 1 ≤ r .private
+  pub private : r .private ≤ 128
+  pub server : r .server ≤ 96
+  pub size : r .size ≤ 4096
+
+pub limits-say : (r : Record) → soundLimits r ≡ true → Limits r
+limits-say r e =
+    let s = chain-says _ (_ ∷ _ ∷ _ ∷ _ ∷ _ ∷ _ ∷ _ ∷ _ ∷ _ ∷ []) e in
+    record {
+      state = leb-true _ _ (s 0);
+      bits = leb-true _ _ (s 1);
+      mandatory = leb-true _ _ (s 2);
+      optional = leb-true _ _ (s 3);
+      public-some = leb-true _ _ (s 4);
+      public = leb-true _ _ (s 5);
+      private-some = leb-true _ _ (s 6);
+      private = leb-true _ _ (s 7);
+      server = leb-true _ _ (s 8);
+      size = leb-true _ _ (s 9);
+    }
+
+pub limits-hold : (r : Record) → Limits r → soundLimits r ≡ true
+limits-hold r l =
+    le-leb _ _ (l .state) also le-leb _ _ (l .bits) also le-leb _ _ (l .mandatory) also le-leb _ _ (l .optional) also le-leb _ _ (l .public-some)
+    also le-leb _ _ (l .public) also le-leb _ _ (l .private-some) also le-leb _ _ (l .private) also le-leb _ _ (l .server) also le-leb _ _ (l .size)
+
+pub record Rest (b : List ℕ) (r : Record) : Type 0 where
+  pub public : zeroBetween b (16 + r .public) 144 ≡ true
+  pub private : zeroBetween b (144 + r .private) 272 ≡ true
+  pub server : zeroBetween b (272 + r .server) 368 ≡ true
+  pub mandatory : zeroBetween b (368 + 4 * r .mandatory) 384 ≡ true
+  pub optional : zeroBetween b (384 + 4 * r .optional) 400 ≡ true
+  pub last : zeroBetween b 406 508 ≡ true
+
+module _ (b : List ℕ) (r : Record) where
+  pub rest-says : soundRest b r ≡ true → Rest b r
+  rest-says e =
+      let s = chain-says _ (_ ∷ _ ∷ _ ∷ _ ∷ _ ∷ []) e in
+      record { public = s 0; private = s 1; server = s 2; mandatory = s 3; optional = s 4; last = s 5 }
+
+  pub rest-holds : Rest b r → soundRest b r ≡ true
+  rest-holds p = p .public also p .private also p .server also p .mandatory also p .optional also p .last
+
+-- The header block: what its numbers are within, and its networks.
+pub record HeaderTests (b : List ℕ) : Type 0 where
+  pub count : headerOf b .count ≤ 4096
+  pub networks : headerOf b .networks ≤ 8
+  pub keep : headerOf b .keep ≤ 1
+  pub host-some : 1 ≤ headerOf b .host
+  pub host : headerOf b .host ≤ 64
+  pub realm-some : 1 ≤ headerOf b .realm
+  pub realm : headerOf b .realm ≤ 64
+  pub places : soundNetworks b (headerOf b .networks) ≡ true
+
+pub header-says : (b : List ℕ) → soundHeader b ≡ true → HeaderTests b
+unfolding soundHeader
+header-says b e =
+    let two = chain-says (soundCounts (headerOf b)) (_ ∷ []) e in
+    let c = chain-says _ (_ ∷ []) (two 0) in
+    let s = chain-says (eqb (sumWords b 128) 0) (header.soundTop b ∷ soundNumbers (headerOf b) ∷ header.soundRest b (headerOf b) ∷ soundNetworks b (headerOf b .networks) ∷ []) (two 1) in
+    let n = chain-says (leb (headerOf b .keep) 1) (_ ∷ _ ∷ _ ∷ _ ∷ []) (s 2) in
+    record {
+      count = leb-true _ _ (c 0);
+      networks = leb-true _ _ (c 1);
+      keep = leb-true _ _ (n 0);
+      host-some = leb-true _ _ (n 1);
+      host = leb-true _ _ (n 2);
+      realm-some = leb-true _ _ (n 3);
+      realm = leb-true _ _ (n 4);
+      places = s 4;
+    }

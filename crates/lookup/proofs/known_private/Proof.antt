@@ -1,0 +1,11 @@
+use borrow.Author.Needs.{needs}
+use Rattle.lookup.proofs.known_private.Statement.{statement}
+use Rattle.lookup.proofs.known_private.Tie as tie
+
+pub known-private-spec : {M : Type 1} → statement M
+known-private-spec =
+    tie.close
+    (tie.spec
+    (λ c κs. search needs)
+    (λ c κs. search needs)
+    (λ c. cc))

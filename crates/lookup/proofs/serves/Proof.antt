@@ -1,0 +1,13 @@
+use Rattle.lookup.proofs.Scans.{serves-all}
+use borrow.Author.Needs.{needs}
+use Rattle.lookup.proofs.serves.Statement.{statement}
+use Rattle.lookup.proofs.serves.Tie as tie
+
+pub serves-spec : {M : Type 1} → statement M
+serves-spec =
+    tie.close
+    (tie.spec
+    (λ c. search needs)
+    (λ c κs. search needs)
+    (λ c κs. search needs)
+    (λ c. search (needs, serves-all)))
