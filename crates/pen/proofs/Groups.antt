@@ -3,14 +3,14 @@ use Prim.Native.Nat.{ℕ, zero, suc, _+_, _-_, _*_, _≤_, _<_}
 use native.Mathlib.Nat.{add-sub-cancel-left}
 use native.Mathlib.Numerals.{add-one}
 use native.Mathlib.Omega.{arith}
-use mathlib.Core.Path.{_≡_, refl, sym, ap, _∙_}
-use mathlib.Core.List.{List, [], _++_, append-assoc, append-nil}
+use mathlib.Core.Path.{_≡_, refl, _∙_}
+use mathlib.Core.List.{List, _++_, append-assoc, append-nil}
 use borrow.Rule.Slice.PartMut.{midOf, putMid}
 use lib.Dec.{ltb}
 use lib.ListN.{length, take, drop, length-append, length-take, length-drop}
 use Rattle.octets.specs.Run.{over, Wrote}
 use Rattle.octets.proofs.Writes.{then, named}
-use Rattle.pen.specs.Bytes.{padding, headBytes, vendorHead, copied, copiedSize, vendorBytes, numberBytes, group, vendorGroup}
+use Rattle.pen.specs.Bytes.{padding, headBytes, vendorHead, copied, vendorBytes, numberBytes, group, vendorGroup}
 use Rattle.pen.specs.Groups.{vendorApplication, experimental, failed, failedSize, vendorNumbers, words, capabilities, capabilitiesSize}
 use Rattle.pen.proofs.Sizes.{there-length, copied-length, vendorHead-length, group-length, vendorGroup-length}
 use Rattle.pen.proofs.Writers.{wrote-there, wrote-none}
