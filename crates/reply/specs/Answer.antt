@@ -7,7 +7,7 @@ use lib.ListN.{length, getD, take, drop}
 use lib.Dec.{eqb, ltb}
 use Rattle.record.specs.Fields.{hostOf, realmOf}
 use Rattle.diameter.specs.Walk.{Walk, ended, faulty, avp}
-use Rattle.pen.specs.Bytes.{copied, avpBytes, vendorBytes, numberBytes, ifThere}
+use Rattle.pen.specs.Bytes.{copied, copiedSize, avpBytes, vendorBytes, numberBytes, ifThere}
 use Rattle.pen.specs.Groups.{vendorApplication, experimental, capabilities, failed}
 use Rattle.reading.specs.Kinds.{kindOf, proxyInfo}
 use Rattle.reading.specs.Request.{bodyOf, sessionOf}
@@ -66,3 +66,7 @@ headerBytes req result n =
 
 unfoldable pub answerBytes : List ℕ → List ℕ → Reply → List ℕ
 answerBytes req h r = headerBytes req (r .result) (20 + length (bodyBytes (bodyOf req) h r)) ++ bodyBytes (bodyOf req) h r
+
+-- the room that an answer needs at the most: 636 bytes for what is bounded by the table's fields, besides what comes from the request and from the profile file
+unfoldable pub roomOf : Walk → Reply → ℕ
+roomOf w r = 636 + copiedSize (length (sessionOf w)) + copiedSize (length (r .profile)) + length (failedPart (r .failed)) + length (proxies w)
