@@ -1,6 +1,5 @@
 -- One call: the word returned, the table and the buffer afterwards, for any bytes.
 use Prim.Native.Nat.{ℕ, _%_}
-use mathlib.Core.Path.{_≡_}
 use mathlib.Core.List.{List}
 use mathlib.Core.Bool.{Bool, cond, not, _||_}
 use lib.ListN.{length, getD}
@@ -52,9 +51,3 @@ serve req t file o =
     (cond (wrongLength req) (refused 3 0 t o)
     (cond (ltb (getD req 4 0) 128) (refused 4 0 t o)
     (serveChecked req t file o (checkTable t (length file))))))
-
--- The promise of the entry: the word, the table at exit and the buffer at exit are those of `serve`.
-pub record Promise (req t file o : List ℕ) (word : ℕ) (table buffer : List ℕ) : Type 0 where
-  pub word-is : word ≡ serve req t file o .word
-  pub table-is : table ≡ serve req t file o .table
-  pub buffer-is : buffer ≡ serve req t file o .buffer

@@ -1,5 +1,12 @@
--- The word that a call returns: the refusal's number (0: none), and a value.
+-- The word that a call returns: its number times 2^48, and what it returns besides below that.
 use Prim.Native.Nat.{ℕ, _+_, _*_}
+use Rattle.table.specs.declared.Checked.{Checked}
+use Rattle.table.specs.declared.Checked.the-variants.{Sound, Bad}
 
 abbrev pub word : ℕ → ℕ → ℕ
 word number value = number * 281474976710656 + value
+
+-- a sound table: number 0 with the record count; an unsound one: "5", with the "first bad block"
+abbrev pub checkWord : Checked → ℕ
+checkWord (Sound count) = word 0 count
+checkWord (Bad block) = word 5 block
