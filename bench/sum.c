@@ -1,0 +1,18 @@
+/* The floor of a table check: the bare sum of the table's words. Compiled twice, under two names and options; a copy
+ * and ntohl, because compilers make vectors of that and not of shifted bytes. */
+#include <arpa/inet.h>
+#include <stddef.h>
+#include <stdint.h>
+#include <string.h>
+
+uint32_t SUM(const uint8_t *table, size_t length);
+
+uint32_t SUM(const uint8_t *table, size_t length) {
+    uint32_t sum = 0;
+    for (size_t i = 0; i < length / 4; i++) {
+        uint32_t word;
+        memcpy(&word, table + 4 * i, 4);
+        sum += ntohl(word);
+    }
+    return sum;
+}

@@ -1,0 +1,76 @@
+/* decide TABLE PROFILE REQUEST: answers one request, and shows what the call returned and changed.
+ * REQUEST is text: hexadecimal digits, blanks between bytes as you like, and comments from # to the line's end.
+ * The files stay as they are: a daemon would store the rewritten blocks before it sends the answer.
+ * Exit status: 0 answered, 1 refused, 2 a file cannot be read. */
+#include <ctype.h>
+
+#include <ndushavire.h>
+
+#include "load.h"
+
+/* Turns hexadecimal text into bytes, in place, and gives their number. */
+static size_t from_hex(uint8_t *text, size_t length) {
+    static const char digits[] = "0123456789abcdef";
+    size_t digit = 0;
+    int comment = 0;
+    for (size_t i = 0; i < length; i++) {
+        const int c = tolower(text[i]);
+        comment = c == '#' || (comment && c != '\n');
+        if (comment || isspace(c)) continue;
+        const char *at = c != 0 ? strchr(digits, c) : NULL;
+        if (at == NULL) {
+            fprintf(stderr, "decide: a request is hexadecimal digits\n");
+            exit(2);
+        }
+        const uint8_t value = (uint8_t)(at - digits);
+        text[digit / 2] = (uint8_t)(digit % 2 == 0 ? value << 4 : text[digit / 2] | value);
+        digit++;
+    }
+    if (digit % 2 != 0) {
+        fprintf(stderr, "decide: half a byte at the request's end\n");
+        exit(2);
+    }
+    return digit / 2;
+}
+
+/* Four bytes to a word and eight words to a line. */
+static void print_hex(const uint8_t *bytes, size_t length) {
+    for (size_t i = 0; i < length; i++) {
+        const char *after = i + 1 == length || i % 32 == 31 ? "\n" : i % 4 == 3 ? " " : "";
+        printf("%02X%s", bytes[i], after);
+    }
+}
+
+int main(int argc, char **argv) {
+    if (argc != 4) {
+        fprintf(stderr, "usage: decide TABLE PROFILE REQUEST\n");
+        return 2;
+    }
+    size_t table_len, before_len, profile_len, request_len;
+    uint8_t *table = load(argv[1], &table_len);
+    uint8_t *before = load(argv[1], &before_len);
+    uint8_t *profile = load(argv[2], &profile_len);
+    uint8_t *request = load(argv[3], &request_len);
+    static uint8_t answer[NDUSHAVIRE_ANSWER_ROOM];
+    request_len = from_hex(request, request_len);
+
+    uint64_t word = ndushavire_decide(request, request_len, table, table_len, profile, profile_len, answer, sizeof answer);
+    const unsigned long value = ndushavire_value(word);
+    if (ndushavire_answered(word)) {
+        printf("answered, %lu bytes\n", value);
+        print_hex(answer, value);
+        for (size_t at = 0; at + NDUSHAVIRE_BLOCK <= table_len && at + NDUSHAVIRE_BLOCK <= before_len; at += NDUSHAVIRE_BLOCK)
+            if (memcmp(table + at, before + at, NDUSHAVIRE_BLOCK) != 0)
+                printf("block %lu rewritten\n", (unsigned long)(at / NDUSHAVIRE_BLOCK));
+    } else if (ndushavire_number(word) == NDUSHAVIRE_TABLE_UNSOUND) {
+        printf("refused 5, block %lu is bad\n", value);
+    } else {
+        printf("refused %lu\n", (unsigned long)ndushavire_number(word));
+    }
+
+    free(table);
+    free(before);
+    free(profile);
+    free(request);
+    return ndushavire_answered(word) ? 0 : 1;
+}

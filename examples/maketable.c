@@ -1,0 +1,415 @@
+/* maketable TEXT TABLE PROFILE: makes a sound table and its profile file from a text.
+ *
+ * The text is paragraphs of words, apart by empty lines. A word is `key=value` or a key alone; a value holds no
+ * blank, or stands in quotes, where \" \\ \n and \xHH (two hexadecimal digits) mean a quote, a backslash, a line's
+ * end and any byte. A word that begins with # and the rest of its line are a comment.
+ *
+ * The first paragraph is the header:
+ *   host=NAME realm=NAME        1 to 64 bytes each
+ *   keep=N                      1: a line whose registration timed out keeps its server; 0: it does not
+ *   network=NAME                a visited network, 1 to 31 bytes; up to eight, none twice
+ * Each other one is a record, in any order:
+ *   public=NAME private=NAME    1 to 128 bytes each; no public identity twice
+ *   state=STATE                 not-registered (as if left out), registered or unregistered
+ *   pending barred unregistered-services
+ *   roaming=NAME                a network of the header; a word for each network that is allowed
+ *   mandatory=N,N optional=N,N  capabilities, up to four of each, 32 bits
+ *   server=NAME                 1 to 96 bytes; wanted where registered, unregistered or pending, and nowhere else
+ *   profile=TEXT                up to 4,096 bytes
+ *
+ * A text that no sound table can be made from is refused with its line: status 1, and no file is written.
+ * This program stands apart from the library and reads the table's rules for itself, so that each tests the other. */
+#include <ctype.h>
+#include <stdarg.h>
+
+#include "load.h"
+
+enum { BLOCK = 512, RECORDS = 4096, NETWORKS = 8, CAPABILITIES = 4 };
+
+typedef struct {
+    const uint8_t *bytes;
+    size_t length;
+} Name;
+
+typedef struct {
+    uint32_t value[CAPABILITIES];
+    unsigned count;
+} Capabilities;
+
+typedef struct {
+    size_t line;
+    Name public_identity, private_identity, server, profile;
+    unsigned state, pending, barred, services, roaming;
+    Capabilities mandatory, optional;
+} Record;
+
+static struct {
+    Name host, realm, network[NETWORKS];
+    unsigned keep, networks;
+} header;
+
+static Record records[RECORDS];
+static size_t count;
+static const char *text_name;
+
+static void refuse(size_t line, const char *form, ...) {
+    va_list words;
+    va_start(words, form);
+    fprintf(stderr, "maketable: %s:%lu: ", text_name, (unsigned long)line);
+    vfprintf(stderr, form, words);
+    fputc('\n', stderr);
+    va_end(words);
+    exit(1);
+}
+
+/* ---- the text's words */
+
+typedef enum {
+    HOST, REALM, KEEP, NETWORK,
+    PUBLIC, PRIVATE, STATE, PENDING, BARRED, SERVICES, ROAMING, MANDATORY, OPTIONAL, SERVER, PROFILE,
+    KEYS
+} Key;
+
+static const struct {
+    const char *name;
+    int is_flag, repeats;
+    size_t least, most;
+} keys[KEYS] = {
+    [HOST] = {"host", 0, 0, 1, 64},
+    [REALM] = {"realm", 0, 0, 1, 64},
+    [KEEP] = {"keep", 0, 0, 0, 4096},
+    [NETWORK] = {"network", 0, 1, 1, 31},
+    [PUBLIC] = {"public", 0, 0, 1, 128},
+    [PRIVATE] = {"private", 0, 0, 1, 128},
+    [STATE] = {"state", 0, 0, 0, 4096},
+    [PENDING] = {"pending", 1, 0, 0, 0},
+    [BARRED] = {"barred", 1, 0, 0, 0},
+    [SERVICES] = {"unregistered-services", 1, 0, 0, 0},
+    [ROAMING] = {"roaming", 0, 1, 0, 4096},
+    [MANDATORY] = {"mandatory", 0, 0, 0, 4096},
+    [OPTIONAL] = {"optional", 0, 0, 0, 4096},
+    [SERVER] = {"server", 0, 0, 1, 96},
+    [PROFILE] = {"profile", 0, 0, 0, 4096},
+};
+
+typedef struct {
+    uint8_t *at, *end;
+    size_t line;
+    int empty; /* whether the line has had no word and no comment yet */
+} Text;
+
+typedef struct {
+    enum { END, GAP, WORD } kind;
+    size_t line;
+    Key key;
+    Name value;
+} Word;
+
+static int same(Name a, Name b) { return a.length == b.length && memcmp(a.bytes, b.bytes, a.length) == 0; }
+
+static int same_text(Name a, const char *b) { return a.length == strlen(b) && memcmp(a.bytes, b, a.length) == 0; }
+
+static int hex_digit(int c) { return isdigit(c) ? c - '0' : isxdigit(c) ? tolower(c) - 'a' + 10 : -1; }
+
+/* The byte that a backslash in a quoted value stands for. */
+static uint8_t escaped(Text *text) {
+    const uint8_t c = text->at < text->end ? *text->at++ : 0;
+    if (c == 'n') return '\n';
+    if (c == 'x' && text->end - text->at >= 2) {
+        const int high = hex_digit(text->at[0]), low = hex_digit(text->at[1]);
+        text->at += 2;
+        if (high >= 0 && low >= 0) return (uint8_t)(high * 16 + low);
+    } else if (c == '"' || c == '\\') {
+        return c;
+    }
+    refuse(text->line, "a backslash wants \", \\, n, or x and two hexadecimal digits");
+    return 0;
+}
+
+/* A value in quotes, written over itself: it only ever shrinks. */
+static Name quoted(Text *text) {
+    uint8_t *start = ++text->at, *to = start;
+    while (text->at < text->end && *text->at != '"' && *text->at != '\n') {
+        uint8_t c = *text->at++;
+        *to++ = c == '\\' ? escaped(text) : c;
+    }
+    if (text->at == text->end || *text->at != '"') refuse(text->line, "a quote is not closed on its line");
+    text->at++;
+    if (text->at < text->end && !isspace(*text->at)) refuse(text->line, "a blank is missing after a quoted value");
+    const Name name = {start, (size_t)(to - start)};
+    return name;
+}
+
+/* What stands here up to a blank, or to `stop`. */
+static Name run(Text *text, int stop) {
+    uint8_t *start = text->at;
+    while (text->at < text->end && !isspace(*text->at) && *text->at != stop) text->at++;
+    const Name name = {start, (size_t)(text->at - start)};
+    return name;
+}
+
+/* Goes to the next word, and says whether an empty line was passed. */
+static int skip(Text *text) {
+    int gap = 0;
+    while (text->at < text->end && (isspace(*text->at) || *text->at == '#')) {
+        if (*text->at == '#') {
+            while (text->at < text->end && *text->at != '\n') text->at++;
+            text->empty = 0;
+        } else if (*text->at++ == '\n') {
+            gap |= text->empty;
+            text->empty = 1;
+            text->line++;
+        }
+    }
+    return gap;
+}
+
+static Word next_word(Text *text) {
+    const int gap = skip(text);
+    Word word = {END, text->line, KEYS, {NULL, 0}};
+    if (text->at == text->end) return word;
+    word.kind = gap ? GAP : WORD;
+    if (gap) return word;
+    text->empty = 0;
+    const Name key = run(text, '=');
+    for (word.key = HOST; word.key < KEYS && !same_text(key, keys[word.key].name);) word.key = (Key)(word.key + 1);
+    if (word.key == KEYS) refuse(word.line, "there is no word %.*s", (int)(key.length < 64 ? key.length : 64), (const char *)key.bytes);
+    const int has_value = text->at < text->end && *text->at == '=';
+    const char *name = keys[word.key].name;
+    if (keys[word.key].is_flag && has_value) refuse(word.line, "%s takes no value", name);
+    if (!keys[word.key].is_flag && !has_value) refuse(word.line, "%s wants a value", name);
+    if (!has_value) return word;
+    text->at++;
+    word.value = text->at < text->end && *text->at == '"' ? quoted(text) : run(text, -1);
+    if (word.value.length < keys[word.key].least || word.value.length > keys[word.key].most)
+        refuse(word.line, "%s has %lu bytes, and may have %lu to %lu", name, (unsigned long)word.value.length,
+               (unsigned long)keys[word.key].least, (unsigned long)keys[word.key].most);
+    return word;
+}
+
+/* ---- what the words mean */
+
+static unsigned choice(const Word *word, const char *const *names, unsigned many) {
+    unsigned i = 0;
+    while (i < many && !same_text(word->value, names[i])) i++;
+    if (i == many) refuse(word->line, "%s has none of its values", keys[word->key].name);
+    return i;
+}
+
+static unsigned find_network(Name name) {
+    unsigned i = 0;
+    while (i < header.networks && !same(name, header.network[i])) i++;
+    return i;
+}
+
+static Capabilities capabilities(const Word *word) {
+    Capabilities found = {{0}, 0};
+    const uint8_t *at = word->value.bytes, *end = at + word->value.length;
+    for (;; at++) {
+        const uint8_t *start = at;
+        uint64_t number = 0;
+        for (; at < end && isdigit(*at) && number <= UINT32_MAX; at++) number = number * 10 + (uint64_t)(*at - '0');
+        if (number > UINT32_MAX) refuse(word->line, "a number of %s is over 32 bits", keys[word->key].name);
+        if (at == start || (at < end && *at != ',')) refuse(word->line, "%s is numbers with commas between", keys[word->key].name);
+        if (found.count == CAPABILITIES) refuse(word->line, "%s has more than %d numbers", keys[word->key].name, CAPABILITIES);
+        found.value[found.count++] = (uint32_t)number;
+        if (at == end) return found;
+    }
+}
+
+static void header_word(const Word *word) {
+    static const char *const keeps[] = {"0", "1"};
+    switch (word->key) {
+    case HOST: header.host = word->value; break;
+    case REALM: header.realm = word->value; break;
+    case KEEP: header.keep = choice(word, keeps, 2); break;
+    case NETWORK:
+        if (find_network(word->value) < header.networks) refuse(word->line, "two networks are alike");
+        if (header.networks == NETWORKS) refuse(word->line, "there are more than %d networks", NETWORKS);
+        header.network[header.networks++] = word->value;
+        break;
+    default: refuse(word->line, "%s is no word of a header", keys[word->key].name);
+    }
+}
+
+static void record_word(Record *record, const Word *word) {
+    static const char *const states[] = {"not-registered", "registered", "unregistered"};
+    switch (word->key) {
+    case PUBLIC: record->public_identity = word->value; break;
+    case PRIVATE: record->private_identity = word->value; break;
+    case STATE: record->state = choice(word, states, 3); break;
+    case PENDING: record->pending = 1; break;
+    case BARRED: record->barred = 1; break;
+    case SERVICES: record->services = 1; break;
+    case ROAMING:
+        if (find_network(word->value) == header.networks) refuse(word->line, "roaming names no network of the header");
+        record->roaming |= 1u << find_network(word->value);
+        break;
+    case MANDATORY: record->mandatory = capabilities(word); break;
+    case OPTIONAL: record->optional = capabilities(word); break;
+    case SERVER: record->server = word->value; break;
+    case PROFILE: record->profile = word->value; break;
+    default: refuse(word->line, "%s is no word of a record", keys[word->key].name);
+    }
+}
+
+/* Notes a word of a paragraph; few kinds of words may stand there twice. */
+static void note(unsigned *seen, const Word *word) {
+    if ((*seen >> word->key & 1u) && !keys[word->key].repeats) refuse(word->line, "%s stands there twice", keys[word->key].name);
+    *seen |= 1u << word->key;
+}
+
+static void want(unsigned seen, Key key, size_t line) {
+    if (!(seen >> key & 1u)) refuse(line, "%s is missing", keys[key].name);
+}
+
+static void read_text(Text *text) {
+    Word word = next_word(text);
+    if (word.kind == GAP) word = next_word(text);
+    size_t line = word.line;
+    unsigned seen = 0;
+    for (; word.kind == WORD; word = next_word(text)) {
+        note(&seen, &word);
+        header_word(&word);
+    }
+    want(seen, HOST, line);
+    want(seen, REALM, line);
+    want(seen, KEEP, line);
+    while (word.kind == GAP) {
+        if (count == RECORDS) refuse(word.line, "there are more than %d records", RECORDS);
+        Record *record = &records[count++];
+        record->line = word.line;
+        seen = 0;
+        for (word = next_word(text); word.kind == WORD; word = next_word(text)) {
+            note(&seen, &word);
+            record_word(record, &word);
+        }
+        want(seen, PUBLIC, record->line);
+        want(seen, PRIVATE, record->line);
+        const int named = record->state != 0 || record->pending;
+        if (named) want(seen, SERVER, record->line);
+        if (!named && record->server.length > 0) refuse(record->line, "a line that is not registered and not pending has no server");
+    }
+}
+
+/* ---- the table */
+
+/* Bytewise, a prefix first. */
+static int by_public_identity(const void *left, const void *right) {
+    const Name a = ((const Record *)left)->public_identity, b = ((const Record *)right)->public_identity;
+    const int order = memcmp(a.bytes, b.bytes, a.length < b.length ? a.length : b.length);
+    return order != 0 ? order : (a.length > b.length) - (a.length < b.length);
+}
+
+static void sort_records(void) {
+    qsort(records, count, sizeof records[0], by_public_identity);
+    for (size_t i = 1; i < count; i++)
+        if (by_public_identity(&records[i - 1], &records[i]) == 0) {
+            const size_t a = records[i - 1].line, b = records[i].line;
+            refuse(a < b ? b : a, "its public identity stands at line %lu already", (unsigned long)(a < b ? a : b));
+        }
+}
+
+static void put_name(uint8_t *to, Name name) {
+    if (name.length > 0) memcpy(to, name.bytes, name.length);
+}
+
+static void put_word(uint8_t *to, uint32_t word) {
+    for (int i = 0; i < 4; i++) to[i] = (uint8_t)(word >> (24 - 8 * i));
+}
+
+/* Sets the check word, so that the block's 128 words sum to zero. */
+static void seal(uint8_t *block) {
+    uint32_t sum = 0;
+    for (size_t at = 0; at < BLOCK - 4; at += 4)
+        sum += (uint32_t)block[at] << 24 | (uint32_t)block[at + 1] << 16 | (uint32_t)block[at + 2] << 8 | block[at + 3];
+    put_word(block + BLOCK - 4, 0 - sum);
+}
+
+static void put_header(uint8_t *block) {
+    block[0] = 1;
+    block[1] = 1;
+    put_word(block + 8, (uint32_t)count);
+    block[12] = (uint8_t)header.keep;
+    block[13] = (uint8_t)header.host.length;
+    block[14] = (uint8_t)header.realm.length;
+    block[15] = (uint8_t)header.networks;
+    put_name(block + 16, header.host);
+    put_name(block + 80, header.realm);
+    for (unsigned i = 0; i < header.networks; i++) {
+        block[144 + 32 * i] = (uint8_t)header.network[i].length;
+        put_name(block + 145 + 32 * i, header.network[i]);
+    }
+    seal(block);
+}
+
+static void put_record(uint8_t *block, const Record *record, uint32_t number, uint32_t profile_start) {
+    block[0] = 2;
+    block[1] = 1;
+    put_word(block + 4, number);
+    block[8] = (uint8_t)record->state;
+    block[9] = (uint8_t)(record->pending | record->barred << 1 | record->services << 2);
+    block[10] = (uint8_t)record->roaming;
+    block[11] = (uint8_t)record->mandatory.count;
+    block[12] = (uint8_t)record->optional.count;
+    block[13] = (uint8_t)record->public_identity.length;
+    block[14] = (uint8_t)record->private_identity.length;
+    block[15] = (uint8_t)record->server.length;
+    put_name(block + 16, record->public_identity);
+    put_name(block + 144, record->private_identity);
+    put_name(block + 272, record->server);
+    for (size_t i = 0; i < CAPABILITIES; i++) {
+        put_word(block + 368 + 4 * i, record->mandatory.value[i]);
+        put_word(block + 384 + 4 * i, record->optional.value[i]);
+    }
+    put_word(block + 400, profile_start);
+    block[404] = (uint8_t)(record->profile.length >> 8);
+    block[405] = (uint8_t)record->profile.length;
+    seal(block);
+}
+
+static int store(const char *path, const uint8_t *bytes, size_t length) {
+    FILE *file = fopen(path, "wb");
+    const int written = file != NULL && fwrite(bytes, 1, length, file) == length;
+    const int closed = file != NULL && fclose(file) == 0;
+    if (written && closed) return 1;
+    fprintf(stderr, "maketable: %s: %s\n", path, strerror(errno));
+    if (file != NULL) remove(path);
+    return 0;
+}
+
+int main(int argc, char **argv) {
+    if (argc != 4) {
+        fprintf(stderr, "usage: maketable TEXT TABLE PROFILE\n");
+        return 2;
+    }
+    size_t length;
+    uint8_t *bytes = load(text_name = argv[1], &length);
+    Text text = {bytes, bytes + length, 1, 1};
+    read_text(&text);
+    sort_records();
+
+    size_t profile_length = 0;
+    for (size_t i = 0; i < count; i++) profile_length += records[i].profile.length;
+    uint8_t *table = (uint8_t *)calloc(count + 1, BLOCK), *profile = (uint8_t *)malloc(profile_length + 1);
+    if (table == NULL || profile == NULL) {
+        fprintf(stderr, "maketable: no memory\n");
+        return 1;
+    }
+    put_header(table);
+    size_t start = 0;
+    for (size_t i = 0; i < count; i++) {
+        put_record(table + BLOCK * (i + 1), &records[i], (uint32_t)(i + 1), (uint32_t)start);
+        put_name(profile + start, records[i].profile);
+        start += records[i].profile.length;
+    }
+    if (!store(argv[3], profile, profile_length)) return 1;
+    if (!store(argv[2], table, BLOCK * (count + 1))) {
+        remove(argv[3]);
+        return 1;
+    }
+    free(table);
+    free(profile);
+    free(bytes);
+    return 0;
+}

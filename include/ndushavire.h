@@ -1,0 +1,60 @@
+/* ndushavire.h: decides Diameter Cx requests over a subscriber table.
+ *
+ * Who owns what. The caller owns every byte. All four slices (request, table, profile, answer) are lent for the
+ * length of the call and none is kept: the library has no state of its own, opens no file, takes no memory and
+ * starts nothing. The slices of one call must not overlap. Every pointer is non-null, also where its length is 0.
+ * Only the answer, and in ndushavire_decide the table, are written to; what must outlive the process is for the
+ * caller to store. Calls on different tables may run at once; while ndushavire_decide runs, no one else may read
+ * or write its table or its answer, and checks of one table may run beside each other. */
+#ifndef NDUSHAVIRE_H
+#define NDUSHAVIRE_H
+
+#include <stddef.h>
+#include <stdint.h>
+
+#ifdef __cplusplus
+extern "C" {
+#endif
+
+#define NDUSHAVIRE_ANSWER_ROOM 36864 /* the least answer buffer, in bytes: no answer is longer */
+#define NDUSHAVIRE_REQUEST_MIN 20    /* the shortest request, a Diameter header alone */
+#define NDUSHAVIRE_REQUEST_MAX 16384 /* the longest request */
+#define NDUSHAVIRE_BLOCK 512         /* a table is a header block and a block for each record */
+#define NDUSHAVIRE_RECORDS_MAX 4096  /* the most records of a table */
+
+/* A word's number: 0, or why the call was refused. A refused call has written nothing. */
+#define NDUSHAVIRE_DONE 0           /* answered; of ndushavire_check, sound */
+#define NDUSHAVIRE_ANSWER_SHORT 1   /* the answer buffer is under NDUSHAVIRE_ANSWER_ROOM */
+#define NDUSHAVIRE_REQUEST_SIZE 2   /* the request is under or over its limits */
+#define NDUSHAVIRE_REQUEST_LENGTH 3 /* its header's length is not its own, or no multiple of 4 */
+#define NDUSHAVIRE_NO_REQUEST 4     /* the R bit is clear */
+#define NDUSHAVIRE_TABLE_UNSOUND 5  /* the value is the first bad block */
+
+/* Answers one request, and rewrites the records that it changes. The word's value is the answer's length; the
+ * buffer's bytes past it stay as they were. */
+uint64_t ndushavire_decide(const uint8_t *request, size_t request_len, uint8_t *table, size_t table_len,
+                           const uint8_t *profile, size_t profile_len, uint8_t *answer, size_t answer_len);
+
+/* Checks a table against its profile file. The word's value is the record count, or by number 5 the first bad
+ * block. */
+uint64_t ndushavire_check(const uint8_t *table, size_t table_len, const uint8_t *profile, size_t profile_len);
+
+/* The parts of a word: number << 48 | place << 32 | value. */
+static inline uint32_t ndushavire_number(uint64_t word) { return (uint32_t)(word >> 48); }
+
+/* Always 0 in this edition; kept for the place of an AVP at fault. */
+static inline uint32_t ndushavire_place(uint64_t word) { return (uint32_t)(word >> 32) & 0xFFFFu; }
+
+static inline uint32_t ndushavire_value(uint64_t word) { return (uint32_t)(word & 0xFFFFFFFFu); }
+
+/* Of ndushavire_decide: whether there is an answer. */
+static inline int ndushavire_answered(uint64_t word) { return ndushavire_number(word) == NDUSHAVIRE_DONE; }
+
+/* Of ndushavire_check: whether the table is sound. */
+static inline int ndushavire_sound(uint64_t word) { return ndushavire_number(word) == NDUSHAVIRE_DONE; }
+
+#ifdef __cplusplus
+}
+#endif
+
+#endif

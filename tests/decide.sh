@@ -1,0 +1,42 @@
+#!/usr/bin/env bash
+# decide.sh ROOM MAKETABLE DECIDE..: each DECIDE gives the worked answer over the sample, and the refusals that a request
+# or a table can bring about. RUN, if set, is the emulator that runs a DECIDE.
+set -euo pipefail
+shopt -s lastpipe
+room=$1 maketable=$2
+shift 2
+decides=("$@")
+run=(${RUN:+"$RUN"})
+examples=$(dirname "$0")/../examples
+rm -rf "$room"
+mkdir -p "$room"
+table=$room/table profile=$room/profile request=$room/request
+"$maketable" "$examples/households.txt" "$table" "$profile"
+tried=0
+
+# The request on standard input gets what the file EXPECTED has.
+gets() { # EXPECTED ABOUT
+    cat >"$request"
+    for decide in "${decides[@]}"; do
+        "${run[@]}" "$decide" "$table" "$profile" "$request" >"$room/said" || true
+        cmp -s "$room/said" "$1" || { echo "decide.sh: $2: $decide says"; cat "$room/said"; echo 'and should say'; cat "$1"; exit 1; } >&2
+    done
+    tried=$((tried + 1))
+}
+refused() { # WORDS ABOUT
+    echo "refused $1" >"$room/expected"
+    gets "$room/expected" "$2"
+}
+
+gets "$examples/no-avps.answer" 'a header alone' <"$examples/no-avps.hex"
+: | refused 2 'no byte'
+echo 01000014 C000012E 01000000 00000001 000000 | refused 2 '19 bytes'
+{ echo 01004004 C000012E 01000000 00000001 00000002; printf '00%.0s' $(seq 16368); } | refused 2 '16,388 bytes'
+echo 01000018 C000012E 01000000 00000001 00000002 | refused 3 'a length that is not its own'
+echo 01000015 C000012E 01000000 00000001 00000002 00 | refused 3 'a length that is no multiple of 4'
+echo 01000014 4000012E 01000000 00000001 00000002 | refused 4 'an answer'
+truncate -s -512 "$table"
+echo 01000014 4000012E 01000000 00000001 00000002 | refused 4 'an answer, and a table cut short'
+refused '5, block 0 is bad' 'a table cut short' <"$examples/no-avps.hex"
+
+echo "decide.sh: $tried requests, each answered as it should be"

@@ -1,0 +1,149 @@
+#!/usr/bin/env bash
+# tables.sh ROOM MAKETABLE CHECK..: what maketable makes is sound to each CHECK, what it cannot make sound it refuses,
+# and of each damaged table the first bad block is named. RUN, if set, is the emulator that runs a CHECK.
+set -euo pipefail
+shopt -s lastpipe
+room=$1 maketable=$2
+shift 2
+checks=("$@")
+run=(${RUN:+"$RUN"})
+rm -rf "$room"
+mkdir -p "$room"
+text=$room/text table=$room/table profile=$room/profile
+tried=0
+
+fail() {
+    echo "tables.sh: $*" >&2
+    exit 1
+}
+
+# Every CHECK says this of the table and the profile.
+says() { # EXPECTED ABOUT
+    local check said
+    for check in "${checks[@]}"; do
+        said=$("${run[@]}" "$check" "$table" "$profile") || true
+        [ "$said" = "$1" ] || fail "$2: $check says '$said' and should say '$1'"
+    done
+    tried=$((tried + 1))
+}
+
+head='host=h realm=r keep=0'
+one='public=p private=q'
+many() { printf "%0*d" "$1" 0; } # N bytes
+
+# A text on standard input makes a table that is sound.
+sound() { # RECORDS ABOUT
+    cat >"$text"
+    "$maketable" "$text" "$table" "$profile" || fail "$2: refused"
+    says "sound, $1 records" "$2"
+}
+
+# A text on standard input is refused at a line, and no file appears.
+refused() { # LINE PHRASE
+    cat >"$text"
+    rm -f "$table" "$profile"
+    local status=0
+    "$maketable" "$text" "$table" "$profile" 2>"$room/said" || status=$?
+    [ "$status" = 1 ] || fail "not refused: $2"
+    if [ -e "$table" ] || [ -e "$profile" ]; then fail "files were written: $2"; fi
+    grep -q -F ":$1: $2" "$room/said" || fail "expected line $1, '$2', and got: $(cat "$room/said")"
+    tried=$((tried + 1))
+}
+
+echo "$head" | sound 0 'no record'
+printf '\n\n# a comment\n%s # and another\n# no gap\nnetwork=n\n\n\n%s\n\n' "$head" "$one" | sound 1 'gaps and comments'
+printf 'host=%s realm=%s keep=1 %s\n\npublic=%s private=%s server=%s state=unregistered pending barred unregistered-services %s mandatory=0,1,4294967295,3 optional=4,5,6,7 profile=%s\n' \
+    "$(many 64)" "$(many 64)" "$(printf 'network=%030d%d ' 0 1 0 2 0 3 0 4 0 5 0 6 0 7 0 8)" "$(many 128)" "$(many 128)" "$(many 96)" \
+    "$(printf 'roaming=%030d%d ' 0 1 0 2 0 8)" "$(many 4096)" | sound 1 'everything at its largest'
+printf '%s\n\npublic=aa private=q\n\npublic="a\\x00" private=q\n\npublic=a private=q\n\npublic="\\xff\\"\\\\\\n" private=q\n' "$head" | sound 4 'a < a, 0 < aa < 255'
+{ echo "$head"; for i in $(seq 4096); do printf '\npublic=%d private=q\n' "$i"; done; } | sound 4096 'the most records'
+
+refused 1 'host is missing' </dev/null
+echo 'realm=r keep=0' | refused 1 'host is missing'
+echo 'host=h keep=0' | refused 1 'realm is missing'
+echo 'host=h realm=r' | refused 1 'keep is missing'
+echo 'host= realm=r keep=0' | refused 1 'host has 0 bytes'
+echo "host=$(many 65) realm=r keep=0" | refused 1 'host has 65 bytes'
+echo "host=h realm=$(many 65) keep=0" | refused 1 'realm has 65 bytes'
+echo 'host=h realm=r keep=2' | refused 1 'keep has none of its values'
+echo "$head keep=0" | refused 1 'keep stands there twice'
+echo "$head network=" | refused 1 'network has 0 bytes'
+echo "$head network=$(many 32)" | refused 1 'network has 32 bytes'
+echo "$head network=n network=m network=n" | refused 1 'two networks are alike'
+echo "$head $(printf 'network=%d ' 1 2 3 4 5 6 7 8 9)" | refused 1 'there are more than 8 networks'
+echo "$head public=p" | refused 1 'public is no word of a header'
+printf '%s\n\nprivate=q\n' "$head" | refused 3 'public is missing'
+printf '%s\n\npublic=p\n' "$head" | refused 3 'private is missing'
+printf '%s\n\npublic= private=q\n' "$head" | refused 3 'public has 0 bytes'
+printf '%s\n\npublic=%s private=q\n' "$head" "$(many 129)" | refused 3 'public has 129 bytes'
+printf '%s\n\npublic=p private=%s\n' "$head" "$(many 129)" | refused 3 'private has 129 bytes'
+printf '%s\n\n%s pending server=%s\n' "$head" "$one" "$(many 97)" | refused 3 'server has 97 bytes'
+printf '%s\n\n%s profile=%s\n' "$head" "$one" "$(many 4097)" | refused 3 'profile has 4097 bytes'
+printf '%s\n\n%s state=2\n' "$head" "$one" | refused 3 'state has none of its values'
+printf '%s\n\n%s state=registered\n' "$head" "$one" | refused 3 'server is missing'
+printf '%s\n\n%s state=unregistered\n' "$head" "$one" | refused 3 'server is missing'
+printf '%s\n\n%s pending\n' "$head" "$one" | refused 3 'server is missing'
+printf '%s\n\n%s server=s\n' "$head" "$one" | refused 3 'a line that is not registered and not pending has no server'
+printf '%s\n\n%s roaming=n\n' "$head" "$one" | refused 3 'roaming names no network'
+printf '%s\n\n%s mandatory=1,2,3,4,5\n' "$head" "$one" | refused 3 'mandatory has more than 4 numbers'
+printf '%s\n\n%s optional=1,,2\n' "$head" "$one" | refused 3 'optional is numbers'
+printf '%s\n\n%s optional=\n' "$head" "$one" | refused 3 'optional is numbers'
+printf '%s\n\n%s optional=4294967296\n' "$head" "$one" | refused 3 'a number of optional is over 32 bits'
+printf '%s\n\n%s barred=1\n' "$head" "$one" | refused 3 'barred takes no value'
+printf '%s\n\n%s state\n' "$head" "$one" | refused 3 'state wants a value'
+printf '%s\n\n%s colour=red\n' "$head" "$one" | refused 3 'there is no word colour'
+printf '%s\n\n%s host=h\n' "$head" "$one" | refused 3 'host is no word of a record'
+printf '%s\n\n%s\nprofile="open\n' "$head" "$one" | refused 4 'a quote is not closed'
+printf '%s\n\n%s\nprofile="a"b\n' "$head" "$one" | refused 4 'a blank is missing'
+printf '%s\n\n%s\nprofile="\\x4"\n' "$head" "$one" | refused 4 'a backslash wants'
+printf '%s\n\n%s\n\npublic=o private=q\n\n%s\n' "$head" "$one" "$one" | refused 7 'its public identity stands at line 3 already'
+{ echo "$head"; for i in $(seq 4097); do printf '\npublic=%d private=q\n' "$i"; done; } | refused 8195 'there are more than 4096 records'
+
+# The sample, and copies of it that are damaged.
+whole=$room/whole whole_profile=$room/whole-profile
+"$maketable" "$(dirname "$0")/../examples/households.txt" "$whole" "$whole_profile"
+blocks=$(($(stat -c %s "$whole") / 512))
+fresh() { cp "$whole" "$table" && cp "$whole_profile" "$profile"; }
+set_byte() { printf %b "\\x$(printf %02x "$2")" | dd of="$table" bs=1 seek="$1" conv=notrunc status=none; } # PLACE BYTE
+get_byte() { od -An -tu1 -j "$1" -N 1 "$table" | tr -d ' '; }
+copy_block() { dd if="$whole" of="$table" bs=512 skip="$1" seek="$2" count=1 conv=notrunc status=none; } # FROM TO
+
+fresh
+says "sound, $((blocks - 1)) records" 'the sample'
+for block in $(seq 0 $((blocks - 1))); do
+    for place in 0 1 3 7 8 15 16 400 507 511; do
+        fresh
+        at=$((512 * block + place))
+        set_byte "$at" $(($(get_byte "$at") ^ 1))
+        says "block $block is bad" "a bit of byte $place of block $block changed"
+    done
+    fresh
+    dd if=/dev/zero of="$table" bs=512 seek="$block" count=1 conv=notrunc status=none
+    says "block $block is bad" "block $block all zero"
+    [ "$block" -lt 2 ] && continue
+    fresh
+    copy_block "$block" $((block - 1))
+    copy_block $((block - 1)) "$block"
+    says "block $((block - 1)) is bad" "blocks $((block - 1)) and $block changed over"
+done
+for length in 0 1 511 512 $((512 * (blocks - 1))) $((512 * blocks - 1)); do
+    fresh
+    truncate -s "$length" "$table"
+    says 'block 0 is bad' "the first $length bytes alone"
+done
+for more in 1 512; do
+    fresh
+    truncate -s "+$more" "$table"
+    says 'block 0 is bad' "$more bytes too many"
+done
+fresh
+truncate -s -1 "$profile"
+says "block $((blocks - 1)) is bad" 'the profile a byte short'
+fresh
+: >"$profile"
+says 'block 1 is bad' 'no profile'
+fresh
+truncate -s +1 "$profile"
+says "sound, $((blocks - 1)) records" 'the profile a byte longer'
+
+echo "tables.sh: $tried tables and texts, each as it should be"
