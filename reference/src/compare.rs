@@ -1,0 +1,187 @@
+//! Runs a driver over a stream of cases and compares its outcomes with this program's.
+
+use std::io::{self, BufReader, BufWriter, Write};
+use std::ops::Range;
+use std::process::{Child, ChildStdout, Command, Stdio};
+use std::sync::mpsc::{channel, Receiver};
+use std::thread::{self, JoinHandle};
+use std::time::Instant;
+
+use crate::account;
+use crate::cases::{Case, Entry, Outcome};
+use crate::gen::{self, Stream};
+use crate::slip::Slip;
+
+/// How many cases are tried one by one to find the one that a driver died of.
+const RETRIED: usize = 20_000;
+
+/// A driver that is given the cases of a stream.
+pub struct Fed<T> {
+    child: Child,
+    outcomes: BufReader<ChildStdout>,
+    /// What the feeder found out about each case, in order. Unbounded: a driver may keep its outcomes back until
+    /// it has been given many more cases, and a feeder that waited for the comparison would wait forever.
+    pub told: Receiver<T>,
+    feeder: JoinHandle<io::Result<()>>,
+}
+
+impl<T: Send + 'static> Fed<T> {
+    /// Starts the driver and a thread that makes the cases, gives them to it and tells what is expected.
+    pub fn start(
+        command: &[String],
+        numbers: Range<u64>,
+        mut make: impl FnMut(u64) -> (Vec<Case>, T) + Send + 'static,
+    ) -> io::Result<Fed<T>> {
+        let mut child =
+            Command::new(&command[0]).args(&command[1..]).stdin(Stdio::piped()).stdout(Stdio::piped()).spawn()?;
+        let missing = || io::Error::other("the driver has no streams");
+        let input = child.stdin.take().ok_or_else(missing)?;
+        let output = child.stdout.take().ok_or_else(missing)?;
+        let (sender, told) = channel();
+        let feeder = thread::spawn(move || {
+            let mut input = BufWriter::with_capacity(1 << 16, input);
+            for number in numbers {
+                let (cases, expected) = make(number);
+                // The comparison hangs up when it has found a difference.
+                if sender.send(expected).is_err() {
+                    return Ok(());
+                }
+                for case in cases {
+                    case.write(&mut input)?;
+                }
+            }
+            input.flush()
+        });
+        Ok(Fed { child, outcomes: BufReader::with_capacity(1 << 16, output), told, feeder })
+    }
+
+    pub fn outcome(&mut self) -> io::Result<Outcome> {
+        Outcome::read(&mut self.outcomes)
+    }
+
+    /// Lets the driver go in the middle of its work.
+    pub fn abandon(self) {
+        let Fed { mut child, mut outcomes, told, feeder } = self;
+        drop(told);
+        io::copy(&mut outcomes, &mut io::sink()).ok();
+        feeder.join().ok();
+        child.wait().ok();
+    }
+
+    /// Lets the driver go; says whether it ended well and wrote no more than it should.
+    pub fn end(self) -> io::Result<bool> {
+        let Fed { mut child, mut outcomes, told, feeder } = self;
+        drop(told);
+        let surplus = io::copy(&mut outcomes, &mut io::sink()).unwrap_or(0);
+        let fed = feeder.join().map_err(|_| io::Error::other("the maker of cases failed"))?;
+        let status = child.wait()?;
+        if let Err(error) = fed {
+            eprintln!("the driver stopped reading: {error}");
+            return Ok(false);
+        }
+        if surplus > 0 {
+            eprintln!("the driver wrote {surplus} bytes too many");
+        }
+        if !status.success() {
+            eprintln!("the driver ended with {status}");
+        }
+        Ok(surplus == 0 && status.success())
+    }
+}
+
+/// What the outcomes of a run were.
+#[derive(Default)]
+struct Figures {
+    cases: u64,
+    sound: u64,
+    answered: u64,
+    rewritten: u64,
+    refused: [u64; 6],
+    table_bytes: u64,
+}
+
+impl Figures {
+    fn count(&mut self, entry: Entry, table: usize, outcome: &Outcome) {
+        self.cases += 1;
+        self.table_bytes += table as u64;
+        match (outcome.parts().0, entry) {
+            (0, Entry::Check) => self.sound += 1,
+            (0, Entry::Decide) => self.answered += 1,
+            (number, _) => self.refused[(number as usize).min(5)] += 1,
+        }
+        if !outcome.table.bytes.is_empty() {
+            self.rewritten += 1;
+        }
+    }
+
+    fn print(&self, began: Instant) {
+        println!(
+            "{} cases agree: {} tables sound, {} requests answered ({} with a table rewritten), refused {:?}; \
+             {} MiB of tables; {:.1} s",
+            self.cases,
+            self.sound,
+            self.answered,
+            self.rewritten,
+            &self.refused[1..],
+            self.table_bytes >> 20,
+            began.elapsed().as_secs_f64()
+        );
+    }
+}
+
+/// Compares; true if all outcomes agree.
+pub fn compare(stream: Stream, seed: u64, from: u64, count: u64, command: &[String]) -> io::Result<bool> {
+    let began = Instant::now();
+    let mut figures = Figures::default();
+    let mut fed = start(stream, seed, from..from + count, command)?;
+    for number in from..from + count {
+        let Ok((entry, table, own)) = fed.told.recv() else {
+            break;
+        };
+        match fed.outcome() {
+            Ok(given) if given == own => figures.count(entry, table, &own),
+            Ok(given) => {
+                account::difference(stream, seed, number, &gen::make(stream, seed, number), &own, &given);
+                fed.abandon();
+                return Ok(false);
+            }
+            Err(error) => {
+                println!("no outcome for case {number} of seed {seed}: {error}");
+                fed.end()?;
+                find_fatal(stream, seed, number..from + count, command)?;
+                return Ok(false);
+            }
+        }
+    }
+    if !fed.end()? || figures.cases != count {
+        return Ok(false);
+    }
+    figures.print(began);
+    Ok(true)
+}
+
+/// The entry of each case, its table's length and this program's outcome.
+type Expected = (Entry, usize, Outcome);
+
+fn start(stream: Stream, seed: u64, numbers: Range<u64>, command: &[String]) -> io::Result<Fed<Expected>> {
+    Fed::start(command, numbers, move |number| {
+        let case = gen::make(stream, seed, number).case;
+        let own = case.outcome(Slip::NONE);
+        let expected = (case.entry, case.table.len(), own);
+        (vec![case], expected)
+    })
+}
+
+/// A driver's last outcomes may have been lost with it, so the case it died of is looked for one by one.
+fn find_fatal(stream: Stream, seed: u64, numbers: Range<u64>, command: &[String]) -> io::Result<()> {
+    for number in numbers.take(RETRIED) {
+        let mut fed = start(stream, seed, number..number + 1, command)?;
+        if fed.outcome().is_ok() && fed.end()? {
+            continue;
+        }
+        println!("the driver does not survive this case");
+        account::case(stream, seed, number, &gen::make(stream, seed, number));
+        break;
+    }
+    Ok(())
+}

@@ -1,0 +1,216 @@
+//! Demand 3 on the outcomes of a driver: AVPs of unknown kinds put into an answered request change nothing if none
+//! is marked, and give B5001 for the first marked one unless a fault stands before it.
+
+use std::io;
+use std::time::Instant;
+
+use crate::account;
+use crate::answer::answer;
+use crate::cases::{Case, Change, Outcome, ALL_INTACT};
+use crate::compare::Fed;
+use crate::decide::Verdict;
+use crate::gen::{self, Stream};
+use crate::kinds::Kind;
+use crate::message::{sound_avps, Message, HEADER, M};
+use crate::read::{read_header, walk, Failed, Finding};
+use crate::rng::Rng;
+use crate::serve::{Why, MOST_REQUEST};
+use crate::slip::Slip;
+use crate::table::{Table, BLOCK};
+
+/// How the second of two outcomes relates to the first.
+#[derive(Clone, PartialEq, Debug)]
+enum Relation {
+    /// None is marked: word, table and buffer are the same.
+    Unmarked,
+    /// A fault before the first marked one: the answer given without them.
+    FaultBefore,
+    /// The table as it was, and this answer.
+    Marked(Vec<u8>),
+}
+
+struct Pair {
+    without: Case,
+    with: Case,
+    relation: Relation,
+}
+
+/// An AVP of the inserted ones, as it stands in the request.
+struct Inserted {
+    /// Before which of the request's own AVPs; their number for the end.
+    place: usize,
+    bytes: Vec<u8>,
+}
+
+/// True if the driver's outcomes of all pairs relate as they should.
+pub fn compare(seed: u64, from: u64, count: u64, command: &[String]) -> io::Result<bool> {
+    let began = Instant::now();
+    let mut fed = Fed::start(command, from..from + count, move |number| {
+        let pair = pair(seed, number);
+        (vec![pair.without, pair.with], pair.relation)
+    })?;
+    let (mut unmarked, mut before, mut marked, mut rewritten) = (0u64, 0u64, 0u64, 0u64);
+    for number in from..from + count {
+        let Ok(relation) = fed.told.recv() else {
+            break;
+        };
+        let (without, with) = match (fed.outcome(), fed.outcome()) {
+            (Ok(without), Ok(with)) => (without, with),
+            _ => {
+                println!("no outcome for pair {number} of seed {seed}");
+                fed.end()?;
+                return Ok(false);
+            }
+        };
+        if let Err(what) = relates(seed, number, &relation, &without, &with) {
+            println!("pair {number} of seed {seed}: {what}");
+            tell(&pair(seed, number), &without, &with);
+            fed.abandon();
+            return Ok(false);
+        }
+        match relation {
+            Relation::Unmarked => unmarked += 1,
+            Relation::FaultBefore => before += 1,
+            Relation::Marked(_) => marked += 1,
+        }
+        rewritten += !without.table.bytes.is_empty() as u64;
+    }
+    if !fed.end()? || unmarked + before + marked != count {
+        return Ok(false);
+    }
+    println!(
+        "{count} pairs relate: {unmarked} unmarked, {marked} marked, {before} marked with a fault before; \
+         {rewritten} with a table rewritten; {:.1} s",
+        began.elapsed().as_secs_f64()
+    );
+    Ok(true)
+}
+
+fn relates(seed: u64, number: u64, relation: &Relation, without: &Outcome, with: &Outcome) -> Result<(), String> {
+    if without.intact != ALL_INTACT || with.intact != ALL_INTACT {
+        return Err("what was lent to be read was altered".to_string());
+    }
+    if without.parts().0 != 0 {
+        return Err("the request is not answered".to_string());
+    }
+    match relation {
+        Relation::Unmarked | Relation::FaultBefore => {
+            if with != without {
+                return Err(format!("the outcome is another one ({relation:?})"));
+            }
+        }
+        Relation::Marked(expected) => {
+            if !with.table.bytes.is_empty() {
+                return Err("the table was changed".to_string());
+            }
+            if with.word != expected.len() as u64 {
+                return Err(format!("the answer should have {} bytes", expected.len()));
+            }
+            let before = pair(seed, number).with.buffer_before();
+            let mut after = before.clone();
+            after[..expected.len()].copy_from_slice(expected);
+            if with.buffer != Change::between(&before, &after) {
+                return Err("the answer is not the one of B5001".to_string());
+            }
+        }
+    }
+    Ok(())
+}
+
+fn tell(pair: &Pair, without: &Outcome, with: &Outcome) {
+    println!("  request:\n{}", account::hex(&pair.without.request));
+    println!("  with AVPs put in ({:?}):\n{}", pair.relation, account::hex(&pair.with.request));
+    for (which, case, outcome) in [("without", &pair.without, without), ("with", &pair.with, with)] {
+        println!("  {which}: {}", account::word(case.entry, outcome));
+        account::answer(which, case, outcome);
+    }
+}
+
+/// Pair `number`: an answered request whose AVPs all have sound lengths, without and with unknown kinds put in.
+fn pair(seed: u64, number: u64) -> Pair {
+    let mut rng = Rng::for_case(seed ^ 0x3333, number);
+    loop {
+        let case = gen::make(Stream::Calls, rng.draw(), 0).case;
+        let Some(starts) = sound_starts(&case) else {
+            continue;
+        };
+        if let Some(pair) = put_in(&mut rng, case, &starts) {
+            return pair;
+        }
+    }
+}
+
+/// Where the AVPs of an answered request begin, and its end; none if a length is not sound or there is no AVP.
+fn sound_starts(case: &Case) -> Option<Vec<usize>> {
+    if case.outcome(Slip::NONE).parts().0 != 0 {
+        return None;
+    }
+    let mut starts = vec![HEADER];
+    for avp in sound_avps(Message(&case.request).avps(), Slip::NONE) {
+        starts.push(starts[starts.len() - 1] + avp.whole.len().next_multiple_of(4));
+    }
+    (starts.len() > 1 && starts[starts.len() - 1] == case.request.len()).then_some(starts)
+}
+
+/// The second case of the pair, or none if the request would be too long.
+fn put_in(rng: &mut Rng, without: Case, starts: &[usize]) -> Option<Pair> {
+    let own = starts.len() - 1;
+    let marks = rng.coin();
+    let mut inserted: Vec<Inserted> = Vec::new();
+    let room = MOST_REQUEST - without.request.len();
+    let many = if rng.once_in(10) { 40 } else { 4 };
+    for _ in 0..rng.between(1, many) {
+        let mut piece = gen::twists::unknown(rng);
+        if rng.once_in(60) {
+            let length = rng.below(room + 1);
+            piece.data = rng.bytes(length);
+        }
+        if !marks {
+            piece.flags &= !M;
+        }
+        let mut bytes = Vec::new();
+        piece.encode(&mut bytes);
+        inserted.push(Inserted { place: rng.between(1, own), bytes });
+    }
+    inserted.sort_by_key(|avp| avp.place);
+    if inserted.iter().map(|avp| avp.bytes.len()).sum::<usize>() > room {
+        return None;
+    }
+
+    let mut request = without.request[..starts[1]].to_vec();
+    let mut first_marked = None;
+    for place in 1..=own {
+        for avp in inserted.iter().filter(|avp| avp.place == place) {
+            if avp.bytes[4] & M != 0 && first_marked.is_none() {
+                first_marked = Some(request.len());
+            }
+            request.extend(&avp.bytes);
+        }
+        if place < own {
+            request.extend(&without.request[starts[place]..starts[place + 1]]);
+        }
+    }
+    let length = request.len() as u32;
+    request[1..4].copy_from_slice(&length.to_be_bytes()[1..]);
+    let with = Case { request, ..without.clone() };
+    let relation = relation(&with, first_marked);
+    Some(Pair { without, with, relation })
+}
+
+fn relation(with: &Case, first_marked: Option<usize>) -> Relation {
+    let Some(at) = first_marked else {
+        return Relation::Unmarked;
+    };
+    let message = Message(&with.request);
+    let Ok(command) = read_header(message, Slip::NONE) else {
+        return Relation::FaultBefore;
+    };
+    if walk(&with.request[HEADER..at], command, Slip::NONE).is_err() {
+        return Relation::FaultBefore;
+    }
+    let avp = sound_avps(&with.request[at..], Slip::NONE)[0];
+    debug_assert!(Kind::of(avp.vendor, avp.code).is_none());
+    let finding = Finding { result: 5001, failed: Failed::Whole(avp), why: Why::Rule('d', "") };
+    let header = Table(&with.table[..BLOCK]).header();
+    Relation::Marked(answer(message, header, &Verdict::of_finding(finding), Slip::NONE))
+}

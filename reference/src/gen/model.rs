@@ -1,0 +1,102 @@
+//! A table as its maker thinks of it, and its bytes.
+
+use crate::table::{self, header, mend, put_word, record, BLOCK, NETWORK_PLACE};
+
+#[derive(Clone, Debug)]
+pub struct TableModel {
+    pub keep: bool,
+    pub host: Vec<u8>,
+    pub realm: Vec<u8>,
+    pub networks: Vec<Vec<u8>>,
+    /// In the order of their public identities.
+    pub records: Vec<RecordModel>,
+}
+
+#[derive(Clone, Debug, Default)]
+pub struct RecordModel {
+    pub state: u8,
+    pub bits: u8,
+    pub roaming: u8,
+    pub mandatory: Vec<u32>,
+    pub optional: Vec<u32>,
+    pub public: Vec<u8>,
+    pub private: Vec<u8>,
+    pub server_name: Vec<u8>,
+    pub profile_start: u32,
+    pub profile_length: u16,
+}
+
+impl TableModel {
+    /// The table of document 01's examples, without records.
+    pub fn of_the_isle() -> TableModel {
+        TableModel {
+            keep: false,
+            host: b"hss.isle".to_vec(),
+            realm: b"isle".to_vec(),
+            networks: vec![],
+            records: vec![],
+        }
+    }
+
+    pub fn encode(&self) -> Vec<u8> {
+        let mut bytes = vec![0; BLOCK * (self.records.len() + 1)];
+        self.encode_header(&mut bytes[..BLOCK]);
+        for (index, record) in self.records.iter().enumerate() {
+            record.encode(&mut bytes[BLOCK * (index + 1)..][..BLOCK], index as u32 + 1);
+        }
+        bytes
+    }
+
+    fn encode_header(&self, block: &mut [u8]) {
+        block[0] = 1;
+        block[1] = 1;
+        put_word(block, header::COUNT, self.records.len() as u32);
+        block[header::KEEP] = self.keep as u8;
+        block[header::NETWORKS] = self.networks.len() as u8;
+        put_name(block, header::HOST_LENGTH, header::HOST, &self.host);
+        put_name(block, header::REALM_LENGTH, header::REALM, &self.realm);
+        for (n, name) in self.networks.iter().enumerate() {
+            let place = header::NETWORK_PLACES + n * NETWORK_PLACE;
+            put_name(block, place, place + 1, name);
+        }
+        mend(block);
+    }
+}
+
+impl RecordModel {
+    pub fn has(&self, bit: u8) -> bool {
+        self.bits & bit != 0
+    }
+
+    pub fn is_pending(&self) -> bool {
+        self.has(table::PENDING)
+    }
+
+    fn encode(&self, block: &mut [u8], number: u32) {
+        block[0] = 2;
+        block[1] = 1;
+        put_word(block, 4, number);
+        block[record::STATE] = self.state;
+        block[record::BITS] = self.bits;
+        block[record::ROAMING] = self.roaming;
+        block[record::MANDATORY_COUNT] = self.mandatory.len() as u8;
+        block[record::OPTIONAL_COUNT] = self.optional.len() as u8;
+        put_name(block, record::PUBLIC_LENGTH, record::PUBLIC, &self.public);
+        put_name(block, record::PRIVATE_LENGTH, record::PRIVATE, &self.private);
+        put_name(block, record::SERVER_LENGTH, record::SERVER, &self.server_name);
+        for (n, capability) in self.mandatory.iter().enumerate() {
+            put_word(block, record::MANDATORY + 4 * n, *capability);
+        }
+        for (n, capability) in self.optional.iter().enumerate() {
+            put_word(block, record::OPTIONAL + 4 * n, *capability);
+        }
+        put_word(block, record::PROFILE_START, self.profile_start);
+        block[record::PROFILE_LENGTH..record::REST].copy_from_slice(&self.profile_length.to_be_bytes());
+        mend(block);
+    }
+}
+
+fn put_name(block: &mut [u8], length_at: usize, at: usize, name: &[u8]) {
+    block[length_at] = name.len() as u8;
+    block[at..at + name.len()].copy_from_slice(name);
+}

@@ -1,0 +1,183 @@
+//! Sound tables of every shape, and cases of the table check.
+
+use std::collections::BTreeSet;
+
+use super::damage;
+use super::model::{RecordModel, TableModel};
+use super::names;
+use super::Made;
+use crate::cases::{Case, Entry};
+use crate::rng::Rng;
+use crate::table::{
+    BARRED, LONGEST_HOST, LONGEST_IDENTITY, LONGEST_PROFILE, LONGEST_SERVER_NAME, MOST_CAPABILITIES, MOST_NETWORKS,
+    NOT_REGISTERED, PENDING, UNREGISTERED_SERVICES,
+};
+
+/// A sound table with its profile file.
+pub struct Sound {
+    pub model: TableModel,
+    pub profile: Vec<u8>,
+}
+
+/// A case of the table check: a sound table, or one damaged in one place, now and then in two.
+pub fn case(rng: &mut Rng) -> Made {
+    let (size, mut notes) = match rng.below(2000) {
+        0 => (4096, vec!["4,096 records"]),
+        1..=10 => (300, vec!["300 records"]),
+        _ => (rng.below(13), vec![]),
+    };
+    let sound = sound(rng, size);
+    let mut subject = damage::Subject { bytes: sound.model.encode(), profile: sound.profile, model: sound.model };
+    let mut damaged = None;
+    if rng.below(8) == 0 {
+        notes.push("undamaged");
+    } else {
+        damaged = damage::damage(rng, &mut subject, &mut notes);
+        if rng.once_in(10) {
+            notes.push("a second damage");
+            // Which of the two is blamed depends on their places; the note is no longer of one block.
+            damage::damage(rng, &mut subject, &mut Vec::new());
+            damaged = None;
+        }
+    }
+    let case = Case {
+        entry: Entry::Check,
+        fill: rng.byte(),
+        request: vec![],
+        table: subject.bytes,
+        profile: subject.profile,
+        buffer: 0,
+    };
+    Made { case, notes, damaged }
+}
+
+/// A sound table of so many records.
+pub fn sound(rng: &mut Rng, records: usize) -> Sound {
+    let profile = profile(rng);
+    let mut model = TableModel {
+        keep: rng.coin(),
+        host: names::any(rng, LONGEST_HOST),
+        realm: names::any(rng, LONGEST_HOST),
+        networks: networks(rng),
+        records: Vec::with_capacity(records),
+    };
+    let subscriptions = pool(rng, 1 + records / 3, LONGEST_IDENTITY);
+    let servers = pool(rng, 2, LONGEST_SERVER_NAME);
+    for public in identities(rng, records) {
+        let mut record = record(rng, model.networks.len(), &profile);
+        record.public = public;
+        record.private = rng.pick(&subscriptions).clone();
+        if record.state != NOT_REGISTERED || record.is_pending() {
+            record.server_name = rng.pick(&servers).clone();
+        }
+        model.records.push(record);
+    }
+    Sound { model, profile }
+}
+
+fn profile(rng: &mut Rng) -> Vec<u8> {
+    let length = match rng.below(40) {
+        0 => LONGEST_PROFILE + rng.below(3) - 1,
+        1 => 2 * LONGEST_PROFILE,
+        2..=6 => rng.below(3),
+        7..=15 => rng.between(3, 600),
+        _ => rng.between(3, 90),
+    };
+    rng.bytes(length)
+}
+
+fn networks(rng: &mut Rng) -> Vec<Vec<u8>> {
+    let wanted = rng.below(MOST_NETWORKS + 1);
+    let mut networks: Vec<Vec<u8>> = Vec::new();
+    while networks.len() < wanted {
+        let name = match networks.last() {
+            Some(last) if rng.once_in(3) => names::near(rng, last, 31),
+            _ => names::any(rng, 31),
+        };
+        if !networks.contains(&name) {
+            networks.push(name);
+        }
+    }
+    networks
+}
+
+/// Some names, near one another as often as not.
+fn pool(rng: &mut Rng, most: usize, longest: usize) -> Vec<Vec<u8>> {
+    let size = rng.between(1, most);
+    let mut pool = vec![names::any(rng, longest)];
+    while pool.len() < size {
+        let name = if rng.coin() {
+            let other = rng.pick(&pool).clone();
+            names::near(rng, &other, longest)
+        } else {
+            names::any(rng, longest)
+        };
+        pool.push(name);
+    }
+    pool
+}
+
+/// So many public identities, in their order.
+fn identities(rng: &mut Rng, count: usize) -> Vec<Vec<u8>> {
+    let mut chosen: BTreeSet<Vec<u8>> = BTreeSet::new();
+    let mut last: Vec<u8> = names::any(rng, LONGEST_IDENTITY);
+    while chosen.len() < count {
+        let name = match rng.below(4) {
+            0 => names::near(rng, &last, LONGEST_IDENTITY),
+            1 => format!("sip:{:05}@isle", rng.below(100_000)).into_bytes(),
+            _ => names::any(rng, LONGEST_IDENTITY),
+        };
+        if chosen.insert(name.clone()) {
+            last = name;
+        }
+    }
+    chosen.into_iter().collect()
+}
+
+/// A record without its names.
+fn record(rng: &mut Rng, networks: usize, profile: &[u8]) -> RecordModel {
+    let mut bits = 0;
+    if rng.once_in(3) {
+        bits |= PENDING;
+    }
+    if rng.once_in(6) {
+        bits |= BARRED;
+    }
+    if rng.coin() {
+        bits |= UNREGISTERED_SERVICES;
+    }
+    let used = (1u16 << networks) as u8;
+    let (profile_start, profile_length) = profile_part(rng, profile.len());
+    RecordModel {
+        state: rng.below(3) as u8,
+        bits,
+        roaming: rng.byte() & used.wrapping_sub(1),
+        mandatory: capabilities(rng),
+        optional: capabilities(rng),
+        profile_start,
+        profile_length,
+        ..RecordModel::default()
+    }
+}
+
+fn capabilities(rng: &mut Rng) -> Vec<u32> {
+    let count = if rng.coin() { 0 } else { rng.between(1, MOST_CAPABILITIES) };
+    (0..count).map(|_| if rng.coin() { rng.below(5) as u32 } else { rng.word() }).collect()
+}
+
+/// A part within the profile file, at its edges as often as not.
+fn profile_part(rng: &mut Rng, file: usize) -> (u32, u16) {
+    let start = match rng.below(6) {
+        0 => 0,
+        1 => file,
+        2 => file - rng.below(2).min(file),
+        _ => rng.below(file + 1),
+    };
+    let longest = (file - start).min(LONGEST_PROFILE);
+    let length = match rng.below(4) {
+        0 => 0,
+        1 => rng.below(longest + 1),
+        _ => longest,
+    };
+    (start as u32, length as u16)
+}

@@ -1,0 +1,160 @@
+//! The commands; README.md says what each does.
+
+use std::io::{self, BufReader, BufWriter, Read, Write};
+use std::process::ExitCode;
+
+use reference::cases::Case;
+use reference::compare;
+use reference::demand3;
+use reference::gen::{self, Stream};
+use reference::mutants;
+use reference::program;
+use reference::show;
+use reference::slip::{self, Slip};
+use reference::stats;
+
+const USAGE: &str = "\
+reference check                                             check `table` against `profile`
+reference time --rounds R                                   time that check
+reference answer                                            answer the request on standard input
+reference show                                              an answer on standard input, in words
+reference gen      --kind K --seed S [--from F] --count N   write cases
+reference outcomes [--fault NAME]                           read cases, write outcomes
+reference compare  --kind K --seed S [--from F] --count N -- DRIVER [ARGUMENT ...]
+reference stats    --kind K --seed S [--from F] --count N   histogram
+reference faults                                            list the deliberate faults
+reference mutants  --seed S --count N                       whether each deliberate fault is noticed
+kinds: tables, calls; compare alone: demand3";
+
+fn main() -> ExitCode {
+    let arguments: Vec<String> = std::env::args().skip(1).collect();
+    match run(&arguments) {
+        Ok(true) => ExitCode::SUCCESS,
+        Ok(false) => ExitCode::FAILURE,
+        Err(message) => {
+            eprintln!("reference: {message}");
+            ExitCode::from(2)
+        }
+    }
+}
+
+/// True for success, false for a difference or an empty row.
+fn run(arguments: &[String]) -> Result<bool, String> {
+    let (name, rest) = arguments.split_first().ok_or(USAGE)?;
+    let options = Options::parse(rest)?;
+    match name.as_str() {
+        "check" => say(&program::check()?),
+        "time" => say(&program::time(options.rounds)?),
+        "answer" => {
+            let answer = program::answer(&standard_input()?)?;
+            io::stdout().write_all(&answer).map_err(told)?;
+            Ok(true)
+        }
+        "show" => {
+            print!("{}", show::show(&standard_input()?));
+            Ok(true)
+        }
+        "gen" => write_cases(&options).map_err(told),
+        "outcomes" => write_outcomes(&options).map_err(told),
+        "compare" => {
+            if options.command.is_empty() {
+                return Err("compare needs -- and a driver".to_string());
+            }
+            let (seed, from, count, command) = (options.seed, options.from, options.count, &options.command);
+            match options.kind.as_deref() {
+                Some("demand3") => demand3::compare(seed, from, count, command),
+                _ => compare::compare(options.stream()?, seed, from, count, command),
+            }
+            .map_err(told)
+        }
+        "stats" => Ok(stats::stats(options.stream()?, options.seed, options.from, options.count)),
+        "mutants" => Ok(mutants::mutants(options.seed, options.count)),
+        "faults" => {
+            for (fault, what) in slip::FAULTS {
+                println!("{:28} {what}", format!("{fault:?}"));
+            }
+            Ok(true)
+        }
+        _ => Err(USAGE.to_string()),
+    }
+}
+
+fn standard_input() -> Result<Vec<u8>, String> {
+    let mut bytes = Vec::new();
+    io::stdin().read_to_end(&mut bytes).map_err(told)?;
+    Ok(bytes)
+}
+
+fn say(line: &str) -> Result<bool, String> {
+    println!("{line}");
+    Ok(true)
+}
+
+fn told(error: io::Error) -> String {
+    error.to_string()
+}
+
+#[derive(Default)]
+struct Options {
+    kind: Option<String>,
+    seed: u64,
+    from: u64,
+    count: u64,
+    rounds: u32,
+    slip: Option<Slip>,
+    command: Vec<String>,
+}
+
+impl Options {
+    fn parse(arguments: &[String]) -> Result<Options, String> {
+        let mut options = Options { rounds: 100, ..Options::default() };
+        let mut rest = arguments.iter();
+        while let Some(name) = rest.next() {
+            if name == "--" {
+                options.command = rest.cloned().collect();
+                break;
+            }
+            let value = rest.next().ok_or_else(|| format!("{name} needs a value"))?;
+            let number = || value.parse::<u64>().map_err(|_| format!("{name} needs a number"));
+            match name.as_str() {
+                "--kind" => options.kind = Some(value.clone()),
+                "--seed" => options.seed = number()?,
+                "--from" => options.from = number()?,
+                "--count" => options.count = number()?,
+                "--rounds" => options.rounds = number()? as u32,
+                "--fault" => {
+                    let fault = slip::by_name(value).ok_or_else(|| format!("no fault {value}"))?;
+                    options.slip = Some(Slip::of(fault));
+                }
+                _ => return Err(format!("{name} is not known\n{USAGE}")),
+            }
+        }
+        Ok(options)
+    }
+
+    fn stream(&self) -> Result<Stream, String> {
+        let name = self.kind.as_ref().ok_or("--kind is needed")?;
+        Stream::by_name(name).ok_or_else(|| format!("no kind {name}"))
+    }
+}
+
+fn write_cases(options: &Options) -> io::Result<bool> {
+    let stream = options.stream().map_err(io::Error::other)?;
+    let mut to = BufWriter::with_capacity(1 << 16, io::stdout().lock());
+    for number in options.from..options.from + options.count {
+        gen::make(stream, options.seed, number).case.write(&mut to)?;
+    }
+    to.flush()?;
+    Ok(true)
+}
+
+fn write_outcomes(options: &Options) -> io::Result<bool> {
+    let slip = options.slip.unwrap_or(Slip::NONE);
+    let mut from = BufReader::with_capacity(1 << 16, io::stdin().lock());
+    let mut to = BufWriter::with_capacity(1 << 16, io::stdout().lock());
+    while let Some(case) = Case::read(&mut from)? {
+        case.outcome(slip).write(&mut to)?;
+    }
+    to.flush()?;
+    Ok(true)
+}

@@ -1,0 +1,132 @@
+//! The Diameter header, and AVPs one after another.
+
+use crate::slip::{Fault, Slip};
+use crate::table::word_at;
+
+pub const HEADER: usize = 20;
+
+/// Flags of the header.
+pub const R: u8 = 0x80;
+pub const P: u8 = 0x40;
+pub const E: u8 = 0x20;
+
+/// Flags of an AVP.
+pub const V: u8 = 0x80;
+pub const M: u8 = 0x40;
+pub const RESERVED: u8 = 0x1F;
+
+/// A request that passed the refusals of length.
+#[derive(Clone, Copy)]
+pub struct Message<'a>(pub &'a [u8]);
+
+impl<'a> Message<'a> {
+    pub fn version(&self) -> u8 {
+        self.0[0]
+    }
+
+    pub fn length(&self) -> usize {
+        (word_at(self.0, 0) & 0xFF_FFFF) as usize
+    }
+
+    pub fn flags(&self) -> u8 {
+        self.0[4]
+    }
+
+    pub fn command(&self) -> u32 {
+        word_at(self.0, 4) & 0xFF_FFFF
+    }
+
+    pub fn application(&self) -> u32 {
+        word_at(self.0, 8)
+    }
+
+    /// All that follows the header.
+    pub fn avps(&self) -> &'a [u8] {
+        &self.0[HEADER..]
+    }
+}
+
+/// An AVP whose length is sound.
+#[derive(Clone, Copy, PartialEq, Debug)]
+pub struct Avp<'a> {
+    pub code: u32,
+    pub flags: u8,
+    /// Only with V.
+    pub vendor: Option<u32>,
+    pub data: &'a [u8],
+    /// Header and data as received, without padding.
+    pub whole: &'a [u8],
+}
+
+impl Avp<'_> {
+    pub fn is_marked(&self) -> bool {
+        self.flags & M != 0
+    }
+
+    pub fn has_reserved_flags(&self) -> bool {
+        self.flags & RESERVED != 0
+    }
+}
+
+/// Rule (a): the length is no sound one.
+#[derive(Clone, PartialEq, Debug)]
+pub enum LengthFault {
+    /// Too few bytes are left for the header.
+    CutOff,
+    /// The header is there; its length is set to 8 or 12.
+    Header(Vec<u8>),
+}
+
+/// The first AVP of `bytes`, and what follows it and its padding.
+pub fn first_avp(bytes: &[u8], slip: Slip) -> Result<(Avp<'_>, &[u8]), LengthFault> {
+    if bytes.len() < 8 {
+        return Err(LengthFault::CutOff);
+    }
+    let flags = bytes[4];
+    let header = if flags & V != 0 { 12 } else { 8 };
+    if bytes.len() < header {
+        if slip.is(Fault::CutVendorNotSeen) {
+            return Err(LengthFault::Header(header_alone(&bytes[..8])));
+        }
+        return Err(LengthFault::CutOff);
+    }
+    let mut length = (word_at(bytes, 4) & 0xFF_FFFF) as usize;
+    let least = if slip.is(Fault::VendorLengthNotAsked) { 8 } else { header };
+    if length < least || length > bytes.len() {
+        return Err(LengthFault::Header(header_alone(&bytes[..header])));
+    }
+    let padded = length.next_multiple_of(4);
+    if slip.is(Fault::LengthWithPadding) {
+        length = padded.min(bytes.len());
+    }
+    let avp = Avp {
+        code: word_at(bytes, 0),
+        flags,
+        vendor: (flags & V != 0).then(|| word_at(bytes, 8)),
+        data: &bytes[header.min(length)..length],
+        whole: &bytes[..length],
+    };
+    // The last member of a group may have its padding cut.
+    Ok((avp, bytes.get(padded..).unwrap_or(&[])))
+}
+
+/// A header with its own length.
+pub fn header_alone(header: &[u8]) -> Vec<u8> {
+    let mut alone = header.to_vec();
+    alone[5..8].copy_from_slice(&[0, 0, header.len() as u8]);
+    alone
+}
+
+/// The AVPs before the first length fault.
+pub fn sound_avps(bytes: &[u8], slip: Slip) -> Vec<Avp<'_>> {
+    let mut avps = Vec::new();
+    let mut rest = bytes;
+    while !rest.is_empty() {
+        let Ok((avp, after)) = first_avp(rest, slip) else {
+            break;
+        };
+        avps.push(avp);
+        rest = after;
+    }
+    avps
+}

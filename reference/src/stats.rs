@@ -1,0 +1,333 @@
+//! Histograms of a stream of cases: what was done to get them, and what came of them.
+
+use std::collections::BTreeMap;
+
+use crate::cases::{Case, Outcome};
+use crate::decide::{Code, Decision};
+use crate::gen::damage::DAMAGES;
+use crate::gen::twists::TWISTS;
+use crate::gen::{self, Made, Stream};
+use crate::kinds::{needed, Command, Kind, FAILED_AVP, KINDS, SERVER_CAPABILITIES, USER_DATA};
+use crate::message::{sound_avps, Message};
+use crate::serve::Why;
+use crate::slip::Slip;
+
+/// A required row has at least one case in so many; where a stream is short, at least one.
+const ONE_IN: u64 = 1000;
+
+#[derive(Default)]
+pub struct Histogram {
+    rows: BTreeMap<String, u64>,
+    cases: u64,
+}
+
+impl Histogram {
+    pub fn count(&mut self, stream: Stream, made: &Made, outcome: &Outcome, why: &Why) {
+        self.cases += 1;
+        match stream {
+            Stream::Tables => self.count_table(made, why),
+            Stream::Calls => self.count_call(made, outcome, why),
+        }
+    }
+
+    fn add(&mut self, row: String) {
+        *self.rows.entry(row).or_insert(0) += 1;
+    }
+
+    fn count_table(&mut self, made: &Made, why: &Why) {
+        let Why::Checked(found) = why else {
+            return;
+        };
+        let outcome = match (found, made.damaged) {
+            (Ok(_), _) => "sound",
+            (Err(0), Some(0)) => "block 0, which was damaged",
+            (Err(0), _) => "block 0",
+            (Err(block), Some(damaged)) if *block as usize == damaged => "the damaged block",
+            (Err(block), Some(damaged)) if *block as usize == damaged + 1 => "the block after the damaged one",
+            (Err(_), Some(_)) => "another block",
+            (Err(_), None) => "a record",
+        };
+        if let Ok(records) = found {
+            let size = match records {
+                0..=2 => format!("{records:4}"),
+                3..=12 => "3-12".to_string(),
+                13..=299 => "more".to_string(),
+                300..=4095 => " 300".to_string(),
+                _ => "4096".to_string(),
+            };
+            self.add(format!("sound table of {size} records"));
+        }
+        let twice = made.notes.contains(&"a second damage");
+        let mended = if made.notes.contains(&"mended") { ", mended" } else { "" };
+        for note in made.notes.iter().filter(|note| note.contains(':') && !twice) {
+            self.add(format!("{note}{mended} -> {outcome}"));
+        }
+        self.add(format!("all -> {outcome}"));
+    }
+
+    fn count_call(&mut self, made: &Made, outcome: &Outcome, why: &Why) {
+        for note in &made.notes {
+            self.add(format!("made by: {note}"));
+        }
+        let row = match why {
+            Why::Checked(_) => return,
+            Why::Refused(number) => format!("refused {number}"),
+            Why::Header(code) => format!("header: B{code}"),
+            Why::Rule(letter, what) => format!("rule ({letter}): {what}"),
+            Why::Missing(kind) => format!("missing: {}", kind.name()),
+            Why::Decided(decision) => self.decision(decision),
+        };
+        self.add(row);
+        if outcome.parts().0 == 0 {
+            self.count_answer(&made.case, outcome);
+        }
+    }
+
+    fn decision(&mut self, decision: &Decision) -> String {
+        let result = decision.result.map_or(String::new(), code_name);
+        let state = match decision.state {
+            Some(state) => format!("state {state}"),
+            None => "no record".to_string(),
+        };
+        match decision.command {
+            Some(Command::UserAuthorization) => format!("UAR: type {}, {state}: {result}", decision.asked),
+            Some(Command::LocationInfo) => format!("LIR: {state}: {result}"),
+            _ => {
+                let many = if decision.records > 1 { "many" } else { "one or none" };
+                self.add(format!("SAR of {many}: {result}"));
+                let (asked, keep) = (decision.asked, decision.keep as u8);
+                format!("SAR: type {asked:2}, {state}, keep {keep}: {result}")
+            }
+        }
+    }
+
+    fn count_answer(&mut self, case: &Case, outcome: &Outcome) {
+        let mut buffer = case.buffer_before();
+        outcome.buffer.apply(&mut buffer);
+        let answer = &buffer[..outcome.parts().2 as usize];
+        let avps = sound_avps(Message(answer).avps(), Slip::NONE);
+        self.add(format!("result: {}", code_name(result_of(answer))));
+        let copies = avps.iter().filter(|avp| avp.code == Kind::ProxyInfo.code()).count();
+        if copies > 0 {
+            self.add(format!("answer: {} Proxy-Info", if copies > 1 { "2 or more" } else { "1" }));
+        }
+        if avps.iter().all(|avp| avp.code != Kind::SessionId.code()) {
+            self.add("answer: no Session-Id".to_string());
+        }
+        for avp in &avps {
+            match avp.code {
+                SERVER_CAPABILITIES => self.add("answer: Server-Capabilities".to_string()),
+                USER_DATA if avp.data.len() == 4096 => self.add("answer: User-Data of 4,096".to_string()),
+                USER_DATA => self.add("answer: User-Data".to_string()),
+                1 => self.add("answer: User-Name".to_string()),
+                602 => self.add("answer: Server-Name".to_string()),
+                FAILED_AVP if avp.data.is_empty() => self.add("answer: Failed-AVP without data".to_string()),
+                FAILED_AVP => {
+                    self.add("answer: Failed-AVP".to_string());
+                    if copies > 0 && avp.data.starts_with(&Kind::ProxyInfo.code().to_be_bytes()) {
+                        self.add("answer: Failed-AVP with a Proxy-Info".to_string());
+                    }
+                }
+                _ => {}
+            }
+        }
+        if !outcome.table.bytes.is_empty() {
+            self.add("answer: records rewritten".to_string());
+        }
+        for (least, row) in [(16_384, "answer: over 16,384 bytes"), (32_000, "answer: over 32,000 bytes")] {
+            if answer.len() > least {
+                self.add(row.to_string());
+            }
+        }
+        if case.request.len() == 16_384 {
+            self.add("request: 16,384 bytes".to_string());
+        }
+    }
+
+    /// Rows that must be there, with their least count, and have fewer cases.
+    pub fn thin_rows(&self, stream: Stream) -> Vec<String> {
+        let mut thin = Vec::new();
+        for (wanted, one_in) in required(stream) {
+            let count: u64 = self.rows.iter().filter(|(row, _)| row.starts_with(&wanted)).map(|(_, count)| count).sum();
+            let least = (self.cases / one_in).max(1);
+            if count < least {
+                thin.push(format!("{wanted}: {count} of {least}"));
+            }
+        }
+        thin
+    }
+
+    pub fn print(&self) {
+        for (row, count) in &self.rows {
+            println!("{count:9} {:8.3}%  {row}", *count as f64 * 100.0 / self.cases as f64);
+        }
+        println!("{:9} cases", self.cases);
+    }
+}
+
+pub fn code_name(code: Code) -> String {
+    match code {
+        Code::Base(code) => format!("B{code}"),
+        Code::Experimental(code) => format!("X{code}"),
+    }
+}
+
+/// The result of an answer.
+pub fn result_of(answer: &[u8]) -> Code {
+    for avp in sound_avps(Message(answer).avps(), Slip::NONE) {
+        match avp.code {
+            268 => return Code::Base(crate::table::word_at(avp.data, 0)),
+            297 => return Code::Experimental(crate::table::word_at(avp.data, 20)),
+            _ => {}
+        }
+    }
+    Code::Base(0)
+}
+
+/// How a row that must be there begins, and in how many cases there is to be one.
+fn required(stream: Stream) -> Vec<(String, u64)> {
+    match stream {
+        Stream::Tables => required_of_tables(),
+        Stream::Calls => required_of_calls().into_iter().map(|row| (row, ONE_IN)).collect(),
+    }
+}
+
+fn required_of_tables() -> Vec<(String, u64)> {
+    let mut wanted = Vec::new();
+    for size in ["   0", "   1", "   2", "3-12"] {
+        wanted.push((format!("sound table of {size} records"), ONE_IN));
+    }
+    for size in [" 300", "4096"] {
+        wanted.push((format!("sound table of {size} records"), 50 * ONE_IN));
+    }
+    for outcome in ["sound", "block 0", "the damaged block", "the block after the damaged one"] {
+        wanted.push((format!("all -> {outcome}"), ONE_IN));
+    }
+    for damage in DAMAGES {
+        let one_in = if damage.name.contains("over 4,096 records") { 10 * ONE_IN } else { ONE_IN };
+        wanted.push((damage.name.to_string(), one_in));
+    }
+    wanted
+}
+
+fn required_of_calls() -> Vec<String> {
+    let mut wanted = Vec::new();
+    let mut want = |row: String| wanted.push(row);
+    for number in 1..=5 {
+        want(format!("refused {number}"));
+    }
+    for code in [5011, 3008, 3001, 3007] {
+        want(format!("header: B{code}"));
+    }
+    for what in ["with V", "without V", "header cut off"] {
+        want(format!("rule (a): {what}"));
+    }
+    for rule in ['b', 'c', 'd'] {
+        want(format!("rule ({rule})"));
+    }
+    want("made by: unnamed kinds".to_string());
+    for kind in KINDS {
+        let named_somewhere_once = !kind.may_repeat_in(Command::UserAuthorization);
+        if named_somewhere_once {
+            want(format!("rule (f): {}", kind.name()));
+        }
+        if kind.is_four_bytes() {
+            want(format!("rule (g): {}", kind.name()));
+            want(format!("rule (h): {}", kind.name()));
+        }
+    }
+    for kind in [Kind::ServerName, Kind::VendorSpecificApplicationId] {
+        want(format!("rule (h): {}", kind.name()));
+    }
+    for command in [Command::UserAuthorization, Command::ServerAssignment, Command::LocationInfo] {
+        // A missing Session-Id is rule (b), unless there are no AVPs.
+        for kind in needed(command).into_iter().skip(1) {
+            want(format!("missing: {}", kind.name()));
+        }
+    }
+    for code in [2001, 3001, 3007, 3008, 3009, 5001, 5003, 5004, 5005, 5009, 5011, 5012, 5014] {
+        want(format!("result: B{code}"));
+    }
+    for code in [2001, 2002, 2003, 2004, 5001, 5002, 5003, 5004, 5005, 5007] {
+        want(format!("result: X{code}"));
+    }
+    required_decisions(&mut want);
+    for what in [
+        "no Session-Id",
+        "1 Proxy-Info",
+        "2 or more Proxy-Info",
+        "Server-Capabilities",
+        "User-Name",
+        "Server-Name",
+        "User-Data",
+        "User-Data of 4,096",
+        "Failed-AVP",
+        "Failed-AVP without data",
+        "Failed-AVP with a Proxy-Info",
+        "records rewritten",
+        "over 16,384 bytes",
+        "over 32,000 bytes",
+    ] {
+        want(format!("answer: {what}"));
+    }
+    want("request: 16,384 bytes".to_string());
+    for twist in TWISTS {
+        want(format!("made by: {}", twist.name));
+    }
+    wanted
+}
+
+fn required_decisions(want: &mut impl FnMut(String)) {
+    for (asked, state, result) in [
+        (0, 0, "X2001"),
+        (0, 0, "X2002"),
+        (0, 1, "X2002"),
+        (0, 2, "X2002"),
+        (0, 1, "X5004"),
+        (1, 0, "X5003"),
+        (1, 1, "B2001"),
+        (1, 2, "B2001"),
+        (2, 0, "B2001"),
+        (2, 1, "B2001"),
+        (2, 2, "B2001"),
+        (2, 1, "X5004"),
+    ] {
+        want(format!("UAR: type {asked}, state {state}: {result}"));
+    }
+    for (state, result) in [(0, "X5003"), (0, "B2001"), (0, "X2003"), (1, "B2001"), (2, "B2001")] {
+        want(format!("LIR: state {state}: {result}"));
+    }
+    for asked in 0..=11 {
+        for state in 0..=2 {
+            for keep in 0..=1 {
+                let result = match (asked, state) {
+                    (2, 0 | 2) | (3, 1) | (4..=8 | 11, 0) => "X5007",
+                    (6 | 7, _) if keep == 0 => "X2004",
+                    (0, 0) => "B5012",
+                    _ => "B2001",
+                };
+                want(format!("SAR: type {asked:2}, state {state}, keep {keep}: {result}"));
+            }
+        }
+        want(format!("SAR: type {asked:2}, no record, keep"));
+    }
+    for result in ["B2001", "X2004", "X5002", "X5005", "X5007"] {
+        want(format!("SAR of many: {result}"));
+    }
+}
+
+/// Counts the cases of a stream, prints the histogram, and says whether every required row has enough cases.
+pub fn stats(stream: Stream, seed: u64, from: u64, count: u64) -> bool {
+    let mut histogram = Histogram::default();
+    for number in from..from + count {
+        let made = gen::make(stream, seed, number);
+        let (outcome, why) = made.case.outcome_and_why(Slip::NONE);
+        histogram.count(stream, &made, &outcome, &why);
+    }
+    histogram.print();
+    let thin = histogram.thin_rows(stream);
+    for row in &thin {
+        println!("too few: {row}");
+    }
+    thin.is_empty()
+}

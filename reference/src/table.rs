@@ -1,0 +1,362 @@
+//! The subscriber table: its layout, its check, and the rewriting of a record.
+
+use crate::slip::{Fault, Slip};
+
+pub const BLOCK: usize = 512;
+pub const MOST_RECORDS: u32 = 4096;
+/// Where the check word stands in a block.
+pub const CHECK_WORD: usize = 508;
+
+pub const PENDING: u8 = 1;
+pub const BARRED: u8 = 2;
+pub const UNREGISTERED_SERVICES: u8 = 4;
+
+pub const NOT_REGISTERED: u8 = 0;
+pub const REGISTERED: u8 = 1;
+pub const UNREGISTERED: u8 = 2;
+
+pub const LONGEST_HOST: usize = 64;
+pub const MOST_NETWORKS: usize = 8;
+pub const NETWORK_PLACE: usize = 32;
+pub const LONGEST_IDENTITY: usize = 128;
+pub const LONGEST_SERVER_NAME: usize = 96;
+pub const MOST_CAPABILITIES: usize = 4;
+pub const LONGEST_PROFILE: usize = 4096;
+
+/// Offsets in the header block.
+pub mod header {
+    pub const COUNT: usize = 8;
+    pub const KEEP: usize = 12;
+    pub const HOST_LENGTH: usize = 13;
+    pub const REALM_LENGTH: usize = 14;
+    pub const NETWORKS: usize = 15;
+    pub const HOST: usize = 16;
+    pub const REALM: usize = 80;
+    pub const NETWORK_PLACES: usize = 144;
+    pub const REST: usize = 400;
+}
+
+/// Offsets in a record block.
+pub mod record {
+    pub const STATE: usize = 8;
+    pub const BITS: usize = 9;
+    pub const ROAMING: usize = 10;
+    pub const MANDATORY_COUNT: usize = 11;
+    pub const OPTIONAL_COUNT: usize = 12;
+    pub const PUBLIC_LENGTH: usize = 13;
+    pub const PRIVATE_LENGTH: usize = 14;
+    pub const SERVER_LENGTH: usize = 15;
+    pub const PUBLIC: usize = 16;
+    pub const PRIVATE: usize = 144;
+    pub const SERVER: usize = 272;
+    pub const MANDATORY: usize = 368;
+    pub const OPTIONAL: usize = 384;
+    pub const PROFILE_START: usize = 400;
+    pub const PROFILE_LENGTH: usize = 404;
+    pub const REST: usize = 406;
+}
+
+pub fn word_at(bytes: &[u8], at: usize) -> u32 {
+    u32::from_be_bytes([bytes[at], bytes[at + 1], bytes[at + 2], bytes[at + 3]])
+}
+
+pub fn put_word(bytes: &mut [u8], at: usize, word: u32) {
+    bytes[at..at + 4].copy_from_slice(&word.to_be_bytes());
+}
+
+/// The sum of a block's words, wrapping at 2^32.
+pub fn sum(block: &[u8]) -> u32 {
+    block.chunks_exact(4).fold(0, |sum, word| sum.wrapping_add(word_at(word, 0)))
+}
+
+/// Gives the block the check word that makes its words sum to zero.
+pub fn mend(block: &mut [u8]) {
+    let rest = sum(&block[..CHECK_WORD]);
+    put_word(block, CHECK_WORD, 0u32.wrapping_sub(rest));
+}
+
+fn zero(bytes: &[u8]) -> bool {
+    bytes.iter().fold(0, |all, byte| all | byte) == 0
+}
+
+/// The header of a table that was found sound.
+#[derive(Clone, Copy)]
+pub struct Header<'a>(pub &'a [u8]);
+
+impl<'a> Header<'a> {
+    pub fn keep(&self) -> bool {
+        self.0[header::KEEP] == 1
+    }
+
+    pub fn host(&self) -> &'a [u8] {
+        &self.0[header::HOST..][..self.0[header::HOST_LENGTH] as usize]
+    }
+
+    pub fn realm(&self) -> &'a [u8] {
+        &self.0[header::REALM..][..self.0[header::REALM_LENGTH] as usize]
+    }
+
+    pub fn networks(&self) -> usize {
+        self.0[header::NETWORKS] as usize
+    }
+
+    pub fn network(&self, n: usize) -> &'a [u8] {
+        let place = &self.0[header::NETWORK_PLACES + n * NETWORK_PLACE..][..NETWORK_PLACE];
+        &place[1..][..place[0] as usize]
+    }
+}
+
+/// A record of a table that was found sound.
+#[derive(Clone, Copy)]
+pub struct Record<'a>(pub &'a [u8]);
+
+impl<'a> Record<'a> {
+    pub fn state(&self) -> u8 {
+        self.0[record::STATE]
+    }
+
+    pub fn has(&self, bit: u8) -> bool {
+        self.0[record::BITS] & bit != 0
+    }
+
+    pub fn roams_in(&self, network: usize) -> bool {
+        self.0[record::ROAMING] & (1 << network) != 0
+    }
+
+    pub fn public(&self) -> &'a [u8] {
+        &self.0[record::PUBLIC..][..self.0[record::PUBLIC_LENGTH] as usize]
+    }
+
+    pub fn private(&self) -> &'a [u8] {
+        &self.0[record::PRIVATE..][..self.0[record::PRIVATE_LENGTH] as usize]
+    }
+
+    /// The stored server name; empty if there is none.
+    pub fn server_name(&self) -> &'a [u8] {
+        &self.0[record::SERVER..][..self.0[record::SERVER_LENGTH] as usize]
+    }
+
+    pub fn mandatory(&self) -> Vec<u32> {
+        let count = self.0[record::MANDATORY_COUNT] as usize;
+        (0..count).map(|n| word_at(self.0, record::MANDATORY + 4 * n)).collect()
+    }
+
+    pub fn optional(&self) -> Vec<u32> {
+        let count = self.0[record::OPTIONAL_COUNT] as usize;
+        (0..count).map(|n| word_at(self.0, record::OPTIONAL + 4 * n)).collect()
+    }
+
+    pub fn profile_start(&self) -> usize {
+        word_at(self.0, record::PROFILE_START) as usize
+    }
+
+    pub fn profile_length(&self) -> usize {
+        usize::from(self.0[record::PROFILE_LENGTH]) << 8 | usize::from(self.0[record::PROFILE_LENGTH + 1])
+    }
+}
+
+/// A sound table, to be read.
+#[derive(Clone, Copy)]
+pub struct Table<'a>(pub &'a [u8]);
+
+impl<'a> Table<'a> {
+    pub fn header(&self) -> Header<'a> {
+        Header(&self.0[..BLOCK])
+    }
+
+    /// The records in table order, each with its block number.
+    pub fn records(&self) -> impl Iterator<Item = (usize, Record<'a>)> {
+        let count = word_at(self.0, header::COUNT) as usize;
+        self.0.chunks_exact(BLOCK).map(Record).enumerate().skip(1).take(count)
+    }
+
+    pub fn record(&self, block: usize) -> Record<'a> {
+        Record(&self.0[block * BLOCK..][..BLOCK])
+    }
+}
+
+/// The record count of a sound table, or the number of the first bad block.
+pub fn check(table: &[u8], profile_length: usize) -> Result<u32, u32> {
+    check_with(table, profile_length, Slip::NONE)
+}
+
+/// `check` with a deliberate fault. Inlined, so that the true check has no trace of the faults.
+#[inline(always)]
+pub fn check_with(table: &[u8], profile_length: usize, slip: Slip) -> Result<u32, u32> {
+    if table.len() < BLOCK {
+        return Err(0);
+    }
+    let head = &table[..BLOCK];
+    let mut count = word_at(head, header::COUNT);
+    if slip.is(Fault::PrefixTaken) && table.len().is_multiple_of(BLOCK) {
+        count = count.min((table.len() / BLOCK - 1) as u32);
+    }
+    if !length_fits(table.len(), count, slip) || !header_is_sound(head, slip) {
+        return Err(0);
+    }
+    let networks = head[header::NETWORKS] as usize;
+    let mut before: &[u8] = &[];
+    for number in 1..=count {
+        let block = &table[number as usize * BLOCK..][..BLOCK];
+        if !record_is_sound(block, number, networks, profile_length, slip) {
+            return Err(number);
+        }
+        let public = Record(block).public();
+        if !rises(before, public, slip) {
+            return if slip.is(Fault::EarlierBlockBlamed) { Err(number - 1) } else { Err(number) };
+        }
+        before = public;
+    }
+    Ok(count)
+}
+
+#[inline(always)]
+fn length_fits(length: usize, count: u32, slip: Slip) -> bool {
+    let needed = BLOCK as u64 * (u64::from(count) + 1);
+    if slip.is(Fault::AppendedTaken) && count <= MOST_RECORDS && length as u64 > needed {
+        return true;
+    }
+    if slip.is(Fault::CountNotLimited) && length as u64 == needed {
+        return true;
+    }
+    count <= MOST_RECORDS && length as u64 == needed
+}
+
+#[inline(always)]
+fn header_is_sound(block: &[u8], slip: Slip) -> bool {
+    (sum(block) == 0 || slip.is(Fault::HeaderSumNotAsked))
+        && block[0] == 1
+        && block[1] == 1
+        && zero(&block[2..4])
+        && (word_at(block, 4) == 0 || slip.is(Fault::HeaderNumberNotAsked))
+        && block[header::KEEP] <= 1
+        && name_fits(block, header::HOST_LENGTH, header::HOST, 1, LONGEST_HOST, slip)
+        && name_fits(block, header::REALM_LENGTH, header::REALM, 1, LONGEST_HOST, slip)
+        && networks_are_sound(block, slip)
+        && zero(&block[header::REST..CHECK_WORD])
+}
+
+/// A length within its bounds, and the field's unused places zero.
+#[inline(always)]
+fn name_fits(block: &[u8], length_at: usize, at: usize, least: usize, most: usize, slip: Slip) -> bool {
+    let length = block[length_at] as usize;
+    let least = if slip.is(Fault::EmptyNameTaken) { 0 } else { least };
+    least <= length && length <= most && (zero(&block[at + length..at + most]) || slip.is(Fault::NameTailNotAsked))
+}
+
+#[inline(always)]
+fn networks_are_sound(block: &[u8], slip: Slip) -> bool {
+    let used = block[header::NETWORKS] as usize;
+    if used > MOST_NETWORKS {
+        return false;
+    }
+    for n in 0..MOST_NETWORKS {
+        let place = &block[header::NETWORK_PLACES + n * NETWORK_PLACE..][..NETWORK_PLACE];
+        if n >= used {
+            if !zero(place) && !slip.is(Fault::UnusedNetworkNotAsked) {
+                return false;
+            }
+            continue;
+        }
+        let length = place[0] as usize;
+        if !(1..NETWORK_PLACE).contains(&length) || !zero(&place[1 + length..]) {
+            return false;
+        }
+    }
+    // A used place is its length, its name and zeros, so that two places are alike as their names are.
+    for n in 1..used {
+        for earlier in 0..n {
+            if Header(block).network(earlier) == Header(block).network(n) && !slip.is(Fault::AlikeNetworksTaken) {
+                return false;
+            }
+        }
+    }
+    true
+}
+
+#[inline(always)]
+fn record_is_sound(block: &[u8], number: u32, networks: usize, profile_length: usize, slip: Slip) -> bool {
+    let this = Record(block);
+    let state = block[record::STATE];
+    let bits = block[record::BITS];
+    (sum(block) == 0 || slip.is(Fault::RecordSumNotAsked))
+        && (block[0] == 2 || slip.is(Fault::RecordKindNotAsked))
+        && block[1] == 1
+        && zero(&block[2..4])
+        && (word_at(block, 4) == number || slip.is(Fault::RecordNumberNotAsked))
+        && state <= UNREGISTERED
+        && (bits <= PENDING | BARRED | UNREGISTERED_SERVICES || slip.is(Fault::OtherBitsTaken))
+        && (block[record::ROAMING] as u32 >> networks == 0 || slip.is(Fault::RoamingPastLastTaken))
+        && capabilities_fit(block, record::MANDATORY_COUNT, record::MANDATORY, slip)
+        && capabilities_fit(block, record::OPTIONAL_COUNT, record::OPTIONAL, slip)
+        && name_fits(block, record::PUBLIC_LENGTH, record::PUBLIC, 1, LONGEST_IDENTITY, slip)
+        && name_fits(block, record::PRIVATE_LENGTH, record::PRIVATE, 1, LONGEST_IDENTITY, slip)
+        && name_fits(block, record::SERVER_LENGTH, record::SERVER, 0, LONGEST_SERVER_NAME, slip)
+        && server_name_fits_state(state, bits & PENDING != 0, !this.server_name().is_empty(), slip)
+        && profile_part_fits(this, profile_length, slip)
+        && (zero(&block[record::REST..CHECK_WORD]) || slip.is(Fault::RecordRestNotAsked))
+}
+
+#[inline(always)]
+fn capabilities_fit(block: &[u8], count_at: usize, at: usize, slip: Slip) -> bool {
+    let count = block[count_at] as usize;
+    count <= MOST_CAPABILITIES
+        && (zero(&block[at + 4 * count..at + 4 * MOST_CAPABILITIES]) || slip.is(Fault::UnusedCapabilityNotAsked))
+}
+
+#[inline(always)]
+fn server_name_fits_state(state: u8, pending: bool, stored: bool, slip: Slip) -> bool {
+    match state {
+        NOT_REGISTERED => stored == pending || slip.is(Fault::PendingNameNotAsked),
+        _ => stored || slip.is(Fault::StateNameNotAsked),
+    }
+}
+
+#[inline(always)]
+fn profile_part_fits(this: Record, profile_length: usize, slip: Slip) -> bool {
+    let start = this.profile_start() as u64;
+    let length = this.profile_length() as u64;
+    let end = if slip.is(Fault::ProfileEndWraps) {
+        u64::from((start as u32).wrapping_add(length as u32))
+    } else if slip.is(Fault::ProfileEndOffByOne) {
+        start + length + 1
+    } else if slip.is(Fault::EmptyPartAnywhere) && length == 0 {
+        0
+    } else {
+        start + length
+    };
+    (length <= LONGEST_PROFILE as u64 || slip.is(Fault::PartNotLimited)) && end <= profile_length as u64
+}
+
+/// Strictly greater: unsigned bytes over the true lengths, a prefix first.
+#[inline(always)]
+fn rises(before: &[u8], public: &[u8], slip: Slip) -> bool {
+    before < public || (slip.is(Fault::EqualIdentitiesTaken) && before == public) || slip.is(Fault::OrderNotAsked)
+}
+
+/// What an effect leaves in a record.
+#[derive(Clone, PartialEq, Debug)]
+pub struct Rewriting {
+    pub state: u8,
+    /// The new server name, empty for none; `None` keeps the stored one.
+    pub server_name: Option<Vec<u8>>,
+}
+
+/// Rewrites state, the pending bit, the server name's length and field and the check word, nothing else.
+pub fn rewrite(block: &mut [u8], with: &Rewriting, slip: Slip) {
+    block[record::STATE] = with.state;
+    if !slip.is(Fault::PendingStays) {
+        block[record::BITS] &= !PENDING;
+    }
+    if let Some(name) = &with.server_name {
+        block[record::SERVER_LENGTH] = name.len() as u8;
+        let field = &mut block[record::SERVER..record::SERVER + LONGEST_SERVER_NAME];
+        if !slip.is(Fault::OldNameTailStays) {
+            field.fill(0);
+        }
+        field[..name.len()].copy_from_slice(name);
+    }
+    if !slip.is(Fault::CheckWordStays) {
+        mend(block);
+    }
+}

@@ -1,0 +1,112 @@
+//! What the tests share: hex, tables of the isle, requests put together by hand, and calls.
+#![allow(dead_code)]
+
+use reference::gen::model::{RecordModel, TableModel};
+use reference::serve::{serve, LEAST_BUFFER};
+use reference::slip::Slip;
+
+pub fn bytes(hex: &str) -> Vec<u8> {
+    let digits: Vec<char> = hex.chars().filter(|c| !c.is_whitespace()).collect();
+    digits.chunks(2).map(|pair| u8::from_str_radix(&pair.iter().collect::<String>(), 16).unwrap()).collect()
+}
+
+pub fn record(public: &str, private: &str) -> RecordModel {
+    RecordModel {
+        public: public.as_bytes().to_vec(),
+        private: private.as_bytes().to_vec(),
+        roaming: 1,
+        ..RecordModel::default()
+    }
+}
+
+/// Host `hss.isle`, realm `isle`, networks `isle` and `guest.example`.
+pub fn isle(mut records: Vec<RecordModel>) -> TableModel {
+    records.sort_by(|a, b| a.public.cmp(&b.public));
+    let mut model = TableModel::of_the_isle();
+    model.networks = vec![b"isle".to_vec(), b"guest.example".to_vec()];
+    model.records = records;
+    model
+}
+
+pub struct Done {
+    /// The refusal's number, 0 if answered.
+    pub number: u64,
+    pub value: u64,
+    pub answer: Vec<u8>,
+    pub table: Vec<u8>,
+}
+
+pub fn call(request: &[u8], table: &[u8], profile: &[u8]) -> Done {
+    call_with_buffer(request, table, profile, LEAST_BUFFER)
+}
+
+/// Calls, and checks that the buffer past the answer stays.
+pub fn call_with_buffer(request: &[u8], table: &[u8], profile: &[u8], buffer: usize) -> Done {
+    let mut table = table.to_vec();
+    let mut buffer = vec![0xA5; buffer];
+    let (word, _) = serve(request, &mut table, profile, &mut buffer, Slip::NONE);
+    let (number, value) = (word >> 48, word & 0xFFFF_FFFF);
+    let written = if number == 0 { value as usize } else { 0 };
+    assert!(buffer[written..].iter().all(|byte| *byte == 0xA5));
+    buffer.truncate(written);
+    Done { number, value, answer: buffer, table }
+}
+
+pub fn avp(code: u32, data: &[u8]) -> Vec<u8> {
+    let mut out = code.to_be_bytes().to_vec();
+    let (flags, header) = if code >= 600 { (0xC0u32, 12) } else { (0x40, 8) };
+    out.extend((flags << 24 | (header + data.len()) as u32).to_be_bytes());
+    if code >= 600 {
+        out.extend(10415u32.to_be_bytes());
+    }
+    out.extend(data);
+    out.resize(out.len().next_multiple_of(4), 0);
+    out
+}
+
+pub fn number(code: u32, value: u32) -> Vec<u8> {
+    avp(code, &value.to_be_bytes())
+}
+
+pub fn message(command: u32, avps: &[Vec<u8>]) -> Vec<u8> {
+    let body = avps.concat();
+    let mut out = (1u32 << 24 | (20 + body.len()) as u32).to_be_bytes().to_vec();
+    out.extend((0xC0u32 << 24 | command).to_be_bytes());
+    for word in [16_777_216u32, 7, 9] {
+        out.extend(word.to_be_bytes());
+    }
+    out.extend(body);
+    out
+}
+
+/// Session-Id, 260, 277, 264, 296 and 283, and then these.
+pub fn request(command: u32, own: &[Vec<u8>]) -> Vec<u8> {
+    let mut avps = vec![
+        avp(263, b"s;1"),
+        avp(260, &[number(266, 10415), number(258, 16_777_216)].concat()),
+        number(277, 1),
+        avp(264, b"cscf.isle"),
+        avp(296, b"isle"),
+        avp(283, b"isle"),
+    ];
+    avps.extend_from_slice(own);
+    message(command, &avps)
+}
+
+/// A SAR for one identity, without User-Name, that asks for the User-Data.
+pub fn sar(public: &str, server_name: &[u8], asked_type: u32) -> Vec<u8> {
+    request(301, &[avp(601, public.as_bytes()), avp(602, server_name), number(614, asked_type), number(624, 0)])
+}
+
+/// B or X with its number.
+pub fn result(answer: &[u8]) -> String {
+    reference::stats::code_name(reference::stats::result_of(answer))
+}
+
+/// The data of the answer's AVP of this code.
+pub fn find(answer: &[u8], code: u32) -> Option<Vec<u8>> {
+    reference::message::sound_avps(&answer[20..], Slip::NONE)
+        .iter()
+        .find(|avp| avp.code == code)
+        .map(|avp| avp.data.to_vec())
+}
