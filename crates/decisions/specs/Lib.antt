@@ -1,6 +1,8 @@
 pub mod Assignment
 pub mod Authorization
+pub mod Chosen
 pub mod Decide
+pub mod Gives
 pub mod Location
 pub mod Planned
 pub mod Reply

@@ -1,4 +1,10 @@
 // The three decisions over a request that was read and a sound table, and the effects of a SAR.
+pub mod authorization;
+pub mod choice;
+pub mod giving;
+pub mod location;
+pub mod types;
+
 use reading::Outcome;
 use reading::Verdict;
 

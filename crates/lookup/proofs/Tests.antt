@@ -1,19 +1,16 @@
 -- What a sound block says, a field for each test of it.
-use Prim.Native.Nat.{ℕ, _+_, _*_, _<_, _≤_, _^_}
+use Prim.Native.Nat.{ℕ, _+_, _*_, _≤_}
 use mathlib.Core.Bool.{true}
 use mathlib.Core.Path.{_≡_}
 use mathlib.Core.List.{List, [], _∷_}
-use lib.ListN.{getD}
-use lib.Dec.{eqb, leb, ltb}
-use borrow.Author.Tests.{eqb-true, leb-true, ltb-true, eq-eqb, le-leb, lt-ltb}
+use lib.Dec.{eqb, leb}
+use borrow.Author.Tests.{eqb-true, leb-true, eq-eqb, le-leb}
 use Rattle.octets.specs.Run.{zeroBetween}
 use Rattle.octets.specs.Sum.{sumWords}
-use Rattle.octets.proofs.All.{and-left, and-right}
 use Rattle.record.specs.HeaderBlock as header
 use Rattle.record.specs.HeaderBlock.{headerOf, soundCounts, soundNumbers, soundHeader}
 use Rattle.record.specs.Networks.{soundNetworks}
 use Rattle.record.specs.RecordBlock.{recordOf, soundHead, soundLimits, soundServer, soundRoaming, soundProfile, soundRest, soundRecord}
-use Rattle.record.specs.declared.header.Header.{Header}
 use Rattle.record.specs.declared.subscriber.Record.{Record}
 use Rattle.lookup.proofs.Chains.{chain-says, _also_}
 

@@ -1,1 +1,96 @@
 // Records written anew: another state, pending cleared, another server name, a new check word.
+use lookup::Found;
+use octets::number;
+use octets::run;
+use octets::sum;
+use record::subscriber::Record;
+ghost use mathlib.Core.Path.{_≡_};
+ghost use mathlib.Core.Bool.{cond};
+ghost use Prim.Native.Nat.{_+_, _*_, _≤_};
+ghost use lib.ListN.{length};
+ghost use Rattle.record.specs.Fields.{cleared};
+ghost use Rattle.lookup.specs.Find.{endOf};
+ghost use Rattle.rewrite.specs.Effect.{settledIn, settledFound};
+ghost use Rattle.rewrite.specs.Renew.{lacking, sealed, renewed, rewritten};
+
+// The words of a block before its check word, and the bytes of a server name's field.
+pub const WORDS: usize = 127;
+
+pub const SERVER_FIELD: usize = 96;
+
+// What a sum lacks to zero, wrapping at 2^32.
+fn lack(s: u32) -> u32
+    ensures { λ r. ⌜ r ≡ lacking s ⌝ }
+{
+    std::num::wrapping_sub_u32(0, s)
+}
+
+// Gives a block a new check word.
+fn seal(b: &mut [u8])
+    requires { ⌜ length (now b) ≡ 512 ⌝ }
+    ensures { λ _. ⌜ now (b .exit) ≡ sealed (now (b .entry)) ⌝ }
+{
+    let w = lack(sum::sum_words(b, WORDS));
+    number::put_be32(b, Record::CHECK_AT, w);
+}
+
+// Gives a record block another state, other bits and another server name, all bytes of its field.
+fn renew(b: &mut [u8], state: u8, bits: u8, name: &[u8])
+    requires { ⌜ (length (now b) ≡ 512) × (length (now name) ≤ 96) ⌝ }
+    ensures { λ _. ⌜ now (b .exit) ≡ renewed (now (b .entry)) state bits (now (name .entry)) ⌝ }
+{
+    b[Record::STATE_AT] = state;
+    b[Record::BITS_AT] = bits;
+    b[Record::SERVER_LENGTH_AT] = name.len() as u8;
+    run::put_name(b, Record::SERVER_AT, SERVER_FIELD, name);
+    seal(b);
+}
+
+// Renews block k of a table.
+pub fn rewrite_block(t: &mut [u8], k: usize, state: u8, bits: u8, name: &[u8])
+    requires { ⌜ (512 * k + 512 ≤ length (now t)) × (length (now name) ≤ 96) ⌝ }
+    ensures { λ _. ⌜ now (t .exit) ≡ rewritten (now (t .entry)) k state bits (now (name .entry)) ⌝ }
+{
+    let at = table::BLOCK * k;
+    renew(&mut t[at..at + table::BLOCK], state, bits, name);
+}
+
+// A record's bits without pending.
+pub fn clear(bits: u8) -> u8
+    ensures { λ r. ⌜ r ≡ cleared bits ⌝ }
+{
+    bits - bits % 2
+}
+
+// Gives record k another state and another server name, and clears pending.
+pub fn settle(t: &mut [u8], k: usize, state: u8, name: &[u8])
+    requires { ⌜ (512 * k + 512 ≤ length (now t)) × (length (now name) ≤ 96) ⌝ }
+    ensures { λ _. ⌜ now (t .exit) ≡ settledIn (now (t .entry)) k state (now (name .entry)) ⌝ }
+{
+    let bits = clear(t[table::BLOCK * k + Record::BITS_AT]);
+    rewrite_block(t, k, state, bits, name);
+}
+
+// The same, if the record is chosen.
+pub fn settle_if(t: &mut [u8], k: usize, chosen: bool, state: u8, name: &[u8])
+    requires { ⌜ (512 * k + 512 ≤ length (now t)) × (length (now name) ≤ 96) ⌝ }
+    ensures { λ _. ⌜ now (t .exit) ≡ cond chosen (settledIn (now (t .entry)) k state (now (name .entry))) (now (t .entry)) ⌝ }
+{
+    if chosen {
+        settle(t, k, state, name);
+        return;
+    }
+}
+
+// The same, of a record that was found.
+pub fn settle_found(t: &mut [u8], f: Found, state: u8, name: &[u8])
+    requires { ⌜ (endOf f ≤ length (now t)) × (length (now name) ≤ 96) ⌝ }
+    ensures { λ _. ⌜ now (t .exit) ≡ settledFound (now (t .entry)) f state (now (name .entry)) ⌝ }
+{
+    match f {
+        Found::At(k) => {
+            settle(t, k as usize, state, name);
+        }
+        Found::Nothing => {}
+    }
+}

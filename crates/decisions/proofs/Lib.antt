@@ -1,0 +1,5 @@
+pub mod Authorizing
+pub mod Locating
+pub mod Ranges
+pub mod Ready
+pub mod Replies

@@ -1,0 +1,13 @@
+use Rattle.decisions.proofs.Authorizing.{authorize-found}
+use Rattle.decisions.proofs.Ready.{public-within}
+use borrow.Author.Needs.{needs}
+use Rattle.decisions.proofs.authorization.authorize.Statement.{statement}
+use Rattle.decisions.proofs.authorization.authorize.Tie as tie
+
+pub authorize-spec : {M : Type 1} → statement M
+authorize-spec =
+    tie.close
+    (tie.spec
+    (λ c κs. search needs)
+    (λ c κs. search (needs, public-within))
+    (λ c. search (needs, authorize-found)))

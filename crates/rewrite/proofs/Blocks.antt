@@ -1,0 +1,92 @@
+-- A table with one block rewritten, by its blocks: that block renewed, and every other as it was.
+use Prim.Native.Nat.{ℕ, _+_, _-_, _*_, _<_, _≤_}
+use mathlib.Core.Bool.{Bool, true, false}
+use mathlib.Core.Path.{_≡_, refl, sym, _∙_, ap}
+use mathlib.Core.Logic.{_≢_}
+use mathlib.Core.List.{List, _++_}
+use native.Mathlib.Omega.{arith}
+use lib.Dec.{ltb}
+use borrow.Author.Tests.{ltb-true, ltb-false}
+use lib.ListN.{length, getD, take, drop, length-take, length-drop, length-append, List·getD-append}
+use lib.Seq.{take-at, drop-at, length-take-le, getD-take, getD-drop, getD-append-add, ext-getD}
+use Rattle.table.specs.Blocks.{blockOf}
+use Rattle.table.proofs.Blocks.{block-length}
+use Rattle.rewrite.specs.Renew.{renewed, rewritten}
+use Rattle.rewrite.proofs.Bytes.{renewed-length}
+
+-- A list with y in the place of as many elements from a place on.
+abbrev spliced : List ℕ → ℕ → List ℕ → List ℕ
+spliced t at y = take at t ++ (y ++ drop (at + length y) t)
+
+module _ (t : List ℕ) (at : ℕ) (y : List ℕ) (fits : at + length y ≤ length t) where
+  front : length (take at t) ≡ at
+  front = length-take-le at t (omega arith)
+
+  spliced-part : take (length y) (drop at (spliced t at y)) ≡ y
+  spliced-part = rw (drop-at (take at t) (y ++ drop (at + length y) t) at front, take-at y (drop (at + length y) t) (length y))
+
+  spliced-length : length (spliced t at y) ≡ length t
+  spliced-length = simp (length-append, length-take, length-drop) (omega arith)
+
+  spliced-before : (i : ℕ) → i < at → getD (spliced t at y) i 0 ≡ getD t i 0
+  spliced-before i h =
+      let k : i < length (take at t) = simp length-take (omega arith) in
+      rw (List·getD-append (take at t) (y ++ drop (at + length y) t) 0 i k, getD-take at t i 0 h)
+
+  spliced-after : (i : ℕ) → at + length y ≤ i → getD (spliced t at y) i 0 ≡ getD t i 0
+  spliced-after i h =
+      let n : i ≡ length (take at t) + (length y + (i - (at + length y))) = omega (arith, front) in
+      let m : at + length y + (i - (at + length y)) ≡ i = omega arith in
+      ap (λ (j : ℕ). getD (spliced t at y) j 0) n
+      ∙ getD-append-add (take at t) (y ++ drop (at + length y) t) (length y + (i - (at + length y))) 0
+      ∙ getD-append-add y (drop (at + length y) t) (i - (at + length y)) 0
+      ∙ getD-drop (at + length y) t (i - (at + length y)) 0
+      ∙ ap (λ (j : ℕ). getD t j 0) m
+
+module _ (t : List ℕ) (k : ℕ) (y : List ℕ) (whole : length y ≡ 512) (fits : 512 * k + 512 ≤ length t) where
+  block-spliced : blockOf (spliced t (512 * k) y) k ≡ y
+  unfolding blockOf
+  block-spliced = ap (λ (n : ℕ). take n (drop (512 * k) (spliced t (512 * k) y))) (sym whole) ∙ spliced-part t (512 * k) y (omega arith)
+
+  byte-apart : (j i : ℕ) → j ≢ k → i < 512 → getD (spliced t (512 * k) y) (512 * j + i) 0 ≡ getD t (512 * j + i) 0
+  byte-apart j i h l = go (ltb j k) refl
+    where
+      go : (x : Bool) → ltb j k ≡ x → getD (spliced t (512 * k) y) (512 * j + i) 0 ≡ getD t (512 * j + i) 0
+      go true e = let f : j < k = ltb-true _ _ e in spliced-before t (512 * k) y (omega arith) (512 * j + i) (omega arith)
+      go false e = let f : k ≤ j = ltb-false _ _ e in spliced-after t (512 * k) y (omega arith) (512 * j + i) (omega arith)
+
+  block-apart : (j : ℕ) → j ≢ k → 512 * j + 512 ≤ length t → blockOf (spliced t (512 * k) y) j ≡ blockOf t j
+  unfolding blockOf
+  block-apart j h g =
+      let long : length (spliced t (512 * k) y) ≡ length t = spliced-length t (512 * k) y (omega arith) in
+      ext-getD 0 (blockOf (spliced t (512 * k) y) j) (blockOf t j)
+      (block-length (spliced t (512 * k) y) j (omega arith) ∙ sym (block-length t j g))
+      (λ i l.
+      let b : i < 512 = omega (arith, block-length (spliced t (512 * k) y) j (omega arith)) in
+      rw (
+        getD-take 512 (drop (512 * j) (spliced t (512 * k) y)) i 0 b,
+        getD-take 512 (drop (512 * j) t) i 0 b,
+        getD-drop (512 * j) (spliced t (512 * k) y) i 0,
+        getD-drop (512 * j) t i 0,
+      )
+      (byte-apart j i h b))
+
+module _ (t : List ℕ) (k state bits : ℕ) (name : List ℕ) (fits : 512 * k + 512 ≤ length t) where
+  abbrev new : List ℕ
+  new = renewed (blockOf t k) state bits name
+
+  new-length : length new ≡ 512
+  new-length = renewed-length (blockOf t k) state bits name ∙ block-length t k fits
+
+  is-spliced : rewritten t k state bits name ≡ spliced t (512 * k) new
+  unfolding rewritten
+  is-spliced = rw new-length
+
+  pub rewritten-length : length (rewritten t k state bits name) ≡ length t
+  rewritten-length = rw is-spliced (spliced-length t (512 * k) new (rw new-length fits))
+
+  pub block-renewed : blockOf (rewritten t k state bits name) k ≡ renewed (blockOf t k) state bits name
+  block-renewed = rw is-spliced (block-spliced t k new new-length fits)
+
+  pub block-other : (j : ℕ) → j ≢ k → 512 * j + 512 ≤ length t → blockOf (rewritten t k state bits name) j ≡ blockOf t j
+  block-other j h g = rw is-spliced (block-apart t k new new-length fits j h g)

@@ -1,0 +1,170 @@
+-- The bytes of a renewed block: what is written anew, and what stays.
+use Prim.Native.Nat.{ℕ, zero, suc, _+_, _-_, _<_, _≤_}
+use mathlib.Core.Bool.{Bool, true, false}
+use mathlib.Core.Path.{_≡_, refl, sym, _∙_}
+use mathlib.Core.Logic.{_≢_}
+use mathlib.Core.List.{List, [], _∷_, _++_, append-nil}
+use native.Mathlib.Omega.{arith}
+use lib.Dec.{ltb, eqb}
+use borrow.Author.Tests.{ltb-true, ltb-false, eqb-true, eqb-false}
+use lib.ListN.{length, getD, set, take, length-set, drop-of-length-le}
+use lib.Seq.{getD-set-same, getD-set-other, sets-eq}
+use Rattle.octets.specs.Number.{putBe32}
+use Rattle.octets.specs.Run.{putName}
+use Rattle.octets.specs.Sum.{sumWords}
+use Rattle.rewrite.specs.Renew.{sealed, renewed}
+use Rattle.rewrite.proofs.Alike.{part-alike, sum-alike}
+
+-- A name that is put into its field.
+module _ (s : List ℕ) (at : ℕ) (name : List ℕ) where
+  pub name-length : (n : ℕ) → length (putName s at name n) ≡ length s
+  unfolding putName
+  name-length zero = refl
+  name-length (suc n) = simp length-set (name-length n)
+
+  name-apart : (n i : ℕ) → ((j : ℕ) → j < n → i ≢ at + j) → getD (putName s at name n) i 0 ≡ getD s i 0
+  unfolding putName
+  name-apart zero i h = refl
+  name-apart (suc n) i h = rw (getD-set-other (putName s at name n) (at + n) i (getD name n 0) 0 (h n (omega arith))) (name-apart n i (λ j k. h j (omega arith)))
+
+  name-here : (n j : ℕ) → at + n ≤ length s → j < n → getD (putName s at name n) (at + j) 0 ≡ getD name j 0
+  unfolding putName
+  name-here zero j l h = absurd (omega arith)
+  name-here (suc n) j l h = go (eqb j n) refl (name-here n j (omega arith))
+    where
+      go : (x : Bool) → eqb j n ≡ x → (j < n → getD (putName s at name n) (at + j) 0 ≡ getD name j 0)
+          → getD (set (putName s at name n) (at + n) (getD name n 0)) (at + j) 0 ≡ getD name j 0
+      go true e r =
+          let q : j ≡ n = eqb-true j n e in
+          let m : at + n < length (putName s at name n) = rw name-length (omega arith) in
+          rw (q, getD-set-same (putName s at name n) (at + n) (getD name n 0) 0 m)
+      go false e r =
+          let q : j ≢ n = eqb-false j n e in
+          let k : at + j ≢ at + n = omega arith in
+          rw (getD-set-other (putName s at name n) (at + n) (at + j) (getD name n 0) 0 k) (r (omega arith))
+
+-- A check word leaves the length, and what is before it.
+pub sealed-length : (b : List ℕ) → length (sealed b) ≡ length b
+unfolding sealed putBe32
+sealed-length b = simp length-set
+
+seal-before : (b : List ℕ) (i : ℕ) → i < 508 → getD (sealed b) i 0 ≡ getD b i 0
+unfolding sealed putBe32
+seal-before b i h =
+    let k0 : i ≢ 508 = omega arith in
+    let k1 : i ≢ 509 = omega arith in
+    let k2 : i ≢ 510 = omega arith in
+    let k3 : i ≢ 511 = omega arith in
+    simp getD-set-other
+
+-- Blocks that are alike before their check words are alike once they are sealed.
+tail-word : (b : List ℕ) (x y z w : ℕ) → length b ≡ 512 → set (set (set (set b 508 x) 509 y) 510 z) 511 w ≡ take 508 b ++ (x ∷ y ∷ z ∷ w ∷ [])
+tail-word b x y z w h = sets-eq (x ∷ y ∷ z ∷ w ∷ []) b 508 (omega arith) ∙ rw (drop-of-length-le b {i = 512} (omega arith), append-nil)
+
+seal-alike : (b c : List ℕ) → length b ≡ 512 → length c ≡ 512 → ((i : ℕ) → i < 508 → getD b i 0 ≡ getD c i 0) → sealed b ≡ sealed c
+unfolding sealed putBe32
+seal-alike b c k l h =
+    let s : sumWords b 127 ≡ sumWords c 127 = sum-alike b c 127 (λ i m. h i (omega arith)) in
+    let p : take 508 b ≡ take 508 c = part-alike b c 0 508 (omega arith) (λ i m n. h i (omega arith)) in
+    tail-word b _ _ _ _ k ∙ rw (s, p) (sym (tail-word c _ _ _ _ l))
+
+-- The block before its check word.
+abbrev pub drafted : List ℕ → ℕ → ℕ → List ℕ → List ℕ
+drafted b state bits name = putName (set (set (set b 8 state) 9 bits) 15 (length name)) 272 name 96
+
+module _ (b : List ℕ) (state bits : ℕ) (name : List ℕ) where
+  pub drafted-length : length (drafted b state bits name) ≡ length b
+  drafted-length = simp (name-length, length-set)
+
+  pub renewed-length : length (renewed b state bits name) ≡ length b
+  unfolding renewed
+  renewed-length = sealed-length (drafted b state bits name) ∙ drafted-length
+
+  drafted-low : (i : ℕ) → i < 272 → i ≢ 8 → i ≢ 9 → i ≢ 15 → getD (drafted b state bits name) i 0 ≡ getD b i 0
+  drafted-low i h x y z = name-apart _ 272 name 96 i (λ j k. omega arith) ∙ simp getD-set-other
+
+  drafted-high : (i : ℕ) → 368 ≤ i → getD (drafted b state bits name) i 0 ≡ getD b i 0
+  drafted-high i h =
+      let x : i ≢ 8 = omega arith in
+      let y : i ≢ 9 = omega arith in
+      let z : i ≢ 15 = omega arith in
+      name-apart _ 272 name 96 i (λ j k. omega arith) ∙ simp getD-set-other
+
+  -- what stays
+  pub renewed-low : (i : ℕ) → i < 272 → i ≢ 8 → i ≢ 9 → i ≢ 15 → getD (renewed b state bits name) i 0 ≡ getD b i 0
+  unfolding renewed
+  renewed-low i h x y z = seal-before _ i (omega arith) ∙ drafted-low i h x y z
+
+  pub renewed-high : (i : ℕ) → 368 ≤ i → i < 508 → getD (renewed b state bits name) i 0 ≡ getD b i 0
+  unfolding renewed
+  renewed-high i h k = seal-before _ i k ∙ drafted-high i h
+
+  -- what is new
+  module _ (whole : length b ≡ 512) where
+    drafted-state : getD (drafted b state bits name) 8 0 ≡ state
+    drafted-state =
+        name-apart _ 272 name 96 8 (λ j k. omega arith)
+        ∙ getD-set-other (set (set b 8 state) 9 bits) 15 8 (length name) 0 (omega arith)
+        ∙ getD-set-other (set b 8 state) 9 8 bits 0 (omega arith)
+        ∙ getD-set-same b 8 state 0 (omega arith)
+
+    drafted-bits : getD (drafted b state bits name) 9 0 ≡ bits
+    drafted-bits =
+        name-apart _ 272 name 96 9 (λ j k. omega arith)
+        ∙ getD-set-other (set (set b 8 state) 9 bits) 15 9 (length name) 0 (omega arith)
+        ∙ getD-set-same (set b 8 state) 9 bits 0 (simp length-set (omega arith))
+
+    drafted-server : getD (drafted b state bits name) 15 0 ≡ length name
+    drafted-server =
+        name-apart _ 272 name 96 15 (λ j k. omega arith)
+        ∙ getD-set-same (set (set b 8 state) 9 bits) 15 (length name) 0 (simp length-set (omega arith))
+
+    drafted-name : (j : ℕ) → j < 96 → getD (drafted b state bits name) (272 + j) 0 ≡ getD name j 0
+    drafted-name j h = name-here _ 272 name 96 j (simp length-set (omega arith)) h
+
+    pub renewed-state : getD (renewed b state bits name) 8 0 ≡ state
+    unfolding renewed
+    renewed-state = seal-before _ 8 (omega arith) ∙ drafted-state
+
+    pub renewed-bits : getD (renewed b state bits name) 9 0 ≡ bits
+    unfolding renewed
+    renewed-bits = seal-before _ 9 (omega arith) ∙ drafted-bits
+
+    pub renewed-server : getD (renewed b state bits name) 15 0 ≡ length name
+    unfolding renewed
+    renewed-server = seal-before _ 15 (omega arith) ∙ drafted-server
+
+    pub renewed-name : (j : ℕ) → j < 96 → getD (renewed b state bits name) (272 + j) 0 ≡ getD name j 0
+    unfolding renewed
+    renewed-name j h = seal-before _ (272 + j) (omega arith) ∙ drafted-name j h
+
+-- Blocks that differ at most in what is written anew are alike once they are renewed.
+module _ (b c : List ℕ) (state bits : ℕ) (name : List ℕ) (k : length b ≡ 512) (l : length c ≡ 512)
+    (low : (i : ℕ) → i < 272 → i ≢ 8 → i ≢ 9 → i ≢ 15 → getD b i 0 ≡ getD c i 0) (high : (i : ℕ) → 368 ≤ i → i < 508 → getD b i 0 ≡ getD c i 0) where
+  drafted-alike : (i : ℕ) → i < 508 → getD (drafted b state bits name) i 0 ≡ getD (drafted c state bits name) i 0
+  drafted-alike i h = go (eqb i 8) (eqb i 9) (eqb i 15) (ltb i 272) (ltb i 368) refl refl refl refl refl
+    where
+      go : (u v w x y : Bool) → eqb i 8 ≡ u → eqb i 9 ≡ v → eqb i 15 ≡ w → ltb i 272 ≡ x → ltb i 368 ≡ y
+          → getD (drafted b state bits name) i 0 ≡ getD (drafted c state bits name) i 0
+      go true v w x y a d e f g = rw (eqb-true i 8 a) (drafted-state b state bits name k ∙ sym (drafted-state c state bits name l))
+      go false true w x y a d e f g = rw (eqb-true i 9 d) (drafted-bits b state bits name k ∙ sym (drafted-bits c state bits name l))
+      go false false true x y a d e f g = rw (eqb-true i 15 e) (drafted-server b state bits name k ∙ sym (drafted-server c state bits name l))
+      go false false false true y a d e f g =
+          let m : i < 272 = ltb-true i 272 f in
+          let p : i ≢ 8 = eqb-false i 8 a in
+          let q : i ≢ 9 = eqb-false i 9 d in
+          let r : i ≢ 15 = eqb-false i 15 e in
+          drafted-low b state bits name i m p q r ∙ low i m p q r ∙ sym (drafted-low c state bits name i m p q r)
+      go false false false false true a d e f g =
+          let q : i ≡ 272 + (i - 272) = omega (arith, ltb-false i 272 f) in
+          let m : i - 272 < 96 = omega (arith, ltb-true i 368 g) in
+          rw q (drafted-name b state bits name k (i - 272) m ∙ sym (drafted-name c state bits name l (i - 272) m))
+      go false false false false false a d e f g =
+          let m : 368 ≤ i = ltb-false i 368 g in
+          drafted-high b state bits name i m ∙ high i m h ∙ sym (drafted-high c state bits name i m)
+
+  pub renewed-alike : renewed b state bits name ≡ renewed c state bits name
+  unfolding renewed
+  renewed-alike =
+      seal-alike (drafted b state bits name) (drafted c state bits name) (drafted-length b state bits name ∙ k) (drafted-length c state bits name ∙ l)
+      drafted-alike

@@ -1,0 +1,9 @@
+pub mod Alike
+pub mod Blocks
+pub mod Bytes
+pub mod Effects
+pub mod Sealed
+pub mod Settled
+pub mod Sound
+pub mod Tables
+pub mod Writes

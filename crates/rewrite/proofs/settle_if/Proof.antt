@@ -1,0 +1,13 @@
+use Rattle.rewrite.proofs.Writes.{if-yes, if-no}
+use borrow.Author.Needs.{needs}
+use Rattle.rewrite.proofs.settle_if.Statement.{statement}
+use Rattle.rewrite.proofs.settle_if.Tie as tie
+
+pub settle-if-spec : {M : Type 1} → statement M
+settle-if-spec =
+    tie.close
+    (tie.spec
+    (λ c κs. search needs)
+    (λ c. search needs)
+    (λ c. search (needs, if-yes))
+    (λ c. search (needs, if-no)))
