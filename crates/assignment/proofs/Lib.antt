@@ -1,0 +1,4 @@
+pub mod Looks
+pub mod OwnTurns
+pub mod Planning
+pub mod Surveys

@@ -1,0 +1,125 @@
+-- The turns of the loop that settles a subscription's records: the effect of what is left, on the table as it is now, is the effect of all on the
+-- table as it came.
+use Prim.Native.Nat.{ℕ, zero, suc, _+_, _*_, _<_, _≤_}
+use mathlib.Core.List.{List, [], _∷_, _++_}
+use mathlib.Core.Bool.{Bool, true, false, cond, _&&_, _||_}
+use mathlib.Core.Path.{_≡_, refl, sym, ap, _∙_}
+use mathlib.Core.Logic.{_≢_}
+use native.Mathlib.Omega.{arith}
+use lib.ListN.{length}
+use lib.Dec.{eqb, leb, ltb}
+use borrow.Author.Tests.{eqb-true, eqb-false, ltb-true, ltb-false, le-leb, lt-leb, eq-eqb, ne-eqb}
+use Rattle.table.specs.Blocks.{blockOf}
+use Rattle.rewrite.specs.Effect.{settled, settledAt, settledIn, afterOf}
+use Rattle.rewrite.proofs.Effects.{in-length, in-here, in-other}
+use Rattle.rewrite.proofs.Tables.{after-same, after-none, at-same}
+use Rattle.decisions.specs.Assignment.{isOne, ownedHere, ownedUpTo}
+
+-- a subscription's records not in state 0, from a block on
+unfoldable pub ownedFrom : List ℕ → List ℕ → ℕ → ℕ → Bool
+ownedFrom t user k j = leb k j && ownedHere (blockOf t j) user
+
+one-append : (xs ys : List ℕ) (j : ℕ) → isOne (xs ++ ys) j ≡ (isOne xs j || isOne ys j)
+unfolding isOne
+one-append [] ys j = refl
+one-append (x ∷ xs) ys j = rw (one-append xs ys j) (go (eqb j x))
+  where
+    go : (u : Bool) → (u || (isOne xs j || isOne ys j)) ≡ ((u || isOne xs j) || isOne ys j)
+    go true = refl
+    go false = refl
+
+or-false : (u : Bool) → (u || false) ≡ u
+or-false true = refl
+or-false false = refl
+
+-- Such a record is one of the list that document 01 means.
+owned-one : (t user : List ℕ) (n j : ℕ) → 1 ≤ j → isOne (ownedUpTo t user n) j ≡ (leb j n && ownedHere (blockOf t j) user)
+unfolding ownedUpTo isOne
+owned-one t user zero j h = rw (lt-leb j 0 h)
+owned-one t user (suc n) j h = one-append (ownedUpTo t user n) (cond (ownedHere (blockOf t (suc n)) user) (suc n ∷ []) []) j ∙ rw (owned-one t user n j h) (go (eqb j (suc n)) refl)
+  where
+    last : (u v : Bool) → ownedHere (blockOf t (suc n)) user ≡ u → eqb j (suc n) ≡ v → isOne (cond (ownedHere (blockOf t (suc n)) user) (suc n ∷ []) []) j ≡ (v && u)
+    last true v e f = rw (e, f) (or-false v ∙ both v)
+      where
+        both : (v : Bool) → v ≡ (v && true)
+        both true = refl
+        both false = refl
+    last false true e f = rw e
+    last false false e f = rw e
+
+    go : (v : Bool) → eqb j (suc n) ≡ v
+        → ((leb j n && ownedHere (blockOf t j) user) || isOne (cond (ownedHere (blockOf t (suc n)) user) (suc n ∷ []) []) j) ≡ (leb j (suc n) && ownedHere (blockOf t j) user)
+    go true e =
+        let q : j ≡ suc n = eqb-true j (suc n) e in
+        rw (last (ownedHere (blockOf t (suc n)) user) true refl e, q, lt-leb (suc n) n (omega arith), le-leb (suc n) (suc n) (omega arith))
+    go false e =
+        let q : j ≢ suc n = eqb-false j (suc n) e in
+        rw (last (ownedHere (blockOf t (suc n)) user) false refl e, or-false (leb j n && ownedHere (blockOf t j) user)) (near (ltb n j) refl q)
+      where
+        near : (w : Bool) → ltb n j ≡ w → j ≢ suc n → (leb j n && ownedHere (blockOf t j) user) ≡ (leb j (suc n) && ownedHere (blockOf t j) user)
+        near true f q = let l : n < j = ltb-true n j f in rw (lt-leb j n l, lt-leb j (suc n) (omega arith))
+        near false f q = let l : j ≤ n = ltb-false n j f in rw (le-leb j n l, le-leb j (suc n) (omega arith))
+
+no-zero : (t user : List ℕ) (n : ℕ) → isOne (ownedUpTo t user n) 0 ≡ false
+unfolding ownedUpTo isOne
+no-zero t user zero = refl
+no-zero t user (suc n) = one-append (ownedUpTo t user n) (cond (ownedHere (blockOf t (suc n)) user) (suc n ∷ []) []) 0 ∙ rw (no-zero t user n) (go (ownedHere (blockOf t (suc n)) user))
+  where
+    go : (u : Bool) → isOne (cond u (suc n ∷ []) []) 0 ≡ false
+    go true = rw (ne-eqb 0 (suc n) (λ e. omega arith))
+    go false = refl
+
+pub owned-start : (t : List ℕ) (count : ℕ) (user : List ℕ) (state : ℕ) (name : List ℕ)
+    → afterOf t count (ownedFrom t user 1) state name ≡ afterOf t count (isOne (ownedUpTo t user count)) state name
+unfolding ownedFrom
+owned-start t count user state name =
+    after-same t t count (ownedFrom t user 1) (isOne (ownedUpTo t user count)) state name (λ j l. at-same t t (ownedFrom t user 1) (isOne (ownedUpTo t user count)) state name j refl (each j l))
+  where
+    each : (j : ℕ) → j ≤ count → ownedFrom t user 1 j ≡ isOne (ownedUpTo t user count) j
+    each zero l = rw (no-zero t user count)
+    each (suc j) l = rw (owned-one t user count (suc j) (omega arith), le-leb (suc j) count l, le-leb 1 (suc j) (omega arith))
+
+-- Block k is looked at.
+module _ (x : List ℕ) (count : ℕ) (user : List ℕ) (state : ℕ) (name : List ℕ) (k : ℕ) (size : length x ≡ 512 * (count + 1)) (last : k ≤ count) where
+  later : (j : ℕ) → j ≢ k → leb (k + 1) j ≡ leb k j
+  later j h = go (ltb j k) refl
+    where
+      go : (u : Bool) → ltb j k ≡ u → leb (k + 1) j ≡ leb k j
+      go true e = let l : j < k = ltb-true j k e in rw (lt-leb (k + 1) j (omega arith), lt-leb k j l)
+      go false e = let l : k ≤ j = ltb-false j k e in rw (le-leb (k + 1) j (omega arith), le-leb k j l)
+
+  turn : (u : Bool) → ownedHere (blockOf x k) user ≡ u → (y : List ℕ) → y ≡ cond u (settledIn x k state name) x → (j : ℕ) → j ≤ count
+      → settledAt y (ownedFrom y user (k + 1)) state name j ≡ settledAt x (ownedFrom x user k) state name j
+  unfolding settledAt ownedFrom
+  turn u e y f j l = go (eqb j k) refl
+    where
+      here : (v : Bool) → u ≡ v → blockOf y k ≡ cond v (settled (blockOf x k) state name) (blockOf x k)
+      here true g = rw (f, g) (in-here x k state name (omega arith))
+      here false g = rw (f, g)
+
+      there : (v : Bool) → u ≡ v → j ≢ k → blockOf y j ≡ blockOf x j
+      there true g n = rw (f, g) (in-other x k state name (omega arith) j n (omega arith))
+      there false g n = rw (f, g)
+
+      go : (v : Bool) → eqb j k ≡ v → settledAt y (ownedFrom y user (k + 1)) state name j ≡ settledAt x (ownedFrom x user k) state name j
+      go true g = let q : j ≡ k = eqb-true j k g in rw (q, lt-leb (k + 1) k (omega arith), le-leb k k (omega arith), e) (here u refl)
+      go false g = let n : j ≢ k = eqb-false j k g in rw (there u refl n, later j n)
+
+  module _ {b y whole : List ℕ} {u : Bool} (left : afterOf x count (ownedFrom x user k) state name ≡ whole) (at : b ≡ blockOf x k) (is : u ≡ ownedHere b user)
+      (put : y ≡ cond u (settledIn x k state name) x) where
+    pub owned-turn : afterOf y count (ownedFrom y user (k + 1)) state name ≡ whole
+    owned-turn =
+        let e : ownedHere (blockOf x k) user ≡ u = cc in
+        after-same y x count (ownedFrom y user (k + 1)) (ownedFrom x user k) state name (turn u e y put) ∙ left
+
+    pub owned-size : length y ≡ 512 * (count + 1)
+    owned-size = go u refl
+      where
+        go : (v : Bool) → u ≡ v → length y ≡ 512 * (count + 1)
+        go true g = rw (put, g) (in-length x k state name (omega arith) ∙ size)
+        go false g = rw (put, g) size
+
+pub owned-end : (x : List ℕ) (count : ℕ) (user : List ℕ) (state : ℕ) (name : List ℕ) (k : ℕ) {whole : List ℕ} → length x ≡ 512 * (count + 1) → count < k
+    → afterOf x count (ownedFrom x user k) state name ≡ whole → x ≡ whole
+unfolding ownedFrom
+owned-end x count user state name k size h e = after-none x count (ownedFrom x user k) state name size (λ j l. rw (lt-leb k j (omega arith))) ∙ e

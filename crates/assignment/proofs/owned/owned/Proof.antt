@@ -1,0 +1,13 @@
+use Rattle.assignment.proofs.Looks.{owned-all}
+use borrow.Author.Needs.{needs}
+use Rattle.assignment.proofs.owned.owned.Statement.{statement}
+use Rattle.assignment.proofs.owned.owned.Tie as tie
+
+pub owned-spec : {M : Type 1} → statement M
+owned-spec =
+    tie.close
+    (tie.spec
+    (λ c. search needs)
+    (λ c κs. search needs)
+    (λ c κs. search needs)
+    (λ c. search (needs, owned-all)))

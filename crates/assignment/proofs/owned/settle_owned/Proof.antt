@@ -1,0 +1,31 @@
+use Prim.Native.Nat.{_+_, _-_, _*_, _≤_}
+use mathlib.Core.Path.{_≡_}
+use lib.ListN.{length}
+use Rattle.rewrite.specs.Effect.{afterOf}
+use Rattle.decisions.specs.Assignment.{isOne, ownedUpTo}
+use Rattle.assignment.proofs.OwnTurns.{ownedFrom, owned-start, owned-turn, owned-size, owned-end}
+use borrow.Author.Needs.{needs}
+use Rattle.assignment.proofs.owned.settle_owned.Statement.{statement}
+use Rattle.assignment.proofs.owned.settle_owned.Tie as tie
+
+abbrev Inv-loop : tie.InvT-loop
+Inv-loop t₀ count user state server k₀ t k = (1 ≤ k) × (k ≤ count + 1) × (length t ≡ 512 * (count + 1)) × (afterOf t count (ownedFrom t user k) state server ≡ afterOf t₀ count (isOne (ownedUpTo t₀ user count)) state server)
+
+abbrev μ-loop : tie.MeasureT-loop
+μ-loop t₀ count user state server k₀ t k = count + 1 - k
+
+pub settle-owned-spec : {M : Type 1} → statement M
+settle-owned-spec =
+    tie.close
+    (tie.spec
+    Inv-loop
+    μ-loop
+    (λ c. search (needs, owned-start))
+    (λ c κs. search needs)
+    (λ c κs. search needs)
+    (λ c κs. search needs)
+    (λ c. search needs)
+    (λ c. search needs)
+    (λ c. (search needs, search needs, search (needs, owned-size), search (needs, owned-turn)))
+    (λ c. search needs)
+    (λ c. search (needs, owned-end)))
