@@ -1,10 +1,11 @@
-# What stands around the proved crates: the C examples, the tests, the benchmark. All that is made lies under target/
-# (and reference/target/). The library's archive is x86-64 code on every machine; where the machine is another, C is
-# cross-compiled against it and run by the kit's emulator.
+# What stands around the proved crates: the C examples, the tests, the benchmarks, the installation. All that is made
+# lies under target/ (and reference/target/). The library's archive is x86-64 code on every machine; where the machine
+# is another, C is cross-compiled against it and run by the kit's emulator.
 SHELL := /bin/bash
 .SHELLFLAGS := -euo pipefail -c
 .DELETE_ON_ERROR:
-.PHONY: run test bench clean fmt examples tables reference differential
+.PHONY: run test clean fmt examples tables reference installs bench stack install uninstall
+.PHONY: differential soak mutants stats definitions-check
 
 MACHINE := $(shell uname -m)
 ifeq ($(MACHINE),x86_64)
@@ -20,12 +21,14 @@ endif
 STRICT := -O2 -Wall -Wextra -pedantic -Werror -Iinclude
 ARCHIVE := target/staticlib/libndushavire.a
 HEADER := include/ndushavire.h
+BINARY := reference/target/release/reference
 PROVED := crates.txt $(shell find crates -name '*.rt' -o -name '*.antt' -o -type d)
 REFERENCE := $(shell find reference -path reference/target -prune -o -name '*.rs' -print -o -name 'Cargo.*' -print)
 
 # ndushavire_decide is not there yet: what calls it is built as soon as the crate exports it.
 ifneq ($(shell grep -ls 'fn ndushavire_decide' crates/ndushavire/src/*.rt),)
 DECIDE := decide
+DECIDES := -DNDUSHAVIRE_DECIDE
 endif
 
 run: target/c/maketable $(addprefix target/c99/,check $(DECIDE))
@@ -36,14 +39,15 @@ ifdef DECIDE
 	$(RUN) target/c99/decide target/run/table target/run/profile examples/no-avps.hex
 endif
 
-test: fmt examples tables reference differential
+test: fmt examples tables reference installs differential
 
 fmt:
 	rt fmt --check
 
-examples: $(foreach mode,c99 cxx,$(addprefix target/$(mode)/,check $(DECIDE))) target/c/maketable
+examples: $(foreach mode,c99 cxx,$(addprefix target/$(mode)/,check $(DECIDE))) target/c/maketable $(BINARY)
 ifdef DECIDE
 	tests/decide.sh target/test/decide target/c/maketable target/c99/decide target/cxx/decide
+	tests/captured.sh target/test/captured target/c/maketable $(BINARY) target/c99/decide target/cxx/decide
 endif
 
 tables: examples
@@ -52,19 +56,57 @@ tables: examples
 reference:
 	cd reference && cargo test --offline --quiet
 
-# A new seed each time; SEED=N on the command line runs one again.
+# Installs into a folder of its own and builds an example from there, as a new user would.
+installs: $(ARCHIVE) target/c/maketable
+	tests/installs.sh target/test/installs target/c/maketable $(X86_CC)
+
+# ---- the library beside the independent program, on new cases each time; SEED=N on the command line runs a seed again
 ifndef SEED
 SEED := $(shell od -An -N4 -tu4 /dev/urandom | tr -d ' ')
 endif
-COUNT := 200000
-differential: target/c99/driver reference/target/release/reference
-	@echo "differential run: seed $(SEED), $(COUNT) tables"
-	reference/target/release/reference compare --kind tables --seed $(SEED) --count $(COUNT) -- $(RUN) target/c99/driver
+DRIVER := $(RUN) target/c99/driver
+KINDS := tables $(if $(DECIDE),calls demand3)
+COUNT_tables := 200000
+COUNT_calls := 100000
+COUNT_demand3 := 20000
+
+differential: target/c99/driver $(BINARY)
+	@for of in $(foreach kind,$(KINDS),$(kind):$(COUNT_$(kind))); do \
+	    echo "differential run: seed $(SEED), $${of#*:} $${of%:*}"; \
+	    $(BINARY) compare --kind $${of%:*} --seed $(SEED) --count $${of#*:} -- $(DRIVER); \
+	done
+
+# 5,000,000 tables and as many calls. Each round has the next seed: with SEED=N ROUNDS=M a run that was stopped goes on.
+ROUNDS := 50
+COUNT_round := 100000
+soak: target/c99/driver $(BINARY)
+	@for ((round = 0; round < $(ROUNDS); round++)); do \
+	    echo "soak: SEED=$$(($(SEED) + round)) ROUNDS=$$(($(ROUNDS) - round))"; \
+	    for kind in tables $(if $(DECIDE),calls); do \
+	        $(BINARY) compare --kind $$kind --seed $$(($(SEED) + round)) --count $(COUNT_round) -- $(DRIVER); \
+	    done; \
+	done
+
+# After how many cases each deliberate fault of the independent program shows; what the cases are made of.
+COUNT_mutants := 100000
+mutants: $(BINARY)
+	@echo "mutants: seed $(SEED)"
+	$(BINARY) mutants --seed $(SEED) --count $(COUNT_mutants)
+
+stats: $(BINARY)
+	@echo "stats: seed $(SEED)"
+	$(BINARY) stats --kind tables --seed $(SEED) --count $(COUNT_tables)
+	$(BINARY) stats --kind calls --seed $(SEED) --count $(COUNT_calls)
+
+# The definitions beside the independent program: antt computes each case, which takes seconds; 24 make a quick trial.
+COUNT_DEFINITIONS := 300
+definitions-check: $(BINARY)
+	RT_JOBS=2 tests/definitions.py $(BINARY) $(SEED) $(COUNT_DEFINITIONS)
 
 $(ARCHIVE): $(PROVED)
 	rt staticlib ndushavire
 
-reference/target/release/reference: $(REFERENCE)
+$(BINARY): $(REFERENCE)
 	cd reference && cargo build --offline --release --quiet
 	touch $@
 
@@ -74,7 +116,7 @@ target/c/maketable: examples/maketable.c examples/load.h
 
 target/c99/driver: tests/driver.c $(HEADER) $(ARCHIVE)
 	mkdir -p $(@D)
-	$(X86_CC) -std=c99 $(STRICT) $(if $(DECIDE),-DNDUSHAVIRE_DECIDE) -o $@ $< $(ARCHIVE)
+	$(X86_CC) -std=c99 $(STRICT) $(DECIDES) -o $@ $< $(ARCHIVE)
 
 target/c99/%: examples/%.c examples/load.h $(HEADER) $(ARCHIVE)
 	mkdir -p $(@D)
@@ -84,7 +126,7 @@ target/cxx/%: examples/%.c examples/load.h $(HEADER) $(ARCHIVE)
 	mkdir -p $(@D)
 	$(X86_CXX) $(STRICT) -o $@ -x c++ $< -x none $(ARCHIVE)
 
-# ---- the benchmark, native on every machine
+# ---- the benchmarks, native on every machine
 ifeq ($(MACHINE),x86_64)
 TUNE := -march=native
 TIMED := $(ARCHIVE)
@@ -92,30 +134,77 @@ else
 TUNE := -mcpu=native
 TIMED := target/native/libndushavire.a
 endif
-SIZES := 16-short 300-short 4096-short 4096-long
+CHECKED := 1-short 16-short 300-short 4096-short 4096-long
+DECIDED := 1-short 16-short 300-short 4096-short 1-tiny 16-tiny 300-tiny 4096-tiny
+# A program's arguments: each table, its profile file and how its names are.
+samples = $(foreach size,$(1),target/bench/$(size).table target/bench/$(size).profile $(word 2,$(subst -, ,$(size))))
 
-bench: target/bench/bench $(SIZES:%=target/bench/%.table)
+bench: $(addprefix target/bench/,check $(DECIDE)) $(patsubst %,target/bench/%.table,$(sort $(CHECKED) $(DECIDED)))
 	$(CC) --version | head -n 1
-	target/bench/bench $(foreach size,$(SIZES),target/bench/$(size).table target/bench/$(size).profile $(word 2,$(subst -, ,$(size))))
+	target/bench/check $(call samples,$(CHECKED))
+ifdef DECIDE
+	target/bench/decide $(call samples,$(DECIDED))
+endif
+
+# How much stack the calls of the archive take.
+stack: target/c99/stack $(DECIDED:%=target/bench/%.table)
+	$(RUN) target/c99/stack $(call samples,16-short 4096-short 4096-tiny)
 
 target/native/libndushavire.a: bench/native-lib $(PROVED)
 	bench/native-lib ndushavire
 
-target/bench/bench: bench/bench.c bench/sum.c examples/load.h $(HEADER) $(TIMED) target/bench/libreference_check.a
+target/bench/check: bench/check.c bench/sum.c bench/timing.h examples/load.h $(HEADER) $(TIMED) target/bench/libreference_c.a
 	$(CC) -O3 -DSUM=sum_plain -c -o target/bench/sum-plain.o bench/sum.c
 	$(CC) -O3 $(TUNE) -DSUM=sum_native -c -o target/bench/sum-native.o bench/sum.c
-	$(CC) -std=c99 $(STRICT) -o $@ bench/bench.c target/bench/sum-plain.o target/bench/sum-native.o $(TIMED) \
-	    target/bench/libreference_check.a -lpthread -ldl -lm
+	$(CC) -std=c99 $(STRICT) -o $@ bench/check.c target/bench/sum-plain.o target/bench/sum-native.o $(TIMED) \
+	    target/bench/libreference_c.a -lpthread -ldl -lm
 
-target/bench/libreference_check.a: bench/reference.rs reference/target/release/reference
+target/bench/decide: bench/decide.c bench/requests.h bench/timing.h examples/load.h $(HEADER) $(TIMED) target/bench/libreference_c.a
+	$(CC) -std=c99 $(STRICT) -o $@ bench/decide.c $(TIMED) target/bench/libreference_c.a -lpthread -ldl -lm
+
+target/c99/stack: bench/stack.c bench/requests.h examples/load.h $(HEADER) $(ARCHIVE)
 	mkdir -p $(@D)
-	rustc --edition 2021 -C opt-level=3 -C panic=abort --crate-type staticlib --crate-name reference_check \
+	$(X86_CC) -std=c99 $(STRICT) $(DECIDES) -o $@ $< $(ARCHIVE)
+
+target/bench/libreference_c.a: bench/reference.rs $(BINARY)
+	mkdir -p $(@D)
+	rustc --edition 2021 -C opt-level=3 -C panic=abort --crate-type staticlib --crate-name reference_c \
 	    --extern reference=reference/target/release/libreference.rlib -L dependency=reference/target/release/deps -o $@ $<
 
 target/bench/%.table: bench/households.sh target/c/maketable
 	mkdir -p $(@D)
 	bench/households.sh $(subst -, ,$*) >target/bench/$*.txt
 	target/c/maketable target/bench/$*.txt $@ target/bench/$*.profile
+
+# ---- the installation, under PREFIX and below DESTDIR if that is set
+VERSION := 0.1.0
+PREFIX ?= /usr/local
+DESTDIR ?=
+ROOT = $(DESTDIR)$(PREFIX)
+PAGES := man1/answer.1 man1/tablecheck.1 man3/ndushavire.3
+# Programs are x86-64 code, and there once `rt check` has proved and linked them.
+PROGRAMS := $(if $(filter x86_64,$(MACHINE)),$(wildcard target/bin/answer target/bin/tablecheck))
+DOCS := README.md $(wildcard docs/*.md)
+
+install: $(ARCHIVE)
+	install -d '$(ROOT)/lib/pkgconfig' '$(ROOT)/include' '$(ROOT)/share/doc/ndushavire' '$(ROOT)/share/man/man1' '$(ROOT)/share/man/man3'
+	install -m 644 $(ARCHIVE) '$(ROOT)/lib/'
+	install -m 644 $(HEADER) '$(ROOT)/include/'
+	sed 's|@PREFIX@|$(PREFIX)|; s|@VERSION@|$(VERSION)|' packaging/ndushavire.pc.in >'$(ROOT)/lib/pkgconfig/ndushavire.pc'
+	chmod 644 '$(ROOT)/lib/pkgconfig/ndushavire.pc'
+	for page in $(PAGES); do install -m 644 "man/$${page#*/}" "$(ROOT)/share/man/$$page"; done
+	for name in check decide; do ln -sf ndushavire.3 "$(ROOT)/share/man/man3/ndushavire_$$name.3"; done
+	install -m 644 $(DOCS) '$(ROOT)/share/doc/ndushavire/'
+ifneq ($(PROGRAMS),)
+	install -d '$(ROOT)/bin'
+	install -m 755 $(PROGRAMS) '$(ROOT)/bin/'
+endif
+
+uninstall:
+	rm -f '$(ROOT)/lib/libndushavire.a' '$(ROOT)/include/ndushavire.h' '$(ROOT)/lib/pkgconfig/ndushavire.pc'
+	rm -f '$(ROOT)/bin/answer' '$(ROOT)/bin/tablecheck'
+	rm -f $(PAGES:%='$(ROOT)/share/man/%') '$(ROOT)/share/man/man3/ndushavire_check.3' '$(ROOT)/share/man/man3/ndushavire_decide.3'
+	rm -rf '$(ROOT)/share/doc/ndushavire'
 
 clean:
 	rm -rf target reference/target

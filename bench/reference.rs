@@ -1,11 +1,33 @@
-//! The reference's table check for C to call, so that one program times all.
+//! The reference's table check and decision for C to call, so that one program times all.
+
+use reference::slip::Slip;
+use std::slice::{from_raw_parts, from_raw_parts_mut};
 
 /// # Safety
 /// `table` is `table_len` bytes.
 #[no_mangle]
 pub unsafe extern "C" fn reference_check(table: *const u8, table_len: usize, profile_len: usize) -> u64 {
-    match reference::table::check(std::slice::from_raw_parts(table, table_len), profile_len) {
+    match reference::table::check(from_raw_parts(table, table_len), profile_len) {
         Ok(count) => u64::from(count),
         Err(block) => 5 << 48 | u64::from(block),
     }
+}
+
+/// # Safety
+/// Each pointer is as many bytes as its length says; those of `table` and `answer` may be written.
+#[no_mangle]
+pub unsafe extern "C" fn reference_serve(
+    request: *const u8,
+    request_len: usize,
+    table: *mut u8,
+    table_len: usize,
+    profile: *const u8,
+    profile_len: usize,
+    answer: *mut u8,
+    answer_len: usize,
+) -> u64 {
+    let request = from_raw_parts(request, request_len);
+    let table = from_raw_parts_mut(table, table_len);
+    let profile = from_raw_parts(profile, profile_len);
+    reference::serve::serve(request, table, profile, from_raw_parts_mut(answer, answer_len), Slip::NONE).0
 }

@@ -1,134 +1,225 @@
 #!/usr/bin/env python3
-"""Do the definitions say what the independent program says? Takes generated calls with the outcomes that the independent program
-gives them, picks some of every refusal, result and assignment type, and writes them as a crate whose one statement antt computes.
+"""definitions.py REFERENCE SEED COUNT: do the definitions say what the independent program says?
 
-definitions.py CASES OUTCOMES FOLDER COUNT: the two streams (reference/README.md has their form), the crate's folder, how many cases.
+Takes calls that the independent program made and its outcomes of them, picks COUNT that show every refusal, every result
+and every assignment type, and writes them as a crate with one statement, which antt computes from the definitions alone.
+The crate stands in a folder outside the repository, beside copies of the crates that crates/worked stands on. What the
+cases open is read from crates/worked/proofs/Examples.antt, so that there is one list of it.
 """
-import os, struct, sys
+import collections, itertools, os, re, shutil, struct, subprocess, sys, tempfile
 
-MOST_TABLE, MOST_REQUEST, PER_FILE = 512 * 4, 900, 12
+GENERATED = 40000  # of which the small ones are about a quarter
+IN_A_PART = 12
+# Longer ones take antt minutes and show nothing that short ones do not; a request that is refused 2 may be long.
+MOST_REQUEST, MOST_TABLE, MOST_PROFILE = 900, 4 * 512, 1200
 
+BASE = '2001 3001 3007 3008 3009 5001 5003 5004 5005 5009 5011 5012 5014'
+EXPERIMENTAL = '2001 2002 2003 2004 5001 5002 5003 5004 5005 5007'
+WANTED = {'refused %d' % n for n in range(1, 6)} | {'B' + n for n in BASE.split()} | {'X' + n for n in EXPERIMENTAL.split()} | {
+    'type %d done' % n for n in range(12)}
 
-NOISE = bytes(((n * 2654435761) & 0xFFFFFFFF) >> 24 for n in range(1 << 17))
+# What a buffer holds before the call, from any of its first 256 bytes on.
+NOISE = bytes(((n * 2654435761) & 0xFFFFFFFF) >> 24 for n in range(256 + 36864))
 
-
-def take(f, n):
-    b = f.read(n)
-    return b if len(b) == n else None
-
-
-def streams(cases, outcomes):
-    while True:
-        head = take(cases, 20)
-        if head is None:
-            return
-        entry, fill, _, nr, nt, np, nb = struct.unpack('<BBHIIII', head)
-        req, table, profile = take(cases, nr), take(cases, nt), take(cases, np)
-        word, _ = struct.unpack('<QI', take(outcomes, 12))
-        at, n = struct.unpack('<II', take(outcomes, 8))
-        changed = (at, take(outcomes, n))
-        at, n = struct.unpack('<II', take(outcomes, 8))
-        written = take(outcomes, n)
-        if entry == 2:
-            yield req, table, profile, nb, fill, word, changed, (at, written)
+Case = collections.namedtuple('Case', 'request table profile room word at changed answer')
 
 
-def answer(case):
-    """The answer's bytes: what was written over the buffer's pattern, as long as the word says."""
-    _, _, _, _, fill, word, _, (at, written) = case
-    b = bytearray(NOISE[fill:fill + word])
-    b[at:at + len(written)] = written
-    return bytes(b[:word])
+def read(cases, outcomes):
+    """The two streams, in the form that reference/README.md gives them."""
+    while head := cases.read(20):
+        _, fill, _, *lengths, room = struct.unpack('<BBHIIII', head)
+        request, table, profile = [cases.read(length) for length in lengths]
+        word, _, at, length = struct.unpack('<QIII', outcomes.read(20))
+        changed = outcomes.read(length)
+        start, length = struct.unpack('<II', outcomes.read(8))
+        answer = bytearray(NOISE[fill:fill + (0 if word >> 48 else word)])
+        answer[start:start + length] = outcomes.read(length)
+        yield Case(request, table, profile, room, word, at, changed, bytes(answer))
 
 
-def avps(b, at):
-    while at + 8 <= len(b):
-        code, n = int.from_bytes(b[at:at + 4], 'big'), int.from_bytes(b[at + 5:at + 8], 'big')
-        if n < 8:
-            return
-        yield code, b[at:at + n]
-        at += (n + 3) // 4 * 4
+def small(case):
+    long = len(case.request) > MOST_REQUEST and case.word >> 48 != 2
+    return not long and len(case.table) <= MOST_TABLE and len(case.profile) <= MOST_PROFILE
 
 
-def key(case):
-    """What a case shows: the refusal; or the command, the result, its Failed-AVP and the assignment type."""
-    req, word = case[0], case[5]
-    if word >> 48:
-        return 'refused', word >> 48
-    found = {code: a for code, a in avps(answer(case), 20)}
-    result = ('B', int.from_bytes(found[268][8:12], 'big')) if 268 in found else ('X', int.from_bytes(found[297][28:32], 'big'))
-    command = int.from_bytes(req[5:8], 'big')
-    kind = [a[-1] for code, a in avps(req, 20) if code == 614 and len(a) == 16] if command == 301 else []
-    return command if command in (300, 301, 302) else 0, result, 279 in found, 606 in found, tuple(kind[:1]), bool(case[6][1])
-
-
-def bytes_of(b):
-    """A list, with runs as `replicate`."""
-    parts, i, plain = [], 0, []
-    while i < len(b):
-        j = i
-        while j < len(b) and b[j] == b[i]:
-            j += 1
-        if j - i >= 12:
-            if plain:
-                parts.append('(' + ' ∷ '.join(map(str, plain)) + ' ∷ [])')
-            plain = []
-            parts.append('replicate %d %d' % (j - i, b[i]))
+def avps(message):
+    """Kind and data of each AVP of a sound message; with V the kind is a pair, since a code alone tells nothing."""
+    at = 20
+    while at < len(message):
+        code, word = struct.unpack('>II', message[at:at + 8])
+        end = at + (word & 0xFFFFFF)
+        if word >> 31:
+            yield (int.from_bytes(message[at + 8:at + 12], 'big'), code), message[at + 12:end]
         else:
-            plain += b[i:j]
-        i = j
-    if plain or not parts:
-        parts.append('(' + ' ∷ '.join(map(str, plain)) + ' ∷ [])' if plain else '[]')
-    return '(' + ' ++ ('.join(parts) + ')' * len(parts)
+            yield code, message[at + 8:end]
+        at = (end + 3) // 4 * 4
 
 
-def wrap(s, width=200):
-    out, line = [], ''
-    for w in s.split(' '):
-        if len(line) + len(w) > width:
-            out.append(line)
-            line = '       '
-        line += (' ' if line else '') + w
-    return '\n'.join(out + [line])
+def shows(case):
+    """Of WANTED; and its kind, which has the command, the answer's AVPs and whether a record changed besides."""
+    if case.word >> 48:
+        shown = {'refused %d' % (case.word >> 48)}
+        return shown, frozenset(shown)
+    found = dict(avps(case.answer))
+    result = 'B%d' % struct.unpack('>I', found[268]) if 268 in found else 'X%d' % struct.unpack('>I', found[297][20:24])
+    command = int.from_bytes(case.request[5:8], 'big')
+    shown = {result}
+    if command == 301 and (result[0] == 'X' or result in ('B2001', 'B5012')):  # decided, so all AVPs are sound
+        done = 'done' if result in ('B2001', 'X2004') else result
+        shown.add('type %d %s' % (dict(avps(case.request))[10415, 614][3], done))
+    missing = found[279][:4] if result == 'B5005' else None
+    return shown, (frozenset(shown), min(command, 303), missing, frozenset(found), case.changed == b'')
 
 
-def text(case, n):
-    req, table, profile, room, _, word, (at, changed), _ = case
-    after = 'table%d' % n if not changed else 'take %d table%d ++ (%s ++ drop %d table%d)' % (at, n, bytes_of(changed), at + len(changed), n)
-    got = b'' if word >> 48 else answer(case)
-    return '\n'.join([
-        'table%d : List ℕ' % n, wrap('table%d = %s' % (n, bytes_of(table))), '',
-        'case%d : serve %s' % (n, wrap(bytes_of(req))), '    table%d' % n, '    %s' % wrap(bytes_of(profile)), '    (replicate %d 0)' % room,
-        '    ≡ record { word = %d; table = %s; buffer = over %s (replicate %d 0) }' % (word, wrap(after), wrap(bytes_of(got)), room),
-        'unfolding opened table%d' % n, 'case%d = refl' % n, ''])
+def pick(cases, count):
+    """First what shows something new of WANTED, then what is of a new kind, then the others as they come."""
+    kept, seen, kinds = {}, set(), set()
+    for new in (lambda shown, kind: shown & WANTED - seen, lambda shown, kind: kind not in kinds, lambda shown, kind: True):
+        for number, case in enumerate(cases):
+            shown, kind = shows(case)
+            if len(kept) < count and number not in kept and new(shown, kind):
+                kept[number] = case
+                seen |= shown
+                kinds.add(kind)
+    return list(kept.values()), WANTED - seen, len(kinds)
+
+
+def listed(some):
+    """A list of bytes, long runs by `replicate`."""
+    text = '[]'
+    for byte, run in reversed([(byte, len(list(run))) for byte, run in itertools.groupby(some)]):
+        text = '(replicate %d %d ++ (%s))' % (run, byte, text) if run > 11 else '%d ∷ ' % byte * run + text
+    return '(%s)' % text
+
+
+def record(case):
+    fields = [(name, value if isinstance(value, int) else listed(value)) for name, value in case._asdict().items()]
+    return 'record { %s }' % ';\n        '.join('%s = %s' % field for field in fields)
+
+
+def opened():
+    """The `use` lines of the worked examples, and those of the names that they open which these lines bring."""
+    text = open('crates/worked/proofs/Examples.antt').read()
+    uses = re.findall(r'^use .*', text, re.MULTILINE)
+    brought = set(re.findall(r'[^\s{},]+', ' '.join(use[use.index('{'):] for use in uses)))
+    names = re.search(r'^opened : ℕ\nunfolding (.*?)^opened = ', text, re.MULTILINE | re.DOTALL).group(1).split()
+    return uses, [name for name in names if name in brought]
+
+
+CASES = '''%s
+
+-- all that the cases open
+unfoldable pub opened : ℕ
+unfolding %s
+opened = 0
+
+-- A call with a buffer of zeros: its word, what changed in the table and where, the answer.
+pub record Case : Type 0 where
+  pub request : List ℕ
+  pub table : List ℕ
+  pub profile : List ℕ
+  pub room : ℕ
+  pub word : ℕ
+  pub at : ℕ
+  pub changed : List ℕ
+  pub answer : List ℕ
+
+abbrev pub Agrees : Case → Type 0
+Agrees c =
+    serve (c .request) (c .table) (c .profile) (replicate (c .room) 0)
+    ≡ record { word = c .word; table = sets (c .table) (c .at) (c .changed); buffer = over (c .answer) (replicate (c .room) 0) }
+
+abbrev pub Agree : List Case → Type 0
+Agree [] = Unit
+Agree (c ∷ cs) = Agrees c × Agree cs
+'''
+PART = '''use mathlib.Core.Path.{refl}
+use mathlib.Core.List.{List, [], _∷_, _++_}
+use lib.ListN.{replicate}
+use Rattle.cases.proofs.Cases.{Case, Agrees, opened}
+'''
+# A declaration for each case, since antt counts the steps of each.
+CASE = '''
+abbrev pub case%(n)d : Case
+case%(n)d = %(record)s
+
+pub agrees%(n)d : Agrees case%(n)d
+unfolding opened
+agrees%(n)d = refl
+'''
+ALL = '''use mathlib.Core.List.{List, [], _∷_}
+use Rattle.cases.proofs.Cases.{Case, Agree}
+%(uses)s
+
+abbrev cases : List Case
+cases = %(cases)s[]
+
+-- the definitions and the independent program agree in every case
+agree : Agree cases
+agree = %(proof)stt%(end)s
+'''
+
+
+def modules(cases):
+    uses, names = opened()
+    yield 'Cases', CASES % ('\n'.join(uses), ' '.join(names))
+    numbers, uses = range(len(cases)), []
+    for part in range(0, len(cases), IN_A_PART):
+        some = numbers[part:part + IN_A_PART]
+        yield 'Part%d' % part, PART + ''.join(CASE % {'n': n, 'record': record(cases[n])} for n in some)
+        uses.append('use Rattle.cases.proofs.Part%d.{%s}' % (part, ', '.join('case%d, agrees%d' % (n, n) for n in some)))
+    yield 'All', ALL % {'uses': '\n'.join(uses), 'cases': ''.join('case%d ∷ ' % n for n in numbers),
+                        'proof': ''.join('(agrees%d, ' % n for n in numbers), 'end': ')' * len(cases)}
+
+
+def write(folder, cases):
+    for part in ('src', 'specs', 'proofs'):
+        os.makedirs('%s/%s' % (folder, part))
+    texts = dict(modules(cases))
+    lib = ''.join('pub mod %s\n' % name for name in texts)
+    for name, text in [('src/lib.rt', '// Generated cases.\n'), ('specs/Lib.antt', ''), ('proofs/Lib.antt', lib)] + [
+            ('proofs/%s.antt' % name, text) for name, text in texts.items()]:
+        open('%s/%s' % (folder, name), 'w').write(text)
+
+
+def copy(folder):
+    """What crates/worked stands on, as far as it is proved, and `cases` in the place of `worked`."""
+    lines = dict(re.findall(r'^(\w+):(.*)', open('crates.txt').read(), re.MULTILINE))
+    below = set(lines['worked'].split())
+    while more := {dep for name in below for dep in lines[name].split()} - below:
+        below |= more
+    with open(folder + '/crates.txt', 'w') as text:
+        text.writelines('%s:%s\n' % (name, lines[name]) for name in below)
+        text.write('cases:%s\n' % lines['worked'])
+    for part in ['crates/' + name for name in below] + ['target/rlib', 'target/stamp']:
+        if os.path.isdir(part):
+            shutil.copytree(part, '%s/%s' % (folder, part), symlinks=True)
 
 
 def main():
-    cases, outcomes, folder, count = open(sys.argv[1], 'rb'), open(sys.argv[2], 'rb'), sys.argv[3], int(sys.argv[4])
-    kept, seen = [], {}
-    for case in streams(cases, outcomes):
-        if len(case[1]) > MOST_TABLE or len(case[0]) > MOST_REQUEST and case[5] >> 48 != 2 or len(case[0]) > 17000:
-            continue
-        k = key(case)
-        seen.setdefault(k, []).append(case)
-    depth = 0
-    while len(kept) < count and any(len(v) > depth for v in seen.values()):
-        kept += [v[depth] for k, v in sorted(seen.items(), key=repr) if len(v) > depth]
-        depth += 1
-    kept = kept[:max(count, len(seen))]
-    if len(kept) < count:
-        sys.exit('definitions.py: only %d cases; generate more' % len(kept))
-    head = open(os.path.join(os.path.dirname(__file__), 'definitions.head')).read()
-    os.makedirs(folder + '/proofs', exist_ok=True)
-    os.makedirs(folder + '/src', exist_ok=True)
-    open(folder + '/src/lib.rt', 'w').write('// Generated cases.\n')
-    names = []
-    for i in range(0, len(kept), PER_FILE):
-        names.append('Part%02d' % (i // PER_FILE))
-        with open('%s/proofs/%s.antt' % (folder, names[-1]), 'w') as f:
-            f.write(head + '\n' + '\n'.join(text(c, i + j) for j, c in enumerate(kept[i:i + PER_FILE])))
-    open(folder + '/proofs/Lib.antt', 'w').write(''.join('pub mod %s\n' % n for n in names))
-    print('%d cases, %d kinds of outcome' % (len(kept), len(seen)))
+    reference, seed, count = sys.argv[1], sys.argv[2], int(sys.argv[3])
+    with tempfile.TemporaryDirectory() as folder:
+        with open(folder + '/made', 'w+b') as made, open(folder + '/outcomes', 'w+b') as outcomes:
+            subprocess.run([reference, 'gen', '--kind', 'calls', '--seed', seed, '--count', str(GENERATED)], stdout=made, check=True)
+            made.seek(0)
+            subprocess.run([reference, 'outcomes'], stdin=made, stdout=outcomes, check=True)
+            made.seek(0)
+            outcomes.seek(0)
+            cases, missing, kinds = pick([case for case in read(made, outcomes) if small(case)], count)
+        print('definitions: seed %s, %d cases of %d kinds' % (seed, len(cases), kinds), flush=True)
+        if count < len(WANTED):
+            print('too few to show every refusal, result and assignment type: a trial', flush=True)
+        elif len(cases) < count or missing:
+            sys.exit('definitions.py: this seed has %d cases, and none of: %s' % (len(cases), ', '.join(sorted(missing))))
+        copy(folder)
+        write(folder + '/crates/cases', cases)
+        status = subprocess.run(['rt', 'check', 'cases'], cwd=folder).returncode
+        if status == 3:
+            sys.exit('definitions.py: antt could not tell; nothing is known to differ')
+        if status != 0:
+            sys.exit('definitions.py: not agreed; SEED=%s shows it again' % seed)
+        print('the definitions and the independent program agree in %d cases of %d kinds' % (len(cases), kinds))
 
 
-main()
+if __name__ == '__main__':
+    main()

@@ -61,7 +61,7 @@ grant-first kind already m n r h = go (leb kind 3) refl
 pub record Right (t : List ℕ) (count : ℕ) (s : Assignment) (records : List ℕ) (v : Survey) : Type 0 where
   pub known : v .known ≡ allKnown t count s
   pub own : allKnown t count s ≡ true → v .own ≡ every (ownAt t (ownerOf t s records)) records
-  pub stores : allKnown t count s ≡ true → v .stores ≡ every (storesAt t (s .server)) records
+  pub stores : allKnown t count s ≡ true → eqb (s .kind) 0 ≡ true → v .stores ≡ every (storesAt t (s .server)) records
   pub fits : allKnown t count s ≡ true → v .fits ≡ every (fitsAt t (s .server)) records
   pub right : allKnown t count s ≡ true → v .right ≡ (not (isEmpty records) && every (rightAt t (s .kind)) records)
 
@@ -116,10 +116,22 @@ module _ (req t file : List ℕ) (count : ℕ) (s : Assignment) (records : List 
   unfolding planOf assignRecords
   plan-right = go (allKnown t count s) refl
     where
+      -- only type 0 asks whether the name is stored
+      stored : (own z fits wrong : Bool) → (z ≡ true → v .stores ≡ every (storesAt t (s .server)) records)
+          → cond own (unaltered t (plain (Experimental 5002)))
+          (cond z (unaltered t (cond (v .stores) (assigned t file s (Base 2001) (firstOf records)) (plain (Base 5012))))
+          (cond fits (unaltered t (plain (Experimental 5005))) (cond wrong (unaltered t (plain (Experimental 5007))) (effected t count file keep s records))))
+          ≡ cond own (unaltered t (plain (Experimental 5002)))
+          (cond z (unaltered t (cond (every (storesAt t (s .server)) records) (assigned t file s (Base 2001) (firstOf records)) (plain (Base 5012))))
+          (cond fits (unaltered t (plain (Experimental 5005))) (cond wrong (unaltered t (plain (Experimental 5007))) (effected t count file keep s records))))
+      stored own true fits wrong h = rw (h refl)
+      stored own false fits wrong h = refl
+
       go : (x : Bool) → allKnown t count s ≡ x → decisionOf req t count file s (planOf (findingOf v (s .kind)) (s .kind) keep (s .already) first owned)
           ≡ cond x (assignRecords t count file keep s records) (unaltered t (plain (Experimental 5001)))
       go true e =
-          rw (finding-known v (s .kind) (w .known ∙ e) (w .own e) (w .stores e) (w .fits e) (w .right e))
-          (known-plan e (every (ownAt t (ownerOf t s records)) records) (isEmpty records) (every (storesAt t (s .server)) records) (every (fitsAt t (s .server)) records)
-          (every (rightAt t (s .kind)) records))
+          rw (finding-known v (s .kind) (w .known ∙ e) (w .own e) refl (w .fits e) (w .right e))
+          (known-plan e (every (ownAt t (ownerOf t s records)) records) (isEmpty records) (v .stores) (every (fitsAt t (s .server)) records) (every (rightAt t (s .kind)) records)
+          ∙ stored (not (every (ownAt t (ownerOf t s records)) records)) (eqb (s .kind) 0) (not (every (fitsAt t (s .server)) records))
+          (isEmpty records || not (every (rightAt t (s .kind)) records)) (w .stores e))
       go false e = rw (finding-unknown v (s .kind) (w .known ∙ e)) (plan-plain req t file count s (Experimental 5001))

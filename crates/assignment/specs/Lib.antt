@@ -1,2 +1,4 @@
-pub mod Survey
+pub mod Assigns
+pub mod Identities
 pub mod Plans
+pub mod Survey

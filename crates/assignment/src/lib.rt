@@ -1,5 +1,7 @@
 // SAR: the records are looked at first, and written when the answer stands.
+pub mod assigning;
 pub mod looking;
+pub mod naming;
 pub mod owned;
 pub mod plan;
 

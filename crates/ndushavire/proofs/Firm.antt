@@ -14,11 +14,16 @@ use Rattle.table.specs.Check.{soundAt, firstBad, checkRecords, checkTable}
 use Rattle.table.specs.declared.Checked.{Checked}
 use Rattle.table.specs.declared.Checked.the-variants.{Sound, Bad}
 use Rattle.ndushavire.specs.Word.{checkWord}
-use Rattle.ndushavire.specs.Promise.{CheckPromise}
+use Rattle.ndushavire.specs.Promise.{CheckPromise, DecidePromise}
 
 -- Any two returns that meet the promise are equal.
 pub check-unique : (table profile : List ℕ) (r s : ℕ) → CheckPromise table profile r → CheckPromise table profile s → r ≡ s
 check-unique table profile r s p q = p .answer ∙ sym (q .answer)
+
+-- So are any two outcomes of a decision: the word, the table and the buffer.
+pub decide-unique : (req table profile buffer : List ℕ) (r s : ℕ) (t u o q : List ℕ) → DecidePromise req table profile buffer r t o → DecidePromise req table profile buffer s u q
+    → (r ≡ s) × (t ≡ u) × (o ≡ q)
+decide-unique req table profile buffer r s t u o q a b = (a .word-is ∙ sym (b .word-is), a .table-is ∙ sym (b .table-is), a .buffer-is ∙ sym (b .buffer-is))
 
 -- what an answer carries: the count of records or the number of a block
 abbrev pub carried : Checked → ℕ

@@ -1,22 +1,50 @@
 // What the daemon calls.
+pub mod decide;
+
 use table::Checked;
 ghost use mathlib.Core.Path.{_≡_};
-ghost use Prim.Native.Nat.{_<_};
-ghost use Rattle.ndushavire.specs.Word.{word, checkWord};
-ghost use Rattle.ndushavire.specs.Promise.{CheckPromise};
+ghost use Prim.Native.Nat.{_<_, _≤_, _%_};
+ghost use lib.ListN.{length};
+ghost use Rattle.table.specs.Check.{checkTable};
+ghost use Rattle.ndushavire.specs.Word.{word, checkWord, callWord};
+ghost use Rattle.ndushavire.specs.Serve.{wrongLength};
+ghost use Rattle.ndushavire.specs.Promise.{CheckPromise, DecidePromise, Served};
 
 // What the number of a returned word counts: 2^48.
 const NUMBER: u64 = 281474976710656;
 
-// "5: table unsound"
-const UNSOUND: u64 = 5;
+// The five refusals, by their numbers.
+const SMALL_BUFFER: u16 = 1;
+
+const WRONG_SIZE: u16 = 2;
+
+const WRONG_LENGTH: u16 = 3;
+
+const NO_REQUEST: u16 = 4;
+
+const UNSOUND: u16 = 5;
+
+// "answer buffer under 36,864 bytes"; "request under 20 or over 16,384 bytes"
+const ROOM: usize = 36864;
+
+const LEAST: usize = 20;
+
+const MOST: usize = 16384;
+
+// The flag R of a message.
+const R: u8 = 128;
+
+// What a call comes to: the answer's length, or a refusal's number with what it returns besides.
+pub enum Call {
+    Answered(u32),
+    Refused { number: u16, besides: u32 },
+}
 
 // A number and what is returned besides, as one word.
-fn word(number: u64, value: u32) -> u64
-    requires { ⌜ number < 65536 ⌝ }
+fn word(number: u16, value: u32) -> u64
     ensures { λ r. ⌜ r ≡ word number value ⌝ }
 {
-    number * NUMBER + (value as u64)
+    (number as u64) * NUMBER + (value as u64)
 }
 
 // The word of the check's answer.
@@ -35,4 +63,75 @@ pub extern "C" fn ndushavire_check(table: &[u8], profile: &[u8]) -> u64
     ensures { λ r. ⌜ CheckPromise (now (table .entry)) (now (profile .entry)) r ⌝ }
 {
     word_of(table::check(table, profile.len()))
+}
+
+// The word of a call.
+fn word_of_call(c: Call) -> u64
+    ensures { λ r. ⌜ r ≡ callWord c ⌝ }
+{
+    match c {
+        Call::Answered(n) => word(0, n),
+        Call::Refused { number, besides } => word(number, besides),
+    }
+}
+
+// "header length differs from the request's length, or is no multiple of 4"
+fn wrong_length(req: &[u8]) -> bool
+    requires { ⌜ 20 ≤ length (now req) ⌝ }
+    ensures { λ r. ⌜ r ≡ wrongLength (now (req .entry)) ⌝ }
+{
+    (octets::number::be24(req, 1) != req.len()) | (req.len() % 4 != 0)
+}
+
+fn refuse(number: u16, besides: u32) -> Call
+    ensures { λ r. ⌜ callWord r ≡ word number besides ⌝ }
+{
+    Call::Refused { number, besides }
+}
+
+// A request that the first four refusals let pass, over a table that was checked.
+fn call_checked(c: Checked, req: &[u8], t: &mut [u8], file: &[u8], out: &mut [u8]) -> Call
+    requires { ⌜ (20 ≤ length (now req)) × (length (now req) ≤ 16384) × (length (now req) % 4 ≡ 0) × (36864 ≤ length (now out)) × (c ≡ checkTable (now t) (length (now file))) ⌝ }
+    ensures { λ r. ⌜ Served (now (req .entry)) (now (t .entry)) (now (file .entry)) (now (out .entry)) c (callWord r) (now (t .exit)) (now (out .exit)) ⌝ }
+{
+    match c {
+        Checked::Sound(count) => {
+            let n = decide::answer_sound(out, req, t, file, count as usize);
+            Call::Answered(n as u32)
+        }
+        Checked::Bad(block) => refuse(UNSOUND, block),
+    }
+}
+
+// "Five refusals of the call. Tried in this order."
+fn one_call(req: &[u8], t: &mut [u8], file: &[u8], out: &mut [u8]) -> Call
+    ensures { λ r. ⌜ DecidePromise (now (req .entry)) (now (t .entry)) (now (file .entry)) (now (out .entry)) (callWord r) (now (t .exit)) (now (out .exit)) ⌝ }
+{
+    if out.len() < ROOM {
+        return refuse(SMALL_BUFFER, 0);
+    }
+    if (req.len() < LEAST) | (MOST < req.len()) {
+        return refuse(WRONG_SIZE, 0);
+    }
+    if wrong_length(req) {
+        return refuse(WRONG_LENGTH, 0);
+    }
+    if req[4] < R {
+        return refuse(NO_REQUEST, 0);
+    }
+    let c = table::check(t, file.len());
+    call_checked(c, req, t, file, out)
+}
+
+// "The library takes one Diameter request, the subscriber table, a profile file (read only) and an answer buffer, all lent."
+#[no_mangle]
+pub extern "C" fn ndushavire_decide(
+    request: &[u8],
+    table: &mut [u8],
+    profile: &[u8],
+    answer: &mut [u8],
+) -> u64
+    ensures { λ r. ⌜ DecidePromise (now (request .entry)) (now (table .entry)) (now (profile .entry)) (now (answer .entry)) r (now (table .exit)) (now (answer .exit)) ⌝ }
+{
+    word_of_call(one_call(request, table, profile, answer))
 }

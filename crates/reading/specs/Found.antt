@@ -2,7 +2,8 @@
 use Prim.Native.Nat.{ℕ}
 use mathlib.Core.List.{List, map}
 use mathlib.Core.Option.{Option, none, some}
-use mathlib.Core.Bool.{cond}
+use mathlib.Core.Bool.{true, false, cond}
+use mathlib.Core.Path.{_≡_}
 use lib.ListN.{drop}
 use lib.Dec.{ltb}
 use Rattle.diameter.specs.Reader.{partAt}
@@ -31,3 +32,14 @@ failedBy s v =
 
 unfoldable pub judgedOf : List ℕ → Walked → Judged
 judgedOf s r = cond (r .ok) (fine (seenOf s (r .places))) (bad (r .verdict .result) (failedBy s (r .verdict)))
+
+-- what the code answers: a base result with the place of the AVP at fault and the kind that is missing; or the places of the kinds
+pub record Refused (number place lacks : ℕ) (r : Walked) : Type 0 where
+  pub refused : r .ok ≡ false
+  pub numbered : r .verdict .result ≡ Base number
+  pub placed : r .verdict .place ≡ place
+  pub lacking : r .verdict .lacks ≡ lacks
+
+pub record Accepted (places : List ℕ) (r : Walked) : Type 0 where
+  pub accepted : r .ok ≡ true
+  pub found : r .places ≡ places

@@ -5,15 +5,10 @@ use mathlib.Core.List.{List, [], _∷_}
 use lib.ListN.{getD}
 use lib.Dec.{eqb, leb, ltb}
 use Rattle.diameter.specs.Avp.{avpFlags, avpCode, vendorOf}
+use Rattle.reading.specs.declared.Content.{Content}
+use Rattle.reading.specs.declared.Content.the-variants.{Free, Number, Sized, Application}
 use Rattle.reading.specs.declared.Use.{Use}
 use Rattle.reading.specs.declared.Use.the-variants.{Unnamed, Needed, Optional, Repeated}
-
--- what the data of a kind must be: anything; a number of 4 bytes within limits; so many bytes; the members of 260
-pub data Content : Type 0 where
-  free : Content
-  number : ℕ → ℕ → Content
-  sized : ℕ → ℕ → Content
-  application : Content
 
 pub record Kind : Type 0 where
   pub code : ℕ
@@ -29,22 +24,22 @@ row code vendor content uar sar lir = record { code = code; vendor = vendor; con
 -- The known kinds, in the order in which a missing one is looked for; a kind's number is its place here, from 1 on.
 unfoldable pub known : List Kind
 known =
-    row 263 0 free Needed Needed Needed
-    ∷ row 260 0 application Needed Needed Needed
-    ∷ row 277 0 (number 1 1) Needed Needed Needed
-    ∷ row 264 0 free Needed Needed Needed
-    ∷ row 296 0 free Needed Needed Needed
-    ∷ row 283 0 free Needed Needed Needed
-    ∷ row 1 0 free Needed Optional Unnamed
-    ∷ row 601 10415 free Needed Repeated Needed
-    ∷ row 600 10415 free Needed Unnamed Unnamed
-    ∷ row 602 10415 (sized 1 96) Unnamed Needed Unnamed
-    ∷ row 614 10415 (number 0 11) Unnamed Needed Unnamed
-    ∷ row 624 10415 (number 0 1) Unnamed Needed Unnamed
-    ∷ row 623 10415 (number 0 2) Optional Unnamed Unnamed
-    ∷ row 293 0 free Optional Optional Optional
-    ∷ row 284 0 free Repeated Repeated Repeated
-    ∷ row 282 0 free Repeated Repeated Repeated
+    row 263 0 Free Needed Needed Needed
+    ∷ row 260 0 Application Needed Needed Needed
+    ∷ row 277 0 (Number 1 1) Needed Needed Needed
+    ∷ row 264 0 Free Needed Needed Needed
+    ∷ row 296 0 Free Needed Needed Needed
+    ∷ row 283 0 Free Needed Needed Needed
+    ∷ row 1 0 Free Needed Optional Unnamed
+    ∷ row 601 10415 Free Needed Repeated Needed
+    ∷ row 600 10415 Free Needed Unnamed Unnamed
+    ∷ row 602 10415 (Sized 1 96) Unnamed Needed Unnamed
+    ∷ row 614 10415 (Number 0 11) Unnamed Needed Unnamed
+    ∷ row 624 10415 (Number 0 1) Unnamed Needed Unnamed
+    ∷ row 623 10415 (Number 0 2) Optional Unnamed Unnamed
+    ∷ row 293 0 Free Optional Optional Optional
+    ∷ row 284 0 Free Repeated Repeated Repeated
+    ∷ row 282 0 Free Repeated Repeated Repeated
     ∷ []
 
 -- the numbers of kinds that the decisions and the answer name
@@ -92,7 +87,7 @@ kindOf a = kindBy (avpFlags a) (vendorOf a) (avpCode a)
 
 -- the row of a kind number; that of an unknown kind is empty
 abbrev pub unknown : Kind
-unknown = row 0 0 free Unnamed Unnamed Unnamed
+unknown = row 0 0 Free Unnamed Unnamed Unnamed
 
 unfoldable pub rowOf : ℕ → Kind
 rowOf n = getD (unknown ∷ known) n unknown

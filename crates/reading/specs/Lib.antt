@@ -1,4 +1,5 @@
 pub mod Found
+pub mod Insert
 pub mod Kinds
 pub mod Request
 pub mod Rules

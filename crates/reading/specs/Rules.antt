@@ -9,9 +9,11 @@ use Rattle.octets.specs.Number.{be32At}
 use Rattle.diameter.specs.Avp.{avpCode, avpFlags, avpHead, avpLen, dataOf, valueOf, reserved, marked}
 use Rattle.diameter.specs.Walk.{Walk, ended, faulty, avp, walk}
 use Rattle.diameter.specs.Reader.{present}
+use Rattle.reading.specs.declared.Content.{Content}
+use Rattle.reading.specs.declared.Content.the-variants.{Free, Number, Sized, Application}
 use Rattle.reading.specs.declared.Outcome.{Outcome}
 use Rattle.reading.specs.declared.Outcome.the-variants.{Base}
-use Rattle.reading.specs.Kinds.{Content, free, number, sized, application, Kind, kindOf, rowOf, useIn, isUnnamed, isRepeated}
+use Rattle.reading.specs.Kinds.{kindOf, rowOf, useIn, isUnnamed, isRepeated}
 
 -- "260 holds, in any order, one or more Vendor-Id 266, each 10415, and one Auth-Application-Id 258 of 16777216, all 4-byte AVPs passing (a) and (c),
 -- without V, and no other"
@@ -29,16 +31,16 @@ members (avp m w) vendor app =
 
 -- (g) "a 4-byte kind of another length"; (h) "bad content"
 abbrev pub isFour : Content → Bool
-isFour free = false
-isFour (number least most) = true
-isFour (sized least most) = false
-isFour application = false
+isFour Free = false
+isFour (Number least most) = true
+isFour (Sized least most) = false
+isFour Application = false
 
 unfoldable pub goodContent : Content → List ℕ → Bool
-goodContent free a = true
-goodContent (number least most) a = leb least (valueOf a) && leb (valueOf a) most
-goodContent (sized least most) a = leb least (length (dataOf a)) && leb (length (dataOf a)) most
-goodContent application a = members (walk (dataOf a)) false false
+goodContent Free a = true
+goodContent (Number least most) a = leb least (valueOf a) && leb (valueOf a) most
+goodContent (Sized least most) a = leb least (length (dataOf a)) && leb (length (dataOf a)) most
+goodContent Application a = members (walk (dataOf a)) false false
 
 -- The state of the walk: for each kind number, the last AVP of it that was taken
 abbrev pub Seen : Type 0

@@ -1,4 +1,8 @@
-// Reading a request: its header, its AVPs by the rules (a) to (h), what is missing.
+// Reading a request: the kinds of AVPs, and rules (c) to (h) for one AVP.
+
+pub mod group;
+pub mod kinds;
+pub mod rules;
 
 // "B is a base Result-Code, X an Experimental-Result of vendor 10415. They share numbers and never stand for one another."
 pub enum Outcome {
@@ -11,6 +15,14 @@ pub struct Verdict {
     pub result: Outcome,
     pub place: usize,
     pub lacks: usize,
+}
+
+// What the data of a kind must be: anything; a 4-byte number within limits; so many bytes; the members of 260.
+pub enum Content {
+    Free,
+    Number(u32, u32),
+    Sized(usize, usize),
+    Application,
 }
 
 // What a command makes of a kind of AVP.

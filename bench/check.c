@@ -1,0 +1,69 @@
+/* check TABLE PROFILE NAMES ..: times the proved table check on each table, beside a bare sum of the same words in C
+ * and the reference's check in Rust. */
+#define _POSIX_C_SOURCE 199309L
+#include <ndushavire.h>
+
+#include "../examples/load.h"
+#include "timing.h"
+
+#define SUM_AIM "<= 2.0" /* at the most records */
+
+uint32_t sum_plain(const uint8_t *table, size_t length);
+uint32_t sum_native(const uint8_t *table, size_t length);
+uint64_t reference_check(const uint8_t *table, size_t table_len, size_t profile_len);
+
+typedef struct {
+    uint8_t *table, *profile;
+    size_t table_len, profile_len;
+} Sample;
+
+static uint64_t proved(const void *sample) {
+    const Sample *s = (const Sample *)sample;
+    return ndushavire_check(s->table, s->table_len, s->profile, s->profile_len);
+}
+
+static uint64_t plain(const void *sample) {
+    const Sample *s = (const Sample *)sample;
+    return sum_plain(s->table, s->table_len);
+}
+
+static uint64_t native(const void *sample) {
+    const Sample *s = (const Sample *)sample;
+    return sum_native(s->table, s->table_len);
+}
+
+static uint64_t rust(const void *sample) {
+    const Sample *s = (const Sample *)sample;
+    return reference_check(s->table, s->table_len, s->profile_len);
+}
+
+enum { PROVED, PLAIN, NATIVE, RUST, SUBJECTS };
+static Subject *const subject[SUBJECTS] = {proved, plain, native, rust};
+
+int main(int argc, char **argv) {
+    if (argc < 4 || argc % 3 != 1) {
+        fprintf(stderr, "usage: check TABLE PROFILE NAMES ..\n");
+        return 2;
+    }
+    printf("table check: microseconds, medians of %d rounds; then the proved check as a multiple of each other\n", ROUNDS);
+    printf("records  names   proved  sum -O3  sum native     Rust  /sum -O3  aim    /sum native  /Rust\n");
+    for (int i = 1; i < argc; i += 3) {
+        Sample s;
+        s.table = load(argv[i], &s.table_len);
+        s.profile = load(argv[i + 1], &s.profile_len);
+        const uint64_t records = s.table_len / NDUSHAVIRE_BLOCK - 1;
+        /* A wrong answer is not worth a time. */
+        if (proved(&s) != records || rust(&s) != records || plain(&s) != 0 || native(&s) != 0) {
+            fprintf(stderr, "check: %s is not sound to all\n", argv[i]);
+            return 1;
+        }
+        double t[SUBJECTS];
+        medians(subject, SUBJECTS, &s, t);
+        printf("%7lu  %-5s %8.2f %8.2f %11.2f %8.2f %9.2f  %-6s %11.2f %6.2f\n", (unsigned long)records, argv[i + 2],
+               t[PROVED], t[PLAIN], t[NATIVE], t[RUST], t[PROVED] / t[PLAIN],
+               records == NDUSHAVIRE_RECORDS_MAX ? SUM_AIM : "", t[PROVED] / t[NATIVE], t[PROVED] / t[RUST]);
+        free(s.table);
+        free(s.profile);
+    }
+    return 0;
+}

@@ -1,0 +1,123 @@
+/* requests.h: requests as call servers send them, about the records of a table. */
+#ifndef REQUESTS_H
+#define REQUESTS_H
+
+#include <ndushavire.h>
+#include <stdint.h>
+#include <stdlib.h>
+#include <string.h>
+
+enum { CX = 16777216, VENDOR = 10415 };
+enum { NOT_REGISTERED = 0, REGISTERED = 1 };
+
+typedef struct {
+    uint8_t bytes[NDUSHAVIRE_REQUEST_MAX];
+    size_t length;
+} Request;
+
+typedef struct {
+    const void *bytes;
+    size_t length;
+} Name;
+
+/* A name of a block: where its length stands, and where its bytes begin. */
+static Name name_at(const uint8_t *block, size_t length_at, size_t at) {
+    const Name name = {block + at, block[length_at]};
+    return name;
+}
+
+static Name public_of(const uint8_t *block) { return name_at(block, 13, 16); }
+static Name private_of(const uint8_t *block) { return name_at(block, 14, 144); }
+static Name server_of(const uint8_t *block) { return name_at(block, 15, 272); }
+static Name network_of(const uint8_t *header) { return name_at(header, 144, 145); }
+
+/* The last record in a state, or the last of all if none is. */
+static const uint8_t *last_in(const uint8_t *table, size_t records, unsigned state) {
+    for (size_t k = records; k > 0; k--)
+        if (table[k * NDUSHAVIRE_BLOCK + 8] == state) return table + k * NDUSHAVIRE_BLOCK;
+    return table + records * NDUSHAVIRE_BLOCK;
+}
+
+static void put_number(Request *r, uint32_t n) {
+    const uint8_t bytes[4] = {(uint8_t)(n >> 24), (uint8_t)(n >> 16), (uint8_t)(n >> 8), (uint8_t)n};
+    if (r->length + 4 > sizeof r->bytes) abort();
+    memcpy(r->bytes + r->length, bytes, 4);
+    r->length += 4;
+}
+
+static void put(Request *r, uint32_t code, uint32_t vendor, Name data) {
+    const size_t padded = (data.length + 3) / 4 * 4;
+    put_number(r, code);
+    put_number(r, (vendor != 0 ? 0xC000000Cu : 0x40000008u) + (uint32_t)data.length);
+    if (vendor != 0) put_number(r, vendor);
+    if (r->length + padded > sizeof r->bytes) abort();
+    memset(r->bytes + r->length, 0, padded);
+    memcpy(r->bytes + r->length, data.bytes, data.length);
+    r->length += padded;
+}
+
+static void put_text(Request *r, uint32_t code, const char *text) {
+    const Name data = {text, strlen(text)};
+    put(r, code, 0, data);
+}
+
+static void put_word(Request *r, uint32_t code, uint32_t vendor, uint32_t value) {
+    const uint8_t bytes[4] = {(uint8_t)(value >> 24), (uint8_t)(value >> 16), (uint8_t)(value >> 8), (uint8_t)value};
+    const Name data = {bytes, 4};
+    put(r, code, vendor, data);
+}
+
+/* The header, and the AVPs that every request has. */
+static void begin(Request *r, uint32_t command) {
+    r->length = 0;
+    put_number(r, 0x01000000u);
+    put_number(r, 0xC0000000u + command);
+    put_number(r, CX);
+    put_number(r, 1);
+    put_number(r, 2);
+    put_text(r, 263, "s;1");
+    put_text(r, 264, "c");
+    put_text(r, 296, "isle");
+    put_text(r, 283, "isle");
+    put_number(r, 260);
+    put_number(r, 0x40000020u);
+    put_word(r, 266, 0, VENDOR);
+    put_word(r, 258, 0, CX);
+    put_word(r, 277, 0, 1);
+}
+
+static void end(Request *r) {
+    r->bytes[1] = (uint8_t)(r->length >> 16);
+    r->bytes[2] = (uint8_t)(r->length >> 8);
+    r->bytes[3] = (uint8_t)r->length;
+}
+
+/* May this line register in the first network? */
+static void ask_authorization(Request *r, const uint8_t *table, const uint8_t *record) {
+    begin(r, 300);
+    put(r, 1, 0, private_of(record));
+    put(r, 601, VENDOR, public_of(record));
+    put(r, 600, VENDOR, network_of(table));
+    end(r);
+}
+
+/* Where is this line? */
+static void ask_location(Request *r, const uint8_t *record) {
+    begin(r, 302);
+    put(r, 601, VENDOR, public_of(record));
+    end(r);
+}
+
+/* An assignment of a type to so many lines, of which the last is the record and the others stand about the table; the
+ * server is the record's. */
+static void ask_assignment(Request *r, const uint8_t *table, size_t records, const uint8_t *record, uint32_t type, size_t lines) {
+    begin(r, 301);
+    for (size_t i = 1; i < lines; i++) put(r, 601, VENDOR, public_of(table + (1 + i * 7919 % records) * NDUSHAVIRE_BLOCK));
+    put(r, 601, VENDOR, public_of(record));
+    put(r, 602, VENDOR, server_of(record));
+    put_word(r, 614, VENDOR, type);
+    put_word(r, 624, VENDOR, 0);
+    end(r);
+}
+
+#endif

@@ -1,0 +1,51 @@
+-- How an answer ends: Failed-AVP, then every Proxy-Info, after what a decision gives.
+use Prim.Native.Nat.{ℕ, _+_, _-_, _≤_, _<_}
+use mathlib.Core.Path.{_≡_, refl, sym}
+use mathlib.Core.List.{List, _++_}
+use lib.ListN.{length, drop}
+use borrow.Author.Tests.{lt-ltb, le-ltb}
+use borrow.Rule.Slice.PartMut.{midOf, putMid}
+use Rattle.octets.specs.Run.{over, Wrote}
+use Rattle.octets.proofs.Writes.{then, named}
+use Rattle.pen.specs.Groups.{failed}
+use Rattle.reading.specs.Found.{numberOf, failedBy}
+use Rattle.reading.specs.Request.{example, bodyOf}
+use Rattle.reading.specs.Rules.{failedOf}
+use Rattle.reading.specs.declared.Verdict.{Verdict}
+use Rattle.reply.specs.Answer.{failedPart, proxies}
+use Rattle.reply.specs.Pieces.{givenOf, restBytes}
+
+-- Failed-AVP: of a kind that is missing, of the AVP at a place, or none.
+module _ (s : List ℕ) (v : Verdict) where
+  lacking : 0 < v .lacks → failedPart (failedBy s v) ≡ failed (example (v .lacks))
+  unfolding failedBy
+  lacking h = rw (lt-ltb 0 (v .lacks) h)
+
+  placed : v .lacks ≤ 0 → 0 < v .place → failedPart (failedBy s v) ≡ failed (failedOf (numberOf (v .result)) (drop (v .place) s))
+  unfolding failedBy
+  placed h k = rw (le-ltb 0 (v .lacks) h, lt-ltb 0 (v .place) k)
+
+  pub lacking-room : {m : ℕ} → 0 < v .lacks → length (failedPart (failedBy s v)) ≤ m → length (failed (example (v .lacks))) ≤ m
+  lacking-room h r = rw (lacking h) at r
+
+  pub wrote-lacking : {b xs : List ℕ} {r : ℕ} → 0 < v .lacks → Wrote (failed (example (v .lacks))) b xs r → Wrote (failedPart (failedBy s v)) b xs r
+  wrote-lacking h w = named (sym (lacking h)) refl w
+
+  module _ (n : ℕ) (is : n ≡ numberOf (v .result)) (h : v .lacks ≤ 0) (k : 0 < v .place) where
+    pub placed-room : {m : ℕ} → length (failedPart (failedBy s v)) ≤ m → length (failed (failedOf n (drop (v .place) s))) ≤ m
+    placed-room r = rw is (rw (placed h k) at r)
+
+    pub wrote-placed : {b xs : List ℕ} {r : ℕ} → Wrote (failed (failedOf n (drop (v .place) s))) b xs r → Wrote (failedPart (failedBy s v)) b xs r
+    wrote-placed w = named (rw is (sym (placed h k))) refl w
+
+  pub wrote-no-failed : (b : List ℕ) → v .lacks ≤ 0 → v .place ≤ 0 → Wrote (failedPart (failedBy s v)) b b 0
+  unfolding failedBy over
+  wrote-no-failed b h k = rw (le-ltb 0 (v .lacks) h, le-ltb 0 (v .place) k) (record { count = refl; bytes = refl })
+
+-- What depends on the decision, and the end.
+module _ {b xs ys : List ℕ} {n r : ℕ} where
+  pub wrote-rest : (req t file : List ℕ) (v : Verdict) (user server capable profile : ℕ) → Wrote (givenOf t file user server capable profile) b xs n
+      → Wrote (failedPart (failedBy req v) ++ proxies (bodyOf req)) (midOf n (length xs - n) xs) ys r
+      → Wrote (restBytes req t file v user server capable profile) b (putMid n (length xs - n) xs ys) (n + r)
+  unfolding restBytes
+  wrote-rest req t file v user server capable profile p q = then p q

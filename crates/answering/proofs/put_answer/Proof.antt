@@ -1,0 +1,16 @@
+use Rattle.answering.proofs.Whole.{answer-room, wrote-answer}
+use borrow.Author.Needs.{needs}
+use Rattle.answering.proofs.put_answer.Statement.{statement}
+use Rattle.answering.proofs.put_answer.Tie as tie
+
+pub put-answer-spec : {M : Type 1} → statement M
+put-answer-spec =
+    tie.close
+    (tie.spec
+    (λ c. search needs)
+    (λ c. search needs)
+    (λ c. search needs)
+    (λ c. search needs)
+    (λ c κs. search (needs, answer-room))
+    (λ c. search needs)
+    (λ c. search (needs, wrote-answer)))

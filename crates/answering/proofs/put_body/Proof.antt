@@ -1,0 +1,17 @@
+use Rattle.answering.proofs.Whole.{wrote-body}
+use borrow.Author.Needs.{needs}
+use Rattle.answering.proofs.put_body.Statement.{statement}
+use Rattle.answering.proofs.put_body.Tie as tie
+
+pub put-body-spec : {M : Type 1} → statement M
+put-body-spec =
+    tie.close
+    (tie.spec
+    (λ c κs. search needs)
+    (λ c. search needs)
+    (λ c. search needs)
+    (λ c. search needs)
+    (λ c κs. search needs)
+    (λ c. search needs)
+    (λ c. search needs)
+    (λ c. search (needs, wrote-body)))

@@ -1,0 +1,98 @@
+// How an answer ends: Failed-AVP, and every Proxy-Info before the first length fault.
+use diameter::Read;
+use reading::Verdict;
+use reading::kinds;
+use reply::given;
+ghost use mathlib.Core.List.{_++_};
+ghost use Prim.Native.Nat.{_+_, _≤_};
+ghost use lib.ListN.{length, take, drop};
+ghost use Rattle.octets.specs.Run.{Wrote};
+ghost use Rattle.lookup.specs.SoundTable.{SoundTable};
+ghost use Rattle.diameter.specs.Reader.{Here};
+ghost use Rattle.pen.specs.Bytes.{copiedSize};
+ghost use Rattle.reading.specs.Request.{bodyOf};
+ghost use Rattle.reading.specs.Found.{failedBy};
+ghost use Rattle.parts.specs.SoundAlone.{profileAt};
+ghost use Rattle.reply.specs.Answer.{failedPart, proxies};
+ghost use Rattle.reply.specs.Pieces.{proxy, restBytes};
+
+// Failed-AVP, where there is one.
+fn put_failed(out: &mut [u8], req: &[u8], v: Verdict) -> usize
+    requires { ⌜ length (failedPart (failedBy (now req) v)) ≤ length (now out) ⌝ }
+    ensures { λ r. ⌜ Wrote (failedPart (failedBy (now (req .entry)) v)) (now (out .entry)) (now (out .exit)) r ⌝ }
+{
+    let lacks = v.lacks;
+    if 0 < lacks {
+        return failed::put_example(out, lacks);
+    }
+    let place = v.place;
+    if 0 < place {
+        let result = v.result;
+        return failed::put_faulty(out, req, place, failed::number_of(result));
+    }
+    0
+}
+
+// The AVP at a place, copied if it is a Proxy-Info.
+fn put_proxy(out: &mut [u8], req: &[u8], at: usize, len: usize, head: usize) -> usize
+    requires { ⌜ Here (now req) at len head × (length (proxy (take len (drop at (now req)))) ≤ length (now out)) ⌝ }
+    ensures { λ r. ⌜ (r ≤ length (now (out .entry))) × Wrote (proxy (take len (drop at (now (req .entry))))) (now (out .entry)) (now (out .exit)) r ⌝ }
+{
+    if kinds::kind_at(req, at, len, head) == kinds::PROXY_INFO {
+        return pen::put_copy(out, diameter::avp_part(req, at, len, head));
+    }
+    0
+}
+
+// Every Proxy-Info of the request, up to the first length fault.
+fn put_proxies(out: &mut [u8], req: &[u8]) -> usize
+    requires { ⌜ length (proxies (bodyOf (now req))) ≤ length (now out) ⌝ }
+    ensures { λ r. ⌜ Wrote (proxies (bodyOf (now (req .entry)))) (now (out .entry)) (now (out .exit)) r ⌝ }
+{
+    let mut at = 20;
+    let mut n = 0;
+    while at < req.len() {
+        let Read::Avp {
+            len,
+            next,
+            head,
+            flags: _,
+        } = diameter::read_avp(req, at)
+        else {
+            return n;
+        };
+        n += put_proxy(&mut out[n..], req, at, len, head);
+        at = next;
+    }
+    n
+}
+
+// Failed-AVP, then the Proxy-Infos.
+pub fn put_end(out: &mut [u8], req: &[u8], v: Verdict) -> usize
+    requires { ⌜ length (failedPart (failedBy (now req) v)) + length (proxies (bodyOf (now req))) ≤ length (now out) ⌝ }
+    ensures { λ r. ⌜ (r ≤ length (failedPart (failedBy (now (req .entry)) v)) + length (proxies (bodyOf (now (req .entry))))) × Wrote (failedPart (failedBy (now (req .entry)) v) ++ proxies (bodyOf (now (req .entry)))) (now (out .entry)) (now (out .exit)) r ⌝ }
+{
+    let a = put_failed(out, req, v);
+    a + put_proxies(&mut out[a..], req)
+}
+
+// What depends on the decision, and the end.
+pub fn put_rest(
+    out: &mut [u8],
+    req: &[u8],
+    t: &[u8],
+    file: &[u8],
+    count: usize,
+    v: Verdict,
+    user: usize,
+    server: usize,
+    capable: usize,
+    profile: usize,
+) -> usize
+    requires { ⌜ SoundTable (now t) (length (now file)) count ⌝ }
+    requires { ⌜ 396 + copiedSize (length (profileAt (now t) (now file) profile)) + length (failedPart (failedBy (now req) v)) + length (proxies (bodyOf (now req))) ≤ length (now out) ⌝ }
+    ensures { λ r. ⌜ (r ≤ length (now (out .entry))) × Wrote (restBytes (now (req .entry)) (now (t .entry)) (now (file .entry)) v user server capable profile) (now (out .entry)) (now (out .exit)) r ⌝ }
+{
+    let a = given::put_given(out, t, file, count, user, server, capable, profile);
+    a + put_end(&mut out[a..], req, v)
+}

@@ -1,0 +1,186 @@
+-- The turns of the loops over a SAR's identities, and what there are of them.
+use Prim.Native.Nat.{ℕ, _+_, _*_, _≤_, _<_}
+use mathlib.Core.List.{List, [], _∷_}
+use mathlib.Core.Option.{none, some}
+use mathlib.Core.Bool.{Bool, true, false, cond, _&&_, _||_}
+use mathlib.Core.Path.{_≡_, refl, sym, ap, _∙_}
+use mathlib.Core.Logic.{_≢_}
+use native.Mathlib.Omega.{arith}
+use lib.ListN.{length, drop}
+use lib.Dec.{eqb}
+use borrow.Author.Tests.{eqb-true, eqb-false, eq-eqb, ne-eqb, lt-ltb}
+use Rattle.record.specs.Fields.{privateOf}
+use Rattle.table.specs.Blocks.{blockOf}
+use Rattle.table.proofs.Blocks.{block-length}
+use Rattle.lookup.specs.Find.{endOf, firstFrom, publicIs, findPublic}
+use Rattle.lookup.specs.SoundTable.{Ordered}
+use Rattle.lookup.specs.declared.Found.{Found}
+use Rattle.lookup.specs.declared.Found.the-variants.{At, Nothing}
+use Rattle.lookup.proofs.First.{Stands, first-stands}
+use Rattle.rewrite.specs.Effect.{settled, settledAt, settledIn, settledFound, afterOf}
+use Rattle.rewrite.proofs.Effects.{in-length, in-here, in-other, found-kept, found-ordered}
+use Rattle.rewrite.proofs.Settled.{Kept, kept-found}
+use Rattle.rewrite.proofs.Tables.{after-same, after-none, at-same, at-twice}
+use Rattle.diameter.specs.Avp.{dataOf}
+use Rattle.diameter.specs.Walk.{walk}
+use Rattle.diameter.specs.Reader.{avpAt, dataAt}
+use Rattle.diameter.proofs.Reading.{walk-past}
+use Rattle.reading.specs.Found.{failedBy, numberOf}
+use Rattle.reading.specs.Request.{example, bodyOf, identities}
+use Rattle.reading.specs.declared.Outcome.the-variants.{Base}
+use Rattle.requests.specs.Identity.{Named}
+use Rattle.requests.specs.declared.identities.Next.{Next}
+use Rattle.requests.specs.declared.identities.Next.the-variants as next
+use Rattle.requests.proofs.Naming.{named-none, named-first, named-stands, named-failed}
+use Rattle.decisions.specs.Reply.{failing}
+use Rattle.decisions.specs.Assignment.{isOne, findAll, numbersOf, identityFault}
+use Rattle.assignment.specs.Survey.{both, strange, lookFound, surveyOf, surveyBy}
+use Rattle.assignment.specs.Identities.{Begins, Tells}
+use Rattle.assignment.specs.declared.Survey.{Survey}
+use Rattle.assignment.specs.declared.Named.the-variants.{Lacking, Second, Nobody, First}
+use Rattle.assignment.proofs.Surveys.{survey-cons, both-assoc, both-clean}
+
+-- the identities from a place on
+unfoldable pub restOf : List ℕ → ℕ → List (List ℕ)
+restOf s at = identities (walk (drop at s))
+
+pub rest-past : (s : List ℕ) (at : ℕ) → length s ≤ at → restOf s at ≡ []
+unfolding restOf identities
+rest-past s at h = rw (walk-past s at h)
+
+-- A survey of what is left, joined to what was seen, is the survey of all.
+module _ (t owner server : List ℕ) (kind count : ℕ) (s : List ℕ) where
+  pub survey-start : both (record { known = true; own = true; stores = true; fits = true; right = true }) (surveyOf t owner server kind (findAll t count (restOf s 20)))
+      ≡ surveyOf t owner server kind (findAll t count (identities (bodyOf s)))
+  unfolding restOf
+  survey-start = refl
+
+  module _ (at : ℕ) (seen whole : Survey) (left : both seen (surveyOf t owner server kind (findAll t count (restOf s at))) ≡ whole) where
+    pub survey-end : length s ≤ at → seen ≡ whole
+    unfolding findAll
+    survey-end h = sym (both-clean t owner server kind seen) ∙ rw (rest-past s at h) at left
+
+    module _ (r : Next) (n : Named s at r) where
+      pub survey-none : r ≡ next.Nothing → seen ≡ whole
+      unfolding findAll restOf
+      survey-none d = sym (both-clean t owner server kind seen) ∙ rw (named-none s at r n d) at left
+
+      pub survey-turn : (place past : ℕ) {name : List ℕ} {f : Found} {look seen' : Survey} → r ≡ next.At place past → name ≡ dataAt s place → f ≡ findPublic t count name
+          → look ≡ lookFound t f owner server kind → seen' ≡ both seen look → both seen' (surveyOf t owner server kind (findAll t count (restOf s past))) ≡ whole
+      unfolding findAll restOf
+      survey-turn place past {name} {f} {look} {seen'} d en ef el es =
+          rw (es, el, ef, en)
+          (both-assoc seen (lookFound t (findPublic t count (dataAt s place)) owner server kind) (surveyOf t owner server kind (findAll t count (restOf s past)))
+          ∙ ap (both seen) (sym (survey-cons t owner server kind (findPublic t count (dataAt s place)) (findAll t count (restOf s past))))
+          ∙ (rw (named-first s at r n place past d) at left))
+
+pub survey-here : (t : List ℕ) (f : Found) (server : List ℕ) (kind k : ℕ) (fs : List Found) {b p : List ℕ} {r : Survey} → f ≡ At k → b ≡ blockOf t k → p ≡ privateOf b
+    → r ≡ surveyOf t p server kind fs → r ≡ surveyBy t f server kind fs
+unfolding surveyBy
+survey-here t f server kind k fs e eb ep er = rw (e, ← eb, ← ep) er
+
+pub survey-unknown : (t : List ℕ) (f : Found) (server : List ℕ) (kind : ℕ) (fs : List Found) → f ≡ Nothing → strange ≡ surveyBy t f server kind fs
+unfolding surveyBy
+survey-unknown t f server kind fs e = rw e
+
+-- What is found in a table with a found record settled is what was found.
+find-kept : (x y : List ℕ) (count : ℕ) → ((j : ℕ) → 1 ≤ j → j ≤ count → Kept (blockOf y j) (blockOf x j)) → (avps : List (List ℕ)) → findAll y count avps ≡ findAll x count avps
+unfolding findAll
+find-kept x y count kept [] = refl
+find-kept x y count kept (a ∷ avps) = let e : findPublic y count (dataOf a) ≡ findPublic x count (dataOf a) = kept-found x y count (dataOf a) kept in rw (e, find-kept x y count kept avps)
+
+-- The effect of what is left, on the table as it is now, is the effect of all on the table as it came: the record of the next identity is settled.
+module _ (x : List ℕ) (count : ℕ) (ordered : Ordered x count) (state : ℕ) (name : List ℕ) where
+  one-turn : (k : ℕ) → 1 ≤ k → k ≤ count → (ks : List ℕ) → afterOf (settledIn x k state name) count (isOne ks) state name ≡ afterOf x count (isOne (k ∷ ks)) state name
+  unfolding isOne
+  one-turn k a b ks = after-same (settledIn x k state name) x count (isOne ks) (isOne (k ∷ ks)) state name (λ j l. go j l (eqb j k) refl)
+    where
+      long : length x ≡ 512 * (count + 1)
+      long = ordered .size
+
+      go : (j : ℕ) → j ≤ count → (u : Bool) → eqb j k ≡ u → settledAt (settledIn x k state name) (isOne ks) state name j ≡ settledAt x (isOne (k ∷ ks)) state name j
+      go j l true e =
+          let q : j ≡ k = eqb-true j k e in
+          rw q
+          (at-twice (settledIn x k state name) x (isOne ks) (isOne (k ∷ ks)) state name k (in-here x k state name (omega (arith, long))) (rw (eq-eqb k k refl))
+          (block-length x k (omega (arith, long))))
+      go j l false e =
+          at-same (settledIn x k state name) x (isOne ks) (isOne (k ∷ ks)) state name j
+          (in-other x k state name (omega (arith, long)) j (eqb-false j k e) (omega (arith, long))) (rw e)
+
+  found-turn : (p : ℕ → Bool) (f : Found) → firstFrom p count 1 ≡ f → (fs : List Found)
+      → afterOf (settledFound x f state name) count (isOne (numbersOf fs)) state name ≡ afterOf x count (isOne (numbersOf (f ∷ fs))) state name
+  unfolding settledFound numbersOf
+  found-turn p (At k) e fs = let s : Stands p count 1 k = first-stands p count 1 k e in one-turn k (s .from) (omega (arith, s .to)) (numbersOf fs)
+  found-turn p Nothing e fs = refl
+
+  module _ (s : List ℕ) (at : ℕ) {whole : List ℕ} (left : afterOf x count (isOne (numbersOf (findAll x count (restOf s at)))) state name ≡ whole) where
+    pub settle-end : length s ≤ at → x ≡ whole
+    unfolding findAll numbersOf isOne
+    settle-end h = after-none x count (isOne []) state name (ordered .size) (λ j l. refl) ∙ rw (rest-past s at h) at left
+
+    module _ (r : Next) (n : Named s at r) where
+      pub settle-none : r ≡ next.Nothing → x ≡ whole
+      unfolding findAll numbersOf isOne restOf
+      settle-none d = after-none x count (isOne []) state name (ordered .size) (λ j l. refl) ∙ rw (named-none s at r n d) at left
+
+      module _ (place past : ℕ) {m : List ℕ} {f : Found} {y : List ℕ} (d : r ≡ next.At place past) (em : m ≡ dataAt s place) (ef : f ≡ findPublic x count m)
+          (ey : y ≡ settledFound x f state name) where
+        stood : firstFrom (publicIs x m) count 1 ≡ f
+        unfolding findPublic
+        stood = sym ef
+
+        pub settle-turn : afterOf y count (isOne (numbersOf (findAll y count (restOf s past)))) state name ≡ whole
+        unfolding findAll restOf
+        settle-turn =
+            rw (ey, find-kept x (settledFound x f state name) count (found-kept x count ordered state name (publicIs x m) f stood) (restOf s past))
+            (found-turn (publicIs x m) f stood (findAll x count (restOf s past)) ∙ rw (ef, em) ((rw (named-first s at r n place past d) at left)))
+
+        pub settle-ordered : Ordered y count
+        settle-ordered = rw ey (found-ordered x count ordered state name (publicIs x m) f stood)
+
+        pub settle-fits : endOf f ≤ length x
+        settle-fits = go f stood
+          where
+            go : (g : Found) → firstFrom (publicIs x m) count 1 ≡ g → endOf g ≤ length x
+            go (At k) e = let u : Stands (publicIs x m) count 1 k = first-stands (publicIs x m) count 1 k e in omega (arith, u .to, ordered .size)
+            go Nothing e = omega arith
+
+-- How many identities there are.
+module _ (s : List ℕ) (removal named : Bool) (r : Next) (n : Named s 20 r) where
+  pub tells-nobody : r ≡ next.Nothing → (removal && named) ≡ true → Tells s removal named Nobody
+  unfolding identityFault
+  tells-nobody d e = let h : identities (bodyOf s) ≡ [] = named-none s 20 r n d in (rw (h, e), h)
+
+  pub tells-lacking : r ≡ next.Nothing → (removal && named) ≡ false → Tells s removal named Lacking
+  unfolding identityFault failedBy
+  tells-lacking d e = let h : identities (bodyOf s) ≡ [] = named-none s 20 r n d in rw (h, e)
+
+  module _ (place past : ℕ) (d : r ≡ next.At place past) where
+    begins : Begins place s
+    begins = record { others = identities (walk (drop past s)); rest = named-first s 20 r n place past d }
+
+    pub tells-removal : removal ≡ true → Tells s removal named (First place)
+    unfolding identityFault
+    tells-removal e = (rw (named-first s 20 r n place past d, e) (go (identities (walk (drop past s)))), begins)
+      where
+        go : (others : List (List ℕ)) → identityFault true named (avpAt s place ∷ others) ≡ none
+        go [] = refl
+        go (b ∷ others) = refl
+
+    module _ (q : Next) (m : Named s past q) where
+      pub tells-one : q ≡ next.Nothing → Tells s removal named (First place)
+      unfolding identityFault
+      tells-one g = (rw (named-first s 20 r n place past d, named-none s past q m g), begins)
+
+      pub tells-second : (place2 past2 : ℕ) → q ≡ next.At place2 past2 → removal ≡ false → Tells s removal named (Second place2)
+      unfolding identityFault failedBy numberOf
+      tells-second place2 past2 g e =
+          let st = named-stands s past q m place2 past2 g in
+          let z : 0 < place2 = omega (arith, st .reached, named-stands s 20 r n place past d .later) in
+          rw (named-first s 20 r n place past d, named-first s past q m place2 past2 g, e, lt-ltb 0 place2 z, named-failed s past q m place2 past2 g 5009 (λ b. omega arith))
+
+pub settle-start : (t : List ℕ) (count : ℕ) (s : List ℕ) (state : ℕ) (name : List ℕ)
+    → afterOf t count (isOne (numbersOf (findAll t count (restOf s 20)))) state name ≡ afterOf t count (isOne (numbersOf (findAll t count (identities (bodyOf s))))) state name
+unfolding restOf
+settle-start t count s state name = refl

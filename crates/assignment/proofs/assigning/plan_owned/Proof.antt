@@ -1,0 +1,14 @@
+use Rattle.assignment.proofs.Sars.{owned-promise}
+use borrow.Author.Needs.{needs}
+use Rattle.assignment.proofs.assigning.plan_owned.Statement.{statement}
+use Rattle.assignment.proofs.assigning.plan_owned.Tie as tie
+
+pub plan-owned-spec : {M : Type 1} → statement M
+plan-owned-spec =
+    tie.close
+    (tie.spec
+    (λ c κs. search needs)
+    (λ c κs. search needs)
+    (λ c κs. search needs)
+    (λ c κs. search needs)
+    (λ c. search (needs, owned-promise)))

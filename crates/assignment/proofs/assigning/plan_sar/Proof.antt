@@ -1,0 +1,14 @@
+use Rattle.assignment.proofs.Sars.{tells-removes}
+use borrow.Author.Needs.{needs}
+use Rattle.assignment.proofs.assigning.plan_sar.Statement.{statement}
+use Rattle.assignment.proofs.assigning.plan_sar.Tie as tie
+
+pub plan-sar-spec : {M : Type 1} → statement M
+plan-sar-spec =
+    tie.close
+    (tie.spec
+    (λ c κs. search needs)
+    (λ c κs. search needs)
+    (λ c κs. search needs)
+    (λ c κs. search (needs, tells-removes))
+    (λ c. search needs))

@@ -1,0 +1,113 @@
+// The records of named identities: looked at, and settled.
+use crate::Named;
+use crate::Survey;
+use crate::looking;
+use lookup::Found;
+use record::fields;
+use requests::identities;
+use requests::identities::Next;
+use requests::walk;
+ghost use mathlib.Core.Path.{_≡_};
+ghost use Prim.Native.Nat.{_≤_};
+ghost use lib.ListN.{length};
+ghost use Rattle.lookup.specs.Find.{endOf, findPublic};
+ghost use Rattle.lookup.specs.SoundTable.{Ordered};
+ghost use Rattle.rewrite.specs.Effect.{afterOf};
+ghost use Rattle.reading.specs.Request.{bodyOf, identities};
+ghost use Rattle.decisions.specs.Assignment.{isOne, findAll, numbersOf};
+ghost use Rattle.assignment.specs.Survey.{surveyOf, surveyBy};
+ghost use Rattle.assignment.specs.Identities.{Tells};
+
+// How many identities there are, as far as it matters: "Others need exactly one identity"; "A removal without identity needs a User-Name".
+pub fn identities_of(req: &[u8], removal: bool, named: bool) -> Named
+    ensures { λ r. ⌜ Tells (now (req .entry)) removal named r ⌝ }
+{
+    let Next::At { place, past } = identities::next_identity(req, walk::BODY) else {
+        if removal & named {
+            return Named::Nobody;
+        }
+        return Named::Lacking;
+    };
+    if removal {
+        return Named::First(place);
+    }
+    let Next::At {
+        place: second,
+        past: _,
+    } = identities::next_identity(req, past)
+    else {
+        return Named::First(place);
+    };
+    Named::Second(second)
+}
+
+// All that are named, asked whether they are the owner's.
+pub fn survey_all(
+    t: &[u8],
+    count: usize,
+    req: &[u8],
+    owner: &[u8],
+    server: &[u8],
+    kind: u32,
+) -> Survey
+    requires { ⌜ (count ≤ 4096) × Ordered (now t) count ⌝ }
+    ensures { λ r. ⌜ r ≡ surveyOf (now (t .entry)) (now (owner .entry)) (now (server .entry)) kind (findAll (now (t .entry)) count (identities (bodyOf (now (req .entry))))) ⌝ }
+{
+    let mut seen = Survey {
+        known: true,
+        own: true,
+        stores: true,
+        fits: true,
+        right: true,
+    };
+    let mut at = walk::BODY;
+    while at < req.len() {
+        let Next::At { place, past } = identities::next_identity(req, at) else {
+            return seen;
+        };
+        let f = lookup::find_public(t, count, diameter::data_at(req, place));
+        seen = looking::join(seen, looking::look_found(t, f, owner, server, kind));
+        at = past;
+    }
+    seen
+}
+
+// The same where no User-Name is given: the subscription is that of the first record.
+pub fn survey_by(t: &[u8], f: Found, count: usize, req: &[u8], server: &[u8], kind: u32) -> Survey
+    requires { ⌜ (endOf f ≤ length (now t)) × (count ≤ 4096) × Ordered (now t) count ⌝ }
+    ensures { λ r. ⌜ r ≡ surveyBy (now (t .entry)) f (now (server .entry)) kind (findAll (now (t .entry)) count (identities (bodyOf (now (req .entry))))) ⌝ }
+{
+    match f {
+        Found::At(k) => survey_all(
+            t,
+            count,
+            req,
+            fields::private(table::block(t, k as usize)),
+            server,
+            kind,
+        ),
+        Found::Nothing => Survey {
+            known: false,
+            own: true,
+            stores: true,
+            fits: true,
+            right: true,
+        },
+    }
+}
+
+// The effect on each record that is named.
+pub fn settle_named(t: &mut [u8], count: usize, req: &[u8], state: u8, server: &[u8])
+    requires { ⌜ (count ≤ 4096) × Ordered (now t) count × (length (now server) ≤ 96) ⌝ }
+    ensures { λ _. ⌜ now (t .exit) ≡ afterOf (now (t .entry)) count (isOne (numbersOf (findAll (now (t .entry)) count (identities (bodyOf (now (req .entry))))))) state (now (server .entry)) ⌝ }
+{
+    let mut at = walk::BODY;
+    while at < req.len() {
+        let Next::At { place, past } = identities::next_identity(req, at) else {
+            return;
+        };
+        let f = lookup::find_public(t, count, diameter::data_at(req, place));
+        rewrite::settle_found(t, f, state, server);
+        at = past;
+    }
+}

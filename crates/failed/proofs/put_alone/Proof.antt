@@ -1,0 +1,18 @@
+use Rattle.failed.proofs.Faulty.{alone-counted, alone-room, wrote-alone}
+use borrow.Author.Needs.{needs}
+use Rattle.failed.proofs.put_alone.Statement.{statement}
+use Rattle.failed.proofs.put_alone.Tie as tie
+
+pub put-alone-spec : {M : Type 1} → statement M
+put-alone-spec =
+    tie.close
+    (tie.spec
+    (λ c. search needs)
+    (λ c κs. search needs)
+    (λ c. search needs)
+    (λ c κs. search needs)
+    (λ c. search needs)
+    (λ c. search (needs, alone-counted))
+    (λ c κs. search (needs, alone-room))
+    (λ c. search needs)
+    (λ c. search (needs, wrote-alone)))

@@ -1,0 +1,127 @@
+// Failed-AVP: the faulty AVP of a request, its header alone, or an example of one that is missing.
+use octets::name;
+use octets::number;
+use octets::run;
+use pen::group;
+use reading::Outcome;
+use reading::kinds;
+ghost use mathlib.Core.Path.{_≡_};
+ghost use Prim.Native.Nat.{_+_, _*_, _≤_, _<_};
+ghost use lib.ListN.{length, take, drop};
+ghost use Rattle.octets.specs.Run.{Wrote};
+ghost use Rattle.diameter.specs.Avp.{avpLen};
+ghost use Rattle.pen.specs.Groups.{failed, failedSize};
+ghost use Rattle.reading.specs.Found.{numberOf};
+ghost use Rattle.reading.specs.Kinds.{rowOf};
+ghost use Rattle.reading.specs.Request.{example};
+ghost use Rattle.reading.specs.Rules.{failedOf};
+ghost use Rattle.failed.specs.Failing.{headPart, alone, sizeOf, sample};
+
+// A result's number, B or X.
+pub fn number_of(o: Outcome) -> u32
+    ensures { λ r. ⌜ r ≡ numberOf o ⌝ }
+{
+    match o {
+        Outcome::Base(n) => n,
+        Outcome::Experimental(n) => n,
+    }
+}
+
+// The length in the header of the AVP at a place, bytes past the end taken as 0.
+fn length_at(s: &[u8], at: usize) -> usize
+    requires { ⌜ at < length (now s) ⌝ }
+    ensures { λ r. ⌜ (r ≡ avpLen (drop at (now (s .entry)))) × (r < 16777216) ⌝ }
+{
+    let a = octets::wide(octets::byte_or_zero(s, at + 5));
+    let b = octets::wide(octets::byte_or_zero(s, at + 6));
+    let c = octets::wide(octets::byte_or_zero(s, at + 7));
+    a * 65536 + b * 256 + c
+}
+
+// The AVP at a place without its padding, cut at the end.
+fn whole(s: &[u8], at: usize) -> &[u8]
+    ensures { λ r. ⌜ now r ≡ take (avpLen (drop at (now (s .entry)))) (drop at (now (s .entry))) ⌝ }
+{
+    if s.len() <= at {
+        return &s[..0];
+    }
+    let n = length_at(s, at);
+    let to = name::smaller(at + n, s.len());
+    &s[at..to]
+}
+
+// The header of the AVP at a place, nothing if it is cut off.
+fn header(s: &[u8], at: usize) -> &[u8]
+    ensures { λ r. ⌜ (now r ≡ headPart (drop at (now (s .entry)))) × (length (now r) ≤ 12) ⌝ }
+{
+    if s.len() <= at {
+        return &s[..0];
+    }
+    let head = diameter::head_size(octets::byte_or_zero(s, at + 4));
+    if s.len() - at < head {
+        return &s[..0];
+    }
+    &s[at..at + head]
+}
+
+// Failed-AVP with a header alone, whose length is set to its own.
+fn put_alone(out: &mut [u8], h: &[u8]) -> usize
+    requires { ⌜ (length (now h) ≤ 12) × (failedSize (length (now h)) ≤ length (now out)) ⌝ }
+    ensures { λ r. ⌜ Wrote (failed (alone (now (h .entry)))) (now (out .entry)) (now (out .exit)) r ⌝ }
+{
+    let n = h.len();
+    let mut own = [0u8; 12];
+    run::copy(&mut own, h);
+    number::put_be24(&mut own, 5, n);
+    group::put_failed(out, &own[..n])
+}
+
+// Failed-AVP with the faulty AVP at a place, or for B5014 its header.
+pub fn put_faulty(out: &mut [u8], req: &[u8], at: usize, n: u32) -> usize
+    requires { ⌜ length (failed (failedOf n (drop at (now req)))) ≤ length (now out) ⌝ }
+    ensures { λ r. ⌜ Wrote (failed (failedOf n (drop at (now (req .entry))))) (now (out .entry)) (now (out .exit)) r ⌝ }
+{
+    if n == 5014 {
+        return put_alone(out, header(req, at));
+    }
+    group::put_failed(out, whole(req, at))
+}
+
+// How many bytes of data an example has.
+fn size_of(four: bool) -> usize
+    ensures { λ r. ⌜ (r ≡ sizeOf four) × (r ≤ 4) ⌝ }
+{
+    if four { 4 } else { 0 }
+}
+
+// An example of a kind.
+fn put_sample(out: &mut [u8], code: u32, vendor: u32, four: bool) -> usize
+    requires { ⌜ 16 ≤ length (now out) ⌝ }
+    ensures { λ r. ⌜ (r ≤ 16) × Wrote (sample code vendor four) (now (out .entry)) (now (out .exit)) r ⌝ }
+{
+    let zeros = [0u8; 4];
+    let n = size_of(four);
+    if vendor == 0 {
+        return pen::put_avp(out, code, &zeros[..n]);
+    }
+    pen::put_vendor_avp(out, code, &zeros[..n])
+}
+
+// A kind's number, or that of an unknown kind where there is no such one.
+fn known(k: usize) -> usize
+    ensures { λ r. ⌜ (rowOf r ≡ rowOf k) × (r < 17) ⌝ }
+{
+    if k < 17 { k } else { 0 }
+}
+
+// Failed-AVP with an example of a kind that is missing.
+pub fn put_example(out: &mut [u8], k: usize) -> usize
+    requires { ⌜ length (failed (example k)) ≤ length (now out) ⌝ }
+    ensures { λ r. ⌜ Wrote (failed (example k)) (now (out .entry)) (now (out .exit)) r ⌝ }
+{
+    let row = known(k);
+    let four = kinds::is_four(kinds::content_of(row));
+    let mut bytes = [0u8; 16];
+    let n = put_sample(&mut bytes, kinds::code_of(row), kinds::vendor_of(row), four);
+    group::put_failed(out, &bytes[..n])
+}

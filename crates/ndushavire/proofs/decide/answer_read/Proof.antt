@@ -1,0 +1,17 @@
+use Rattle.decisions.proofs.Ready.{sound-ready}
+use Rattle.ndushavire.proofs.Answering.{plan-reply, plan-table, answers, answers-most, read-fits}
+use Rattle.ndushavire.proofs.Room.{decide-room}
+use borrow.Author.Needs.{needs}
+use Rattle.ndushavire.proofs.decide.answer_read.Statement.{statement}
+use Rattle.ndushavire.proofs.decide.answer_read.Tie as tie
+
+pub answer-read-spec : {M : Type 1} → statement M
+answer-read-spec =
+    tie.close
+    (tie.spec
+    (λ c κs. search (needs, sound-ready))
+    (λ c κs. search (needs, decide-room, plan-reply))
+    (λ c κs. search (needs, sound-ready, read-fits))
+    (λ c. search needs)
+    (λ c. search needs)
+    (λ c. search (needs, answers-most, answers, plan-reply, plan-table)))

@@ -1,0 +1,12 @@
+use Rattle.parts.proofs.Fields.{header-room, realm-there, realm-short}
+use borrow.Author.Needs.{needs}
+use Rattle.parts.proofs.realm.Statement.{statement}
+use Rattle.parts.proofs.realm.Tie as tie
+
+pub realm-spec : {M : Type 1} → statement M
+realm-spec =
+    tie.close
+    (tie.spec
+    (λ c κs. search (needs, header-room))
+    (λ c κs. search needs)
+    (λ c. search (needs, realm-there, realm-short)))

@@ -1,0 +1,98 @@
+-- Rules (c) to (h): from what the code finds of one AVP to what the rules say of it.
+use Prim.Native.Nat.{ℕ, zero, suc, _+_, _-_, _/_, _%_, _<_, _≤_}
+use native.Mathlib.Nat.{not-suc-le-zero, le-of-suc-le-suc}
+use mathlib.Core.Path.{_≡_, refl, sym, _∙_}
+use mathlib.Core.List.{List, [], _∷_, map}
+use mathlib.Core.Option.{none}
+use mathlib.Core.Bool.{Bool, true, false, not, cond, _&&_}
+use lib.ListN.{length, getD, take, drop}
+use lib.Dec.{eqb, leb}
+use borrow.Author.Tests.{ne-eqb}
+use Rattle.diameter.specs.Avp.{avpHead, avpFlags, dataOf, valueOf, marked}
+use Rattle.diameter.specs.Walk.{walk}
+use Rattle.diameter.specs.Reader.{partAt, present, Here}
+use Rattle.diameter.proofs.Parts.{counted, data-length}
+use Rattle.diameter.proofs.Reading.{flags-take}
+use Rattle.reading.specs.declared.Content.{Content}
+use Rattle.reading.specs.declared.Content.the-variants.{Free, Number, Sized, Application}
+use Rattle.reading.specs.declared.Use.{Use}
+use Rattle.reading.specs.Kinds.{kindOf, rowOf, useIn, isUnnamed, isRepeated}
+use Rattle.reading.specs.Rules.{isFour, goodContent, members, ruleBy, rule}
+use Rattle.reading.specs.Found.{seenOf}
+
+-- (h), by what the kind must hold
+module _ (c : Content) (a : List ℕ) where
+  pub content-free : c ≡ Free → true ≡ goodContent c a
+  unfolding goodContent
+  content-free e = rw e
+
+  pub content-number : (least most n : ℕ) → c ≡ Number least most → n ≡ valueOf a → (leb least n && leb n most) ≡ goodContent c a
+  unfolding goodContent
+  content-number least most n e d = rw (e, d)
+
+  pub content-application : (t : List ℕ) (r : Bool) → c ≡ Application → t ≡ dataOf a → r ≡ members (walk t) false false → r ≡ goodContent c a
+  unfolding goodContent
+  content-application t r e d m = m ∙ rw (e, d)
+
+pub content-sized : (s : List ℕ) (at len head : ℕ) → Here s at len head → (c : Content) (least most : ℕ) → c ≡ Sized least most
+    → (leb least (len - head) && leb (len - head) most) ≡ goodContent c (take len (drop at s))
+unfolding goodContent
+content-sized s at len head h c least most e = rw (e, data-length s at len head h)
+
+-- (d)
+pub unknown-marked : (flags : ℕ) → flags / 64 % 2 ≡ 1 → _≡_ {A = ℕ} 5001 (cond (marked flags) 5001 1)
+unknown-marked flags e = rw e
+
+pub unknown-plain : (flags : ℕ) → (flags / 64 % 2 ≡ 1 → ⊥) → _≡_ {A = ℕ} 1 (cond (marked flags) 5001 1)
+unknown-plain flags h = rw (ne-eqb _ _ h)
+
+pub rule-reserved : (command : ℕ) (earlier : Bool) (k flags : ℕ) (four good : Bool) → (flags % 32 ≡ 0 → ⊥) → 3009 ≡ ruleBy command earlier k flags four good
+unfolding ruleBy
+rule-reserved command earlier k flags four good h = rw (ne-eqb _ _ h)
+
+module _ (command : ℕ) (earlier : Bool) (k flags : ℕ) (four good : Bool) (plain : flags % 32 ≡ 0) where
+  pub rule-unknown : (r : ℕ) → k ≡ 0 → r ≡ cond (marked flags) 5001 1 → r ≡ ruleBy command earlier k flags four good
+  unfolding ruleBy
+  rule-unknown r z e = e ∙ rw (plain, z)
+
+module _ (command : ℕ) (earlier : Bool) (k flags : ℕ) (four good : Bool) (plain : flags % 32 ≡ 0) (known : k ≡ 0 → ⊥) (u : Use) (e : u ≡ useIn command (rowOf k)) (x : Bool) (ex : x ≡ isUnnamed u) where
+  pub rule-unnamed : x ≡ true → 1 ≡ ruleBy command earlier k flags four good
+  unfolding ruleBy
+  rule-unnamed t = rw (plain, ne-eqb _ _ known, ← e, ← ex, t)
+
+  module _ (named : x ≡ false) (y : Bool) (ey : y ≡ isRepeated u) where
+    pub rule-often : (earlier && not y) ≡ true → 5009 ≡ ruleBy command earlier k flags four good
+    unfolding ruleBy
+    rule-often t = rw (plain, ne-eqb _ _ known, ← e, ← ex, named, ← ey, t)
+
+    module _ (once : (earlier && not y) ≡ false) (c : Content) (ec : c ≡ rowOf k .content) (z : Bool) (ez : z ≡ isFour c) where
+      pub rule-four : (z && not four) ≡ true → 5014 ≡ ruleBy command earlier k flags four good
+      unfolding ruleBy
+      rule-four t = rw (plain, ne-eqb _ _ known, ← e, ← ex, named, ← ey, once, ← ec, ← ez, t)
+
+      pub rule-good : (z && not four) ≡ false → good ≡ true → 0 ≡ ruleBy command earlier k flags four good
+      unfolding ruleBy
+      rule-good t g = rw (plain, ne-eqb _ _ known, ← e, ← ex, named, ← ey, once, ← ec, ← ez, t, g)
+
+      pub rule-bad : (z && not four) ≡ false → good ≡ false → 5004 ≡ ruleBy command earlier k flags four good
+      unfolding ruleBy
+      rule-bad t g = rw (plain, ne-eqb _ _ known, ← e, ← ex, named, ← ey, once, ← ec, ← ez, t, g)
+
+-- the AVP of a kind that stands at the kind's place
+getD-within : {X Y : Type 0} (f : X → Y) (l : List X) (i : ℕ) (d : Y) (e : X) → i < length l → getD (map f l) i d ≡ f (getD l i e)
+getD-within f [] i d e h = absurd (not-suc-le-zero h)
+getD-within f (y ∷ l) zero d e h = refl
+getD-within f (y ∷ l) (suc i) d e h = getD-within f l i d e (le-of-suc-le-suc h)
+
+pub seen-at : (s places : List ℕ) (k : ℕ) → k < length places → getD (seenOf s places) k none ≡ partAt s (getD places k 0)
+seen-at s places k h = getD-within (partAt s) places k none 0 h
+
+pub rule-there : (s places : List ℕ) (command at len head flags k : ℕ) (earlier : Bool) (c : Content) (good : Bool) (r : ℕ) → Here s at len head → flags ≡ avpFlags (take len (drop at s))
+    → k ≡ kindOf (take len (drop at s)) → k < length places → earlier ≡ present (partAt s (getD places k 0)) → c ≡ rowOf k .content → good ≡ goodContent c (take len (drop at s))
+    → r ≡ ruleBy command earlier k flags (eqb len (head + 4)) good → r ≡ rule command (seenOf s places) (take len (drop at s))
+unfolding rule
+rule-there s places command at len head flags k earlier c good r h ef ek room eb ec eg e =
+    let t = drop at s in
+    let p : avpHead t ≤ len = rw (← h .headed) (h .least) in
+    let l : avpHead (take len t) ≡ head = rw (flags-take t len p) (sym (h .headed)) in
+    e ∙ rw (eg, ec, ← ek, l, counted s at len head h, ← ef, seen-at s places k room, ← eb)

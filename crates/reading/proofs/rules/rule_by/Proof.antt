@@ -1,0 +1,22 @@
+use Rattle.reading.proofs.Judging.{rule-reserved, rule-unknown, rule-unnamed, rule-often, rule-four, rule-good, rule-bad}
+use borrow.Author.Needs.{needs}
+use Rattle.reading.proofs.rules.rule_by.Statement.{statement}
+use Rattle.reading.proofs.rules.rule_by.Tie as tie
+
+pub rule-by-spec : {M : Type 1} → statement M
+rule-by-spec =
+    tie.close
+    (tie.spec
+    (λ c κs. search needs)
+    (λ c. search (needs, rule-reserved))
+    (λ c. search (needs, rule-unknown))
+    (λ c κs. search needs)
+    (λ c κs. search needs)
+    (λ c. search (needs, rule-unnamed))
+    (λ c κs. search needs)
+    (λ c. search (needs, rule-often))
+    (λ c κs. search needs)
+    (λ c κs. search needs)
+    (λ c. search (needs, rule-four))
+    (λ c. search (needs, rule-good))
+    (λ c. search (needs, rule-bad)))

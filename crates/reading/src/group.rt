@@ -1,0 +1,55 @@
+// The members of Vendor-Specific-Application-Id 260.
+use diameter::Read;
+use octets::number;
+ghost use mathlib.Core.Path.{_≡_};
+ghost use mathlib.Core.Bool.{false};
+ghost use lib.ListN.{take, drop};
+ghost use Rattle.diameter.specs.Reader.{Here};
+ghost use Rattle.diameter.specs.Walk.{walk};
+ghost use Rattle.reading.specs.Rules.{isMember, members};
+
+// Whether the AVP at a place is a 4-byte member with such a code and value.
+fn is_member(s: &[u8], at: usize, len: usize, head: usize, code: u32, value: u32) -> bool
+    requires { ⌜ Here (now s) at len head ⌝ }
+    ensures { λ r. ⌜ r ≡ isMember (take len (drop at (now (s .entry)))) code value ⌝ }
+{
+    if len != 12 {
+        return false;
+    }
+    let flags = s[at + 4];
+    (flags % 32 == 0)
+        & (flags < 128)
+        & (number::be32(s, at) == code)
+        & (number::be32(s, at + 8) == value)
+}
+
+// "one or more Vendor-Id 266, each 10415, and one Auth-Application-Id 258 of 16777216 .. and no other"
+pub fn application_ok(s: &[u8]) -> bool
+    ensures { λ r. ⌜ r ≡ members (walk (now (s .entry))) false false ⌝ }
+{
+    let mut vendor = false;
+    let mut application = false;
+    let mut at = 0;
+    while at < s.len() {
+        let Read::Avp {
+            len,
+            next,
+            head,
+            flags: _,
+        } = diameter::read_avp(s, at)
+        else {
+            return false;
+        };
+        if is_member(s, at, len, head, 266, 10415) {
+            vendor = true;
+        } else {
+            if is_member(s, at, len, head, 258, 16777216) & !application {
+                application = true;
+            } else {
+                return false;
+            }
+        }
+        at = next;
+    }
+    vendor & application
+}

@@ -1,0 +1,144 @@
+-- How long the copies out of a request are: Session-Id, every Proxy-Info, and what Failed-AVP holds.
+use Prim.Native.Nat.{ℕ, zero, suc, pred, _+_, _-_, _%_, _≤_}
+use mathlib.Core.Path.{_≡_, refl}
+use mathlib.Core.Logic.{_⊎_, inl, inr}
+use mathlib.Core.Bool.{Bool, true, false, cond, _&&_}
+use mathlib.Core.List.{List, [], _∷_}
+use mathlib.Core.Option.{none, some}
+use native.Mathlib.Omega.{arith}
+use lib.Dec.{eqb, leb, ltb}
+use lib.ListN.{length, take, drop, set, replicate, length-append, length-take, length-drop, length-set}
+use lib.Seq.{length-take-le}
+use borrow.Author.Tests.{eqb-true, ne-eqb, ltb-true}
+use Rattle.diameter.specs.Avp.{padded, avpFlags, avpHead, avpLen, reserved, sound}
+use Rattle.diameter.specs.Put.{glue}
+use Rattle.diameter.specs.Walk.{Walk, ended, faulty, avp, onSound, walkFrom, walk}
+use Rattle.diameter.proofs.Walks.{sound-says}
+use Rattle.pen.specs.Bytes.{copied, copiedSize, avpBytes, vendorBytes, ifThere}
+use Rattle.pen.proofs.Sizes.{copied-length, there-length, avp-length, vendor-length}
+use Rattle.pen.proofs.Groups as group
+use Rattle.reading.specs.Kinds.{kindOf, rowOf, sessionId, proxyInfo}
+use Rattle.reading.specs.Rules.{isFour, failedOf}
+use Rattle.reading.specs.Request.{bodyOf, sessionOf, exampleOf, example}
+use Rattle.reading.specs.Found.{numberOf, failedBy}
+use Rattle.reading.specs.declared.Verdict.{Verdict}
+use Rattle.reply.specs.Answer.{failedPart, proxies}
+
+-- What stands from the first length fault on adds no Proxy-Info.
+pub proxies-before : (avs : List (List ℕ)) (t : List ℕ) → proxies (glue avs (faulty t)) ≡ proxies (glue avs ended)
+unfolding proxies glue
+proxies-before [] t = refl
+proxies-before (a ∷ avs) t = rw (proxies-before avs t)
+
+-- one AVP of a walk: it is Session-Id or Proxy-Info, and not both
+session-or-proxy : (a : List ℕ) (w : Walk) → copiedSize (length (sessionOf (avp a w))) + length (proxies (avp a w)) ≤ copiedSize (length a) + length (proxies w)
+unfolding proxies ifThere
+session-or-proxy a w = simp length-append (go (eqb (kindOf a) sessionId) (eqb (reserved (avpFlags a)) 0) refl)
+  where
+    go : (x y : Bool) → eqb (kindOf a) sessionId ≡ x
+        → copiedSize (length (cond (x && y) a [])) + (length (ifThere (eqb (kindOf a) proxyInfo) (copied a)) + length (proxies w)) ≤ copiedSize (length a) + length (proxies w)
+    go true true e =
+        let k : kindOf a ≡ 1 = eqb-true (kindOf a) 1 e in
+        rw (ne-eqb (kindOf a) 15 (omega arith)) (omega arith)
+    go true false e = omega (arith, there-length (eqb (kindOf a) proxyInfo) (copied a), copied-length a)
+    go false y e = omega (arith, there-length (eqb (kindOf a) proxyInfo) (copied a), copied-length a)
+
+-- a whole AVP at the front, and what is copied after it
+first-room : (t : List ℕ) (m : ℕ) → sound t ≡ true → length t % 4 ≡ 0 → m ≤ length t - padded (avpLen t) → copiedSize (length (take (avpLen t) t)) + m ≤ length t
+unfolding padded
+first-room t m s e h = let q = sound-says t s in rw (length-take-le (avpLen t) t (q .within)) (omega (arith, q .within))
+
+module _ (x : ℕ) (t : List ℕ) (s : sound (x ∷ t) ≡ true) (e : length (x ∷ t) % 4 ≡ 0) where
+  skip-within : pred (padded (avpLen (x ∷ t))) ≤ length t
+  unfolding padded
+  skip-within = let q = sound-says (x ∷ t) s in omega (arith, q .within)
+
+  skip-even : (length t - pred (padded (avpLen (x ∷ t)))) % 4 ≡ 0
+  unfolding padded
+  skip-even = let q = sound-says (x ∷ t) s in omega (arith, q .within, q .eight, q .least)
+
+  skip-left : (m : ℕ) → m ≤ length t - pred (padded (avpLen (x ∷ t))) → m ≤ length (x ∷ t) - padded (avpLen (x ∷ t))
+  unfolding padded
+  skip-left m h = let q = sound-says (x ∷ t) s in omega (arith, q .within, q .eight, q .least)
+
+walked : (k : ℕ) (t : List ℕ) → k ≤ length t → (length t - k) % 4 ≡ 0 → length (proxies (walkFrom k t)) ≤ length t - k
+unfolding walkFrom proxies
+walked k [] h e = omega arith
+walked (suc k) (x ∷ t) h e = let d : length t - k ≡ length (x ∷ t) - suc k = omega arith in rw (← d) (walked k t (omega arith) (rw d e))
+walked zero (x ∷ t) h e = go (sound (x ∷ t)) refl (walked (pred (padded (avpLen (x ∷ t)))) t)
+  where
+    k : ℕ
+    k = pred (padded (avpLen (x ∷ t)))
+
+    go : (b : Bool) → sound (x ∷ t) ≡ b → (k ≤ length t → (length t - k) % 4 ≡ 0 → length (proxies (walkFrom k t)) ≤ length t - k)
+        → length (proxies (onSound b (x ∷ t) (walkFrom k t))) ≤ length (x ∷ t) - 0
+    go true s i =
+        let a : List ℕ = take (avpLen (x ∷ t)) (x ∷ t) in
+        let f : length (x ∷ t) % 4 ≡ 0 = omega arith in
+        let r = first-room (x ∷ t) (length (proxies (walkFrom k t))) s f (skip-left x t s f _ (i (skip-within x t s f) (skip-even x t s f))) in
+        simp length-append (omega (arith, r, there-length (eqb (kindOf a) proxyInfo) (copied a), copied-length a))
+    go false s i = omega arith
+
+pub proxies-length : (t : List ℕ) → length t % 4 ≡ 0 → length (proxies (walk t)) ≤ length t
+unfolding walk
+proxies-length t e = let n : length t - 0 ≡ length t = omega arith in rw n at (walked 0 t (omega arith) (rw n e))
+
+-- Session-Id is the first AVP and no Proxy-Info: the two are copied from different AVPs.
+session-walk : (t : List ℕ) → length t % 4 ≡ 0 → copiedSize (length (sessionOf (walk t))) + length (proxies (walk t)) ≤ length t
+unfolding walk walkFrom proxies
+session-walk [] e = omega arith
+session-walk (x ∷ t) e = go (sound (x ∷ t)) refl
+  where
+    w : Walk
+    w = walkFrom (pred (padded (avpLen (x ∷ t)))) t
+
+    go : (b : Bool) → sound (x ∷ t) ≡ b → copiedSize (length (sessionOf (onSound b (x ∷ t) w))) + length (proxies (onSound b (x ∷ t) w)) ≤ length (x ∷ t)
+    go true s =
+        let i = walked (pred (padded (avpLen (x ∷ t)))) t (skip-within x t s e) (skip-even x t s e) in
+        omega (arith, session-or-proxy (take (avpLen (x ∷ t)) (x ∷ t)) w, first-room (x ∷ t) (length (proxies w)) s e (skip-left x t s e _ i))
+    go false s = omega arith
+
+pub session-proxies : (req : List ℕ) → 20 ≤ length req → length req % 4 ≡ 0 → copiedSize (length (sessionOf (bodyOf req))) + length (proxies (bodyOf req)) ≤ length req - 20
+session-proxies req h e =
+    let l : length (drop 20 req) ≡ length req - 20 = length-drop 20 req in
+    rw l at (session-walk (drop 20 req) (rw l (omega arith)))
+
+-- What Failed-AVP holds is no longer than what is there.
+pub fault-length : (n : ℕ) (t : List ℕ) → length (failedOf n t) ≤ length t
+unfolding failedOf
+fault-length n t = go (eqb n 5014) (leb (avpHead t) (length t)) refl
+  where
+    go : (x y : Bool) → leb (avpHead t) (length t) ≡ y
+        → length (cond x (cond y (set (set (set (take (avpHead t) t) 5 0) 6 0) 7 (avpHead t)) []) (take (avpLen t) t)) ≤ length t
+    go true true e = simp (length-set, length-take) (omega arith)
+    go true false e = omega arith
+    go false y e = simp length-take (omega arith)
+
+pub failed-length : (n p : ℕ) (req : List ℕ) → 20 ≤ p → length req % 4 ≡ 0 → length (failedPart (some (failedOf n (drop p req)))) ≤ 8 + (length req - 20)
+failed-length n p req h e =
+    let l : length (drop p req) ≡ length req - p = length-drop p req in
+    omega (arith, group.failed-length (failedOf n (drop p req)), fault-length n (drop p req))
+
+pub example-length : (k : ℕ) → length (failedPart (some (example k))) ≤ 24
+unfolding example exampleOf
+example-length k =
+    omega (arith, group.failed-length (example k), go (eqb (rowOf k .vendor) 0) (isFour (rowOf k .content)))
+  where
+    go : (x y : Bool) → length (cond x (avpBytes (rowOf k .code) (replicate (cond y 4 0) 0)) (vendorBytes (rowOf k .code) (replicate (cond y 4 0) 0))) ≤ 16
+    go true true = omega (arith, avp-length (rowOf k .code) (replicate 4 0))
+    go true false = omega (arith, avp-length (rowOf k .code) [])
+    go false true = omega (arith, vendor-length (rowOf k .code) (replicate 4 0))
+    go false false = omega (arith, vendor-length (rowOf k .code) [])
+
+-- of a verdict whose place, if it has one, is in the body
+pub verdict-length : (req : List ℕ) (v : Verdict) → 20 ≤ length req → length req % 4 ≡ 0 → (v .place ≡ 0) ⊎ (20 ≤ v .place)
+    → length (failedPart (failedBy req v)) ≤ 24 + (length req - 20)
+unfolding failedBy
+verdict-length req v h e p = go (ltb 0 (v .lacks)) (ltb 0 (v .place)) refl p
+  where
+    go : (x y : Bool) → ltb 0 (v .place) ≡ y → (v .place ≡ 0) ⊎ (20 ≤ v .place)
+        → length (failedPart (cond x (some (example (v .lacks))) (cond y (some (failedOf (numberOf (v .result)) (drop (v .place) req))) none))) ≤ 24 + (length req - 20)
+    go true y d q = omega (arith, example-length (v .lacks))
+    go false true d (inl z) = absurd (omega (arith, ltb-true 0 (v .place) d))
+    go false true d (inr k) = omega (arith, failed-length (numberOf (v .result)) (v .place) req k e)
+    go false false d q = omega arith

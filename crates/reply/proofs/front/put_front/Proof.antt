@@ -1,0 +1,13 @@
+use Rattle.reply.proofs.Written.{session-room, session-most, wrote-session}
+use borrow.Author.Needs.{needs}
+use Rattle.reply.proofs.front.put_front.Statement.{statement}
+use Rattle.reply.proofs.front.put_front.Tie as tie
+
+pub put-front-spec : {M : Type 1} → statement M
+put-front-spec =
+    tie.close
+    (tie.spec
+    (λ c κs. search needs)
+    (λ c κs. search (needs, session-room))
+    (λ c. search needs)
+    (λ c. search (needs, session-most, wrote-session)))

@@ -1,0 +1,17 @@
+use Rattle.reply.proofs.Written.{wrote-base, wrote-experimental}
+use borrow.Author.Needs.{needs}
+use Rattle.reply.proofs.front.put_result.Statement.{statement}
+use Rattle.reply.proofs.front.put_result.Tie as tie
+
+pub put-result-spec : {M : Type 1} → statement M
+put-result-spec =
+    tie.close
+    (tie.spec
+    (λ c. search needs)
+    (λ c κs. search needs)
+    (λ c. search needs)
+    (λ c κs. search needs)
+    (λ c. search needs)
+    (λ c. search (needs, wrote-base))
+    (λ c. search needs)
+    (λ c. search (needs, wrote-experimental)))

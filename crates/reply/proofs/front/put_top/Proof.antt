@@ -1,0 +1,17 @@
+use Rattle.reply.proofs.Written.{wrote-top}
+use borrow.Author.Needs.{needs}
+use Rattle.reply.proofs.front.put_top.Statement.{statement}
+use Rattle.reply.proofs.front.put_top.Tie as tie
+
+pub put-top-spec : {M : Type 1} → statement M
+put-top-spec =
+    tie.close
+    (tie.spec
+    (λ c κs. search needs)
+    (λ c. search needs)
+    (λ c. search needs)
+    (λ c. search needs)
+    (λ c κs. search needs)
+    (λ c. search needs)
+    (λ c. search needs)
+    (λ c. search (needs, wrote-top)))

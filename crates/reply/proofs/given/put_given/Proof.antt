@@ -1,0 +1,17 @@
+use Rattle.reply.proofs.Written.{wrote-given}
+use borrow.Author.Needs.{needs}
+use Rattle.reply.proofs.given.put_given.Statement.{statement}
+use Rattle.reply.proofs.given.put_given.Tie as tie
+
+pub put-given-spec : {M : Type 1} → statement M
+put-given-spec =
+    tie.close
+    (tie.spec
+    (λ c κs. search needs)
+    (λ c. search needs)
+    (λ c. search needs)
+    (λ c. search needs)
+    (λ c κs. search needs)
+    (λ c. search needs)
+    (λ c. search needs)
+    (λ c. search (needs, wrote-given)))

@@ -1,0 +1,19 @@
+use Rattle.reply.proofs.Written.{wrote-names}
+use borrow.Author.Needs.{needs}
+use Rattle.reply.proofs.given.put_names.Statement.{statement}
+use Rattle.reply.proofs.given.put_names.Tie as tie
+
+pub put-names-spec : {M : Type 1} → statement M
+put-names-spec =
+    tie.close
+    (tie.spec
+    (λ c κs. search needs)
+    (λ c κs. search needs)
+    (λ c. search needs)
+    (λ c. search needs)
+    (λ c. search needs)
+    (λ c κs. search needs)
+    (λ c κs. search needs)
+    (λ c. search needs)
+    (λ c. search needs)
+    (λ c. search (needs, wrote-names)))

@@ -1,0 +1,21 @@
+use Rattle.reply.proofs.Written.{wrote-header}
+use borrow.Author.Needs.{needs}
+use Rattle.reply.proofs.header.put_header.Statement.{statement}
+use Rattle.reply.proofs.header.put_header.Tie as tie
+
+pub put-header-spec : {M : Type 1} → statement M
+put-header-spec =
+    tie.close
+    (tie.spec
+    (λ c. search needs)
+    (λ c κs. search needs)
+    (λ c κs. search needs)
+    (λ c. search needs)
+    (λ c. search needs)
+    (λ c. search needs)
+    (λ c. search needs)
+    (λ c. search needs)
+    (λ c. search needs)
+    (λ c κs. search needs)
+    (λ c. search needs)
+    (λ c. search (needs, wrote-header)))

@@ -1,0 +1,22 @@
+use mathlib.Core.Path.{refl}
+use native.Mathlib.Omega.{arith}
+use lib.ListN.{length-set}
+use Rattle.octets.proofs.Writes.{over-sets}
+use borrow.Author.Needs.{needs}
+use Rattle.reply.proofs.header.put_start.Statement.{statement}
+use Rattle.reply.proofs.header.put_start.Tie as tie
+
+pub put-start-spec : {M : Type 1} → statement M
+put-start-spec =
+    tie.close
+    (tie.spec
+    (λ c. search needs)
+    (λ c. search needs)
+    (λ c. simp length-set (omega arith))
+    (λ c. search needs)
+    (λ c. simp length-set (omega arith))
+    (λ c. search needs)
+    (λ c. simp length-set (omega arith))
+    (λ c. search needs)
+    (λ c. search needs)
+    (λ c. record { count = refl; bytes = over-sets _ _ (c .pre) }))

@@ -1,0 +1,40 @@
+// The answer's header.
+use octets::run;
+use reading::Outcome;
+ghost use mathlib.Core.Path.{_≡_};
+ghost use Prim.Native.Nat.{_≤_};
+ghost use lib.ListN.{length};
+ghost use Rattle.octets.specs.Run.{Wrote};
+ghost use Rattle.reply.specs.Answer.{flagsOf, headerBytes};
+ghost use Rattle.reply.specs.Pieces.{startBytes};
+
+// "flags P as received and E exactly for 3xxx, no others"
+fn flags_of(flags: u8, result: Outcome) -> u8
+    ensures { λ r. ⌜ r ≡ flagsOf flags result ⌝ }
+{
+    if failed::number_of(result) / 1000 == 3 {
+        return flags / 64 % 2 * 64 + 32;
+    }
+    flags / 64 % 2 * 64
+}
+
+// Version 1, the length, the flags.
+fn put_start(out: &mut [u8], n: usize, flags: u8)
+    requires { ⌜ 5 ≤ length (now out) ⌝ }
+    ensures { λ _. ⌜ Wrote (startBytes n flags) (now (out .entry)) (now (out .exit)) 5 ⌝ }
+{
+    out[0] = 1;
+    out[1] = (n / 65536 % 256) as u8;
+    out[2] = (n / 256 % 256) as u8;
+    out[3] = (n % 256) as u8;
+    out[4] = flags;
+}
+
+// The header of an answer of n bytes: command, application and both identifiers as received.
+pub fn put_header(out: &mut [u8], req: &[u8], result: Outcome, n: usize)
+    requires { ⌜ (20 ≤ length (now out)) × (20 ≤ length (now req)) ⌝ }
+    ensures { λ _. ⌜ Wrote (headerBytes (now (req .entry)) result n) (now (out .entry)) (now (out .exit)) 20 ⌝ }
+{
+    put_start(out, n, flags_of(req[4], result));
+    run::copy(&mut out[5..], &req[5..20]);
+}

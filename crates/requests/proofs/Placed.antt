@@ -1,0 +1,47 @@
+-- A kind's AVP is what stands at the kind's place.
+use Prim.Native.Nat.{ℕ, _<_}
+use mathlib.Core.Path.{_≡_, refl, sym, _∙_}
+use mathlib.Core.List.{List}
+use mathlib.Core.Option.{Option, none, some}
+use mathlib.Core.Bool.{Bool}
+use lib.ListN.{length, getD, take, drop}
+use lib.Seq.{drop-nil}
+use Rattle.diameter.specs.Avp.{headOf, dataOf, valueOf}
+use Rattle.diameter.specs.Reader.{readOf, partAt, present, orNone, dataAt}
+use Rattle.diameter.specs.declared.Read.{Read}
+use Rattle.diameter.specs.declared.Read.the-variants.{Avp, Fault}
+use Rattle.diameter.proofs.Reading.{read-says, read-none}
+use Rattle.reading.specs.Request.{given, dataIf, valueIf, dataIn, valueIn}
+use Rattle.reading.specs.Found.{seenOf}
+use Rattle.reading.proofs.Judging.{seen-at}
+
+data-if : (o : Option (List ℕ)) → dataIf o ≡ dataOf (orNone o)
+data-if none = sym (drop-nil (headOf 0))
+data-if (some a) = refl
+
+module _ (s places : List ℕ) (k : ℕ) (room : k < length places) where
+  pub data-in : dataIn (seenOf s places) k ≡ dataAt s (getD places k 0)
+  data-in = rw (seen-at s places k room) (data-if (partAt s (getD places k 0)))
+
+  pub value-in : valueIn (seenOf s places) k ≡ valueIf (partAt s (getD places k 0))
+  value-in = rw (seen-at s places k room)
+
+  pub given-in : given (seenOf s places) k ≡ present (partAt s (getD places k 0))
+  given-in = rw (seen-at s places k room)
+
+  pub data-placed : (d : List ℕ) → d ≡ dataAt s (getD places k 0) → d ≡ dataIn (seenOf s places) k
+  data-placed d e = e ∙ sym data-in
+
+  pub value-placed : (v : ℕ) → v ≡ valueIf (partAt s (getD places k 0)) → v ≡ valueIn (seenOf s places) k
+  value-placed v e = e ∙ sym value-in
+
+  pub given-placed : (b : Bool) → b ≡ present (partAt s (getD places k 0)) → b ≡ given (seenOf s places) k
+  given-placed b e = e ∙ sym given-in
+
+-- the number at a place
+module _ (s : List ℕ) (at : ℕ) (r : Read) (e : r ≡ readOf at (drop at s)) where
+  pub place-empty : r ≡ Fault → 0 ≡ valueIf (partAt s at)
+  place-empty d = rw (read-none s at r e d)
+
+  pub place-value : (len next head flags v : ℕ) → r ≡ Avp len next head flags → v ≡ valueOf (take len (drop at s)) → v ≡ valueIf (partAt s at)
+  place-value len next head flags v d ev = rw (read-says s at r e len next head flags d .part) ev

@@ -1,0 +1,59 @@
+-- One turn of the walk over a message: to judge the rest from what is found so far is to judge the whole from nothing.
+use Prim.Native.Nat.{ℕ, zero, suc, _≤_, _<_}
+use mathlib.Core.Path.{_≡_, refl, ap, _∙_}
+use mathlib.Core.List.{List, [], _∷_, map}
+use native.Mathlib.Omega.{arith}
+use lib.ListN.{length, take, drop, set, replicate}
+use borrow.Author.Tests.{ne-eqb}
+use Rattle.diameter.specs.Walk.{walk}
+use Rattle.diameter.specs.Reader.{readOf, partAt}
+use Rattle.diameter.specs.declared.Read.{Read}
+use Rattle.diameter.specs.declared.Read.the-variants.{Avp, Fault}
+use Rattle.diameter.proofs.Reading.{read-says, read-fault-says, walk-past, none-past}
+use Rattle.reading.specs.declared.Walked.{Walked}
+use Rattle.reading.specs.Kinds.{kindOf}
+use Rattle.reading.specs.Rules.{nothing, Judged, rule, judge}
+use Rattle.reading.specs.Found.{seenOf, judgedOf, Refused, Accepted}
+use Rattle.requests.proofs.Failing.{failed-there, refused-at, accepted-at}
+
+map-set : {X Y : Type 0} (f : X → Y) (l : List X) (i : ℕ) (x : X) → map f (set l i x) ≡ set (map f l) i (f x)
+map-set f [] i x = refl
+map-set f (y ∷ l) zero x = refl
+map-set f (y ∷ l) (suc i) x = ap (f y ∷_) (map-set f l i x)
+
+-- at first no kind has a place
+pub nothing-seen : (s : List ℕ) (command at : ℕ) → judge command (walk (drop at s)) (seenOf s (replicate 17 (length s))) ≡ judge command (walk (drop at s)) nothing
+unfolding nothing
+nothing-seen s command at = rw (none-past s (length s) (omega arith))
+
+module _ (s places : List ℕ) (command at : ℕ) (whole : Judged) (left : judge command (walk (drop at s)) (seenOf s places) ≡ whole) where
+  pub turn-end : (w : Walked) → length s ≤ at → Accepted places w → judgedOf s w ≡ whole
+  unfolding judge
+  turn-end w h a = accepted-at s places w a ∙ rw (walk-past s at h) at left
+
+  module _ (r : Read) (e : r ≡ readOf at (drop at s)) where
+    pub turn-cut : (w : Walked) → 20 ≤ at → at < length s → r ≡ Fault → Refused 5014 at 0 w → judgedOf s w ≡ whole
+    unfolding judge
+    turn-cut w l h d f = refused-at s 5014 w at (omega arith) f ∙ rw (read-fault-says s at r e h d) at left
+
+    module _ (len next head flags n : ℕ) (d : r ≡ Avp len next head flags) (en : n ≡ rule command (seenOf s places) (take len (drop at s))) where
+      pub turn-bad : (w : Walked) → 20 ≤ at → 1 < n → Refused n at 0 w → judgedOf s w ≡ whole
+      unfolding judge
+      turn-bad w l h f =
+          let says = read-says s at r e len next head flags d in
+          let p = ne-eqb n 0 (λ z. omega arith) in
+          let q = ne-eqb n 1 (λ z. omega arith) in
+          refused-at s n w at (omega arith) f
+          ∙ rw (says .walked, ← en, p, q, failed-there n s at len next head flags says) at left
+
+      pub turn-taken : (k : ℕ) → k ≡ kindOf (take len (drop at s)) → n ≡ 0 → judge command (walk (drop next s)) (seenOf s (set places k at)) ≡ whole
+      unfolding judge
+      turn-taken k ek z =
+          let says = read-says s at r e len next head flags d in
+          rw (map-set (partAt s) places k at, says .part, ek) (rw (says .walked, ← en, z) at left)
+
+      pub turn-skipped : n ≤ 1 → (n ≡ 0 → ⊥) → judge command (walk (drop next s)) (seenOf s places) ≡ whole
+      unfolding judge
+      turn-skipped h z =
+          let one : n ≡ 1 = omega arith in
+          rw (read-says s at r e len next head flags d .walked, ← en, one) at left

@@ -1,0 +1,34 @@
+use Prim.Native.Nat.{_-_, _≤_}
+use mathlib.Core.Path.{_≡_}
+use lib.ListN.{length, drop}
+use Rattle.diameter.specs.Walk.{walk}
+use Rattle.diameter.proofs.Reading.{read-here}
+use Rattle.reading.specs.Request.{identities}
+use Rattle.reading.proofs.Walking.{read-less, read-from}
+use Rattle.requests.proofs.Naming.{named-end, named-cut, named-at, named-more}
+use borrow.Author.Needs.{needs}
+use Rattle.requests.proofs.identities.next_identity.Statement.{statement}
+use Rattle.requests.proofs.identities.next_identity.Tie as tie
+
+abbrev Inv-loop : tie.InvT-loop
+Inv-loop s from at₀ at = (from ≤ at) × (identities (walk (drop at s)) ≡ identities (walk (drop from s)))
+
+abbrev μ-loop : tie.MeasureT-loop
+μ-loop s from at₀ at = length s - at
+
+pub next-identity-spec : {M : Type 1} → statement M
+next-identity-spec =
+    tie.close
+    (tie.spec
+    Inv-loop
+    μ-loop
+    (λ c. search needs)
+    (λ c κs. search needs)
+    (λ c. search needs)
+    (λ c. search needs)
+    (λ c. search (needs, named-cut))
+    (λ c κs. search (needs, read-here))
+    (λ c. search (needs, named-at))
+    (λ c. search (needs, read-less))
+    (λ c. search (needs, named-more, read-from))
+    (λ c. search (needs, named-end)))

@@ -1,0 +1,43 @@
+use Prim.Native.Nat.{_-_, _≤_}
+use mathlib.Core.Path.{_≡_}
+use lib.ListN.{length, drop}
+use Rattle.diameter.specs.Walk.{walk}
+use Rattle.diameter.proofs.Reading.{read-here}
+use Rattle.reading.specs.Rules.{nothing, judge}
+use Rattle.reading.specs.Found.{seenOf}
+use Rattle.reading.proofs.Walking.{read-less, read-from, read-flagged}
+use Rattle.requests.proofs.Turns.{nothing-seen, turn-end, turn-cut, turn-bad, turn-taken, turn-skipped}
+use borrow.Author.Needs.{needs}
+use Rattle.requests.proofs.walk.walk_message.Statement.{statement}
+use Rattle.requests.proofs.walk.walk_message.Tie as tie
+
+abbrev Inv-loop : tie.InvT-loop
+Inv-loop s command absent places₀ at₀ places at = (length places ≡ 17) × (20 ≤ at) × (judge command (walk (drop at s)) (seenOf s places) ≡ judge command (walk (drop 20 s)) nothing)
+
+abbrev μ-loop : tie.MeasureT-loop
+μ-loop s command absent places₀ at₀ places at = length s - at
+
+pub walk-message-spec : {M : Type 1} → statement M
+walk-message-spec =
+    tie.close
+    (tie.spec
+    Inv-loop
+    μ-loop
+    (λ c. search (needs, nothing-seen))
+    (λ c κs. search needs)
+    (λ c. search needs)
+    (λ c. search needs)
+    (λ c κs. search needs)
+    (λ c. search (needs, turn-cut))
+    (λ c κs. search (needs, read-here))
+    (λ c κs. search (needs, read-here, read-flagged))
+    (λ c κs. search needs)
+    (λ c. search (needs, turn-bad))
+    (λ c. search needs)
+    (λ c. search needs)
+    (λ c. search (needs, read-less))
+    (λ c. search (needs, turn-taken, read-from))
+    (λ c. search (needs, read-less))
+    (λ c. search (needs, turn-skipped, read-from))
+    (λ c κs. search needs)
+    (λ c. search (needs, turn-end)))

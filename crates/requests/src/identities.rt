@@ -1,0 +1,36 @@
+// The Public-Identities of a request, one after the other: a SAR may have many.
+use diameter::Read;
+use reading::kinds;
+ghost use Rattle.requests.specs.Identity.{Named};
+
+// The next Public-Identity: its place, and the place after it.
+pub enum Next {
+    At { place: usize, past: usize },
+    Nothing,
+}
+
+// The first one at or after a place where an AVP begins.
+pub fn next_identity(s: &[u8], from: usize) -> Next
+    ensures { λ r. ⌜ Named (now (s .entry)) from r ⌝ }
+{
+    let mut at = from;
+    while at < s.len() {
+        let Read::Avp {
+            len,
+            next,
+            head,
+            flags: _,
+        } = diameter::read_avp(s, at)
+        else {
+            return Next::Nothing;
+        };
+        if kinds::kind_at(s, at, len, head) == kinds::PUBLIC_IDENTITY {
+            return Next::At {
+                place: at,
+                past: next,
+            };
+        }
+        at = next;
+    }
+    Next::Nothing
+}

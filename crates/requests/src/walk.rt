@@ -1,0 +1,75 @@
+// "Then AVPs by position; the first fault decides."
+use diameter::Read;
+use reading::Outcome;
+use reading::Verdict;
+use reading::Walked;
+use reading::kinds;
+use reading::rules;
+ghost use mathlib.Core.Path.{_≡_};
+ghost use lib.ListN.{drop};
+ghost use Rattle.diameter.specs.Walk.{walk};
+ghost use Rattle.reading.specs.Rules.{nothing, judge};
+ghost use Rattle.reading.specs.Found.{judgedOf, Refused, Accepted};
+
+// Where a message's AVPs begin.
+pub const BODY: usize = 20;
+
+// A fault: its base result, the place of the AVP at fault (0: none is), the kind that is missing (0: none is).
+pub fn refuse(number: u32, place: usize, lacks: usize) -> Walked
+    ensures { λ r. ⌜ Refused number place lacks r ⌝ }
+{
+    Walked {
+        ok: false,
+        verdict: Verdict {
+            result: Outcome::Base(number),
+            place,
+            lacks,
+        },
+        places: [0; 17],
+    }
+}
+
+// No fault, and the places of the kinds.
+pub fn accept(places: [usize; 17]) -> Walked
+    ensures { λ r. ⌜ Accepted places r ⌝ }
+{
+    Walked {
+        ok: true,
+        verdict: Verdict {
+            result: Outcome::Base(2001),
+            place: 0,
+            lacks: 0,
+        },
+        places,
+    }
+}
+
+// The walk over the AVPs, up to the first fault.
+pub fn walk_message(s: &[u8], command: usize) -> Walked
+    ensures { λ r. ⌜ judgedOf (now (s .entry)) r ≡ judge command (walk (drop 20 (now (s .entry)))) nothing ⌝ }
+{
+    let absent = s.len();
+    let mut places = [absent; 17];
+    let mut at = BODY;
+    while at < s.len() {
+        let Read::Avp {
+            len,
+            next,
+            head,
+            flags,
+        } = diameter::read_avp(s, at)
+        else {
+            return refuse(5014, at, 0);
+        };
+        let k = kinds::kind_at(s, at, len, head);
+        let n = rules::rule_at(s, command, places, at, len, head, flags, k);
+        if n > 1 {
+            return refuse(n, at, 0);
+        }
+        if n == 0 {
+            places[k] = at;
+        }
+        at = next;
+    }
+    accept(places)
+}

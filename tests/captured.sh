@@ -1,0 +1,46 @@
+#!/usr/bin/env bash
+# captured.sh ROOM MAKETABLE REFERENCE DECIDE..: each request in captured/, as real software sent it, gets from each DECIDE
+# what the independent program answers, and the result that its head names. RUN, if set, is the emulator that runs a DECIDE.
+set -euo pipefail
+room=$1 maketable=$2 reference=$(cd "$(dirname "$3")" && pwd)/${3##*/}
+shift 3
+rm -rf "$room"
+mkdir -p "$room"
+tried=0
+
+fail() {
+    echo "captured.sh: $*" >&2
+    exit 1
+}
+many() { printf "%0*d" "$1" 0; } # N bytes
+
+# The lines that the requests ask for, as their heads describe them.
+cat >"$room/text" <<END
+host=hss.isle realm=isle keep=1 network=isle network=guest.example
+
+public=sip:alice@isle private=alice@isle roaming=isle mandatory=1,2 optional=3
+
+public=sip:bob@isle private=bob@isle roaming=isle state=registered server=sip:scscf1.isle:6060
+
+public=sip:erin@isle private=erin@isle roaming=isle unregistered-services mandatory=1,2 profile=$(many 432)
+
+public=sip:user0@isle private=user0@isle roaming=isle profile=$(many 434)
+
+public=sip:user3@isle private=user3@isle roaming=isle
+END
+"$maketable" "$room/text" "$room/table" "$room/profile"
+
+for request in "$(dirname "$0")"/captured/*.hex; do
+    result=$(sed -n 's/^# .* answered: \([BX][0-9]*\).*/\1/p' "$request")
+    [ -n "$result" ] || fail "$request names no result"
+    printf %b "$(grep -v '^#' "$request" | tr -d ' \n' | sed 's/../\\x&/g')" >"$room/request"
+    (cd "$room" && "$reference" answer <request) >"$room/answer"
+    "$reference" show <"$room/answer" | grep -q -w "$result" || fail "$request: the independent program does not say $result"
+    expected=$(od -An -v -tx1 "$room/answer" | tr -d ' \n')
+    for decide in "$@"; do
+        said=$(${RUN:+"$RUN"} "$decide" "$room/table" "$room/profile" "$request" | sed '1d; /block/d' | tr -d ' \n' | tr A-F a-f)
+        [ "$said" = "$expected" ] || fail "$request: $decide answers otherwise than the independent program"
+    done
+    tried=$((tried + 1))
+done
+echo "captured.sh: $tried requests of real software, each answered as it should be"
