@@ -25,30 +25,28 @@ BINARY := reference/target/release/reference
 PROVED := crates.txt $(shell find crates -name '*.rt' -o -name '*.antt' -o -type d)
 REFERENCE := $(shell find reference -path reference/target -prune -o -name '*.rs' -print -o -name 'Cargo.*' -print)
 
-# ndushavire_decide is not there yet: what calls it is built as soon as the crate exports it.
-ifneq ($(shell grep -ls 'fn ndushavire_decide' crates/ndushavire/src/*.rt),)
-DECIDE := decide
-DECIDES := -DNDUSHAVIRE_DECIDE
-endif
-
-run: target/c/maketable $(addprefix target/c99/,check $(DECIDE))
+# The program answer on the sample, and what it answered in a form to read. A program of the kit runs with the kit's own
+# loader and C library, on either machine.
+KIT := $(shell dirname "$$(rt doc)")/..
+PROGRAM := $(RUN) $(KIT)/toolchain/lib/ld-linux-x86-64.so.2 --library-path $(KIT)/toolchain/lib
+run: target/c/maketable target/c99/check target/bin/answer $(BINARY)
 	mkdir -p target/run
 	target/c/maketable examples/households.txt target/run/table target/run/profile
 	$(RUN) target/c99/check target/run/table target/run/profile
-ifdef DECIDE
-	$(RUN) target/c99/decide target/run/table target/run/profile examples/no-avps.hex
-endif
+	cd target/run && $(PROGRAM) ../bin/answer <../../crates/answer/stdin | ../../$(BINARY) show
+
+target/bin/answer: $(PROVED)
+	rt check answer
+	touch $@
 
 test: fmt examples tables reference installs differential
 
 fmt:
 	rt fmt --check
 
-examples: $(foreach mode,c99 cxx,$(addprefix target/$(mode)/,check $(DECIDE))) target/c/maketable $(BINARY)
-ifdef DECIDE
+examples: $(foreach mode,c99 cxx,$(addprefix target/$(mode)/,check decide)) target/c/maketable $(BINARY)
 	tests/decide.sh target/test/decide target/c/maketable target/c99/decide target/cxx/decide
 	tests/captured.sh target/test/captured target/c/maketable $(BINARY) target/c99/decide target/cxx/decide
-endif
 
 tables: examples
 	tests/tables.sh target/test/tables target/c/maketable target/c99/check target/cxx/check
@@ -65,7 +63,7 @@ ifndef SEED
 SEED := $(shell od -An -N4 -tu4 /dev/urandom | tr -d ' ')
 endif
 DRIVER := $(RUN) target/c99/driver
-KINDS := tables $(if $(DECIDE),calls demand3)
+KINDS := tables calls demand3
 COUNT_tables := 200000
 COUNT_calls := 100000
 COUNT_demand3 := 20000
@@ -82,7 +80,7 @@ COUNT_round := 100000
 soak: target/c99/driver $(BINARY)
 	@for ((round = 0; round < $(ROUNDS); round++)); do \
 	    echo "soak: SEED=$$(($(SEED) + round)) ROUNDS=$$(($(ROUNDS) - round))"; \
-	    for kind in tables $(if $(DECIDE),calls); do \
+	    for kind in tables calls; do \
 	        $(BINARY) compare --kind $$kind --seed $$(($(SEED) + round)) --count $(COUNT_round) -- $(DRIVER); \
 	    done; \
 	done
@@ -116,7 +114,7 @@ target/c/maketable: examples/maketable.c examples/load.h
 
 target/c99/driver: tests/driver.c $(HEADER) $(ARCHIVE)
 	mkdir -p $(@D)
-	$(X86_CC) -std=c99 $(STRICT) $(DECIDES) -o $@ $< $(ARCHIVE)
+	$(X86_CC) -std=c99 $(STRICT) -o $@ $< $(ARCHIVE)
 
 target/c99/%: examples/%.c examples/load.h $(HEADER) $(ARCHIVE)
 	mkdir -p $(@D)
@@ -139,12 +137,10 @@ DECIDED := 1-short 16-short 300-short 4096-short 1-tiny 16-tiny 300-tiny 4096-ti
 # A program's arguments: each table, its profile file and how its names are.
 samples = $(foreach size,$(1),target/bench/$(size).table target/bench/$(size).profile $(word 2,$(subst -, ,$(size))))
 
-bench: $(addprefix target/bench/,check $(DECIDE)) $(patsubst %,target/bench/%.table,$(sort $(CHECKED) $(DECIDED)))
+bench: $(addprefix target/bench/,check decide) $(patsubst %,target/bench/%.table,$(sort $(CHECKED) $(DECIDED)))
 	$(CC) --version | head -n 1
 	target/bench/check $(call samples,$(CHECKED))
-ifdef DECIDE
 	target/bench/decide $(call samples,$(DECIDED))
-endif
 
 # How much stack the calls of the archive take.
 stack: target/c99/stack $(DECIDED:%=target/bench/%.table)
@@ -164,7 +160,7 @@ target/bench/decide: bench/decide.c bench/requests.h bench/timing.h examples/loa
 
 target/c99/stack: bench/stack.c bench/requests.h examples/load.h $(HEADER) $(ARCHIVE)
 	mkdir -p $(@D)
-	$(X86_CC) -std=c99 $(STRICT) $(DECIDES) -o $@ $< $(ARCHIVE)
+	$(X86_CC) -std=c99 $(STRICT) -o $@ $< $(ARCHIVE)
 
 target/bench/libreference_c.a: bench/reference.rs $(BINARY)
 	mkdir -p $(@D)

@@ -78,6 +78,15 @@ static double measure(Sample *s, const Request *request, const char *what, int a
     return t[DECIDE];
 }
 
+/* Reading is linear: some 1,350 AVPs take twice the time of half as many. */
+static void measure_reading(Sample *s, Request *request, const uint8_t *record) {
+    ask_long_location(request, record, NDUSHAVIRE_REQUEST_MAX / 2);
+    const double half = measure(s, request, "LIR of 8 KiB", 0);
+    ask_long_location(request, record, NDUSHAVIRE_REQUEST_MAX);
+    const double whole = measure(s, request, "LIR of 16 KiB", 0);
+    printf("%7lu  whole against half %5.2f\n", (unsigned long)s->records, whole / half);
+}
+
 int main(int argc, char **argv) {
     static uint8_t answer[NDUSHAVIRE_ANSWER_ROOM];
     static Request request;
@@ -108,6 +117,7 @@ int main(int argc, char **argv) {
             measure(&s, &request, "LIR", 1);
             ask_assignment(&request, s.table, s.records, registered, 1, 1);
             measure(&s, &request, "SAR type 1", 1);
+            if (s.records == 1) measure_reading(&s, &request, registered);
         }
         free(s.table);
         free(s.profile);

@@ -108,6 +108,13 @@ static void ask_location(Request *r, const uint8_t *record) {
     end(r);
 }
 
+/* The same, filled up with Route-Records of 12 bytes to at most so many bytes. */
+static void ask_long_location(Request *r, const uint8_t *record, size_t most) {
+    ask_location(r, record);
+    while (r->length + 12 <= most) put_text(r, 282, "r.is");
+    end(r);
+}
+
 /* An assignment of a type to so many lines, of which the last is the record and the others stand about the table; the
  * server is the record's. */
 static void ask_assignment(Request *r, const uint8_t *table, size_t records, const uint8_t *record, uint32_t type, size_t lines) {

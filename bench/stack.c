@@ -7,9 +7,7 @@
 #include <ndushavire.h>
 
 #include "../examples/load.h"
-#ifdef NDUSHAVIRE_DECIDE
 #include "requests.h"
-#endif
 
 enum { STACK = 1 << 20, PATTERN = 0xA5, AIM = 48 * 1024 };
 
@@ -22,14 +20,12 @@ static ucontext_t here, there;
 
 static void nothing(void) { word = 0; }
 static void check(void) { word = ndushavire_check(s.table, s.table_len, s.profile, s.profile_len); }
-#ifdef NDUSHAVIRE_DECIDE
 static Request request;
 static uint8_t answer[NDUSHAVIRE_ANSWER_ROOM];
 static void decide(void) {
     word = ndushavire_decide(request.bytes, request.length, s.table, s.table_len, s.profile, s.profile_len, answer,
                              sizeof answer);
 }
-#endif
 
 /* How many bytes of the stack a call alters. */
 static size_t depth(void (*call)(void)) {
@@ -64,7 +60,6 @@ int main(int argc, char **argv) {
         s.profile = load(argv[i + 1], &s.profile_len);
         s.records = s.table_len / NDUSHAVIRE_BLOCK - 1;
         over |= report(check, "check");
-#ifdef NDUSHAVIRE_DECIDE
         const uint8_t *registered = last_in(s.table, s.records, REGISTERED);
         if (strcmp(argv[i + 2], "tiny") == 0) {
             ask_assignment(&request, s.table, s.records, registered, 6, 1);
@@ -82,7 +77,6 @@ int main(int argc, char **argv) {
             end(&request);
             over |= report(decide, "a header alone");
         }
-#endif
         free(s.table);
         free(s.profile);
     }

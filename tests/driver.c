@@ -1,6 +1,6 @@
 /*
  * Calls the library's entries for the cases on standard input and writes what they did to standard output.
- * Both formats are in reference/README.md. Compile with -DNDUSHAVIRE_DECIDE once ndushavire_decide is there.
+ * Both formats are in reference/README.md.
  */
 #include <stddef.h>
 #include <stdint.h>
@@ -100,11 +100,9 @@ static uint64_t call(unsigned entry, uint8_t *const slice[SLICES], const size_t 
 {
     if (entry == CHECK)
         return ndushavire_check(slice[TABLE], length[TABLE], slice[PROFILE], length[PROFILE]);
-#ifdef NDUSHAVIRE_DECIDE
     if (entry == DECIDE)
         return ndushavire_decide(slice[REQUEST], length[REQUEST], slice[TABLE], length[TABLE], slice[PROFILE],
                                  length[PROFILE], slice[BUFFER], length[BUFFER]);
-#endif
     fail("a case of an entry that this driver does not have");
     return 0;
 }

@@ -4,4 +4,5 @@ pub mod Numbers
 pub mod Orders
 pub mod Runs
 pub mod Sums
+pub mod Turns
 pub mod Writes

@@ -1,13 +1,16 @@
--- Laws of zero runs, and of a name put into its field.
-use Prim.Native.Nat.{ℕ, suc, _+_, _-_, _≤_, max}
-use mathlib.Core.Bool.{Bool, true, _&&_}
+-- Laws of zero runs, of the tail of a field, and of a name put into its field.
+use Prim.Native.Nat.{ℕ, zero, suc, _+_, _-_, _<_, _≤_, min, max}
+use mathlib.Core.Bool.{Bool, true, false, _&&_, and-assoc, and-true}
 use mathlib.Core.Path.{_≡_, refl, sym}
 use mathlib.Core.List.{List}
 use native.Mathlib.Omega.{arith}
 use native.Mathlib.Numerals.{add-one}
-use lib.Dec.{eqb}
+use lib.Bits.{bitOr, or-add-and, and-le-l, and-le-r, or-zero-l}
+use lib.Dec.{eqb, ltb}
 use lib.ListN.{length, getD, set, List·getD-eq-default}
+use borrow.Author.Tests.{eq-eqb, ne-eqb, eqb-true, eqb-false, ltb-true, ltb-false}
 use Rattle.octets.specs.Run.{zeros, zeroBetween, putName}
+use Rattle.octets.proofs.All.{and-left, and-right}
 
 -- The turns of the loop that looks for zeros.
 pub zeros-none : (s : List ℕ) (from : ℕ) → true ≡ zeros s from (from - from)
@@ -25,6 +28,72 @@ pub zeros-all : (s : List ℕ) (from to i : ℕ) {good : Bool} → from ≤ i �
 unfolding zeroBetween
 zeros-all s from to i a b h e = let n : i - from ≡ to - from = omega arith in rw (← n) e
 
+-- Two runs of zeros, one after the other, are one.
+zeros-join : (s : List ℕ) (at m n : ℕ) → zeros s at (m + n) ≡ (zeros s at m && zeros s (at + m) n)
+unfolding zeros
+zeros-join s at m zero = let e : m + 0 ≡ m = omega arith in rw (e, and-true)
+zeros-join s at m (suc n) =
+    let e : m + suc n ≡ suc (m + n) = omega arith in
+    let f : at + (m + n) ≡ at + m + n = omega arith in
+    rw (e, f, zeros-join s at m n, and-assoc)
+
+pub zero-join : (s : List ℕ) (from middle to : ℕ) → from ≤ middle → middle ≤ to → (zeroBetween s from middle && zeroBetween s middle to) ≡ zeroBetween s from to
+unfolding zeroBetween
+zero-join s from middle to a b =
+    let e : to - from ≡ middle - from + (to - middle) = omega arith in
+    let f : from + (middle - from) ≡ middle = omega arith in
+    rw (e, zeros-join s from (middle - from) (to - middle), f)
+
+-- A field in two parts: its first n bytes end in the first part, or they go on in the second.
+module _ (s : List ℕ) (at n k to : ℕ) where
+  pub tail-first : {x y : Bool} → n ≤ k → at + k ≤ to → x ≡ zeroBetween s (at + n) (at + k) → x ≡ true → y ≡ zeroBetween s (at + k) to → y ≡ zeroBetween s (at + n) to
+  tail-first a b e f g = rw (← zero-join s (at + n) (at + k) to (omega arith) b, ← e, f) g
+
+  pub tail-stained : {x : Bool} → n ≤ k → at + k ≤ to → x ≡ zeroBetween s (at + n) (at + k) → x ≡ false → false ≡ zeroBetween s (at + n) to
+  tail-stained a b e f = rw (← zero-join s (at + n) (at + k) to (omega arith) b, ← e, f)
+
+  pub tail-second : {x : Bool} → k < n → x ≡ zeroBetween s (at + k + (n - k)) to → x ≡ zeroBetween s (at + n) to
+  tail-second a e = let p : at + k + (n - k) ≡ at + n = omega arith in rw (← p) e
+
+-- The turns of the loop over a field whose first n bytes do not count.
+or-zero : (a b : ℕ) → eqb (bitOr a b) 0 ≡ (eqb a 0 && eqb b 0)
+or-zero a b = go (eqb a 0) (eqb b 0) refl refl
+  where
+    go : (x y : Bool) → eqb a 0 ≡ x → eqb b 0 ≡ y → eqb (bitOr a b) 0 ≡ (x && y)
+    go true y e f = rw (eqb-true a 0 e, or-zero-l b) f
+    go false true e f = ne-eqb (bitOr a b) 0 (λ z. eqb-false a 0 e (omega (arith, or-add-and a b, and-le-r a b, eqb-true b 0 f)))
+    go false false e f = ne-eqb (bitOr a b) 0 (λ z. eqb-false b 0 f (omega (arith, or-add-and a b, and-le-l a b)))
+
+min-zero : (x y : ℕ) → 0 < y → eqb (min x y) 0 ≡ eqb x 0
+min-zero x y h = go (eqb x 0) refl
+  where
+    go : (b : Bool) → eqb x 0 ≡ b → eqb (min x y) 0 ≡ b
+    go true e = eq-eqb (min x y) 0 (omega (arith, eqb-true x 0 e))
+    go false e = ne-eqb (min x y) 0 (λ z. eqb-false x 0 e (omega arith))
+
+pub tail-none : (s : List ℕ) (at n : ℕ) → eqb 0 0 ≡ zeros s (at + n) (at + 0 - (at + n))
+unfolding zeros
+tail-none s at n = let e : at + 0 - (at + n) ≡ 0 = omega arith in rw e
+
+pub tail-more : (s : List ℕ) (at n i left : ℕ) {x y : ℕ} → eqb left 0 ≡ zeros s (at + n) (at + i - (at + n)) → y ≡ i + 1 - n → x ≡ min (getD s (at + i) 0) y
+    → eqb (bitOr left x) 0 ≡ zeros s (at + n) (at + (i + 1) - (at + n))
+tail-more s at n i left {x} {y} e ey ex = go (ltb i n) refl
+  where
+    go : (b : Bool) → ltb i n ≡ b → eqb (bitOr left x) 0 ≡ zeros s (at + n) (at + (i + 1) - (at + n))
+    go true f =
+        let h : i < n = ltb-true i n f in
+        let z : x ≡ 0 = omega arith in
+        let k : at + (i + 1) - (at + n) ≡ at + i - (at + n) = omega arith in
+        rw (or-zero left x, z, k, ← e, and-true)
+    go false f =
+        let h : n ≤ i = ltb-false i n f in
+        let k : at + (i + 1) ≡ at + i + 1 = omega arith in
+        rw (or-zero left x, ex, min-zero (getD s (at + i) 0) y (omega arith), k) (zeros-more s (at + n) (at + i) (omega arith) e)
+
+pub tail-all : (s : List ℕ) (at n i to left : ℕ) → at ≤ to → i ≤ to - at → to - at ≤ i → eqb left 0 ≡ zeros s (at + n) (at + i - (at + n)) → eqb left 0 ≡ zeroBetween s (at + n) to
+unfolding zeroBetween
+tail-all s at n i to left h a b e = let k : at + i ≡ to = omega arith in rw (← k) e
+
 -- The turns of the loop that puts a name.
 pub name-none : (s : List ℕ) (at : ℕ) (name : List ℕ) → s ≡ putName s at name 0
 unfolding putName
@@ -40,3 +109,21 @@ name-all s at name i n a b e = let k : i ≡ n = omega arith in cc
 
 pub past-zero : (s : List ℕ) (i : ℕ) → length s ≤ i → 0 ≡ getD s i 0
 past-zero s i h = sym (List·getD-eq-default s 0 h)
+
+-- A byte of a zero run is zero.
+zeros-at : (s : List ℕ) (at n i : ℕ) → zeros s at n ≡ true → i < n → getD s (at + i) 0 ≡ 0
+unfolding zeros
+zeros-at s at zero i e h = absurd (omega arith)
+zeros-at s at (suc n) i e h = go (ltb i n) refl (zeros-at s at n i (and-left (zeros s at n) (eqb (getD s (at + n) 0) 0) e))
+  where
+    go : (x : Bool) → ltb i n ≡ x → (i < n → getD s (at + i) 0 ≡ 0) → getD s (at + i) 0 ≡ 0
+    go true f r = r (ltb-true i n f)
+    go false f r =
+        let k : i ≡ n = omega (arith, ltb-false i n f) in
+        rw k (eqb-true (getD s (at + n) 0) 0 (and-right (zeros s at n) (eqb (getD s (at + n) 0) 0) e))
+
+pub zero-at : (s : List ℕ) (from to : ℕ) → zeroBetween s from to ≡ true → (i : ℕ) → from ≤ i → i < to → getD s i 0 ≡ 0
+unfolding zeroBetween
+zero-at s from to e i a b =
+    let k : from + (i - from) ≡ i = omega arith in
+    rw k at (zeros-at s from (to - from) (i - from) e (omega arith))

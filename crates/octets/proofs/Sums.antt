@@ -1,5 +1,5 @@
--- Laws of sums of words: past a store, and by two sums side by side.
-use Prim.Native.Nat.{ℕ, zero, suc, _+_, _*_, _%_, _^_, _<_, _≤_}
+-- Laws of sums of words: past a store, and by four sums side by side.
+use Prim.Native.Nat.{ℕ, zero, suc, _+_, _*_, _/_, _%_, _^_, _<_, _≤_}
 use mathlib.Core.Path.{_≡_, refl, ap}
 use mathlib.Core.List.{List}
 use native.Mathlib.Omega.{arith}
@@ -38,24 +38,31 @@ sum-more s i e f g = rw (add-one, ← e, ← f) g
 pub sum-all : (s : List ℕ) (i n : ℕ) {sum : ℕ} → sum ≡ sumWords s i → i ≤ n → n ≤ i → sum ≡ sumWords s n
 sum-all s i n e a b = let k : i ≡ n = omega arith in cc
 
--- Two sums side by side.
-wrap-pairs : (a b x y : ℕ) → ((a + x) % 2 ^ 32 + (b + y) % 2 ^ 32) % 2 ^ 32 ≡ (((a + b) % 2 ^ 32 + x) % 2 ^ 32 + y) % 2 ^ 32
-wrap-pairs a b x y =
-    let e : a + x + (b + y) ≡ a + b + x + y = omega arith in
-    simp (mod-add-mod, add-mod-mod) (ap (λ (z : ℕ). z % 2 ^ 32) e)
+-- Four sums side by side.
+wrap-fours : (a b c d x y z w : ℕ)
+    → (((a + x) % 2 ^ 32 + (b + y) % 2 ^ 32) % 2 ^ 32 + ((c + z) % 2 ^ 32 + (d + w) % 2 ^ 32) % 2 ^ 32) % 2 ^ 32
+    ≡ ((((((a + b) % 2 ^ 32 + (c + d) % 2 ^ 32) % 2 ^ 32 + x) % 2 ^ 32 + y) % 2 ^ 32 + z) % 2 ^ 32 + w) % 2 ^ 32
+wrap-fours a b c d x y z w =
+    let e : a + x + (b + y) + (c + z + (d + w)) ≡ a + b + (c + d) + x + y + z + w = omega arith in
+    simp (mod-add-mod, add-mod-mod) (ap (λ (n : ℕ). n % 2 ^ 32) e)
 
-pub pairs-none : (s : List ℕ) → (0 + 0) % 2 ^ 32 ≡ sumWords s (2 * 0)
+pub fours-none : (s : List ℕ) → ((0 + 0) % 2 ^ 32 + (0 + 0) % 2 ^ 32) % 2 ^ 32 ≡ sumWords s (4 * 0)
 unfolding sumWords
-pairs-none s = refl
+fours-none s = refl
 
-pub pairs-more : (s : List ℕ) (i a b x y : ℕ) {a' b' : ℕ} → (a + b) % 2 ^ 32 ≡ sumWords s (2 * i) → x ≡ be32At s (8 * i) → y ≡ be32At s (8 * i + 4)
-    → a' ≡ (a + x) % 2 ^ 32 → b' ≡ (b + y) % 2 ^ 32 → (a' + b') % 2 ^ 32 ≡ sumWords s (2 * (i + 1))
+pub fours-more : (s : List ℕ) (i a b c d x y : ℕ) {a' b' c' d' : ℕ} → ((a + b) % 2 ^ 32 + (c + d) % 2 ^ 32) % 2 ^ 32 ≡ sumWords s (4 * i)
+    → (x / 4294967296 ≡ be32At s (16 * i)) × (x % 4294967296 ≡ be32At s (16 * i + 4)) → (y / 4294967296 ≡ be32At s (16 * i + 8)) × (y % 4294967296 ≡ be32At s (16 * i + 8 + 4))
+    → a' ≡ (a + x / 4294967296) % 2 ^ 32 → b' ≡ (b + x % 4294967296) % 2 ^ 32 → c' ≡ (c + y / 4294967296) % 2 ^ 32 → d' ≡ (d + y % 4294967296) % 2 ^ 32
+    → ((a' + b') % 2 ^ 32 + (c' + d') % 2 ^ 32) % 2 ^ 32 ≡ sumWords s (4 * (i + 1))
 unfolding sumWords
-pairs-more s i a b x y e ex ey ea eb =
-    let n : 2 * (i + 1) ≡ suc (suc (2 * i)) = omega arith in
-    let u : 4 * (2 * i) ≡ 8 * i = omega arith in
-    let v : 4 * suc (2 * i) ≡ 8 * i + 4 = omega arith in
-    rw (n, ea, eb, u, v, ← ex, ← ey, ← e) (wrap-pairs a b x y)
+fours-more s i a b c d x y e ex ey ea eb ec ed =
+    let n : 4 * (i + 1) ≡ suc (suc (suc (suc (4 * i)))) = omega arith in
+    let p : 4 * (4 * i) ≡ 16 * i = omega arith in
+    let q : 4 * suc (4 * i) ≡ 16 * i + 4 = omega arith in
+    let r : 4 * suc (suc (4 * i)) ≡ 16 * i + 8 = omega arith in
+    let t : 4 * suc (suc (suc (4 * i))) ≡ 16 * i + 8 + 4 = omega arith in
+    rw (n, ea, eb, ec, ed, p, q, r, t, ← ex .0, ← ex .1, ← ey .0, ← ey .1, ← e) (wrap-fours a b c d (x / 4294967296) (x % 4294967296) (y / 4294967296) (y % 4294967296))
 
-pub pairs-all : (s : List ℕ) (i n a b : ℕ) {r : ℕ} → (a + b) % 2 ^ 32 ≡ sumWords s (2 * i) → i ≤ n → n ≤ i → r ≡ (a + b) % 2 ^ 32 → r ≡ sumWords s (2 * n)
-pairs-all s i n a b e h k f = let q : i ≡ n = omega arith in cc
+pub fours-all : (s : List ℕ) (i n a b c d : ℕ) {p q r : ℕ} → ((a + b) % 2 ^ 32 + (c + d) % 2 ^ 32) % 2 ^ 32 ≡ sumWords s (4 * i) → i ≤ n → n ≤ i
+    → p ≡ (a + b) % 2 ^ 32 → q ≡ (c + d) % 2 ^ 32 → r ≡ (p + q) % 2 ^ 32 → r ≡ sumWords s (4 * n)
+fours-all s i n a b c d e h k ep eq er = let m : i ≡ n = omega arith in cc

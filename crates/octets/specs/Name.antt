@@ -1,5 +1,5 @@
 -- "A name is bytes, compared exactly." "Public identities rise strictly, bytewise, a prefix first."
-use Prim.Native.Nat.{ℕ}
+use Prim.Native.Nat.{ℕ, _+_}
 use mathlib.Core.Bool.{Bool, _&&_, cond}
 use mathlib.Core.List.{List, [], _∷_}
 use lib.ListN.{length, getD}
@@ -24,6 +24,10 @@ byLength m n = cond (ltb m n) Less (cond (ltb n m) Greater Equal)
 -- two names have the same byte i; the same bytes
 unfoldable pub alikeAt : List ℕ → List ℕ → ℕ → Bool
 alikeAt s t i = eqb (getD s i 0) (getD t i 0)
+
+-- the same byte j after place i
+unfoldable pub alikeFrom : List ℕ → List ℕ → ℕ → ℕ → Bool
+alikeFrom s t i j = alikeAt s t (i + j)
 
 unfoldable pub same : List ℕ → List ℕ → Bool
 same s t = eqb (length s) (length t) && allBelow (alikeAt s t) (length s)

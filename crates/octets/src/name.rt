@@ -1,7 +1,9 @@
 // Names: bytes, compared exactly.
 ghost use mathlib.Core.Path.{_≡_};
-ghost use Prim.Native.Nat.{min};
-ghost use Rattle.octets.specs.Name.{orderOf, same, byByte, byLength};
+ghost use Prim.Native.Nat.{_+_, _≤_, _<_, min};
+ghost use lib.ListN.{length, drop};
+ghost use Rattle.octets.specs.All.{allBelow};
+ghost use Rattle.octets.specs.Name.{orderOf, same, alikeFrom, byByte, byLength};
 
 pub enum Order {
     Less,
@@ -33,12 +35,40 @@ fn by_length(m: usize, n: usize) -> Order
     if n < m { Order::Greater } else { Order::Equal }
 }
 
-// The order of two names: one test of a length and one of a byte in each turn.
+// Whether k bytes from place i on are the same in both names. No early exit: eight bytes become one comparison.
+fn alike(s: &[u8], t: &[u8], i: usize, k: usize) -> bool
+    requires { ⌜ (i + k ≤ length (now s)) × (i + k ≤ length (now t)) ⌝ }
+    ensures { λ r. ⌜ r ≡ allBelow (alikeFrom (now (s .entry)) (now (t .entry)) i) k ⌝ }
+{
+    let mut same = true;
+    for j in 0..k {
+        same = same & (s[i + j] == t[i + j]);
+    }
+    same
+}
+
+// Passes over what is the same from a place on, k bytes at a time, below n.
+fn passed(s: &[u8], t: &[u8], n: usize, from: usize, k: usize) -> usize
+    requires { ⌜ (n ≤ length (now s)) × (n ≤ length (now t)) × (from ≤ n) × (0 < k) ⌝ }
+    ensures { λ r. ⌜ (r ≤ n) × (orderOf (drop from (now (s .entry))) (drop from (now (t .entry))) ≡ orderOf (drop r (now (s .entry))) (drop r (now (t .entry)))) ⌝ }
+{
+    let mut i = from;
+    while k <= n - i {
+        if alike(s, t, i, k) {
+            i += k;
+        } else {
+            return i;
+        }
+    }
+    i
+}
+
+// The order of two names. Equal beginnings are passed over in large steps, then byte by byte.
 pub fn order_of(s: &[u8], t: &[u8]) -> Order
     ensures { λ r. ⌜ r ≡ orderOf (now (s .entry)) (now (t .entry)) ⌝ }
 {
     let n = smaller(s.len(), t.len());
-    let mut i = 0;
+    let mut i = passed(s, t, n, passed(s, t, n, 0, 32), 8);
     while i < n {
         let a = s[i];
         let b = t[i];

@@ -1,6 +1,6 @@
 // Runs of bytes: zeros that are looked for, bytes that are written.
 ghost use mathlib.Core.Path.{_≡_};
-ghost use Prim.Native.Nat.{_+_, _≤_};
+ghost use Prim.Native.Nat.{_+_, _-_, _≤_, _<_, min};
 ghost use lib.ListN.{length, replicate};
 ghost use Rattle.octets.specs.Run.{zeroBetween, putName, Wrote};
 
@@ -14,6 +14,51 @@ pub fn zero_between(s: &[u8], from: usize, to: usize) -> bool
         clear = clear & (s[i] == 0);
     }
     clear
+}
+
+// The smaller of two bytes.
+fn lesser(m: u8, n: u8) -> u8
+    ensures { λ r. ⌜ r ≡ min m n ⌝ }
+{
+    if m < n { m } else { n }
+}
+
+// How far i is past n.
+fn beyond(i: u8, n: u8) -> u8
+    ensures { λ r. ⌜ r ≡ i - n ⌝ }
+{
+    if i < n { 0 } else { i - n }
+}
+
+// Whether the bytes of a field past its first n are all zero. Every byte takes part, one of the first n as 0: a field of fixed length
+// becomes vectors with no byte left over.
+pub fn zero_tail(s: &[u8], at: usize, to: usize, n: u8) -> bool
+    requires { ⌜ (at ≤ to) × (to ≤ length (now s)) × (to < at + 256) ⌝ }
+    ensures { λ r. ⌜ r ≡ zeroBetween (now (s .entry)) (at + n) to ⌝ }
+{
+    let mut left: u8 = 0;
+    for i in 0..to - at {
+        left = left | lesser(s[at + i], beyond((i + 1) as u8, n));
+    }
+    left == 0
+}
+
+// The same of a field longer than 64 bytes, in fewer steps: past a short name its later part is zeros alone, and of a long name its first
+// part says nothing.
+pub fn zero_long_tail(s: &[u8], at: usize, to: usize, n: u8) -> bool
+    requires { ⌜ (at + 64 ≤ to) × (to ≤ length (now s)) × (to < at + 256) ⌝ }
+    ensures { λ r. ⌜ r ≡ zeroBetween (now (s .entry)) (at + n) to ⌝ }
+{
+    let middle = at + 64;
+    if n <= 64 {
+        if zero_tail(s, at, middle, n) {
+            zero_between(s, middle, to)
+        } else {
+            false
+        }
+    } else {
+        zero_tail(s, middle, to, n - 64)
+    }
 }
 
 // Puts a name into a field of n bytes, with zeros after it.

@@ -1,7 +1,7 @@
 -- The tests of a header together, those of a record, and what a sound header says of its counts.
 use Prim.Native.Nat.{ℕ, _≤_}
-use mathlib.Core.Bool.{Bool, true, _&&_}
-use mathlib.Core.Path.{_≡_}
+use mathlib.Core.Bool.{Bool, true, false, _&&_, true≢false}
+use mathlib.Core.Path.{_≡_, refl, sym, _∙_}
 use mathlib.Core.List.{List}
 use lib.Dec.{eqb, leb}
 use borrow.Author.Tests.{leb-true}
@@ -19,10 +19,38 @@ pub header-all : (b : List ℕ) (h : Header) (s : ℕ) (c t n r w : Bool) → h 
 unfolding soundHeader
 header-all b h s c t n r w eh ec es et en er ew = rw (ew, er, en, et, es, ec, eh)
 
-pub record-all : (b : List ℕ) (k networks file : ℕ) (q : Record) (s : ℕ) (h l n r w p : Bool) → q ≡ recordOf b → s ≡ sumWords b 128 → h ≡ soundHead b k → l ≡ soundLimits q
-    → n ≡ soundServer q → r ≡ soundRoaming q networks → w ≡ soundProfile q file → p ≡ soundRest b q → (eqb s 0 && h && l && n && r && w && p) ≡ soundRecord b k networks file
-unfolding soundRecord
-record-all b k networks file q s h l n r w p eq es eh el en er ew ep = rw (ep, ew, er, en, el, eh, es, eq)
+-- A record's numbers are tested first, and its unused places only where the numbers are within their limits.
+third-fourth : (a b c d e f g h i j : Bool) → (a && b && c && d && e && f && g && h && i && j) ≡ true → (c ≡ true) × (d ≡ true)
+third-fourth true true true true e f g h i j z = (refl, refl)
+third-fourth true true true false e f g h i j z = absurd (true≢false (sym z))
+third-fourth true true false d e f g h i j z = absurd (true≢false (sym z))
+third-fourth true false c d e f g h i j z = absurd (true≢false (sym z))
+third-fourth false b c d e f g h i j z = absurd (true≢false (sym z))
+
+module _ (q : Record) (z h l n r w : Bool) (el : l ≡ soundLimits q) (good : (z && h && l && n && r && w) ≡ true) where
+  limits-good : l ≡ true
+  limits-good = and-right (z && h) l (and-left (z && h && l) n (and-left (z && h && l && n) r (and-left (z && h && l && n && r) w good)))
+
+  counts : (leb (q .mandatory) 4 ≡ true) × (leb (q .optional) 4 ≡ true)
+  counts = third-fourth (leb (q .state) 2) (leb (q .bits) 7) _ _ _ _ _ _ _ _ (sym el ∙ limits-good)
+
+  pub limits-mandatory : q .mandatory ≤ 4
+  limits-mandatory = leb-true _ _ (counts .0)
+
+  pub limits-optional : q .optional ≤ 4
+  limits-optional = leb-true _ _ (counts .1)
+
+module _ (b : List ℕ) (k networks file : ℕ) (q : Record) (s : ℕ) (h l n r w : Bool) (eq : q ≡ recordOf b) (es : s ≡ sumWords b 128) (eh : h ≡ soundHead b k)
+    (el : l ≡ soundLimits q) (en : n ≡ soundServer q) (er : r ≡ soundRoaming q networks) (ew : w ≡ soundProfile q file) where
+  record-whole : (eqb s 0 && h && l && n && r && w && soundRest b q) ≡ soundRecord b k networks file
+  unfolding soundRecord
+  record-whole = rw (ew, er, en, el, eh, es, eq)
+
+  pub record-rest : {p : Bool} → (eqb s 0 && h && l && n && r && w) ≡ true → p ≡ soundRest b q → p ≡ soundRecord b k networks file
+  record-rest g e = e ∙ rw g at record-whole
+
+  pub record-refused : (eqb s 0 && h && l && n && r && w) ≡ false → false ≡ soundRecord b k networks file
+  record-refused g = rw g at record-whole
 
 module _ (b : List ℕ) (h : Header) {x : Bool} (is : h ≡ headerOf b) (e : x ≡ soundHeader b) (good : x ≡ true) where
   counts-good : soundCounts h ≡ true

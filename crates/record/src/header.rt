@@ -109,8 +109,8 @@ fn rest(b: &[u8], h: Header) -> bool
     requires { ⌜ length (now b) ≡ 512 ⌝ }
     ensures { λ r. ⌜ r ≡ soundRest (now (b .entry)) h ⌝ }
 {
-    run::zero_between(b, Header::HOST_AT + (h.host as usize), Header::REALM_AT)
-        & run::zero_between(b, Header::REALM_AT + (h.realm as usize), Header::PLACES_AT)
+    run::zero_tail(b, Header::HOST_AT, Header::REALM_AT, h.host)
+        & run::zero_tail(b, Header::REALM_AT, Header::PLACES_AT, h.realm)
         & run::zero_between(b, Header::REST_AT, Header::CHECK_AT)
 }
 
@@ -121,7 +121,7 @@ pub fn sound(b: &[u8]) -> bool
 {
     let h = Header::read(b);
     counts(h)
-        & ((sum::sum_pairs(b, 64) == 0)
+        & ((sum::sum_fours(b, 32) == 0)
             & top(b)
             & numbers(h)
             & rest(b, h)

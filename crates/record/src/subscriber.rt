@@ -151,35 +151,25 @@ fn within(r: Record, file: usize) -> bool
     (r.start as usize) + (r.size as usize) <= file
 }
 
-// The tails of the names and of the capabilities, and the bytes not named.
+// The tails of the names and of the capabilities, whose counts are within their limits, and the bytes not named.
 fn rest(b: &[u8], r: Record) -> bool
-    requires { ⌜ length (now b) ≡ 512 ⌝ }
+    requires { ⌜ (length (now b) ≡ 512) × (r .mandatory ≤ 4) × (r .optional ≤ 4) ⌝ }
     ensures { λ x. ⌜ x ≡ soundRest (now (b .entry)) r ⌝ }
 {
-    run::zero_between(
-        b,
-        Record::PUBLIC_AT + (r.public as usize),
-        Record::PRIVATE_AT,
-    )
-        & run::zero_between(
+    run::zero_long_tail(b, Record::PUBLIC_AT, Record::PRIVATE_AT, r.public)
+        & run::zero_long_tail(b, Record::PRIVATE_AT, Record::SERVER_AT, r.private)
+        & run::zero_long_tail(b, Record::SERVER_AT, Record::MANDATORY_AT, r.server)
+        & run::zero_tail(
             b,
-            Record::PRIVATE_AT + (r.private as usize),
-            Record::SERVER_AT,
-        )
-        & run::zero_between(
-            b,
-            Record::SERVER_AT + (r.server as usize),
             Record::MANDATORY_AT,
-        )
-        & run::zero_between(
-            b,
-            Record::MANDATORY_AT + 4 * (r.mandatory as usize),
             Record::OPTIONAL_AT,
+            4 * r.mandatory,
         )
-        & run::zero_between(
+        & run::zero_tail(
             b,
-            Record::OPTIONAL_AT + 4 * (r.optional as usize),
+            Record::OPTIONAL_AT,
             Record::PROFILE_START_AT,
+            4 * r.optional,
         )
         & run::zero_between(b, Record::REST_AT, Record::CHECK_AT)
 }
@@ -189,12 +179,11 @@ pub fn sound(b: &[u8], k: u32, networks: u32, file: usize) -> bool
     requires { ⌜ (length (now b) ≡ 512) × (networks ≤ 8) ⌝ }
     ensures { λ x. ⌜ x ≡ soundRecord (now (b .entry)) k networks file ⌝ }
 {
+    let total = sum::sum_fours(b, 32);
     let r = Record::read(b);
-    (sum::sum_pairs(b, 64) == 0)
-        & head(b, k)
-        & limits(r)
-        & named(r)
-        & roams(r, networks)
-        & within(r, file)
-        & rest(b, r)
+    if (total == 0) & head(b, k) & limits(r) & named(r) & roams(r, networks) & within(r, file) {
+        rest(b, r)
+    } else {
+        false
+    }
 }

@@ -1,51 +1,12 @@
--- A line is its words and digits, written one after the other.
-use Prim.Native.Nat.{ℕ, zero, _+_, _-_, _^_, _≤_, _<_}
-use mathlib.Core.Bool.{Bool, true, false}
-use mathlib.Core.Path.{_≡_, refl, sym}
-use mathlib.Core.List.{List, [], _∷_, _++_, append-assoc}
-use native.Mathlib.Omega.{arith}
-use native.Mathlib.Nat.{pow-le-pow-right}
-use lib.Dec.{leb, lit<}
-use lib.ListN.{length, take}
-use borrow.Author.Tests.{leb-true, leb-false}
-use borrow.Rule.Slice.PartMut.{midOf, putMid}
-use Rattle.io.specs.Digits.{digits, Fewest}
-use Rattle.octets.specs.Run.{Wrote}
-use Rattle.octets.proofs.Writes.{then, named}
+-- The line of each answer.
+use Prim.Native.Nat.{ℕ}
+use mathlib.Core.Path.{_≡_}
+use mathlib.Core.List.{List, [], _∷_}
 use Rattle.table.specs.declared.Checked.{Checked}
 use Rattle.table.specs.declared.Checked.the-variants.{Sound, Bad}
-use Rattle.tablecheck.specs.Line.{Number, Words, Line}
+use Rattle.lines.specs.Words.{Words}
+use Rattle.tablecheck.specs.Line.{Line}
 
--- A number of 32 bits takes at most ten digits.
-pub ten-places : (n k : ℕ) → Fewest 10 1 n k → n < 4294967296 → k ≤ 10
-ten-places n k f h = go (leb k 10) refl
-  where
-    go : (x : Bool) → leb k 10 ≡ x → k ≤ 10
-    go true e = leb-true _ _ e
-    go false e =
-        let l : 10 < k = leb-false k 10 e in
-        let p : 10 ^ 10 ≤ 10 ^ (k - 1) = pow-le-pow-right (lit< tt) {i = 10} {j = k - 1} (omega arith) in
-        let q : 10 ^ (k - 1) ≤ n = f .2 (omega arith) in
-        absurd (omega arith)
-
-pub number-room : (n k : ℕ) (text out : List ℕ) → Fewest 10 1 n k → n < 4294967296 → k ≡ length (take k text) → 10 ≤ length out → length (take k text) ≤ length out
-number-room n k text out f h e r = omega (arith, ten-places n k f h)
-
-pub number-wrote : (n k : ℕ) (text : List ℕ) {b xs : List ℕ} → Fewest 10 1 n k → k ≡ length (take k text) → take k text ≡ digits 10 k n → Wrote (take k text) b xs (length (take k text))
-    → Number n b xs k
-number-wrote n k text f e d w = record { fewest = f; wrote = named d (sym e) w }
-
--- Words, a number after them, words after both.
-pub words-wrote : (n : ℕ) (first last : List ℕ) {b xs ys zs : List ℕ} {k : ℕ} → Wrote first b xs (length first) → Number n (midOf (length first) (length xs - length first) xs) ys k
-    → Wrote last (midOf (length first + k) (length (putMid (length first) (length xs - length first) xs ys) - (length first + k)) (putMid (length first) (length xs - length first) xs ys)) zs (length last)
-    → Words first n last b (putMid (length first + k) (length (putMid (length first) (length xs - length first) xs ys) - (length first + k)) (putMid (length first) (length xs - length first) xs ys) zs) (length first + k + length last)
-words-wrote n first last {k = k} p q r = record {
-  places = k;
-  fewest = q .fewest;
-  wrote = named (append-assoc first (digits 10 k n) last) refl (then (then p (q .wrote)) r);
-}
-
--- The line of each answer.
 pub line-sound : (c : Checked) (count : ℕ) {b xs : List ℕ} {r : ℕ} → c ≡ Sound count
     → Words (115 ∷ 111 ∷ 117 ∷ 110 ∷ 100 ∷ 44 ∷ 32 ∷ []) count (32 ∷ 114 ∷ 101 ∷ 99 ∷ 111 ∷ 114 ∷ 100 ∷ 115 ∷ 10 ∷ []) b xs r → Line c b xs r
 line-sound c count e w = rw e w

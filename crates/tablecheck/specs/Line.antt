@@ -1,21 +1,9 @@
 -- The line of an answer: `sound, N records` or `block K is bad`, in ASCII, with a newline.
 use Prim.Native.Nat.{ℕ}
-use mathlib.Core.List.{List, [], _∷_, _++_}
-use Rattle.io.specs.Digits.{digits, Fewest}
-use Rattle.octets.specs.Run.{Wrote}
+use mathlib.Core.List.{List, [], _∷_}
+use Rattle.lines.specs.Words.{Words}
 use Rattle.table.specs.declared.Checked.{Checked}
 use Rattle.table.specs.declared.Checked.the-variants.{Sound, Bad}
-
--- the digits of n, no more than it takes, were written over the front of a buffer
-pub record Number (n : ℕ) (before after : List ℕ) (r : ℕ) : Type 0 where
-  pub fewest : Fewest 10 1 n r
-  pub wrote : Wrote (digits 10 r n) before after r
-
--- words, the digits of n and words
-pub record Words (first : List ℕ) (n : ℕ) (last before after : List ℕ) (r : ℕ) : Type 0 where
-  pub places : ℕ
-  pub fewest : Fewest 10 1 n places
-  pub wrote : Wrote (first ++ (digits 10 places n ++ last)) before after r
 
 -- "sound, " and " records"; "block " and " is bad"
 abbrev pub Line : Checked → List ℕ → List ℕ → ℕ → Type 0

@@ -1,32 +1,9 @@
 // The line that is written of an answer.
-use octets::run;
+use lines::put_words;
 use table::Checked;
 ghost use Prim.Native.Nat.{_≤_};
 ghost use lib.ListN.{length};
-ghost use Rattle.tablecheck.specs.Line.{Number, Words, Line};
-
-// The decimal digits of n.
-fn put_number(out: &mut [u8], n: u32) -> usize
-    requires { ⌜ 10 ≤ length (now out) ⌝ }
-    ensures { λ r. ⌜ (r ≤ 10) × Number n (now (out .entry)) (now (out .exit)) r ⌝ }
-{
-    let mut text = [0u8; 20];
-    let k = io::decimal(n as u64, &mut text);
-    run::copy(out, &text[..k]);
-    k
-}
-
-// Words, the digits of n, and words.
-fn put_words(out: &mut [u8], before: &[u8], n: u32, after: &[u8]) -> usize
-    requires { ⌜ (length (now before) ≤ 10) × (length (now after) ≤ 10) × (30 ≤ length (now out)) ⌝ }
-    ensures { λ r. ⌜ (r ≤ 30) × Words (now (before .entry)) n (now (after .entry)) (now (out .entry)) (now (out .exit)) r ⌝ }
-{
-    let a = before.len();
-    run::copy(out, before);
-    let e = a + put_number(&mut out[a..], n);
-    run::copy(&mut out[e..], after);
-    e + after.len()
-}
+ghost use Rattle.tablecheck.specs.Line.{Line};
 
 // The line of an answer.
 pub fn put_line(out: &mut [u8], c: Checked) -> usize

@@ -1,9 +1,8 @@
 // Whether the file `table` is a sound table beside the file `profile`: one line on standard output, and never a file.
 mod line;
-mod load;
 
+use files::Got;
 use libc::STDOUT_FILENO;
-use load::Got;
 use table::Checked;
 ghost use mathlib.Core.Path.{_≡_};
 ghost use lib.ListN.{length};
@@ -27,7 +26,7 @@ fn say(c: Checked) {
 // Of the profile file only the length counts.
 fn check(t: &[u8]) {
     let mut piece = io::large_buffer();
-    let Got::Bytes(size) = load::measure(b"profile", &mut piece) else {
+    let Got::Bytes(size) = files::measure(b"profile", &mut piece) else {
         return;
     };
     say(table::check(t, size));
@@ -35,7 +34,7 @@ fn check(t: &[u8]) {
 
 fn main() {
     let mut space = room();
-    let Got::Bytes(n) = load::load(b"table", &mut space) else {
+    let Got::Bytes(n) = files::load(b"table", &mut space) else {
         return;
     };
     check(&space[..n]);

@@ -1,4 +1,4 @@
-use Rattle.tablecheck.proofs.Counts.{got-within, got-front}
+use Rattle.files.proofs.Counts.{got-within, got-front}
 use borrow.Author.Needs.{needs}
 use Rattle.tablecheck.proofs.main.Statement.{statement}
 use Rattle.tablecheck.proofs.main.Tie as tie

@@ -1,4 +1,4 @@
-use Rattle.tablecheck.proofs.Counts.{zeros-length}
+use Rattle.files.proofs.Counts.{zeros-length}
 use Rattle.tablecheck.proofs.room.Statement.{statement}
 use Rattle.tablecheck.proofs.room.Tie as tie
 

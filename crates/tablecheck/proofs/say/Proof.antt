@@ -1,5 +1,5 @@
 use native.Mathlib.Omega.{arith}
-use Rattle.tablecheck.proofs.Counts.{front}
+use Rattle.files.proofs.Counts.{front}
 use borrow.Author.Needs.{needs}
 use Rattle.tablecheck.proofs.say.Statement.{statement}
 use Rattle.tablecheck.proofs.say.Tie as tie

@@ -2,7 +2,7 @@ use Prim.Native.Nat.{_≤_, _-_, min}
 use mathlib.Core.Path.{_≡_}
 use lib.ListN.{length, drop}
 use Rattle.octets.specs.Name.{orderOf}
-use Rattle.octets.proofs.Orders.{order-equal, order-differ, order-lengths}
+use Rattle.octets.proofs.Orders.{order-equal, order-differ, order-lengths, order-then}
 use borrow.Author.Needs.{needs}
 use Rattle.octets.proofs.name.order_of.Statement.{statement}
 use Rattle.octets.proofs.name.order_of.Tie as tie
@@ -20,7 +20,9 @@ order-of-spec =
     Inv-loop
     μ-loop
     (λ c κs. search needs)
-    (λ c. search needs)
+    (λ c κs. search needs)
+    (λ c κs. search needs)
+    (λ c. (search needs, search needs, search (needs, order-then)))
     (λ c. search needs)
     (λ c. search needs)
     (λ c. search needs)

@@ -1,4 +1,4 @@
-use Rattle.record.proofs.Sound.{record-all}
+use Rattle.record.proofs.Sound.{limits-mandatory, limits-optional, record-rest, record-refused}
 use borrow.Author.Needs.{needs}
 use Rattle.record.proofs.subscriber.sound.Statement.{statement}
 use Rattle.record.proofs.subscriber.sound.Tie as tie
@@ -14,5 +14,6 @@ sound-spec =
     (λ c κs. search needs)
     (λ c κs. search needs)
     (λ c κs. search needs)
-    (λ c κs. search needs)
-    (λ c. search (needs, record-all)))
+    (λ c κs. search (needs, limits-mandatory, limits-optional))
+    (λ c. search (needs, record-rest))
+    (λ c. search (needs, record-refused)))

@@ -1,0 +1,40 @@
+// The answer to the request on standard input, over the files `table` and `profile`: on standard output, and never in a file.
+mod said;
+
+use files::Got;
+use libc::STDOUT_FILENO;
+
+// Writes what is said to a request.
+fn answer(req: &[u8], t: &mut [u8], file: &[u8]) {
+    let mut out = [0u8; 36864];
+    let n = said::answer_to(&mut out, req, t, file);
+    if !io::write_all(STDOUT_FILENO, &out[..n]) {
+        os::fail(b"standard output");
+    }
+}
+
+// A request that does not fit is longer than any that is answered, and stays so.
+fn take_request(t: &mut [u8], file: &[u8]) {
+    let mut space = [0u8; 16400];
+    let Got::Bytes(n) = files::load_input(&mut space) else {
+        return;
+    };
+    answer(&space[..n], t, file);
+}
+
+// "at most 65,536 bytes each": one byte more shows that a file is longer.
+fn take_profile(t: &mut [u8]) {
+    let mut space = [0u8; 65537];
+    let Got::Bytes(n) = files::load_whole(b"profile", &mut space) else {
+        return;
+    };
+    take_request(t, &space[..n]);
+}
+
+fn main() {
+    let mut space = [0u8; 65537];
+    let Got::Bytes(n) = files::load_whole(b"table", &mut space) else {
+        return;
+    };
+    take_profile(&mut space[..n]);
+}

@@ -1,0 +1,31 @@
+// What is written of a call: the answer alone, or the refusal.
+ghost use Prim.Native.Nat.{_≤_};
+ghost use lib.ListN.{length};
+ghost use Rattle.ndushavire.specs.Serve.{serve};
+ghost use Rattle.answer.specs.Said.{Fits, Said};
+
+// What the number of a returned word counts, 2^48, and what its value stays below, 2^32.
+const NUMBER: u64 = 281474976710656;
+
+const VALUE: u64 = 4294967296;
+
+// An answer stands at the front of out already; a refusal is written there.
+fn put_said(out: &mut [u8], w: u64) -> usize
+    requires { ⌜ (30 ≤ length (now out)) × Fits w (length (now out)) ⌝ }
+    ensures { λ r. ⌜ (r ≤ length (now (out .exit))) × Said w (now (out .entry)) (now (out .exit)) r ⌝ }
+{
+    let number = (w / NUMBER) as u32;
+    if number == 0 {
+        return (w % VALUE) as usize;
+    }
+    lines::put_words(out, b"refused ", number, b"\n")
+}
+
+// What is said to a request, at the front of out.
+pub fn answer_to(out: &mut [u8], req: &[u8], t: &mut [u8], file: &[u8]) -> usize
+    requires { ⌜ 30 ≤ length (now out) ⌝ }
+    ensures { λ r. ⌜ (r ≤ length (now (out .exit))) × Said (serve (now (req .entry)) (now (t .entry)) (now (file .entry)) (now (out .entry)) .word) (serve (now (req .entry)) (now (t .entry)) (now (file .entry)) (now (out .entry)) .buffer) (now (out .exit)) r ⌝ }
+{
+    let w = ndushavire::ndushavire_decide(req, t, file, out);
+    put_said(out, w)
+}

@@ -1,0 +1,115 @@
+-- The three demands, as theorems about `serve`: the word returned, the table and the buffer afterwards, for any request, table, profile file and buffer.
+-- The exported call is proved to be `serve`; what the words below mean is in specs/Call, specs/Frame and specs/Insertion.
+use Prim.Native.Nat.{ℕ, _/_, _<_, _≤_}
+use mathlib.Core.List.{List, _∷_}
+use mathlib.Core.Bool.{true, false}
+use mathlib.Core.Path.{_≡_}
+use mathlib.Core.Logic.{_⊎_, _≢_}
+use lib.ListN.{length, getD, drop}
+use Rattle.table.specs.Blocks.{blockOf, privateAt}
+use Rattle.table.specs.Check.{checkTable}
+use Rattle.table.specs.declared.Checked.the-variants.{Sound, Bad}
+use Rattle.diameter.specs.Put.{Piece, Whole, All, bytesOf}
+use Rattle.reading.specs.Request.{bodyOf}
+use Rattle.decisions.specs.Decide.{decide}
+use Rattle.ndushavire.specs.Serve.{answered, wrongLength, serve}
+use Rattle.demands.specs.Call.{Tried, numberIn, valueIn, smallBuffer, wrongSize, noRequest, unsound, turnedAway, answerTo}
+use Rattle.demands.specs.Frame.{succeeds, subscriptionOf, alterable}
+use Rattle.demands.specs.Insertion.{message, Foreign, Quiet, Inserted, FirstMarked, faultIn, unsupported, allSound, Cut}
+use Rattle.demands.proofs.Refusals.{refusals, number-most, besides-none, besides-block, answer-long, refused-kept, buffer-length, buffer-past}
+use Rattle.demands.proofs.Fitting.{fits}
+use Rattle.demands.proofs.Frame.{failure-kept, others-kept, header-kept, bytes-kept, bits-kept, size-kept, sound-kept}
+use Rattle.demands.proofs.Insertions.{quiet-foreign, unmarked-same, marked-or-not, marked-kept, mark-answered, fault-first}
+use Rattle.demands.proofs.Cuts.{every-request}
+
+-- DEMAND 1. Every call ends in an answer or in exactly one of five refusals, each given exactly when the paper says, tried in its order.
+module _ (req t file o : List ℕ) where
+  -- The word's number is 0 to 5: n from 1 to 5 exactly under the n-th condition where the earlier ones fail, and 0 exactly where all five fail.
+  pub demand-1 : Tried (numberIn (serve req t file o .word)) (smallBuffer o) (wrongSize req) (wrongLength req) (noRequest req) (unsound t file)
+  demand-1 = refusals req t file o (fits req t file)
+
+  pub demand-1-number : numberIn (serve req t file o .word) ≤ 5
+  demand-1-number = number-most req t file o (fits req t file)
+
+  -- Refusals 1 to 4 return 0 besides, refusal 5 the first bad block, and an answer returns its length.
+  pub demand-1-none : 1 ≤ numberIn (serve req t file o .word) → numberIn (serve req t file o .word) ≤ 4 → valueIn (serve req t file o .word) ≡ 0
+  demand-1-none = besides-none req t file o (fits req t file)
+
+  pub demand-1-block : numberIn (serve req t file o .word) ≡ 5 → checkTable t (length file) ≡ Bad (valueIn (serve req t file o .word))
+  demand-1-block = besides-block req t file o (fits req t file)
+
+  pub demand-1-length : numberIn (serve req t file o .word) ≡ 0 → (count : ℕ) → checkTable t (length file) ≡ Sound count
+      → valueIn (serve req t file o .word) ≡ length (answerTo req t file count)
+  demand-1-length = answer-long req t file o (fits req t file)
+
+  -- No answer is longer than the smallest buffer that is taken.
+  pub demand-1-fits : wrongSize req ≡ false → wrongLength req ≡ false → (count : ℕ) → checkTable t (length file) ≡ Sound count → length (answerTo req t file count) ≤ 36864
+  demand-1-fits = fits req t file
+
+-- A refusal leaves the table and the buffer as they came.
+pub demand-1-kept : (req t file o : List ℕ) → turnedAway req t file o ≡ true → (serve req t file o .table ≡ t) × (serve req t file o .buffer ≡ o)
+demand-1-kept = refused-kept
+
+-- DEMAND 2. What a call may alter in a sound table of `count` records.
+module _ (req t file o : List ℕ) (count : ℕ) (sound : checkTable t (length file) ≡ Sound count) where
+  -- A result that is no success leaves the table as it was.
+  pub demand-2-failure : succeeds (decide req t count file .reply .result) ≡ false → serve req t file o .table ≡ t
+  demand-2-failure = failure-kept req t file o count sound
+
+  -- A block whose private identity is not that of the subscription asked about is as it was, and so is the header.
+  pub demand-2-others : (k : ℕ) → k ≤ count → privateAt t k ≢ subscriptionOf req t count → blockOf (serve req t file o .table) k ≡ blockOf t k
+  demand-2-others = others-kept req t file o count sound
+
+  pub demand-2-header : blockOf (serve req t file o .table) 0 ≡ blockOf t 0
+  demand-2-header = header-kept req t file o count sound
+
+  -- In the other blocks only state, pending, server name and check word change: every other byte is as it was, and so are the bits above pending.
+  pub demand-2-bytes : (k i : ℕ) → k ≤ count → i < 512 → alterable i ≡ false → getD (blockOf (serve req t file o .table) k) i 0 ≡ getD (blockOf t k) i 0
+  demand-2-bytes = bytes-kept req t file o count sound
+
+  pub demand-2-bits : (k : ℕ) → k ≤ count → getD (blockOf (serve req t file o .table) k) 9 0 / 2 ≡ getD (blockOf t k) 9 0 / 2
+  demand-2-bits = bits-kept req t file o count sound
+
+  -- The table has as many bytes as it had, and a sound table is sound after every call, with as many records.
+  pub demand-2-size : length (serve req t file o .table) ≡ length t
+  demand-2-size = size-kept req t file o count sound
+
+  pub demand-2-sound : checkTable (serve req t file o .table) (length file) ≡ Sound count
+  demand-2-sound = sound-kept req t file o count sound
+
+module _ (req t file o : List ℕ) where
+  -- The buffer has as many bytes as it had, and past the answer they are as they came.
+  pub demand-2-room : length (serve req t file o .buffer) ≡ length o
+  demand-2-room = buffer-length req t file o (fits req t file)
+
+  pub demand-2-past : drop (valueIn (serve req t file o .word)) (serve req t file o .buffer) ≡ drop (valueIn (serve req t file o .word)) o
+  demand-2-past = buffer-past req t file o (fits req t file)
+
+-- DEMAND 3. A request is a header and a row of whole AVPs, `q` and then `qs`. AVPs of unknown kinds are put into the row after its first, at one place or at several,
+-- so that it is `q` and then `rs`; the length field is put right, and the whole stays within 16,384 bytes.
+module _ (head : List ℕ) (twenty : length head ≡ 20) (q : Piece) (qs rs : List Piece) (whole : All Whole (q ∷ qs)) (most : length (message head (bytesOf (q ∷ rs))) ≤ 16384)
+    (t file o : List ℕ) where
+  -- If none of them is marked M, the call gives the same word, the same table and the same buffer.
+  pub demand-3-unmarked : Inserted Quiet qs rs → serve (message head (bytesOf (q ∷ rs))) t file o ≡ serve (message head (bytesOf (q ∷ qs))) t file o
+  demand-3-unmarked i = unmarked-same head twenty q qs rs whole (quiet-foreign i) most i t file o
+
+  -- If one is, the table is as it was ..
+  pub demand-3-table : FirstMarked qs rs → serve (message head (bytesOf (q ∷ rs))) t file o .table ≡ t
+  demand-3-table m = marked-kept head twenty q qs rs whole m most t file o
+
+  -- .. and the answer is the one of B5001 with the first marked one in Failed-AVP (before a missing AVP, and before a SAR's own B5005 and B5009) ..
+  pub demand-3-marked : (m : FirstMarked qs rs) → faultIn head (q ∷ m .front) ≡ false → turnedAway (message head (bytesOf (q ∷ qs))) t file o ≡ false
+      → serve (message head (bytesOf (q ∷ rs))) t file o ≡ answered (message head (bytesOf (q ∷ rs))) t o (unsupported t (m .mark))
+  demand-3-marked m e = mark-answered head twenty q qs rs whole m most e t file o
+
+  -- .. unless the header or an AVP before it breaks a reading rule, (a) to (h): then the call gives what it gives without them.
+  pub demand-3-fault : (m : FirstMarked qs rs) → faultIn head (q ∷ m .front) ≡ true → serve (message head (bytesOf (q ∷ rs))) t file o ≡ serve (message head (bytesOf (q ∷ qs))) t file o
+  demand-3-fault m e = fault-first head twenty q qs rs whole m most e t file o
+
+-- These are all cases: of those put in none is marked, or one is the first that is.
+pub demand-3-cases : (qs rs : List Piece) → Inserted Foreign qs rs → Inserted Quiet qs rs ⊎ FirstMarked qs rs
+demand-3-cases qs rs = marked-or-not
+
+-- And these are all requests: bytes with an AVP, whose length is right and whose AVPs have sound lengths, are such a header and row.
+pub demand-3-any : (req : List ℕ) → ((i : ℕ) → getD req i 0 < 256) → 20 < length req → wrongLength req ≡ false → allSound (bodyOf req) ≡ true → Cut req
+demand-3-any = every-request

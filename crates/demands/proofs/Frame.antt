@@ -1,0 +1,248 @@
+-- Demand 2: what a call leaves alone, and that a sound table stays sound.
+use Prim.Native.Nat.{ℕ, zero, suc, _+_, _*_, _/_, _≤_, _<_}
+use mathlib.Core.List.{List, [], _∷_, _++_}
+use mathlib.Core.Bool.{Bool, true, false, cond, _&&_, _||_, true≢false}
+use mathlib.Core.Path.{_≡_, refl, sym, _∙_}
+use mathlib.Core.Logic.{_⊎_, inl, inr, _≢_}
+use native.Mathlib.Omega.{arith}
+use lib.ListN.{length, getD}
+use lib.Dec.{eqb, leb, ltb}
+use borrow.Author.Tests.{eqb-true, eqb-false, ne-eqb, ltb-false, leb-false}
+use Rattle.octets.proofs.All.{and-left, and-right}
+use Rattle.octets.proofs.Names.{same-eq}
+use Rattle.table.specs.Blocks.{blockOf, privateAt}
+use Rattle.table.specs.Check.{checkTable}
+use Rattle.table.specs.declared.Checked.the-variants.{Sound}
+use Rattle.table.proofs.Blocks.{block-length}
+use Rattle.lookup.specs.Find.{publicIs, findPublic}
+use Rattle.lookup.specs.SoundTable.{SoundTable}
+use Rattle.lookup.specs.declared.Found.{Found}
+use Rattle.lookup.specs.declared.Found.the-variants.{At, Nothing}
+use Rattle.lookup.proofs.First.{first-stands}
+use Rattle.lookup.proofs.Sound.{sound-says}
+use Rattle.rewrite.specs.Effect.{settled, afterOf, fitting}
+use Rattle.rewrite.proofs.Settled.{settled-low, settled-high, settled-bits}
+use Rattle.rewrite.proofs.Tables.{after-length, after-frame, after-chosen}
+use Rattle.rewrite.proofs.Sound.{fitting-named, after-sound}
+use Rattle.diameter.specs.Avp.{dataOf}
+use Rattle.reading.specs.declared.Outcome.{Outcome}
+use Rattle.reading.specs.declared.Outcome.the-variants.{Base, Experimental}
+use Rattle.reading.specs.Found.{numberOf}
+use Rattle.requests.proofs.Kept.{server-most, server-least}
+use Rattle.decisions.specs.declared.Effect.{Effect}
+use Rattle.decisions.specs.Types.{between, effectOf}
+use Rattle.decisions.specs.Assignment.{Assignment, every, isOne, isEmpty, findAll, numbersOf, ownedHere, ownedUpTo, recordsOf, ownerOf, ownAt, storedName}
+use Rattle.decisions.specs.Decide.{assignmentOf, decide}
+use Rattle.ndushavire.specs.Serve.{refused, answered, serveChecked, wrongLength, serve}
+use Rattle.demands.specs.Frame.{succeeds, askedIn, subscriptionOf, alterable}
+use Rattle.demands.proofs.Effects.{Assigned, decide-cases}
+
+-- a test of all the records holds of each; block 0 is none of them
+one-holds : (p : ℕ → Bool) (ks : List ℕ) (k : ℕ) → every p ks ≡ true → isOne ks k ≡ true → p k ≡ true
+unfolding every isOne
+one-holds p [] k a e = absurd (true≢false (sym e))
+one-holds p (j ∷ ks) k a e = go (eqb k j) refl e (one-holds p ks k (and-right (p j) (every p ks) a))
+  where
+    go : (x : Bool) → eqb k j ≡ x → (x || isOne ks k) ≡ true → (isOne ks k ≡ true → p k ≡ true) → p k ≡ true
+    go true f g next = rw (eqb-true k j f) (and-left (p j) (every p ks) a)
+    go false f g next = next g
+
+one-append : (xs ys : List ℕ) (j : ℕ) → isOne xs j ≡ false → isOne ys j ≡ false → isOne (xs ++ ys) j ≡ false
+unfolding isOne
+one-append [] ys j a b = b
+one-append (x ∷ xs) ys j a b = go (eqb j x) a (λ e. one-append xs ys j e b)
+  where
+    go : (u : Bool) → (u || isOne xs j) ≡ false → (isOne xs j ≡ false → isOne (xs ++ ys) j ≡ false) → (u || isOne (xs ++ ys) j) ≡ false
+    go true e next = e
+    go false e next = next e
+
+owned-later : (t user : List ℕ) (n : ℕ) → isOne (ownedUpTo t user n) 0 ≡ false
+unfolding ownedUpTo isOne
+owned-later t user zero = refl
+owned-later t user (suc n) = one-append (ownedUpTo t user n) (cond (ownedHere (blockOf t (suc n)) user) (suc n ∷ []) []) 0 (owned-later t user n) (go (ownedHere (blockOf t (suc n)) user))
+  where
+    go : (u : Bool) → isOne (cond u (suc n ∷ []) []) 0 ≡ false
+    go true = rw (ne-eqb 0 (suc n) (omega arith))
+    go false = refl
+
+found-later : (t : List ℕ) (count : ℕ) (name : List ℕ) (k : ℕ) → findPublic t count name ≡ At k → 1 ≤ k
+unfolding findPublic
+found-later t count name k e = first-stands (publicIs t name) count 1 k e .from
+
+named-later : (t : List ℕ) (count : ℕ) (avps : List (List ℕ)) → isOne (numbersOf (findAll t count avps)) 0 ≡ false
+unfolding findAll numbersOf isOne
+named-later t count [] = refl
+named-later t count (a ∷ avps) = go (findPublic t count (dataOf a)) refl (named-later t count avps)
+  where
+    go : (f : Found) → findPublic t count (dataOf a) ≡ f → isOne (numbersOf (findAll t count avps)) 0 ≡ false → isOne (numbersOf (f ∷ findAll t count avps)) 0 ≡ false
+    go Nothing e next = next
+    go (At k) e next = rw (ne-eqb 0 k (omega (arith, found-later t count (dataOf a) k e))) next
+
+records-later : (t : List ℕ) (count : ℕ) (s : Assignment) → isOne (recordsOf t count s) 0 ≡ false
+unfolding recordsOf
+records-later t count s = go (isEmpty (s .identities))
+  where
+    go : (x : Bool) → isOne (cond x (ownedUpTo t (s .user) count) (numbersOf (findAll t count (s .identities)))) 0 ≡ false
+    go true = owned-later t (s .user) count
+    go false = named-later t count (s .identities)
+
+-- the rows of the effects: each is a success, and has a server name exactly in state 1 or 2
+record Row (e : Effect) : Type 0 where
+  two : e .state ≤ 2
+  good : succeeds (e .result) ≡ true
+  fit : (server : List ℕ) → 1 ≤ length server → fitting (e .state) (storedName (e .named) server) ≡ true
+
+row-named : (state : ℕ) (r : Outcome) → 1 ≤ state → state ≤ 2 → succeeds r ≡ true → Row (record { state = state; named = true; result = r })
+unfolding storedName
+row-named state r a b e = record { two = b; good = e; fit = λ server l. fitting-named state server a l }
+
+row-none : (r : Outcome) → succeeds r ≡ true → Row (record { state = 0; named = false; result = r })
+unfolding storedName
+row-none r e = record { two = omega arith; good = e; fit = λ server l. refl }
+
+row : (kind : ℕ) (keep : Bool) → Row (effectOf kind keep)
+unfolding effectOf numberOf
+row kind keep = go (leb kind 2) (eqb kind 3) (between 6 kind 7) keep
+  where
+    go : (a b c d : Bool) → Row (cond a (record { state = 1; named = true; result = Base 2001 }) (cond b (record { state = 2; named = true; result = Base 2001 })
+        (cond c (cond d (record { state = 2; named = true; result = Base 2001 }) (record { state = 0; named = false; result = Experimental 2004 }))
+        (record { state = 0; named = false; result = Base 2001 }))))
+    go true b c d = row-named 1 (Base 2001) (omega arith) (omega arith) refl
+    go false true c d = row-named 2 (Base 2001) (omega arith) (omega arith) refl
+    go false false true true = row-named 2 (Base 2001) (omega arith) (omega arith) refl
+    go false false true false = row-none (Experimental 2004) refl
+    go false false false d = row-none (Base 2001) refl
+
+stored-most : (named : Bool) (server : List ℕ) → length server ≤ 96 → length (storedName named server) ≤ 96
+unfolding storedName
+stored-most true server h = h
+stored-most false server h = omega arith
+
+-- the blocks of the table after a decision
+module _ (req t : List ℕ) (count : ℕ) (file : List ℕ) (size : length t ≡ 512 * (count + 1)) (a : Assigned req t count file) where
+  abbrev asked : Assignment
+  asked = assignmentOf (a .seen) req
+
+  abbrev keep : Bool
+  keep = eqb (getD (blockOf t 0) 12 0) 1
+
+  abbrev chosen : ℕ → Bool
+  chosen = isOne (recordsOf t count asked)
+
+  abbrev effect : Effect
+  effect = effectOf (asked .kind) keep
+
+  abbrev name : List ℕ
+  name = storedName (effect .named) (asked .server)
+
+  after-is : decide req t count file .table ≡ afterOf t count chosen (effect .state) name
+  after-is = a .altered .table
+
+  assigned-length : length (decide req t count file .table) ≡ length t
+  assigned-length = rw after-is (after-length t count chosen (effect .state) name size)
+
+  assigned-stays : (k : ℕ) → k ≤ count → chosen k ≡ false → blockOf (decide req t count file .table) k ≡ blockOf t k
+  assigned-stays k h e = rw after-is (after-frame t count chosen (effect .state) name size k h e)
+
+  assigned-settled : (k : ℕ) → k ≤ count → chosen k ≡ true → blockOf (decide req t count file .table) k ≡ settled (blockOf t k) (effect .state) name
+  assigned-settled k h e = rw after-is (after-chosen t count chosen (effect .state) name size k h e)
+
+  assigned-owner : (k : ℕ) → chosen k ≡ true → privateAt t k ≡ subscriptionOf req t count
+  unfolding subscriptionOf askedIn ownAt
+  assigned-owner k e =
+      rw (a .read)
+      (same-eq (privateAt t k) (ownerOf t asked (recordsOf t count asked)) (one-holds (ownAt t (ownerOf t asked (recordsOf t count asked))) (recordsOf t count asked) k (a .altered .owned) e))
+
+  assigned-good : succeeds (decide req t count file .reply .result) ≡ true
+  assigned-good = rw (a .altered .result) (row (asked .kind) keep .good)
+
+  assigned-bytes : (k i : ℕ) → k ≤ count → i < 512 → alterable i ≡ false → getD (blockOf (decide req t count file .table) k) i 0 ≡ getD (blockOf t k) i 0
+  unfolding alterable
+  assigned-bytes k i h l e = go (chosen k) refl
+    where
+      kept : (x y z u v w : Bool) → eqb i 8 ≡ x → eqb i 9 ≡ y → eqb i 15 ≡ z → leb 272 i ≡ u → ltb i 368 ≡ v → leb 508 i ≡ w → (x || y || z || u && v || w) ≡ false
+          → getD (settled (blockOf t k) (effect .state) name) i 0 ≡ getD (blockOf t k) i 0
+      kept false false false false v false ex ey ez eu ev ew f =
+          settled-low (blockOf t k) (effect .state) name i (leb-false 272 i eu) (eqb-false i 8 ex) (eqb-false i 9 ey) (eqb-false i 15 ez)
+      kept false false false true false false ex ey ez eu ev ew f = settled-high (blockOf t k) (effect .state) name i (ltb-false i 368 ev) (leb-false 508 i ew)
+      kept true y z u v w ex ey ez eu ev ew f = absurd (true≢false f)
+      kept false true z u v w ex ey ez eu ev ew f = absurd (true≢false f)
+      kept false false true u v w ex ey ez eu ev ew f = absurd (true≢false f)
+      kept false false false true true w ex ey ez eu ev ew f = absurd (true≢false f)
+      kept false false false false v true ex ey ez eu ev ew f = absurd (true≢false f)
+      kept false false false true false true ex ey ez eu ev ew f = absurd (true≢false f)
+
+      go : (x : Bool) → chosen k ≡ x → getD (blockOf (decide req t count file .table) k) i 0 ≡ getD (blockOf t k) i 0
+      go true c = rw (assigned-settled k h c) (kept (eqb i 8) (eqb i 9) (eqb i 15) (leb 272 i) (ltb i 368) (leb 508 i) refl refl refl refl refl refl e)
+      go false c = rw (assigned-stays k h c)
+
+  assigned-bits : (k : ℕ) → k ≤ count → getD (blockOf (decide req t count file .table) k) 9 0 / 2 ≡ getD (blockOf t k) 9 0 / 2
+  assigned-bits k h = go (chosen k) refl
+    where
+      go : (x : Bool) → chosen k ≡ x → getD (blockOf (decide req t count file .table) k) 9 0 / 2 ≡ getD (blockOf t k) 9 0 / 2
+      go true c = rw (assigned-settled k h c, settled-bits (blockOf t k) (effect .state) name (block-length t k (omega (arith, size)))) (omega arith)
+      go false c = rw (assigned-stays k h c)
+
+  assigned-sound : SoundTable t (length file) count → checkTable (decide req t count file .table) (length file) ≡ Sound count
+  unfolding assignmentOf
+  assigned-sound sound =
+      let e = row (asked .kind) keep in
+      rw after-is
+      (after-sound t (length file) count sound chosen (records-later t count asked) (effect .state) name (e .two)
+      (stored-most (effect .named) (asked .server) (server-most req (a .seen) (a .read)))
+      (e .fit (asked .server) (server-least req (a .seen) (a .read) (a .command))))
+
+-- what holds of the table as it came, and of the table that an effect leaves, holds after every call
+module _ (req t file o : List ℕ) (count : ℕ) (sound : checkTable t (length file) ≡ Sound count) (P : List ℕ → Type 0) where
+  after-decision : P t → (Assigned req t count file → P (decide req t count file .table)) → P (decide req t count file .table)
+  after-decision p q = go (decide-cases req t count file)
+    where
+      go : (decide req t count file .table ≡ t) ⊎ Assigned req t count file → P (decide req t count file .table)
+      go (inl e) = rw e p
+      go (inr a) = q a
+
+  after-call : P t → (Assigned req t count file → P (decide req t count file .table)) → P (serve req t file o .table)
+  unfolding serve refused serveChecked answered
+  after-call p q = rw sound (go (ltb (length o) 36864) (ltb (length req) 20 || ltb 16384 (length req)) (wrongLength req) (ltb (getD req 4 0) 128))
+    where
+      go : (a b c d : Bool) → P (cond a (refused 1 0 t o) (cond b (refused 2 0 t o) (cond c (refused 3 0 t o) (cond d (refused 4 0 t o) (answered req t o (decide req t count file))))) .table)
+      go true b c d = p
+      go false true c d = p
+      go false false true d = p
+      go false false false true = p
+      go false false false false = after-decision p q
+
+module _ (req t file o : List ℕ) (count : ℕ) (sound : checkTable t (length file) ≡ Sound count) where
+  says : SoundTable t (length file) count
+  says = sound-says t (length file) count sound
+
+  pub failure-kept : succeeds (decide req t count file .reply .result) ≡ false → serve req t file o .table ≡ t
+  failure-kept e =
+      after-call req t file o count sound (λ (x : List ℕ). x ≡ t) refl
+      (λ a. absurd (true≢false (sym (assigned-good req t count file (says .size) a) ∙ e)))
+
+  pub others-kept : (k : ℕ) → k ≤ count → privateAt t k ≢ subscriptionOf req t count → blockOf (serve req t file o .table) k ≡ blockOf t k
+  others-kept k h n = after-call req t file o count sound (λ (x : List ℕ). blockOf x k ≡ blockOf t k) refl (λ a. stays a (isOne (recordsOf t count (assignmentOf (a .seen) req)) k) refl)
+    where
+      stays : (a : Assigned req t count file) (x : Bool) → isOne (recordsOf t count (assignmentOf (a .seen) req)) k ≡ x → blockOf (decide req t count file .table) k ≡ blockOf t k
+      stays a true e = absurd (n (assigned-owner req t count file (says .size) a k e))
+      stays a false e = assigned-stays req t count file (says .size) a k h e
+
+  pub header-kept : blockOf (serve req t file o .table) 0 ≡ blockOf t 0
+  header-kept =
+      after-call req t file o count sound (λ (x : List ℕ). blockOf x 0 ≡ blockOf t 0) refl
+      (λ a. assigned-stays req t count file (says .size) a 0 (omega arith) (records-later t count (assignmentOf (a .seen) req)))
+
+  pub bytes-kept : (k i : ℕ) → k ≤ count → i < 512 → alterable i ≡ false → getD (blockOf (serve req t file o .table) k) i 0 ≡ getD (blockOf t k) i 0
+  bytes-kept k i h l e =
+      after-call req t file o count sound (λ (x : List ℕ). getD (blockOf x k) i 0 ≡ getD (blockOf t k) i 0) refl (λ a. assigned-bytes req t count file (says .size) a k i h l e)
+
+  pub bits-kept : (k : ℕ) → k ≤ count → getD (blockOf (serve req t file o .table) k) 9 0 / 2 ≡ getD (blockOf t k) 9 0 / 2
+  bits-kept k h =
+      after-call req t file o count sound (λ (x : List ℕ). getD (blockOf x k) 9 0 / 2 ≡ getD (blockOf t k) 9 0 / 2) refl (λ a. assigned-bits req t count file (says .size) a k h)
+
+  pub size-kept : length (serve req t file o .table) ≡ length t
+  size-kept = after-call req t file o count sound (λ (x : List ℕ). length x ≡ length t) refl (λ a. assigned-length req t count file (says .size) a)
+
+  pub sound-kept : checkTable (serve req t file o .table) (length file) ≡ Sound count
+  sound-kept = after-call req t file o count sound (λ (x : List ℕ). checkTable x (length file) ≡ Sound count) sound (λ a. assigned-sound req t count file (says .size) a says)

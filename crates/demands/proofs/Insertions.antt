@@ -1,0 +1,311 @@
+-- Demand 3: AVPs of unknown kinds put into a request after its first AVP. Without M nothing changes; the first with M is B5001, unless a fault before it decides.
+use Prim.Native.Nat.{ℕ, _+_, _≤_}
+use mathlib.Core.List.{List, [], _∷_, _++_}
+use mathlib.Core.Option.{none, some}
+use mathlib.Core.Bool.{Bool, true, false, not, cond, _||_, true≢false}
+use mathlib.Core.Path.{_≡_, refl, sym, ap, _∙_, fun-ext}
+use mathlib.Core.Logic.{_⊎_, inl, inr}
+use native.Mathlib.Omega.{arith}
+use lib.ListN.{length, length-append}
+use lib.Dec.{eqb}
+use Rattle.pen.specs.Bytes.{ifThere}
+use Rattle.diameter.specs.Walk.{Walk, ended, avp, walk}
+use Rattle.diameter.specs.Put.{glue, Piece, bytesOf, avpsOf, Whole, All}
+use Rattle.diameter.proofs.Pieces.{walk-row, row-even, avps-joined, glue-glue}
+use Rattle.reading.specs.declared.Outcome.the-variants.{Base}
+use Rattle.reading.specs.Kinds.{sessionId}
+use Rattle.reading.specs.Rules.{Seen, Judged, bad, fine, nothing, rule, onRule, judge}
+use Rattle.reading.specs.Request.{commandOf, headerFault, firstOther, complete, readWalk, example, identities}
+use Rattle.reading.specs.Insert.{Unmarked, Marked, andThen}
+use Rattle.requests.proofs.Insert.{put-judge, judge-glue, put-marked, put-failed}
+use Rattle.decisions.specs.Decide.{decideJudged, decide}
+use Rattle.reply.specs.Answer.{proxies}
+use Rattle.ndushavire.specs.Serve.{answered, serve}
+use Rattle.demands.specs.Call.{turnedAway}
+use Rattle.demands.specs.Insertion.{message, Foreign, isMarked, Quiet, Inserted, ending, keep, put, FirstMarked, isFault, faultIn, unsupported}
+use Rattle.demands.proofs.Refusals.{refused-kept, answered-is, counted}
+use Rattle.demands.proofs.Messages.{message-length, message-flags, message-read, readBody, Fit, size-right, length-right, Alike, served-same}
+
+-- what a fold that passes over those put in makes of the longer row
+inserted-same : {X : Type 0} {P : Piece → Type 0} (f : Walk → X) → ((a : List ℕ) (v w : Walk) → f v ≡ f w → f (avp a v) ≡ f (avp a w)) → ((u : Piece) (w : Walk) → P u → f (avp (u .avp) w) ≡ f w)
+    → {qs rs : List Piece} → Inserted P qs rs → (w : Walk) → f (glue (avpsOf rs) w) ≡ f (glue (avpsOf qs) w)
+unfolding glue avpsOf
+inserted-same f goes skips ending w = refl
+inserted-same f goes skips (keep q {qs} {rs} i) w = goes (q .avp) (glue (avpsOf rs) w) (glue (avpsOf qs) w) (inserted-same f goes skips i w)
+inserted-same f goes skips (put u {qs} {rs} p i) w = skips u (glue (avpsOf rs) w) p ∙ inserted-same f goes skips i w
+
+inserted-whole : {P : Piece → Type 0} → ((u : Piece) → P u → Whole u) → {qs rs : List Piece} → Inserted P qs rs → All Whole qs → All Whole rs
+inserted-whole f ending h = h
+inserted-whole f (keep q i) h = (h .0, inserted-whole f i (h .1))
+inserted-whole f (put u p i) h = (f u p, inserted-whole f i h)
+
+inserted-longer : {P : Piece → Type 0} {qs rs : List Piece} → Inserted P qs rs → length (bytesOf qs) ≤ length (bytesOf rs)
+unfolding bytesOf
+inserted-longer ending = omega arith
+inserted-longer (keep q {qs} {rs} i) = simp length-append (omega (arith, inserted-longer i))
+inserted-longer (put u {qs} {rs} p i) = simp length-append (omega (arith, inserted-longer i))
+
+inserted-as : {P R : Piece → Type 0} → ((u : Piece) → P u → R u) → {qs rs : List Piece} → Inserted P qs rs → Inserted R qs rs
+inserted-as f ending = ending
+inserted-as f (keep q i) = keep q (inserted-as f i)
+inserted-as f (put u p i) = put u (f u p) (inserted-as f i)
+
+inserted-joined : {P : Piece → Type 0} {qs rs ps ss : List Piece} → Inserted P qs rs → Inserted P ps ss → Inserted P (qs ++ ps) (rs ++ ss)
+inserted-joined ending j = j
+inserted-joined (keep q i) j = keep q (inserted-joined i j)
+inserted-joined (put u p i) j = put u p (inserted-joined i j)
+
+-- Those put in are unmarked, or one of them is the first that is marked.
+keep-more : (q : Piece) {qs rs : List Piece} → Inserted Quiet qs rs ⊎ FirstMarked qs rs → Inserted Quiet (q ∷ qs) (q ∷ rs) ⊎ FirstMarked (q ∷ qs) (q ∷ rs)
+keep-more q (inl i) = inl (keep q i)
+keep-more q (inr m) =
+    inr (record {
+      mark = m .mark;
+      front = q ∷ m .front;
+      back = m .back;
+      before = q ∷ m .before;
+      after = m .after;
+      row = ap (q ∷_) (m .row);
+      longer = ap (q ∷_) (m .longer);
+      quiet = keep q (m .quiet);
+      foreign = m .foreign;
+      marking = m .marking;
+      rest = m .rest;
+    })
+
+put-quiet : (u : Piece) → Quiet u → {qs rs : List Piece} → Inserted Quiet qs rs ⊎ FirstMarked qs rs → Inserted Quiet qs (u ∷ rs) ⊎ FirstMarked qs (u ∷ rs)
+put-quiet u p (inl i) = inl (put u p i)
+put-quiet u p (inr m) =
+    inr (record {
+      mark = m .mark;
+      front = m .front;
+      back = m .back;
+      before = u ∷ m .before;
+      after = m .after;
+      row = m .row;
+      longer = ap (u ∷_) (m .longer);
+      quiet = put u p (m .quiet);
+      foreign = m .foreign;
+      marking = m .marking;
+      rest = m .rest;
+    })
+
+put-more : (u : Piece) → Foreign u → {qs rs : List Piece} → Inserted Foreign qs rs → Inserted Quiet qs rs ⊎ FirstMarked qs rs → (x : Bool) → isMarked u ≡ x
+    → Inserted Quiet qs (u ∷ rs) ⊎ FirstMarked qs (u ∷ rs)
+put-more u f {qs} {rs} i e true h =
+    inr (record { mark = u; front = []; back = qs; before = []; after = rs; row = refl; longer = refl; quiet = ending; foreign = f; marking = h; rest = i })
+put-more u f i e false h = put-quiet u (record { foreign = f; unmarked = h }) e
+
+pub marked-or-not : {qs rs : List Piece} → Inserted Foreign qs rs → Inserted Quiet qs rs ⊎ FirstMarked qs rs
+marked-or-not ending = inl ending
+marked-or-not (keep q i) = keep-more q (marked-or-not i)
+marked-or-not (put u f i) = put-more u f i (marked-or-not i) (isMarked u) refl
+
+-- the folds that pass over unknown kinds: the judgement those without M, the identities and the copies all of them
+as-unmarked : (u : Piece) → Quiet u → Unmarked (u .avp)
+as-unmarked u p = record { plain = p .foreign .plain; stranger = p .foreign .stranger; unmarked = p .unmarked }
+
+as-marked : (u : Piece) → Foreign u → isMarked u ≡ true → Marked (u .avp)
+as-marked u p e = record { plain = p .plain; stranger = p .stranger; marking = e }
+
+judge-goes : (command : ℕ) (a : List ℕ) (v w : Walk) → judge command v ≡ judge command w → judge command (avp a v) ≡ judge command (avp a w)
+unfolding judge
+judge-goes command a v w e = fun-ext (λ seen. ap (onRule (rule command seen a) seen a) e)
+
+judge-skips : (command : ℕ) (u : Piece) (w : Walk) → Quiet u → judge command (avp (u .avp) w) ≡ judge command w
+unfolding glue
+judge-skips command u w p = fun-ext (λ seen. put-judge command [] (u .avp ∷ []) w seen (as-unmarked u p, tt))
+
+quiet-judge : (command : ℕ) {qs rs : List Piece} → Inserted Quiet qs rs → (w : Walk) → judge command (glue (avpsOf rs) w) ≡ judge command (glue (avpsOf qs) w)
+quiet-judge command = inserted-same (judge command) (judge-goes command) (judge-skips command)
+
+foreign-identities : {qs rs : List Piece} → Inserted Foreign qs rs → (w : Walk) → identities (glue (avpsOf rs) w) ≡ identities (glue (avpsOf qs) w)
+unfolding identities
+foreign-identities = inserted-same identities (λ a v w e. rw e) (λ u w p. rw (p .stranger))
+
+foreign-proxies : {qs rs : List Piece} → Inserted Foreign qs rs → (w : Walk) → proxies (glue (avpsOf rs) w) ≡ proxies (glue (avpsOf qs) w)
+unfolding proxies ifThere
+foreign-proxies = inserted-same proxies (λ a v w e. rw e) (λ u w p. rw (p .stranger))
+
+pub quiet-foreign : {qs rs : List Piece} → Inserted Quiet qs rs → Inserted Foreign qs rs
+quiet-foreign = inserted-as (λ u p. p .foreign)
+
+quiet-read : (head : List ℕ) (a : List ℕ) {qs rs : List Piece} → Inserted Quiet qs rs → readBody head (avp a (glue (avpsOf rs) ended)) ≡ readBody head (avp a (glue (avpsOf qs) ended))
+unfolding readBody readWalk
+quiet-read head a {qs} {rs} i =
+    let c = commandOf head in
+    let e : judge c (avp a (glue (avpsOf rs) ended)) nothing ≡ judge c (avp a (glue (avpsOf qs) ended)) nothing =
+    ap (λ (f : Seen → Judged). f nothing) (judge-goes c a (glue (avpsOf rs) ended) (glue (avpsOf qs) ended) (quiet-judge c i ended)) in
+    rw e
+
+-- What reading a request comes to, by the header's fault, by rule (b), by what the AVPs in front come to, and by those behind.
+readFrom : List ℕ → Bool → Bool → Judged → (Seen → Judged) → Judged
+readFrom head h f j next = cond h (cond f (bad (Base 5005) (some (example sessionId))) (complete (commandOf head) (andThen j next))) (bad (Base (headerFault head)) none)
+
+abbrev frontOther : Piece → List Piece → Bool
+frontOther q ps = firstOther (glue (avpsOf (q ∷ ps)) ended)
+
+abbrev frontJudged : List ℕ → Piece → List Piece → Judged
+frontJudged head q ps = judge (commandOf head) (glue (avpsOf (q ∷ ps)) ended) nothing
+
+read-behind : (head : List ℕ) (q : Piece) (ps : List Piece) (w : Walk)
+    → readBody head (glue (avpsOf (q ∷ ps)) w) ≡ readFrom head (eqb (headerFault head) 0) (frontOther q ps) (frontJudged head q ps) (judge (commandOf head) w)
+unfolding readFrom readBody readWalk avpsOf glue
+read-behind head q ps w = rw (judge-glue (commandOf head) (avpsOf (q ∷ ps)) w nothing)
+
+fault-decides : (head : List ℕ) (h f : Bool) (j : Judged) (k l : Seen → Judged) → (not h || f || isFault j) ≡ true → readFrom head h f j k ≡ readFrom head h f j l
+unfolding readFrom andThen
+fault-decides head false f j k l e = refl
+fault-decides head true true j k l e = refl
+fault-decides head true false (bad r g) k l e = refl
+fault-decides head true false (fine seen) k l e = absurd (true≢false (sym e))
+
+fault-keeps : (head : List ℕ) (h f : Bool) (j : Judged) (k : Seen → Judged) → (not h || f || isFault j) ≡ true → (req t : List ℕ) (count : ℕ) (file : List ℕ)
+    → decideJudged req t count file (readFrom head h f j k) .table ≡ t
+unfolding readFrom andThen complete decideJudged
+fault-keeps head false f j k e req t count file = refl
+fault-keeps head true true j k e req t count file = refl
+fault-keeps head true false (bad r g) k e req t count file = refl
+fault-keeps head true false (fine seen) k e req t count file = absurd (true≢false (sym e))
+
+none-decides : (head : List ℕ) (h f : Bool) (j : Judged) (k : Seen → Judged) (a : List ℕ) → (not h || f || isFault j) ≡ false → ((seen : Seen) → k seen ≡ bad (Base 5001) (some a))
+    → readFrom head h f j k ≡ bad (Base 5001) (some a)
+unfolding readFrom andThen complete
+none-decides head false f j k a e g = absurd (true≢false e)
+none-decides head true true j k a e g = absurd (true≢false e)
+none-decides head true false (bad r x) k a e g = absurd (true≢false e)
+none-decides head true false (fine seen) k a e g = rw (g seen)
+
+mark-judged : (command : ℕ) (m : Piece) (w : Walk) (seen : Seen) → Foreign m → isMarked m ≡ true → judge command (avp (m .avp) w) seen ≡ bad (Base 5001) (some (m .avp))
+unfolding glue judge andThen
+mark-judged command m w seen f e = put-marked command [] [] (m .avp) w seen tt (as-marked m f e) ∙ rw (put-failed m 5001 (f .whole) refl)
+
+-- A request, the row of its AVPs after the first, and the longer row.
+module _ (head : List ℕ) (twenty : length head ≡ 20) (q : Piece) (qs rs : List Piece) (whole : All Whole (q ∷ qs)) (i : Inserted Foreign qs rs)
+    (most : length (message head (bytesOf (q ∷ rs))) ≤ 16384) where
+  abbrev short : List ℕ
+  short = bytesOf (q ∷ qs)
+
+  abbrev long : List ℕ
+  long = bytesOf (q ∷ rs)
+
+  long-whole : All Whole (q ∷ rs)
+  long-whole = (whole .0, inserted-whole (λ u p. p .whole) i (whole .1))
+
+  long-fit : Fit long
+  long-fit = record { most = rw (← message-length head twenty long) most; fours = row-even (q ∷ rs) long-whole }
+
+  short-fit : Fit short
+  short-fit = record { most = omega (arith, long-fit .most, inserted-longer (keep q i)); fours = row-even (q ∷ qs) whole }
+
+  short-walk : walk short ≡ avp (q .avp) (glue (avpsOf qs) ended)
+  unfolding avpsOf glue
+  short-walk = walk-row (q ∷ qs) whole
+
+  long-walk : walk long ≡ avp (q .avp) (glue (avpsOf rs) ended)
+  unfolding avpsOf glue
+  long-walk = walk-row (q ∷ rs) long-whole
+
+  both-alike : Alike (walk long) (walk short)
+  unfolding avpsOf glue
+  both-alike = rw (long-walk, short-walk) (record { session = refl; copies = foreign-proxies (keep q i) ended })
+
+  both-named : identities (walk long) ≡ identities (walk short)
+  unfolding avpsOf glue
+  both-named = rw (long-walk, short-walk) (foreign-identities (keep q i) ended)
+
+  pub unmarked-same : Inserted Quiet qs rs → (t file o : List ℕ) → serve (message head long) t file o ≡ serve (message head short) t file o
+  unmarked-same j t file o =
+      served-same head twenty long short both-alike (rw (long-walk, short-walk) (quiet-read head (q .avp) j)) both-named t file o long-fit short-fit
+
+-- Some are marked: the row before the first marked one decides, or that one does.
+marked-inserted : {qs rs : List Piece} → FirstMarked qs rs → Inserted Foreign qs rs
+marked-inserted m = rw (m .row, m .longer) (inserted-joined (quiet-foreign (m .quiet)) (put (m .mark) (m .foreign) (m .rest)))
+
+row-joined : (q : Piece) (ps ss : List Piece) → glue (avpsOf (q ∷ ps ++ ss)) ended ≡ glue (avpsOf (q ∷ ps)) (glue (avpsOf ss) ended)
+row-joined q ps ss = rw (avps-joined (q ∷ ps) ss) (glue-glue (avpsOf (q ∷ ps)) (avpsOf ss) ended)
+
+module _ (head : List ℕ) (twenty : length head ≡ 20) (q : Piece) (qs rs : List Piece) (whole : All Whole (q ∷ qs)) (m : FirstMarked qs rs)
+    (most : length (message head (bytesOf (q ∷ rs))) ≤ 16384) where
+  abbrev i : Inserted Foreign qs rs
+  i = marked-inserted m
+
+  abbrev headed : Bool
+  headed = eqb (headerFault head) 0
+
+  abbrev behind : List Piece → Seen → Judged
+  behind ps = judge (commandOf head) (glue (avpsOf ps) ended)
+
+  front-same : frontJudged head q (m .before) ≡ frontJudged head q (m .front)
+  front-same = ap (λ (f : Seen → Judged). f nothing) (quiet-judge (commandOf head) (keep q (m .quiet)) ended)
+
+  other-same : frontOther q (m .before) ≡ frontOther q (m .front)
+  unfolding avpsOf glue
+  other-same = refl
+
+  long-read : readBody head (walk (bytesOf (q ∷ rs))) ≡ readFrom head headed (frontOther q (m .front)) (frontJudged head q (m .front)) (behind (m .mark ∷ m .after))
+  long-read =
+      ap (readBody head) (walk-row (q ∷ rs) (long-whole head twenty q qs rs whole i most) ∙ ap (λ (l : List Piece). glue (avpsOf (q ∷ l)) ended) (m .longer) ∙ row-joined q (m .before) (m .mark ∷ m .after))
+      ∙ read-behind head q (m .before) (glue (avpsOf (m .mark ∷ m .after)) ended)
+      ∙ rw (front-same, other-same)
+
+  short-read : readBody head (walk (bytesOf (q ∷ qs))) ≡ readFrom head headed (frontOther q (m .front)) (frontJudged head q (m .front)) (behind (m .back))
+  short-read =
+      ap (readBody head) (walk-row (q ∷ qs) whole ∙ ap (λ (l : List Piece). glue (avpsOf (q ∷ l)) ended) (m .row) ∙ row-joined q (m .front) (m .back))
+      ∙ read-behind head q (m .front) (glue (avpsOf (m .back)) ended)
+
+  pub fault-first : faultIn head (q ∷ m .front) ≡ true → (t file o : List ℕ) → serve (message head (bytesOf (q ∷ rs))) t file o ≡ serve (message head (bytesOf (q ∷ qs))) t file o
+  unfolding faultIn
+  fault-first e t file o =
+      served-same head twenty (bytesOf (q ∷ rs)) (bytesOf (q ∷ qs)) (both-alike head twenty q qs rs whole i most)
+      (long-read ∙ fault-decides head headed (frontOther q (m .front)) (frontJudged head q (m .front)) (behind (m .mark ∷ m .after)) (behind (m .back)) e ∙ sym short-read)
+      (both-named head twenty q qs rs whole i most) t file o (long-fit head twenty q qs rs whole i most) (short-fit head twenty q qs rs whole i most)
+
+  abbrev longer : List ℕ
+  longer = message head (bytesOf (q ∷ rs))
+
+  long-decides : (t : List ℕ) (count : ℕ) (file : List ℕ)
+      → decide longer t count file ≡ decideJudged longer t count file (readFrom head headed (frontOther q (m .front)) (frontJudged head q (m .front)) (behind (m .mark ∷ m .after)))
+  unfolding decide
+  long-decides t count file = rw (message-read head twenty (bytesOf (q ∷ rs)), long-read)
+
+  mark-decides : faultIn head (q ∷ m .front) ≡ false → (t : List ℕ) (count : ℕ) (file : List ℕ) → decide longer t count file ≡ unsupported t (m .mark)
+  unfolding faultIn decideJudged avpsOf glue
+  mark-decides e t count file =
+      long-decides t count file
+      ∙ rw (none-decides head headed (frontOther q (m .front)) (frontJudged head q (m .front)) (behind (m .mark ∷ m .after)) (m .mark .avp) e
+      (λ seen. mark-judged (commandOf head) (m .mark) (glue (avpsOf (m .after)) ended) seen (m .foreign) (m .marking)))
+
+  turned-same : (t file o : List ℕ) → turnedAway longer t file o ≡ turnedAway (message head (bytesOf (q ∷ qs))) t file o
+  turned-same t file o =
+      let x = bytesOf (q ∷ rs) in
+      let y = bytesOf (q ∷ qs) in
+      let a = long-fit head twenty q qs rs whole i most in
+      let b = short-fit head twenty q qs rs whole i most in
+      rw (
+        size-right head twenty x a,
+        size-right head twenty y b,
+        length-right head twenty x a,
+        length-right head twenty y b,
+        message-flags head twenty x,
+        message-flags head twenty y,
+      )
+
+  pub mark-answered : faultIn head (q ∷ m .front) ≡ false → (t file o : List ℕ) → turnedAway (message head (bytesOf (q ∷ qs))) t file o ≡ false
+      → serve longer t file o ≡ answered longer t o (unsupported t (m .mark))
+  mark-answered e t file o away =
+      let f : turnedAway longer t file o ≡ false = turned-same t file o ∙ away in
+      counted longer t file o f (λ count sound. answered-is longer t file o count sound f ∙ ap (answered longer t o) (mark-decides e t count file))
+
+  pub marked-kept : (t file o : List ℕ) → serve longer t file o .table ≡ t
+  unfolding answered faultIn
+  marked-kept t file o = go (turnedAway longer t file o) refl (faultIn head (q ∷ m .front)) refl
+    where
+      go : (x : Bool) → turnedAway longer t file o ≡ x → (y : Bool) → faultIn head (q ∷ m .front) ≡ y → serve longer t file o .table ≡ t
+      go true e y f = refused-kept longer t file o e .0
+      go false e true f =
+          counted longer t file o e
+          (λ count sound.
+          rw (answered-is longer t file o count sound e, long-decides t count file)
+          (fault-keeps head headed (frontOther q (m .front)) (frontJudged head q (m .front)) (behind (m .mark ∷ m .after)) f longer t count file))
+      go false e false f = counted longer t file o e (λ count sound. rw (answered-is longer t file o count sound e, mark-decides f t count file))

@@ -1,0 +1,3 @@
+pub mod Call
+pub mod Frame
+pub mod Insertion
