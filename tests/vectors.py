@@ -1,0 +1,170 @@
+#!/usr/bin/env python3
+"""vectors.py REFERENCE CRATE: writes CRATE/stdin, the cases that the program `vectors` runs, and CRATE/stdout, their outcomes.
+
+Both are the independent program's: it makes the cases and says their outcomes. Chosen are small cases, a few of each row: a
+refusal with what it returns besides; a command with its result, the kind that Failed-AVP names and what the answer carries; of
+a SAR also the type, keep, whether many identities are named and whether the table changed. After them stand the requests of
+real software in captured/, one after the other over the table that their heads describe. Nothing here is random: a second run
+writes the same bytes."""
+import collections, pathlib, struct, subprocess, sys
+
+MOST = 650_000  # bytes of cases
+EACH = 3  # cases of a row
+HEAD = struct.Struct('<BBHIIII')
+SAR = (301).to_bytes(3, 'big')
+RULES = tuple(('B', n) for n in (5001, 5004, 5014, 3009, 5011, 3008, 3001, 3007))
+KNOWN = {(n, 0) for n in (263, 260, 277, 264, 296, 293, 283, 1, 284, 282)} | {(n, 1) for n in (601, 600, 623, 602, 614, 624)}
+EFFECTS = ('B', 2001), ('X', 2004), ('X', 5007)
+
+
+def run(reference, *words, given=b''):
+    return subprocess.run([reference, *words], input=given, stdout=subprocess.PIPE, check=True).stdout
+
+
+def cases(stream):
+    at = 0
+    while at < len(stream):
+        entry, _, _, request, table, profile, buffer = HEAD.unpack_from(stream, at)
+        start, at = at, at + HEAD.size + request + table + profile
+        yield stream[start:at], entry, buffer, request, table, profile
+
+
+def outcomes(stream):
+    at = 0
+    while at < len(stream):
+        start, word = at, struct.unpack_from('<Q', stream, at)[0]
+        at += 12
+        changed = []
+        for _ in range(2):
+            _, count = struct.unpack_from('<II', stream, at)
+            at += 8 + count
+            changed.append(count)
+        yield stream[start:at], word, changed
+
+
+def avps(message):
+    """The AVPs of a message's or a group's bytes: kind, data."""
+    at = 0
+    while at + 8 <= len(message):
+        code, rest = struct.unpack_from('>II', message, at)
+        length, head = rest & 0xFFFFFF, 12 if rest >> 31 else 8
+        if length < head or at + length > len(message):
+            return
+        yield (code, rest >> 31), message[at + head:at + length]
+        at += (length + 3) // 4 * 4
+
+
+def number(data):
+    return struct.unpack('>I', data)[0] if len(data) == 4 else None
+
+
+def answer_of(outcome, word, changed):
+    """The answer, but for bytes at its ends that the buffer happened to hold already."""
+    at = 20 + changed[0]
+    first, count = struct.unpack_from('<II', outcome, at)
+    answer = bytearray(word & 0xFFFFFFFF)
+    answer[first:first + count] = outcome[at + 8:at + 8 + count]
+    return bytes(answer)
+
+
+def state(table, public):
+    """The state of a public identity's record."""
+    blocks = (table[at:at + 512] for at in range(512, len(table), 512))
+    return next((b[8] for b in blocks if b[16:16 + b[13]] == public), None)
+
+
+def row(case, entry, request, table, outcome, word, changed):
+    if word >> 48 or entry == 1:
+        return entry, word
+    asked, table = case[HEAD.size:][:request], case[HEAD.size + request:][:table]
+    said, carried = None, []
+    for kind, data in avps(answer_of(outcome, word, changed)[20:]):
+        if kind == (268, 0):
+            said = 'B', number(data)
+        elif kind == (297, 0):
+            said = 'X', number(dict(avps(data))[298, 0])
+        elif kind == (279, 0):
+            carried.append((279, next((k if k in KNOWN else 0 for k, _ in avps(data)), None)))
+        elif kind[0] in (1, 602, 603, 606):
+            carried.append(kind)
+    given = list(avps(asked[20:]))
+    found = asked[5:8], said, tuple(carried)
+    if said in (('X', 5001), ('X', 5002)) + RULES or asked[5:8] != SAR:
+        return found
+    names = [data for kind, data in given if kind == (601, 1)]
+    kind = next((number(data) for kind, data in given if kind == (614, 1)), None)
+    if said not in EFFECTS:
+        return found + (kind, len(names) > 1)
+    return found + (kind, len(names) > 1, table[12], state(table, names[0]) if names else None, changed[0] > 0)
+
+
+def small(entry, buffer, request, table, profile):
+    return table <= 2048 and profile <= 700 and buffer <= 40000 and (request <= 900 or request > 16384)
+
+
+def chosen(reference):
+    """The smallest cases of each row: first one of each, then a second and a third while there is room."""
+    rows = collections.defaultdict(list)
+    for kind, seeds, count in (('tables', (1,), 4000), ('calls', range(1, 9), 20000)):
+        for seed in seeds:
+            stream = run(reference, 'gen', '--kind', kind, '--seed', str(seed), '--count', str(count))
+            picked = [c for c in cases(stream) if small(*c[1:])]
+            told = outcomes(run(reference, 'outcomes', given=b''.join(c[0] for c in picked)))
+            for (case, entry, _, request, table, _), outcome in zip(picked, told):
+                rows[row(case, entry, request, table, *outcome)].append(case)
+    taken, left = [], MOST
+    for turn in range(EACH):
+        for found in rows.values():
+            case = sorted(found, key=len)[turn] if turn < len(found) else b''
+            if 0 < len(case) <= left:
+                taken.append(case)
+                left -= len(case)
+        print(f'{len(taken)} cases after turn {turn + 1}, room for {left} bytes')
+    return taken, rows
+
+
+def summed(block):
+    return block + struct.pack('>I', -sum(struct.unpack('>127I', block)) & 0xFFFFFFFF)
+
+
+def header(count, networks):
+    places = b''.join((bytes([len(n)]) + n).ljust(32, b'\0') for n in networks)
+    fields = struct.pack('>BBHIIBBBB', 1, 1, 0, 0, count, 1, 8, 4, len(networks))
+    return summed((fields + b'hss.isle'.ljust(64, b'\0') + b'isle'.ljust(64, b'\0') + places).ljust(508, b'\0'))
+
+
+def record(number, name, state=0, bits=0, mandatory=(), optional=(), server=b'', profile=(0, 0)):
+    public, private = b'sip:' + name + b'@isle', name + b'@isle'
+    fields = struct.pack('>BBHIBBBBBBBB', 2, 1, 0, number, state, bits, 1, len(mandatory), len(optional), len(public), len(private), len(server))
+    names = public.ljust(128, b'\0') + private.ljust(128, b'\0') + server.ljust(96, b'\0')
+    words = b''.join(struct.pack(f'>{len(w)}I', *w).ljust(16, b'\0') for w in (mandatory, optional))
+    return summed((fields + names + words + struct.pack('>IH', *profile)).ljust(508, b'\0'))
+
+
+def real(folder):
+    """Alice was never registered, Bob is, Erin has unregistered services."""
+    table = b''.join((
+        header(5, (b'isle', b'guest.example')),
+        record(1, b'alice', mandatory=(1, 2), optional=(3,)),
+        record(2, b'bob', state=1, server=b'sip:scscf1.isle:6060'),
+        record(3, b'erin', bits=4, mandatory=(1, 2), profile=(0, 432)),
+        record(4, b'user0', profile=(432, 434)),
+        record(5, b'user3')))
+    profile = b'0' * 866
+    for path in sorted(folder.glob('*.hex')):
+        lines = [line for line in path.read_text().splitlines() if not line.startswith('#')]
+        request = bytes.fromhex(''.join(lines))
+        yield HEAD.pack(2, 0, 0, len(request), len(table), len(profile), 36864) + request + table + profile
+
+
+def main():
+    reference, crate = sys.argv[1], pathlib.Path(sys.argv[2])
+    taken, rows = chosen(reference)
+    sent = list(real(pathlib.Path(__file__).parent / 'captured'))
+    stdin = b''.join(taken + sent)
+    (crate / 'stdin').write_bytes(stdin)
+    (crate / 'stdout').write_bytes(run(reference, 'outcomes', given=stdin))
+    print(f'{len(taken)} cases of {len(rows)} rows and {len(sent)} requests of real software, {len(stdin)} bytes')
+
+
+main()
