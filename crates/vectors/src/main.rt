@@ -41,7 +41,14 @@ fn head_of(s: &[u8]) -> Head
     let table = length_at(s, 8);
     let profile = length_at(s, 12);
     let buffer = length_at(s, 16);
-    Head { entry, fill, request, table, profile, buffer }
+    Head {
+        entry,
+        fill,
+        request,
+        table,
+        profile,
+        buffer,
+    }
 }
 
 // Whether standard input gave n bytes more.
