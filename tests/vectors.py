@@ -1,19 +1,18 @@
 #!/usr/bin/env python3
 """vectors.py REFERENCE CRATE: writes CRATE/stdin, the cases that the program `vectors` runs, and CRATE/stdout, their outcomes.
 
-Both are the independent program's: it makes the cases and says their outcomes. Chosen are small cases, a few of each row: a
-refusal with what it returns besides; a command with its result, the kind that Failed-AVP names and what the answer carries; of
-a SAR also the type, keep, whether many identities are named and whether the table changed. After them stand the requests of
-real software in captured/, one after the other over the table that their heads describe. Nothing here is random: a second run
-writes the same bytes."""
+Both are the independent program's: it makes the cases and says their outcomes. Chosen are small cases: for each of its deliberate
+faults one that shows it; of each result one, and then more: a refusal with what it returns besides; a command with its result; of a
+SAR past the reading rules also its type, and where it succeeds or meets a wrong state also keep, the state and whether it names many
+identities. After them stand the requests of real software in captured/, each over the table that their heads describe. Nothing here
+is random: a second run writes the same bytes."""
 import collections, pathlib, struct, subprocess, sys
 
 MOST = 650_000  # bytes of cases
-EACH = 3  # cases of a row
+CX = 10415
 HEAD = struct.Struct('<BBHIIII')
-SAR = (301).to_bytes(3, 'big')
 RULES = tuple(('B', n) for n in (5001, 5004, 5014, 3009, 5011, 3008, 3001, 3007))
-KNOWN = {(n, 0) for n in (263, 260, 277, 264, 296, 293, 283, 1, 284, 282)} | {(n, 1) for n in (601, 600, 623, 602, 614, 624)}
+KNOWN = {(n, 0) for n in (263, 260, 277, 264, 296, 293, 283, 1, 284, 282)} | {(n, CX) for n in (601, 600, 623, 602, 614, 624)}
 EFFECTS = ('B', 2001), ('X', 2004), ('X', 5007)
 
 
@@ -43,14 +42,15 @@ def outcomes(stream):
 
 
 def avps(message):
-    """The AVPs of a message's or a group's bytes: kind, data."""
+    """The AVPs of a message's or a group's bytes: code and vendor (0 without V), data."""
     at = 0
     while at + 8 <= len(message):
         code, rest = struct.unpack_from('>II', message, at)
         length, head = rest & 0xFFFFFF, 12 if rest >> 31 else 8
         if length < head or at + length > len(message):
             return
-        yield (code, rest >> 31), message[at + head:at + length]
+        vendor = struct.unpack_from('>I', message, at + 8)[0] if rest >> 31 else 0
+        yield (code, vendor), message[at + head:at + length]
         at += (length + 3) // 4 * 4
 
 
@@ -74,8 +74,9 @@ def state(table, public):
 
 
 def row(case, entry, request, table, outcome, word, changed):
+    """What a case comes to, and what its answer carries."""
     if word >> 48 or entry == 1:
-        return entry, word
+        return (entry, word, request > 16384), case[1] % 6 if entry == 1 or word >> 48 == 5 else 0  # several: a bad block has many causes
     asked, table = case[HEAD.size:][:request], case[HEAD.size + request:][:table]
     said, carried = None, []
     for kind, data in avps(answer_of(outcome, word, changed)[20:]):
@@ -87,40 +88,68 @@ def row(case, entry, request, table, outcome, word, changed):
             carried.append((279, next((k if k in KNOWN else 0 for k, _ in avps(data)), None)))
         elif kind[0] in (1, 602, 603, 606):
             carried.append(kind)
-    given = list(avps(asked[20:]))
-    found = asked[5:8], said, tuple(carried)
-    if said in (('X', 5001), ('X', 5002)) + RULES or asked[5:8] != SAR:
-        return found
-    names = [data for kind, data in given if kind == (601, 1)]
-    kind = next((number(data) for kind, data in given if kind == (614, 1)), None)
-    if said not in EFFECTS:
-        return found + (kind, len(names) > 1)
-    return found + (kind, len(names) > 1, table[12], state(table, names[0]) if names else None, changed[0] > 0)
+    command, given = int.from_bytes(asked[5:8], 'big'), list(avps(asked[20:]))
+    result = command if command in (300, 301, 302) else 0, said
+    if command == 301 and said not in RULES:
+        names = [data for kind, data in given if kind == (601, CX)]
+        result += (next((number(data) for kind, data in given if kind == (614, CX)), None),)
+        if said in EFFECTS:
+            result += len(names) > 1, table[12], state(table, names[0]) if names else None
+    return result, tuple(carried)
+
+
+def fits(entry, buffer, request, table, profile):
+    """Whether the program has room for a case."""
+    return request <= 20000 and table <= 4096 and profile <= 8192 and buffer <= 40000
 
 
 def small(entry, buffer, request, table, profile):
-    return table <= 2048 and profile <= 700 and buffer <= 40000 and (request <= 900 or request > 16384)
+    return table <= 2048 and profile <= 700 and (request <= 900 or request > 16384)
+
+
+def made(reference):
+    """Cases that fit, the smallest first."""
+    found = []
+    for kind, seeds, count in (('tables', (1,), 4000), ('calls', range(1, 6), 20000)):
+        for seed in seeds:
+            stream = run(reference, 'gen', '--kind', kind, '--seed', str(seed), '--count', str(count))
+            found += [case for case in cases(stream) if fits(*case[1:])]
+    return sorted(found, key=lambda case: len(case[0]))
+
+
+def telling(reference, found, told):
+    """For each deliberate fault of the independent program the first case that shows it."""
+    stream = b''.join(case[0] for case in found)
+    for line in run(reference, 'faults').decode().splitlines():
+        fault = line.split()[0]
+        wrong = outcomes(run(reference, 'outcomes', '--fault', fault, given=stream))
+        shown = (case[0] for case, right, other in zip(found, told, wrong) if right[0] != other[0])
+        case = next(shown, None)
+        if case is None:
+            print(f'no case shows {fault}')
+        else:
+            yield [case]
 
 
 def chosen(reference):
-    """The smallest cases of each row: first one of each, then a second and a third while there is room."""
-    rows = collections.defaultdict(list)
-    for kind, seeds, count in (('tables', (1,), 4000), ('calls', range(1, 9), 20000)):
-        for seed in seeds:
-            stream = run(reference, 'gen', '--kind', kind, '--seed', str(seed), '--count', str(count))
-            picked = [c for c in cases(stream) if small(*c[1:])]
-            told = outcomes(run(reference, 'outcomes', given=b''.join(c[0] for c in picked)))
-            for (case, entry, _, request, table, _), outcome in zip(picked, told):
-                rows[row(case, entry, request, table, *outcome)].append(case)
-    taken, left = [], MOST
-    for turn in range(EACH):
-        for found in rows.values():
-            case = sorted(found, key=len)[turn] if turn < len(found) else b''
-            if 0 < len(case) <= left:
-                taken.append(case)
+    """The smallest case for each result and for each fault, then for each result with what the answer carries, and more while there is room."""
+    found = made(reference)
+    told = list(outcomes(run(reference, 'outcomes', given=b''.join(case[0] for case in found))))
+    results, rows = collections.defaultdict(list), collections.defaultdict(list)
+    for (case, entry, *sizes), outcome in zip(found, told):
+        if small(entry, *sizes):
+            result, carried = row(case, entry, sizes[1], sizes[2], *outcome)
+            results[result].append(case)
+            rows[result, carried].append(case)
+    taken, left = {}, MOST
+    for groups in telling(reference, found, told), results.values(), rows.values(), (group[1:] for group in rows.values()):
+        for group in groups:
+            case = group[0] if group else None
+            if case and case not in taken and len(case) <= left:
+                taken[case] = None
                 left -= len(case)
-        print(f'{len(taken)} cases after turn {turn + 1}, room for {left} bytes')
-    return taken, rows
+        print(f'{len(taken)} cases of {len(results)} results and {len(rows)} rows, room for {left} bytes more')
+    return list(taken)
 
 
 def summed(block):
@@ -159,12 +188,12 @@ def real(folder):
 
 def main():
     reference, crate = sys.argv[1], pathlib.Path(sys.argv[2])
-    taken, rows = chosen(reference)
+    taken = chosen(reference)
     sent = list(real(pathlib.Path(__file__).parent / 'captured'))
     stdin = b''.join(taken + sent)
     (crate / 'stdin').write_bytes(stdin)
     (crate / 'stdout').write_bytes(run(reference, 'outcomes', given=stdin))
-    print(f'{len(taken)} cases of {len(rows)} rows and {len(sent)} requests of real software, {len(stdin)} bytes')
+    print(f'{len(taken)} cases and {len(sent)} requests of real software, {len(stdin)} bytes')
 
 
 main()
