@@ -71,6 +71,8 @@ int main(int argc, char **argv) {
             over |= report(decide, "UAR");
             ask_location(&request, registered);
             over |= report(decide, "LIR");
+            ask_long_location(&request, registered, NDUSHAVIRE_REQUEST_MAX);
+            over |= report(decide, "LIR of 16 KiB");
             ask_assignment(&request, s.table, s.records, registered, 1, 1);
             over |= report(decide, "SAR type 1");
             request.length = NDUSHAVIRE_REQUEST_MIN;
