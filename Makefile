@@ -31,7 +31,8 @@ KIT := $(shell dirname "$$(rt doc)")/..
 PROGRAM := $(RUN) $(KIT)/toolchain/lib/ld-linux-x86-64.so.2 --library-path $(KIT)/toolchain/lib
 run: target/c/maketable target/c99/check target/bin/answer $(BINARY)
 	mkdir -p target/run
-	target/c/maketable examples/households.txt target/run/table target/run/profile
+	target/c/maketable table examples/households.txt >target/run/table
+	target/c/maketable profile examples/households.txt >target/run/profile
 	$(RUN) target/c99/check target/run/table target/run/profile
 	cd target/run && $(PROGRAM) ../bin/answer <../../crates/answer/stdin | ../../$(BINARY) show
 
@@ -170,7 +171,8 @@ target/bench/libreference_c.a: bench/reference.rs $(BINARY)
 target/bench/%.table: bench/households.sh target/c/maketable
 	mkdir -p $(@D)
 	bench/households.sh $(subst -, ,$*) >target/bench/$*.txt
-	target/c/maketable target/bench/$*.txt $@ target/bench/$*.profile
+	target/c/maketable profile target/bench/$*.txt >target/bench/$*.profile
+	target/c/maketable table target/bench/$*.txt >$@
 
 # ---- the installation, under PREFIX and below DESTDIR if that is set
 VERSION := 0.1.0

@@ -1,4 +1,6 @@
-/* maketable TEXT TABLE PROFILE: makes a sound table and its profile file from a text.
+/* maketable table TEXT, maketable profile TEXT: the table that a text describes, or its profile file, on standard output.
+ * It writes no file. Never send its output over a table in use, as with `> table`: the shell empties that file before
+ * this program has read a line. Send both into a new folder, check them there and switch; tablecheck(1) shows how.
  *
  * The text is paragraphs of words, apart by empty lines. A word is `key=value` or a key alone; a value holds no
  * blank, or stands in quotes, where \" \\ \n and \xHH (two hexadecimal digits) mean a quote, a backslash, a line's
@@ -17,7 +19,7 @@
  *   server=NAME                 1 to 96 bytes; wanted where registered, unregistered or pending, and nowhere else
  *   profile=TEXT                up to 4,096 bytes
  *
- * A text that no sound table can be made from is refused with its line: status 1, and no file is written.
+ * A text that no sound table can be made from is refused with its line: status 1, and nothing is written.
  * This program stands apart from the library and reads the table's rules for itself, so that each tests the other. */
 #include <ctype.h>
 #include <stdarg.h>
@@ -368,23 +370,20 @@ static void put_record(uint8_t *block, const Record *record, uint32_t number, ui
     seal(block);
 }
 
-static int store(const char *path, const uint8_t *bytes, size_t length) {
-    FILE *file = fopen(path, "wb");
-    const int written = file != NULL && fwrite(bytes, 1, length, file) == length;
-    const int closed = file != NULL && fclose(file) == 0;
-    if (written && closed) return 1;
-    fprintf(stderr, "maketable: %s: %s\n", path, strerror(errno));
-    if (file != NULL) remove(path);
+static int print(const uint8_t *bytes, size_t length) {
+    if (fwrite(bytes, 1, length, stdout) == length && fflush(stdout) == 0) return 1;
+    fprintf(stderr, "maketable: standard output: %s\n", strerror(errno));
     return 0;
 }
 
 int main(int argc, char **argv) {
-    if (argc != 4) {
-        fprintf(stderr, "usage: maketable TEXT TABLE PROFILE\n");
+    const int profile_wanted = argc == 3 && strcmp(argv[1], "profile") == 0;
+    if (argc != 3 || (!profile_wanted && strcmp(argv[1], "table") != 0)) {
+        fprintf(stderr, "usage: maketable table|profile TEXT\n");
         return 2;
     }
     size_t length;
-    uint8_t *bytes = load(text_name = argv[1], &length);
+    uint8_t *bytes = load(text_name = argv[2], &length);
     Text text = {bytes, bytes + length, 1, 1};
     read_text(&text);
     sort_records();
@@ -403,13 +402,9 @@ int main(int argc, char **argv) {
         put_name(profile + start, records[i].profile);
         start += records[i].profile.length;
     }
-    if (!store(argv[3], profile, profile_length)) return 1;
-    if (!store(argv[2], table, BLOCK * (count + 1))) {
-        remove(argv[3]);
-        return 1;
-    }
+    const int printed = profile_wanted ? print(profile, profile_length) : print(table, BLOCK * (count + 1));
     free(table);
     free(profile);
     free(bytes);
-    return 0;
+    return printed ? 0 : 1;
 }

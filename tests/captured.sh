@@ -28,7 +28,8 @@ public=sip:user0@isle private=user0@isle roaming=isle profile=$(many 434)
 
 public=sip:user3@isle private=user3@isle roaming=isle
 END
-"$maketable" "$room/text" "$room/table" "$room/profile"
+"$maketable" table "$room/text" >"$room/table"
+"$maketable" profile "$room/text" >"$room/profile"
 
 for request in "$(dirname "$0")"/captured/*.hex; do
     result=$(sed -n 's/^# .* answered: \([BX][0-9]*\).*/\1/p' "$request")

@@ -11,7 +11,8 @@ examples=$(dirname "$0")/../examples
 rm -rf "$room"
 mkdir -p "$room"
 table=$room/table profile=$room/profile request=$room/request
-"$maketable" "$examples/households.txt" "$table" "$profile"
+"$maketable" table "$examples/households.txt" >"$table"
+"$maketable" profile "$examples/households.txt" >"$profile"
 tried=0
 
 # The request on standard input gets what the file EXPECTED has.

@@ -24,7 +24,8 @@ fi
 cd "$room/new"
 cp "$top/examples/check.c" "$top/examples/load.h" .
 "$@" -std=c99 -o check check.c $flags
-"$maketable" "$top/examples/households.txt" table profile
+"$maketable" table "$top/examples/households.txt" >table
+"$maketable" profile "$top/examples/households.txt" >profile
 says() { # PROGRAM ARGUMENT..
     local said
     said=$("$@")

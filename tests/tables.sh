@@ -27,6 +27,10 @@ says() { # EXPECTED ABOUT
     tried=$((tried + 1))
 }
 
+make_both() { # TEXT TABLE PROFILE
+    "$maketable" table "$1" >"$2" && "$maketable" profile "$1" >"$3"
+}
+
 head='host=h realm=r keep=0'
 one='public=p private=q'
 many() { printf "%0*d" "$1" 0; } # N bytes
@@ -34,19 +38,21 @@ many() { printf "%0*d" "$1" 0; } # N bytes
 # A text on standard input makes a table that is sound.
 sound() { # RECORDS ABOUT
     cat >"$text"
-    "$maketable" "$text" "$table" "$profile" || fail "$2: refused"
+    make_both "$text" "$table" "$profile" || fail "$2: refused"
     says "sound, $1 records" "$2"
 }
 
-# A text on standard input is refused at a line, and no file appears.
+# A text on standard input is refused at a line, and nothing is written.
 refused() { # LINE PHRASE
     cat >"$text"
-    rm -f "$table" "$profile"
-    local status=0
-    "$maketable" "$text" "$table" "$profile" 2>"$room/said" || status=$?
-    [ "$status" = 1 ] || fail "not refused: $2"
-    if [ -e "$table" ] || [ -e "$profile" ]; then fail "files were written: $2"; fi
-    grep -q -F ":$1: $2" "$room/said" || fail "expected line $1, '$2', and got: $(cat "$room/said")"
+    local what status
+    for what in table profile; do
+        status=0
+        "$maketable" "$what" "$text" >"$table" 2>"$room/said" || status=$?
+        [ "$status" = 1 ] || fail "not refused: $2"
+        [ ! -s "$table" ] || fail "something was written: $2"
+        grep -q -F ":$1: $2" "$room/said" || fail "expected line $1, '$2', and got: $(cat "$room/said")"
+    done
     tried=$((tried + 1))
 }
 
@@ -101,7 +107,7 @@ printf '%s\n\n%s\n\npublic=o private=q\n\n%s\n' "$head" "$one" "$one" | refused 
 
 # The sample, and copies of it that are damaged.
 whole=$room/whole whole_profile=$room/whole-profile
-"$maketable" "$(dirname "$0")/../examples/households.txt" "$whole" "$whole_profile"
+make_both "$(dirname "$0")/../examples/households.txt" "$whole" "$whole_profile"
 blocks=$(($(stat -c %s "$whole") / 512))
 fresh() { cp "$whole" "$table" && cp "$whole_profile" "$profile"; }
 set_byte() { printf %b "\\x$(printf %02x "$2")" | dd of="$table" bs=1 seek="$1" conv=notrunc status=none; } # PLACE BYTE
