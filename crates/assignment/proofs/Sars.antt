@@ -43,9 +43,14 @@ use Rattle.assignment.proofs.Planning.{Right, FirstIs, plan-right}
 use Rattle.assignment.proofs.Surveys.{owned-own, owned-right}
 
 -- What the functions' callees say, joined.
-pub user-all : (t : List ℕ) (count : ℕ) (named : Bool) (user : List ℕ) {x : Bool} → x ≡ isAt (findPrivate t count user) → (not named || x) ≡ userKnown t count named user
-unfolding userKnown
-user-all t count named user e = rw e
+module _ (t : List ℕ) (count : ℕ) (named : Bool) (user : List ℕ) where
+  pub user-absent : not named ≡ true → true ≡ userKnown t count named user
+  unfolding userKnown
+  user-absent e = rw e
+
+  pub user-given : {x : Bool} → not named ≡ false → x ≡ isAt (findPrivate t count user) → x ≡ userKnown t count named user
+  unfolding userKnown
+  user-given e h = rw e h
 
 pub for-user : (t : List ℕ) (f : Found) (named : Bool) (user server : List ℕ) (kind : ℕ) (fs : List Found) {v : Survey} → named ≡ true → v ≡ surveyOf t user server kind fs
     → v ≡ surveyFor t f named user server kind fs

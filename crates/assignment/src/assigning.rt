@@ -23,6 +23,7 @@ ghost use Rattle.lookup.specs.Find.{endOf};
 ghost use Rattle.reading.specs.Request.{bodyOf, identities};
 ghost use Rattle.decisions.specs.Types.{groupOf, isRemoval};
 ghost use Rattle.decisions.specs.Assignment.{findAll, identityFault};
+ghost use Rattle.decisions.specs.Gives.{Within};
 ghost use Rattle.decisions.specs.Planned.{Ready};
 ghost use Rattle.assignment.specs.Assigns.{sarOf, Assigns, surveyFor, userKnown, knowing, numberOf};
 ghost use Rattle.assignment.specs.Identities.{Begins, Tells};
@@ -46,11 +47,18 @@ fn number_of(f: Found) -> u32
     }
 }
 
-fn user_known(t: &[u8], count: usize, named: bool, user: &[u8]) -> bool
-    requires { ⌜ Ready (now t) count ⌝ }
+// "or a User-Name given, unknown"; the first record that was named is likely to have it.
+fn user_known(t: &[u8], count: usize, f: Found, named: bool, user: &[u8]) -> bool
+    requires { ⌜ Ready (now t) count × Within count f ⌝ }
     ensures { λ r. ⌜ r ≡ userKnown (now (t .entry)) count named (now (user .entry)) ⌝ }
 {
-    !named | lookup::known_private(t, count, user)
+    if !named {
+        return true;
+    }
+    match f {
+        Found::At(k) => lookup::known_near(t, count, k, user),
+        Found::Nothing => lookup::known_private(t, count, user),
+    }
 }
 
 // A survey, with another word on what is known.
@@ -103,7 +111,7 @@ fn plan_first(
 {
     let f = lookup::find_public(t, count, diameter::data_at(req, place));
     let v = survey_for(t, f, count, req, named, user, server, kind);
-    let w = know(v, user_known(t, count, named, user));
+    let w = know(v, user_known(t, count, f, named, user));
     plan::plan_of(
         looking::finding(w, kind),
         kind,

@@ -110,7 +110,7 @@ fn authorize_found(
 {
     match f {
         Found::At(k) => {
-            if lookup::known_private(t, count, user) {
+            if lookup::known_near(t, count, k, user) {
                 authorize_record(t, count, user, network, kind, k)
             } else {
                 giving::plain(Outcome::Experimental(5001))

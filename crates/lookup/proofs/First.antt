@@ -1,12 +1,12 @@
 -- The first number that a test holds of: the turns of a scan, and what its answer says.
 use Prim.Native.Nat.{ℕ, zero, suc, _+_, _-_, _<_, _≤_}
-use mathlib.Core.Bool.{Bool, true, false, cond}
-use mathlib.Core.Path.{_≡_, refl, _∙_, ap}
+use mathlib.Core.Bool.{Bool, true, false, cond, true≢false}
+use mathlib.Core.Path.{_≡_, refl, sym, _∙_, ap}
 use native.Mathlib.Omega.{arith}
 use native.Mathlib.Numerals.{add-one}
 use lib.Dec.{ltb}
 use borrow.Author.Tests.{ltb-true, ltb-false}
-use Rattle.lookup.specs.Find.{firstFrom}
+use Rattle.lookup.specs.Find.{firstFrom, isAt}
 use Rattle.lookup.specs.declared.Found.{Found}
 use Rattle.lookup.specs.declared.Found.the-variants.{At, Nothing}
 
@@ -80,6 +80,14 @@ first-at p count k a b e h =
     let m : count ≡ (k - 1) + suc (count - k) = omega arith in
     let q : 1 + (k - 1) ≡ k = omega arith in
     ap (λ (n : ℕ). firstFrom p n 1) m ∙ first-hit p (k - 1) (count - k) 1 (λ j u v. h j u (omega arith)) (rw q e) ∙ ap At q
+
+-- A number that the test holds of is enough for an answer.
+pub first-some : (p : ℕ → Bool) (count k : ℕ) → 1 ≤ k → k ≤ count → p k ≡ true → true ≡ isAt (firstFrom p count 1)
+first-some p count k a b e = go (firstFrom p count 1) refl
+  where
+    go : (f : Found) → firstFrom p count 1 ≡ f → true ≡ isAt f
+    go (At j) h = refl
+    go Nothing h = absurd (true≢false (sym e ∙ first-fails p count 1 h k a (omega arith)))
 
 pub record Stands (p : ℕ → Bool) (n k m : ℕ) : Type 0 where
   pub from : k ≤ m

@@ -1,7 +1,7 @@
 -- Scans by the subscription, and where a record that was found ends.
 use Prim.Native.Nat.{ℕ, _+_, _*_, _≤_}
-use mathlib.Core.Bool.{Bool, _&&_}
-use mathlib.Core.Path.{_≡_, sym, ap}
+use mathlib.Core.Bool.{Bool, true, _&&_}
+use mathlib.Core.Path.{_≡_, sym, ap, _∙_}
 use mathlib.Core.List.{List}
 use native.Mathlib.Omega.{arith}
 use lib.ListN.{length, getD}
@@ -9,15 +9,20 @@ use lib.Dec.{ltb}
 use Rattle.octets.specs.Name.{same}
 use Rattle.record.specs.Fields.{privateOf}
 use Rattle.table.specs.Blocks.{blockOf, privateAt}
-use Rattle.lookup.specs.Find.{firstFrom, endOf, findPublic, publicIs, privateIs, findPrivate, serverHere, servesAt, findServer}
+use Rattle.lookup.specs.Find.{firstFrom, isAt, endOf, findPublic, publicIs, privateIs, findPrivate, serverHere, servesAt, findServer}
 use Rattle.lookup.specs.declared.Found.{Found}
 use Rattle.lookup.specs.declared.Found.the-variants.{At, Nothing}
-use Rattle.lookup.proofs.First.{first-stands, first-same}
+use Rattle.lookup.proofs.First.{first-some, first-stands, first-same}
 
 -- The test of a block, by what is read of it.
 pub private-here : (t name : List ℕ) (k : ℕ) {b n : List ℕ} {x : Bool} → b ≡ blockOf t k → n ≡ privateOf b → x ≡ same n name → x ≡ privateIs t name k
 unfolding privateIs privateAt
 private-here t name k e f g = rw (← e, ← f) g
+
+pub private-known : (t name : List ℕ) (count k : ℕ) {b n : List ℕ} {x : Bool} → b ≡ blockOf t k → n ≡ privateOf b → x ≡ same n name → x ≡ true → 1 ≤ k → k ≤ count
+    → true ≡ isAt (findPrivate t count name)
+unfolding findPrivate
+private-known t name count k e f g h a b = first-some (privateIs t name) count k a b (sym (private-here t name k e f g) ∙ h)
 
 pub serves-here : (t name : List ℕ) (k : ℕ) {b : List ℕ} {x : Bool} → b ≡ blockOf t k → x ≡ serverHere b name → x ≡ servesAt t name k
 unfolding servesAt

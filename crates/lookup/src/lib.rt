@@ -83,6 +83,17 @@ pub fn known_private(t: &[u8], count: usize, name: &[u8]) -> bool
     is_at(find_private(t, count, name))
 }
 
+// The same, where the record in block k is likely to have it: then nothing is scanned.
+pub fn known_near(t: &[u8], count: usize, k: u32, name: &[u8]) -> bool
+    requires { ⌜ (count ≤ 4096) × (length (now t) ≡ 512 * (count + 1)) × (1 ≤ k) × (k ≤ count) ⌝ }
+    ensures { λ r. ⌜ r ≡ isAt (findPrivate (now (t .entry)) count (now (name .entry))) ⌝ }
+{
+    if name::same(fields::private(table::block(t, k as usize)), name) {
+        return true;
+    }
+    known_private(t, count, name)
+}
+
 // Whether a record block belongs to a subscription and stores a server name.
 pub fn serves(b: &[u8], name: &[u8]) -> bool
     requires { ⌜ length (now b) ≡ 512 ⌝ }

@@ -1,7 +1,7 @@
 -- Laws of conjunctions, and of a test of every number below a bound.
 use Prim.Native.Nat.{ℕ, zero, suc, _+_, _<_, _≤_}
 use mathlib.Core.Bool.{Bool, true, false, _&&_, true≢false}
-use mathlib.Core.Path.{_≡_, refl, sym}
+use mathlib.Core.Path.{_≡_, refl, sym, _∙_}
 use native.Mathlib.Omega.{arith}
 use native.Mathlib.Numerals.{add-one}
 use lib.Dec.{ltb}
@@ -42,3 +42,17 @@ pub all-true : (p : ℕ → Bool) (n : ℕ) → ((i : ℕ) → i < n → p i ≡
 unfolding allBelow
 all-true p zero h = refl
 all-true p (suc n) h = rw (all-true p n (λ i k. h i (omega arith)), h n (omega arith))
+
+-- A stretch after the first i of them: with it, and if it fails.
+module _ (p q : ℕ → Bool) (i : ℕ) (later : (j : ℕ) → q j ≡ p (i + j)) where
+  pub all-stretch : (k : ℕ) → true ≡ allBelow p i → allBelow q k ≡ allBelow p (i + k)
+  unfolding allBelow
+  all-stretch zero e = let n : i + 0 ≡ i = omega arith in rw n e
+  all-stretch (suc k) e = let n : i + suc k ≡ suc (i + k) = omega arith in rw (n, all-stretch k e, later k)
+
+  pub all-failing : (k n : ℕ) → i + k ≤ n → allBelow q k ≡ false → allBelow p n ≡ false
+  all-failing k n h e = go (allBelow p n) refl
+    where
+      go : (x : Bool) → allBelow p n ≡ x → x ≡ false
+      go false f = refl
+      go true f = absurd (true≢false (sym (all-true q k (λ j l. later j ∙ all-at p n f (i + j) (omega arith))) ∙ e))

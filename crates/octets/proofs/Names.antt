@@ -1,7 +1,7 @@
 -- Laws of names: alike is equal, and the order is strict and passes on.
-use Prim.Native.Nat.{ℕ, _<_, _≤_}
+use Prim.Native.Nat.{ℕ, _+_, _-_, _<_, _≤_}
 use mathlib.Core.Bool.{Bool, true, false, cond}
-use mathlib.Core.Path.{_≡_, refl}
+use mathlib.Core.Path.{_≡_, refl, sym, ap, _∙_}
 use mathlib.Core.Logic.{_⊎_, inl, inr}
 use mathlib.Core.List.{List, [], _∷_}
 use native.Mathlib.Omega.{arith}
@@ -10,10 +10,10 @@ use lib.ListN.{length, getD}
 use lib.Seq.{ext-getD}
 use borrow.Author.Tests.{lt-ltb, le-ltb, ltb-true, ltb-false, eqb-true, eq-eqb, ne-eqb}
 use Rattle.octets.specs.All.{allBelow}
-use Rattle.octets.specs.Name.{orderOf, alikeAt, same}
+use Rattle.octets.specs.Name.{orderOf, alikeAt, alikeFrom, same}
 use Rattle.octets.specs.declared.name.Order.{Order}
 use Rattle.octets.specs.declared.name.Order.the-variants.{Less, Equal, Greater}
-use Rattle.octets.proofs.All.{and-left, and-right, all-at, all-true}
+use Rattle.octets.proofs.All.{and-left, and-right, all-at, all-true, all-stretch, all-failing}
 
 pub same-eq : (s t : List ℕ) → same s t ≡ true → s ≡ t
 unfolding same alikeAt
@@ -35,14 +35,29 @@ same-no s t h = go (same s t) refl
     go true e = absurd (h (same-eq s t e))
     go false e = e
 
--- The turns of the loop that compares.
-pub same-end : (s t : List ℕ) (good : Bool) (i : ℕ) → length s ≡ length t → i ≤ length s → length s ≤ i → good ≡ allBelow (alikeAt s t) i → good ≡ same s t
-unfolding same
-same-end s t good i e a b f = let k : i ≡ length s = omega arith in rw (eq-eqb _ _ e, ← k) f
+-- The turns of the loop that compares: a stretch that is alike, one that is not, and the last.
+module _ (s t : List ℕ) (i : ℕ) where
+  pub same-more : (k : ℕ) {x : Bool} → true ≡ allBelow (alikeAt s t) i → x ≡ allBelow (alikeFrom s t i) k → x ≡ true → true ≡ allBelow (alikeAt s t) (i + k)
+  unfolding alikeFrom
+  same-more k e f g = sym g ∙ f ∙ all-stretch (alikeAt s t) (alikeFrom s t i) i (λ j. refl) k e
+
+  pub same-differ : (k : ℕ) {x : Bool} → i ≤ length s → k ≤ length s - i → x ≡ allBelow (alikeFrom s t i) k → x ≡ false → false ≡ allBelow (alikeAt s t) (length s)
+  unfolding alikeFrom
+  same-differ k a b f g = sym (all-failing (alikeAt s t) (alikeFrom s t i) i (λ j. refl) k (length s) (omega arith) (sym f ∙ g))
+
+  pub same-rest : {x : Bool} → i ≤ length s → true ≡ allBelow (alikeAt s t) i → x ≡ allBelow (alikeFrom s t i) (length s - i) → x ≡ allBelow (alikeAt s t) (length s)
+  unfolding alikeFrom
+  same-rest a e f =
+      let n : i + (length s - i) ≡ length s = omega arith in
+      f ∙ all-stretch (alikeAt s t) (alikeFrom s t i) i (λ j. refl) (length s - i) e ∙ ap (allBelow (alikeAt s t)) n
 
 pub same-lengths : (s t : List ℕ) → (length s ≡ length t → ⊥) → false ≡ same s t
 unfolding same
 same-lengths s t h = rw (ne-eqb _ _ h)
+
+pub same-within : (s t : List ℕ) {x : Bool} → length s ≡ length t → x ≡ allBelow (alikeAt s t) (length s) → x ≡ same s t
+unfolding same
+same-within s t e f = rw (eq-eqb _ _ e) f
 
 -- The order.
 less-head : (x y : ℕ) (s t : List ℕ) → x < y → orderOf (x ∷ s) (y ∷ t) ≡ Less

@@ -1,4 +1,5 @@
 use Rattle.lookup.proofs.Scans.{public-end}
+use Rattle.decisions.proofs.Ready.{public-within}
 use Rattle.assignment.proofs.Sars.{first-promise}
 use borrow.Author.Needs.{needs}
 use Rattle.assignment.proofs.assigning.plan_first.Statement.{statement}
@@ -11,7 +12,7 @@ plan-first-spec =
     (λ c κs. search needs)
     (λ c κs. search needs)
     (λ c κs. search (needs, public-end))
-    (λ c κs. search needs)
+    (λ c κs. search (needs, public-within))
     (λ c κs. search needs)
     (λ c κs. search needs)
     (λ c κs. search needs)

@@ -9,7 +9,7 @@ authorize-found-spec =
     tie.close
     (tie.spec
     (λ c. search needs)
-    (λ c κs. search needs)
+    (λ c κs. search (needs, within-from, within-to))
     (λ c κs. search (needs, within-from, within-to))
     (λ c κs. search needs)
     (λ c. search needs)
