@@ -4,7 +4,7 @@
 SHELL := /bin/bash
 .SHELLFLAGS := -euo pipefail -c
 .DELETE_ON_ERROR:
-.PHONY: run test clean fmt examples tables reference installs bench stack install uninstall
+.PHONY: run test clean fmt examples tables stores reference installs bench stack install uninstall
 .PHONY: differential soak mutants stats definitions-check
 
 MACHINE := $(shell uname -m)
@@ -40,7 +40,7 @@ target/bin/answer: $(PROVED)
 	rt check answer
 	touch $@
 
-test: fmt examples tables reference installs differential
+test: fmt examples tables stores reference installs differential
 
 fmt:
 	rt fmt --check
@@ -51,6 +51,9 @@ examples: $(foreach mode,c99 cxx,$(addprefix target/$(mode)/,check decide)) targ
 
 tables: examples
 	tests/tables.sh target/test/tables target/c/maketable target/c99/check target/cxx/check
+
+stores: target/c/store target/c++/store
+	for store in $^; do rm -rf target/test/store; mkdir -p target/test/store; $$store target/test/store; done
 
 reference:
 	cd reference && cargo test --offline --quiet
@@ -112,6 +115,14 @@ $(BINARY): $(REFERENCE)
 target/c/maketable: examples/maketable.c examples/load.h
 	mkdir -p $(@D)
 	$(CC) -std=c99 $(STRICT) -o $@ $<
+
+target/c/store: tests/store.c examples/store.h examples/load.h
+	mkdir -p $(@D)
+	$(CC) -std=c99 $(STRICT) -o $@ $<
+
+target/c++/store: tests/store.c examples/store.h examples/load.h
+	mkdir -p $(@D)
+	$(CXX) $(STRICT) -o $@ -x c++ $<
 
 target/c99/driver: tests/driver.c $(HEADER) $(ARCHIVE)
 	mkdir -p $(@D)

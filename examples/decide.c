@@ -1,6 +1,8 @@
 /* decide TABLE PROFILE REQUEST: answers one request, and shows what the call returned and changed.
  * REQUEST is text: hexadecimal digits, blanks between bytes as you like, and comments from # to the line's end.
- * The files stay as they are: a daemon would store the rewritten blocks before it sends the answer.
+ * The files stay as they are. A daemon stores the whole table before it sends the answer, as store.h does: in a new
+ * file, flushed, renamed over the old one, and the folder flushed. Blocks written in place are not enough, since a
+ * removal that is half on disk is a sound table.
  * Exit status: 0 answered, 1 refused, 2 a file cannot be read. */
 #include <ctype.h>
 

@@ -1,0 +1,63 @@
+/* store.h: how a daemon stores its table. Whatever fails, the file of that name is a whole one, the old or the new. The
+ * daemon calls store after a decision that rewrote the table, and sends the answer only when it is STORED.
+ * POSIX.1-2008: under -std=c99 define _POSIX_C_SOURCE as 200809L before anything is included. */
+#ifndef STORE_H
+#define STORE_H
+
+#include <errno.h>
+#include <fcntl.h>
+#include <stdint.h>
+#include <stdio.h>
+#include <unistd.h>
+
+typedef enum {
+    STORED,     /* the new file is on disk */
+    NOT_STORED, /* the old file stands as it was; errno says why */
+    UNSURE      /* the new file has the name, but after a power cut it may be the old one again; errno says why */
+} Stored;
+
+static int write_all(int file, const uint8_t *bytes, size_t length) {
+    while (length > 0) {
+        const ssize_t wrote = write(file, bytes, length);
+        if (wrote < 0 && errno != EINTR) return 0;
+        if (wrote <= 0) continue;
+        bytes += wrote;
+        length -= (size_t)wrote;
+    }
+    return 1;
+}
+
+static int flushed(int file) {
+    int failed;
+    do failed = fsync(file);
+    while (failed && errno == EINTR);
+    return !failed;
+}
+
+/* Writes NAME.new, flushes it, renames it to NAME and flushes the folder. The folder is open, and is the one that table
+ * and profile were read from: a link that was switched since then does not matter. One call at a time for one name. */
+static Stored store(int folder, const char *name, const uint8_t *bytes, size_t length) {
+    char fresh[256];
+    const int letters = snprintf(fresh, sizeof fresh, "%s.new", name);
+    if (letters < 0 || (size_t)letters >= sizeof fresh) {
+        errno = ENAMETOOLONG;
+        return NOT_STORED;
+    }
+    const int file = openat(folder, fresh, O_WRONLY | O_CREAT | O_TRUNC | O_CLOEXEC, 0640);
+    if (file < 0) return NOT_STORED;
+    int done = write_all(file, bytes, length) && flushed(file);
+    int why = errno;
+    close(file);
+    if (done) {
+        done = renameat(folder, fresh, folder, name) == 0;
+        why = errno;
+    }
+    if (!done) {
+        unlinkat(folder, fresh, 0);
+        errno = why;
+        return NOT_STORED;
+    }
+    return flushed(folder) ? STORED : UNSURE;
+}
+
+#endif
