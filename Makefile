@@ -161,16 +161,16 @@ stack: target/c99/stack $(DECIDED:%=target/bench/%.table)
 target/native/libndushavire.a: bench/native-lib $(PROVED)
 	bench/native-lib ndushavire
 
-target/bench/check: bench/check.c bench/sum.c bench/timing.h examples/load.h $(HEADER) $(TIMED) target/bench/libreference_c.a
+target/bench/check: bench/check.c bench/sum.c bench/samples.h bench/timing.h examples/load.h $(HEADER) $(TIMED) target/bench/libreference_c.a
 	$(CC) -O3 -DSUM=sum_plain -c -o target/bench/sum-plain.o bench/sum.c
 	$(CC) -O3 $(TUNE) -DSUM=sum_native -c -o target/bench/sum-native.o bench/sum.c
 	$(CC) -std=c99 $(STRICT) -o $@ bench/check.c target/bench/sum-plain.o target/bench/sum-native.o $(TIMED) \
 	    target/bench/libreference_c.a -lpthread -ldl -lm
 
-target/bench/decide: bench/decide.c bench/requests.h bench/timing.h examples/load.h $(HEADER) $(TIMED) target/bench/libreference_c.a
+target/bench/decide: bench/decide.c bench/requests.h bench/samples.h bench/timing.h examples/load.h $(HEADER) $(TIMED) target/bench/libreference_c.a
 	$(CC) -std=c99 $(STRICT) -o $@ bench/decide.c $(TIMED) target/bench/libreference_c.a -lpthread -ldl -lm
 
-target/c99/stack: bench/stack.c bench/requests.h examples/load.h $(HEADER) $(ARCHIVE)
+target/c99/stack: bench/stack.c bench/requests.h bench/samples.h examples/load.h $(HEADER) $(ARCHIVE)
 	mkdir -p $(@D)
 	$(X86_CC) -std=c99 $(STRICT) -o $@ $< $(ARCHIVE)
 

@@ -1,9 +1,7 @@
 /* check TABLE PROFILE NAMES ..: times the proved table check on each table, beside a bare sum of the same words in C
  * and the reference's check in Rust. */
 #define _POSIX_C_SOURCE 199309L
-#include <ndushavire.h>
-
-#include "../examples/load.h"
+#include "samples.h"
 #include "timing.h"
 
 #define SUM_AIM "<= 2.0" /* at the most records */
@@ -11,11 +9,6 @@
 uint32_t sum_plain(const uint8_t *table, size_t length);
 uint32_t sum_native(const uint8_t *table, size_t length);
 uint64_t reference_check(const uint8_t *table, size_t table_len, size_t profile_len);
-
-typedef struct {
-    uint8_t *table, *profile;
-    size_t table_len, profile_len;
-} Sample;
 
 static uint64_t proved(const void *sample) {
     const Sample *s = (const Sample *)sample;
@@ -40,30 +33,23 @@ static uint64_t rust(const void *sample) {
 enum { PROVED, PLAIN, NATIVE, RUST, SUBJECTS };
 static Subject *const subject[SUBJECTS] = {proved, plain, native, rust};
 
+static int measure(const Sample *s) {
+    /* A wrong answer is not worth a time. */
+    if (proved(s) != s->records || rust(s) != s->records || plain(s) != 0 || native(s) != 0) {
+        fprintf(stderr, "check: %s is not sound to all\n", s->path);
+        return 0;
+    }
+    double t[SUBJECTS];
+    medians(subject, SUBJECTS, s, t);
+    printf("%7lu  %-5s %8.2f %8.2f %11.2f %8.2f %9.2f  %-6s %11.2f %6.2f\n", (unsigned long)s->records, s->names,
+           t[PROVED], t[PLAIN], t[NATIVE], t[RUST], t[PROVED] / t[PLAIN],
+           s->records == NDUSHAVIRE_RECORDS_MAX ? SUM_AIM : "", t[PROVED] / t[NATIVE], t[PROVED] / t[RUST]);
+    return 1;
+}
+
 int main(int argc, char **argv) {
-    if (argc < 4 || argc % 3 != 1) {
-        fprintf(stderr, "usage: check TABLE PROFILE NAMES ..\n");
-        return 2;
-    }
-    printf("table check: microseconds, medians of %d rounds; then the proved check as a multiple of each other\n", ROUNDS);
-    printf("records  names   proved  sum -O3  sum native     Rust  /sum -O3  aim    /sum native  /Rust\n");
-    for (int i = 1; i < argc; i += 3) {
-        Sample s;
-        s.table = load(argv[i], &s.table_len);
-        s.profile = load(argv[i + 1], &s.profile_len);
-        const uint64_t records = s.table_len / NDUSHAVIRE_BLOCK - 1;
-        /* A wrong answer is not worth a time. */
-        if (proved(&s) != records || rust(&s) != records || plain(&s) != 0 || native(&s) != 0) {
-            fprintf(stderr, "check: %s is not sound to all\n", argv[i]);
-            return 1;
-        }
-        double t[SUBJECTS];
-        medians(subject, SUBJECTS, &s, t);
-        printf("%7lu  %-5s %8.2f %8.2f %11.2f %8.2f %9.2f  %-6s %11.2f %6.2f\n", (unsigned long)records, argv[i + 2],
-               t[PROVED], t[PLAIN], t[NATIVE], t[RUST], t[PROVED] / t[PLAIN],
-               records == NDUSHAVIRE_RECORDS_MAX ? SUM_AIM : "", t[PROVED] / t[NATIVE], t[PROVED] / t[RUST]);
-        free(s.table);
-        free(s.profile);
-    }
-    return 0;
+    return each_sample(argc, argv,
+                       "table check: microseconds, medians; then the proved check as a multiple of each other\n"
+                       "records  names   proved  sum -O3  sum native     Rust  /sum -O3  aim    /sum native  /Rust\n",
+                       measure);
 }

@@ -38,10 +38,13 @@ static const uint8_t *last_in(const uint8_t *table, size_t records, unsigned sta
     return table + records * NDUSHAVIRE_BLOCK;
 }
 
+static void spell(uint8_t *to, uint32_t n) {
+    for (int i = 0; i < 4; i++) to[i] = (uint8_t)(n >> (24 - 8 * i));
+}
+
 static void put_number(Request *r, uint32_t n) {
-    const uint8_t bytes[4] = {(uint8_t)(n >> 24), (uint8_t)(n >> 16), (uint8_t)(n >> 8), (uint8_t)n};
     if (r->length + 4 > sizeof r->bytes) abort();
-    memcpy(r->bytes + r->length, bytes, 4);
+    spell(r->bytes + r->length, n);
     r->length += 4;
 }
 
@@ -62,15 +65,16 @@ static void put_text(Request *r, uint32_t code, const char *text) {
 }
 
 static void put_word(Request *r, uint32_t code, uint32_t vendor, uint32_t value) {
-    const uint8_t bytes[4] = {(uint8_t)(value >> 24), (uint8_t)(value >> 16), (uint8_t)(value >> 8), (uint8_t)value};
+    uint8_t bytes[4];
     const Name data = {bytes, 4};
+    spell(bytes, value);
     put(r, code, vendor, data);
 }
 
 /* The header, and the AVPs that every request has. */
 static void begin(Request *r, uint32_t command) {
     r->length = 0;
-    put_number(r, 0x01000000u);
+    put_number(r, 0);
     put_number(r, 0xC0000000u + command);
     put_number(r, CX);
     put_number(r, 1);
@@ -86,11 +90,8 @@ static void begin(Request *r, uint32_t command) {
     put_word(r, 277, 0, 1);
 }
 
-static void end(Request *r) {
-    r->bytes[1] = (uint8_t)(r->length >> 16);
-    r->bytes[2] = (uint8_t)(r->length >> 8);
-    r->bytes[3] = (uint8_t)r->length;
-}
+/* Version 1 and the length. */
+static void end(Request *r) { spell(r->bytes, 0x01000000u + (uint32_t)r->length); }
 
 /* May this line register in the first network? */
 static void ask_authorization(Request *r, const uint8_t *table, const uint8_t *record) {
@@ -115,8 +116,8 @@ static void ask_long_location(Request *r, const uint8_t *record, size_t most) {
     end(r);
 }
 
-/* An assignment of a type to so many lines, of which the last is the record and the others stand about the table; the
- * server is the record's. */
+/* An assignment of a type to so many lines: the record's last, before it lines from all over the table. The server is
+ * the record's. */
 static void ask_assignment(Request *r, const uint8_t *table, size_t records, const uint8_t *record, uint32_t type, size_t lines) {
     begin(r, 301);
     for (size_t i = 1; i < lines; i++) put(r, 601, VENDOR, public_of(table + (1 + i * 7919 % records) * NDUSHAVIRE_BLOCK));

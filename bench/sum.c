@@ -1,5 +1,5 @@
-/* The floor of a table check: the bare sum of the table's words. Compiled twice, under two names and options; a copy
- * and ntohl, because compilers make vectors of that and not of shifted bytes. */
+/* The least that a table check can do: sum the table's words. Compiled twice, under two names and with two sets of
+ * options. Words are read by a copy and ntohl, because compilers make vectors of that and not of shifted bytes. */
 #include <arpa/inet.h>
 #include <stddef.h>
 #include <stdint.h>

@@ -1,4 +1,4 @@
-/* timing.h: subjects that take turns in every round, so that a busy machine slows all alike; their medians. */
+/* timing.h: median times of several subjects. They take turns in every round, so that a busy machine slows all alike. */
 #ifndef TIMING_H
 #define TIMING_H
 
@@ -7,7 +7,7 @@
 #include <time.h>
 
 enum { ROUNDS = 201, SUBJECTS_MOST = 4 };
-static const double TURN = 400; /* microseconds that a turn takes at least, as long as the clock is coarse beside a call */
+static const double TURN = 400; /* microseconds that a turn takes at least: one call is short beside the clock's step */
 
 typedef uint64_t Subject(const void *sample);
 
@@ -22,7 +22,7 @@ static int by_time(const void *left, const void *right) {
     return (a > b) - (a < b);
 }
 
-/* Microseconds of one of so many calls. */
+/* Microseconds of one call, over so many. */
 static double turn(Subject *subject, const void *sample, long calls) {
     static volatile uint64_t sink;
     const double began = now();
