@@ -5,7 +5,7 @@ SHELL := /bin/bash
 .SHELLFLAGS := -euo pipefail -c
 .DELETE_ON_ERROR:
 .PHONY: run test clean fmt examples tables stores reference installs bench stack install uninstall
-.PHONY: differential soak mutants stats definitions-check
+.PHONY: differential noticed soak mutants stats definitions-check
 
 MACHINE := $(shell uname -m)
 ifeq ($(MACHINE),x86_64)
@@ -40,7 +40,7 @@ target/bin/answer: $(PROVED)
 	rt check answer
 	touch $@
 
-test: fmt examples tables stores reference installs differential
+test: fmt examples tables stores reference installs noticed differential
 
 fmt:
 	rt fmt --check
@@ -77,6 +77,9 @@ differential: target/c99/driver $(BINARY)
 	    echo "differential run: seed $(SEED), $${of#*:} $${of%:*}"; \
 	    $(BINARY) compare --kind $${of%:*} --seed $(SEED) --count $${of#*:} -- $(DRIVER); \
 	done
+
+noticed: $(BINARY)
+	tests/noticed.sh $(BINARY)
 
 # 5,000,000 tables and as many calls. Each round has the next seed: with SEED=N ROUNDS=M a run that was stopped goes on.
 ROUNDS := 50

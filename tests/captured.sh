@@ -1,6 +1,7 @@
 #!/usr/bin/env bash
 # captured.sh ROOM MAKETABLE REFERENCE DECIDE..: each request in captured/, as real software sent it, gets from each DECIDE
-# what the independent program answers, and the result that its head names. RUN, if set, is the emulator that runs a DECIDE.
+# what the independent program answers, with the result that its head names, and rewrites the block that it should and no
+# other. RUN, if set, is the emulator that runs a DECIDE.
 set -euo pipefail
 room=$1 maketable=$2 reference=$(cd "$(dirname "$3")" && pwd)/${3##*/}
 shift 3
@@ -31,16 +32,24 @@ END
 "$maketable" table "$room/text" >"$room/table"
 "$maketable" profile "$room/text" >"$room/profile"
 
+# The block that a request has rewritten: user0's and erin's.
+declare -A rewritten=([scscf-03-sar]=4 [scscf-12-sar]=3)
+
 for request in "$(dirname "$0")"/captured/*.hex; do
+    name=$(basename "$request" .hex)
     result=$(sed -n 's/^# .* answered: \([BX][0-9]*\).*/\1/p' "$request")
-    [ -n "$result" ] || fail "$request names no result"
+    [ -n "$result" ] || fail "$name names no result"
     printf %b "$(grep -v '^#' "$request" | tr -d ' \n' | sed 's/../\\x&/g')" >"$room/request"
-    (cd "$room" && "$reference" answer <request) >"$room/answer"
-    "$reference" show <"$room/answer" | grep -q -w "$result" || fail "$request: the independent program does not say $result"
-    expected=$(od -An -v -tx1 "$room/answer" | tr -d ' \n')
+    (cd "$room" && "$reference" answer <request) >"$room/answer" || fail "$name: the independent program fails"
+    "$reference" show <"$room/answer" | grep -q -w "$result" || fail "$name: the independent program does not say $result"
+    {
+        echo "answered, $(stat -c %s "$room/answer") bytes"
+        od -An -v -tx4 --endian=big -w32 "$room/answer" | sed 's/^ //' | tr a-f A-F
+        [ -z "${rewritten[$name]-}" ] || echo "block ${rewritten[$name]} rewritten"
+    } >"$room/expected"
     for decide in "$@"; do
-        said=$(${RUN:+"$RUN"} "$decide" "$room/table" "$room/profile" "$request" | sed '1d; /block/d' | tr -d ' \n' | tr A-F a-f)
-        [ "$said" = "$expected" ] || fail "$request: $decide answers otherwise than the independent program"
+        ${RUN:+"$RUN"} "$decide" "$room/table" "$room/profile" "$request" >"$room/said" || fail "$name: $decide does not answer"
+        diff "$room/expected" "$room/said" >&2 || fail "$name: $decide does otherwise than the independent program"
     done
     tried=$((tried + 1))
 done

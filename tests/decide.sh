@@ -15,29 +15,40 @@ table=$room/table profile=$room/profile request=$room/request
 "$maketable" profile "$examples/households.txt" >"$profile"
 tried=0
 
-# The request on standard input gets what the file EXPECTED has.
-gets() { # EXPECTED ABOUT
+# The request on standard input gets what the file EXPECTED has, and DECIDE ends with STATUS.
+gets() { # EXPECTED STATUS ABOUT
+    local decide status
     cat >"$request"
     for decide in "${decides[@]}"; do
-        "${run[@]}" "$decide" "$table" "$profile" "$request" >"$room/said" || true
-        cmp -s "$room/said" "$1" || { echo "decide.sh: $2: $decide says"; cat "$room/said"; echo 'and should say'; cat "$1"; exit 1; } >&2
+        status=0
+        "${run[@]}" "$decide" "$table" "$profile" "$request" >"$room/said" 2>"$room/errors" || status=$?
+        cmp -s "$room/said" "$1" || { echo "decide.sh: $3: $decide says"; cat "$room/said"; echo 'and should say'; cat "$1"; exit 1; } >&2
+        [ "$status" = "$2" ] || { echo "decide.sh: $3: $decide ends with status $status instead of $2"; cat "$room/errors"; exit 1; } >&2
     done
     tried=$((tried + 1))
 }
 refused() { # WORDS ABOUT
     echo "refused $1" >"$room/expected"
-    gets "$room/expected" "$2"
+    gets "$room/expected" 1 "$2"
+}
+unread() { # ABOUT
+    : >"$room/expected"
+    gets "$room/expected" 2 "$1"
 }
 
-gets "$examples/no-avps.answer" 'a header alone' <"$examples/no-avps.hex"
+gets "$examples/no-avps.answer" 0 'a header alone' <"$examples/no-avps.hex"
 : | refused 2 'no byte'
 echo 01000014 C000012E 01000000 00000001 000000 | refused 2 '19 bytes'
 { echo 01004004 C000012E 01000000 00000001 00000002; printf '00%.0s' $(seq 16368); } | refused 2 '16,388 bytes'
 echo 01000018 C000012E 01000000 00000001 00000002 | refused 3 'a length that is not its own'
 echo 01000015 C000012E 01000000 00000001 00000002 00 | refused 3 'a length that is no multiple of 4'
 echo 01000014 4000012E 01000000 00000001 00000002 | refused 4 'an answer'
+echo 01000014 C000012E 01000000 00000001 0000000G | unread 'no hexadecimal digit'
+echo 01000014 C000012E 01000000 00000001 0000000 | unread 'half a byte'
 truncate -s -512 "$table"
 echo 01000014 4000012E 01000000 00000001 00000002 | refused 4 'an answer, and a table cut short'
 refused '5, block 0 is bad' 'a table cut short' <"$examples/no-avps.hex"
+rm "$table"
+unread 'no table' <"$examples/no-avps.hex"
 
 echo "decide.sh: $tried requests, each answered as it should be"

@@ -17,12 +17,15 @@ fail() {
     exit 1
 }
 
-# Every CHECK says this of the table and the profile.
+# Every CHECK says this of the table and the profile, and ends with status 0 for a sound table and 1 for a bad one.
 says() { # EXPECTED ABOUT
-    local check said
+    local check said status due=1
+    [ "${1%%,*}" != sound ] || due=0
     for check in "${checks[@]}"; do
-        said=$("${run[@]}" "$check" "$table" "$profile") || true
+        status=0
+        said=$("${run[@]}" "$check" "$table" "$profile") || status=$?
         [ "$said" = "$1" ] || fail "$2: $check says '$said' and should say '$1'"
+        [ "$status" = "$due" ] || fail "$2: $check ends with status $status and should end with $due"
     done
     tried=$((tried + 1))
 }
@@ -112,25 +115,53 @@ blocks=$(($(stat -c %s "$whole") / 512))
 fresh() { cp "$whole" "$table" && cp "$whole_profile" "$profile"; }
 set_byte() { printf %b "\\x$(printf %02x "$2")" | dd of="$table" bs=1 seek="$1" conv=notrunc status=none; } # PLACE BYTE
 get_byte() { od -An -tu1 -j "$1" -N 1 "$table" | tr -d ' '; }
+flip() { set_byte "$1" $(($(get_byte "$1") ^ $2)); } # PLACE BITS
 copy_block() { dd if="$whole" of="$table" bs=512 skip="$1" seek="$2" count=1 conv=notrunc status=none; } # FROM TO
+
+# Gives a block the check word that it should have, so that only another rule can find it bad.
+mend() { # BLOCK
+    local word sum=0 place
+    for word in $(od -An -v -tu4 --endian=big -j $((512 * $1)) -N 508 "$table"); do sum=$((sum + word)); done
+    for place in 0 1 2 3; do set_byte $((512 * $1 + 508 + place)) $((-sum >> (24 - 8 * place) & 255)); done
+}
 
 fresh
 says "sound, $((blocks - 1)) records" 'the sample'
 for block in $(seq 0 $((blocks - 1))); do
     for place in 0 1 3 7 8 15 16 400 507 511; do
         fresh
-        at=$((512 * block + place))
-        set_byte "$at" $(($(get_byte "$at") ^ 1))
+        flip $((512 * block + place)) 1
         says "block $block is bad" "a bit of byte $place of block $block changed"
+    done
+    for place in 0 1 3 7 450; do # kind, edition, unused, block number, unused
+        fresh
+        flip $((512 * block + place)) 1
+        mend "$block"
+        says "block $block is bad" "a bit of byte $place of block $block changed, and its check word mended"
     done
     fresh
     dd if=/dev/zero of="$table" bs=512 seek="$block" count=1 conv=notrunc status=none
     says "block $block is bad" "block $block all zero"
-    [ "$block" -lt 2 ] && continue
+    [ "$block" -ge 1 ] || continue
+    fresh
+    flip $((512 * block + 9)) 2
+    mend "$block"
+    says "sound, $((blocks - 1)) records" "block $block barred or no longer, and its check word mended"
+    [ "$block" -ge 2 ] || continue
     fresh
     copy_block "$block" $((block - 1))
     copy_block $((block - 1)) "$block"
     says "block $((block - 1)) is bad" "blocks $((block - 1)) and $block changed over"
+    for number in $((block - 1)) "$block"; do
+        set_byte $((512 * number + 7)) "$number"
+        mend "$number"
+    done
+    says "block $block is bad" "the records of blocks $((block - 1)) and $block changed over: their order"
+    fresh
+    copy_block $((block - 1)) "$block"
+    set_byte $((512 * block + 7)) "$block"
+    mend "$block"
+    says "block $block is bad" "the record of block $((block - 1)) twice"
 done
 for length in 0 1 511 512 $((512 * (blocks - 1))) $((512 * blocks - 1)); do
     fresh

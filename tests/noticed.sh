@@ -1,0 +1,23 @@
+#!/usr/bin/env bash
+# noticed.sh REFERENCE: would a comparison fail? The independent program beside itself agrees; beside itself with a
+# deliberate fault, or beside a driver that says nothing, it must end with status 1.
+set -euo pipefail
+reference=$1
+tried=0
+
+ends() { # STATUS KIND DRIVER..
+    local status=0
+    "$reference" compare --kind "$2" --seed 1 --count 2000 -- "${@:3}" >/dev/null 2>&1 || status=$?
+    [ "$status" = "$1" ] || { echo "noticed.sh: compare --kind $2 -- ${*:3} ends with status $status instead of $1" >&2; exit 1; }
+    tried=$((tried + 1))
+}
+
+for kind in tables calls demand3; do
+    ends 0 "$kind" "$reference" outcomes
+    ends 1 "$kind" true
+done
+for of in tables:EqualIdentitiesTaken tables:PrefixTaken calls:PendingStays calls:RestOfBufferCleared calls:BaseForUserUnknown \
+    demand3:MarkIgnored demand3:ReservedFlagsOfUnknownIgnored; do
+    ends 1 "${of%:*}" "$reference" outcomes --fault "${of#*:}"
+done
+echo "noticed.sh: $tried comparisons, each ended as it should"
