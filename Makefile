@@ -189,7 +189,7 @@ target/bench/%.table: bench/households.sh target/c/maketable
 	target/c/maketable table target/bench/$*.txt >$@
 
 # ---- the installation, under PREFIX and below DESTDIR if that is set
-VERSION := 0.1.0
+VERSION := $(shell sed -n 's/^\#define NDUSHAVIRE_VERSION "\(.*\)"$$/\1/p' $(HEADER))
 PREFIX ?= /usr/local
 DESTDIR ?=
 ROOT = $(DESTDIR)$(PREFIX)

@@ -4,8 +4,13 @@
  * length of the call and none is kept: the library has no state of its own, opens no file, takes no memory and
  * starts nothing. The slices of one call must not overlap. Every pointer is non-null, also where its length is 0.
  * Only the answer, and in ndushavire_decide the table, are written to; what must outlive the process is for the
- * caller to store. Calls on different tables may run at once; while ndushavire_decide runs, no one else may read
- * or write its table or its answer, and checks of one table may run beside each other. */
+ * caller to store.
+ *
+ * Threads. A call is reentrant; it sets no errno and raises no signal. Calls on different tables may run at once and
+ * share one profile. While ndushavire_decide runs, no one else may read or write its table or its answer. Checks of
+ * one table may run beside each other.
+ *
+ * Stack. A call takes under 48 KiB (some 37 KiB measured). */
 #ifndef NDUSHAVIRE_H
 #define NDUSHAVIRE_H
 
@@ -16,13 +21,17 @@
 extern "C" {
 #endif
 
+#define NDUSHAVIRE_VERSION "0.1.0"
+
 #define NDUSHAVIRE_ANSWER_ROOM 36864 /* the least answer buffer, in bytes: no answer is longer */
 #define NDUSHAVIRE_REQUEST_MIN 20    /* the shortest request, a Diameter header alone */
 #define NDUSHAVIRE_REQUEST_MAX 16384 /* the longest request */
 #define NDUSHAVIRE_BLOCK 512         /* a table is a header block and a block for each record */
 #define NDUSHAVIRE_RECORDS_MAX 4096  /* the most records of a table */
 
-/* A word's number: 0, or why the call was refused. A refused call has written nothing. */
+/* Both functions return a word. Keep it in a uint64_t: an int loses the number, and a refusal then looks like a short
+ * answer. Its number is 0, or why the call was refused; a refused call has written nothing. Later versions add
+ * numbers: every one but 0 is a refusal. */
 #define NDUSHAVIRE_DONE 0           /* answered; of ndushavire_check, sound */
 #define NDUSHAVIRE_ANSWER_SHORT 1   /* the answer buffer is under NDUSHAVIRE_ANSWER_ROOM */
 #define NDUSHAVIRE_REQUEST_SIZE 2   /* the request is under or over its limits */
@@ -35,14 +44,14 @@ extern "C" {
 uint64_t ndushavire_decide(const uint8_t *request, size_t request_len, uint8_t *table, size_t table_len,
                            const uint8_t *profile, size_t profile_len, uint8_t *answer, size_t answer_len);
 
-/* Checks a table against its profile file. The word's value is the record count, or by number 5 the first bad
- * block. */
+/* Checks a table against its profile file. The word's number is 0 and its value the record count, or 5 and the first
+ * bad block. */
 uint64_t ndushavire_check(const uint8_t *table, size_t table_len, const uint8_t *profile, size_t profile_len);
 
 /* The parts of a word: number << 48 | place << 32 | value. */
 static inline uint32_t ndushavire_number(uint64_t word) { return (uint32_t)(word >> 48); }
 
-/* Always 0 in this edition; kept for the place of an AVP at fault. */
+/* Always 0 in this version; kept for the place of an AVP at fault. */
 static inline uint32_t ndushavire_place(uint64_t word) { return (uint32_t)(word >> 32) & 0xFFFFu; }
 
 static inline uint32_t ndushavire_value(uint64_t word) { return (uint32_t)(word & 0xFFFFFFFFu); }
