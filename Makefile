@@ -4,40 +4,50 @@
 SHELL := /bin/bash
 .SHELLFLAGS := -euo pipefail -c
 .DELETE_ON_ERROR:
+.NOTPARALLEL:
 .PHONY: run test clean fmt examples tables stores reference installs bench stack install uninstall
-.PHONY: differential noticed soak mutants stats definitions-check
+.PHONY: differential noticed soak mutants stats definitions-check vectors
 
 MACHINE := $(shell uname -m)
 ifeq ($(MACHINE),x86_64)
 X86_CC := gcc
 X86_CXX := g++
-export RUN :=
+RUN :=
 else
 X86_CC := x86_64-linux-gnu-gcc -static
 X86_CXX := x86_64-linux-gnu-g++ -static
-export RUN := $(shell dirname "$$(rt doc)")/../on/$(MACHINE)/toolchain/bin/qemu-x86_64
+RUN = $(KIT)/on/$(MACHINE)/toolchain/bin/qemu-x86_64
 endif
+# Asked for only where a recipe needs it: `make clean` works without rt.
+KIT = $(shell dirname "$$(rt doc)")/..
 
 STRICT := -O2 -Wall -Wextra -pedantic -Werror -Iinclude
 ARCHIVE := target/staticlib/libndushavire.a
 HEADER := include/ndushavire.h
 BINARY := reference/target/release/reference
 PROVED := crates.txt $(shell find crates -name '*.rt' -o -name '*.antt' -o -type d)
+# x86-64 code as well, and nothing of theirs is static: installed on x86-64 alone.
+PROGRAMS := $(if $(filter x86_64,$(MACHINE)),target/bin/answer target/bin/tablecheck)
 REFERENCE := $(shell find reference -path reference/target -prune -o -name '*.rs' -print -o -name 'Cargo.*' -print)
 
-# The program answer on the sample, and what it answered in a form to read. A program of the kit runs with the kit's own
-# loader and C library, on either machine.
-KIT := $(shell dirname "$$(rt doc)")/..
-PROGRAM := $(RUN) $(KIT)/toolchain/lib/ld-linux-x86-64.so.2 --library-path $(KIT)/toolchain/lib
+# The sample, and three answers of the program answer over it in a form to read: to a header alone, to the question where
+# bob is, and to an assignment of erin's line. A program of the kit runs with the kit's own loader and C library, on either
+# machine.
+PROGRAM = $(RUN) $(KIT)/toolchain/lib/ld-linux-x86-64.so.2 --library-path $(KIT)/toolchain/lib
+SHOWN := examples/no-avps tests/captured/icscf-20-lir tests/captured/scscf-12-sar
 run: target/c/maketable target/c99/check target/bin/answer $(BINARY)
-	mkdir -p target/run
+	@mkdir -p target/run
 	target/c/maketable table examples/households.txt >target/run/table
 	target/c/maketable profile examples/households.txt >target/run/profile
 	$(RUN) target/c99/check target/run/table target/run/profile
-	cd target/run && $(PROGRAM) ../bin/answer <../../crates/answer/stdin | ../../$(BINARY) show
+	@for request in $(SHOWN); do \
+	    printf '\n%s\n' "$$request.hex: $$(sed -n 's/^# asked: //p' $$request.hex)"; \
+	    printf %b "$$(sed '/^#/d; s/ //g; s/../\\x&/g' $$request.hex | tr -d '\n')" | \
+	        (cd target/run && $(PROGRAM) ../bin/answer) | $(BINARY) show | sed -E 's/  [0-9a-f]{8}( [0-9a-f]{2,8})*$$//'; \
+	done
 
-target/bin/answer: $(PROVED)
-	rt check answer
+target/bin/%: $(PROVED)
+	rt check $*
 	touch $@
 
 test: fmt examples tables stores reference installs noticed differential
@@ -46,11 +56,11 @@ fmt:
 	rt fmt --check
 
 examples: $(foreach mode,c99 cxx,$(addprefix target/$(mode)/,check decide)) target/c/maketable $(BINARY)
-	tests/decide.sh target/test/decide target/c/maketable target/c99/decide target/cxx/decide
-	tests/captured.sh target/test/captured target/c/maketable $(BINARY) target/c99/decide target/cxx/decide
+	RUN='$(RUN)' tests/decide.sh target/test/decide target/c/maketable target/c99/decide target/cxx/decide
+	RUN='$(RUN)' tests/captured.sh target/test/captured target/c/maketable $(BINARY) target/c99/decide target/cxx/decide
 
 tables: examples
-	tests/tables.sh target/test/tables target/c/maketable target/c99/check target/cxx/check
+	RUN='$(RUN)' tests/tables.sh target/test/tables target/c/maketable target/c99/check target/cxx/check
 
 stores: target/c/store target/c++/store
 	for store in $^; do rm -rf target/test/store; mkdir -p target/test/store; $$store target/test/store; done
@@ -59,8 +69,8 @@ reference:
 	cd reference && cargo test --offline --quiet
 
 # Installs into a folder of its own and builds an example from there, as a new user would.
-installs: $(ARCHIVE) target/c/maketable
-	tests/installs.sh target/test/installs target/c/maketable $(X86_CC)
+installs: $(ARCHIVE) $(PROGRAMS) target/c/maketable
+	RUN='$(RUN)' tests/installs.sh target/test/installs target/c/maketable $(X86_CC)
 
 # ---- the library beside the independent program, on new cases each time; SEED=N on the command line runs a seed again
 ifndef SEED
@@ -107,6 +117,11 @@ stats: $(BINARY)
 COUNT_DEFINITIONS := 300
 definitions-check: $(BINARY)
 	RT_JOBS=2 tests/definitions.py $(BINARY) $(SEED) $(COUNT_DEFINITIONS)
+
+# Writes crates/vectors/stdin and stdout anew: the cases that the program vectors runs in the gate, and what the
+# independent program says of them.
+vectors: $(BINARY)
+	tests/vectors.py $(BINARY) crates/vectors
 
 $(ARCHIVE): $(PROVED)
 	rt staticlib ndushavire
@@ -192,21 +207,21 @@ target/bench/%.table: bench/households.sh target/c/maketable
 VERSION := $(shell sed -n 's/^\#define NDUSHAVIRE_VERSION "\(.*\)"$$/\1/p' $(HEADER))
 PREFIX ?= /usr/local
 DESTDIR ?=
+override PREFIX := $(if $(filter /%,$(PREFIX)),$(PREFIX),$(CURDIR)/$(PREFIX))
 ROOT = $(DESTDIR)$(PREFIX)
+DOC = $(ROOT)/share/doc/ndushavire
 PAGES := man1/answer.1 man1/tablecheck.1 man3/ndushavire.3
-# Programs are x86-64 code, and there once `rt check` has proved and linked them.
-PROGRAMS := $(if $(filter x86_64,$(MACHINE)),$(wildcard target/bin/answer target/bin/tablecheck))
-DOCS := README.md $(wildcard docs/*.md)
 
-install: $(ARCHIVE)
-	install -d '$(ROOT)/lib/pkgconfig' '$(ROOT)/include' '$(ROOT)/share/doc/ndushavire' '$(ROOT)/share/man/man1' '$(ROOT)/share/man/man3'
+install: $(ARCHIVE) $(PROGRAMS)
+	install -d '$(ROOT)/lib/pkgconfig' '$(ROOT)/include' '$(DOC)/examples' '$(ROOT)/share/man/man1' '$(ROOT)/share/man/man3'
 	install -m 644 $(ARCHIVE) '$(ROOT)/lib/'
 	install -m 644 $(HEADER) '$(ROOT)/include/'
 	sed 's|@PREFIX@|$(PREFIX)|; s|@VERSION@|$(VERSION)|' packaging/ndushavire.pc.in >'$(ROOT)/lib/pkgconfig/ndushavire.pc'
 	chmod 644 '$(ROOT)/lib/pkgconfig/ndushavire.pc'
 	for page in $(PAGES); do install -m 644 "man/$${page#*/}" "$(ROOT)/share/man/$$page"; done
 	for name in check decide; do ln -sf ndushavire.3 "$(ROOT)/share/man/man3/ndushavire_$$name.3"; done
-	install -m 644 $(DOCS) '$(ROOT)/share/doc/ndushavire/'
+	install -m 644 README.md docs/*.md '$(DOC)/'
+	install -m 644 $(addprefix examples/,check.c decide.c maketable.c load.h store.h households.txt) '$(DOC)/examples/'
 ifneq ($(PROGRAMS),)
 	install -d '$(ROOT)/bin'
 	install -m 755 $(PROGRAMS) '$(ROOT)/bin/'
@@ -216,7 +231,7 @@ uninstall:
 	rm -f '$(ROOT)/lib/libndushavire.a' '$(ROOT)/include/ndushavire.h' '$(ROOT)/lib/pkgconfig/ndushavire.pc'
 	rm -f '$(ROOT)/bin/answer' '$(ROOT)/bin/tablecheck'
 	rm -f $(PAGES:%='$(ROOT)/share/man/%') '$(ROOT)/share/man/man3/ndushavire_check.3' '$(ROOT)/share/man/man3/ndushavire_decide.3'
-	rm -rf '$(ROOT)/share/doc/ndushavire'
+	rm -rf '$(DOC)'
 
 clean:
 	rm -rf target reference/target

@@ -1,6 +1,7 @@
 #!/usr/bin/env bash
-# installs.sh ROOM MAKETABLE CC..: installs under a prefix in ROOM, builds an example there with what pkg-config says and
-# nothing else, checks the sample with it, and sees that uninstalling leaves no file. RUN, if set, is the emulator.
+# installs.sh ROOM MAKETABLE CC..: installs under three prefixes in ROOM (staged, absolute, relative), compares what is there
+# with what should be, builds an example with what pkg-config says and nothing else, checks the sample with it, and sees
+# that uninstalling leaves no file. RUN, if set, is the emulator.
 set -euo pipefail
 room=$1 maketable=$2
 shift 2
@@ -10,30 +11,57 @@ mkdir -p "$room/new"
 room=$(cd "$room" && pwd)
 maketable=$(cd "$(dirname "$maketable")" && pwd)/${maketable##*/}
 
-make -s -C "$top" install PREFIX=/opt/ndushavire DESTDIR="$room/staged"
-make -s -C "$top" install PREFIX="$room/prefix"
-(cd "$room/staged/opt/ndushavire" && find . ! -type d | sort) >"$room/staged.list"
-(cd "$room/prefix" && find . ! -type d | sort) >"$room/prefix.list"
-cmp "$room/staged.list" "$room/prefix.list"
+fail() {
+    echo "installs.sh: $*" >&2
+    exit 1
+}
+command -v pkg-config >/dev/null || fail 'pkg-config is missing (Debian: pkg-config)'
+case $(uname -m) in
+x86_64) programs=(bin/answer bin/tablecheck) ;;
+*) programs=() ;;
+esac
 
-# pkg-config is not to be had everywhere; its file is simple enough to be read without.
-flags="-I$room/prefix/include -L$room/prefix/lib -lndushavire"
-if command -v pkg-config >/dev/null; then
-    flags=$(PKG_CONFIG_PATH=$room/prefix/lib/pkgconfig pkg-config --cflags --libs ndushavire)
-fi
+# What should be there; of the documents whatever docs/ has.
+{
+    printf '%s\n' "${programs[@]}" include/ndushavire.h lib/libndushavire.a lib/pkgconfig/ndushavire.pc \
+        share/man/man1/{answer,tablecheck}.1 share/man/man3/ndushavire{,_check,_decide}.3 share/doc/ndushavire/README.md \
+        share/doc/ndushavire/examples/{check.c,decide.c,households.txt,load.h,maketable.c,store.h}
+    (cd "$top" && printf 'share/doc/ndushavire/%s\n' docs/*.md | sed 's|/docs/|/|')
+} | sed '/^$/d' | sort >"$room/expected"
+
+installed() { # PREFIX DESTDIR
+    make -s -C "$top" install PREFIX="$1" DESTDIR="$2"
+    local absolute=$1
+    [ "${1#/}" != "$1" ] || absolute=$top/$1
+    (cd "$2$absolute" && find . ! -type d | sed 's|^\./||' | sort) >"$room/found"
+    diff "$room/expected" "$room/found" >&2 || fail "other files than expected under $2$absolute"
+    grep -q -x -F "prefix=$absolute" "$2$absolute/lib/pkgconfig/ndushavire.pc" || fail "the pkg-config file does not say $absolute"
+}
+installed /opt/ndushavire "$room/staged"
+installed "${room#"$top"/}/relative" ''
+installed "$room/prefix" ''
+
+export PKG_CONFIG_PATH=$room/prefix/lib/pkgconfig
+version=$(sed -n 's/^#define NDUSHAVIRE_VERSION "\(.*\)"$/\1/p' "$room/prefix/include/ndushavire.h")
+[ "$(pkg-config --modversion ndushavire)" = "$version" ] || fail "pkg-config does not say version '$version'"
+flags=$(pkg-config --cflags --libs ndushavire)
 cd "$room/new"
-cp "$top/examples/check.c" "$top/examples/load.h" .
+cp "$room/prefix/share/doc/ndushavire/examples/"* .
 "$@" -std=c99 -o check check.c $flags
-"$maketable" table "$top/examples/households.txt" >table
-"$maketable" profile "$top/examples/households.txt" >profile
+"$maketable" table households.txt >table
+"$maketable" profile households.txt >profile
 says() { # PROGRAM ARGUMENT..
     local said
-    said=$("$@")
-    [ "$said" = 'sound, 9 records' ] || { echo "installs.sh: $1 says '$said'" >&2; exit 1; }
+    said=$("$@") || fail "$1 fails"
+    [ "$said" = 'sound, 9 records' ] || fail "$1 says '$said'"
 }
 says ${RUN:+"$RUN"} ./check table profile
-[ ! -x "$room/prefix/bin/tablecheck" ] || says "$room/prefix/bin/tablecheck"
+if [ ${#programs[@]} -gt 0 ]; then
+    says "$room/prefix/bin/tablecheck"
+    refused=$(head -c 19 /dev/zero | "$room/prefix/bin/answer")
+    [ "$refused" = 'refused 2' ] || fail "answer says '$refused' of 19 bytes"
+fi
 
-make -s -C "$top" uninstall PREFIX="$room/prefix"
-[ -z "$(find "$room/prefix" ! -type d)" ] || { echo 'installs.sh: files are left behind' >&2; exit 1; }
-echo "installs.sh: $(wc -l <"$room/prefix.list") files installed, an example built from them, and removed again"
+make -s -C "$top" uninstall PREFIX="$room/prefix" DESTDIR=
+[ -z "$(find "$room/prefix" ! -type d)" ] || fail 'files are left behind'
+echo "installs.sh: $(wc -l <"$room/expected") files installed, an example built from them, and removed again"
