@@ -5,6 +5,7 @@ SHELL := /bin/bash
 .SHELLFLAGS := -euo pipefail -c
 .DELETE_ON_ERROR:
 .NOTPARALLEL:
+export PYTHONDONTWRITEBYTECODE := 1
 .PHONY: run test clean fmt examples tables stores reference installs bench stack install uninstall
 .PHONY: differential noticed soak mutants stats definitions-check vectors
 

@@ -8,6 +8,8 @@ cases open is read from crates/worked/proofs/Examples.antt, so that there is one
 """
 import collections, itertools, os, re, shutil, struct, subprocess, sys, tempfile
 
+import streams
+
 GENERATED = 40000  # of which the small ones are about a quarter
 IN_A_PART = 12
 # Longer ones take antt minutes and show nothing that short ones do not; a request that is refused 2 may be long.
@@ -18,23 +20,12 @@ EXPERIMENTAL = '2001 2002 2003 2004 5001 5002 5003 5004 5005 5007'
 WANTED = {'refused %d' % n for n in range(1, 6)} | {'B' + n for n in BASE.split()} | {'X' + n for n in EXPERIMENTAL.split()} | {
     'type %d done' % n for n in range(12)}
 
-# What a buffer holds before the call, from any of its first 256 bytes on.
-NOISE = bytes(((n * 2654435761) & 0xFFFFFFFF) >> 24 for n in range(256 + 36864))
-
 Case = collections.namedtuple('Case', 'request table profile room word at changed answer')
 
 
-def read(cases, outcomes):
-    """The two streams, in the form that reference/README.md gives them."""
-    while head := cases.read(20):
-        _, fill, _, *lengths, room = struct.unpack('<BBHIIII', head)
-        request, table, profile = [cases.read(length) for length in lengths]
-        word, _, at, length = struct.unpack('<QIII', outcomes.read(20))
-        changed = outcomes.read(length)
-        start, length = struct.unpack('<II', outcomes.read(8))
-        answer = bytearray(NOISE[fill:fill + (0 if word >> 48 else word)])
-        answer[start:start + length] = outcomes.read(length)
-        yield Case(request, table, profile, room, word, at, changed, bytes(answer))
+def read(made, told):
+    for case, outcome in zip(streams.cases(made), streams.outcomes(told)):
+        yield Case(*streams.slices(case), case.room, outcome.word, *outcome.table, streams.answer(case, outcome))
 
 
 def small(case):
@@ -42,32 +33,19 @@ def small(case):
     return not long and len(case.table) <= MOST_TABLE and len(case.profile) <= MOST_PROFILE
 
 
-def avps(message):
-    """Kind and data of each AVP of a sound message; with V the kind is a pair, since a code alone tells nothing."""
-    at = 20
-    while at < len(message):
-        code, word = struct.unpack('>II', message[at:at + 8])
-        end = at + (word & 0xFFFFFF)
-        if word >> 31:
-            yield (int.from_bytes(message[at + 8:at + 12], 'big'), code), message[at + 12:end]
-        else:
-            yield code, message[at + 8:end]
-        at = (end + 3) // 4 * 4
-
-
 def shows(case):
     """Of WANTED; and its kind, which has the command, the answer's AVPs and whether a record changed besides."""
     if case.word >> 48:
         shown = {'refused %d' % (case.word >> 48)}
         return shown, frozenset(shown)
-    found = dict(avps(case.answer))
-    result = 'B%d' % struct.unpack('>I', found[268]) if 268 in found else 'X%d' % struct.unpack('>I', found[297][20:24])
+    found = dict(streams.avps(case.answer[20:]))
+    result = 'B%d' % struct.unpack('>I', found[268, 0]) if (268, 0) in found else 'X%d' % struct.unpack('>I', found[297, 0][20:24])
     command = int.from_bytes(case.request[5:8], 'big')
     shown = {result}
     if command == 301 and (result[0] == 'X' or result in ('B2001', 'B5012')):  # decided, so all AVPs are sound
         done = 'done' if result in ('B2001', 'X2004') else result
-        shown.add('type %d %s' % (dict(avps(case.request))[10415, 614][3], done))
-    missing = found[279][:4] if result == 'B5005' else None
+        shown.add('type %d %s' % (dict(streams.avps(case.request[20:]))[614, 10415][3], done))
+    missing = found[279, 0][:4] if result == 'B5005' else None
     return shown, (frozenset(shown), min(command, 303), missing, frozenset(found), case.changed == b'')
 
 
@@ -198,19 +176,15 @@ def copy(folder):
 
 def main():
     reference, seed, count = sys.argv[1], sys.argv[2], int(sys.argv[3])
+    made = streams.made(reference, 'calls', seed, GENERATED)
+    told = streams.run(reference, 'outcomes', given=made)
+    cases, missing, kinds = pick([case for case in read(made, told) if small(case)], count)
+    print('definitions: seed %s, %d cases of %d kinds' % (seed, len(cases), kinds), flush=True)
+    if count < len(WANTED):
+        print('too few to show every refusal, result and assignment type: a trial', flush=True)
+    elif len(cases) < count or missing:
+        sys.exit('definitions.py: this seed has %d cases, and none of: %s' % (len(cases), ', '.join(sorted(missing))))
     with tempfile.TemporaryDirectory() as folder:
-        with open(folder + '/made', 'w+b') as made, open(folder + '/outcomes', 'w+b') as outcomes:
-            subprocess.run([reference, 'gen', '--kind', 'calls', '--seed', seed, '--count', str(GENERATED)], stdout=made, check=True)
-            made.seek(0)
-            subprocess.run([reference, 'outcomes'], stdin=made, stdout=outcomes, check=True)
-            made.seek(0)
-            outcomes.seek(0)
-            cases, missing, kinds = pick([case for case in read(made, outcomes) if small(case)], count)
-        print('definitions: seed %s, %d cases of %d kinds' % (seed, len(cases), kinds), flush=True)
-        if count < len(WANTED):
-            print('too few to show every refusal, result and assignment type: a trial', flush=True)
-        elif len(cases) < count or missing:
-            sys.exit('definitions.py: this seed has %d cases, and none of: %s' % (len(cases), ', '.join(sorted(missing))))
         copy(folder)
         write(folder + '/crates/cases', cases)
         status = subprocess.run(['rt', 'check', 'cases'], cwd=folder).returncode

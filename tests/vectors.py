@@ -6,65 +6,19 @@ faults one that shows it; of each result one, and then more: a refusal with what
 SAR past the reading rules also its type, and where it succeeds or meets a wrong state also keep, the state and whether it names many
 identities. After them stand the requests of real software in captured/, each over the table that their heads describe. Nothing here
 is random: a second run writes the same bytes."""
-import collections, pathlib, struct, subprocess, sys
+import collections, pathlib, struct, sys
+
+from streams import HEAD, answer, avps, cases, made, outcomes, run, slices
 
 MOST = 650_000  # bytes of cases
 CX = 10415
-HEAD = struct.Struct('<BBHIIII')
 RULES = tuple(('B', n) for n in (5001, 5004, 5014, 3009, 5011, 3008, 3001, 3007))
 KNOWN = {(n, 0) for n in (263, 260, 277, 264, 296, 293, 283, 1, 284, 282)} | {(n, CX) for n in (601, 600, 623, 602, 614, 624)}
 EFFECTS = ('B', 2001), ('X', 2004), ('X', 5007)
 
 
-def run(reference, *words, given=b''):
-    return subprocess.run([reference, *words], input=given, stdout=subprocess.PIPE, check=True).stdout
-
-
-def cases(stream):
-    at = 0
-    while at < len(stream):
-        entry, _, _, request, table, profile, buffer = HEAD.unpack_from(stream, at)
-        start, at = at, at + HEAD.size + request + table + profile
-        yield stream[start:at], entry, buffer, request, table, profile
-
-
-def outcomes(stream):
-    at = 0
-    while at < len(stream):
-        start, word = at, struct.unpack_from('<Q', stream, at)[0]
-        at += 12
-        changed = []
-        for _ in range(2):
-            _, count = struct.unpack_from('<II', stream, at)
-            at += 8 + count
-            changed.append(count)
-        yield stream[start:at], word, changed
-
-
-def avps(message):
-    """The AVPs of a message's or a group's bytes: code and vendor (0 without V), data."""
-    at = 0
-    while at + 8 <= len(message):
-        code, rest = struct.unpack_from('>II', message, at)
-        length, head = rest & 0xFFFFFF, 12 if rest >> 31 else 8
-        if length < head or at + length > len(message):
-            return
-        vendor = struct.unpack_from('>I', message, at + 8)[0] if rest >> 31 else 0
-        yield (code, vendor), message[at + head:at + length]
-        at += (length + 3) // 4 * 4
-
-
 def number(data):
     return struct.unpack('>I', data)[0] if len(data) == 4 else None
-
-
-def answer_of(outcome, word, changed):
-    """The answer, but for bytes at its ends that the buffer happened to hold already."""
-    at = 20 + changed[0]
-    first, count = struct.unpack_from('<II', outcome, at)
-    answer = bytearray(word & 0xFFFFFFFF)
-    answer[first:first + count] = outcome[at + 8:at + 8 + count]
-    return bytes(answer)
 
 
 def state(table, public):
@@ -73,13 +27,14 @@ def state(table, public):
     return next((b[8] for b in blocks if b[16:16 + b[13]] == public), None)
 
 
-def row(case, entry, request, table, outcome, word, changed):
+def row(case, outcome):
     """What a case comes to, and what its answer carries."""
-    if word >> 48 or entry == 1:
-        return (entry, word, request > 16384), case[1] % 6 if entry == 1 or word >> 48 == 5 else 0  # several: a bad block has many causes
-    asked, table = case[HEAD.size:][:request], case[HEAD.size + request:][:table]
+    if outcome.word >> 48 or case.entry == 1:
+        several = case.entry == 1 or outcome.word >> 48 == 5  # a bad block has many causes
+        return (case.entry, outcome.word, case.sizes[0] > 16384), case.fill % 6 if several else 0
+    asked, table, _ = slices(case)
     said, carried = None, []
-    for kind, data in avps(answer_of(outcome, word, changed)[20:]):
+    for kind, data in avps(answer(case, outcome)[20:]):
         if kind == (268, 0):
             said = 'B', number(data)
         elif kind == (297, 0):
@@ -98,33 +53,33 @@ def row(case, entry, request, table, outcome, word, changed):
     return result, tuple(carried)
 
 
-def fits(entry, buffer, request, table, profile):
+def fits(case):
     """Whether the program has room for a case."""
-    return request <= 20000 and table <= 4096 and profile <= 8192 and buffer <= 40000
+    request, table, profile = case.sizes
+    return request <= 20000 and table <= 4096 and profile <= 8192 and case.room <= 40000
 
 
-def small(entry, buffer, request, table, profile):
+def small(case):
+    request, table, profile = case.sizes
     return table <= 2048 and profile <= 700 and (request <= 900 or request > 16384)
 
 
-def made(reference):
+def fitting(reference):
     """Cases that fit, the smallest first."""
     found = []
     for kind, seeds, count in (('tables', (1,), 4000), ('calls', range(1, 6), 20000)):
         for seed in seeds:
-            stream = run(reference, 'gen', '--kind', kind, '--seed', str(seed), '--count', str(count))
-            found += [case for case in cases(stream) if fits(*case[1:])]
-    return sorted(found, key=lambda case: len(case[0]))
+            found += [case for case in cases(made(reference, kind, seed, count)) if fits(case)]
+    return sorted(found, key=lambda case: len(case.whole))
 
 
 def telling(reference, found, told):
     """For each deliberate fault of the independent program the first case that shows it."""
-    stream = b''.join(case[0] for case in found)
+    stream = b''.join(case.whole for case in found)
     for line in run(reference, 'faults').decode().splitlines():
         fault = line.split()[0]
         wrong = outcomes(run(reference, 'outcomes', '--fault', fault, given=stream))
-        shown = (case[0] for case, right, other in zip(found, told, wrong) if right[0] != other[0])
-        case = next(shown, None)
+        case = next((case.whole for case, right, other in zip(found, told, wrong) if right.whole != other.whole), None)
         if case is None:
             print(f'no case shows {fault}')
         else:
@@ -133,14 +88,14 @@ def telling(reference, found, told):
 
 def chosen(reference):
     """The smallest case for each result and for each fault, then for each result with what the answer carries, and more while there is room."""
-    found = made(reference)
-    told = list(outcomes(run(reference, 'outcomes', given=b''.join(case[0] for case in found))))
+    found = fitting(reference)
+    told = list(outcomes(run(reference, 'outcomes', given=b''.join(case.whole for case in found))))
     results, rows = collections.defaultdict(list), collections.defaultdict(list)
-    for (case, entry, *sizes), outcome in zip(found, told):
-        if small(entry, *sizes):
-            result, carried = row(case, entry, sizes[1], sizes[2], *outcome)
-            results[result].append(case)
-            rows[result, carried].append(case)
+    for case, outcome in zip(found, told):
+        if small(case):
+            result, carried = row(case, outcome)
+            results[result].append(case.whole)
+            rows[result, carried].append(case.whole)
     taken, left = {}, MOST
     for groups in telling(reference, found, told), results.values(), rows.values(), (group[1:] for group in rows.values()):
         for group in groups:
@@ -196,4 +151,5 @@ def main():
     print(f'{len(taken)} cases and {len(sent)} requests of real software, {len(stdin)} bytes')
 
 
-main()
+if __name__ == '__main__':
+    main()
