@@ -1,6 +1,6 @@
 /* decide TABLE PROFILE NAMES ..: times one decision on each table, beside the table check that is part of it and the
- * reference's decision in Rust. Of a table with tiny names, so that a request can hold 1,000, it is removals that are
- * timed. Every request leaves the table as the first call made it, so that each call does the same work. */
+ * reference's decision in Rust. Over a table with tiny names, of which a request can hold 1,000, removals
+ * are timed. Every request leaves the table as the first call made it, so that each call does the same work. */
 #define _POSIX_C_SOURCE 199309L
 #include "requests.h"
 #include "samples.h"

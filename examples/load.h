@@ -9,7 +9,7 @@
 #include <string.h>
 
 /* The bytes of a file, for the caller to free; the pointer is non-null for an empty file too, since the library
- * takes no null. Says on standard error why a file cannot be read, and ends the program with status 2. */
+ * takes no null. Reports on standard error why a file cannot be read, and ends the program with status 2. */
 static uint8_t *load(const char *path, size_t *length) {
     size_t room = 65536, used = 0, got = 0;
     uint8_t *bytes = (uint8_t *)malloc(room);

@@ -1,5 +1,5 @@
 /* store FOLDER: tries examples/store.h in an empty folder. A store that fails leaves the old file as it was and nothing
- * beside it; one that succeeds replaces it whole. */
+ * beside it; one that succeeds replaces it whole. Writes that are interrupted or cut short are gone on with. */
 #ifndef _GNU_SOURCE
 #define _GNU_SOURCE /* O_PATH: a folder that can be written to and not flushed */
 #endif
@@ -7,6 +7,8 @@
 #include <signal.h>
 #include <sys/resource.h>
 #include <sys/stat.h>
+#include <sys/time.h>
+#include <sys/wait.h>
 
 #include "../examples/load.h"
 #include "../examples/store.h"
@@ -46,6 +48,36 @@ static int fails(int folder, const char *name, const uint8_t *bytes, int reason,
     return store(folder, name, bytes, LENGTH) == NOT_STORED && errno == reason && has("table", old, LENGTH) && count() == files;
 }
 
+static void ignore(int signal_number) { (void)signal_number; }
+
+/* Whether all bytes reach a reader that is slow to begin, while a timer interrupts. */
+static int writes_through(void) {
+    static uint8_t sent[1 << 18], got[sizeof sent];
+    int ends[2];
+    for (size_t i = 0; i < sizeof sent; i++) sent[i] = (uint8_t)(i * 2654435761u >> 24);
+    if (pipe(ends) != 0) return 0;
+    const pid_t reader = fork();
+    if (reader == 0) {
+        size_t used = 0;
+        ssize_t more;
+        close(ends[1]);
+        usleep(50000);
+        while ((more = read(ends[0], got + used, sizeof got - used)) > 0) used += (size_t)more;
+        _exit(used == sizeof sent && memcmp(sent, got, sizeof sent) == 0 ? 0 : 1);
+    }
+    struct sigaction action;
+    const struct itimerval every = {{0, 5000}, {0, 5000}}, never = {{0, 0}, {0, 0}};
+    memset(&action, 0, sizeof action);
+    action.sa_handler = ignore;
+    close(ends[0]);
+    int status = 1;
+    const int wrote = sigaction(SIGALRM, &action, NULL) == 0 && setitimer(ITIMER_REAL, &every, NULL) == 0 &&
+                      write_all(ends[1], sent, sizeof sent);
+    setitimer(ITIMER_REAL, &never, NULL);
+    close(ends[1]);
+    return waitpid(reader, &status, 0) == reader && wrote && status == 0;
+}
+
 int main(int argc, char **argv) {
     static uint8_t old[LENGTH], fresh[LENGTH];
     static char long_name[300];
@@ -78,7 +110,10 @@ int main(int argc, char **argv) {
 
     expect(store(folder, "table", fresh, LENGTH) == STORED && has("table", fresh, LENGTH) && count() == 2, "a new table");
     expect(store(unflushable, "table", old, LENGTH) == UNSURE && has("table", old, LENGTH) && count() == 2, "a folder not flushed");
+    FILE *left = fopen("table.new", "wb"); /* as a power cut leaves it */
+    expect(left != NULL && fwrite(old, 1, LENGTH, left) == LENGTH && fclose(left) == 0, "a file left behind");
     expect(store(folder, "table", fresh, SHORTER) == STORED && has("table", fresh, SHORTER) && count() == 2, "a shorter table");
+    expect(writes_through(), "interrupted writes");
     printf("store: %d steps, each as it should be\n", tried);
     return 0;
 }
