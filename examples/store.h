@@ -19,8 +19,9 @@ typedef enum {
 static int write_all(int file, const uint8_t *bytes, size_t length) {
     while (length > 0) {
         const ssize_t wrote = write(file, bytes, length);
-        if (wrote < 0 && errno != EINTR) return 0;
-        if (wrote <= 0) continue;
+        if (wrote < 0 && errno == EINTR) continue;
+        if (wrote == 0) errno = EIO;
+        if (wrote <= 0) return 0;
         bytes += wrote;
         length -= (size_t)wrote;
     }
