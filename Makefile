@@ -77,7 +77,7 @@ installs: $(ARCHIVE) $(PROGRAMS) target/c/maketable
 ifndef SEED
 SEED := $(shell od -An -N4 -tu4 /dev/urandom | tr -d ' ')
 endif
-DRIVER := $(RUN) target/c99/driver
+DRIVER = $(RUN) target/c99/driver
 KINDS := tables calls demand3
 COUNT_tables := 200000
 COUNT_calls := 100000
