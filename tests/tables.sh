@@ -183,4 +183,20 @@ fresh
 truncate -s +1 "$profile"
 says "sound, $((blocks - 1)) records" 'the profile a byte longer'
 
+# What cannot be read or written is reported, with nothing on standard output.
+ends() { # STATUS COMMAND..
+    local status=0
+    "${@:2}" >"$room/said" 2>"$room/errors" || status=$?
+    [ "$status" = "$1" ] && [ ! -s "$room/said" ] && [ -s "$room/errors" ] || fail "${*:2}: not reported, or status $status instead of $1"
+    tried=$((tried + 1))
+}
+for check in "${checks[@]}"; do
+    ends 2 "${run[@]}" "$check" "$table" "$room/none"
+    ends 2 "${run[@]}" "$check" "$table"
+done
+ends 2 "$maketable"
+ends 2 "$maketable" record "$text"
+ends 2 "$maketable" table "$room/none"
+ends 1 bash -c '"$0" table "$1" >/dev/full' "$maketable" "$(dirname "$0")/../examples/households.txt"
+
 echo "tables.sh: $tried tables and texts, each as it should be"
