@@ -1,11 +1,11 @@
 -- Scans by the subscription, and where a record that was found ends.
-use Prim.Native.Nat.{ℕ, _+_, _*_, _≤_}
-use mathlib.Core.Bool.{Bool, true, _&&_}
+use Prim.Native.Nat.{ℕ, _+_, _*_, _<_, _≤_}
+use mathlib.Core.Bool.{Bool, true, false}
 use mathlib.Core.Path.{_≡_, sym, ap, _∙_}
 use mathlib.Core.List.{List}
 use native.Mathlib.Omega.{arith}
 use lib.ListN.{length, getD}
-use lib.Dec.{ltb}
+use borrow.Author.Tests.{lt-ltb}
 use Rattle.octets.specs.Name.{same}
 use Rattle.record.specs.Fields.{privateOf}
 use Rattle.table.specs.Blocks.{blockOf, privateAt}
@@ -28,9 +28,14 @@ pub serves-here : (t name : List ℕ) (k : ℕ) {b : List ℕ} {x : Bool} → b 
 unfolding servesAt
 serves-here t name k e g = rw (← e) g
 
-pub serves-all : (b name : List ℕ) {n : List ℕ} {x : Bool} → n ≡ privateOf b → x ≡ same n name → (ltb 0 (getD b 15 0) && x) ≡ serverHere b name
-unfolding serverHere
-serves-all b name e f = rw (f, e)
+module _ (b name : List ℕ) where
+  pub serves-none : getD b 15 0 ≡ 0 → false ≡ serverHere b name
+  unfolding serverHere
+  serves-none e = rw e
+
+  pub serves-some : {n : List ℕ} {x : Bool} → (getD b 15 0 ≡ 0 → ⊥) → n ≡ privateOf b → x ≡ same n name → x ≡ serverHere b name
+  unfolding serverHere
+  serves-some h e f = let l : 0 < getD b 15 0 = omega arith in rw (lt-ltb _ _ l, ← e) f
 
 -- A record that was found lies in the table.
 module _ (t : List ℕ) (count : ℕ) (size : length t ≡ 512 * (count + 1)) where

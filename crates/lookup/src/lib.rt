@@ -94,12 +94,16 @@ pub fn known_near(t: &[u8], count: usize, k: u32, name: &[u8]) -> bool
     known_private(t, count, name)
 }
 
-// Whether a record block belongs to a subscription and stores a server name.
+// Whether a record block belongs to a subscription and stores a server name. The private identity, further into the block, is read only where
+// there is one.
 pub fn serves(b: &[u8], name: &[u8]) -> bool
     requires { ⌜ length (now b) ≡ 512 ⌝ }
     ensures { λ r. ⌜ r ≡ serverHere (now (b .entry)) (now (name .entry)) ⌝ }
 {
-    (0 < b[Record::SERVER_LENGTH_AT]) & name::same(fields::private(b), name)
+    if b[Record::SERVER_LENGTH_AT] == 0 {
+        return false;
+    }
+    name::same(fields::private(b), name)
 }
 
 // The first record of a subscription that stores a server name.

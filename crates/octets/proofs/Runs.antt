@@ -1,13 +1,13 @@
 -- Laws of zero runs, of the tail of a field, and of a name put into its field.
 use Prim.Native.Nat.{ℕ, zero, suc, _+_, _-_, _<_, _≤_, min, max}
 use mathlib.Core.Bool.{Bool, true, false, _&&_, and-assoc, and-true}
-use mathlib.Core.Path.{_≡_, refl, sym}
-use mathlib.Core.List.{List}
+use mathlib.Core.Path.{_≡_, refl, sym, ap, _∙_}
+use mathlib.Core.List.{List, []}
 use native.Mathlib.Omega.{arith}
 use native.Mathlib.Numerals.{add-one}
 use lib.Bits.{bitOr, or-add-and, and-le-l, and-le-r, or-zero-l}
 use lib.Dec.{eqb, ltb}
-use lib.ListN.{length, getD, set, List·getD-eq-default}
+use lib.ListN.{length, getD, set, length-set, List·getD-eq-default}
 use borrow.Author.Tests.{eq-eqb, ne-eqb, eqb-true, eqb-false, ltb-true, ltb-false}
 use Rattle.octets.specs.Run.{zeros, zeroBetween, putName}
 use Rattle.octets.proofs.All.{and-left, and-right}
@@ -109,6 +109,29 @@ name-all s at name i n a b e = let k : i ≡ n = omega arith in cc
 
 pub past-zero : (s : List ℕ) (i : ℕ) → length s ≤ i → 0 ≡ getD s i 0
 past-zero s i h = sym (List·getD-eq-default s 0 h)
+
+-- A name and zeros after it, put one after the other.
+name-then : (s : List ℕ) (at : ℕ) (name : List ℕ) (m k : ℕ) → length name ≤ m → putName (putName s at name m) (at + m) [] k ≡ putName s at name (m + k)
+unfolding putName
+name-then s at name m zero h = let n : m + 0 ≡ m = omega arith in rw n
+name-then s at name m (suc k) h =
+    let n : m + suc k ≡ suc (m + k) = omega arith in
+    let p : at + m + k ≡ at + (m + k) = omega arith in
+    rw (n, p, name-then s at name m k h, ← past-zero name (m + k) (omega arith))
+
+pub name-whole : (s : List ℕ) (at : ℕ) (name : List ℕ) (n : ℕ) {x y : List ℕ} → length name ≤ n → x ≡ putName s at name (length name)
+    → y ≡ putName x (at + length name) [] (n - length name) → y ≡ putName s at name n
+name-whole s at name n h e f =
+    let k : length name + (n - length name) ≡ n = omega arith in
+    f ∙ rw e (name-then s at name (length name) (n - length name) (omega arith) ∙ ap (putName s at name) k)
+
+pub name-length : (s : List ℕ) (at : ℕ) (name : List ℕ) (n : ℕ) → length (putName s at name n) ≡ length s
+unfolding putName
+name-length s at name zero = refl
+name-length s at name (suc n) = simp (length-set, name-length s at name n)
+
+pub name-lengthd : (s : List ℕ) (at : ℕ) (name : List ℕ) (n : ℕ) {x : List ℕ} → x ≡ putName s at name n → length x ≡ length s
+name-lengthd s at name n e = ap length e ∙ name-length s at name n
 
 -- A byte of a zero run is zero.
 zeros-at : (s : List ℕ) (at n i : ℕ) → zeros s at n ≡ true → i < n → getD s (at + i) 0 ≡ 0

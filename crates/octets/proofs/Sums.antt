@@ -26,18 +26,6 @@ pub sum-put : (s : List ℕ) (at w n : ℕ) → 4 * n ≤ at → sumWords (putBe
 unfolding putBe32
 sum-put s at w n h = rw (sum-set _ (at + 3) _ n (omega arith), sum-set _ (at + 2) _ n (omega arith), sum-set _ (at + 1) _ n (omega arith), sum-set s at _ n h)
 
--- The turns of the loop that sums.
-pub sum-none : (s : List ℕ) → 0 ≡ sumWords s 0
-unfolding sumWords
-sum-none s = refl
-
-pub sum-more : (s : List ℕ) (i : ℕ) {sum w r : ℕ} → sum ≡ sumWords s i → w ≡ be32At s (4 * i) → r ≡ (sum + w) % 2 ^ 32 → r ≡ sumWords s (i + 1)
-unfolding sumWords
-sum-more s i e f g = rw (add-one, ← e, ← f) g
-
-pub sum-all : (s : List ℕ) (i n : ℕ) {sum : ℕ} → sum ≡ sumWords s i → i ≤ n → n ≤ i → sum ≡ sumWords s n
-sum-all s i n e a b = let k : i ≡ n = omega arith in cc
-
 -- Four sums side by side.
 wrap-fours : (a b c d x y z w : ℕ)
     → (((a + x) % 2 ^ 32 + (b + y) % 2 ^ 32) % 2 ^ 32 + ((c + z) % 2 ^ 32 + (d + w) % 2 ^ 32) % 2 ^ 32) % 2 ^ 32

@@ -1,5 +1,6 @@
 // Runs of bytes: zeros that are looked for, bytes that are written.
 ghost use mathlib.Core.Path.{_≡_};
+ghost use mathlib.Core.List.{[]};
 ghost use Prim.Native.Nat.{_+_, _-_, _≤_, _<_, min};
 ghost use lib.ListN.{length, replicate};
 ghost use Rattle.octets.specs.Run.{zeroBetween, putName, Wrote};
@@ -61,14 +62,33 @@ pub fn zero_long_tail(s: &[u8], at: usize, to: usize, n: u8) -> bool
     }
 }
 
-// Puts a name into a field of n bytes, with zeros after it.
-pub fn put_name(s: &mut [u8], at: usize, n: usize, name: &[u8])
+// Puts a name at a place.
+fn put_bytes(s: &mut [u8], at: usize, name: &[u8])
+    requires { ⌜ at + length (now name) ≤ length (now s) ⌝ }
+    ensures { λ _. ⌜ now (s .exit) ≡ putName (now (s .entry)) at (now (name .entry)) (length (now (name .entry))) ⌝ }
+{
+    for i in 0..name.len() {
+        s[at + i] = name[i];
+    }
+}
+
+// Puts n zeros at a place, as if after no name.
+fn put_zeros(s: &mut [u8], at: usize, n: usize)
     requires { ⌜ at + n ≤ length (now s) ⌝ }
-    ensures { λ _. ⌜ now (s .exit) ≡ putName (now (s .entry)) at (now (name .entry)) n ⌝ }
+    ensures { λ _. ⌜ now (s .exit) ≡ putName (now (s .entry)) at [] n ⌝ }
 {
     for i in 0..n {
-        s[at + i] = crate::byte_or_zero(name, i);
+        s[at + i] = 0;
     }
+}
+
+// Puts a name into a field of n bytes, with zeros after it.
+pub fn put_name(s: &mut [u8], at: usize, n: usize, name: &[u8])
+    requires { ⌜ (at + n ≤ length (now s)) × (length (now name) ≤ n) ⌝ }
+    ensures { λ _. ⌜ now (s .exit) ≡ putName (now (s .entry)) at (now (name .entry)) n ⌝ }
+{
+    put_bytes(s, at, name);
+    put_zeros(s, at + name.len(), n - name.len());
 }
 
 // Copies all of src to the front of out.

@@ -5,18 +5,6 @@ ghost use Prim.Native.Nat.{_+_, _*_, _/_, _%_, _^_, _≤_};
 ghost use lib.ListN.{length};
 ghost use Rattle.octets.specs.Sum.{sumWords};
 
-// The sum of the first n words.
-pub fn sum_words(s: &[u8], n: usize) -> u32
-    requires { ⌜ 4 * n ≤ length (now s) ⌝ }
-    ensures { λ r. ⌜ r ≡ sumWords (now (s .entry)) n ⌝ }
-{
-    let mut sum: u32 = 0;
-    for i in 0..n {
-        sum = std::num::wrapping_add_u32(sum, number::be32(s, 4 * i));
-    }
-    sum
-}
-
 // A sum and the first of two words that were read as one number; a sum and the second.
 fn plus_first(sum: u32, x: u64) -> u32
     ensures { λ r. ⌜ r ≡ (sum + x / 4294967296) % 2 ^ 32 ⌝ }

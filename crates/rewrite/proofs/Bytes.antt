@@ -12,16 +12,12 @@ use lib.Seq.{getD-set-same, getD-set-other, sets-eq}
 use Rattle.octets.specs.Number.{putBe32}
 use Rattle.octets.specs.Run.{putName}
 use Rattle.octets.specs.Sum.{sumWords}
+use Rattle.octets.proofs.Runs.{name-length}
 use Rattle.rewrite.specs.Renew.{sealed, renewed}
 use Rattle.rewrite.proofs.Alike.{part-alike, sum-alike}
 
 -- A name that is put into its field.
 module _ (s : List ℕ) (at : ℕ) (name : List ℕ) where
-  pub name-length : (n : ℕ) → length (putName s at name n) ≡ length s
-  unfolding putName
-  name-length zero = refl
-  name-length (suc n) = simp length-set (name-length n)
-
   name-apart : (n i : ℕ) → ((j : ℕ) → j < n → i ≢ at + j) → getD (putName s at name n) i 0 ≡ getD s i 0
   unfolding putName
   name-apart zero i h = refl
@@ -36,7 +32,7 @@ module _ (s : List ℕ) (at : ℕ) (name : List ℕ) where
           → getD (set (putName s at name n) (at + n) (getD name n 0)) (at + j) 0 ≡ getD name j 0
       go true e r =
           let q : j ≡ n = eqb-true j n e in
-          let m : at + n < length (putName s at name n) = rw name-length (omega arith) in
+          let m : at + n < length (putName s at name n) = rw (name-length s at name n) (omega arith) in
           rw (q, getD-set-same (putName s at name n) (at + n) (getD name n 0) 0 m)
       go false e r =
           let q : j ≢ n = eqb-false j n e in

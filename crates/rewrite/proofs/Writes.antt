@@ -1,5 +1,5 @@
 -- What the functions that write leave, each by what its parts left.
-use Prim.Native.Nat.{ℕ, _+_, _-_, _*_, _≤_}
+use Prim.Native.Nat.{ℕ, _+_, _-_, _*_, _%_, _^_, _<_, _≤_}
 use mathlib.Core.Bool.{Bool, true, false, cond}
 use mathlib.Core.Path.{_≡_, sym, _∙_, ap}
 use mathlib.Core.List.{List}
@@ -9,9 +9,11 @@ use lib.Dec.{lit<}
 use lib.ListN.{length, getD, set, drop, length-set}
 use lib.Seq.{getD-take, getD-drop, drop-drop}
 use borrow.Rule.Slice.PartMut.{midOf, putMid}
-use Rattle.octets.specs.Number.{putBe32}
+use Rattle.octets.specs.Number.{be32At, putBe32}
 use Rattle.octets.specs.Run.{putName}
 use Rattle.octets.specs.Sum.{sumWords}
+use Rattle.octets.proofs.Runs.{name-length}
+use Rattle.octets.proofs.Sums.{sum-lt}
 use Rattle.record.specs.Fields.{cleared}
 use Rattle.table.specs.Blocks.{blockOf}
 use Rattle.lookup.specs.Find.{endOf}
@@ -19,12 +21,16 @@ use Rattle.lookup.specs.declared.Found.{Found}
 use Rattle.lookup.specs.declared.Found.the-variants.{At, Nothing}
 use Rattle.rewrite.specs.Renew.{lacking, sealed, renewed, rewritten}
 use Rattle.rewrite.specs.Effect.{settledIn, settledFound}
-use Rattle.rewrite.proofs.Bytes.{name-length, sealed-length}
+use Rattle.rewrite.proofs.Bytes.{sealed-length}
 
--- A check word.
-pub seal-put : (b : List ℕ) {s w : ℕ} {y : List ℕ} → s ≡ sumWords b 127 → w ≡ lacking s → y ≡ putBe32 b 508 w → y ≡ sealed b
-unfolding sealed
-seal-put b e f g = rw (← e, ← f) g
+-- A check word: what the other words lack, from the word that was there and the sum with it.
+lacking-from : (x c s w : ℕ) → x < 2 ^ 32 → w < 2 ^ 32 → s ≡ (x + c) % 2 ^ 32 → (w + s) % 2 ^ 32 ≡ c → w ≡ lacking x
+unfolding lacking
+lacking-from x c s w a b e f = omega arith
+
+pub seal-put : (b : List ℕ) {c s w : ℕ} {y : List ℕ} → c ≡ be32At b 508 → s ≡ sumWords b (4 * 32) → w < 2 ^ 32 → (w + s) % 2 ^ 32 ≡ c → y ≡ putBe32 b 508 w → y ≡ sealed b
+unfolding sealed sumWords
+seal-put b {c} {s} {w} e f h g k = rw (← lacking-from (sumWords b 127) (be32At b 508) s w (sum-lt b 127) h f (g ∙ e)) k
 
 -- A block: three bytes, the name's field, the check word.
 module _ (b : List ℕ) (state bits : ℕ) (name : List ℕ) (whole : length b ≡ 512) where

@@ -11,26 +11,17 @@ ghost use lib.ListN.{length};
 ghost use Rattle.record.specs.Fields.{cleared};
 ghost use Rattle.lookup.specs.Find.{endOf};
 ghost use Rattle.rewrite.specs.Effect.{settledIn, settledFound};
-ghost use Rattle.rewrite.specs.Renew.{lacking, sealed, renewed, rewritten};
+ghost use Rattle.rewrite.specs.Renew.{sealed, renewed, rewritten};
 
-// The words of a block before its check word, and the bytes of a server name's field.
-pub const WORDS: usize = 127;
-
+// The bytes of a server name's field.
 pub const SERVER_FIELD: usize = 96;
 
-// What a sum lacks to zero, wrapping at 2^32.
-fn lack(s: u32) -> u32
-    ensures { λ r. ⌜ r ≡ lacking s ⌝ }
-{
-    std::num::wrapping_sub_u32(0, s)
-}
-
-// Gives a block a new check word.
+// Gives a block a new check word: the old one, less what the block sums to.
 fn seal(b: &mut [u8])
     requires { ⌜ length (now b) ≡ 512 ⌝ }
     ensures { λ _. ⌜ now (b .exit) ≡ sealed (now (b .entry)) ⌝ }
 {
-    let w = lack(sum::sum_words(b, WORDS));
+    let w = std::num::wrapping_sub_u32(number::be32(b, Record::CHECK_AT), sum::sum_fours(b, 32));
     number::put_be32(b, Record::CHECK_AT, w);
 }
 

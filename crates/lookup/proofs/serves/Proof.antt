@@ -1,4 +1,4 @@
-use Rattle.lookup.proofs.Scans.{serves-all}
+use Rattle.lookup.proofs.Scans.{serves-none, serves-some}
 use borrow.Author.Needs.{needs}
 use Rattle.lookup.proofs.serves.Statement.{statement}
 use Rattle.lookup.proofs.serves.Tie as tie
@@ -8,6 +8,7 @@ serves-spec =
     tie.close
     (tie.spec
     (λ c. search needs)
+    (λ c. search (needs, serves-none))
     (λ c κs. search needs)
     (λ c κs. search needs)
-    (λ c. search (needs, serves-all)))
+    (λ c. search (needs, serves-some)))

@@ -1,30 +1,15 @@
-use Prim.Native.Nat.{_≤_, _-_}
-use mathlib.Core.Path.{_≡_}
-use lib.ListN.{length}
-use Rattle.octets.specs.Run.{putName}
-use Rattle.octets.proofs.Runs.{name-none, name-more, name-all}
+use Rattle.octets.proofs.Runs.{name-whole}
 use borrow.Author.Needs.{needs}
 use Rattle.octets.proofs.run.put_name.Statement.{statement}
 use Rattle.octets.proofs.run.put_name.Tie as tie
-
-abbrev Inv-loop : tie.InvT-loop
-Inv-loop s₀ at n name i₀ s i = (i ≤ n) × (length s ≡ length s₀) × (s ≡ putName s₀ at name i)
-
-abbrev μ-loop : tie.MeasureT-loop
-μ-loop s₀ at n name i₀ s i = n - i
 
 pub put-name-spec : {M : Type 1} → statement M
 put-name-spec =
     tie.close
     (tie.spec
-    Inv-loop
-    μ-loop
-    (λ c. search (needs, name-none))
     (λ c κs. search needs)
     (λ c. search needs)
     (λ c. search needs)
+    (λ c κs. search needs)
     (λ c. search needs)
-    (λ c. search needs)
-    (λ c. (search needs, search needs, search (needs, name-more)))
-    (λ c. search needs)
-    (λ c. search (needs, name-all)))
+    (λ c. search (needs, name-whole)))
