@@ -12,6 +12,7 @@ use borrow.Rule.Slice.PartMut.{midOf, putMid}
 use Rattle.octets.specs.Number.{putBe32}
 use Rattle.octets.specs.Run.{putName}
 use Rattle.octets.specs.Sum.{sumWords}
+use Rattle.octets.proofs.Runs.{name-length}
 use Rattle.record.specs.Fields.{cleared}
 use Rattle.table.specs.Blocks.{blockOf}
 use Rattle.lookup.specs.Find.{endOf}
@@ -19,7 +20,7 @@ use Rattle.lookup.specs.declared.Found.{Found}
 use Rattle.lookup.specs.declared.Found.the-variants.{At, Nothing}
 use Rattle.rewrite.specs.Renew.{lacking, sealed, renewed, rewritten}
 use Rattle.rewrite.specs.Effect.{settledIn, settledFound}
-use Rattle.rewrite.proofs.Bytes.{name-length, sealed-length}
+use Rattle.rewrite.proofs.Bytes.{sealed-length}
 
 -- A check word.
 pub seal-put : (b : List ℕ) {s w : ℕ} {y : List ℕ} → s ≡ sumWords b 127 → w ≡ lacking s → y ≡ putBe32 b 508 w → y ≡ sealed b
