@@ -11,7 +11,7 @@ use lib.Seq.{drop-at, take-append-le, drop-append-le, drop-set-lt, getD-set-same
 use lib.Dec.{eqb}
 use borrow.Author.Tests.{eq-eqb, le-ltb}
 use Rattle.octets.specs.Number.{be24At, putBe24}
-use Rattle.rewrite.proofs.Alike.{word-alike}
+use Rattle.octets.proofs.Numbers.{be32-alike}
 use Rattle.diameter.specs.Walk.{Walk, walk}
 use Rattle.table.specs.Blocks.{blockOf}
 use Rattle.table.specs.Check.{checkTable}
@@ -103,7 +103,7 @@ module _ (head : List ℕ) (twenty : length head ≡ 20) (body : List ℕ) where
         message-at 0 (omega arith) (omega arith) (omega arith) (omega arith),
         message-flags,
         message-command,
-        word-alike (message head body) head 8 (λ i a b. message-at i (omega arith) (omega arith) (omega arith) (omega arith)),
+        be32-alike (message head body) head 8 8 (λ j l. message-at (8 + j) (omega arith) (omega arith) (omega arith) (omega arith)),
       )
 
   pub message-rest : take 15 (drop 5 (message head body)) ≡ take 15 (drop 5 head)

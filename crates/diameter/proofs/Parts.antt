@@ -12,7 +12,7 @@ use borrow.Author.Tests.{eq-eqb, ne-eqb}
 use Rattle.octets.specs.Number.{be32At}
 use Rattle.octets.proofs.Numbers.{be32-drop, be32-take}
 use Rattle.diameter.specs.Avp.{headOf, avpCode, avpFlags, avpHead, vendorOf, dataOf, valueOf}
-use Rattle.diameter.specs.Reader.{readOf, partAt, present, avpAt, dataAt, Here}
+use Rattle.diameter.specs.Reader.{readOf, partAt, present, dataAt, Here}
 use Rattle.diameter.specs.declared.Read.{Read}
 use Rattle.diameter.specs.declared.Read.the-variants.{Avp, Fault}
 use Rattle.diameter.proofs.Reading.{flags-take, read-says, read-none}
@@ -80,12 +80,6 @@ module _ (s : List ℕ) (at : ℕ) (r : Read) (e : r ≡ readOf at (drop at s)) 
 
   pub present-none : r ≡ Fault → false ≡ present (partAt s at)
   present-none d = rw (read-none s at r e d)
-
-  pub avp-whole : (len next head flags : ℕ) (b : List ℕ) → r ≡ Avp len next head flags → b ≡ take len (drop at s) → b ≡ avpAt s at
-  avp-whole len next head flags b d w = rw (read-says s at r e len next head flags d .part) w
-
-  pub avp-none : r ≡ Fault → [] ≡ avpAt s at
-  avp-none d = rw (read-none s at r e d)
 
   pub data-whole : (len next head flags : ℕ) (b : List ℕ) → r ≡ Avp len next head flags → b ≡ dataOf (take len (drop at s)) → b ≡ dataAt s at
   data-whole len next head flags b d w = rw (read-says s at r e len next head flags d .part) w

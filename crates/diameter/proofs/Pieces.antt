@@ -1,8 +1,7 @@
 -- Demand 3 over bytes: a row of whole padded AVPs in front of any bytes is that row in front of their walk.
 use Prim.Native.Nat.{ℕ, _+_, _%_, _≤_, _<_}
-use mathlib.Core.Path.{_≡_, refl, sym, ap, _∙_}
+use mathlib.Core.Path.{_≡_, refl, ap, _∙_}
 use mathlib.Core.List.{List, [], _∷_, _++_, append-assoc, append-nil}
-use mathlib.Core.Option.{some}
 use mathlib.Core.Bool.{true}
 use native.Mathlib.Omega.{arith}
 use lib.ListN.{length, drop, getD, length-append, List·getD-append}
@@ -10,7 +9,6 @@ use lib.Seq.{take-at, drop-at}
 use Rattle.octets.specs.Number.{be24At}
 use Rattle.diameter.specs.Avp.{padded, avpHead, avpLen, sound}
 use Rattle.diameter.specs.Walk.{Walk, ended, avp, walk}
-use Rattle.diameter.specs.Reader.{avpOf}
 use Rattle.diameter.specs.Put.{glue, Piece, bytesOf, avpsOf, Whole, All}
 use Rattle.diameter.proofs.Walks.{sound-says, sound-of, walk-sound, walk-nil}
 
@@ -59,15 +57,6 @@ walk-pieces (q ∷ qs) t h =
 pub walk-row : (qs : List Piece) → All Whole qs → walk (bytesOf qs) ≡ glue (avpsOf qs) ended
 walk-row qs h = rw (append-nil, walk-nil) at (walk-pieces qs [] h)
 
--- the AVP at the front of a body that begins with a piece
-pub piece-front : (q : Piece) (qs : List Piece) (t : List ℕ) → Whole q → avpOf (bytesOf (q ∷ qs) ++ t) ≡ some (q .avp)
-unfolding avpOf bytesOf
-piece-front q qs t h =
-    let a = q .avp in
-    let y = q .pad ++ bytesOf qs ++ t in
-    let e : a ++ q .pad ++ bytesOf qs ++ t ≡ a ++ y = simp append-assoc in
-    rw (e, sound-front a y (h .right), same-len a y (sound-big a (h .right)), h .exact, take-at a y (length a) refl)
-
 -- a row's length is a multiple of 4, so that what is put in leaves the message's length one
 padded-even : (n : ℕ) → padded n % 4 ≡ 0
 unfolding padded
@@ -85,11 +74,6 @@ pub glue-glue : (avs us : List (List ℕ)) (w : Walk) → glue (avs ++ us) w ≡
 unfolding glue
 glue-glue [] us w = refl
 glue-glue (a ∷ avs) us w = ap (avp a) (glue-glue avs us w)
-
-pub bytes-joined : (qs ps : List Piece) → bytesOf (qs ++ ps) ≡ bytesOf qs ++ bytesOf ps
-unfolding bytesOf
-bytes-joined [] ps = refl
-bytes-joined (q ∷ qs) ps = rw (bytes-joined qs ps) (sym (append-assoc (q .avp ++ q .pad) (bytesOf qs) (bytesOf ps)))
 
 pub avps-joined : (qs ps : List Piece) → avpsOf (qs ++ ps) ≡ avpsOf qs ++ avpsOf ps
 unfolding avpsOf

@@ -5,14 +5,14 @@ use mathlib.Core.List.{List}
 use mathlib.Core.Option.{none, some}
 use mathlib.Core.Bool.{Bool, true, false, cond}
 use native.Mathlib.Omega.{arith}
-use lib.ListN.{length, take, drop, getD, length-take, length-drop, drop-of-length-le}
+use lib.ListN.{length, take, drop, getD, length-drop, drop-of-length-le}
 use lib.Seq.{getD-drop, getD-take, drop-drop}
 use lib.Dec.{leb}
 use Rattle.octets.specs.Number.{be24At, be32At}
 use Rattle.octets.proofs.Numbers.{be24-drop, be32-take}
 use Rattle.diameter.specs.Avp.{padded, headOf, avpCode, avpFlags, avpHead, avpLen, vendorOf, sound}
 use Rattle.diameter.specs.Walk.{ended, faulty, avp, walk}
-use Rattle.diameter.specs.Reader.{readOf, avpOf, partAt, avpAt, Here}
+use Rattle.diameter.specs.Reader.{readOf, avpOf, partAt, Here}
 use Rattle.diameter.specs.declared.Read.{Read}
 use Rattle.diameter.specs.declared.Read.the-variants.{Avp, Fault}
 use Rattle.diameter.proofs.Walks.{Sound, sound-says, sound-of, not-sound, walk-sound, walk-faulty, walk-nil, padded-least, head-least, head-most}
@@ -45,7 +45,8 @@ module _ (s : List ℕ) (at : ℕ) where
   unfolding readOf
   read-fault never = rw (not-sound (drop at s) (λ w. never (sound-at w)))
 
-  pub read-whole : (len pad head flags : ℕ) → flags ≡ getD s (at + 4) 0 → head ≡ headOf flags → len ≡ be24At s (at + 5) → head ≤ len → len ≤ length s - at → pad ≡ padded len
+  pub read-whole : (len pad head flags : ℕ) → flags ≡ getD s (at + 4) 0 → head ≡ headOf flags → len ≡ be24At s (at + 5) → head ≤ len → len ≤ length s - at
+      → pad ≡ padded len
       → Avp len (at + pad) head flags ≡ readOf at (drop at s)
   unfolding readOf
   read-whole len pad head flags ef eh el p q en =
@@ -56,30 +57,20 @@ module _ (s : List ℕ) (at : ℕ) where
 pub record Says (s : List ℕ) (at len next head flags : ℕ) : Type 0 where
   pub walked : walk (drop at s) ≡ avp (take len (drop at s)) (walk (drop next s))
   pub part : partAt s at ≡ some (take len (drop at s))
-  pub taken : avpAt s at ≡ take len (drop at s)
-  pub counted : length (take len (drop at s)) ≡ len
-  pub headed : head ≡ avpHead (take len (drop at s))
   pub flagged : flags ≡ avpFlags (take len (drop at s))
-  pub coded : avpCode (drop at s) ≡ avpCode (take len (drop at s))
-  pub vendored : vendorOf (drop at s) ≡ vendorOf (take len (drop at s))
   pub here : Here s at len head
   pub sounds : sound (drop at s) ≡ true
   pub lengthed : len ≡ avpLen (drop at s)
-  pub after : next ≡ at + padded len
   pub later : at < next
-  pub near : next ≤ at + len + 3
 
-avp-means : (b : Bool) (len next head flags n m h f : ℕ) → Avp len next head flags ≡ cond b (Avp n m h f) Fault → (b ≡ true) × (len ≡ n) × (next ≡ m) × (head ≡ h) × (flags ≡ f)
+avp-means : (b : Bool) (len next head flags n m h f : ℕ) → Avp len next head flags ≡ cond b (Avp n m h f) Fault
+    → (b ≡ true) × (len ≡ n) × (next ≡ m) × (head ≡ h) × (flags ≡ f)
 avp-means true len next head flags n m h f e = (refl, cc, cc, cc, cc)
 avp-means false len next head flags n m h f e = let z : _≡_ {A = ℕ} 0 1 = cc in absurd (omega arith)
 
 fault-means : (b : Bool) (n m h f : ℕ) → Fault ≡ cond b (Avp n m h f) Fault → b ≡ false
 fault-means true n m h f e = let z : _≡_ {A = ℕ} 0 1 = cc in absurd (omega arith)
 fault-means false n m h f e = refl
-
-padded-most : (n : ℕ) → padded n ≤ n + 3
-unfolding padded
-padded-most n = omega arith
 
 -- an AVP's header is in its own bytes
 module _ (t : List ℕ) (n : ℕ) (h : avpHead t ≤ n) where
@@ -105,17 +96,10 @@ avp-says s at len next head flags e =
     let h = sound-says t (m .0) in
     let w : avpLen t ≤ length s - at = rw length-drop at (h .within) in
     let p : avpHead t ≤ len = rw (m .1) (h .least) in
-    let q : partAt s at ≡ some (take len t) = rw (m .0, m .1) in
-    let f = flags-take t len p in
     record {
       walked = walk-sound t (m .0) ∙ rw (m .1, m .2, drop-drop (padded (avpLen t)) at s);
-      part = q;
-      taken = rw q;
-      counted = simp (length-take, length-drop) (omega (arith, m .1, w));
-      headed = rw f (m .3);
-      flagged = rw f (m .4);
-      coded = sym (code-take t len p);
-      vendored = sym (vendor-take t len p);
+      part = rw (m .0, m .1);
+      flagged = rw (flags-take t len p) (m .4);
       here = record {
         headed = m .3;
         eight = rw (m .3) (head-least _);
@@ -125,9 +109,7 @@ avp-says s at len next head flags e =
       };
       sounds = m .0;
       lengthed = m .1;
-      after = rw (m .1) (m .2);
       later = rw (m .2) (omega (arith, padded-least (avpLen t), h .eight, h .least));
-      near = rw (m .2, m .1) (omega (arith, padded-most (avpLen t)));
     }
 
 module _ (s : List ℕ) (at : ℕ) (r : Read) (e : r ≡ readOf at (drop at s)) where

@@ -2,11 +2,12 @@
 use Prim.Native.Nat.{ℕ, zero, suc, pred, _≤_, _<_}
 use mathlib.Core.Path.{_≡_, refl}
 use mathlib.Core.List.{List, [], _∷_}
-use mathlib.Core.Bool.{Bool, true, false, cond, _&&_}
+use mathlib.Core.Bool.{Bool, true, false, cond}
 use native.Mathlib.Omega.{arith}
 use lib.ListN.{length, take, drop}
 use lib.Dec.{leb}
 use borrow.Author.Tests.{leb-true, le-leb}
+use Rattle.octets.proofs.All.{and-left, and-right}
 use Rattle.diameter.specs.Avp.{padded, headOf, avpHead, avpLen, sound}
 use Rattle.diameter.specs.Walk.{ended, faulty, avp, onSound, walkFrom, walk}
 
@@ -44,16 +45,12 @@ head-most n = go (leb 128 n)
     go true = omega arith
     go false = omega arith
 
-both : (a b : Bool) → (a && b) ≡ true → (a ≡ true) × (b ≡ true)
-both true b e = (refl, e)
-both false b e = (e, cc)
-
 pub sound-says : (t : List ℕ) → sound t ≡ true → Sound t
 unfolding sound
 sound-says t e =
-    let d = leb (avpHead t) (avpLen t) && leb (avpLen t) (length t) in
-    let p = both (leb (avpHead t) (avpLen t)) (leb (avpLen t) (length t)) (both (leb (avpHead t) (length t)) d (both (leb 8 (length t)) (leb (avpHead t) (length t) && d) e .1) .1) in
-    record { eight = head-least _; least = leb-true _ _ (p .0); within = leb-true _ _ (p .1) }
+    let p = and-right (leb (avpHead t) (length t)) _ (and-right (leb 8 (length t)) _ e) in
+    let q = leb (avpHead t) (avpLen t) in
+    record { eight = head-least _; least = leb-true _ _ (and-left q _ p); within = leb-true _ _ (and-right q _ p) }
 
 pub sound-of : (t : List ℕ) → Sound t → sound t ≡ true
 unfolding sound
@@ -73,7 +70,8 @@ pub padded-least : (n : ℕ) → n ≤ padded n
 unfolding padded
 padded-least n = omega arith
 
-step : (x : ℕ) (t : List ℕ) (b : Bool) (n : ℕ) → b ≡ true → 0 < n → onSound b (x ∷ t) (walkFrom (pred n) t) ≡ avp (take (avpLen (x ∷ t)) (x ∷ t)) (walk (drop n (x ∷ t)))
+step : (x : ℕ) (t : List ℕ) (b : Bool) (n : ℕ) → b ≡ true → 0 < n
+    → onSound b (x ∷ t) (walkFrom (pred n) t) ≡ avp (take (avpLen (x ∷ t)) (x ∷ t)) (walk (drop n (x ∷ t)))
 step x t b zero e h = absurd (omega arith)
 step x t b (suc n) e h = rw (e, skipped n t)
 

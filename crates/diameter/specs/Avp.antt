@@ -1,14 +1,14 @@
 -- One AVP at the front of a list of bytes (RFC 3588, 4.1): code, flags, length, the vendor with V, data.
-use Prim.Native.Nat.{ℕ, _+_, _*_, _/_, _%_}
+use Prim.Native.Nat.{ℕ, _+_, _/_, _%_}
 use mathlib.Core.List.{List}
 use mathlib.Core.Bool.{Bool, cond, _&&_}
 use lib.ListN.{length, getD, drop}
 use lib.Dec.{eqb, leb}
-use Rattle.octets.specs.Number.{be24At, be32At}
+use Rattle.octets.specs.Number.{inFours, be24At, be32At}
 
 -- the length with its padding
 unfoldable pub padded : ℕ → ℕ
-padded n = (n + 3) / 4 * 4
+padded n = inFours n
 
 -- the header's length by the flags: 12 with V, else 8
 unfoldable pub headOf : ℕ → ℕ

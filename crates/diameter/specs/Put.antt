@@ -5,7 +5,7 @@ use mathlib.Core.Bool.{true}
 use mathlib.Core.Path.{_≡_}
 use lib.ListN.{length}
 use Rattle.diameter.specs.Avp.{padded, avpLen, sound}
-use Rattle.diameter.specs.Walk.{Walk, ended, faulty, avp}
+use Rattle.diameter.specs.Walk.{Walk, avp}
 
 -- the AVPs of a list in front of a walk
 unfoldable pub glue : List (List ℕ) → Walk → Walk

@@ -3,7 +3,7 @@ ghost use mathlib.Core.Path.{_≡_};
 ghost use Prim.Native.Nat.{_+_, _≤_, _<_};
 ghost use lib.ListN.{length, take, drop};
 ghost use Rattle.diameter.specs.Avp.{padded, headOf, avpCode, avpHead, vendorOf, dataOf, valueOf};
-ghost use Rattle.diameter.specs.Reader.{readOf, partAt, present, avpAt, dataAt, Here};
+ghost use Rattle.diameter.specs.Reader.{readOf, partAt, present, dataAt, Here};
 
 // What stands at a place: a whole AVP with its length, the place of the next one, its header's length and its flags; or none,
 // because its length is faulty or because the bytes are at an end.
@@ -25,7 +25,7 @@ pub fn head_size(flags: u8) -> usize
 }
 
 // A length with its padding.
-pub fn pad(n: usize) -> usize
+fn pad(n: usize) -> usize
     requires { ⌜ n < 16777216 ⌝ }
     ensures { λ r. ⌜ (r ≡ padded n) × (n ≤ r) × (r ≤ n + 3) ⌝ }
 {
@@ -125,22 +125,7 @@ pub fn data_part(s: &[u8], at: usize, len: usize, head: usize) -> &[u8]
     &s[at + head..at + len]
 }
 
-// The same where nothing is known of the place: empty where no whole AVP stands.
-pub fn avp_at(s: &[u8], at: usize) -> &[u8]
-    ensures { λ r. ⌜ (now r ≡ avpAt (now (s .entry)) at) × (length (now r) ≤ length (now (s .entry))) ⌝ }
-{
-    let Read::Avp {
-        len,
-        next: _,
-        head,
-        flags: _,
-    } = read_avp(s, at)
-    else {
-        return &s[..0];
-    };
-    avp_part(s, at, len, head)
-}
-
+// The data where nothing is known of the place: empty where no whole AVP stands.
 pub fn data_at(s: &[u8], at: usize) -> &[u8]
     ensures { λ r. ⌜ (now r ≡ dataAt (now (s .entry)) at) × (length (now r) ≤ length (now (s .entry))) ⌝ }
 {

@@ -12,7 +12,7 @@ use borrow.Author.Tests.{ltb-true, ltb-false, leb-true, le-leb, lt-leb, eq-eqb, 
 use Rattle.octets.specs.Number.{be24At, putBe24}
 use Rattle.octets.specs.Run.{Wrote}
 use Rattle.octets.proofs.Writes.{named, front}
-use Rattle.record.proofs.Parts.{part-cut}
+use Rattle.octets.proofs.Parts.{part-cut}
 use Rattle.diameter.specs.Avp.{headOf, avpHead, avpLen}
 use Rattle.pen.specs.Groups.{failed, failedSize}
 use Rattle.pen.proofs.Groups.{failed-length}

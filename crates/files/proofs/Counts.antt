@@ -6,7 +6,7 @@ use lib.ListN.{length, take, replicate, length-replicate}
 use lib.Seq.{length-take-le}
 use Rattle.files.specs.Got.{gotten}
 use Rattle.files.specs.declared.Got.{Got}
-use Rattle.files.specs.declared.Got.the-variants.{Bytes, Nothing}
+use Rattle.files.specs.declared.Got.the-variants.{Bytes}
 
 pub front : (n : ℕ) (xs : List ℕ) → n ≤ length xs → n ≡ length (take n xs)
 front n xs h = sym (length-take-le n xs h)

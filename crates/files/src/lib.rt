@@ -12,7 +12,7 @@ pub enum Got {
 }
 
 // Reads until out is full or the file ends.
-pub fn fill(fd: i32, out: &mut [u8]) -> Got
+fn fill(fd: i32, out: &mut [u8]) -> Got
     ensures { λ r. ⌜ gotten r ≤ length (now (out .exit)) ⌝ }
 {
     let mut n = 0;

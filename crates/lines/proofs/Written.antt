@@ -1,8 +1,8 @@
 -- Words and digits, written one after the other.
-use Prim.Native.Nat.{ℕ, zero, _+_, _-_, _^_, _≤_, _<_}
+use Prim.Native.Nat.{ℕ, _+_, _-_, _^_, _≤_, _<_}
 use mathlib.Core.Bool.{Bool, true, false}
 use mathlib.Core.Path.{_≡_, refl, sym}
-use mathlib.Core.List.{List, [], _∷_, _++_, append-assoc}
+use mathlib.Core.List.{List, append-assoc}
 use native.Mathlib.Omega.{arith}
 use native.Mathlib.Nat.{pow-le-pow-right}
 use lib.Dec.{leb, lit<}
@@ -29,12 +29,14 @@ ten-places n k f h = go (leb k 10) refl
 pub number-room : (n k : ℕ) (text out : List ℕ) → Fewest 10 1 n k → n < 4294967296 → k ≡ length (take k text) → 10 ≤ length out → length (take k text) ≤ length out
 number-room n k text out f h e r = omega (arith, ten-places n k f h)
 
-pub number-wrote : (n k : ℕ) (text : List ℕ) {b xs : List ℕ} → Fewest 10 1 n k → k ≡ length (take k text) → take k text ≡ digits 10 k n → Wrote (take k text) b xs (length (take k text))
+pub number-wrote : (n k : ℕ) (text : List ℕ) {b xs : List ℕ} → Fewest 10 1 n k → k ≡ length (take k text) → take k text ≡ digits 10 k n
+    → Wrote (take k text) b xs (length (take k text))
     → Number n b xs k
 number-wrote n k text f e d w = record { fewest = f; wrote = named d (sym e) w }
 
 -- Words, a number after them, words after both.
-pub words-wrote : (n : ℕ) (first last : List ℕ) {b xs ys zs : List ℕ} {k : ℕ} → Wrote first b xs (length first) → Number n (midOf (length first) (length xs - length first) xs) ys k
+pub words-wrote : (n : ℕ) (first last : List ℕ) {b xs ys zs : List ℕ} {k : ℕ} → Wrote first b xs (length first)
+    → Number n (midOf (length first) (length xs - length first) xs) ys k
     → Wrote last (midOf (length first + k) (length (putMid (length first) (length xs - length first) xs ys) - (length first + k)) (putMid (length first) (length xs - length first) xs ys)) zs (length last)
     → Words first n last b (putMid (length first + k) (length (putMid (length first) (length xs - length first) xs ys) - (length first + k)) (putMid (length first) (length xs - length first) xs ys) zs) (length first + k + length last)
 words-wrote n first last {k = k} p q r = record {

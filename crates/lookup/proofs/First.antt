@@ -70,7 +70,8 @@ unfolding firstFrom
 first-fails p zero k e j a b = absurd (omega arith)
 first-fails p (suc n) k e j a b = go (p k) (ltb k j) refl refl e (λ g h. first-fails p n (suc k) g j h (omega arith))
   where
-    go : (x y : Bool) → p k ≡ x → ltb k j ≡ y → cond x (At k) (firstFrom p n (suc k)) ≡ Nothing → (firstFrom p n (suc k) ≡ Nothing → suc k ≤ j → p j ≡ false) → p j ≡ false
+    go : (x y : Bool) → p k ≡ x → ltb k j ≡ y → cond x (At k) (firstFrom p n (suc k)) ≡ Nothing → (firstFrom p n (suc k) ≡ Nothing → suc k ≤ j → p j ≡ false)
+        → p j ≡ false
     go true y f h g r = absurd (let z : _≡_ {A = ℕ} 0 1 = cc in omega arith)
     go false true f h g r = r g (ltb-true k j h)
     go false false f h g r = let i : j ≡ k = omega (arith, ltb-false k j h) in rw i f

@@ -66,10 +66,6 @@ module _ (t : List ℕ) (count : ℕ) (ordered : Ordered t count) where
         same-no _ _ (less-differs _ _ (rw q at (rising-later j k a b to)))
 
 -- The turns of the halving: the scan of the part from low up to high gives the answer of the whole.
-pub halves-start : (t : List ℕ) (count : ℕ) (name : List ℕ) → findPublic t count name ≡ firstFrom (publicIs t name) (count + 1 - 1) 1
-unfolding findPublic
-halves-start t count name = let m : count + 1 - 1 ≡ count = omega arith in rw m
-
 module _ (t : List ℕ) (count : ℕ) (name : List ℕ) (low high k : ℕ) {whole : Found} {b n : List ℕ} {o : Order} (ordered : Ordered t count)
     (left : whole ≡ firstFrom (publicIs t name) (high - low) low) (at : b ≡ blockOf t k) (is : n ≡ publicOf b) (order : o ≡ orderOf n name)
     (one : 1 ≤ low) (end : high ≤ count + 1) (above : low ≤ k) (below : k < high) where
@@ -152,6 +148,7 @@ module _ (t : List ℕ) (count : ℕ) (name : List ℕ) where
   no-found h = first-none (publicIs t name) count 1 (λ j a b. same-no _ _ (h j a (omega arith)))
 
 -- Tables with the same public identities give one answer.
-pub find-alike : (x t : List ℕ) (count : ℕ) (name : List ℕ) → ((k : ℕ) → 1 ≤ k → k ≤ count → publicAt x k ≡ publicAt t k) → findPublic x count name ≡ findPublic t count name
+pub find-alike : (x t : List ℕ) (count : ℕ) (name : List ℕ) → ((k : ℕ) → 1 ≤ k → k ≤ count → publicAt x k ≡ publicAt t k)
+    → findPublic x count name ≡ findPublic t count name
 unfolding findPublic publicIs
 find-alike x t count name h = first-same (publicIs x name) (publicIs t name) count 1 (λ j a b. ap (λ (l : List ℕ). same l name) (h j a (omega arith)))

@@ -1,7 +1,5 @@
-pub mod Chains
 pub mod First
 pub mod Halves
 pub mod Places
 pub mod Scans
 pub mod Sound
-pub mod Tests

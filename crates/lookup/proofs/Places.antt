@@ -12,7 +12,7 @@ use lib.ListN.{length, getD, take, drop, length-take, length-drop}
 use lib.Seq.{getD-take, getD-drop, ext-getD}
 use borrow.Author.Tests.{ltb-true, ltb-false, eq-eqb, ne-eqb, eqb-true, eqb-false}
 use Rattle.octets.specs.All.{allBelow}
-use Rattle.octets.proofs.All.{all-at}
+use Rattle.octets.proofs.All.{all-more, all-at}
 use Rattle.octets.proofs.Names.{same-yes, same-no}
 use Rattle.record.specs.Networks.{placeAt, networkOf}
 use Rattle.lookup.specs.Network.{agreeAt, networkIs, seek, networkNumber, roamsIn, Short}
@@ -71,7 +71,7 @@ module _ (b name : List ℕ) (k at : ℕ) (whole : length b ≡ 512) (place : at
       same-no (networkOf b k) name
       (λ q. let a : agreeAt b at name i ≡ true = agrees i h (sym of ∙ q) in true≢false (sym a ∙ sym e ∙ f))
 
-  place-same : (i : ℕ) {u : Bool} → i ≡ length name → allBelow (agreeAt b at name) i ≡ true → u ≡ agreeAt b at name i → u ≡ true → networkIs b name k ≡ true
+  place-same : (i : ℕ) {u : Bool} → i ≡ length name → true ≡ allBelow (agreeAt b at name) i → u ≡ agreeAt b at name i → u ≡ true → networkIs b name k ≡ true
   unfolding networkIs
   place-same i {u} h a e f = same-yes (networkOf b k) name (of ∙ ext-getD 0 (take (getD b at 0) (drop (at + 1) b)) name (size ∙ long) bytes)
     where
@@ -79,7 +79,7 @@ module _ (b name : List ℕ) (k at : ℕ) (whole : length b ≡ 512) (place : at
       every j l = go (ltb j i) refl
         where
           go : (v : Bool) → ltb j i ≡ v → agreeAt b at name j ≡ true
-          go true g = all-at (agreeAt b at name) i a j (ltb-true j i g)
+          go true g = all-at (agreeAt b at name) i (sym a) j (ltb-true j i g)
           go false g = let q : j ≡ i = omega (arith, ltb-false j i g, h) in rw q (sym e ∙ f)
 
       long : getD b at 0 ≡ length name
@@ -88,14 +88,9 @@ module _ (b name : List ℕ) (k at : ℕ) (whole : length b ≡ 512) (place : at
       bytes : (j : ℕ) → j < length (take (getD b at 0) (drop (at + 1) b)) → getD (take (getD b at 0) (drop (at + 1) b)) j 0 ≡ getD name j 0
       bytes j l = let m : j < getD b at 0 = omega (arith, size) in byte j m ∙ agree-later b at name j (every (j + 1) (omega (arith, long)))
 
--- The turns of the loop over a place's bytes.
-pub bytes-none : (p : ℕ → Bool) → allBelow p 0 ≡ true
-unfolding allBelow
-bytes-none p = refl
-
-pub bytes-more : (p : ℕ → Bool) (i : ℕ) {u : Bool} → allBelow p i ≡ true → u ≡ p i → u ≡ true → allBelow p (i + 1) ≡ true
-unfolding allBelow
-bytes-more p i a e f = let g : p i ≡ true = sym e ∙ f in rw (add-one i, a, g)
+-- One byte more of a place.
+pub bytes-more : (p : ℕ → Bool) (i : ℕ) {u : Bool} → true ≡ allBelow p i → u ≡ p i → u ≡ true → true ≡ allBelow p (i + 1)
+bytes-more p i a e f = sym f ∙ all-more p i a e
 
 -- The turns of the loop over the places: what is left from place k on gives the number of the whole.
 pub places-start : (b : List ℕ) (n : ℕ) (name : List ℕ) → networkNumber b n name ≡ seek (networkIs b name) (n - 0) 0
@@ -107,7 +102,7 @@ unfolding seek
 places-end p n k left a b = let m : n - k ≡ 0 = omega arith in rw (left, m)
 
 module _ (b : List ℕ) (count : ℕ) (name : List ℕ) (k at i : ℕ) {u : Bool} {whole : ℕ} (left : whole ≡ seek (networkIs b name) (count - k) k) (short : Short b count)
-    (size : length b ≡ 512) (more : k < count) (place : at ≡ placeAt k) (low : at ≤ 368) (so : allBelow (agreeAt b at name) i ≡ true) (is : u ≡ agreeAt b at name i) where
+    (size : length b ≡ 512) (more : k < count) (place : at ≡ placeAt k) (low : at ≤ 368) (so : true ≡ allBelow (agreeAt b at name) i) (is : u ≡ agreeAt b at name i) where
   near : getD b at 0 ≤ 31
   near = rw place (short .each k more)
 

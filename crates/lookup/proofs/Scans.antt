@@ -1,7 +1,7 @@
 -- Scans by the subscription, and where a record that was found ends.
 use Prim.Native.Nat.{ℕ, _+_, _*_, _<_, _≤_}
 use mathlib.Core.Bool.{Bool, true, false}
-use mathlib.Core.Path.{_≡_, sym, ap, _∙_}
+use mathlib.Core.Path.{_≡_, sym, _∙_}
 use mathlib.Core.List.{List}
 use native.Mathlib.Omega.{arith}
 use lib.ListN.{length, getD}
@@ -9,10 +9,10 @@ use borrow.Author.Tests.{lt-ltb}
 use Rattle.octets.specs.Name.{same}
 use Rattle.record.specs.Fields.{privateOf}
 use Rattle.table.specs.Blocks.{blockOf, privateAt}
-use Rattle.lookup.specs.Find.{firstFrom, isAt, endOf, findPublic, publicIs, privateIs, findPrivate, serverHere, servesAt, findServer}
+use Rattle.lookup.specs.Find.{firstFrom, isAt, endOf, findPublic, publicIs, privateIs, findPrivate, serverHere, servesAt}
 use Rattle.lookup.specs.declared.Found.{Found}
 use Rattle.lookup.specs.declared.Found.the-variants.{At, Nothing}
-use Rattle.lookup.proofs.First.{first-some, first-stands, first-same}
+use Rattle.lookup.proofs.First.{first-some, first-stands}
 
 -- The test of a block, by what is read of it.
 pub private-here : (t name : List ℕ) (k : ℕ) {b n : List ℕ} {x : Bool} → b ≡ blockOf t k → n ≡ privateOf b → x ≡ same n name → x ≡ privateIs t name k
@@ -46,16 +46,3 @@ module _ (t : List ℕ) (count : ℕ) (size : length t ≡ 512 * (count + 1)) wh
   pub public-end : (name : List ℕ) {f : Found} → f ≡ findPublic t count name → endOf f ≤ length t
   unfolding findPublic
   public-end name {f} e = first-end (publicIs t name) f (sym e)
-
-  pub private-end : (name : List ℕ) {f : Found} → f ≡ findPrivate t count name → endOf f ≤ length t
-  unfolding findPrivate
-  private-end name {f} e = first-end (privateIs t name) f (sym e)
-
-  pub server-end : (name : List ℕ) {f : Found} → f ≡ findServer t count name → endOf f ≤ length t
-  unfolding findServer
-  server-end name {f} e = first-end (servesAt t name) f (sym e)
-
--- Tables with the same private identities give one answer.
-pub private-alike : (x t : List ℕ) (count : ℕ) (name : List ℕ) → ((k : ℕ) → 1 ≤ k → k ≤ count → privateAt x k ≡ privateAt t k) → findPrivate x count name ≡ findPrivate t count name
-unfolding findPrivate privateIs
-private-alike x t count name h = first-same (privateIs x name) (privateIs t name) count 1 (λ j a b. ap (λ (l : List ℕ). same l name) (h j a (omega arith)))

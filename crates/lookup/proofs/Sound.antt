@@ -16,6 +16,7 @@ use Rattle.octets.proofs.All.{and-left, and-right, all-at}
 use Rattle.record.specs.HeaderBlock.{headerOf, soundHeader}
 use Rattle.record.specs.Networks.{placeAt, usedPlace, soundPlace, soundNetworks}
 use Rattle.record.specs.RecordBlock.{recordOf, soundRecord}
+use Rattle.record.proofs.Tests.{RecordTests, record-says, Limits, limits-say, HeaderTests, header-says}
 use Rattle.table.specs.Blocks.{blockOf, publicAt}
 use Rattle.table.specs.Check.{isLess, risesAt, soundAt, checkRecords, checkTable}
 use Rattle.table.specs.declared.Checked.the-variants.{Sound, Bad}
@@ -25,7 +26,6 @@ use Rattle.lookup.specs.Network.{Short}
 use Rattle.lookup.specs.SoundTable.{Ordered, SoundTable}
 use Rattle.lookup.specs.declared.Found.the-variants.{At, Nothing}
 use Rattle.lookup.proofs.Halves.{Only, found-only, only-found, found-no, no-found}
-use Rattle.lookup.proofs.Tests.{RecordTests, record-says, Limits, limits-say, HeaderTests, header-says}
 
 -- The check finds a table sound exactly if it says all that a sound table says.
 pub sound-says : (t : List ℕ) (file count : ℕ) → checkTable t file ≡ Sound count → SoundTable t file count

@@ -2,10 +2,9 @@
 use Prim.Native.Nat.{ℕ, zero, suc, _+_, _*_}
 use mathlib.Core.Bool.{Bool, true, false, _&&_, cond}
 use mathlib.Core.List.{List}
-use lib.ListN.{getD}
 use lib.Dec.{ltb}
 use Rattle.octets.specs.Name.{same}
-use Rattle.record.specs.Fields.{privateOf}
+use Rattle.record.specs.Fields.{privateOf, serverSize}
 use Rattle.table.specs.Blocks.{blockOf, publicAt, privateAt}
 use Rattle.lookup.specs.declared.Found.{Found}
 use Rattle.lookup.specs.declared.Found.the-variants.{At, Nothing}
@@ -40,7 +39,7 @@ findPrivate t count name = firstFrom (privateIs t name) count 1
 
 -- "the first server name in the subscription by table order": the first record that stores one
 unfoldable pub serverHere : List ℕ → List ℕ → Bool
-serverHere b name = ltb 0 (getD b 15 0) && same (privateOf b) name
+serverHere b name = ltb 0 (serverSize b) && same (privateOf b) name
 
 unfoldable pub servesAt : List ℕ → List ℕ → ℕ → Bool
 servesAt t name k = serverHere (blockOf t k) name

@@ -19,7 +19,7 @@ pub enum Found {
 }
 
 // Whether a record was found.
-pub fn is_at(f: Found) -> bool
+fn is_at(f: Found) -> bool
     ensures { λ r. ⌜ r ≡ isAt f ⌝ }
 {
     match f {
@@ -61,7 +61,7 @@ pub fn find_public(t: &[u8], count: usize, name: &[u8]) -> Found
 }
 
 // The first record with a private identity.
-pub fn find_private(t: &[u8], count: usize, name: &[u8]) -> Found
+fn find_private(t: &[u8], count: usize, name: &[u8]) -> Found
     requires { ⌜ (count ≤ 4096) × (length (now t) ≡ 512 * (count + 1)) ⌝ }
     ensures { λ r. ⌜ r ≡ findPrivate (now (t .entry)) count (now (name .entry)) ⌝ }
 {
@@ -96,7 +96,7 @@ pub fn known_near(t: &[u8], count: usize, k: u32, name: &[u8]) -> bool
 
 // Whether a record block belongs to a subscription and stores a server name. The private identity, further into the block, is read only where
 // there is one.
-pub fn serves(b: &[u8], name: &[u8]) -> bool
+fn serves(b: &[u8], name: &[u8]) -> bool
     requires { ⌜ length (now b) ≡ 512 ⌝ }
     ensures { λ r. ⌜ r ≡ serverHere (now (b .entry)) (now (name .entry)) ⌝ }
 {

@@ -13,13 +13,13 @@ use Rattle.octets.specs.Name.{same}
 use Rattle.octets.specs.Number.{be16At, be32At}
 use Rattle.octets.specs.Run.{zeroBetween}
 use Rattle.octets.specs.Sum.{sumWords}
+use Rattle.octets.proofs.Chains.{chain-says}
 use Rattle.octets.proofs.Runs.{zero-at}
-use Rattle.record.specs.HeaderBlock.{headerOf, soundTop, soundCounts, soundNumbers, soundRest, soundHeader}
+use Rattle.record.specs.HeaderBlock.{headerOf, soundCounts, soundNumbers, soundRest, soundHeader}
 use Rattle.record.specs.Networks.{soundNetworks}
-use Rattle.record.specs.Fields.{privateOf, serverOf, stateOf, barred, unregisteredServices}
+use Rattle.record.specs.Fields.{privateOf, serverOf, stateOf, soundHead, barred, unregisteredServices}
 use Rattle.table.specs.Blocks.{blockOf, privateAt}
 use Rattle.lookup.specs.Find.{isAt, publicIs, findPublic, findPrivate, findServer}
-use Rattle.lookup.proofs.Chains.{chain-says}
 use Rattle.lookup.proofs.First.{first-stands}
 use Rattle.lookup.proofs.Sound.{sound-header}
 use Rattle.lookup.specs.SoundTable.{SoundTable}
@@ -270,7 +270,7 @@ module _ (t file : List ℕ) (count : ℕ) (s : SoundTable t (length file) count
   header-empty =
       let b : List ℕ = blockOf t 0 in
       let two = chain-says (soundCounts (headerOf b)) (_ ∷ []) (s .header) in
-      let q = chain-says (eqb (sumWords b 128) 0) (soundTop b ∷ soundNumbers (headerOf b) ∷ soundRest b (headerOf b) ∷ soundNetworks b (headerOf b .networks) ∷ []) (two 1) in
+      let q = chain-says (eqb (sumWords b 128) 0) (soundHead b 1 0 ∷ soundNumbers (headerOf b) ∷ soundRest b (headerOf b) ∷ soundNetworks b (headerOf b .networks) ∷ []) (two 1) in
       let r = chain-says (zeroBetween b (16 + headerOf b .host) 80) (_ ∷ _ ∷ []) (q 3) in
       omega (arith, zero-at b 400 508 (r 2) 404 (omega arith) (omega arith), zero-at b 400 508 (r 2) 405 (omega arith) (omega arith))
 

@@ -1,6 +1,6 @@
 -- Laws of conjunctions, and of a test of every number below a bound.
 use Prim.Native.Nat.{ℕ, zero, suc, _+_, _<_, _≤_}
-use mathlib.Core.Bool.{Bool, true, false, _&&_, true≢false}
+use mathlib.Core.Bool.{Bool, true, false, _&&_, and-assoc, and-true, true≢false}
 use mathlib.Core.Path.{_≡_, refl, sym, _∙_}
 use native.Mathlib.Omega.{arith}
 use native.Mathlib.Numerals.{add-one}
@@ -43,12 +43,21 @@ unfolding allBelow
 all-true p zero h = refl
 all-true p (suc n) h = rw (all-true p n (λ i k. h i (omega arith)), h n (omega arith))
 
+-- Tests that agree below a bound.
+pub all-alike : (p q : ℕ → Bool) (n : ℕ) → ((i : ℕ) → i < n → p i ≡ q i) → allBelow p n ≡ allBelow q n
+unfolding allBelow
+all-alike p q zero h = refl
+all-alike p q (suc n) h = rw (all-alike p q n (λ i k. h i (omega arith)), h n (omega arith))
+
 -- A stretch after the first i of them: with it, and if it fails.
 module _ (p q : ℕ → Bool) (i : ℕ) (later : (j : ℕ) → q j ≡ p (i + j)) where
-  pub all-stretch : (k : ℕ) → true ≡ allBelow p i → allBelow q k ≡ allBelow p (i + k)
+  pub all-join : (k : ℕ) → allBelow p (i + k) ≡ (allBelow p i && allBelow q k)
   unfolding allBelow
-  all-stretch zero e = let n : i + 0 ≡ i = omega arith in rw n e
-  all-stretch (suc k) e = let n : i + suc k ≡ suc (i + k) = omega arith in rw (n, all-stretch k e, later k)
+  all-join zero = let n : i + 0 ≡ i = omega arith in rw (n, and-true)
+  all-join (suc k) = let n : i + suc k ≡ suc (i + k) = omega arith in rw (n, all-join k, later k, and-assoc)
+
+  pub all-stretch : (k : ℕ) → true ≡ allBelow p i → allBelow q k ≡ allBelow p (i + k)
+  all-stretch k e = rw (all-join k, ← e)
 
   pub all-failing : (k n : ℕ) → i + k ≤ n → allBelow q k ≡ false → allBelow p n ≡ false
   all-failing k n h e = go (allBelow p n) refl

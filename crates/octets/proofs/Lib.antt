@@ -1,7 +1,9 @@
 pub mod All
+pub mod Chains
 pub mod Names
 pub mod Numbers
 pub mod Orders
+pub mod Parts
 pub mod Runs
 pub mod Sums
 pub mod Turns

@@ -11,7 +11,6 @@ use lib.Seq.{ext-getD}
 use borrow.Author.Tests.{lt-ltb, le-ltb, ltb-true, ltb-false, eqb-true, eq-eqb, ne-eqb}
 use Rattle.octets.specs.All.{allBelow}
 use Rattle.octets.specs.Name.{orderOf, alikeAt, alikeFrom, same}
-use Rattle.octets.specs.declared.name.Order.{Order}
 use Rattle.octets.specs.declared.name.Order.the-variants.{Less, Equal, Greater}
 use Rattle.octets.proofs.All.{and-left, and-right, all-at, all-true, all-stretch, all-failing}
 
@@ -71,14 +70,8 @@ less-tail x y s t e h =
     let b : x ≤ y = omega arith in
     rw (le-ltb _ _ a, le-ltb _ _ b) h
 
-never : {A : Type 0} (o : Order) → o ≡ Less → o ≡ Greater → A
-never o a b = let z : _≡_ {A = ℕ} 0 1 = cc in absurd (omega arith)
-
-never2 : {A : Type 0} (o : Order) → o ≡ Less → o ≡ Equal → A
-never2 o a b = let z : _≡_ {A = ℕ} 0 1 = cc in absurd (omega arith)
-
-never3 : {A : Type 0} (o : Order) → o ≡ Greater → o ≡ Equal → A
-never3 o a b = let z : _≡_ {A = ℕ} 0 1 = cc in absurd (omega arith)
+never : {A : Type 0} → _≡_ {A = ℕ} 0 1 → A
+never e = absurd (omega arith)
 
 less-cases : (x y : ℕ) (s t : List ℕ) → orderOf (x ∷ s) (y ∷ t) ≡ Less → (x < y) ⊎ ((x ≡ y) × (orderOf s t ≡ Less))
 unfolding orderOf
@@ -86,7 +79,7 @@ less-cases x y s t h = go (ltb x y) (ltb y x) refl refl h
   where
     go : (a b : Bool) → ltb x y ≡ a → ltb y x ≡ b → cond a Less (cond b Greater (orderOf s t)) ≡ Less → (x < y) ⊎ ((x ≡ y) × (orderOf s t ≡ Less))
     go true b e f k = inl (ltb-true _ _ e)
-    go false true e f k = never Greater k refl
+    go false true e f k = never cc
     go false false e f k = inr (omega (arith, ltb-false x y e, ltb-false y x f), k)
 
 pub order-refl : (s : List ℕ) → orderOf s s ≡ Equal
@@ -97,13 +90,13 @@ order-refl (x ∷ s) = let a : x ≤ x = omega arith in rw (le-ltb x x a) (order
 pub order-eq : (s t : List ℕ) → orderOf s t ≡ Equal → s ≡ t
 unfolding orderOf
 order-eq [] [] e = refl
-order-eq [] (y ∷ t) e = never2 Less refl e
-order-eq (x ∷ s) [] e = never3 Greater refl e
+order-eq [] (y ∷ t) e = cc
+order-eq (x ∷ s) [] e = cc
 order-eq (x ∷ s) (y ∷ t) e = go (ltb x y) (ltb y x) refl refl e (order-eq s t)
   where
     go : (a b : Bool) → ltb x y ≡ a → ltb y x ≡ b → cond a Less (cond b Greater (orderOf s t)) ≡ Equal → (orderOf s t ≡ Equal → s ≡ t) → (x ∷ s) ≡ (y ∷ t)
-    go true b e f k i = never2 Less refl k
-    go false true e f k i = never3 Greater refl k
+    go true b e f k i = cc
+    go false true e f k i = cc
     go false false e f k i =
         let h : x ≡ y = omega (arith, ltb-false x y e, ltb-false y x f) in
         let r : s ≡ t = i k in
@@ -111,26 +104,28 @@ order-eq (x ∷ s) (y ∷ t) e = go (ltb x y) (ltb y x) refl refl e (order-eq s 
 
 pub order-flip : (s t : List ℕ) → orderOf s t ≡ Greater → orderOf t s ≡ Less
 unfolding orderOf
-order-flip [] [] e = never3 Equal e refl
-order-flip [] (y ∷ t) e = never Less refl e
+order-flip [] [] e = cc
+order-flip [] (y ∷ t) e = cc
 order-flip (x ∷ s) [] e = refl
 order-flip (x ∷ s) (y ∷ t) e = go (ltb x y) (ltb y x) refl refl e (order-flip s t)
   where
-    go : (a b : Bool) → ltb x y ≡ a → ltb y x ≡ b → cond a Less (cond b Greater (orderOf s t)) ≡ Greater → (orderOf s t ≡ Greater → orderOf t s ≡ Less) → orderOf (y ∷ t) (x ∷ s) ≡ Less
-    go true b e f k i = never Less refl k
+    go : (a b : Bool) → ltb x y ≡ a → ltb y x ≡ b → cond a Less (cond b Greater (orderOf s t)) ≡ Greater → (orderOf s t ≡ Greater → orderOf t s ≡ Less)
+        → orderOf (y ∷ t) (x ∷ s) ≡ Less
+    go true b e f k i = cc
     go false true e f k i = less-head y x t s (ltb-true _ _ f)
     go false false e f k i = less-tail y x t s (omega (arith, ltb-false x y e, ltb-false y x f)) (i k)
 
 pub order-trans : (s t u : List ℕ) → orderOf s t ≡ Less → orderOf t u ≡ Less → orderOf s u ≡ Less
 unfolding orderOf
-order-trans [] [] u e f = never2 Equal e refl
-order-trans [] (y ∷ t) [] e f = never Greater f refl
+order-trans [] [] u e f = cc
+order-trans [] (y ∷ t) [] e f = cc
 order-trans [] (y ∷ t) (z ∷ u) e f = refl
-order-trans (x ∷ s) [] u e f = never Greater e refl
-order-trans (x ∷ s) (y ∷ t) [] e f = never Greater f refl
+order-trans (x ∷ s) [] u e f = cc
+order-trans (x ∷ s) (y ∷ t) [] e f = cc
 order-trans (x ∷ s) (y ∷ t) (z ∷ u) e f = go (less-cases x y s t e) (less-cases y z t u f) (order-trans s t u)
   where
-    go : (x < y) ⊎ ((x ≡ y) × (orderOf s t ≡ Less)) → (y < z) ⊎ ((y ≡ z) × (orderOf t u ≡ Less)) → (orderOf s t ≡ Less → orderOf t u ≡ Less → orderOf s u ≡ Less) → orderOf (x ∷ s) (z ∷ u) ≡ Less
+    go : (x < y) ⊎ ((x ≡ y) × (orderOf s t ≡ Less)) → (y < z) ⊎ ((y ≡ z) × (orderOf t u ≡ Less))
+        → (orderOf s t ≡ Less → orderOf t u ≡ Less → orderOf s u ≡ Less) → orderOf (x ∷ s) (z ∷ u) ≡ Less
     go (inl a) (inl b) i = less-head x z s u (omega arith)
     go (inl a) (inr b) i = less-head x z s u (omega (arith, b .0))
     go (inr a) (inl b) i = less-head x z s u (omega (arith, a .0))
@@ -138,4 +133,4 @@ order-trans (x ∷ s) (y ∷ t) (z ∷ u) e f = go (less-cases x y s t e) (less-
 
 -- A name that comes before or after another is another.
 pub less-differs : (s t : List ℕ) → orderOf s t ≡ Less → s ≡ t → ⊥
-less-differs s t e f = never2 (orderOf s t) e (rw f (order-refl t))
+less-differs s t e f = let g : orderOf s t ≡ Equal = rw f (order-refl t) in never cc

@@ -1,74 +1,99 @@
 -- Laws of numbers in bytes: in a part of a list, past a store, and read back.
-use Prim.Native.Nat.{ℕ, _+_, _/_, _%_, _^_, _<_, _≤_}
-use mathlib.Core.Path.{_≡_, _∙_}
-use mathlib.Core.Logic.{_≢_}
-use mathlib.Core.List.{List}
+use Prim.Native.Nat.{ℕ, zero, suc, _+_, _*_, _/_, _%_, _^_, _<_, _≤_}
+use mathlib.Core.Path.{_≡_, refl, sym, ap, _∙_}
+use mathlib.Core.List.{List, [], _∷_}
 use native.Mathlib.Omega.{arith}
-use native.Mathlib.Nat.{mod-eq-of-lt, add-assoc}
+use native.Mathlib.Nat.{mod-eq-of-lt, add-assoc, add-zero, zero-add}
 use lib.Pow.{shr-shr}
-use lib.ListN.{length, getD, set, take, drop, length-set}
-use lib.Seq.{getD-set-same, getD-set-other, getD-drop, getD-take}
-use Rattle.octets.specs.Number.{four, be16At, be24At, be32At, putBe32}
+use lib.ListN.{length, getD, set, take, drop}
+use lib.Seq.{getD-set-other, getD-drop, getD-take}
+use Rattle.octets.specs.Number.{be16At, be24At, be32At, putBe24, putBe32}
+use Rattle.octets.specs.Run.{putName}
+use Rattle.octets.proofs.Runs.{name-here}
+
+-- The number that n bytes make, the first the highest: what holds of every width is proved of it.
+abbrev beAt : ℕ → List ℕ → ℕ → ℕ
+beAt zero s at = 0
+beAt (suc n) s at = beAt n s at * 256 + getD s (at + n) 0
+
+be-alike : (n : ℕ) (x y : List ℕ) (a b : ℕ) → ((j : ℕ) → j < n → getD x (a + j) 0 ≡ getD y (b + j) 0) → beAt n x a ≡ beAt n y b
+be-alike zero x y a b h = refl
+be-alike (suc n) x y a b h = rw (be-alike n x y a b (λ j l. h j (omega arith)), h n (omega arith))
+
+be16-is : (s : List ℕ) (at : ℕ) → be16At s at ≡ beAt 2 s at
+unfolding be16At
+be16-is s at = rw add-zero (omega arith)
+
+be24-is : (s : List ℕ) (at : ℕ) → be24At s at ≡ beAt 3 s at
+unfolding be24At
+be24-is s at = rw add-zero (omega arith)
+
+be32-is : (s : List ℕ) (at : ℕ) → be32At s at ≡ beAt 4 s at
+unfolding be32At
+be32-is s at = rw add-zero (omega arith)
+
+-- Where the bytes are alike, so are the numbers.
+module _ (x y : List ℕ) (a b : ℕ) where
+  pub be16-alike : ((j : ℕ) → j < 2 → getD x (a + j) 0 ≡ getD y (b + j) 0) → be16At x a ≡ be16At y b
+  be16-alike h = be16-is x a ∙ be-alike 2 x y a b h ∙ sym (be16-is y b)
+
+  pub be24-alike : ((j : ℕ) → j < 3 → getD x (a + j) 0 ≡ getD y (b + j) 0) → be24At x a ≡ be24At y b
+  be24-alike h = be24-is x a ∙ be-alike 3 x y a b h ∙ sym (be24-is y b)
+
+  pub be32-alike : ((j : ℕ) → j < 4 → getD x (a + j) 0 ≡ getD y (b + j) 0) → be32At x a ≡ be32At y b
+  be32-alike h = be32-is x a ∙ be-alike 4 x y a b h ∙ sym (be32-is y b)
 
 -- A number of a part is a number of the whole.
 pub be24-drop : (s : List ℕ) (at i : ℕ) → be24At (drop at s) i ≡ be24At s (at + i)
-unfolding be24At
-be24-drop s at i = simp (getD-drop, add-assoc)
+be24-drop s at i = be24-alike (drop at s) s i (at + i) (λ j l. rw (getD-drop, add-assoc))
 
 pub be32-drop : (s : List ℕ) (at i : ℕ) → be32At (drop at s) i ≡ be32At s (at + i)
-unfolding be32At
-be32-drop s at i = simp (getD-drop, add-assoc)
+be32-drop s at i = be32-alike (drop at s) s i (at + i) (λ j l. rw (getD-drop, add-assoc))
 
 pub be24-take : (s : List ℕ) (n i : ℕ) → i + 3 ≤ n → be24At (take n s) i ≡ be24At s i
-unfolding be24At
-be24-take s n i h =
-    let a : i < n = omega arith in
-    let b : i + 1 < n = omega arith in
-    let c : i + 2 < n = omega arith in
-    simp getD-take
+be24-take s n i h = be24-alike (take n s) s i i (λ j l. getD-take n s (i + j) 0 (omega arith))
 
 pub be32-take : (s : List ℕ) (n i : ℕ) → i + 4 ≤ n → be32At (take n s) i ≡ be32At s i
-unfolding be32At
-be32-take s n i h =
-    let a : i < n = omega arith in
-    let b : i + 1 < n = omega arith in
-    let c : i + 2 < n = omega arith in
-    let d : i + 3 < n = omega arith in
-    simp getD-take
+be32-take s n i h = be32-alike (take n s) s i i (λ j l. getD-take n s (i + j) 0 (omega arith))
 
 -- A store past a word leaves the word.
 pub word-set : (s : List ℕ) (i v at : ℕ) → at + 4 ≤ i → be32At (set s i v) at ≡ be32At s at
-unfolding be32At
-word-set s i v at h =
-    let a : at ≢ i = omega arith in
-    let b : at + 1 ≢ i = omega arith in
-    let c : at + 2 ≢ i = omega arith in
-    let d : at + 3 ≢ i = omega arith in
-    simp getD-set-other
+word-set s i v at h = be32-alike (set s i v) s at at (λ j l. getD-set-other s i (at + j) v 0 (omega arith))
 
--- Four bytes that are put are the number that they make.
-word-sets : (s : List ℕ) (at a b c d : ℕ) → at + 4 ≤ length s → be32At (set (set (set (set s at a) (at + 1) b) (at + 2) c) (at + 3) d) at ≡ four a b c d
-unfolding be32At
-word-sets s at a b c d h =
-    let n01 : at ≢ at + 1 = omega arith in
-    let n02 : at ≢ at + 2 = omega arith in
-    let n03 : at ≢ at + 3 = omega arith in
-    let n12 : at + 1 ≢ at + 2 = omega arith in
-    let n13 : at + 1 ≢ at + 3 = omega arith in
-    let n23 : at + 2 ≢ at + 3 = omega arith in
-    let l0 : at < length s = omega arith in
-    let l1 : at + 1 < length (set s at a) = simp length-set (omega arith) in
-    let l2 : at + 2 < length (set (set s at a) (at + 1) b) = simp length-set (omega arith) in
-    let l3 : at + 3 < length (set (set (set s at a) (at + 1) b) (at + 2) c) = simp length-set (omega arith) in
-    simp (getD-set-same, getD-set-other)
+-- A number that is put is the name of its bytes that is put.
+abbrev pub bytes24 : ℕ → List ℕ
+bytes24 w = w / 65536 % 256 ∷ w / 256 % 256 ∷ w % 256 ∷ []
 
--- A number below 2^32 is the word of its digits; below 2^24, of three.
-pub digits : (w : ℕ) → w < 2 ^ 32 → four (w / 16777216 % 256) (w / 65536 % 256) (w / 256 % 256) (w % 256) ≡ w
-digits w h =
+abbrev pub bytes32 : ℕ → List ℕ
+bytes32 w = w / 16777216 % 256 ∷ bytes24 w
+
+pub put24-name : (s : List ℕ) (at w : ℕ) → putBe24 s at w ≡ putName s at (bytes24 w) 3
+unfolding putBe24 putName
+put24-name s at w = rw add-zero
+
+pub put32-name : (s : List ℕ) (at w : ℕ) → putBe32 s at w ≡ putName s at (bytes32 w) 4
+unfolding putBe32 putName
+put32-name s at w = rw add-zero
+
+put-at : (s : List ℕ) (at : ℕ) (name : List ℕ) (n : ℕ) → at + n ≤ length s → (j : ℕ) → j < n → getD (putName s at name n) (at + j) 0 ≡ getD name (0 + j) 0
+put-at s at name n h j l = name-here s at name n j h l ∙ ap (λ (k : ℕ). getD name k 0) (sym (zero-add j))
+
+-- A number below 2^24 is what its three bytes make; below 2^32, its four.
+made24 : (w : ℕ) → w < 16777216 → be24At (bytes24 w) 0 ≡ w
+unfolding be24At
+made24 w h = omega arith
+
+made32 : (w : ℕ) → w < 2 ^ 32 → be32At (bytes32 w) 0 ≡ w
+unfolding be32At
+made32 w h =
     let q : w / 16777216 < 256 = omega arith in
     omega (arith, shr-shr w 8 8, shr-shr w 16 8, mod-eq-of-lt q)
 
--- A word that is put stands there.
+-- A number that is put stands there.
+pub field-put : (s : List ℕ) (at w : ℕ) → at + 3 ≤ length s → w < 16777216 → be24At (putBe24 s at w) at ≡ w
+field-put s at w h k =
+    ap (λ (l : List ℕ). be24At l at) (put24-name s at w) ∙ be24-alike (putName s at (bytes24 w) 3) (bytes24 w) at 0 (put-at s at (bytes24 w) 3 h) ∙ made24 w k
+
 pub word-put : (s : List ℕ) (at w : ℕ) → at + 4 ≤ length s → w < 2 ^ 32 → be32At (putBe32 s at w) at ≡ w
-unfolding putBe32
-word-put s at w h k = word-sets s at _ _ _ _ h ∙ digits w k
+word-put s at w h k =
+    ap (λ (l : List ℕ). be32At l at) (put32-name s at w) ∙ be32-alike (putName s at (bytes32 w) 4) (bytes32 w) at 0 (put-at s at (bytes32 w) 4 h) ∙ made32 w k

@@ -1,24 +1,27 @@
 -- Laws of zero runs, of the tail of a field, and of a name put into its field.
 use Prim.Native.Nat.{ℕ, zero, suc, _+_, _-_, _<_, _≤_, min, max}
-use mathlib.Core.Bool.{Bool, true, false, _&&_, and-assoc, and-true}
-use mathlib.Core.Path.{_≡_, refl, sym, ap, _∙_}
+use mathlib.Core.Bool.{Bool, true, false, _&&_, and-true}
+use mathlib.Core.Path.{_≡_, refl, sym, _∙_, ap}
+use mathlib.Core.Logic.{_≢_}
 use mathlib.Core.List.{List, []}
 use native.Mathlib.Omega.{arith}
 use native.Mathlib.Numerals.{add-one}
 use lib.Bits.{bitOr, or-add-and, and-le-l, and-le-r, or-zero-l}
 use lib.Dec.{eqb, ltb}
 use lib.ListN.{length, getD, set, length-set, List·getD-eq-default}
+use lib.Seq.{getD-set-same, getD-set-other}
 use borrow.Author.Tests.{eq-eqb, ne-eqb, eqb-true, eqb-false, ltb-true, ltb-false}
+use Rattle.octets.specs.All.{allBelow}
 use Rattle.octets.specs.Run.{zeros, zeroBetween, putName}
-use Rattle.octets.proofs.All.{and-left, and-right}
+use Rattle.octets.proofs.All.{all-at, all-true, all-alike, all-join}
 
 -- The turns of the loop that looks for zeros.
 pub zeros-none : (s : List ℕ) (from : ℕ) → true ≡ zeros s from (from - from)
-unfolding zeros
+unfolding zeros allBelow
 zeros-none s from = let n : from - from ≡ 0 = omega arith in rw n
 
 pub zeros-more : (s : List ℕ) (from i : ℕ) {good : Bool} → from ≤ i → good ≡ zeros s from (i - from) → (good && eqb (getD s i 0) 0) ≡ zeros s from (i + 1 - from)
-unfolding zeros
+unfolding zeros allBelow
 zeros-more s from i h e =
     let n : i + 1 - from ≡ suc (i - from) = omega arith in
     let k : from + (i - from) ≡ i = omega arith in
@@ -29,20 +32,11 @@ unfolding zeroBetween
 zeros-all s from to i a b h e = let n : i - from ≡ to - from = omega arith in rw (← n) e
 
 -- Two runs of zeros, one after the other, are one.
-zeros-join : (s : List ℕ) (at m n : ℕ) → zeros s at (m + n) ≡ (zeros s at m && zeros s (at + m) n)
-unfolding zeros
-zeros-join s at m zero = let e : m + 0 ≡ m = omega arith in rw (e, and-true)
-zeros-join s at m (suc n) =
-    let e : m + suc n ≡ suc (m + n) = omega arith in
-    let f : at + (m + n) ≡ at + m + n = omega arith in
-    rw (e, f, zeros-join s at m n, and-assoc)
-
 pub zero-join : (s : List ℕ) (from middle to : ℕ) → from ≤ middle → middle ≤ to → (zeroBetween s from middle && zeroBetween s middle to) ≡ zeroBetween s from to
-unfolding zeroBetween
+unfolding zeroBetween zeros
 zero-join s from middle to a b =
     let e : to - from ≡ middle - from + (to - middle) = omega arith in
-    let f : from + (middle - from) ≡ middle = omega arith in
-    rw (e, zeros-join s from (middle - from) (to - middle), f)
+    sym (ap (allBelow _) e ∙ all-join _ _ (middle - from) (λ j. let f : from + (middle - from + j) ≡ middle + j = omega arith in rw f) (to - middle))
 
 -- A field in two parts: its first n bytes end in the first part, or they go on in the second.
 module _ (s : List ℕ) (at n k to : ℕ) where
@@ -72,7 +66,7 @@ min-zero x y h = go (eqb x 0) refl
     go false e = ne-eqb (min x y) 0 (λ z. eqb-false x 0 e (omega arith))
 
 pub tail-none : (s : List ℕ) (at n : ℕ) → eqb 0 0 ≡ zeros s (at + n) (at + 0 - (at + n))
-unfolding zeros
+unfolding zeros allBelow
 tail-none s at n = let e : at + 0 - (at + n) ≡ 0 = omega arith in rw e
 
 pub tail-more : (s : List ℕ) (at n i left : ℕ) {x y : ℕ} → eqb left 0 ≡ zeros s (at + n) (at + i - (at + n)) → y ≡ i + 1 - n → x ≡ min (getD s (at + i) 0) y
@@ -90,7 +84,8 @@ tail-more s at n i left {x} {y} e ey ex = go (ltb i n) refl
         let k : at + (i + 1) ≡ at + i + 1 = omega arith in
         rw (or-zero left x, ex, min-zero (getD s (at + i) 0) y (omega arith), k) (zeros-more s (at + n) (at + i) (omega arith) e)
 
-pub tail-all : (s : List ℕ) (at n i to left : ℕ) → at ≤ to → i ≤ to - at → to - at ≤ i → eqb left 0 ≡ zeros s (at + n) (at + i - (at + n)) → eqb left 0 ≡ zeroBetween s (at + n) to
+pub tail-all : (s : List ℕ) (at n i to left : ℕ) → at ≤ to → i ≤ to - at → to - at ≤ i → eqb left 0 ≡ zeros s (at + n) (at + i - (at + n))
+    → eqb left 0 ≡ zeroBetween s (at + n) to
 unfolding zeroBetween
 tail-all s at n i to left h a b e = let k : at + i ≡ to = omega arith in rw (← k) e
 
@@ -125,28 +120,46 @@ name-whole s at name n h e f =
     let k : length name + (n - length name) ≡ n = omega arith in
     f ∙ rw e (name-then s at name (length name) (n - length name) (omega arith) ∙ ap (putName s at name) k)
 
-pub name-length : (s : List ℕ) (at : ℕ) (name : List ℕ) (n : ℕ) → length (putName s at name n) ≡ length s
-unfolding putName
-name-length s at name zero = refl
-name-length s at name (suc n) = simp (length-set, name-length s at name n)
+-- A byte of a zero run is zero, and the other way round.
+module _ (s : List ℕ) (from to : ℕ) where
+  pub zero-at : zeroBetween s from to ≡ true → (i : ℕ) → from ≤ i → i < to → getD s i 0 ≡ 0
+  unfolding zeroBetween zeros
+  zero-at e i a b =
+      let k : from + (i - from) ≡ i = omega arith in
+      rw k at (eqb-true (getD s (from + (i - from)) 0) 0 (all-at _ (to - from) e (i - from) (omega arith)))
 
-pub name-lengthd : (s : List ℕ) (at : ℕ) (name : List ℕ) (n : ℕ) {x : List ℕ} → x ≡ putName s at name n → length x ≡ length s
-name-lengthd s at name n e = ap length e ∙ name-length s at name n
+  pub at-zero : ((i : ℕ) → from ≤ i → i < to → getD s i 0 ≡ 0) → zeroBetween s from to ≡ true
+  unfolding zeroBetween zeros
+  at-zero h = all-true _ (to - from) (λ i l. eq-eqb _ _ (h (from + i) (omega arith) (omega arith)))
 
--- A byte of a zero run is zero.
-zeros-at : (s : List ℕ) (at n i : ℕ) → zeros s at n ≡ true → i < n → getD s (at + i) 0 ≡ 0
-unfolding zeros
-zeros-at s at zero i e h = absurd (omega arith)
-zeros-at s at (suc n) i e h = go (ltb i n) refl (zeros-at s at n i (and-left (zeros s at n) (eqb (getD s (at + n) 0) 0) e))
-  where
-    go : (x : Bool) → ltb i n ≡ x → (i < n → getD s (at + i) 0 ≡ 0) → getD s (at + i) 0 ≡ 0
-    go true f r = r (ltb-true i n f)
-    go false f r =
-        let k : i ≡ n = omega (arith, ltb-false i n f) in
-        rw k (eqb-true (getD s (at + n) 0) 0 (and-right (zeros s at n) (eqb (getD s (at + n) 0) 0) e))
+pub zero-alike : (x y : List ℕ) (from to : ℕ) → ((i : ℕ) → from ≤ i → i < to → getD x i 0 ≡ getD y i 0) → zeroBetween x from to ≡ zeroBetween y from to
+unfolding zeroBetween zeros
+zero-alike x y from to h = all-alike _ _ (to - from) (λ i l. rw (h (from + i) (omega arith) (omega arith)))
 
-pub zero-at : (s : List ℕ) (from to : ℕ) → zeroBetween s from to ≡ true → (i : ℕ) → from ≤ i → i < to → getD s i 0 ≡ 0
-unfolding zeroBetween
-zero-at s from to e i a b =
-    let k : from + (i - from) ≡ i = omega arith in
-    rw k at (zeros-at s from (to - from) (i - from) e (omega arith))
+-- A name that is put into its field.
+module _ (s : List ℕ) (at : ℕ) (name : List ℕ) where
+  pub name-length : (n : ℕ) → length (putName s at name n) ≡ length s
+  unfolding putName
+  name-length zero = refl
+  name-length (suc n) = simp length-set (name-length n)
+
+  pub name-apart : (n i : ℕ) → ((j : ℕ) → j < n → i ≢ at + j) → getD (putName s at name n) i 0 ≡ getD s i 0
+  unfolding putName
+  name-apart zero i h = refl
+  name-apart (suc n) i h = rw (getD-set-other (putName s at name n) (at + n) i (getD name n 0) 0 (h n (omega arith))) (name-apart n i (λ j k. h j (omega arith)))
+
+  pub name-here : (n j : ℕ) → at + n ≤ length s → j < n → getD (putName s at name n) (at + j) 0 ≡ getD name j 0
+  unfolding putName
+  name-here zero j l h = absurd (omega arith)
+  name-here (suc n) j l h = go (eqb j n) refl (name-here n j (omega arith))
+    where
+      go : (x : Bool) → eqb j n ≡ x → (j < n → getD (putName s at name n) (at + j) 0 ≡ getD name j 0)
+          → getD (set (putName s at name n) (at + n) (getD name n 0)) (at + j) 0 ≡ getD name j 0
+      go true e r =
+          let q : j ≡ n = eqb-true j n e in
+          let m : at + n < length (putName s at name n) = rw name-length (omega arith) in
+          rw (q, getD-set-same (putName s at name n) (at + n) (getD name n 0) 0 m)
+      go false e r =
+          let q : j ≢ n = eqb-false j n e in
+          let k : at + j ≢ at + n = omega arith in
+          rw (getD-set-other (putName s at name n) (at + n) (at + j) (getD name n 0) 0 k) (r (omega arith))

@@ -6,10 +6,10 @@ use native.Mathlib.Omega.{arith}
 use native.Mathlib.Nat.{mod-lt, mod-add-mod, add-mod-mod}
 use native.Mathlib.Numerals.{add-one}
 use lib.Dec.{lit<}
-use lib.ListN.{set}
+use lib.ListN.{getD, set}
 use Rattle.octets.specs.Number.{be32At, putBe32}
 use Rattle.octets.specs.Sum.{sumWords}
-use Rattle.octets.proofs.Numbers.{word-set}
+use Rattle.octets.proofs.Numbers.{be32-alike, word-set}
 
 pub sum-lt : (s : List ℕ) (n : ℕ) → sumWords s n < 2 ^ 32
 unfolding sumWords
@@ -26,6 +26,11 @@ pub sum-put : (s : List ℕ) (at w n : ℕ) → 4 * n ≤ at → sumWords (putBe
 unfolding putBe32
 sum-put s at w n h = rw (sum-set _ (at + 3) _ n (omega arith), sum-set _ (at + 2) _ n (omega arith), sum-set _ (at + 1) _ n (omega arith), sum-set s at _ n h)
 
+pub sum-alike : (x y : List ℕ) (n : ℕ) → ((i : ℕ) → i < 4 * n → getD x i 0 ≡ getD y i 0) → sumWords x n ≡ sumWords y n
+unfolding sumWords
+sum-alike x y zero h = refl
+sum-alike x y (suc n) h = rw (sum-alike x y n (λ i k. h i (omega arith)), be32-alike x y (4 * n) (4 * n) (λ j l. h (4 * n + j) (omega arith)))
+
 -- Four sums side by side.
 wrap-fours : (a b c d x y z w : ℕ)
     → (((a + x) % 2 ^ 32 + (b + y) % 2 ^ 32) % 2 ^ 32 + ((c + z) % 2 ^ 32 + (d + w) % 2 ^ 32) % 2 ^ 32) % 2 ^ 32
@@ -39,7 +44,8 @@ unfolding sumWords
 fours-none s = refl
 
 pub fours-more : (s : List ℕ) (i a b c d x y : ℕ) {a' b' c' d' : ℕ} → ((a + b) % 2 ^ 32 + (c + d) % 2 ^ 32) % 2 ^ 32 ≡ sumWords s (4 * i)
-    → (x / 4294967296 ≡ be32At s (16 * i)) × (x % 4294967296 ≡ be32At s (16 * i + 4)) → (y / 4294967296 ≡ be32At s (16 * i + 8)) × (y % 4294967296 ≡ be32At s (16 * i + 8 + 4))
+    → (x / 4294967296 ≡ be32At s (16 * i)) × (x % 4294967296 ≡ be32At s (16 * i + 4))
+    → (y / 4294967296 ≡ be32At s (16 * i + 8)) × (y % 4294967296 ≡ be32At s (16 * i + 8 + 4))
     → a' ≡ (a + x / 4294967296) % 2 ^ 32 → b' ≡ (b + x % 4294967296) % 2 ^ 32 → c' ≡ (c + y / 4294967296) % 2 ^ 32 → d' ≡ (d + y % 4294967296) % 2 ^ 32
     → ((a' + b') % 2 ^ 32 + (c' + d') % 2 ^ 32) % 2 ^ 32 ≡ sumWords s (4 * (i + 1))
 unfolding sumWords

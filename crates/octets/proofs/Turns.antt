@@ -2,49 +2,61 @@
 use Prim.Native.Nat.{ℕ, _+_, _*_, _/_, _%_, _<_}
 use mathlib.Core.Path.{_≡_, _∙_}
 use native.Mathlib.Omega.{arith}
-use native.Mathlib.Nat.{add-mul-div-right, div-eq-of-lt, add-mul-mod-self-right, mod-eq-of-lt, zero-add}
 use mathlib.Core.List.{List}
-use lib.Dec.{lit<}
+use lib.Arith.{digits-div, digits-mod}
 use lib.ListN.{getD}
 use Rattle.octets.specs.Number.{four, eight, turnedOf, be32At}
 
 -- The parts of a number whose low part is below p.
-quotient : (x p low high : ℕ) → 0 < p → low < p → x ≡ low + high * p → x / p ≡ high
-quotient x p low high h l e = rw (e, add-mul-div-right low high h, div-eq-of-lt l, zero-add)
+quotient : (x p low high : ℕ) → low < p → x ≡ high * p + low → x / p ≡ high
+quotient x p low high l e = rw e (digits-div high l)
 
-remainder : (x p low high : ℕ) → low < p → x ≡ low + high * p → x % p ≡ low
-remainder x p low high l e = rw (e, add-mul-mod-self-right low high p, mod-eq-of-lt l)
+remainder : (x p low high : ℕ) → low < p → x ≡ high * p + low → x % p ≡ low
+remainder x p low high l e = rw e (digits-mod high l)
 
-digit : (x p low d high : ℕ) → 0 < p → low < p → d < 256 → x ≡ low + (d + high * 256) * p → x / p % 256 ≡ d
-digit x p low d high h l k e = rw (quotient x p low (d + high * 256) h l e, add-mul-mod-self-right d high 256, mod-eq-of-lt k)
+digit : (x p low d high : ℕ) → low < p → d < 256 → x ≡ (high * 256 + d) * p + low → x / p % 256 ≡ d
+digit x p low d high l k e = rw (quotient x p low (high * 256 + d) l e) (digits-mod high k)
 
 four-lt : (a b c d : ℕ) → a < 256 → b < 256 → c < 256 → d < 256 → four a b c d < 4294967296
 four-lt a b c d a₁ b₁ c₁ d₁ = omega arith
 
-eight-halves : (a b c d e f g h : ℕ) → eight h g f e d c b a ≡ four e f g h + four a b c d * 4294967296
+eight-halves : (a b c d e f g h : ℕ) → eight h g f e d c b a ≡ four a b c d * 4294967296 + four e f g h
 eight-halves a b c d e f g h = omega arith
 
-module _ (a b c d e f g h : ℕ) (a₁ : a < 256) (b₁ : b < 256) (c₁ : c < 256) (d₁ : d < 256) (e₁ : e < 256) (f₁ : f < 256) (g₁ : g < 256) (h₁ : h < 256) (x : ℕ) (is : x ≡ eight a b c d e f g h) where
+module _ (a b c d e f g h : ℕ) (a₁ : a < 256) (b₁ : b < 256) (c₁ : c < 256) (d₁ : d < 256) (e₁ : e < 256) (f₁ : f < 256) (g₁ : g < 256) (h₁ : h < 256)
+    (x : ℕ) (is : x ≡ eight a b c d e f g h) where
   turned-eight : turnedOf x ≡ eight h g f e d c b a
   turned-eight =
-      let h₂ : x / 72057594037927936 ≡ h = quotient x 72057594037927936 (a + b * 256 + c * 65536 + d * 16777216 + e * 4294967296 + f * 1099511627776 + g * 281474976710656) h (lit< tt) (omega arith) (omega arith) in
-      let g₂ : x / 281474976710656 % 256 ≡ g = digit x 281474976710656 (a + b * 256 + c * 65536 + d * 16777216 + e * 4294967296 + f * 1099511627776) g h (lit< tt) (omega arith) g₁ (omega arith) in
-      let f₂ : x / 1099511627776 % 256 ≡ f = digit x 1099511627776 (a + b * 256 + c * 65536 + d * 16777216 + e * 4294967296) f (g + h * 256) (lit< tt) (omega arith) f₁ (omega arith) in
-      let e₂ : x / 4294967296 % 256 ≡ e = digit x 4294967296 (a + b * 256 + c * 65536 + d * 16777216) e (f + g * 256 + h * 65536) (lit< tt) (omega arith) e₁ (omega arith) in
-      let d₂ : x / 16777216 % 256 ≡ d = digit x 16777216 (a + b * 256 + c * 65536) d (e + f * 256 + g * 65536 + h * 16777216) (lit< tt) (omega arith) d₁ (omega arith) in
-      let c₂ : x / 65536 % 256 ≡ c = digit x 65536 (a + b * 256) c (d + e * 256 + f * 65536 + g * 16777216 + h * 4294967296) (lit< tt) (omega arith) c₁ (omega arith) in
-      let b₂ : x / 256 % 256 ≡ b = digit x 256 a b (c + d * 256 + e * 65536 + f * 16777216 + g * 4294967296 + h * 1099511627776) (lit< tt) (omega arith) b₁ (omega arith) in
-      let a₂ : x % 256 ≡ a = remainder x 256 a (b + c * 256 + d * 65536 + e * 16777216 + f * 4294967296 + g * 1099511627776 + h * 281474976710656) a₁ (omega arith) in
+      let low2 : ℕ = a + b * 256 in
+      let low3 : ℕ = low2 + c * 65536 in
+      let low4 : ℕ = low3 + d * 16777216 in
+      let low5 : ℕ = low4 + e * 4294967296 in
+      let low6 : ℕ = low5 + f * 1099511627776 in
+      let low7 : ℕ = low6 + g * 281474976710656 in
+      let high7 : ℕ = h * 256 + g in
+      let high6 : ℕ = high7 * 256 + f in
+      let high5 : ℕ = high6 * 256 + e in
+      let high4 : ℕ = high5 * 256 + d in
+      let high3 : ℕ = high4 * 256 + c in
+      let high2 : ℕ = high3 * 256 + b in
+      let h₂ : x / 72057594037927936 ≡ h = quotient x 72057594037927936 low7 h (omega arith) (omega arith) in
+      let g₂ : x / 281474976710656 % 256 ≡ g = digit x 281474976710656 low6 g h (omega arith) g₁ (omega arith) in
+      let f₂ : x / 1099511627776 % 256 ≡ f = digit x 1099511627776 low5 f high7 (omega arith) f₁ (omega arith) in
+      let e₂ : x / 4294967296 % 256 ≡ e = digit x 4294967296 low4 e high6 (omega arith) e₁ (omega arith) in
+      let d₂ : x / 16777216 % 256 ≡ d = digit x 16777216 low3 d high5 (omega arith) d₁ (omega arith) in
+      let c₂ : x / 65536 % 256 ≡ c = digit x 65536 low2 c high4 (omega arith) c₁ (omega arith) in
+      let b₂ : x / 256 % 256 ≡ b = digit x 256 a b high3 (omega arith) b₁ (omega arith) in
+      let a₂ : x % 256 ≡ a = remainder x 256 a high2 a₁ (omega arith) in
       rw (a₂, b₂, c₂, d₂, e₂, f₂, g₂, h₂)
 
   -- The two words are the halves of the number that was turned.
   module _ (y : ℕ) (turn : y ≡ turnedOf x) where
-    halves : y ≡ four e f g h + four a b c d * 4294967296
+    halves : y ≡ four a b c d * 4294967296 + four e f g h
     halves = turn ∙ turned-eight ∙ eight-halves a b c d e f g h
 
     pub turned-words : (y / 4294967296 ≡ four a b c d) × (y % 4294967296 ≡ four e f g h)
     turned-words = (
-      quotient y 4294967296 (four e f g h) (four a b c d) (lit< tt) (four-lt e f g h e₁ f₁ g₁ h₁) halves,
+      quotient y 4294967296 (four e f g h) (four a b c d) (four-lt e f g h e₁ f₁ g₁ h₁) halves,
       remainder y 4294967296 (four e f g h) (four a b c d) (four-lt e f g h e₁ f₁ g₁ h₁) halves,
     )
 

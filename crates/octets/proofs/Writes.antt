@@ -1,11 +1,11 @@
 -- The laws of `over`: a buffer that bytes were written over.
-use Prim.Native.Nat.{ℕ, zero, suc, _+_, _-_, _≤_, _<_}
-use native.Mathlib.Nat.{zero-add, add-zero}
+use Prim.Native.Nat.{ℕ, suc, _+_, _-_, _≤_, _<_}
+use native.Mathlib.Nat.{zero-add}
 use native.Mathlib.Numerals.{add-one}
 use native.Mathlib.Omega.{arith}
-use mathlib.Core.Path.{_≡_, refl, sym, ap, _∙_, subst}
+use mathlib.Core.Path.{_≡_, refl, sym, ap, _∙_}
 use mathlib.Core.List.{List, [], _∷_, _++_, append-assoc, append-nil}
-use lib.ListN.{length, take, drop, getD, set, replicate, length-append, length-drop, length-replicate, drop-of-length-le}
+use lib.ListN.{length, take, drop, getD, set, replicate, length-append, length-drop, length-replicate, replicate-append-replicate, drop-of-length-le}
 use borrow.Rule.Slice.PartMut.{midOf, putMid}
 use lib.Seq.{take-all, take-at, drop-at, set-at, drop-cons, drop-drop, take-suc, length-take-le, sets, sets-eq}
 use Rattle.octets.specs.Run.{over, Wrote}
@@ -39,10 +39,6 @@ over-copied s b i h r e =
 pub over-all-taken : (s b : List ℕ) (i : ℕ) {x : List ℕ} → length s ≤ i → x ≡ over (take i s) b → Wrote s b x (length s)
 over-all-taken s b i h e = record { count = refl; bytes = e ∙ rw (take-all i s h) }
 
-replicate-snoc : (n x : ℕ) → replicate n x ++ (x ∷ []) ≡ replicate (suc n) x
-replicate-snoc zero x = refl
-replicate-snoc (suc n) x = ap (x ∷_) (replicate-snoc n x)
-
 -- The turns of the loop that fills.
 pub over-none-filled : (x : ℕ) (b : List ℕ) → b ≡ over (replicate 0 x) b
 unfolding over
@@ -52,7 +48,7 @@ pub over-filled : (b : List ℕ) (i n x : ℕ) {y : List ℕ} → i < n → n �
 over-filled b i n x h r e =
     rw e
     (over-snoc (replicate i x) b i x (length-replicate i x) (omega arith)
-    ∙ rw (add-one i, replicate-snoc i x))
+    ∙ rw (← replicate-append-replicate i 1 x))
 
 pub over-all-filled : (b : List ℕ) (i n x : ℕ) {y : List ℕ} → i ≤ n → n ≤ i → y ≡ over (replicate i x) b → Wrote (replicate n x) b y n
 over-all-filled b i n x h k e =
@@ -65,7 +61,8 @@ unfolding over
 over-sets vs b h = sets-eq vs b 0 (rw zero-add h) ∙ rw (zero-add (length vs))
 
 -- what a writer leaves that was lent the part after what stands already
-pub over-then : (w v b : List ℕ) (n k : ℕ) → length w ≡ n → length b - n ≤ k → take n (over w b) ++ (over v (drop n (over w b)) ++ drop k (drop n (over w b))) ≡ over (w ++ v) b
+pub over-then : (w v b : List ℕ) (n k : ℕ) → length w ≡ n → length b - n ≤ k
+    → take n (over w b) ++ (over v (drop n (over w b)) ++ drop k (drop n (over w b))) ≡ over (w ++ v) b
 unfolding over
 over-then w v b n k e h =
     let d : drop n (w ++ drop (length w) b) ≡ drop n b = drop-at w (drop (length w) b) n e ∙ ap (λ (m : ℕ). drop m b) e in
@@ -74,7 +71,8 @@ over-then w v b n k e h =
     rw (take-at w (drop (length w) b) n e, d, z, append-nil, drop-drop (length v) n b, l, append-assoc w v (drop (n + length v) b))
 
 -- the same, as the borrow checker gives a part that was lent to the end, `&mut out[n..]`, and has come back
-pub over-part : (w v b xs ys : List ℕ) (n : ℕ) → length w ≡ n → xs ≡ over w b → ys ≡ over v (midOf n (length xs - n) xs) → putMid n (length xs - n) xs ys ≡ over (w ++ v) b
+pub over-part : (w v b xs ys : List ℕ) (n : ℕ) → length w ≡ n → xs ≡ over w b → ys ≡ over v (midOf n (length xs - n) xs)
+    → putMid n (length xs - n) xs ys ≡ over (w ++ v) b
 over-part w v b xs ys n e ex ey =
     let l : length (drop n (over w b)) ≡ length (over w b) - n = length-drop n (over w b) in
     let t : take (length (over w b) - n) (drop n (over w b)) ≡ drop n (over w b) = take-all (length (over w b) - n) (drop n (over w b)) (omega (arith, l)) in
@@ -97,12 +95,14 @@ unfolding over
 front {w} {b} p = rw (p .bytes) (take-at w (drop (length w) b) _ (sym (p .count)))
 
 -- the other way round: the rest was written first, and then the front, whose length is where the rest began
-pub then-front : {h v b ys zs : List ℕ} {n r : ℕ} → n ≤ length b → Wrote v (midOf n (length b - n) b) ys r → Wrote h (putMid n (length b - n) b ys) zs n → Wrote (h ++ v) b zs (n + r)
+pub then-front : {h v b ys zs : List ℕ} {n r : ℕ} → n ≤ length b → Wrote v (midOf n (length b - n) b) ys r → Wrote h (putMid n (length b - n) b ys) zs n
+    → Wrote (h ++ v) b zs (n + r)
 unfolding over
 then-front {h} {v} {b} {ys} {zs} {n} {r} room p q =
     let t : take (length b - n) (drop n b) ≡ drop n b = take-all (length b - n) (drop n b) (omega (arith, length-drop n b)) in
     let z : drop (length b - n) (drop n b) ≡ [] = drop-of-length-le (drop n b) {i = length b - n} (omega (arith, length-drop n b)) in
-    let d : drop n (take n b ++ (ys ++ drop (length b - n) (drop n b))) ≡ ys ++ drop (length b - n) (drop n b) = drop-at (take n b) (ys ++ drop (length b - n) (drop n b)) n (length-take-le n b room) in
+    let e : List ℕ = ys ++ drop (length b - n) (drop n b) in
+    let d : drop n (take n b ++ e) ≡ e = drop-at (take n b) e n (length-take-le n b room) in
     record {
       count = omega (arith, p .count, q .count, length-append h v);
       bytes = q .bytes ∙ rw (← q .count, d, z, append-nil, p .bytes, t, length-append h v, ← q .count, drop-drop (length v) n b, append-assoc h v (drop (n + length v) b));
@@ -118,7 +118,8 @@ pub going-none : (b all : List ℕ) → Going b b 0 all all
 unfolding over
 going-none b all = record { done = []; wrote = record { count = refl; bytes = refl }; whole = refl }
 
-pub going-more : {b xs ys all v rest : List ℕ} {n r : ℕ} → Going b xs n (v ++ rest) all → Wrote v (midOf n (length xs - n) xs) ys r → Going b (putMid n (length xs - n) xs ys) (n + r) rest all
+pub going-more : {b xs ys all v rest : List ℕ} {n r : ℕ} → Going b xs n (v ++ rest) all → Wrote v (midOf n (length xs - n) xs) ys r
+    → Going b (putMid n (length xs - n) xs ys) (n + r) rest all
 going-more {v = v} {rest = rest} g p = record { done = g .done ++ v; wrote = then (g .wrote) p; whole = append-assoc (g .done) v rest ∙ g .whole }
 
 pub going-end : {b xs all : List ℕ} {n : ℕ} → Going b xs n [] all → Wrote all b xs n

@@ -32,11 +32,12 @@ unfoldable pub be32At : List ℕ → ℕ → ℕ
 be32At s at = four (getD s at 0) (getD s (at + 1) 0) (getD s (at + 2) 0) (getD s (at + 3) 0)
 
 -- a number stored at a place
-unfoldable pub putBe16 : List ℕ → ℕ → ℕ → List ℕ
-putBe16 s at n = set (set s at (n / 256 % 256)) (at + 1) (n % 256)
-
 unfoldable pub putBe24 : List ℕ → ℕ → ℕ → List ℕ
 putBe24 s at n = set (set (set s at (n / 65536 % 256)) (at + 1) (n / 256 % 256)) (at + 2) (n % 256)
 
 unfoldable pub putBe32 : List ℕ → ℕ → ℕ → List ℕ
 putBe32 s at n = set (set (set (set s at (n / 16777216 % 256)) (at + 1) (n / 65536 % 256)) (at + 2) (n / 256 % 256)) (at + 3) (n % 256)
+
+-- a length made up to a multiple of 4
+abbrev pub inFours : ℕ → ℕ
+inFours n = (n + 3) / 4 * 4

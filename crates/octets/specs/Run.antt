@@ -1,15 +1,15 @@
 -- Runs of bytes: zeros in a list, a name in its field, bytes written over the front of a buffer.
 use Prim.Native.Nat.{ℕ, zero, suc, _+_, _-_}
-use mathlib.Core.Bool.{Bool, true, _&&_}
+use mathlib.Core.Bool.{Bool}
 use mathlib.Core.Path.{_≡_}
 use mathlib.Core.List.{List, _++_}
 use lib.ListN.{length, getD, set, drop}
 use lib.Dec.{eqb}
+use Rattle.octets.specs.All.{allBelow}
 
 -- the n bytes from a place are all zero; the bytes from one place up to another
 unfoldable pub zeros : List ℕ → ℕ → ℕ → Bool
-zeros s at zero = true
-zeros s at (suc n) = zeros s at n && eqb (getD s (at + n) 0) 0
+zeros s at n = allBelow (λ (i : ℕ). eqb (getD s (at + i) 0) 0) n
 
 unfoldable pub zeroBetween : List ℕ → ℕ → ℕ → Bool
 zeroBetween s from to = zeros s from (to - from)

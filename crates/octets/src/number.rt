@@ -2,7 +2,7 @@
 ghost use mathlib.Core.Path.{_≡_};
 ghost use Prim.Native.Nat.{_+_, _/_, _%_, _≤_, _<_};
 ghost use lib.ListN.{length};
-ghost use Rattle.octets.specs.Number.{two, three, four, eight, turnedOf, be16At, be24At, be32At, putBe16, putBe24, putBe32};
+ghost use Rattle.octets.specs.Number.{two, three, four, eight, turnedOf, be16At, be24At, be32At, putBe24, putBe32};
 
 // The bytes come as parameters, so that the sum's bound is known where it is made.
 fn of_two(a: u8, b: u8) -> u32
@@ -96,14 +96,6 @@ pub fn two_words(s: &[u8], at: usize) -> u64
         s[at + 6],
         s[at + 7],
     )
-}
-
-pub fn put_be16(s: &mut [u8], at: usize, n: u32)
-    requires { ⌜ at + 2 ≤ length (now s) ⌝ }
-    ensures { λ _. ⌜ now (s .exit) ≡ putBe16 (now (s .entry)) at n ⌝ }
-{
-    s[at] = (n / 256 % 256) as u8;
-    s[at + 1] = (n % 256) as u8;
 }
 
 pub fn put_be24(s: &mut [u8], at: usize, n: usize)

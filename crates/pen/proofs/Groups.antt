@@ -34,7 +34,8 @@ pub wrote-pair : (code c m d n : ℕ) {b xs ys zs : List ℕ} {r t : ℕ} → Wr
 unfolding group numberBytes
 wrote-pair code c m d n p q s = then (then p q) s
 
-pub wrote-failed : (d : List ℕ) {b xs ys : List ℕ} {r : ℕ} → Wrote (headBytes 279 64 (failedSize (length d))) b xs 8 → Wrote (copied d) (midOf 8 (length xs - 8) xs) ys r
+pub wrote-failed : (d : List ℕ) {b xs ys : List ℕ} {r : ℕ} → Wrote (headBytes 279 64 (failedSize (length d))) b xs 8
+    → Wrote (copied d) (midOf 8 (length xs - 8) xs) ys r
     → Wrote (failed d) b (putMid 8 (length xs - 8) xs ys) (8 + r)
 unfolding failed group
 wrote-failed d p q = named (rw copied-length) refl (then p q)
@@ -66,7 +67,8 @@ wrote-next-number code s i m h room p q =
     let e : take (4 * i + 4 - 4 * i) (drop (4 * i) s) ≡ take 4 (drop (4 * i) s) = rw (add-sub-cancel-left (4 * i) 4) in
     rw (add-one i) (named (rw (e, four-bytes code (take 4 (drop (4 * i) s)) (word-length s i (omega arith)))) refl (then p q))
 
-pub wrote-all-numbers : (code : ℕ) (s : List ℕ) (i m : ℕ) {b xs : List ℕ} {n : ℕ} → i ≤ m → m ≤ i → Wrote (vendorNumbers code s i) b xs n → Wrote (vendorNumbers code s m) b xs n
+pub wrote-all-numbers : (code : ℕ) (s : List ℕ) (i m : ℕ) {b xs : List ℕ} {n : ℕ} → i ≤ m → m ≤ i → Wrote (vendorNumbers code s i) b xs n
+    → Wrote (vendorNumbers code s m) b xs n
 wrote-all-numbers code s i m h k p = let e : i ≡ m = omega arith in rw e at p
 
 members-length : (m o : List ℕ) → length (vendorNumbers 604 m (words m) ++ vendorNumbers 605 o (words o)) ≡ 16 * words m + 16 * words o
@@ -84,7 +86,8 @@ pub wrote-no-capabilities : (m o b : List ℕ) → words m + words o ≡ 0 → W
 unfolding capabilities
 wrote-no-capabilities m o b h = wrote-none (words m + words o) _ b (omega arith)
 
-pub wrote-capabilities : (m o : List ℕ) {b xs ys zs : List ℕ} {r t : ℕ} → (words m + words o ≡ 0 → ⊥) → Wrote (vendorHead 603 (capabilitiesSize (words m) (words o))) b xs 12
+pub wrote-capabilities : (m o : List ℕ) {b xs ys zs : List ℕ} {r t : ℕ} → (words m + words o ≡ 0 → ⊥)
+    → Wrote (vendorHead 603 (capabilitiesSize (words m) (words o))) b xs 12
     → Wrote (vendorNumbers 604 m (words m)) (midOf 12 (length xs - 12) xs) ys r
     → Wrote (vendorNumbers 605 o (words o)) (midOf (12 + r) (length (putMid 12 (length xs - 12) xs ys) - (12 + r)) (putMid 12 (length xs - 12) xs ys)) zs t
     → Wrote (capabilities m o) b (putMid (12 + r) (length (putMid 12 (length xs - 12) xs ys) - (12 + r)) (putMid 12 (length xs - 12) xs ys) zs) (12 + r + t)

@@ -5,7 +5,7 @@ use mathlib.Core.List.{List}
 use mathlib.Core.Bool.{Bool, true, false}
 use native.Mathlib.Omega.{arith}
 use lib.ListN.{length, length-append, length-replicate}
-use Rattle.pen.specs.Bytes.{padding, vendorHead, copied, copiedSize, avpBytes, avpSize, vendorBytes, vendorSize, numberBytes, vendorNumber, group, vendorGroup, ifThere}
+use Rattle.pen.specs.Bytes.{padding, vendorHead, copied, copiedSize, avpBytes, avpSize, vendorBytes, vendorSize, numberBytes, group, vendorGroup, ifThere}
 
 pub copied-length : (a : List ℕ) → length (copied a) ≡ copiedSize (length a)
 unfolding copied padding
@@ -34,10 +34,6 @@ vendor-length code d = omega (arith, copied-length d)
 pub number-length : (code n : ℕ) → length (numberBytes code n) ≡ 12
 unfolding numberBytes
 number-length code n = refl
-
-pub vendorNumber-length : (code n : ℕ) → length (vendorNumber code n) ≡ 16
-unfolding vendorNumber vendorHead
-vendorNumber-length code n = refl
 
 pub there-length : (there : Bool) (w : List ℕ) → length (ifThere there w) ≤ length w
 unfolding ifThere

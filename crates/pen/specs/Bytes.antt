@@ -1,12 +1,13 @@
 -- The bytes of AVPs that are written.
-use Prim.Native.Nat.{ℕ, _+_, _-_, _*_, _/_, _%_}
+use Prim.Native.Nat.{ℕ, _+_, _-_, _/_, _%_}
 use mathlib.Core.List.{List, [], _∷_, _++_}
 use mathlib.Core.Bool.{Bool, true, false}
 use lib.ListN.{length, replicate}
+use Rattle.octets.specs.Number.{inFours}
 
 -- the zero bytes that pad n bytes to a multiple of 4
 unfoldable pub padding : ℕ → List ℕ
-padding n = replicate ((n + 3) / 4 * 4 - n) 0
+padding n = replicate (inFours n - n) 0
 
 abbrev pub wordBytes : ℕ → List ℕ
 wordBytes n = n / 16777216 % 256 ∷ n / 65536 % 256 ∷ n / 256 % 256 ∷ n % 256 ∷ []
@@ -24,7 +25,7 @@ unfoldable pub copied : List ℕ → List ℕ
 copied a = a ++ padding (length a)
 
 abbrev pub copiedSize : ℕ → ℕ
-copiedSize n = (n + 3) / 4 * 4
+copiedSize n = inFours n
 
 -- "Own AVPs have flags 0x40, or 0xC0 with vendor 10415": an AVP with its data; of vendor 10415
 unfoldable pub avpBytes : ℕ → List ℕ → List ℕ

@@ -7,9 +7,16 @@ ghost use Prim.Native.Nat.{_+_, _*_, _/_, _≤_};
 ghost use lib.ListN.{length};
 ghost use lib.Dec.{ltb};
 ghost use Rattle.octets.specs.Run.{Wrote};
-ghost use Rattle.pen.specs.Bytes.{wordBytes, headBytes, vendorHead, copied, copiedSize, avpBytes, avpSize, vendorBytes, vendorSize, numberBytes, vendorNumber, ifThere};
+ghost use Rattle.pen.specs.Bytes.{wordBytes, headBytes, vendorHead, copied, copiedSize, avpBytes, avpSize, vendorBytes, vendorSize, numberBytes, ifThere};
 
-pub fn put_word(out: &mut [u8], n: u32)
+// "Own AVPs have flags 0x40, or 0xC0 with vendor 10415"
+pub const FLAGS: u8 = 64;
+
+pub const VENDOR_FLAGS: u8 = 192;
+
+pub const VENDOR: u32 = 10415;
+
+fn put_word(out: &mut [u8], n: u32)
     requires { ⌜ 4 ≤ length (now out) ⌝ }
     ensures { λ _. ⌜ Wrote (wordBytes n) (now (out .entry)) (now (out .exit)) 4 ⌝ }
 {
@@ -39,8 +46,8 @@ pub fn put_vendor_head(out: &mut [u8], code: u32, len: usize)
     requires { ⌜ 12 ≤ length (now out) ⌝ }
     ensures { λ _. ⌜ Wrote (vendorHead code len) (now (out .entry)) (now (out .exit)) 12 ⌝ }
 {
-    put_head(out, code, 192, len);
-    put_word(&mut out[8..], 10415);
+    put_head(out, code, VENDOR_FLAGS, len);
+    put_word(&mut out[8..], VENDOR);
 }
 
 // A copied AVP, or an AVP's data: zero padding follows.
@@ -60,7 +67,7 @@ pub fn put_avp(out: &mut [u8], code: u32, src: &[u8]) -> usize
     requires { ⌜ avpSize (length (now src)) ≤ length (now out) ⌝ }
     ensures { λ r. ⌜ (r ≡ avpSize (length (now (src .entry)))) × Wrote (avpBytes code (now (src .entry))) (now (out .entry)) (now (out .exit)) r ⌝ }
 {
-    put_head(out, code, 64, 8 + src.len());
+    put_head(out, code, FLAGS, 8 + src.len());
     8 + put_copy(&mut out[8..], src)
 }
 
@@ -76,18 +83,9 @@ pub fn put_number(out: &mut [u8], code: u32, n: u32) -> usize
     requires { ⌜ 12 ≤ length (now out) ⌝ }
     ensures { λ r. ⌜ (r ≡ 12) × Wrote (numberBytes code n) (now (out .entry)) (now (out .exit)) r ⌝ }
 {
-    put_head(out, code, 64, 12);
+    put_head(out, code, FLAGS, 12);
     put_word(&mut out[8..], n);
     12
-}
-
-pub fn put_vendor_number(out: &mut [u8], code: u32, n: u32) -> usize
-    requires { ⌜ 16 ≤ length (now out) ⌝ }
-    ensures { λ r. ⌜ (r ≡ 16) × Wrote (vendorNumber code n) (now (out .entry)) (now (out .exit)) r ⌝ }
-{
-    put_vendor_head(out, code, 16);
-    put_word(&mut out[12..], n);
-    16
 }
 
 // An AVP, or nothing where there are no data.

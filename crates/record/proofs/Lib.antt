@@ -1,3 +1,3 @@
-pub mod Parts
 pub mod Places
 pub mod Sound
+pub mod Tests

@@ -1,9 +1,14 @@
--- The names that stand in a block, and the bits of a record.
+-- What every block begins with, the names that stand in a block, and the bits of a record.
 use Prim.Native.Nat.{ℕ, _/_, _%_, _-_}
-use mathlib.Core.Bool.{Bool}
+use mathlib.Core.Bool.{Bool, _&&_}
 use mathlib.Core.List.{List}
 use lib.ListN.{getD, take, drop}
 use lib.Dec.{eqb}
+use Rattle.octets.specs.Number.{be32At}
+
+-- "0 kind", "1 edition 1", "4-7 block number"; the two bytes not named are zero
+abbrev pub soundHead : List ℕ → ℕ → ℕ → Bool
+soundHead b kind k = eqb (getD b 0 0) kind && eqb (getD b 1 0) 1 && eqb (getD b 2 0) 0 && eqb (getD b 3 0) 0 && eqb (be32At b 4) k
 
 -- Header: "13, 14 lengths of host and realm; 16-79 host; 80-143 realm"
 unfoldable pub hostOf : List ℕ → List ℕ
@@ -22,10 +27,20 @@ privateOf b = take (getD b 14 0) (drop 144 b)
 unfoldable pub serverOf : List ℕ → List ℕ
 serverOf b = take (getD b 15 0) (drop 272 b)
 
--- "8 state"; "9 bits 0 pending, 1 barred, 2 unregistered services"
+-- "8 state; 9 bits; 10 roaming"; the length of the server name
 abbrev pub stateOf : List ℕ → ℕ
 stateOf b = getD b 8 0
 
+abbrev pub bitsOf : List ℕ → ℕ
+bitsOf b = getD b 9 0
+
+abbrev pub roamingOf : List ℕ → ℕ
+roamingOf b = getD b 10 0
+
+abbrev pub serverSize : List ℕ → ℕ
+serverSize b = getD b 15 0
+
+-- "bits 0 pending, 1 barred, 2 unregistered services"
 abbrev pub pending : ℕ → Bool
 pending bits = eqb (bits % 2) 1
 

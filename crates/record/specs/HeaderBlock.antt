@@ -8,15 +8,12 @@ use lib.Dec.{eqb, leb}
 use Rattle.octets.specs.Number.{be32At}
 use Rattle.octets.specs.Run.{zeroBetween}
 use Rattle.octets.specs.Sum.{sumWords}
+use Rattle.record.specs.Fields.{soundHead}
 use Rattle.record.specs.Networks.{soundNetworks}
 use Rattle.record.specs.declared.header.Header.{Header}
 
 unfoldable pub headerOf : List ℕ → Header
 headerOf b = record { count = be32At b 8; keep = getD b 12 0; host = getD b 13 0; realm = getD b 14 0; networks = getD b 15 0 }
-
--- kind, edition, the two bytes not named, and the block's number
-abbrev pub soundTop : List ℕ → Bool
-soundTop b = eqb (getD b 0 0) 1 && eqb (getD b 1 0) 1 && eqb (getD b 2 0) 0 && eqb (getD b 3 0) 0 && eqb (be32At b 4) 0
 
 -- "0 to 4,096" records; networks "0 to 8"
 abbrev pub soundCounts : Header → Bool
@@ -33,4 +30,4 @@ soundRest b h = zeroBetween b (16 + h .host) 80 && zeroBetween b (80 + h .realm)
 unfoldable pub soundHeader : List ℕ → Bool
 soundHeader b =
     soundCounts (headerOf b)
-    && (eqb (sumWords b 128) 0 && soundTop b && soundNumbers (headerOf b) && soundRest b (headerOf b) && soundNetworks b (headerOf b .networks))
+    && (eqb (sumWords b 128) 0 && soundHead b 1 0 && soundNumbers (headerOf b) && soundRest b (headerOf b) && soundNetworks b (headerOf b .networks))

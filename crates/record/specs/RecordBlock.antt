@@ -1,34 +1,31 @@
 -- "Record: 0 kind 2; 1 edition 1; 4-7 block number; 8 state; 9 bits; 10 roaming; 11, 12 counts of mandatory and optional capabilities;
 -- 13, 14, 15 lengths of public identity, private identity, server name; 16-143, 144-271, 272-367 these names; 368-383, 384-399 capabilities;
 -- 400-403 and 404-405 profile start and length"
-use Prim.Native.Nat.{ℕ, _+_, _*_, _^_, _%_}
-use mathlib.Core.Bool.{Bool, _&&_, _||_}
+use Prim.Native.Nat.{ℕ, _+_, _*_, _^_}
+use mathlib.Core.Bool.{Bool, _&&_, _||_, not}
 use mathlib.Core.List.{List}
 use lib.ListN.{getD}
 use lib.Dec.{eqb, leb, ltb}
 use Rattle.octets.specs.Number.{be16At, be32At}
 use Rattle.octets.specs.Run.{zeroBetween}
 use Rattle.octets.specs.Sum.{sumWords}
+use Rattle.record.specs.Fields.{stateOf, bitsOf, roamingOf, serverSize, soundHead, pending}
 use Rattle.record.specs.declared.subscriber.Record.{Record}
 
 unfoldable pub recordOf : List ℕ → Record
 recordOf b =
     record {
-      state = getD b 8 0;
-      bits = getD b 9 0;
-      roaming = getD b 10 0;
+      state = stateOf b;
+      bits = bitsOf b;
+      roaming = roamingOf b;
       mandatory = getD b 11 0;
       optional = getD b 12 0;
       public = getD b 13 0;
       private = getD b 14 0;
-      server = getD b 15 0;
+      server = serverSize b;
       start = be32At b 400;
       size = be16At b 404;
     }
-
--- kind, edition, the two bytes not named, and the block's number
-abbrev pub soundHead : List ℕ → ℕ → Bool
-soundHead b k = eqb (getD b 0 0) 2 && eqb (getD b 1 0) 1 && eqb (getD b 2 0) 0 && eqb (getD b 3 0) 0 && eqb (be32At b 4) k
 
 -- state 0 to 2; bits 0 to 2 and no others; capabilities "0 to 4 each"; identities "1 to 128", server name "0 to 96"; profile length "at most 4,096"
 abbrev pub soundLimits : Record → Bool
@@ -38,7 +35,7 @@ soundLimits r =
 
 -- "State 1 or 2 needs a server name; state 0 has one exactly if pending is set."
 abbrev pub soundServer : Record → Bool
-soundServer r = eqb (r .server) 0 && (eqb (r .state) 0 && eqb (r .bits % 2) 0) || ltb 0 (r .server) && (ltb 0 (r .state) || eqb (r .bits % 2) 1)
+soundServer r = eqb (r .server) 0 && (eqb (r .state) 0 && not (pending (r .bits))) || ltb 0 (r .server) && (ltb 0 (r .state) || pending (r .bits))
 
 -- "roaming, bit n for network n, none past the last"
 abbrev pub soundRoaming : Record → ℕ → Bool
@@ -57,5 +54,5 @@ soundRest b r =
 -- block k is a sound record, under a header with so many networks and beside a profile file of such a length
 unfoldable pub soundRecord : List ℕ → ℕ → ℕ → ℕ → Bool
 soundRecord b k networks file =
-    eqb (sumWords b 128) 0 && soundHead b k && soundLimits (recordOf b) && soundServer (recordOf b) && soundRoaming (recordOf b) networks
+    eqb (sumWords b 128) 0 && soundHead b 2 k && soundLimits (recordOf b) && soundServer (recordOf b) && soundRoaming (recordOf b) networks
     && soundProfile (recordOf b) file && soundRest b (recordOf b)

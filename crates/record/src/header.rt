@@ -1,11 +1,12 @@
 // The header block.
+use crate::head;
 use crate::networks;
 use octets::number;
 use octets::run;
 use octets::sum;
 ghost use mathlib.Core.Path.{_≡_};
 ghost use lib.ListN.{length};
-ghost use Rattle.record.specs.HeaderBlock.{headerOf, soundTop, soundCounts, soundNumbers, soundRest, soundHeader};
+ghost use Rattle.record.specs.HeaderBlock.{headerOf, soundCounts, soundNumbers, soundRest, soundHeader};
 
 // The numbers of the header block. Its names stay in the table.
 pub struct Header {
@@ -18,12 +19,6 @@ pub struct Header {
 
 impl Header {
     // Where each field stands.
-    pub const KIND_AT: usize = 0;
-
-    pub const EDITION_AT: usize = 1;
-
-    pub const NUMBER_AT: usize = 4;
-
     pub const COUNT_AT: usize = 8;
 
     pub const KEEP_AT: usize = 12;
@@ -46,8 +41,6 @@ impl Header {
 
     // What each may hold.
     pub const KIND: u8 = 1;
-
-    pub const EDITION: u8 = 1;
 
     pub const NUMBER: u32 = 0;
 
@@ -72,18 +65,6 @@ impl Header {
             networks: b[Header::NETWORKS_AT],
         }
     }
-}
-
-// Kind, edition, the two bytes not named, and the block's number.
-fn top(b: &[u8]) -> bool
-    requires { ⌜ length (now b) ≡ 512 ⌝ }
-    ensures { λ r. ⌜ r ≡ soundTop (now (b .entry)) ⌝ }
-{
-    (b[Header::KIND_AT] == Header::KIND)
-        & (b[Header::EDITION_AT] == Header::EDITION)
-        & (b[2] == 0)
-        & (b[3] == 0)
-        & (number::be32(b, Header::NUMBER_AT) == Header::NUMBER)
 }
 
 // The counts of records and of networks.
@@ -122,7 +103,7 @@ pub fn sound(b: &[u8]) -> bool
     let h = Header::read(b);
     counts(h)
         & ((sum::sum_fours(b, 32) == 0)
-            & top(b)
+            & head::sound(b, Header::KIND, Header::NUMBER)
             & numbers(h)
             & rest(b, h)
             & networks::sound(b, h.networks as usize))

@@ -1,11 +1,12 @@
 // A record block: one public identity of a subscriber.
+use crate::head;
 use octets::number;
 use octets::run;
 use octets::sum;
 ghost use mathlib.Core.Path.{_≡_};
 ghost use Prim.Native.Nat.{_≤_};
 ghost use lib.ListN.{length};
-ghost use Rattle.record.specs.RecordBlock.{recordOf, soundHead, soundLimits, soundServer, soundRoaming, soundProfile, soundRest, soundRecord};
+ghost use Rattle.record.specs.RecordBlock.{recordOf, soundLimits, soundServer, soundRoaming, soundProfile, soundRest, soundRecord};
 
 // The numbers of a record block. Its names stay in the table.
 pub struct Record {
@@ -23,12 +24,6 @@ pub struct Record {
 
 impl Record {
     // Where each field stands.
-    pub const KIND_AT: usize = 0;
-
-    pub const EDITION_AT: usize = 1;
-
-    pub const NUMBER_AT: usize = 4;
-
     pub const STATE_AT: usize = 8;
 
     pub const BITS_AT: usize = 9;
@@ -63,10 +58,11 @@ impl Record {
 
     pub const CHECK_AT: usize = 508;
 
+    // The bytes of the server name's field.
+    pub const SERVER_FIELD: usize = 96;
+
     // What each may hold.
     pub const KIND: u8 = 2;
-
-    pub const EDITION: u8 = 1;
 
     pub const MOST_STATE: u8 = 2;
 
@@ -100,18 +96,6 @@ impl Record {
     }
 }
 
-// Kind, edition, the two bytes not named, and the block's number.
-fn head(b: &[u8], k: u32) -> bool
-    requires { ⌜ length (now b) ≡ 512 ⌝ }
-    ensures { λ r. ⌜ r ≡ soundHead (now (b .entry)) k ⌝ }
-{
-    (b[Record::KIND_AT] == Record::KIND)
-        & (b[Record::EDITION_AT] == Record::EDITION)
-        & (b[2] == 0)
-        & (b[3] == 0)
-        & (number::be32(b, Record::NUMBER_AT) == k)
-}
-
 // Each number within its limits.
 fn limits(r: Record) -> bool
     ensures { λ x. ⌜ x ≡ soundLimits r ⌝ }
@@ -129,10 +113,10 @@ fn limits(r: Record) -> bool
 }
 
 // "State 1 or 2 needs a server name; state 0 has one exactly if pending is set."
-fn named(r: Record) -> bool
+fn server_sound(r: Record) -> bool
     ensures { λ x. ⌜ x ≡ soundServer r ⌝ }
 {
-    (r.server == 0) & ((r.state == 0) & (r.bits % 2 == 0))
+    (r.server == 0) & ((r.state == 0) & !(r.bits % 2 == 1))
         | (0 < r.server) & ((0 < r.state) | (r.bits % 2 == 1))
 }
 
@@ -181,7 +165,13 @@ pub fn sound(b: &[u8], k: u32, networks: u32, file: usize) -> bool
 {
     let total = sum::sum_fours(b, 32);
     let r = Record::read(b);
-    if (total == 0) & head(b, k) & limits(r) & named(r) & roams(r, networks) & within(r, file) {
+    if (total == 0)
+        & head::sound(b, Record::KIND, k)
+        & limits(r)
+        & server_sound(r)
+        & roams(r, networks)
+        & within(r, file)
+    {
         rest(b, r)
     } else {
         false

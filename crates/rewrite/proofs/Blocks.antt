@@ -1,47 +1,19 @@
 -- A table with one block rewritten, by its blocks: that block renewed, and every other as it was.
-use Prim.Native.Nat.{ℕ, _+_, _-_, _*_, _<_, _≤_}
+use Prim.Native.Nat.{ℕ, _+_, _*_, _<_, _≤_}
 use mathlib.Core.Bool.{Bool, true, false}
 use mathlib.Core.Path.{_≡_, refl, sym, _∙_, ap}
 use mathlib.Core.Logic.{_≢_}
-use mathlib.Core.List.{List, _++_}
+use mathlib.Core.List.{List}
 use native.Mathlib.Omega.{arith}
 use lib.Dec.{ltb}
 use borrow.Author.Tests.{ltb-true, ltb-false}
-use lib.ListN.{length, getD, take, drop, length-take, length-drop, length-append, List·getD-append}
-use lib.Seq.{take-at, drop-at, length-take-le, getD-take, getD-drop, getD-append-add, ext-getD}
+use lib.ListN.{length, getD, take, drop}
+use lib.Seq.{getD-take, getD-drop, ext-getD}
+use Rattle.octets.proofs.Parts.{spliced, spliced-part, spliced-length, spliced-before, spliced-after}
 use Rattle.table.specs.Blocks.{blockOf}
 use Rattle.table.proofs.Blocks.{block-length}
 use Rattle.rewrite.specs.Renew.{renewed, rewritten}
 use Rattle.rewrite.proofs.Bytes.{renewed-length}
-
--- A list with y in the place of as many elements from a place on.
-abbrev spliced : List ℕ → ℕ → List ℕ → List ℕ
-spliced t at y = take at t ++ (y ++ drop (at + length y) t)
-
-module _ (t : List ℕ) (at : ℕ) (y : List ℕ) (fits : at + length y ≤ length t) where
-  front : length (take at t) ≡ at
-  front = length-take-le at t (omega arith)
-
-  spliced-part : take (length y) (drop at (spliced t at y)) ≡ y
-  spliced-part = rw (drop-at (take at t) (y ++ drop (at + length y) t) at front, take-at y (drop (at + length y) t) (length y))
-
-  spliced-length : length (spliced t at y) ≡ length t
-  spliced-length = simp (length-append, length-take, length-drop) (omega arith)
-
-  spliced-before : (i : ℕ) → i < at → getD (spliced t at y) i 0 ≡ getD t i 0
-  spliced-before i h =
-      let k : i < length (take at t) = simp length-take (omega arith) in
-      rw (List·getD-append (take at t) (y ++ drop (at + length y) t) 0 i k, getD-take at t i 0 h)
-
-  spliced-after : (i : ℕ) → at + length y ≤ i → getD (spliced t at y) i 0 ≡ getD t i 0
-  spliced-after i h =
-      let n : i ≡ length (take at t) + (length y + (i - (at + length y))) = omega (arith, front) in
-      let m : at + length y + (i - (at + length y)) ≡ i = omega arith in
-      ap (λ (j : ℕ). getD (spliced t at y) j 0) n
-      ∙ getD-append-add (take at t) (y ++ drop (at + length y) t) (length y + (i - (at + length y))) 0
-      ∙ getD-append-add y (drop (at + length y) t) (i - (at + length y)) 0
-      ∙ getD-drop (at + length y) t (i - (at + length y)) 0
-      ∙ ap (λ (j : ℕ). getD t j 0) m
 
 module _ (t : List ℕ) (k : ℕ) (y : List ℕ) (whole : length y ≡ 512) (fits : 512 * k + 512 ≤ length t) where
   block-spliced : blockOf (spliced t (512 * k) y) k ≡ y

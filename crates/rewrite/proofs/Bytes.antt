@@ -1,5 +1,5 @@
 -- The bytes of a renewed block: what is written anew, and what stays.
-use Prim.Native.Nat.{ℕ, zero, suc, _+_, _-_, _<_, _≤_}
+use Prim.Native.Nat.{ℕ, _+_, _-_, _<_, _≤_}
 use mathlib.Core.Bool.{Bool, true, false}
 use mathlib.Core.Path.{_≡_, refl, sym, _∙_}
 use mathlib.Core.Logic.{_≢_}
@@ -12,32 +12,10 @@ use lib.Seq.{getD-set-same, getD-set-other, sets-eq}
 use Rattle.octets.specs.Number.{putBe32}
 use Rattle.octets.specs.Run.{putName}
 use Rattle.octets.specs.Sum.{sumWords}
-use Rattle.octets.proofs.Runs.{name-length}
+use Rattle.octets.proofs.Parts.{part-alike}
+use Rattle.octets.proofs.Runs.{name-length, name-apart, name-here}
+use Rattle.octets.proofs.Sums.{sum-alike}
 use Rattle.rewrite.specs.Renew.{sealed, renewed}
-use Rattle.rewrite.proofs.Alike.{part-alike, sum-alike}
-
--- A name that is put into its field.
-module _ (s : List ℕ) (at : ℕ) (name : List ℕ) where
-  name-apart : (n i : ℕ) → ((j : ℕ) → j < n → i ≢ at + j) → getD (putName s at name n) i 0 ≡ getD s i 0
-  unfolding putName
-  name-apart zero i h = refl
-  name-apart (suc n) i h = rw (getD-set-other (putName s at name n) (at + n) i (getD name n 0) 0 (h n (omega arith))) (name-apart n i (λ j k. h j (omega arith)))
-
-  name-here : (n j : ℕ) → at + n ≤ length s → j < n → getD (putName s at name n) (at + j) 0 ≡ getD name j 0
-  unfolding putName
-  name-here zero j l h = absurd (omega arith)
-  name-here (suc n) j l h = go (eqb j n) refl (name-here n j (omega arith))
-    where
-      go : (x : Bool) → eqb j n ≡ x → (j < n → getD (putName s at name n) (at + j) 0 ≡ getD name j 0)
-          → getD (set (putName s at name n) (at + n) (getD name n 0)) (at + j) 0 ≡ getD name j 0
-      go true e r =
-          let q : j ≡ n = eqb-true j n e in
-          let m : at + n < length (putName s at name n) = rw (name-length s at name n) (omega arith) in
-          rw (q, getD-set-same (putName s at name n) (at + n) (getD name n 0) 0 m)
-      go false e r =
-          let q : j ≢ n = eqb-false j n e in
-          let k : at + j ≢ at + n = omega arith in
-          rw (getD-set-other (putName s at name n) (at + n) (at + j) (getD name n 0) 0 k) (r (omega arith))
 
 -- A check word leaves the length, and what is before it.
 pub sealed-length : (b : List ℕ) → length (sealed b) ≡ length b

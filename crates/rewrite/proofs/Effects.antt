@@ -1,7 +1,7 @@
--- One record settled in a table: by its blocks, and as an effect on that record alone.
-use Prim.Native.Nat.{ℕ, suc, _+_, _*_, _≤_}
-use mathlib.Core.Bool.{Bool, true, false, cond}
-use mathlib.Core.Path.{_≡_, refl, sym, _∙_}
+-- One record settled in a table, by its blocks.
+use Prim.Native.Nat.{ℕ, _+_, _*_, _≤_}
+use mathlib.Core.Bool.{Bool, true, false}
+use mathlib.Core.Path.{_≡_, refl}
 use mathlib.Core.Logic.{_≢_}
 use mathlib.Core.List.{List}
 use native.Mathlib.Omega.{arith}
@@ -15,10 +15,9 @@ use Rattle.lookup.specs.SoundTable.{Ordered}
 use Rattle.lookup.specs.declared.Found.{Found}
 use Rattle.lookup.specs.declared.Found.the-variants.{At, Nothing}
 use Rattle.lookup.proofs.First.{Stands, first-stands}
-use Rattle.rewrite.specs.Effect.{settled, settledIn, settledFound, settledAt, afterOf}
+use Rattle.rewrite.specs.Effect.{settled, settledIn, settledFound}
 use Rattle.rewrite.proofs.Blocks.{rewritten-length, block-renewed, block-other}
 use Rattle.rewrite.proofs.Settled.{Kept, kept-same, kept-settled, ordered-kept}
-use Rattle.rewrite.proofs.Tables.{table-is, table-same}
 
 module _ (t : List ℕ) (k state : ℕ) (name : List ℕ) (fits : 512 * k + 512 ≤ length t) where
   pub in-length : length (settledIn t k state name) ≡ length t
@@ -32,17 +31,6 @@ module _ (t : List ℕ) (k state : ℕ) (name : List ℕ) (fits : 512 * k + 512 
   pub in-other : (j : ℕ) → j ≢ k → 512 * j + 512 ≤ length t → blockOf (settledIn t k state name) j ≡ blockOf t j
   unfolding settledIn
   in-other = block-other t k state (cleared (getD (blockOf t k) 9 0)) name fits
-
--- It is the effect on that record alone.
-pub in-after : (t : List ℕ) (count k state : ℕ) (name : List ℕ) → length t ≡ 512 * (count + 1) → k ≤ count → settledIn t k state name ≡ afterOf t count (eqb k) state name
-unfolding afterOf settledAt
-in-after t count k state name size last =
-    table-is (settledIn t k state name) (suc count) (in-length t k state name (omega arith) ∙ omega arith)
-    ∙ table-same (blockOf (settledIn t k state name)) (settledAt t (eqb k) state name) (suc count) (λ j l. go j (omega arith) (eqb k j) refl)
-  where
-    go : (j : ℕ) → j ≤ count → (x : Bool) → eqb k j ≡ x → blockOf (settledIn t k state name) j ≡ cond (eqb k j) (settled (blockOf t j) state name) (blockOf t j)
-    go j l true e = let q : k ≡ j = eqb-true k j e in rw (e, ← q) (in-here t k state name (omega arith))
-    go j l false e = rw e (in-other t k state name (omega arith) j (λ q. eqb-false k j e (sym q)) (omega arith))
 
 -- Every record keeps its identities, and the table still rises.
 module _ (t : List ℕ) (count : ℕ) (ordered : Ordered t count) (state : ℕ) (name : List ℕ) where

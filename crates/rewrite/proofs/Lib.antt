@@ -1,4 +1,3 @@
-pub mod Alike
 pub mod Blocks
 pub mod Bytes
 pub mod Effects

@@ -1,22 +1,18 @@
 -- A settled block: what it keeps, and that settling it again changes nothing.
-use Prim.Native.Nat.{ℕ, suc, _+_, _%_, _<_, _≤_}
-use mathlib.Core.Bool.{false}
+use Prim.Native.Nat.{ℕ, suc, _+_, _<_, _≤_}
 use mathlib.Core.Path.{_≡_, _∙_, ap}
 use mathlib.Core.Logic.{_≢_}
 use mathlib.Core.List.{List}
 use native.Mathlib.Omega.{arith}
-use borrow.Author.Tests.{ne-eqb}
-use lib.ListN.{length, getD, take, drop, length-take, length-drop}
-use lib.Seq.{getD-take, getD-drop, ext-getD}
-use Rattle.record.specs.Fields.{publicOf, privateOf, serverOf, pending, cleared}
-use Rattle.table.specs.Blocks.{blockOf, publicAt, privateAt}
-use Rattle.lookup.specs.Find.{findPublic, findPrivate}
+use lib.ListN.{length, getD}
+use Rattle.octets.proofs.Parts.{part-alike}
+use Rattle.record.specs.Fields.{publicOf, privateOf, cleared}
+use Rattle.table.specs.Blocks.{blockOf, publicAt}
+use Rattle.lookup.specs.Find.{findPublic}
 use Rattle.lookup.specs.SoundTable.{Ordered}
 use Rattle.lookup.proofs.Halves.{find-alike}
-use Rattle.lookup.proofs.Scans.{private-alike}
 use Rattle.rewrite.specs.Renew.{renewed}
 use Rattle.rewrite.specs.Effect.{settled}
-use Rattle.rewrite.proofs.Alike.{part-alike}
 use Rattle.rewrite.proofs.Bytes.{renewed-length, renewed-low, renewed-high, renewed-state, renewed-bits, renewed-server, renewed-name, renewed-alike}
 
 cleared-twice : (bits : ℕ) → cleared (cleared bits) ≡ cleared bits
@@ -59,9 +55,6 @@ module _ (b : List ℕ) (state : ℕ) (name : List ℕ) where
     unfolding settled
     settled-bits = renewed-bits b state (cleared (getD b 9 0)) name whole
 
-    pub settled-pending : pending (getD (settled b state name) 9 0) ≡ false
-    settled-pending = rw settled-bits (ne-eqb (cleared (getD b 9 0) % 2) 1 (omega arith))
-
     pub settled-size : getD (settled b state name) 15 0 ≡ length name
     unfolding settled
     settled-size = renewed-server b state (cleared (getD b 9 0)) name whole
@@ -69,18 +62,6 @@ module _ (b : List ℕ) (state : ℕ) (name : List ℕ) where
     pub settled-name : (j : ℕ) → j < 96 → getD (settled b state name) (272 + j) 0 ≡ getD name j 0
     unfolding settled
     settled-name = renewed-name b state (cleared (getD b 9 0)) name whole
-
-    pub settled-server : length name ≤ 96 → serverOf (settled b state name) ≡ name
-    unfolding serverOf
-    settled-server h =
-        rw settled-size
-        (ext-getD 0 (take (length name) (drop 272 (settled b state name))) name long
-        (λ i l.
-        let k : i < length name = omega (arith, long) in
-        rw (getD-take (length name) (drop 272 (settled b state name)) i 0 k, getD-drop 272 (settled b state name) i 0) (settled-name i (omega arith))))
-      where
-        long : length (take (length name) (drop 272 (settled b state name))) ≡ length name
-        long = simp (length-take, length-drop, settled-length) (omega arith)
 
   -- an identity named twice counts once
   pub settled-twice : length b ≡ 512 → settled (settled b state name) state name ≡ settled b state name
@@ -110,7 +91,8 @@ kept-settled b state name h k =
       second = settled-low b state name 14 (omega arith) (omega arith) (omega arith) (omega arith);
     }
 
-pub ordered-kept : (x y : List ℕ) (count : ℕ) → Ordered x count → length y ≡ length x → ((j : ℕ) → 1 ≤ j → j ≤ count → Kept (blockOf y j) (blockOf x j)) → Ordered y count
+pub ordered-kept : (x y : List ℕ) (count : ℕ) → Ordered x count → length y ≡ length x → ((j : ℕ) → 1 ≤ j → j ≤ count → Kept (blockOf y j) (blockOf x j))
+    → Ordered y count
 unfolding publicAt
 ordered-kept x y count o e h =
     record {
@@ -120,11 +102,7 @@ ordered-kept x y count o e h =
       space = λ k a b. rw (h k a b .second) (o .space k a b);
     }
 
-module _ (x y : List ℕ) (count : ℕ) (n : List ℕ) (kept : (j : ℕ) → 1 ≤ j → j ≤ count → Kept (blockOf y j) (blockOf x j)) where
-  pub kept-found : findPublic y count n ≡ findPublic x count n
-  unfolding publicAt
-  kept-found = find-alike y x count n (λ j a b. kept j a b .public)
-
-  pub kept-owner : findPrivate y count n ≡ findPrivate x count n
-  unfolding privateAt
-  kept-owner = private-alike y x count n (λ j a b. kept j a b .private)
+pub kept-found : (x y : List ℕ) (count : ℕ) (n : List ℕ) → ((j : ℕ) → 1 ≤ j → j ≤ count → Kept (blockOf y j) (blockOf x j))
+    → findPublic y count n ≡ findPublic x count n
+unfolding publicAt
+kept-found x y count n kept = find-alike y x count n (λ j a b. kept j a b .public)

@@ -3,39 +3,37 @@ use Prim.Native.Nat.{ℕ, _+_, _-_, _%_, _<_, _≤_}
 use mathlib.Core.Bool.{Bool, true, false, _&&_, _||_, cond}
 use mathlib.Core.Path.{_≡_, refl, _∙_}
 use mathlib.Core.Logic.{_≢_}
-use mathlib.Core.List.{List, []}
+use mathlib.Core.List.{List}
 use native.Mathlib.Omega.{arith}
 use lib.Dec.{ltb, leb, eqb}
-use borrow.Author.Tests.{leb-false, eq-eqb, ne-eqb, lt-ltb}
+use borrow.Author.Tests.{leb-false, ne-eqb, lt-ltb}
 use lib.ListN.{length, getD, List·getD-eq-default}
 use Rattle.octets.specs.Name.{orderOf}
 use Rattle.octets.specs.Number.{be16At, be32At}
 use Rattle.octets.specs.Sum.{sumWords}
 use Rattle.octets.proofs.All.{and-right}
-use Rattle.record.specs.Fields.{cleared}
+use Rattle.octets.proofs.Numbers.{be16-alike, be32-alike}
+use Rattle.octets.proofs.Runs.{at-zero, zero-alike}
+use Rattle.record.specs.Fields.{soundHead, cleared}
 use Rattle.record.specs.HeaderBlock.{headerOf}
-use Rattle.record.specs.RecordBlock.{recordOf, soundHead, soundServer, soundRecord}
+use Rattle.record.specs.RecordBlock.{recordOf, soundServer, soundRecord}
+use Rattle.record.proofs.Tests.{RecordTests, record-says, record-holds, Limits, limits-say, limits-hold, Rest, rest-says, rest-holds}
 use Rattle.table.specs.Blocks.{blockOf, publicAt}
 use Rattle.table.specs.Check.{isLess, risesAt, soundAt, checkTable}
 use Rattle.table.specs.declared.Checked.the-variants.{Sound}
 use Rattle.table.proofs.Blocks.{block-length}
 use Rattle.lookup.specs.SoundTable.{SoundTable}
 use Rattle.lookup.proofs.Sound.{sound-check, sound-record, sound-ordered}
-use Rattle.lookup.proofs.Tests.{RecordTests, record-says, record-holds, Limits, limits-say, limits-hold, Rest, rest-says, rest-holds}
 use Rattle.rewrite.specs.Renew.{renewed}
 use Rattle.rewrite.specs.Effect.{settled, afterOf, fitting}
-use Rattle.rewrite.proofs.Alike.{word-alike, between-alike, between-true}
 use Rattle.rewrite.proofs.Bytes.{drafted, drafted-length}
 use Rattle.rewrite.proofs.Sealed.{sealed-zero}
 use Rattle.rewrite.proofs.Settled.{settled-low, settled-high, settled-state, settled-bits, settled-size, settled-name}
 use Rattle.rewrite.proofs.Tables.{after-length, after-frame, after-chosen, after-kept}
 
--- Every row of the effects fits: a state 1 or 2 with a name, and state 0 with none.
+-- A state 1 or 2 fits with a name.
 pub fitting-named : (state : ℕ) (name : List ℕ) → 1 ≤ state → 1 ≤ length name → fitting state name ≡ true
 fitting-named state name a b = rw (ne-eqb (length name) 0 (omega arith), lt-ltb 0 (length name) b, lt-ltb 0 state a)
-
-pub fitting-none : fitting 0 [] ≡ true
-fitting-none = refl
 
 fitting-so : (e s l z : Bool) → (e && s || l && z) ≡ true → (e && (s && true) || l && (z || false)) ≡ true
 fitting-so true true l z h = refl
@@ -75,36 +73,24 @@ module _ (b : List ℕ) (state : ℕ) (name : List ℕ) (whole : length b ≡ 51
   unfolding settled renewed
   settled-zero = sealed-zero (drafted b state (cleared (getD b 9 0)) name) (drafted-length b state (cleared (getD b 9 0)) name ∙ whole)
 
-  byte-10 : getD new 10 0 ≡ getD b 10 0
-  byte-10 = low 10 (omega arith) (omega arith) (omega arith) (omega arith)
-
-  byte-11 : getD new 11 0 ≡ getD b 11 0
-  byte-11 = low 11 (omega arith) (omega arith) (omega arith) (omega arith)
-
-  byte-12 : getD new 12 0 ≡ getD b 12 0
-  byte-12 = low 12 (omega arith) (omega arith) (omega arith) (omega arith)
-
-  byte-13 : getD new 13 0 ≡ getD b 13 0
-  byte-13 = low 13 (omega arith) (omega arith) (omega arith) (omega arith)
-
-  byte-14 : getD new 14 0 ≡ getD b 14 0
-  byte-14 = low 14 (omega arith) (omega arith) (omega arith) (omega arith)
+  -- the bytes between the record's bits and the length of its server name
+  byte : (i : ℕ) → 9 < i → i < 15 → getD new i 0 ≡ getD b i 0
+  byte i u v = low i (omega arith) (omega arith) (omega arith) (omega arith)
 
   start-at : be32At new 400 ≡ be32At b 400
-  start-at = word-alike new b 400 (λ i u v. high i (omega arith) (omega arith))
+  start-at = be32-alike new b 400 400 (λ j l. high (400 + j) (omega arith) (omega arith))
 
   size-at : be16At new 404 ≡ be16At b 404
-  unfolding be16At
-  size-at = rw (high 404 (omega arith) (omega arith), high 405 (omega arith) (omega arith))
+  size-at = be16-alike new b 404 404 (λ j l. high (404 + j) (omega arith) (omega arith))
 
-  head-same : (k : ℕ) → soundHead new k ≡ soundHead b k
+  head-same : (k : ℕ) → soundHead new 2 k ≡ soundHead b 2 k
   head-same k =
       rw (
         low 0 (omega arith) (omega arith) (omega arith) (omega arith),
         low 1 (omega arith) (omega arith) (omega arith) (omega arith),
         low 2 (omega arith) (omega arith) (omega arith) (omega arith),
         low 3 (omega arith) (omega arith) (omega arith) (omega arith),
-        word-alike new b 4 (λ i u v. low i (omega arith) (omega arith) (omega arith) (omega arith)),
+        be32-alike new b 4 4 (λ j l. low (4 + j) (omega arith) (omega arith) (omega arith) (omega arith)),
       )
 
   limits-kept : state ≤ 2 → length name ≤ 96 → Limits (recordOf b) → Limits (recordOf new)
@@ -113,12 +99,12 @@ module _ (b : List ℕ) (state : ℕ) (name : List ℕ) (whole : length b ≡ 51
       record {
         state = rw state-at two;
         bits = rw bits-at (omega (arith, l .bits));
-        mandatory = rw byte-11 (l .mandatory);
-        optional = rw byte-12 (l .optional);
-        public-some = rw byte-13 (l .public-some);
-        public = rw byte-13 (l .public);
-        private-some = rw byte-14 (l .private-some);
-        private = rw byte-14 (l .private);
+        mandatory = rw (byte 11 (omega arith) (omega arith)) (l .mandatory);
+        optional = rw (byte 12 (omega arith) (omega arith)) (l .optional);
+        public-some = rw (byte 13 (omega arith) (omega arith)) (l .public-some);
+        public = rw (byte 13 (omega arith) (omega arith)) (l .public);
+        private-some = rw (byte 14 (omega arith) (omega arith)) (l .private-some);
+        private = rw (byte 14 (omega arith) (omega arith)) (l .private);
         server = rw server-at most;
         size = rw size-at (l .size);
       }
@@ -126,19 +112,19 @@ module _ (b : List ℕ) (state : ℕ) (name : List ℕ) (whole : length b ≡ 51
   server-fits : fitting state name ≡ true → soundServer (recordOf new) ≡ true
   unfolding recordOf
   server-fits fit =
-      rw (state-at, bits-at, server-at, eq-eqb (cleared (getD b 9 0) % 2) 0 (omega arith), ne-eqb (cleared (getD b 9 0) % 2) 1 (omega arith))
+      rw (state-at, bits-at, server-at, ne-eqb (cleared (getD b 9 0) % 2) 1 (omega arith))
       (fitting-so (eqb (length name) 0) (eqb state 0) (ltb 0 (length name)) (ltb 0 state) fit)
 
   rest-kept : Rest b (recordOf b) → Rest new (recordOf new)
   unfolding recordOf
   rest-kept z =
       record {
-        public = rw byte-13 (between-alike new b _ 144 (λ i u v. low i (omega arith) (omega arith) (omega arith) (omega arith)) ∙ z .public);
-        private = rw byte-14 (between-alike new b _ 272 (λ i u v. low i (omega arith) (omega arith) (omega arith) (omega arith)) ∙ z .private);
-        server = rw server-at (between-true new (272 + length name) 368 past);
-        mandatory = rw byte-11 (between-alike new b _ 384 (λ i u v. high i (omega arith) (omega arith)) ∙ z .mandatory);
-        optional = rw byte-12 (between-alike new b _ 400 (λ i u v. high i (omega arith) (omega arith)) ∙ z .optional);
-        last = between-alike new b 406 508 (λ i u v. high i (omega arith) (omega arith)) ∙ z .last;
+        public = rw (byte 13 (omega arith) (omega arith)) (zero-alike new b _ 144 (λ i u v. low i (omega arith) (omega arith) (omega arith) (omega arith)) ∙ z .public);
+        private = rw (byte 14 (omega arith) (omega arith)) (zero-alike new b _ 272 (λ i u v. low i (omega arith) (omega arith) (omega arith) (omega arith)) ∙ z .private);
+        server = rw server-at (at-zero new (272 + length name) 368 past);
+        mandatory = rw (byte 11 (omega arith) (omega arith)) (zero-alike new b _ 384 (λ i u v. high i (omega arith) (omega arith)) ∙ z .mandatory);
+        optional = rw (byte 12 (omega arith) (omega arith)) (zero-alike new b _ 400 (λ i u v. high i (omega arith) (omega arith)) ∙ z .optional);
+        last = zero-alike new b 406 508 (λ i u v. high i (omega arith) (omega arith)) ∙ z .last;
       }
 
   pub settled-sound : (k networks file : ℕ) → soundRecord b k networks file ≡ true → state ≤ 2 → length name ≤ 96 → fitting state name ≡ true
@@ -151,7 +137,7 @@ module _ (b : List ℕ) (state : ℕ) (name : List ℕ) (whole : length b ≡ 51
         head = rw (head-same k) (was .head);
         limits = limits-hold (recordOf new) (limits-kept two most (limits-say (recordOf b) (was .limits)));
         server = server-fits fit;
-        roaming = rw byte-10 (was .roaming);
+        roaming = rw (byte 10 (omega arith) (omega arith)) (was .roaming);
         profile = rw (start-at, size-at) (was .profile);
         rest = rest-holds new (recordOf new) (rest-kept (rest-says b (recordOf b) (was .rest)));
       })

@@ -2,9 +2,9 @@
 use Prim.Native.Nat.{ℕ, suc}
 use mathlib.Core.Bool.{Bool, _&&_, _||_, cond}
 use mathlib.Core.List.{List}
-use lib.ListN.{length, getD}
+use lib.ListN.{length}
 use lib.Dec.{eqb, ltb}
-use Rattle.record.specs.Fields.{cleared}
+use Rattle.record.specs.Fields.{bitsOf, cleared}
 use Rattle.table.specs.Blocks.{blockOf, tableOf}
 use Rattle.lookup.specs.declared.Found.{Found}
 use Rattle.lookup.specs.declared.Found.the-variants.{At, Nothing}
@@ -12,11 +12,11 @@ use Rattle.rewrite.specs.Renew.{renewed, rewritten}
 
 -- "Effects, pending cleared": a record block with another state and another server name
 unfoldable pub settled : List ℕ → ℕ → List ℕ → List ℕ
-settled b state name = renewed b state (cleared (getD b 9 0)) name
+settled b state name = renewed b state (cleared (bitsOf b)) name
 
 -- a table with block k settled; with a found record settled
 unfoldable pub settledIn : List ℕ → ℕ → ℕ → List ℕ → List ℕ
-settledIn t k state name = rewritten t k state (cleared (getD (blockOf t k) 9 0)) name
+settledIn t k state name = rewritten t k state (cleared (bitsOf (blockOf t k))) name
 
 unfoldable pub settledFound : List ℕ → Found → ℕ → List ℕ → List ℕ
 settledFound t (At k) state name = settledIn t k state name

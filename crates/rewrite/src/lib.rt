@@ -13,9 +13,6 @@ ghost use Rattle.lookup.specs.Find.{endOf};
 ghost use Rattle.rewrite.specs.Effect.{settledIn, settledFound};
 ghost use Rattle.rewrite.specs.Renew.{sealed, renewed, rewritten};
 
-// The bytes of a server name's field.
-pub const SERVER_FIELD: usize = 96;
-
 // Gives a block a new check word: the old one, less what the block sums to.
 fn seal(b: &mut [u8])
     requires { ⌜ length (now b) ≡ 512 ⌝ }
@@ -33,12 +30,12 @@ fn renew(b: &mut [u8], state: u8, bits: u8, name: &[u8])
     b[Record::STATE_AT] = state;
     b[Record::BITS_AT] = bits;
     b[Record::SERVER_LENGTH_AT] = name.len() as u8;
-    run::put_name(b, Record::SERVER_AT, SERVER_FIELD, name);
+    run::put_name(b, Record::SERVER_AT, Record::SERVER_FIELD, name);
     seal(b);
 }
 
 // Renews block k of a table.
-pub fn rewrite_block(t: &mut [u8], k: usize, state: u8, bits: u8, name: &[u8])
+fn rewrite_block(t: &mut [u8], k: usize, state: u8, bits: u8, name: &[u8])
     requires { ⌜ (512 * k + 512 ≤ length (now t)) × (length (now name) ≤ 96) ⌝ }
     ensures { λ _. ⌜ now (t .exit) ≡ rewritten (now (t .entry)) k state bits (now (name .entry)) ⌝ }
 {
@@ -47,14 +44,14 @@ pub fn rewrite_block(t: &mut [u8], k: usize, state: u8, bits: u8, name: &[u8])
 }
 
 // A record's bits without pending.
-pub fn clear(bits: u8) -> u8
+fn clear(bits: u8) -> u8
     ensures { λ r. ⌜ r ≡ cleared bits ⌝ }
 {
     bits - bits % 2
 }
 
 // Gives record k another state and another server name, and clears pending.
-pub fn settle(t: &mut [u8], k: usize, state: u8, name: &[u8])
+fn settle(t: &mut [u8], k: usize, state: u8, name: &[u8])
     requires { ⌜ (512 * k + 512 ≤ length (now t)) × (length (now name) ≤ 96) ⌝ }
     ensures { λ _. ⌜ now (t .exit) ≡ settledIn (now (t .entry)) k state (now (name .entry)) ⌝ }
 {

@@ -32,7 +32,7 @@ pub fn block(t: &[u8], k: usize) -> &[u8]
 }
 
 // Whether the public identity of one block is less than that of another.
-pub fn less(a: &[u8], b: &[u8]) -> bool
+fn less(a: &[u8], b: &[u8]) -> bool
     requires { ⌜ (length (now a) ≡ 512) × (length (now b) ≡ 512) ⌝ }
     ensures { λ r. ⌜ r ≡ isLess (orderOf (publicOf (now (a .entry))) (publicOf (now (b .entry)))) ⌝ }
 {
@@ -44,7 +44,7 @@ pub fn less(a: &[u8], b: &[u8]) -> bool
 }
 
 // Whether the public identity of block k comes after that of the record before, if there is one.
-pub fn rises(t: &[u8], k: usize) -> bool
+fn rises(t: &[u8], k: usize) -> bool
     requires { ⌜ (1 ≤ k) × (512 * k + 512 ≤ length (now t)) ⌝ }
     ensures { λ r. ⌜ r ≡ risesAt (now (t .entry)) k ⌝ }
 {
@@ -55,7 +55,7 @@ pub fn rises(t: &[u8], k: usize) -> bool
 }
 
 // Whether block k is a sound record in its place.
-pub fn record_at(t: &[u8], networks: u32, file: usize, k: usize) -> bool
+fn record_at(t: &[u8], networks: u32, file: usize, k: usize) -> bool
     requires { ⌜ (1 ≤ k) × (k ≤ 4096) × (networks ≤ 8) × (512 * k + 512 ≤ length (now t)) ⌝ }
     ensures { λ r. ⌜ r ≡ soundAt (now (t .entry)) networks file k ⌝ }
 {
@@ -63,7 +63,7 @@ pub fn record_at(t: &[u8], networks: u32, file: usize, k: usize) -> bool
 }
 
 // The records of a table, one after the other.
-pub fn records(t: &[u8], count: usize, networks: u32, file: usize) -> Checked
+fn records(t: &[u8], count: usize, networks: u32, file: usize) -> Checked
     requires { ⌜ (count ≤ 4096) × (networks ≤ 8) × (length (now t) ≡ 512 * (count + 1)) ⌝ }
     ensures { λ r. ⌜ r ≡ checkRecords (now (t .entry)) count networks file ⌝ }
 {

@@ -1,7 +1,8 @@
 use Prim.Native.Nat.{_≤_, _-_, _+_}
-use mathlib.Core.Path.{_≡_}
+use mathlib.Core.Path.{_≡_, refl}
 use Rattle.lookup.specs.Find.{firstFrom, findPublic, publicIs}
-use Rattle.lookup.proofs.Halves.{halves-start, halves-less, halves-equal, halves-greater, halves-none}
+use Rattle.lookup.proofs.First.{first-start}
+use Rattle.lookup.proofs.Halves.{halves-less, halves-equal, halves-greater, halves-none}
 use borrow.Author.Needs.{needs}
 use Rattle.lookup.proofs.find_public.Statement.{statement}
 use Rattle.lookup.proofs.find_public.Tie as tie
@@ -12,6 +13,10 @@ Inv-loop t count name low₀ high₀ low high = (1 ≤ low) × (high ≤ count +
 abbrev μ-loop : tie.MeasureT-loop
 μ-loop t count name low₀ high₀ low high = high - low
 
+loop-holds : tie.Need-loop-holds Inv-loop μ-loop
+unfolding findPublic
+loop-holds c = (search needs, search needs, first-start _ _ refl)
+
 pub find-public-spec : {M : Type 1} → statement M
 find-public-spec =
     tie.close
@@ -19,7 +24,7 @@ find-public-spec =
     Inv-loop
     μ-loop
     (λ c. search needs)
-    (λ c. search (needs, halves-start))
+    loop-holds
     (λ c κs. search needs)
     (λ c κs. search needs)
     (λ c κs. search needs)

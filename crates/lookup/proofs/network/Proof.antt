@@ -3,14 +3,15 @@ use mathlib.Core.Bool.{true}
 use mathlib.Core.Path.{_≡_}
 use lib.ListN.{length}
 use Rattle.octets.specs.All.{allBelow}
+use Rattle.octets.proofs.All.{all-none}
 use Rattle.lookup.specs.Network.{agreeAt, networkIs, seek, networkNumber}
-use Rattle.lookup.proofs.Places.{places-start, places-end, bytes-none, bytes-more, place-miss, place-hit}
+use Rattle.lookup.proofs.Places.{places-start, places-end, bytes-more, place-miss, place-hit}
 use borrow.Author.Needs.{needs}
 use Rattle.lookup.proofs.network.Statement.{statement}
 use Rattle.lookup.proofs.network.Tie as tie
 
 abbrev Inv-loop : tie.InvT-loop
-Inv-loop b count name k at i₀ i = (i ≤ length name) × (allBelow (agreeAt b at name) i ≡ true)
+Inv-loop b count name k at i₀ i = (i ≤ length name) × (true ≡ allBelow (agreeAt b at name) i)
 
 abbrev μ-loop : tie.MeasureT-loop
 μ-loop b count name k at i₀ i = length name - i
@@ -31,7 +32,7 @@ network-spec =
     μ-places
     (λ c. search (needs, places-start))
     (λ c κs. search needs)
-    (λ c. search (needs, bytes-none))
+    (λ c. search (needs, all-none))
     (λ c κs. search needs)
     (λ c. search needs)
     (λ c. search needs)

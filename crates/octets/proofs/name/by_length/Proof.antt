@@ -1,5 +1,4 @@
 use borrow.Author.Tests.{lt-ltb, le-ltb}
-use borrow.Author.Needs.{needs}
 use Rattle.octets.proofs.name.by_length.Statement.{statement}
 use Rattle.octets.proofs.name.by_length.Tie as tie
 

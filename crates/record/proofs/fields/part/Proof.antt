@@ -1,4 +1,4 @@
-use Rattle.record.proofs.Parts.{part-cut, part-short}
+use Rattle.octets.proofs.Parts.{part-cut, part-short}
 use borrow.Author.Needs.{needs}
 use Rattle.record.proofs.fields.part.Statement.{statement}
 use Rattle.record.proofs.fields.part.Tie as tie

@@ -1,23 +1,24 @@
 -- What a sound block says, a field for each test of it.
 use Prim.Native.Nat.{ℕ, _+_, _*_, _≤_}
-use mathlib.Core.Bool.{true}
+use mathlib.Core.Bool.{Bool, true}
 use mathlib.Core.Path.{_≡_}
 use mathlib.Core.List.{List, [], _∷_}
 use lib.Dec.{eqb, leb}
 use borrow.Author.Tests.{eqb-true, leb-true, eq-eqb, le-leb}
 use Rattle.octets.specs.Run.{zeroBetween}
 use Rattle.octets.specs.Sum.{sumWords}
+use Rattle.octets.proofs.Chains.{chain-says, _also_}
+use Rattle.record.specs.Fields.{soundHead}
 use Rattle.record.specs.HeaderBlock as header
 use Rattle.record.specs.HeaderBlock.{headerOf, soundCounts, soundNumbers, soundHeader}
 use Rattle.record.specs.Networks.{soundNetworks}
-use Rattle.record.specs.RecordBlock.{recordOf, soundHead, soundLimits, soundServer, soundRoaming, soundProfile, soundRest, soundRecord}
+use Rattle.record.specs.RecordBlock.{recordOf, soundLimits, soundServer, soundRoaming, soundProfile, soundRest, soundRecord}
 use Rattle.record.specs.declared.subscriber.Record.{Record}
-use Rattle.lookup.proofs.Chains.{chain-says, _also_}
 
 -- A record block: its tests, its limits, and what is zero in it.
 pub record RecordTests (b : List ℕ) (k networks file : ℕ) : Type 0 where
   pub sum : sumWords b 128 ≡ 0
-  pub head : soundHead b k ≡ true
+  pub head : soundHead b 2 k ≡ true
   pub limits : soundLimits (recordOf b) ≡ true
   pub server : soundServer (recordOf b) ≡ true
   pub roaming : soundRoaming (recordOf b) networks ≡ true
@@ -90,9 +91,7 @@ pub record HeaderTests (b : List ℕ) : Type 0 where
   pub count : headerOf b .count ≤ 4096
   pub networks : headerOf b .networks ≤ 8
   pub keep : headerOf b .keep ≤ 1
-  pub host-some : 1 ≤ headerOf b .host
   pub host : headerOf b .host ≤ 64
-  pub realm-some : 1 ≤ headerOf b .realm
   pub realm : headerOf b .realm ≤ 64
   pub places : soundNetworks b (headerOf b .networks) ≡ true
 
@@ -101,15 +100,14 @@ unfolding soundHeader
 header-says b e =
     let two = chain-says (soundCounts (headerOf b)) (_ ∷ []) e in
     let c = chain-says _ (_ ∷ []) (two 0) in
-    let s = chain-says (eqb (sumWords b 128) 0) (header.soundTop b ∷ soundNumbers (headerOf b) ∷ header.soundRest b (headerOf b) ∷ soundNetworks b (headerOf b .networks) ∷ []) (two 1) in
+    let tests : List Bool = soundHead b 1 0 ∷ soundNumbers (headerOf b) ∷ header.soundRest b (headerOf b) ∷ soundNetworks b (headerOf b .networks) ∷ [] in
+    let s = chain-says (eqb (sumWords b 128) 0) tests (two 1) in
     let n = chain-says (leb (headerOf b .keep) 1) (_ ∷ _ ∷ _ ∷ _ ∷ []) (s 2) in
     record {
       count = leb-true _ _ (c 0);
       networks = leb-true _ _ (c 1);
       keep = leb-true _ _ (n 0);
-      host-some = leb-true _ _ (n 1);
       host = leb-true _ _ (n 2);
-      realm-some = leb-true _ _ (n 3);
       realm = leb-true _ _ (n 4);
       places = s 4;
     }

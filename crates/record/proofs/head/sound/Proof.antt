@@ -1,9 +1,9 @@
 use borrow.Author.Needs.{needs}
-use Rattle.record.proofs.subscriber.head.Statement.{statement}
-use Rattle.record.proofs.subscriber.head.Tie as tie
+use Rattle.record.proofs.head.sound.Statement.{statement}
+use Rattle.record.proofs.head.sound.Tie as tie
 
-pub head-spec : {M : Type 1} → statement M
-head-spec =
+pub sound-spec : {M : Type 1} → statement M
+sound-spec =
     tie.close
     (tie.spec
     (λ c. search needs)
