@@ -65,6 +65,3 @@ module _ (s : List ℕ) (at : ℕ) {b xs all : List ℕ} {n : ℕ} where
       pub turn-more : {ys : List ℕ} {k : ℕ} → Wrote (proxy (take len (drop at s))) (midOf n (length xs - n) xs) ys k
           → Going b (putMid n (length xs - n) xs ys) (n + k) (proxies (walk (drop next s))) all
       turn-more w = going-more step w
-
-pub turn-less : (s : List ℕ) (at : ℕ) (r : Read) (len next head flags : ℕ) → r ≡ readOf at (drop at s) → r ≡ Avp len next head flags → at < length s → length s - next < length s - at
-turn-less s at r len next head flags e d h = omega (arith, read-says s at r e len next head flags d .later)

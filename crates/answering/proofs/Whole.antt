@@ -3,7 +3,7 @@ use Prim.Native.Nat.{ℕ, _+_, _-_, _≤_}
 use mathlib.Core.Path.{_≡_, refl, sym, ap, _∙_}
 use mathlib.Core.List.{List, _++_, append-assoc}
 use native.Mathlib.Omega.{arith}
-use lib.ListN.{length, take}
+use lib.ListN.{length, take, length-take}
 use borrow.Rule.Slice.PartMut.{midOf, putMid}
 use Rattle.octets.specs.Run.{Wrote}
 use Rattle.octets.proofs.Writes.{then, named, then-front, front}
@@ -66,9 +66,8 @@ module _ (req t file : List ℕ) (g : Given) where
   wrote-answer w = named (sym answer-is) refl w
 
 -- What was written in one place is copied to another.
-module _ {w b xs : List ℕ} {n : ℕ} (p : Wrote w b xs n) where
-  pub copy-room : {m : ℕ} → n ≤ 36864 → 36864 ≤ m → length (take n xs) ≤ m
-  copy-room h k = rw (front p) (omega (arith, p .count))
+pub copy-room : (xs : List ℕ) {n m : ℕ} → n ≤ 36864 → 36864 ≤ m → length (take n xs) ≤ m
+copy-room xs h k = rw length-take (omega arith)
 
-  pub wrote-copy : {d ys : List ℕ} → Wrote (take n xs) d ys (length (take n xs)) → Wrote w d ys n
-  wrote-copy q = named (front p) (ap length (front p) ∙ sym (p .count)) q
+pub wrote-copy : {w b xs : List ℕ} {n : ℕ} → Wrote w b xs n → {d ys : List ℕ} → Wrote (take n xs) d ys (length (take n xs)) → Wrote w d ys n
+wrote-copy p q = named (front p) (ap length (front p) ∙ sym (p .count)) q

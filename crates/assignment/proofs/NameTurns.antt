@@ -1,24 +1,23 @@
 -- The turns of the loops over a SAR's identities, and what there are of them.
 use Prim.Native.Nat.{ℕ, _+_, _*_, _≤_, _<_}
 use mathlib.Core.List.{List, [], _∷_}
-use mathlib.Core.Option.{none, some}
-use mathlib.Core.Bool.{Bool, true, false, cond, _&&_, _||_}
+use mathlib.Core.Option.{none}
+use mathlib.Core.Bool.{Bool, true, false, _&&_}
 use mathlib.Core.Path.{_≡_, refl, sym, ap, _∙_}
-use mathlib.Core.Logic.{_≢_}
 use native.Mathlib.Omega.{arith}
 use lib.ListN.{length, drop}
 use lib.Dec.{eqb}
-use borrow.Author.Tests.{eqb-true, eqb-false, eq-eqb, ne-eqb, lt-ltb}
+use borrow.Author.Tests.{eqb-true, eqb-false, eq-eqb, lt-ltb}
 use Rattle.record.specs.Fields.{privateOf}
 use Rattle.table.specs.Blocks.{blockOf}
 use Rattle.table.proofs.Blocks.{block-length}
-use Rattle.lookup.specs.Find.{endOf, firstFrom, publicIs, findPublic}
+use Rattle.lookup.specs.Find.{firstFrom, publicIs, findPublic}
 use Rattle.lookup.specs.SoundTable.{Ordered}
 use Rattle.lookup.specs.declared.Found.{Found}
 use Rattle.lookup.specs.declared.Found.the-variants.{At, Nothing}
 use Rattle.lookup.proofs.First.{Stands, first-stands}
-use Rattle.rewrite.specs.Effect.{settled, settledAt, settledIn, settledFound, afterOf}
-use Rattle.rewrite.proofs.Effects.{in-length, in-here, in-other, found-kept, found-ordered}
+use Rattle.rewrite.specs.Effect.{settledAt, settledIn, settledFound, afterOf}
+use Rattle.rewrite.proofs.Effects.{in-here, in-other, found-kept, found-ordered}
 use Rattle.rewrite.proofs.Settled.{Kept, kept-found}
 use Rattle.rewrite.proofs.Tables.{after-same, after-none, at-same, at-twice}
 use Rattle.diameter.specs.Avp.{dataOf}
@@ -26,13 +25,11 @@ use Rattle.diameter.specs.Walk.{walk}
 use Rattle.diameter.specs.Reader.{avpAt, dataAt}
 use Rattle.diameter.proofs.Reading.{walk-past}
 use Rattle.reading.specs.Found.{failedBy, numberOf}
-use Rattle.reading.specs.Request.{example, bodyOf, identities}
-use Rattle.reading.specs.declared.Outcome.the-variants.{Base}
+use Rattle.reading.specs.Request.{bodyOf, identities}
 use Rattle.requests.specs.Identity.{Named}
 use Rattle.requests.specs.declared.identities.Next.{Next}
 use Rattle.requests.specs.declared.identities.Next.the-variants as next
 use Rattle.requests.proofs.Naming.{named-none, named-first, named-stands, named-failed}
-use Rattle.decisions.specs.Reply.{failing}
 use Rattle.decisions.specs.Assignment.{isOne, findAll, numbersOf, identityFault}
 use Rattle.assignment.specs.Survey.{both, strange, lookFound, surveyOf, surveyBy}
 use Rattle.assignment.specs.Identities.{Begins, Tells}
@@ -138,13 +135,6 @@ module _ (x : List ℕ) (count : ℕ) (ordered : Ordered x count) (state : ℕ) 
 
         pub settle-ordered : Ordered y count
         settle-ordered = rw ey (found-ordered x count ordered state name (publicIs x m) f stood)
-
-        pub settle-fits : endOf f ≤ length x
-        settle-fits = go f stood
-          where
-            go : (g : Found) → firstFrom (publicIs x m) count 1 ≡ g → endOf g ≤ length x
-            go (At k) e = let u : Stands (publicIs x m) count 1 k = first-stands (publicIs x m) count 1 k e in omega (arith, u .to, ordered .size)
-            go Nothing e = omega arith
 
 -- How many identities there are.
 module _ (s : List ℕ) (removal named : Bool) (r : Next) (n : Named s 20 r) where

@@ -1,8 +1,8 @@
 -- A plan made of a right survey decides as document 01 does.
 use Prim.Native.Nat.{ℕ, _≤_}
-use mathlib.Core.List.{List, []}
+use mathlib.Core.List.{List}
 use mathlib.Core.Bool.{Bool, true, false, not, cond, _&&_, _||_}
-use mathlib.Core.Path.{_≡_, refl, sym, ap, _∙_}
+use mathlib.Core.Path.{_≡_, refl, _∙_}
 use native.Mathlib.Omega.{arith}
 use lib.Dec.{eqb, leb}
 use borrow.Author.Tests.{ne-eqb}
@@ -10,14 +10,13 @@ use Rattle.reading.specs.Found.{failedBy}
 use Rattle.reading.specs.declared.Outcome.{Outcome}
 use Rattle.reading.specs.declared.Outcome.the-variants.{Base, Experimental}
 use Rattle.decisions.specs.Types.{effectOf}
-use Rattle.decisions.specs.Reply.{Reply, plain}
-use Rattle.decisions.specs.Assignment.{Decision, Assignment, every, isEmpty, numbersOf, findAll, ownedUpTo, allKnown, firstOf, ownerOf, ownAt, storesAt, fitsAt, rightAt, assigned, unaltered, effected, assignRecords}
+use Rattle.decisions.specs.Reply.{plain}
+use Rattle.decisions.specs.Assignment.{Assignment, every, isEmpty, numbersOf, findAll, ownedUpTo, allKnown, firstOf, ownerOf, ownAt, storesAt, fitsAt, rightAt, assigned, unaltered, effected, assignRecords}
 use Rattle.decisions.specs.Planned.{replyOf, plannedRecords, planned, decisionOf}
 use Rattle.assignment.specs.Survey.{findingOf}
 use Rattle.decisions.specs.Gives.{givenPlain}
 use Rattle.assignment.specs.Plans.{grant, only, writing, planOf}
 use Rattle.assignment.specs.declared.Survey.{Survey}
-use Rattle.assignment.specs.declared.Finding.{Finding}
 use Rattle.assignment.specs.declared.Finding.the-variants.{Unknown, Foreign, Held, NotHeld, Taken, WrongState, Fine}
 
 -- What each plan decides.
@@ -69,10 +68,6 @@ pub record Right (t : List ℕ) (count : ℕ) (s : Assignment) (records : List �
 pub record FirstIs (t : List ℕ) (count : ℕ) (s : Assignment) (records : List ℕ) (first : ℕ) : Type 0 where
   pub same : allKnown t count s ≡ true → leb (s .kind) 3 ≡ true → first ≡ firstOf records
   pub there : allKnown t count s ≡ true → leb (s .kind) 3 ≡ true → 1 ≤ firstOf records
-
-wrong-states : (x y : Bool) → not (not x && y) ≡ (x || not y)
-wrong-states true y = refl
-wrong-states false y = refl
 
 finding-unknown : (v : Survey) (kind : ℕ) → v .known ≡ false → findingOf v kind ≡ Unknown
 unfolding findingOf

@@ -1,33 +1,31 @@
 -- What the plan of a SAR promises, by its identities.
-use Prim.Native.Nat.{ℕ, _+_, _≤_}
+use Prim.Native.Nat.{ℕ, _≤_}
 use mathlib.Core.List.{List, [], _∷_}
-use mathlib.Core.Option.{Option, none, some}
+use mathlib.Core.Option.{none, some}
 use mathlib.Core.Bool.{Bool, true, false, cond, not, _&&_, _||_, true≢false}
 use mathlib.Core.Path.{_≡_, refl, sym, ap, _∙_}
 use native.Mathlib.Omega.{arith}
 use lib.Dec.{eqb, leb}
-use borrow.Author.Tests.{leb-true, lt-leb, eqb-true, ne-eqb}
-use Rattle.octets.proofs.All.{and-left, and-right}
+use borrow.Author.Tests.{leb-true, eqb-true, ne-eqb}
+use Rattle.octets.proofs.All.{and-left}
 use Rattle.record.specs.Fields.{privateOf}
 use Rattle.table.specs.Blocks.{blockOf, privateAt}
 use Rattle.lookup.specs.Find.{isAt, firstFrom, publicIs, findPublic, findPrivate}
 use Rattle.lookup.specs.declared.Found.{Found}
 use Rattle.lookup.specs.declared.Found.the-variants.{At, Nothing}
-use Rattle.lookup.proofs.First.{Stands, first-stands}
-use Rattle.diameter.specs.Avp.{dataOf}
-use Rattle.diameter.specs.Reader.{avpAt, dataAt}
+use Rattle.lookup.proofs.First.{first-stands}
+use Rattle.diameter.specs.Reader.{dataAt}
 use Rattle.reading.specs.Found.{failedBy}
 use Rattle.reading.specs.Request.{bodyOf, identities}
 use Rattle.reading.specs.declared.Outcome.the-variants.{Base, Experimental}
-use Rattle.reading.specs.declared.Verdict.{Verdict}
 use Rattle.decisions.specs.Types.{groupOf, isRemoval, startOf, between}
 use Rattle.decisions.specs.Reply.{Reply, plain, failing}
 use Rattle.decisions.specs.Gives.{givenFault}
-use Rattle.decisions.specs.Assignment.{Decision, Assignment, identityFault, every, isEmpty, findAll, numbersOf, ownedUpTo, recordsOf, allKnown, firstOf, ownerOf, ownAt, storesAt, fitsAt, rightAt, unaltered, assignRecords, assignKnown, assign}
+use Rattle.decisions.specs.Assignment.{Assignment, identityFault, every, isEmpty, findAll, numbersOf, ownedUpTo, recordsOf, allKnown, ownerOf, unaltered, assignRecords, assignKnown, assign}
 use Rattle.decisions.specs.Planned.{replyOf, planned, decisionOf}
 use Rattle.decisions.specs.declared.Group.{Group}
 use Rattle.decisions.specs.declared.Group.the-variants.{Removal, Failure, Rest}
-use Rattle.decisions.specs.declared.Start.the-variants.{Registered, NotRegistered, Present, Every}
+use Rattle.decisions.specs.declared.Start.the-variants.{Present}
 use Rattle.decisions.specs.declared.Given.{Given}
 use Rattle.decisions.specs.declared.Plan.{Plan}
 use Rattle.assignment.specs.Survey.{strange, surveyOf, surveyBy, sightOf, findingOf}

@@ -1,8 +1,8 @@
 -- Laws of what is seen of a SAR's records: one identity more, one block more.
 use Prim.Native.Nat.{ℕ, zero, suc}
 use mathlib.Core.List.{List, [], _∷_, _++_}
-use mathlib.Core.Bool.{Bool, true, false, not, cond, _&&_, _||_}
-use mathlib.Core.Path.{_≡_, refl, sym, ap, _∙_}
+use mathlib.Core.Bool.{Bool, true, false, cond, _&&_}
+use mathlib.Core.Path.{_≡_, refl, sym}
 use lib.Dec.{ltb}
 use Rattle.octets.specs.Name.{same}
 use Rattle.octets.proofs.All.{and-left, and-right}
@@ -10,13 +10,11 @@ use Rattle.record.specs.Fields.{privateOf, stateOf}
 use Rattle.decisions.specs.Types.{startOf}
 use Rattle.decisions.specs.declared.Start.the-variants.{Present}
 use Rattle.table.specs.Blocks.{blockOf, privateAt}
-use Rattle.lookup.specs.Find.{isAt}
 use Rattle.lookup.specs.declared.Found.{Found}
 use Rattle.lookup.specs.declared.Found.the-variants.{At, Nothing}
 use Rattle.decisions.specs.Assignment.{every, isEmpty, numbersOf, ownedHere, ownedUpTo, ownAt, storesAt, fitsAt, rightAt}
-use Rattle.assignment.specs.Survey.{both, clean, strange, lookAt, lookFound, surveyOf, sightOf, glimpsed}
+use Rattle.assignment.specs.Survey.{both, lookAt, lookFound, surveyOf, sightOf, glimpsed}
 use Rattle.assignment.specs.declared.Survey.{Survey}
-use Rattle.assignment.specs.declared.Sight.{Sight}
 
 -- One identity more.
 pub survey-cons : (t owner server : List ℕ) (kind : ℕ) (f : Found) (fs : List Found)

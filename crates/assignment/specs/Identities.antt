@@ -1,12 +1,12 @@
 -- What the code tells of a SAR's identities.
-use Prim.Native.Nat.{ℕ, _≤_, _<_}
+use Prim.Native.Nat.{ℕ}
 use mathlib.Core.Path.{_≡_}
 use mathlib.Core.List.{List, [], _∷_}
 use mathlib.Core.Option.{none, some}
 use mathlib.Core.Bool.{Bool}
 use Rattle.diameter.specs.Reader.{avpAt}
 use Rattle.reading.specs.Kinds.{publicIdentity}
-use Rattle.reading.specs.Request.{example, bodyOf, identities}
+use Rattle.reading.specs.Request.{bodyOf, identities}
 use Rattle.reading.specs.declared.Outcome.the-variants.{Base}
 use Rattle.reading.specs.declared.Verdict.{Verdict}
 use Rattle.reading.specs.Found.{failedBy}

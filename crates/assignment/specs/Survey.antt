@@ -1,7 +1,7 @@
 -- What the code sees of the records of a SAR, in one pass.
 use Prim.Native.Nat.{ℕ}
 use mathlib.Core.List.{List}
-use mathlib.Core.Bool.{Bool, true, false, not, cond, _&&_, _||_}
+use mathlib.Core.Bool.{true, false, not, cond, _&&_, _||_}
 use lib.ListN.{getD}
 use lib.Dec.{eqb}
 use Rattle.octets.specs.Name.{same}
@@ -17,13 +17,10 @@ use Rattle.assignment.specs.declared.Sight.{Sight}
 use Rattle.assignment.specs.declared.Finding.{Finding}
 use Rattle.assignment.specs.declared.Finding.the-variants.{Unknown, Foreign, Held, NotHeld, Taken, WrongState, Fine}
 
--- two surveys as one; that of no record; that of an identity that is unknown
+-- two surveys as one; that of an identity that is unknown
 abbrev pub both : Survey → Survey → Survey
 both a b =
     record { known = a .known && b .known; own = a .own && b .own; stores = a .stores && b .stores; fits = a .fits && b .fits; right = a .right && b .right }
-
-abbrev pub clean : Survey
-clean = record { known = true; own = true; stores = true; fits = true; right = true }
 
 abbrev pub strange : Survey
 strange = record { known = false; own = true; stores = true; fits = true; right = true }

@@ -10,7 +10,7 @@ use requests::walk;
 ghost use mathlib.Core.Path.{_≡_};
 ghost use Prim.Native.Nat.{_≤_};
 ghost use lib.ListN.{length};
-ghost use Rattle.lookup.specs.Find.{endOf, findPublic};
+ghost use Rattle.lookup.specs.Find.{endOf};
 ghost use Rattle.lookup.specs.SoundTable.{Ordered};
 ghost use Rattle.rewrite.specs.Effect.{afterOf};
 ghost use Rattle.reading.specs.Request.{bodyOf, identities};

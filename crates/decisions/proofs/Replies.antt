@@ -2,14 +2,13 @@
 use Prim.Native.Nat.{ℕ, zero, suc, _≤_}
 use mathlib.Core.Bool.{Bool, true, false, cond}
 use mathlib.Core.Path.{_≡_, refl}
-use mathlib.Core.List.{List, []}
-use mathlib.Core.Option.{none}
+use mathlib.Core.List.{List}
 use native.Mathlib.Omega.{arith}
 use lib.ListN.{length}
 use lib.Dec.{eqb}
 use borrow.Author.Tests.{eq-eqb, ne-eqb}
 use Rattle.record.specs.Fields.{serverOf}
-use Rattle.table.specs.Blocks.{blockOf, privateAt}
+use Rattle.table.specs.Blocks.{blockOf}
 use Rattle.lookup.specs.Find.{findServer}
 use Rattle.lookup.specs.declared.Found.{Found}
 use Rattle.lookup.specs.declared.Found.the-variants.{At, Nothing}
@@ -17,9 +16,9 @@ use Rattle.reading.specs.Found.{failedBy}
 use Rattle.reading.specs.declared.Outcome.{Outcome}
 use Rattle.reading.specs.declared.Outcome.the-variants.{Base}
 use Rattle.reading.specs.declared.Verdict.{Verdict}
-use Rattle.decisions.specs.Reply.{plain, failing, serving, served, capable, servedBy, profileOf}
+use Rattle.decisions.specs.Reply.{plain, failing, serving, served, capable, servedBy}
 use Rattle.decisions.specs.Planned.{replyOf}
-use Rattle.decisions.specs.Gives.{givenFault, givenPlain, givenServer, givenCapable, givenUser, Gives}
+use Rattle.decisions.specs.Gives.{givenFault, givenPlain, givenServer, givenCapable, Gives}
 use Rattle.decisions.specs.Chosen.{carried}
 use Rattle.decisions.specs.declared.Given.{Given}
 use Rattle.decisions.specs.declared.choice.Choice.{Choice}
@@ -43,20 +42,6 @@ module _ (req t file : List ℕ) {g : Given} where
   pub reply-fault : (v : Verdict) → g ≡ givenFault v → replyOf req t file g ≡ failing (v .result) (failedBy req v)
   unfolding replyOf
   reply-fault v e = rw e
-
-  pub reply-user : (r : Outcome) (k profile : ℕ) → 1 ≤ k → g ≡ givenUser r k profile
-      → replyOf req t file g
-      ≡ record {
-        result = r;
-        user = privateAt t k;
-        server = [];
-        mandatory = [];
-        optional = [];
-        profile = cond (eqb profile 0) [] (profileOf (blockOf t profile) file);
-        failed = none;
-      }
-  unfolding replyOf failedBy
-  reply-user r k profile some e = rw (e, ne-eqb k 0 (omega arith))
 
 -- "the server name (none stored: B5012)"
 module _ (t : List ℕ) (r : Outcome) (k : ℕ) {b n : List ℕ} {g : Given} (block : b ≡ blockOf t k) (name : n ≡ serverOf b) where

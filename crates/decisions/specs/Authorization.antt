@@ -1,5 +1,5 @@
 -- "UAR."
-use Prim.Native.Nat.{ℕ, _+_}
+use Prim.Native.Nat.{ℕ}
 use mathlib.Core.List.{List}
 use mathlib.Core.Bool.{Bool, cond, not, _&&_}
 use lib.ListN.{getD}

@@ -1,7 +1,7 @@
 -- What a decision gives the answer to carry.
 use Prim.Native.Nat.{ℕ, _*_}
 use mathlib.Core.List.{List, []}
-use mathlib.Core.Option.{Option, none, some}
+use mathlib.Core.Option.{Option, none}
 use mathlib.Core.Bool.{cond}
 use lib.ListN.{length, getD, take, drop}
 use lib.Dec.{eqb}
@@ -11,7 +11,7 @@ use Rattle.table.specs.Blocks.{blockOf}
 use Rattle.lookup.specs.declared.Found.{Found}
 use Rattle.lookup.specs.declared.Found.the-variants.{At, Nothing}
 use Rattle.reading.specs.declared.Outcome.{Outcome}
-use Rattle.reading.specs.declared.Outcome.the-variants.{Base, Experimental}
+use Rattle.reading.specs.declared.Outcome.the-variants.{Base}
 
 -- An empty list is an AVP that is absent: no name that is stored is empty. Capabilities are the bytes of their words.
 pub record Reply : Type 0 where

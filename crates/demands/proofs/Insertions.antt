@@ -16,8 +16,7 @@ use Rattle.reading.specs.declared.Outcome.the-variants.{Base}
 use Rattle.reading.specs.Kinds.{sessionId}
 use Rattle.reading.specs.Rules.{Seen, Judged, bad, fine, nothing, rule, onRule, judge}
 use Rattle.reading.specs.Request.{commandOf, headerFault, firstOther, complete, readWalk, example, identities}
-use Rattle.reading.specs.Insert.{Unmarked, Marked, andThen}
-use Rattle.requests.proofs.Insert.{put-judge, judge-glue, put-marked, put-failed}
+use Rattle.requests.proofs.Insert.{judge-unmarked, judge-marked, andThen, judge-glue, put-failed}
 use Rattle.decisions.specs.Decide.{decideJudged, decide}
 use Rattle.reply.specs.Answer.{proxies}
 use Rattle.ndushavire.specs.Serve.{answered, serve}
@@ -102,19 +101,12 @@ marked-or-not (keep q i) = keep-more q (marked-or-not i)
 marked-or-not (put u f i) = put-more u f i (marked-or-not i) (isMarked u) refl
 
 -- the folds that pass over unknown kinds: the judgement those without M, the identities and the copies all of them
-as-unmarked : (u : Piece) → Quiet u → Unmarked (u .avp)
-as-unmarked u p = record { plain = p .foreign .plain; stranger = p .foreign .stranger; unmarked = p .unmarked }
-
-as-marked : (u : Piece) → Foreign u → isMarked u ≡ true → Marked (u .avp)
-as-marked u p e = record { plain = p .plain; stranger = p .stranger; marking = e }
-
 judge-goes : (command : ℕ) (a : List ℕ) (v w : Walk) → judge command v ≡ judge command w → judge command (avp a v) ≡ judge command (avp a w)
 unfolding judge
 judge-goes command a v w e = fun-ext (λ seen. ap (onRule (rule command seen a) seen a) e)
 
 judge-skips : (command : ℕ) (u : Piece) (w : Walk) → Quiet u → judge command (avp (u .avp) w) ≡ judge command w
-unfolding glue
-judge-skips command u w p = fun-ext (λ seen. put-judge command [] (u .avp ∷ []) w seen (as-unmarked u p, tt))
+judge-skips command u w p = judge-unmarked command (u .avp) w (p .foreign .plain) (p .foreign .stranger) (p .unmarked)
 
 quiet-judge : (command : ℕ) {qs rs : List Piece} → Inserted Quiet qs rs → (w : Walk) → judge command (glue (avpsOf rs) w) ≡ judge command (glue (avpsOf qs) w)
 quiet-judge command = inserted-same (judge command) (judge-goes command) (judge-skips command)
@@ -177,8 +169,7 @@ none-decides head true false (bad r x) k a e g = absurd (true≢false e)
 none-decides head true false (fine seen) k a e g = rw (g seen)
 
 mark-judged : (command : ℕ) (m : Piece) (w : Walk) (seen : Seen) → Foreign m → isMarked m ≡ true → judge command (avp (m .avp) w) seen ≡ bad (Base 5001) (some (m .avp))
-unfolding glue judge andThen
-mark-judged command m w seen f e = put-marked command [] [] (m .avp) w seen tt (as-marked m f e) ∙ rw (put-failed m 5001 (f .whole) refl)
+mark-judged command m w seen f e = judge-marked command (m .avp) w (f .plain) (f .stranger) seen e ∙ rw (put-failed m 5001 (f .whole) refl)
 
 -- A request, the row of its AVPs after the first, and the longer row.
 module _ (head : List ℕ) (twenty : length head ≡ 20) (q : Piece) (qs rs : List Piece) (whole : All Whole (q ∷ qs)) (i : Inserted Foreign qs rs)

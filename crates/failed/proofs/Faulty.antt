@@ -76,27 +76,29 @@ alone-length : (h : List ℕ) → length (alone h) ≡ length h
 unfolding alone
 alone-length h = simp length-set
 
--- A header with its own length put into it.
-module _ (h y : List ℕ) {z x : List ℕ} (short : length h ≤ 12) (copy : Wrote h z x (length h)) (put : y ≡ putBe24 x 5 (length h)) where
-  alone-is : take (length h) y ≡ alone h
-  unfolding alone putBe24
-  alone-is =
-      let a : length h / 65536 % 256 ≡ 0 = omega arith in
-      let b : length h / 256 % 256 ≡ 0 = omega arith in
-      let c : length h % 256 ≡ length h = omega arith in
-      rw (put, a, b, c) (simp (take-set, front copy))
+-- A header with a number put into it, its own length.
+module _ (h y : List ℕ) (n : ℕ) {z x : List ℕ} (copy : Wrote h z x (length h)) (put : y ≡ putBe24 x 5 n) where
+  number-size : length (take (length h) y) ≡ length h
+  unfolding putBe24
+  number-size = rw put (simp (take-set, front copy, length-set))
 
-  alone-size : length (take (length h) y) ≡ length h
-  alone-size = ap length alone-is ∙ alone-length h
+  pub number-counted : length h ≡ length (take (length h) y)
+  number-counted = sym number-size
 
-  pub alone-counted : length h ≡ length (take (length h) y)
-  alone-counted = sym alone-size
+  pub number-room : {m : ℕ} → failedSize (length h) ≤ m → failedSize (length (take (length h) y)) ≤ m
+  number-room r = rw number-size r
 
-  pub alone-room : {m : ℕ} → failedSize (length h) ≤ m → failedSize (length (take (length h) y)) ≤ m
-  alone-room r = rw alone-size r
+  module _ (own : n ≡ length h) (short : length h ≤ 12) where
+    alone-is : take (length h) y ≡ alone h
+    unfolding alone putBe24
+    alone-is =
+        let a : n / 65536 % 256 ≡ 0 = omega arith in
+        let b : n / 256 % 256 ≡ 0 = omega arith in
+        let c : n % 256 ≡ length h = omega arith in
+        rw (put, a, b, c) (simp (take-set, front copy))
 
-  pub wrote-alone : {b xs : List ℕ} {r : ℕ} → Wrote (failed (take (length h) y)) b xs r → Wrote (failed (alone h)) b xs r
-  wrote-alone w = named (ap failed alone-is) refl w
+    pub wrote-alone : {b xs : List ℕ} {r : ℕ} → Wrote (failed (take (length h) y)) b xs r → Wrote (failed (alone h)) b xs r
+    wrote-alone w = named (ap failed alone-is) refl w
 
 -- For B5014 the header alone; else the AVP.
 module _ (n : ℕ) (t h : List ℕ) (is : n ≡ 5014) (eh : h ≡ headPart t) where

@@ -34,6 +34,8 @@ use Rattle.reading.specs.Rules.{Seen, Judged, bad, fine, rule, onRule, judge, f
 use Rattle.reading.specs.Request.{commandOf, bodyOf, headerFault, firstOther, example, missing, complete, readWalk, readRequest, given, dataIn, valueIn, identities}
 use Rattle.reading.specs.declared.Outcome.{Outcome}
 use Rattle.reading.specs.declared.Outcome.the-variants.{Base, Experimental}
+use Rattle.reading.specs.declared.Ruled.{Ruled}
+use Rattle.reading.specs.declared.Ruled.the-variants.{Taken, Skipped, Fault}
 use Rattle.decisions.specs.Types.{groupOf, isRemoval, effectOf}
 use Rattle.decisions.specs.Reply.{Reply, plain, failing, serving, served, mandatoryOf, optionalOf, capable, servedBy, profileOf}
 use Rattle.decisions.specs.Authorization.{mayRoam, authorizeRecord, authorizeFound, authorize}
@@ -75,13 +77,12 @@ judge-short : (m : ℕ) → m ≤ 16364 → (command : ℕ) (w : Walk) → Withi
 unfolding judge
 judge-short m h command ended i seen = tt
 judge-short m h command (faulty t) i seen = holds-short m (failedOf 5014 t) h (omega (arith, fault-length 5014 t))
-judge-short m h command (avp a w) i seen = go (eqb (rule command seen a) 0) (eqb (rule command seen a) 1) (judge-short m h command w (i .1))
+judge-short m h command (avp a w) i seen = go (rule command seen a) (judge-short m h command w (i .1))
   where
-    go : (x y : Bool) → ((s : Seen) → ShortFault (judge command w s))
-        → ShortFault (cond x (judge command w (set seen (kindOf a) (some a))) (cond y (judge command w seen) (bad (Base (rule command seen a)) (some (failedOf (rule command seen a) a)))))
-    go true y r = r (set seen (kindOf a) (some a))
-    go false true r = r seen
-    go false false r = holds-short m (failedOf (rule command seen a) a) h (omega (arith, fault-length (rule command seen a) a, i .0))
+    go : (x : Ruled) → ((s : Seen) → ShortFault (judge command w s)) → ShortFault (onRule x seen a (judge command w))
+    go Taken r = r (set seen (kindOf a) (some a))
+    go Skipped r = r seen
+    go (Fault n) r = holds-short m (failedOf n a) h (omega (arith, fault-length n a, i .0))
 
 short-cond : (x : Bool) (a b : Judged) → ShortFault a → ShortFault b → ShortFault (cond x a b)
 short-cond true a b p q = p

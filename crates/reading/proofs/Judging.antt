@@ -4,20 +4,22 @@ use native.Mathlib.Nat.{not-suc-le-zero, le-of-suc-le-suc}
 use mathlib.Core.Path.{_≡_, refl, sym, _∙_}
 use mathlib.Core.List.{List, [], _∷_, map}
 use mathlib.Core.Option.{none}
-use mathlib.Core.Bool.{Bool, true, false, not, cond, _&&_}
+use mathlib.Core.Bool.{Bool, true, false, not, _&&_}
 use lib.ListN.{length, getD, take, drop}
 use lib.Dec.{eqb, leb}
 use borrow.Author.Tests.{ne-eqb}
-use Rattle.diameter.specs.Avp.{avpHead, avpFlags, dataOf, valueOf, marked}
+use Rattle.diameter.specs.Avp.{avpHead, avpFlags, dataOf, valueOf}
 use Rattle.diameter.specs.Walk.{walk}
 use Rattle.diameter.specs.Reader.{partAt, present, Here}
 use Rattle.diameter.proofs.Parts.{counted, data-length}
 use Rattle.diameter.proofs.Reading.{flags-take}
 use Rattle.reading.specs.declared.Content.{Content}
 use Rattle.reading.specs.declared.Content.the-variants.{Free, Number, Sized, Application}
+use Rattle.reading.specs.declared.Ruled.{Ruled}
+use Rattle.reading.specs.declared.Ruled.the-variants.{Taken, Skipped, Fault}
 use Rattle.reading.specs.declared.Use.{Use}
 use Rattle.reading.specs.Kinds.{kindOf, rowOf, useIn, isUnnamed, isRepeated}
-use Rattle.reading.specs.Rules.{isFour, goodContent, members, ruleBy, rule}
+use Rattle.reading.specs.Rules.{isFour, goodContent, members, strange, ruleBy, rule}
 use Rattle.reading.specs.Found.{seenOf}
 
 -- (h), by what the kind must hold
@@ -40,41 +42,41 @@ unfolding goodContent
 content-sized s at len head h c least most e = rw (e, data-length s at len head h)
 
 -- (d)
-pub unknown-marked : (flags : ℕ) → flags / 64 % 2 ≡ 1 → _≡_ {A = ℕ} 5001 (cond (marked flags) 5001 1)
+pub unknown-marked : (flags : ℕ) → flags / 64 % 2 ≡ 1 → Fault 5001 ≡ strange flags
 unknown-marked flags e = rw e
 
-pub unknown-plain : (flags : ℕ) → (flags / 64 % 2 ≡ 1 → ⊥) → _≡_ {A = ℕ} 1 (cond (marked flags) 5001 1)
+pub unknown-plain : (flags : ℕ) → (flags / 64 % 2 ≡ 1 → ⊥) → Skipped ≡ strange flags
 unknown-plain flags h = rw (ne-eqb _ _ h)
 
-pub rule-reserved : (command : ℕ) (earlier : Bool) (k flags : ℕ) (four good : Bool) → (flags % 32 ≡ 0 → ⊥) → 3009 ≡ ruleBy command earlier k flags four good
+pub rule-reserved : (command : ℕ) (earlier : Bool) (k flags : ℕ) (four good : Bool) → (flags % 32 ≡ 0 → ⊥) → Fault 3009 ≡ ruleBy command earlier k flags four good
 unfolding ruleBy
 rule-reserved command earlier k flags four good h = rw (ne-eqb _ _ h)
 
 module _ (command : ℕ) (earlier : Bool) (k flags : ℕ) (four good : Bool) (plain : flags % 32 ≡ 0) where
-  pub rule-unknown : (r : ℕ) → k ≡ 0 → r ≡ cond (marked flags) 5001 1 → r ≡ ruleBy command earlier k flags four good
+  pub rule-unknown : (r : Ruled) → k ≡ 0 → r ≡ strange flags → r ≡ ruleBy command earlier k flags four good
   unfolding ruleBy
   rule-unknown r z e = e ∙ rw (plain, z)
 
 module _ (command : ℕ) (earlier : Bool) (k flags : ℕ) (four good : Bool) (plain : flags % 32 ≡ 0) (known : k ≡ 0 → ⊥) (u : Use) (e : u ≡ useIn command (rowOf k)) (x : Bool) (ex : x ≡ isUnnamed u) where
-  pub rule-unnamed : x ≡ true → 1 ≡ ruleBy command earlier k flags four good
+  pub rule-unnamed : x ≡ true → Skipped ≡ ruleBy command earlier k flags four good
   unfolding ruleBy
   rule-unnamed t = rw (plain, ne-eqb _ _ known, ← e, ← ex, t)
 
   module _ (named : x ≡ false) (y : Bool) (ey : y ≡ isRepeated u) where
-    pub rule-often : (earlier && not y) ≡ true → 5009 ≡ ruleBy command earlier k flags four good
+    pub rule-often : (earlier && not y) ≡ true → Fault 5009 ≡ ruleBy command earlier k flags four good
     unfolding ruleBy
     rule-often t = rw (plain, ne-eqb _ _ known, ← e, ← ex, named, ← ey, t)
 
     module _ (once : (earlier && not y) ≡ false) (c : Content) (ec : c ≡ rowOf k .content) (z : Bool) (ez : z ≡ isFour c) where
-      pub rule-four : (z && not four) ≡ true → 5014 ≡ ruleBy command earlier k flags four good
+      pub rule-four : (z && not four) ≡ true → Fault 5014 ≡ ruleBy command earlier k flags four good
       unfolding ruleBy
       rule-four t = rw (plain, ne-eqb _ _ known, ← e, ← ex, named, ← ey, once, ← ec, ← ez, t)
 
-      pub rule-good : (z && not four) ≡ false → good ≡ true → 0 ≡ ruleBy command earlier k flags four good
+      pub rule-good : (z && not four) ≡ false → not good ≡ false → Taken ≡ ruleBy command earlier k flags four good
       unfolding ruleBy
       rule-good t g = rw (plain, ne-eqb _ _ known, ← e, ← ex, named, ← ey, once, ← ec, ← ez, t, g)
 
-      pub rule-bad : (z && not four) ≡ false → good ≡ false → 5004 ≡ ruleBy command earlier k flags four good
+      pub rule-bad : (z && not four) ≡ false → not good ≡ true → Fault 5004 ≡ ruleBy command earlier k flags four good
       unfolding ruleBy
       rule-bad t g = rw (plain, ne-eqb _ _ known, ← e, ← ex, named, ← ey, once, ← ec, ← ez, t, g)
 
@@ -87,7 +89,7 @@ getD-within f (y ∷ l) (suc i) d e h = getD-within f l i d e (le-of-suc-le-suc 
 pub seen-at : (s places : List ℕ) (k : ℕ) → k < length places → getD (seenOf s places) k none ≡ partAt s (getD places k 0)
 seen-at s places k h = getD-within (partAt s) places k none 0 h
 
-pub rule-there : (s places : List ℕ) (command at len head flags k : ℕ) (earlier : Bool) (c : Content) (good : Bool) (r : ℕ) → Here s at len head → flags ≡ avpFlags (take len (drop at s))
+pub rule-there : (s places : List ℕ) (command at len head flags k : ℕ) (earlier : Bool) (c : Content) (good : Bool) (r : Ruled) → Here s at len head → flags ≡ avpFlags (take len (drop at s))
     → k ≡ kindOf (take len (drop at s)) → k < length places → earlier ≡ present (partAt s (getD places k 0)) → c ≡ rowOf k .content → good ≡ goodContent c (take len (drop at s))
     → r ≡ ruleBy command earlier k flags (eqb len (head + 4)) good → r ≡ rule command (seenOf s places) (take len (drop at s))
 unfolding rule

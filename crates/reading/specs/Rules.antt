@@ -1,4 +1,4 @@
--- "Then AVPs by position; the first fault decides": rules (a) to (h).
+-- "Then AVPs by position; the first fault decides": rules (c) to (h), and what a row of AVPs comes to. Rule (a) is the walk's, (b) the first AVP's.
 use Prim.Native.Nat.{ℕ, _+_}
 use mathlib.Core.List.{List, []}
 use mathlib.Core.Option.{Option, none, some}
@@ -13,6 +13,8 @@ use Rattle.reading.specs.declared.Content.{Content}
 use Rattle.reading.specs.declared.Content.the-variants.{Free, Number, Sized, Application}
 use Rattle.reading.specs.declared.Outcome.{Outcome}
 use Rattle.reading.specs.declared.Outcome.the-variants.{Base}
+use Rattle.reading.specs.declared.Ruled.{Ruled}
+use Rattle.reading.specs.declared.Ruled.the-variants.{Taken, Skipped, Fault}
 use Rattle.reading.specs.Kinds.{kindOf, rowOf, useIn, isUnnamed, isRepeated}
 
 -- "260 holds, in any order, one or more Vendor-Id 266, each 10415, and one Auth-Application-Id 258 of 16777216, all 4-byte AVPs passing (a) and (c),
@@ -49,18 +51,22 @@ Seen = List (Option (List ℕ))
 unfoldable pub nothing : Seen
 nothing = replicate 17 none
 
--- What (c) to (h) say of one AVP of kind k: 0 it is taken, 1 it is skipped, else the base result of the fault
-unfoldable pub ruleBy : ℕ → Bool → ℕ → ℕ → Bool → Bool → ℕ
-ruleBy command earlier k flags four good =
-    cond (not (eqb (reserved flags) 0)) 3009
-    (cond (eqb k 0) (cond (marked flags) 5001 1)
-    (cond (isUnnamed (useIn command (rowOf k))) 1
-    (cond (earlier && not (isRepeated (useIn command (rowOf k)))) 5009
-    (cond (isFour (rowOf k .content) && not four) 5014
-    (cond (not good) 5004
-    0)))))
+-- (d) "kind (vendor, code) unknown: with M B5001, else skipped"
+abbrev pub strange : ℕ → Ruled
+strange flags = cond (marked flags) (Fault 5001) Skipped
 
-unfoldable pub rule : ℕ → Seen → List ℕ → ℕ
+-- What (c) to (h) say of one AVP of kind k
+unfoldable pub ruleBy : ℕ → Bool → ℕ → ℕ → Bool → Bool → Ruled
+ruleBy command earlier k flags four good =
+    cond (not (eqb (reserved flags) 0)) (Fault 3009)
+    (cond (eqb k 0) (strange flags)
+    (cond (isUnnamed (useIn command (rowOf k))) Skipped
+    (cond (earlier && not (isRepeated (useIn command (rowOf k)))) (Fault 5009)
+    (cond (isFour (rowOf k .content) && not four) (Fault 5014)
+    (cond (not good) (Fault 5004)
+    Taken)))))
+
+unfoldable pub rule : ℕ → Seen → List ℕ → Ruled
 rule command seen a =
     ruleBy command (present (getD seen (kindOf a) none)) (kindOf a) (avpFlags a) (eqb (length a) (avpHead a + 4)) (goodContent (rowOf (kindOf a) .content) a)
 
@@ -76,11 +82,10 @@ pub data Judged : Type 0 where
   bad : Outcome → Option (List ℕ) → Judged
   fine : Seen → Judged
 
-abbrev pub onRule : ℕ → Seen → List ℕ → (Seen → Judged) → Judged
-onRule n seen a next =
-    cond (eqb n 0) (next (set seen (kindOf a) (some a)))
-    (cond (eqb n 1) (next seen)
-    (bad (Base n) (some (failedOf n a))))
+abbrev pub onRule : Ruled → Seen → List ℕ → (Seen → Judged) → Judged
+onRule Taken seen a next = next (set seen (kindOf a) (some a))
+onRule Skipped seen a next = next seen
+onRule (Fault n) seen a next = bad (Base n) (some (failedOf n a))
 
 unfoldable pub judge : ℕ → Walk → Seen → Judged
 judge command ended seen = fine seen

@@ -33,6 +33,13 @@ pub enum Use {
     Repeated,
 }
 
+// What rules (c) to (h) say of one AVP: it is taken, it is skipped, or it is at fault with this base result.
+pub enum Ruled {
+    Taken,
+    Skipped,
+    Fault(u32),
+}
+
 // What reading a request found: for each kind number the place of its last AVP (the message's length: none came), or the first fault.
 pub struct Walked {
     pub ok: bool,

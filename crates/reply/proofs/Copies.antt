@@ -1,18 +1,16 @@
 -- How long the copies out of a request are: Session-Id, every Proxy-Info, and what Failed-AVP holds.
 use Prim.Native.Nat.{ℕ, zero, suc, pred, _+_, _-_, _%_, _≤_}
 use mathlib.Core.Path.{_≡_, refl}
-use mathlib.Core.Logic.{_⊎_, inl, inr}
 use mathlib.Core.Bool.{Bool, true, false, cond, _&&_}
 use mathlib.Core.List.{List, [], _∷_}
-use mathlib.Core.Option.{none, some}
+use mathlib.Core.Option.{some}
 use native.Mathlib.Omega.{arith}
-use lib.Dec.{eqb, leb, ltb}
+use lib.Dec.{eqb, leb}
 use lib.ListN.{length, take, drop, set, replicate, length-append, length-take, length-drop, length-set}
 use lib.Seq.{length-take-le}
-use borrow.Author.Tests.{eqb-true, ne-eqb, ltb-true}
+use borrow.Author.Tests.{eqb-true, ne-eqb}
 use Rattle.diameter.specs.Avp.{padded, avpFlags, avpHead, avpLen, reserved, sound}
-use Rattle.diameter.specs.Put.{glue}
-use Rattle.diameter.specs.Walk.{Walk, ended, faulty, avp, onSound, walkFrom, walk}
+use Rattle.diameter.specs.Walk.{Walk, avp, onSound, walkFrom, walk}
 use Rattle.diameter.proofs.Walks.{sound-says}
 use Rattle.pen.specs.Bytes.{copied, copiedSize, avpBytes, vendorBytes, ifThere}
 use Rattle.pen.proofs.Sizes.{copied-length, there-length, avp-length, vendor-length}
@@ -20,15 +18,7 @@ use Rattle.pen.proofs.Groups as group
 use Rattle.reading.specs.Kinds.{kindOf, rowOf, sessionId, proxyInfo}
 use Rattle.reading.specs.Rules.{isFour, failedOf}
 use Rattle.reading.specs.Request.{bodyOf, sessionOf, exampleOf, example}
-use Rattle.reading.specs.Found.{numberOf, failedBy}
-use Rattle.reading.specs.declared.Verdict.{Verdict}
 use Rattle.reply.specs.Answer.{failedPart, proxies}
-
--- What stands from the first length fault on adds no Proxy-Info.
-pub proxies-before : (avs : List (List ℕ)) (t : List ℕ) → proxies (glue avs (faulty t)) ≡ proxies (glue avs ended)
-unfolding proxies glue
-proxies-before [] t = refl
-proxies-before (a ∷ avs) t = rw (proxies-before avs t)
 
 -- one AVP of a walk: it is Session-Id or Proxy-Info, and not both
 session-or-proxy : (a : List ℕ) (w : Walk) → copiedSize (length (sessionOf (avp a w))) + length (proxies (avp a w)) ≤ copiedSize (length a) + length (proxies w)
@@ -79,10 +69,6 @@ walked zero (x ∷ t) h e = go (sound (x ∷ t)) refl (walked (pred (padded (avp
         simp length-append (omega (arith, r, there-length (eqb (kindOf a) proxyInfo) (copied a), copied-length a))
     go false s i = omega arith
 
-pub proxies-length : (t : List ℕ) → length t % 4 ≡ 0 → length (proxies (walk t)) ≤ length t
-unfolding walk
-proxies-length t e = let n : length t - 0 ≡ length t = omega arith in rw n at (walked 0 t (omega arith) (rw n e))
-
 -- Session-Id is the first AVP and no Proxy-Info: the two are copied from different AVPs.
 session-walk : (t : List ℕ) → length t % 4 ≡ 0 → copiedSize (length (sessionOf (walk t))) + length (proxies (walk t)) ≤ length t
 unfolding walk walkFrom proxies
@@ -114,11 +100,6 @@ fault-length n t = go (eqb n 5014) (leb (avpHead t) (length t)) refl
     go true false e = omega arith
     go false y e = simp length-take (omega arith)
 
-pub failed-length : (n p : ℕ) (req : List ℕ) → 20 ≤ p → length req % 4 ≡ 0 → length (failedPart (some (failedOf n (drop p req)))) ≤ 8 + (length req - 20)
-failed-length n p req h e =
-    let l : length (drop p req) ≡ length req - p = length-drop p req in
-    omega (arith, group.failed-length (failedOf n (drop p req)), fault-length n (drop p req))
-
 pub example-length : (k : ℕ) → length (failedPart (some (example k))) ≤ 24
 unfolding example exampleOf
 example-length k =
@@ -129,16 +110,3 @@ example-length k =
     go true false = omega (arith, avp-length (rowOf k .code) [])
     go false true = omega (arith, vendor-length (rowOf k .code) (replicate 4 0))
     go false false = omega (arith, vendor-length (rowOf k .code) [])
-
--- of a verdict whose place, if it has one, is in the body
-pub verdict-length : (req : List ℕ) (v : Verdict) → 20 ≤ length req → length req % 4 ≡ 0 → (v .place ≡ 0) ⊎ (20 ≤ v .place)
-    → length (failedPart (failedBy req v)) ≤ 24 + (length req - 20)
-unfolding failedBy
-verdict-length req v h e p = go (ltb 0 (v .lacks)) (ltb 0 (v .place)) refl p
-  where
-    go : (x y : Bool) → ltb 0 (v .place) ≡ y → (v .place ≡ 0) ⊎ (20 ≤ v .place)
-        → length (failedPart (cond x (some (example (v .lacks))) (cond y (some (failedOf (numberOf (v .result)) (drop (v .place) req))) none))) ≤ 24 + (length req - 20)
-    go true y d q = omega (arith, example-length (v .lacks))
-    go false true d (inl z) = absurd (omega (arith, ltb-true 0 (v .place) d))
-    go false true d (inr k) = omega (arith, failed-length (numberOf (v .result)) (v .place) req k e)
-    go false false d q = omega arith

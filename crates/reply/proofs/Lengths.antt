@@ -1,9 +1,7 @@
 -- How long an answer is: no longer than its room.
 use Prim.Native.Nat.{ℕ, _+_, _%_, _≤_}
 use mathlib.Core.Path.{_≡_}
-use mathlib.Core.Logic.{_⊎_}
 use mathlib.Core.List.{List}
-use mathlib.Core.Option.{none}
 use native.Mathlib.Omega.{arith}
 use lib.Dec.{ltb}
 use lib.ListN.{length, length-append, length-take, length-drop}
@@ -15,14 +13,13 @@ use Rattle.pen.specs.Bytes.{copiedSize, avpBytes, vendorBytes}
 use Rattle.pen.proofs.Sizes.{copied-length, avp-length, vendor-length, number-length, there-length}
 use Rattle.pen.proofs.Groups.{application-length, experimental-length, capabilities-length}
 use Rattle.reading.specs.Request.{bodyOf, sessionOf}
-use Rattle.reading.specs.Found.{failedBy}
 use Rattle.reading.specs.declared.Outcome.{Outcome}
 use Rattle.reading.specs.declared.Outcome.the-variants.{Base, Experimental}
 use Rattle.decisions.specs.Reply.{Reply, mandatoryOf, optionalOf}
 use Rattle.decisions.specs.Planned.{replyOf}
 use Rattle.decisions.specs.declared.Given.{Given}
 use Rattle.parts.proofs.Fields.{alone, host-length, realm-length, user-field, server-field, mandatory-field, optional-field, part-length, profile-length}
-use Rattle.reply.proofs.Copies.{session-proxies, verdict-length}
+use Rattle.reply.proofs.Copies.{session-proxies}
 use Rattle.reply.specs.Answer.{resultBytes, namedBytes, vendorNamed, failedPart, proxies, frontBytes, originBytes, givenBytes, endBytes, bodyBytes, headerBytes, answerBytes, roomOf}
 
 pub result-length : (o : Outcome) → length (resultBytes o) ≤ 32
@@ -106,13 +103,3 @@ module _ (req t file : List ℕ) (count : ℕ) (g : Given) (s : SoundTable t (le
 
   pub reply-length : 20 ≤ length req → length (answerBytes req (blockOf t 0) (replyOf req t file g)) ≤ roomOf (bodyOf req) (replyOf req t file g)
   reply-length h = answer-length req (blockOf t 0) (replyOf req t file g) h reply-limited
-
-  -- Failed-AVP without User-Data, and User-Data without Failed-AVP
-  pub failing-room : 20 ≤ length req → length req ≤ 16384 → length req % 4 ≡ 0 → (g .verdict .place ≡ 0) ⊎ (20 ≤ g .verdict .place) → g .profile ≡ 0
-      → roomOf (bodyOf req) (replyOf req t file g) ≤ 36864
-  unfolding replyOf
-  failing-room a b e p z = room-most req (replyOf req t file g) a b e (rw z (omega (arith, verdict-length req (g .verdict) a e p)))
-
-  pub profile-room : 20 ≤ length req → length req ≤ 16384 → length req % 4 ≡ 0 → failedBy req (g .verdict) ≡ none → roomOf (bodyOf req) (replyOf req t file g) ≤ 36864
-  unfolding replyOf
-  profile-room a b e z = room-most req (replyOf req t file g) a b e (rw z (omega (arith, profile-length t file count s (g .profile))))

@@ -4,12 +4,13 @@ use mathlib.Core.Path.{_≡_, refl, ap, _∙_}
 use mathlib.Core.List.{List, [], _∷_, map}
 use native.Mathlib.Omega.{arith}
 use lib.ListN.{length, take, drop, set, replicate}
-use borrow.Author.Tests.{ne-eqb}
 use Rattle.diameter.specs.Walk.{walk}
 use Rattle.diameter.specs.Reader.{readOf, partAt}
 use Rattle.diameter.specs.declared.Read.{Read}
 use Rattle.diameter.specs.declared.Read.the-variants.{Avp, Fault}
 use Rattle.diameter.proofs.Reading.{read-says, read-fault-says, walk-past, none-past}
+use Rattle.reading.specs.declared.Ruled.{Ruled}
+use Rattle.reading.specs.declared.Ruled.the-variants as ruled
 use Rattle.reading.specs.declared.Walked.{Walked}
 use Rattle.reading.specs.Kinds.{kindOf}
 use Rattle.reading.specs.Rules.{nothing, Judged, rule, judge}
@@ -36,24 +37,19 @@ module _ (s places : List ℕ) (command at : ℕ) (whole : Judged) (left : judge
     unfolding judge
     turn-cut w l h d f = refused-at s 5014 w at (omega arith) f ∙ rw (read-fault-says s at r e h d) at left
 
-    module _ (len next head flags n : ℕ) (d : r ≡ Avp len next head flags) (en : n ≡ rule command (seenOf s places) (take len (drop at s))) where
-      pub turn-bad : (w : Walked) → 20 ≤ at → 1 < n → Refused n at 0 w → judgedOf s w ≡ whole
+    module _ (len next head flags : ℕ) (x : Ruled) (d : r ≡ Avp len next head flags) (ex : x ≡ rule command (seenOf s places) (take len (drop at s))) where
+      pub turn-bad : (n : ℕ) (w : Walked) → 20 ≤ at → x ≡ ruled.Fault n → Refused n at 0 w → judgedOf s w ≡ whole
       unfolding judge
-      turn-bad w l h f =
+      turn-bad n w l z f =
           let says = read-says s at r e len next head flags d in
-          let p = ne-eqb n 0 (λ z. omega arith) in
-          let q = ne-eqb n 1 (λ z. omega arith) in
-          refused-at s n w at (omega arith) f
-          ∙ rw (says .walked, ← en, p, q, failed-there n s at len next head flags says) at left
+          refused-at s n w at (omega arith) f ∙ rw (says .walked, ← ex, z, failed-there n s at len next head flags says) at left
 
-      pub turn-taken : (k : ℕ) → k ≡ kindOf (take len (drop at s)) → n ≡ 0 → judge command (walk (drop next s)) (seenOf s (set places k at)) ≡ whole
+      pub turn-taken : (k : ℕ) → k ≡ kindOf (take len (drop at s)) → x ≡ ruled.Taken → judge command (walk (drop next s)) (seenOf s (set places k at)) ≡ whole
       unfolding judge
       turn-taken k ek z =
           let says = read-says s at r e len next head flags d in
-          rw (map-set (partAt s) places k at, says .part, ek) (rw (says .walked, ← en, z) at left)
+          rw (map-set (partAt s) places k at, says .part, ek) (rw (says .walked, ← ex, z) at left)
 
-      pub turn-skipped : n ≤ 1 → (n ≡ 0 → ⊥) → judge command (walk (drop next s)) (seenOf s places) ≡ whole
+      pub turn-skipped : x ≡ ruled.Skipped → judge command (walk (drop next s)) (seenOf s places) ≡ whole
       unfolding judge
-      turn-skipped h z =
-          let one : n ≡ 1 = omega arith in
-          rw (read-says s at r e len next head flags d .walked, ← en, one) at left
+      turn-skipped z = rw (read-says s at r e len next head flags d .walked, ← ex, z) at left

@@ -1,6 +1,7 @@
 // "Then AVPs by position; the first fault decides."
 use diameter::Read;
 use reading::Outcome;
+use reading::Ruled;
 use reading::Verdict;
 use reading::Walked;
 use reading::kinds;
@@ -62,12 +63,10 @@ pub fn walk_message(s: &[u8], command: usize) -> Walked
             return refuse(5014, at, 0);
         };
         let k = kinds::kind_at(s, at, len, head);
-        let n = rules::rule_at(s, command, places, at, len, head, flags, k);
-        if n > 1 {
-            return refuse(n, at, 0);
-        }
-        if n == 0 {
-            places[k] = at;
+        match rules::rule_at(s, command, places, at, len, head, flags, k) {
+            Ruled::Taken => places[k] = at,
+            Ruled::Skipped => {}
+            Ruled::Fault(n) => return refuse(n, at, 0),
         }
         at = next;
     }

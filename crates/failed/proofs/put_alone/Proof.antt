@@ -1,4 +1,4 @@
-use Rattle.failed.proofs.Faulty.{alone-counted, alone-room, wrote-alone}
+use Rattle.failed.proofs.Faulty.{number-counted, number-room, wrote-alone}
 use borrow.Author.Needs.{needs}
 use Rattle.failed.proofs.put_alone.Statement.{statement}
 use Rattle.failed.proofs.put_alone.Tie as tie
@@ -12,7 +12,7 @@ put-alone-spec =
     (λ c. search needs)
     (λ c κs. search needs)
     (λ c. search needs)
-    (λ c. search (needs, alone-counted))
-    (λ c κs. search (needs, alone-room))
+    (λ c. search (needs, number-counted))
+    (λ c κs. search (needs, number-room))
     (λ c. search needs)
     (λ c. search (needs, wrote-alone)))

@@ -4,8 +4,9 @@ use lib.ListN.{length, drop}
 use Rattle.octets.proofs.Writes.{Going, going-none}
 use Rattle.diameter.specs.Walk.{walk}
 use Rattle.diameter.proofs.Reading.{read-here}
+use Rattle.reading.proofs.Walking.{read-less}
 use Rattle.reply.specs.Answer.{proxies}
-use Rattle.answering.proofs.Proxies.{proxies-end, proxies-fault, turn-room, turn-more, turn-less}
+use Rattle.answering.proofs.Proxies.{proxies-end, proxies-fault, turn-room, turn-more}
 use borrow.Author.Needs.{needs}
 use Rattle.answering.proofs.last.put_proxies.Statement.{statement}
 use Rattle.answering.proofs.last.put_proxies.Tie as tie
@@ -33,7 +34,7 @@ put-proxies-spec =
     (λ c. search needs)
     (λ c κs. search (needs, read-here, turn-room))
     (λ c. search needs)
-    (λ c. search (needs, turn-less))
+    (λ c. search (needs, read-less))
     (λ c. search (needs, turn-more))
     (λ c. search needs)
     (λ c. search (needs, proxies-end)))

@@ -7,8 +7,8 @@ pub rule-by-spec : {M : Type 1} → statement M
 rule-by-spec =
     tie.close
     (tie.spec
-    (λ c κs. search needs)
     (λ c. search (needs, rule-reserved))
+    (λ c κs. search needs)
     (λ c. search (needs, rule-unknown))
     (λ c κs. search needs)
     (λ c κs. search needs)
@@ -18,5 +18,5 @@ rule-by-spec =
     (λ c κs. search needs)
     (λ c κs. search needs)
     (λ c. search (needs, rule-four))
-    (λ c. search (needs, rule-good))
-    (λ c. search (needs, rule-bad)))
+    (λ c. search (needs, rule-bad))
+    (λ c. search (needs, rule-good)))
