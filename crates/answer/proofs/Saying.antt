@@ -1,32 +1,26 @@
 -- What is said of a word fits the buffer, and is the answer or the refusal.
-use Prim.Native.Nat.{ℕ, _+_, _*_, _/_, _%_, _≤_, _<_}
-use mathlib.Core.Bool.{Bool, true, false, cond, not, _||_}
+use Prim.Native.Nat.{ℕ, _≤_}
 use mathlib.Core.List.{List, [], _∷_}
 use mathlib.Core.Path.{_≡_, refl, sym, ap, _∙_}
 use native.Mathlib.Omega.{arith}
-use lib.ListN.{length, getD, length-append, length-drop}
-use lib.Dec.{eqb, ltb}
+use lib.ListN.{length, length-append, length-drop}
 use borrow.Author.Tests.{eq-eqb, ne-eqb}
 use Rattle.octets.specs.Run.{over}
-use Rattle.table.specs.Blocks.{blockOf}
 use Rattle.table.specs.Check.{checkTable}
 use Rattle.table.specs.declared.Checked.{Checked}
 use Rattle.table.specs.declared.Checked.the-variants.{Sound, Bad}
 use Rattle.decisions.specs.Assignment.{Decision}
 use Rattle.decisions.specs.Decide.{decide}
-use Rattle.reply.specs.Answer.{answerBytes}
 use Rattle.lines.specs.Words.{Words}
-use Rattle.ndushavire.specs.Serve.{Served, refused, answered, serveChecked, wrongLength, serve}
+use Rattle.ndushavire.specs.Serve.{Served, refused, answered, smallBuffer, wrongSize, wrongLength, noRequest, serveChecked, serve}
+use Rattle.ndushavire.specs.Word.{callWord, numberIn, valueIn}
 use Rattle.ndushavire.specs.Promise.{DecidePromise}
-use Rattle.answer.specs.Said.{numberOf, valueOf, Fits, Stands, Said}
+use Rattle.ndushavire.proofs.Tests.{either}
+use Rattle.answer.specs.Said.{Fits, Stands, Said}
 
 -- A call that leaves the buffer's length as it was has room for the answer that it says.
 abbrev Room : List ℕ → Served → Type 0
-Room o s = length (s .buffer) ≡ length o → numberOf (s .word) ≡ 0 → s .word ≤ length o
-
-room-cond : (o : List ℕ) (x : Bool) (a b : Served) → Room o a → Room o b → Room o (cond x a b)
-room-cond o true a b p q = p
-room-cond o false a b p q = q
+Room o s = length (s .buffer) ≡ length o → numberIn (callWord (s .call)) ≡ 0 → callWord (s .call) ≤ length o
 
 room-refused : (t o : List ℕ) (number besides : ℕ) → 1 ≤ number → Room o (refused number besides t o)
 unfolding refused
@@ -44,10 +38,10 @@ room-checked req t file o (Bad k) = room-refused t o 5 k (omega arith)
 room-serve : (req t file o : List ℕ) → Room o (serve req t file o)
 unfolding serve
 room-serve req t file o =
-    room-cond o (ltb (length o) 36864) _ _ (room-refused t o 1 0 (omega arith))
-    (room-cond o (ltb (length req) 20 || ltb 16384 (length req)) _ _ (room-refused t o 2 0 (omega arith))
-    (room-cond o (wrongLength req) _ _ (room-refused t o 3 0 (omega arith))
-    (room-cond o (ltb (getD req 4 0) 128) _ _ (room-refused t o 4 0 (omega arith))
+    either (Room o) (smallBuffer o) (room-refused t o 1 0 (omega arith))
+    (either (Room o) (wrongSize req) (room-refused t o 2 0 (omega arith))
+    (either (Room o) (wrongLength req) (room-refused t o 3 0 (omega arith))
+    (either (Room o) (noRequest req) (room-refused t o 4 0 (omega arith))
     (room-checked req t file o (checkTable t (length file))))))
 
 pub promise-fits : (req t file o : List ℕ) (w : ℕ) {t' o' : List ℕ} → DecidePromise req t file o w t' o' → length o' ≡ length o → Fits w (length o')
@@ -57,14 +51,14 @@ promise-fits req t file o w p l =
     }
 
 -- Of number 0 the answer stands; of any other the refusal is written.
-pub answer-within : (w n r : ℕ) → Fits w n → numberOf w ≡ 0 → r ≡ valueOf w → r ≤ n
+pub answer-within : (w n r : ℕ) → Fits w n → numberIn w ≡ 0 → r ≡ valueIn w → r ≤ n
 answer-within w n r f e q = rw q (f .within e)
 
-pub said-answer : (w : ℕ) (o : List ℕ) {r : ℕ} → numberOf w ≡ 0 → r ≡ valueOf w → Said w o o r
-said-answer w o e f = record { said = rw (eq-eqb (numberOf w) 0 e) (record { count = f; bytes = refl }) }
+pub said-answer : (w : ℕ) (o : List ℕ) {r : ℕ} → numberIn w ≡ 0 → r ≡ valueIn w → Said w o o r
+said-answer w o e f = record { said = rw (eq-eqb (numberIn w) 0 e) (record { count = f; bytes = refl }) }
 
-pub said-refusal : (w : ℕ) {r : ℕ} {o o' : List ℕ} → (numberOf w ≡ 0 → ⊥) → Words (114 ∷ 101 ∷ 102 ∷ 117 ∷ 115 ∷ 101 ∷ 100 ∷ 32 ∷ []) (numberOf w) (10 ∷ []) o o' r → Said w o o' r
-said-refusal w f h = record { said = rw (ne-eqb (numberOf w) 0 f) h }
+pub said-refusal : (w : ℕ) {r : ℕ} {o o' : List ℕ} → (numberIn w ≡ 0 → ⊥) → Words (114 ∷ 101 ∷ 102 ∷ 117 ∷ 115 ∷ 101 ∷ 100 ∷ 32 ∷ []) (numberIn w) (10 ∷ []) o o' r → Said w o o' r
+said-refusal w f h = record { said = rw (ne-eqb (numberIn w) 0 f) h }
 
-pub said-served : (req t file o : List ℕ) (w : ℕ) {t' o' p : List ℕ} {r : ℕ} → DecidePromise req t file o w t' o' → Said w o' p r → Said (serve req t file o .word) (serve req t file o .buffer) p r
+pub said-served : (req t file o : List ℕ) (w : ℕ) {t' o' p : List ℕ} {r : ℕ} → DecidePromise req t file o w t' o' → Said w o' p r → Said (callWord (serve req t file o .call)) (serve req t file o .buffer) p r
 said-served req t file o w d s = rw (← d .word-is, ← d .buffer-is) s

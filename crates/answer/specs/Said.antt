@@ -1,31 +1,25 @@
 -- "It writes the answer alone, or `refused`, a space, the number and a newline."
-use Prim.Native.Nat.{ℕ, _/_, _%_, _≤_}
+use Prim.Native.Nat.{ℕ, _≤_}
 use mathlib.Core.Bool.{Bool, true, false}
 use mathlib.Core.List.{List, [], _∷_}
 use mathlib.Core.Path.{_≡_}
 use lib.Dec.{eqb}
 use Rattle.lines.specs.Words.{Words}
-
--- a word's number, and its value
-abbrev pub numberOf : ℕ → ℕ
-numberOf w = w / 281474976710656
-
-abbrev pub valueOf : ℕ → ℕ
-valueOf w = w % 4294967296
+use Rattle.ndushavire.specs.Word.{numberIn, valueIn}
 
 -- the answer of a word that says one lies within a buffer of n bytes
 pub record Fits (w n : ℕ) : Type 0 where
-  pub within : numberOf w ≡ 0 → valueOf w ≤ n
+  pub within : numberIn w ≡ 0 → valueIn w ≤ n
 
 -- the first r bytes of the buffer are the answer, as it was left there
 pub record Stands (w : ℕ) (before after : List ℕ) (r : ℕ) : Type 0 where
-  pub count : r ≡ valueOf w
+  pub count : r ≡ valueIn w
   pub bytes : after ≡ before
 
 abbrev pub SaidIf : Bool → ℕ → List ℕ → List ℕ → ℕ → Type 0
 SaidIf true w before after r = Stands w before after r
-SaidIf false w before after r = Words (114 ∷ 101 ∷ 102 ∷ 117 ∷ 115 ∷ 101 ∷ 100 ∷ 32 ∷ []) (numberOf w) (10 ∷ []) before after r
+SaidIf false w before after r = Words (114 ∷ 101 ∷ 102 ∷ 117 ∷ 115 ∷ 101 ∷ 100 ∷ 32 ∷ []) (numberIn w) (10 ∷ []) before after r
 
 -- the first r bytes of the buffer afterwards are written: number 0 is an answer, any other a refusal
 pub record Said (w : ℕ) (before after : List ℕ) (r : ℕ) : Type 0 where
-  pub said : SaidIf (eqb (numberOf w) 0) w before after r
+  pub said : SaidIf (eqb (numberIn w) 0) w before after r

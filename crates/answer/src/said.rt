@@ -2,6 +2,7 @@
 ghost use Prim.Native.Nat.{_≤_};
 ghost use lib.ListN.{length};
 ghost use Rattle.ndushavire.specs.Serve.{serve};
+ghost use Rattle.ndushavire.specs.Word.{callWord};
 ghost use Rattle.answer.specs.Said.{Fits, Said};
 
 // What the number of a returned word counts, 2^48, and what its value stays below, 2^32.
@@ -24,7 +25,8 @@ fn put_said(out: &mut [u8], w: u64) -> usize
 // What is said to a request, at the front of out.
 pub fn answer_to(out: &mut [u8], req: &[u8], t: &mut [u8], file: &[u8]) -> usize
     requires { ⌜ 30 ≤ length (now out) ⌝ }
-    ensures { λ r. ⌜ (r ≤ length (now (out .exit))) × Said (serve (now (req .entry)) (now (t .entry)) (now (file .entry)) (now (out .entry)) .word) (serve (now (req .entry)) (now (t .entry)) (now (file .entry)) (now (out .entry)) .buffer) (now (out .exit)) r ⌝ }
+    ensures { λ r. ⌜ (r ≤ length (now (out .exit))) × Said (callWord (serve (now (req .entry)) (now (t .entry)) (now (file .entry)) (now (out .entry)) .call))
+        (serve (now (req .entry)) (now (t .entry)) (now (file .entry)) (now (out .entry)) .buffer) (now (out .exit)) r ⌝ }
 {
     let w = ndushavire::ndushavire_decide(req, t, file, out);
     put_said(out, w)

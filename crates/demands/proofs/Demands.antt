@@ -1,63 +1,84 @@
--- The three demands, as theorems about `serve`: the word returned, the table and the buffer afterwards, for any request, table, profile file and buffer.
--- The exported call is proved to be `serve`; what the words below mean is in specs/Call, specs/Frame and specs/Insertion.
+-- The three demands, as theorems about `serve`: what a call comes to, the table and the buffer afterwards, for any request, table, profile file and buffer.
+-- What the words below mean is in specs/Call, specs/Frame and specs/Insertion.
 use Prim.Native.Nat.{ℕ, _/_, _<_, _≤_}
 use mathlib.Core.List.{List, _∷_}
+use mathlib.Core.Option.{some}
 use mathlib.Core.Bool.{true, false}
 use mathlib.Core.Path.{_≡_}
 use mathlib.Core.Logic.{_⊎_, _≢_}
 use lib.ListN.{length, getD, drop}
+use Rattle.octets.specs.Run.{over}
 use Rattle.table.specs.Blocks.{blockOf, privateAt}
 use Rattle.table.specs.Check.{checkTable}
 use Rattle.table.specs.declared.Checked.the-variants.{Sound, Bad}
 use Rattle.diameter.specs.Put.{Piece, Whole, All, bytesOf}
-use Rattle.reading.specs.Request.{bodyOf}
+use Rattle.reading.specs.Request.{commandOf, bodyOf}
 use Rattle.decisions.specs.Decide.{decide}
-use Rattle.ndushavire.specs.Serve.{answered, wrongLength, serve}
-use Rattle.demands.specs.Call.{Tried, numberIn, valueIn, smallBuffer, wrongSize, noRequest, unsound, turnedAway, answerTo}
+use Rattle.reply.specs.Answer.{answerBytes}
+use Rattle.ndushavire.specs.declared.Call.the-variants.{Answered, Refused}
+use Rattle.ndushavire.specs.Serve.{answered, smallBuffer, wrongSize, wrongLength, noRequest, serve}
+use Rattle.ndushavire.specs.Word.{callNumber, callValue, callWord, callIn, Reads}
+use Rattle.ndushavire.specs.Promise.{DecidePromise}
+use Rattle.demands.specs.Call.{Tried, unsound, turnedAway, answerTo}
 use Rattle.demands.specs.Frame.{succeeds, subscriptionOf, alterable}
 use Rattle.demands.specs.Insertion.{message, Foreign, Quiet, Inserted, FirstMarked, faultIn, unsupported, allSound, Cut}
-use Rattle.demands.proofs.Refusals.{refusals, number-most, besides-none, besides-block, answer-long, refused-kept, buffer-length, buffer-past}
+use Rattle.demands.proofs.Refusals.{refusals, number-most, besides-none, besides-block, answer-long, word-reads, refused-kept, answered-is, buffer-length, buffer-past}
 use Rattle.demands.proofs.Fitting.{fits}
-use Rattle.demands.proofs.Frame.{failure-kept, others-kept, header-kept, bytes-kept, bits-kept, size-kept, sound-kept}
+use Rattle.demands.proofs.Frame.{question-kept, failure-kept, others-kept, header-kept, bytes-kept, bits-kept, size-kept, sound-kept}
 use Rattle.demands.proofs.Insertions.{quiet-foreign, unmarked-same, marked-or-not, marked-kept, mark-answered, fault-first}
 use Rattle.demands.proofs.Cuts.{every-request}
 
+-- THE CALL. What the exported call is promised to return and to leave is `serve`: the call that its word says, the table, the buffer. So each theorem below is one about it.
+pub promised : (req t file o : List ℕ) {r : ℕ} {t' o' : List ℕ} → DecidePromise req t file o r t' o' → serve req t file o ≡ record { call = callIn r; table = t'; buffer = o' }
+promised req t file o p = rw (p .word-is, p .table-is, p .buffer-is, word-reads req t file o (fits req t file) .call)
+
 -- DEMAND 1. Every call ends in an answer or in exactly one of five refusals, each given exactly when the paper says, tried in its order.
 module _ (req t file o : List ℕ) where
-  -- The word's number is 0 to 5: n from 1 to 5 exactly under the n-th condition where the earlier ones fail, and 0 exactly where all five fail.
-  pub demand-1 : Tried (numberIn (serve req t file o .word)) (smallBuffer o) (wrongSize req) (wrongLength req) (noRequest req) (unsound t file)
-  demand-1 = refusals req t file o (fits req t file)
+  -- The call's number is 0 to 5: n from 1 to 5 exactly under the n-th condition where the earlier ones fail, and 0 exactly where all five fail.
+  pub demand-1 : Tried (callNumber (serve req t file o .call)) (smallBuffer o) (wrongSize req) (wrongLength req) (noRequest req) (unsound t file)
+  demand-1 = refusals req t file o
 
-  pub demand-1-number : numberIn (serve req t file o .word) ≤ 5
-  demand-1-number = number-most req t file o (fits req t file)
+  pub demand-1-number : callNumber (serve req t file o .call) ≤ 5
+  demand-1-number = number-most req t file o
 
   -- Refusals 1 to 4 return 0 besides, refusal 5 the first bad block, and an answer returns its length.
-  pub demand-1-none : 1 ≤ numberIn (serve req t file o .word) → numberIn (serve req t file o .word) ≤ 4 → valueIn (serve req t file o .word) ≡ 0
-  demand-1-none = besides-none req t file o (fits req t file)
+  pub demand-1-none : (n k : ℕ) → serve req t file o .call ≡ Refused n k → n ≤ 4 → k ≡ 0
+  demand-1-none = besides-none req t file o
 
-  pub demand-1-block : numberIn (serve req t file o .word) ≡ 5 → checkTable t (length file) ≡ Bad (valueIn (serve req t file o .word))
-  demand-1-block = besides-block req t file o (fits req t file)
+  pub demand-1-block : (k : ℕ) → serve req t file o .call ≡ Refused 5 k → checkTable t (length file) ≡ Bad k
+  demand-1-block = besides-block req t file o
 
-  pub demand-1-length : numberIn (serve req t file o .word) ≡ 0 → (count : ℕ) → checkTable t (length file) ≡ Sound count
-      → valueIn (serve req t file o .word) ≡ length (answerTo req t file count)
-  demand-1-length = answer-long req t file o (fits req t file)
+  pub demand-1-length : (n : ℕ) → serve req t file o .call ≡ Answered n → (count : ℕ) → checkTable t (length file) ≡ Sound count → n ≡ length (answerTo req t file count)
+  demand-1-length = answer-long req t file o
 
   -- No answer is longer than the smallest buffer that is taken.
   pub demand-1-fits : wrongSize req ≡ false → wrongLength req ≡ false → (count : ℕ) → checkTable t (length file) ≡ Sound count → length (answerTo req t file count) ≤ 36864
   demand-1-fits = fits req t file
 
+  -- Out of the word the caller reads the number (bits 48 to 63) and what is returned besides (bits 0 to 31); bits 32 to 47 are 0.
+  pub demand-1-word : Reads (serve req t file o .call) (callWord (serve req t file o .call))
+  demand-1-word = word-reads req t file o (fits req t file)
+
 -- A refusal leaves the table and the buffer as they came.
 pub demand-1-kept : (req t file o : List ℕ) → turnedAway req t file o ≡ true → (serve req t file o .table ≡ t) × (serve req t file o .buffer ≡ o)
 demand-1-kept = refused-kept
 
--- DEMAND 2. What a call may alter in a sound table of `count` records.
+-- DEMAND 2. Over a sound table of `count` records a call that is not refused is document 01's decision: the call says the length of its answer, the table is the decision's,
+-- and the buffer is the answer's bytes over the buffer as it came.
 module _ (req t file o : List ℕ) (count : ℕ) (sound : checkTable t (length file) ≡ Sound count) where
+  pub demand-2 : turnedAway req t file o ≡ false
+      → (serve req t file o .call ≡ Answered (length (answerBytes req (blockOf t 0) (decide req t count file .reply))))
+      × (serve req t file o .table ≡ decide req t count file .table)
+      × (serve req t file o .buffer ≡ over (answerBytes req (blockOf t 0) (decide req t count file .reply)) o)
+  unfolding answered
+  demand-2 e = let s = answered-is req t file o count sound e in (rw s, rw s, rw s)
+
   -- A result that is no success leaves the table as it was.
   pub demand-2-failure : succeeds (decide req t count file .reply .result) ≡ false → serve req t file o .table ≡ t
   demand-2-failure = failure-kept req t file o count sound
 
   -- A block whose private identity is not that of the subscription asked about is as it was, and so is the header.
-  pub demand-2-others : (k : ℕ) → k ≤ count → privateAt t k ≢ subscriptionOf req t count → blockOf (serve req t file o .table) k ≡ blockOf t k
+  pub demand-2-others : (k : ℕ) → k ≤ count → some (privateAt t k) ≢ subscriptionOf req t count → blockOf (serve req t file o .table) k ≡ blockOf t k
   demand-2-others = others-kept req t file o count sound
 
   pub demand-2-header : blockOf (serve req t file o .table) 0 ≡ blockOf t 0
@@ -78,18 +99,22 @@ module _ (req t file o : List ℕ) (count : ℕ) (sound : checkTable t (length f
   demand-2-sound = sound-kept req t file o count sound
 
 module _ (req t file o : List ℕ) where
+  -- A UAR or a LIR alters nothing: only a SAR does, if any.
+  pub demand-2-question : commandOf req ≢ 301 → serve req t file o .table ≡ t
+  demand-2-question = question-kept req t file o
+
   -- The buffer has as many bytes as it had, and past the answer they are as they came.
   pub demand-2-room : length (serve req t file o .buffer) ≡ length o
   demand-2-room = buffer-length req t file o (fits req t file)
 
-  pub demand-2-past : drop (valueIn (serve req t file o .word)) (serve req t file o .buffer) ≡ drop (valueIn (serve req t file o .word)) o
-  demand-2-past = buffer-past req t file o (fits req t file)
+  pub demand-2-past : drop (callValue (serve req t file o .call)) (serve req t file o .buffer) ≡ drop (callValue (serve req t file o .call)) o
+  demand-2-past = buffer-past req t file o
 
 -- DEMAND 3. A request is a header and a row of whole AVPs, `q` and then `qs`. AVPs of unknown kinds are put into the row after its first, at one place or at several,
 -- so that it is `q` and then `rs`; the length field is put right, and the whole stays within 16,384 bytes.
 module _ (head : List ℕ) (twenty : length head ≡ 20) (q : Piece) (qs rs : List Piece) (whole : All Whole (q ∷ qs)) (most : length (message head (bytesOf (q ∷ rs))) ≤ 16384)
     (t file o : List ℕ) where
-  -- If none of them is marked M, the call gives the same word, the same table and the same buffer.
+  -- If none of them is marked M, the call comes to the same, and leaves the same table and the same buffer.
   pub demand-3-unmarked : Inserted Quiet qs rs → serve (message head (bytesOf (q ∷ rs))) t file o ≡ serve (message head (bytesOf (q ∷ qs))) t file o
   demand-3-unmarked i = unmarked-same head twenty q qs rs whole (quiet-foreign i) most i t file o
 

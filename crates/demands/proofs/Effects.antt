@@ -20,6 +20,8 @@ use Rattle.decisions.specs.Decide.{assignmentOf, decideRead, decideJudged, deci
 
 -- the effect of a SAR's type on its records, all of one subscription
 pub record Altered (t : List ℕ) (count : ℕ) (keep : Bool) (s : Assignment) (d : Decision) : Type 0 where
+  pub identified : identityFault (isRemoval (groupOf (s .kind))) (s .named) (s .identities) ≡ none
+  pub known : allKnown t count s ≡ true
   pub owned : every (ownAt t (ownerOf t s (recordsOf t count s))) (recordsOf t count s) ≡ true
   pub result : d .reply .result ≡ effectOf (s .kind) keep .result
   pub table : d .table ≡ afterOf t count (isOne (recordsOf t count s)) (effectOf (s .kind) keep .state) (storedName (effectOf (s .kind) keep .named) (s .server))
@@ -44,33 +46,33 @@ module _ (t : List ℕ) (count : ℕ) (file : List ℕ) (keep : Bool) (s : Assig
       go true = refl
       go false = refl
 
-  chain-cases : (own query other wrong : Bool) (x y z w : Reply) → every (ownAt t (ownerOf t s (recordsOf t count s))) (recordsOf t count s) ≡ own
+  chain-cases : identityFault (isRemoval (groupOf (s .kind))) (s .named) (s .identities) ≡ none → allKnown t count s ≡ true → (own query other wrong : Bool) (x y z w : Reply) → every (ownAt t (ownerOf t s (recordsOf t count s))) (recordsOf t count s) ≡ own
       → Cases (cond (not own) (unaltered t x) (cond query (unaltered t y) (cond other (unaltered t z) (cond wrong (unaltered t w) (effected t count file keep s (recordsOf t count s))))))
   unfolding effected
-  chain-cases false query other wrong x y z w e = inl refl
-  chain-cases true true other wrong x y z w e = inl refl
-  chain-cases true false true wrong x y z w e = inl refl
-  chain-cases true false false true x y z w e = inl refl
-  chain-cases true false false false x y z w e = inr (record { owned = e; result = result-is (firstOf (recordsOf t count s)); table = refl })
+  chain-cases i a false query other wrong x y z w e = inl refl
+  chain-cases i a true true other wrong x y z w e = inl refl
+  chain-cases i a true false true wrong x y z w e = inl refl
+  chain-cases i a true false false true x y z w e = inl refl
+  chain-cases i a true false false false x y z w e = inr (record { identified = i; known = a; owned = e; result = result-is (firstOf (recordsOf t count s)); table = refl })
 
-  records-cases : Cases (assignRecords t count file keep s (recordsOf t count s))
+  records-cases : identityFault (isRemoval (groupOf (s .kind))) (s .named) (s .identities) ≡ none → allKnown t count s ≡ true → Cases (assignRecords t count file keep s (recordsOf t count s))
   unfolding assignRecords
-  records-cases =
+  records-cases i a =
       let ks = recordsOf t count s in
-      chain-cases (every (ownAt t (ownerOf t s ks)) ks) (eqb (s .kind) 0) (not (every (fitsAt t (s .server)) ks)) (isEmpty ks || not (every (rightAt t (s .kind)) ks)) _ _ _ _ refl
+      chain-cases i a (every (ownAt t (ownerOf t s ks)) ks) (eqb (s .kind) 0) (not (every (fitsAt t (s .server)) ks)) (isEmpty ks || not (every (rightAt t (s .kind)) ks)) _ _ _ _ refl
 
-  known-cases : (f : Option Reply) → Cases (assignKnown t count file keep s f)
+  known-cases : (f : Option Reply) → identityFault (isRemoval (groupOf (s .kind))) (s .named) (s .identities) ≡ f → Cases (assignKnown t count file keep s f)
   unfolding assignKnown
-  known-cases (some r) = inl refl
-  known-cases none = go (allKnown t count s)
+  known-cases (some r) i = inl refl
+  known-cases none i = go (allKnown t count s) refl
     where
-      go : (b : Bool) → Cases (cond b (assignRecords t count file keep s (recordsOf t count s)) (unaltered t (plain (Experimental 5001))))
-      go true = records-cases
-      go false = inl refl
+      go : (b : Bool) → allKnown t count s ≡ b → Cases (cond b (assignRecords t count file keep s (recordsOf t count s)) (unaltered t (plain (Experimental 5001))))
+      go true a = records-cases i a
+      go false a = inl refl
 
   assign-cases : Cases (assign t count file keep s)
   unfolding assign
-  assign-cases = known-cases (identityFault (isRemoval (groupOf (s .kind))) (s .named) (s .identities))
+  assign-cases = known-cases (identityFault (isRemoval (groupOf (s .kind))) (s .named) (s .identities)) refl
 
 -- a SAR that was read without fault altered the table
 pub record Assigned (req t : List ℕ) (count : ℕ) (file : List ℕ) : Type 0 where

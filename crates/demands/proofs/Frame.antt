@@ -1,8 +1,9 @@
 -- Demand 2: what a call leaves alone, and that a sound table stays sound.
 use Prim.Native.Nat.{ℕ, zero, suc, _+_, _*_, _/_, _≤_, _<_}
 use mathlib.Core.List.{List, [], _∷_, _++_}
-use mathlib.Core.Bool.{Bool, true, false, cond, _&&_, _||_, true≢false}
-use mathlib.Core.Path.{_≡_, refl, sym, _∙_}
+use mathlib.Core.Option.{none, some, Option·some-ne-none}
+use mathlib.Core.Bool.{Bool, true, false, cond, not, _&&_, _||_, true≢false}
+use mathlib.Core.Path.{_≡_, refl, sym, ap, _∙_}
 use mathlib.Core.Logic.{_⊎_, inl, inr, _≢_}
 use native.Mathlib.Omega.{arith}
 use lib.ListN.{length, getD}
@@ -14,11 +15,10 @@ use Rattle.table.specs.Blocks.{blockOf, privateAt}
 use Rattle.table.specs.Check.{checkTable}
 use Rattle.table.specs.declared.Checked.the-variants.{Sound}
 use Rattle.table.proofs.Blocks.{block-length}
-use Rattle.lookup.specs.Find.{publicIs, findPublic}
+use Rattle.lookup.specs.Find.{isAt, findPublic, findPrivate}
 use Rattle.lookup.specs.SoundTable.{SoundTable}
 use Rattle.lookup.specs.declared.Found.{Found}
 use Rattle.lookup.specs.declared.Found.the-variants.{At, Nothing}
-use Rattle.lookup.proofs.First.{first-stands}
 use Rattle.lookup.proofs.Sound.{sound-says}
 use Rattle.rewrite.specs.Effect.{settled, afterOf, fitting}
 use Rattle.rewrite.proofs.Settled.{settled-low, settled-high, settled-bits}
@@ -28,13 +28,18 @@ use Rattle.diameter.specs.Avp.{dataOf}
 use Rattle.reading.specs.declared.Outcome.{Outcome}
 use Rattle.reading.specs.declared.Outcome.the-variants.{Base, Experimental}
 use Rattle.reading.specs.Found.{numberOf}
+use Rattle.reading.specs.Request.{commandOf}
 use Rattle.requests.proofs.Kept.{server-most, server-least}
 use Rattle.decisions.specs.declared.Effect.{Effect}
-use Rattle.decisions.specs.Types.{between, effectOf}
-use Rattle.decisions.specs.Assignment.{Assignment, every, isOne, isEmpty, findAll, numbersOf, ownedHere, ownedUpTo, recordsOf, ownerOf, ownAt, storedName}
+use Rattle.decisions.specs.Reply.{Reply}
+use Rattle.decisions.specs.Types.{between, groupOf, isRemoval, effectOf}
+use Rattle.decisions.specs.Assignment.{Assignment, identityFault, every, isOne, isEmpty, firstOf, allKnown, findAll, numbersOf, ownedHere, ownedUpTo, recordsOf, ownerOf, ownAt, storedName}
 use Rattle.decisions.specs.Decide.{assignmentOf, decide}
-use Rattle.ndushavire.specs.Serve.{refused, answered, serveChecked, wrongLength, serve}
-use Rattle.demands.specs.Frame.{succeeds, askedIn, subscriptionOf, alterable}
+use Rattle.decisions.proofs.Ready.{public-within}
+use Rattle.ndushavire.specs.Serve.{answered, serve}
+use Rattle.demands.specs.Call.{turnedAway}
+use Rattle.demands.specs.Frame.{succeeds, ownerAt, firstOwner, askedIn, subscriptionOf, alterable}
+use Rattle.demands.proofs.Refusals.{refused-kept, answered-is, counted}
 use Rattle.demands.proofs.Effects.{Assigned, decide-cases}
 
 -- a test of all the records holds of each; block 0 is none of them
@@ -65,10 +70,6 @@ owned-later t user (suc n) = one-append (ownedUpTo t user n) (cond (ownedHere (b
     go true = rw (ne-eqb 0 (suc n) (omega arith))
     go false = refl
 
-found-later : (t : List ℕ) (count : ℕ) (name : List ℕ) (k : ℕ) → findPublic t count name ≡ At k → 1 ≤ k
-unfolding findPublic
-found-later t count name k e = first-stands (publicIs t name) count 1 k e .from
-
 named-later : (t : List ℕ) (count : ℕ) (avps : List (List ℕ)) → isOne (numbersOf (findAll t count avps)) 0 ≡ false
 unfolding findAll numbersOf isOne
 named-later t count [] = refl
@@ -76,7 +77,7 @@ named-later t count (a ∷ avps) = go (findPublic t count (dataOf a)) refl (name
   where
     go : (f : Found) → findPublic t count (dataOf a) ≡ f → isOne (numbersOf (findAll t count avps)) 0 ≡ false → isOne (numbersOf (f ∷ findAll t count avps)) 0 ≡ false
     go Nothing e next = next
-    go (At k) e next = rw (ne-eqb 0 k (omega (arith, found-later t count (dataOf a) k e))) next
+    go (At k) e next = rw (ne-eqb 0 k (omega (arith, public-within t count (dataOf a) (sym e) .from k refl))) next
 
 records-later : (t : List ℕ) (count : ℕ) (s : Assignment) → isOne (recordsOf t count s) 0 ≡ false
 unfolding recordsOf
@@ -85,6 +86,27 @@ records-later t count s = go (isEmpty (s .identities))
     go : (x : Bool) → isOne (cond x (ownedUpTo t (s .user) count) (numbersOf (findAll t count (s .identities)))) 0 ≡ false
     go true = owned-later t (s .user) count
     go false = named-later t count (s .identities)
+
+-- the owner that the decision asks for is the User-Name, or the owner of the first identity
+owner-is : (t : List ℕ) (count : ℕ) (s : Assignment) → identityFault (isRemoval (groupOf (s .kind))) (s .named) (s .identities) ≡ none → allKnown t count s ≡ true
+    → some (ownerOf t s (recordsOf t count s)) ≡ cond (s .named) (some (s .user)) (firstOwner t count (s .identities))
+unfolding identityFault allKnown ownerOf recordsOf findAll numbersOf every firstOwner
+owner-is t count s = go (isRemoval (groupOf (s .kind))) (s .named) (s .identities)
+  where
+    known : (f : Found) (fs : List Found) (x : Bool) → (isAt f && every isAt fs && x) ≡ true → some (privateAt t (firstOf (numbersOf (f ∷ fs)))) ≡ ownerAt t f
+    known (At k) fs x e = refl
+    known Nothing fs x e = absurd (true≢false (sym e))
+
+    none-given : (removal : Bool) (r : Reply) → cond (removal && false) none (some r) ≡ none → ⊥
+    none-given true r e = Option·some-ne-none r e
+    none-given false r e = Option·some-ne-none r e
+
+    go : (removal named : Bool) (ids : List (List ℕ)) → identityFault removal named ids ≡ none → (every isAt (findAll t count ids) && (not named || isAt (findPrivate t count (s .user)))) ≡ true
+        → some (cond named (s .user) (privateAt t (firstOf (cond (isEmpty ids) (ownedUpTo t (s .user) count) (numbersOf (findAll t count ids))))))
+        ≡ cond named (some (s .user)) (firstOwner t count ids)
+    go removal true ids i a = refl
+    go removal false [] i a = absurd (none-given removal _ i)
+    go removal false (x ∷ ids) i a = known (findPublic t count (dataOf x)) (findAll t count ids) true a
 
 -- the rows of the effects: each is a success, and has a server name exactly in state 1 or 2
 record Row (e : Effect) : Type 0 where
@@ -147,11 +169,11 @@ module _ (req t : List ℕ) (count : ℕ) (file : List ℕ) (size : length t ≡
   assigned-settled : (k : ℕ) → k ≤ count → chosen k ≡ true → blockOf (decide req t count file .table) k ≡ settled (blockOf t k) (effect .state) name
   assigned-settled k h e = rw after-is (after-chosen t count chosen (effect .state) name size k h e)
 
-  assigned-owner : (k : ℕ) → chosen k ≡ true → privateAt t k ≡ subscriptionOf req t count
-  unfolding subscriptionOf askedIn ownAt
+  assigned-owner : (k : ℕ) → chosen k ≡ true → some (privateAt t k) ≡ subscriptionOf req t count
+  unfolding subscriptionOf askedIn assignmentOf ownAt
   assigned-owner k e =
-      rw (a .read)
-      (same-eq (privateAt t k) (ownerOf t asked (recordsOf t count asked)) (one-holds (ownAt t (ownerOf t asked (recordsOf t count asked))) (recordsOf t count asked) k (a .altered .owned) e))
+      let own = one-holds (ownAt t (ownerOf t asked (recordsOf t count asked))) (recordsOf t count asked) k (a .altered .owned) e in
+      ap some (same-eq (privateAt t k) (ownerOf t asked (recordsOf t count asked)) own) ∙ owner-is t count asked (a .altered .identified) (a .altered .known) ∙ rw (a .read)
 
   assigned-good : succeeds (decide req t count file .reply .result) ≡ true
   assigned-good = rw (a .altered .result) (row (asked .kind) keep .good)
@@ -202,15 +224,12 @@ module _ (req t file o : List ℕ) (count : ℕ) (sound : checkTable t (length f
       go (inr a) = q a
 
   after-call : P t → (Assigned req t count file → P (decide req t count file .table)) → P (serve req t file o .table)
-  unfolding serve refused serveChecked answered
-  after-call p q = rw sound (go (ltb (length o) 36864) (ltb (length req) 20 || ltb 16384 (length req)) (wrongLength req) (ltb (getD req 4 0) 128))
+  unfolding answered
+  after-call p q = go (turnedAway req t file o) refl
     where
-      go : (a b c d : Bool) → P (cond a (refused 1 0 t o) (cond b (refused 2 0 t o) (cond c (refused 3 0 t o) (cond d (refused 4 0 t o) (answered req t o (decide req t count file))))) .table)
-      go true b c d = p
-      go false true c d = p
-      go false false true d = p
-      go false false false true = p
-      go false false false false = after-decision p q
+      go : (x : Bool) → turnedAway req t file o ≡ x → P (serve req t file o .table)
+      go true e = rw (refused-kept req t file o e .0) p
+      go false e = rw (answered-is req t file o count sound e) (after-decision p q)
 
 module _ (req t file o : List ℕ) (count : ℕ) (sound : checkTable t (length file) ≡ Sound count) where
   says : SoundTable t (length file) count
@@ -221,7 +240,7 @@ module _ (req t file o : List ℕ) (count : ℕ) (sound : checkTable t (length f
       after-call req t file o count sound (λ (x : List ℕ). x ≡ t) refl
       (λ a. absurd (true≢false (sym (assigned-good req t count file (says .size) a) ∙ e)))
 
-  pub others-kept : (k : ℕ) → k ≤ count → privateAt t k ≢ subscriptionOf req t count → blockOf (serve req t file o .table) k ≡ blockOf t k
+  pub others-kept : (k : ℕ) → k ≤ count → some (privateAt t k) ≢ subscriptionOf req t count → blockOf (serve req t file o .table) k ≡ blockOf t k
   others-kept k h n = after-call req t file o count sound (λ (x : List ℕ). blockOf x k ≡ blockOf t k) refl (λ a. stays a (isOne (recordsOf t count (assignmentOf (a .seen) req)) k) refl)
     where
       stays : (a : Assigned req t count file) (x : Bool) → isOne (recordsOf t count (assignmentOf (a .seen) req)) k ≡ x → blockOf (decide req t count file .table) k ≡ blockOf t k
@@ -246,3 +265,11 @@ module _ (req t file o : List ℕ) (count : ℕ) (sound : checkTable t (length f
 
   pub sound-kept : checkTable (serve req t file o .table) (length file) ≡ Sound count
   sound-kept = after-call req t file o count sound (λ (x : List ℕ). checkTable x (length file) ≡ Sound count) sound (λ a. assigned-sound req t count file (says .size) a says)
+
+-- a question: no SAR, no effect
+pub question-kept : (req t file o : List ℕ) → commandOf req ≢ 301 → serve req t file o .table ≡ t
+question-kept req t file o n = go (turnedAway req t file o) refl
+  where
+    go : (x : Bool) → turnedAway req t file o ≡ x → serve req t file o .table ≡ t
+    go true e = refused-kept req t file o e .0
+    go false e = counted req t file o e (λ count sound. after-call req t file o count sound (λ (x : List ℕ). x ≡ t) refl (λ a. absurd (n (a .command))))

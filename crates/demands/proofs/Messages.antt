@@ -24,8 +24,7 @@ use Rattle.decisions.specs.Reply.{Reply}
 use Rattle.decisions.specs.Assignment.{Decision}
 use Rattle.decisions.specs.Decide.{assignmentOf, decideRead, decideJudged, decide}
 use Rattle.reply.specs.Answer.{proxies, endBytes, bodyBytes, headerBytes, answerBytes}
-use Rattle.ndushavire.specs.Serve.{refused, answered, serveChecked, wrongLength, serve}
-use Rattle.demands.specs.Call.{smallBuffer, wrongSize, noRequest}
+use Rattle.ndushavire.specs.Serve.{refused, answered, smallBuffer, wrongSize, wrongLength, noRequest, serveChecked, serve}
 use Rattle.demands.specs.Insertion.{message}
 
 -- a header with another length field

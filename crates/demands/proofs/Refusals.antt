@@ -1,23 +1,27 @@
 -- Demand 1: an answer, or exactly one of five refusals. What a refused call leaves, and what an answered one writes.
-use Prim.Native.Nat.{ℕ, _%_, _≤_}
+use Prim.Native.Nat.{ℕ, _≤_}
 use mathlib.Core.List.{List}
 use mathlib.Core.Bool.{Bool, true, false, cond, _||_, true≢false}
 use mathlib.Core.Path.{_≡_, refl, sym, ap, _∙_}
 use native.Mathlib.Omega.{arith}
-use lib.ListN.{length, drop, length-append, length-drop}
+use lib.ListN.{length, drop}
 use lib.Seq.{drop-at}
-use lib.Dec.{ltb}
 use borrow.Author.Tests.{ltb-false}
 use Rattle.octets.specs.Run.{over}
+use Rattle.octets.proofs.Writes.{over-length}
 use Rattle.table.specs.Check.{checkTable}
 use Rattle.table.specs.declared.Checked.{Checked}
 use Rattle.table.specs.declared.Checked.the-variants.{Sound, Bad}
 use Rattle.decisions.specs.Decide.{decide}
-use Rattle.ndushavire.specs.Serve.{Served, refused, answered, serveChecked, wrongLength, serve}
-use Rattle.ndushavire.proofs.Firm.{carried, check-carried}
-use Rattle.demands.specs.Call.{Tried, Fits, numberIn, valueIn, smallBuffer, wrongSize, noRequest, isBad, unsound, turnedAway, answerTo}
+use Rattle.ndushavire.specs.declared.Call.{Call}
+use Rattle.ndushavire.specs.declared.Call.the-variants.{Answered, Refused}
+use Rattle.ndushavire.specs.Serve.{Served, refused, answered, smallBuffer, wrongSize, wrongLength, noRequest, serveChecked, serve}
+use Rattle.ndushavire.specs.Word.{callNumber, callValue, callWord, Reads}
+use Rattle.ndushavire.proofs.Firm.{carried, check-carried, answer-reads, refusal-reads}
+use Rattle.ndushavire.proofs.Tests.{neither}
+use Rattle.demands.specs.Call.{Tried, Fits, isBad, unsound, turnedAway, answerTo}
 
--- what a call comes to, by its tests
+-- the tests of a call as arguments
 byTests : List ℕ → List ℕ → List ℕ → List ℕ → Bool → Bool → Bool → Bool → Checked → Served
 byTests req t file o a b c d x = cond a (refused 1 0 t o) (cond b (refused 2 0 t o) (cond c (refused 3 0 t o) (cond d (refused 4 0 t o) (serveChecked req t file o x))))
 
@@ -47,51 +51,82 @@ numbers-most false false false true e = omega arith
 numbers-most false false false false true = omega arith
 numbers-most false false false false false = omega arith
 
--- the word of a call, by its tests
-record Word (t file : List ℕ) (answer : ℕ → List ℕ) (a b c d : Bool) (x : Checked) (w : ℕ) : Type 0 where
-  number : numberIn w ≡ numbers a b c d (isBad x)
-  none : 1 ≤ numberIn w → numberIn w ≤ 4 → valueIn w ≡ 0
-  block : numberIn w ≡ 5 → x ≡ Bad (valueIn w)
-  long : numberIn w ≡ 0 → (count : ℕ) → x ≡ Sound count → valueIn w ≡ length (answer count)
+-- what a call comes to, by its tests
+record Comes (answer : ℕ → List ℕ) (a b c d : Bool) (x : Checked) (r : Call) : Type 0 where
+  number : callNumber r ≡ numbers a b c d (isBad x)
+  none : (n k : ℕ) → r ≡ Refused n k → n ≤ 4 → k ≡ 0
+  block : (k : ℕ) → r ≡ Refused 5 k → x ≡ Bad k
+  long : (n : ℕ) → r ≡ Answered n → (count : ℕ) → x ≡ Sound count → n ≡ length (answer count)
 
-module _ (req t file o : List ℕ) (fits : Fits req t file) where
-  word-by : (a b c d : Bool) (x : Checked) → wrongSize req ≡ b → wrongLength req ≡ c → checkTable t (length file) ≡ x → carried x ≤ 4096
-      → Word t file (answerTo req t file) a b c d x (byTests req t file o a b c d x .word)
+-- a refusal is no answer
+isAnswer : Call → ℕ
+isAnswer (Answered n) = 1
+isAnswer (Refused number besides) = 0
+
+no-answer : {A : Type 0} (m n k : ℕ) → Refused m k ≡ Answered n → A
+unfolding isAnswer
+no-answer m n k e = absurd (omega (arith, ap isAnswer e))
+
+early : (answer : ℕ → List ℕ) (a b c d : Bool) (x : Checked) (m : ℕ) → m ≤ 4 → m ≡ numbers a b c d (isBad x) → Comes answer a b c d x (Refused m 0)
+early answer a b c d x m h e =
+    record {
+      number = e;
+      none = λ n k p q. sym (ap callValue p);
+      block = λ k p. absurd (omega (arith, ap callNumber p));
+      long = λ n p. no-answer m n 0 p;
+    }
+
+module _ (req t file o : List ℕ) where
+  comes-by : (a b c d : Bool) (x : Checked) → Comes (answerTo req t file) a b c d x (byTests req t file o a b c d x .call)
   unfolding byTests numbers refused serveChecked answered
-  word-by true b c d x eb ec e k = record { number = refl; none = λ p q. refl; block = λ p. absurd (omega arith); long = λ p. absurd (omega arith) }
-  word-by false true c d x eb ec e k = record { number = refl; none = λ p q. refl; block = λ p. absurd (omega arith); long = λ p. absurd (omega arith) }
-  word-by false false true d x eb ec e k = record { number = refl; none = λ p q. refl; block = λ p. absurd (omega arith); long = λ p. absurd (omega arith) }
-  word-by false false false true x eb ec e k = record { number = refl; none = λ p q. refl; block = λ p. absurd (omega arith); long = λ p. absurd (omega arith) }
-  word-by false false false false (Sound count) eb ec e k =
-      let h = fits eb ec count e in
+  comes-by true b c d x = early (answerTo req t file) true b c d x 1 (omega arith) refl
+  comes-by false true c d x = early (answerTo req t file) false true c d x 2 (omega arith) refl
+  comes-by false false true d x = early (answerTo req t file) false false true d x 3 (omega arith) refl
+  comes-by false false false true x = early (answerTo req t file) false false false true x 4 (omega arith) refl
+  comes-by false false false false (Sound count) =
       record {
-        number = omega arith;
-        none = λ p q. absurd (omega arith);
-        block = λ p. absurd (omega arith);
-        long = λ p n q. let i : count ≡ n = cc in rw (← i) (omega arith);
+        number = refl;
+        none = λ n k p q. no-answer n _ k (sym p);
+        block = λ k p. no-answer 5 _ k (sym p);
+        long = λ n p m q. let i : count ≡ m = cc in rw (← i) (sym (ap callValue p));
       }
-  word-by false false false false (Bad n) eb ec e k =
-      record { number = omega arith; none = λ p q. absurd (omega arith); block = λ p. ap Bad (omega arith); long = λ p. absurd (omega arith) }
+  comes-by false false false false (Bad j) =
+      record { number = refl; none = λ n k p q. absurd (omega (arith, ap callNumber p)); block = λ k p. ap Bad (ap callValue p); long = λ n p. no-answer 5 n j p }
 
-  the-word : Word t file (answerTo req t file) (smallBuffer o) (wrongSize req) (wrongLength req) (noRequest req) (checkTable t (length file)) (serve req t file o .word)
-  the-word =
+  comes : Comes (answerTo req t file) (smallBuffer o) (wrongSize req) (wrongLength req) (noRequest req) (checkTable t (length file)) (serve req t file o .call)
+  comes = rw (is-by-tests req t file o) (comes-by (smallBuffer o) (wrongSize req) (wrongLength req) (noRequest req) (checkTable t (length file)))
+
+  pub refusals : Tried (callNumber (serve req t file o .call)) (smallBuffer o) (wrongSize req) (wrongLength req) (noRequest req) (unsound t file)
+  refusals = rw (comes .number) (tried (smallBuffer o) (wrongSize req) (wrongLength req) (noRequest req) (unsound t file))
+
+  pub number-most : callNumber (serve req t file o .call) ≤ 5
+  number-most = rw (comes .number) (numbers-most (smallBuffer o) (wrongSize req) (wrongLength req) (noRequest req) (unsound t file))
+
+  pub besides-none : (n k : ℕ) → serve req t file o .call ≡ Refused n k → n ≤ 4 → k ≡ 0
+  besides-none = comes .none
+
+  pub besides-block : (k : ℕ) → serve req t file o .call ≡ Refused 5 k → checkTable t (length file) ≡ Bad k
+  besides-block = comes .block
+
+  pub answer-long : (n : ℕ) → serve req t file o .call ≡ Answered n → (count : ℕ) → checkTable t (length file) ≡ Sound count → n ≡ length (answerTo req t file count)
+  answer-long = comes .long
+
+-- The word of a call is read back: what it carries is short.
+module _ (req t file o : List ℕ) (fits : Fits req t file) where
+  reads-by : (a b c d : Bool) (x : Checked) → wrongSize req ≡ b → wrongLength req ≡ c → checkTable t (length file) ≡ x → carried x ≤ 4096
+      → Reads (byTests req t file o a b c d x .call) (callWord (byTests req t file o a b c d x .call))
+  unfolding byTests refused serveChecked answered
+  reads-by true b c d x eb ec e k = refusal-reads 1 0 (omega arith) (omega arith)
+  reads-by false true c d x eb ec e k = refusal-reads 2 0 (omega arith) (omega arith)
+  reads-by false false true d x eb ec e k = refusal-reads 3 0 (omega arith) (omega arith)
+  reads-by false false false true x eb ec e k = refusal-reads 4 0 (omega arith) (omega arith)
+  reads-by false false false false (Sound count) eb ec e k = answer-reads (length (answerTo req t file count)) (omega (arith, fits eb ec count e))
+  reads-by false false false false (Bad n) eb ec e k = refusal-reads 5 n (omega arith) (omega arith)
+
+  pub word-reads : Reads (serve req t file o .call) (callWord (serve req t file o .call))
+  word-reads =
       rw (is-by-tests req t file o)
-      (word-by (smallBuffer o) (wrongSize req) (wrongLength req) (noRequest req) (checkTable t (length file)) refl refl refl (check-carried t (length file)))
-
-  pub refusals : Tried (numberIn (serve req t file o .word)) (smallBuffer o) (wrongSize req) (wrongLength req) (noRequest req) (unsound t file)
-  refusals = rw (the-word .number) (tried (smallBuffer o) (wrongSize req) (wrongLength req) (noRequest req) (unsound t file))
-
-  pub number-most : numberIn (serve req t file o .word) ≤ 5
-  number-most = rw (the-word .number) (numbers-most (smallBuffer o) (wrongSize req) (wrongLength req) (noRequest req) (unsound t file))
-
-  pub besides-none : 1 ≤ numberIn (serve req t file o .word) → numberIn (serve req t file o .word) ≤ 4 → valueIn (serve req t file o .word) ≡ 0
-  besides-none = the-word .none
-
-  pub besides-block : numberIn (serve req t file o .word) ≡ 5 → checkTable t (length file) ≡ Bad (valueIn (serve req t file o .word))
-  besides-block = the-word .block
-
-  pub answer-long : numberIn (serve req t file o .word) ≡ 0 → (count : ℕ) → checkTable t (length file) ≡ Sound count → valueIn (serve req t file o .word) ≡ length (answerTo req t file count)
-  answer-long = the-word .long
+      (reads-by (smallBuffer o) (wrongSize req) (wrongLength req) (noRequest req) (checkTable t (length file)) refl refl refl (check-carried t (length file)))
 
 -- What is refused leaves the table and the buffer; what is not is answered.
 kept : (req t file o : List ℕ) (a b c d : Bool) (x : Checked) → (a || b || c || d || isBad x) ≡ true
@@ -133,69 +168,47 @@ sound-count false false false false (Sound n) e f = f n refl
 pub counted : {A : Type 0} (req t file o : List ℕ) → turnedAway req t file o ≡ false → ((count : ℕ) → checkTable t (length file) ≡ Sound count → A) → A
 counted req t file o e f = sound-count (smallBuffer o) (wrongSize req) (wrongLength req) (noRequest req) (checkTable t (length file)) e f
 
--- the conditions that an answered call does not meet
-pub record Taken (req t file o : List ℕ) : Type 0 where
+-- what holds where none of the five does
+pub record Taken (req o : List ℕ) : Type 0 where
   pub room : 36864 ≤ length o
-  pub least : 20 ≤ length req
-  pub most : length req ≤ 16384
   pub size : wrongSize req ≡ false
   pub lengths : wrongLength req ≡ false
-  pub asks : noRequest req ≡ false
-  pub table : unsound t file ≡ false
 
-none-of : (a b c d e : Bool) → (a || b || c || d || e) ≡ false → (a ≡ false) × (b ≡ false) × (c ≡ false) × (d ≡ false) × (e ≡ false)
-none-of true b c d e h = absurd (true≢false h)
-none-of false true c d e h = absurd (true≢false h)
-none-of false false true d e h = absurd (true≢false h)
-none-of false false false true e h = absurd (true≢false h)
-none-of false false false false true h = absurd (true≢false h)
-none-of false false false false false h = (refl, refl, refl, refl, refl)
-
-neither : (a b : Bool) → (a || b) ≡ false → (a ≡ false) × (b ≡ false)
-neither true b h = absurd (true≢false h)
-neither false b h = (refl, h)
-
-pub taken : (req t file o : List ℕ) → turnedAway req t file o ≡ false → Taken req t file o
+pub taken : (req t file o : List ℕ) → turnedAway req t file o ≡ false → Taken req o
 taken req t file o e =
-    let n = none-of (smallBuffer o) (wrongSize req) (wrongLength req) (noRequest req) (unsound t file) e in
-    let s = neither (ltb (length req) 20) (ltb 16384 (length req)) (n .1) in
-    record { room = ltb-false _ _ (n .0); least = ltb-false _ _ (s .0); most = ltb-false _ _ (s .1); size = n .1; lengths = n .2; asks = n .3; table = n .4 }
+    let d = neither (smallBuffer o || wrongSize req || wrongLength req || noRequest req) (unsound t file) e .0 in
+    let c = neither (smallBuffer o || wrongSize req || wrongLength req) (noRequest req) d .0 in
+    let b = neither (smallBuffer o || wrongSize req) (wrongLength req) c in
+    let a = neither (smallBuffer o) (wrongSize req) (b .0) in
+    record { room = ltb-false _ _ (a .0); size = a .1; lengths = b .1 }
 
 -- the buffer past the answer
-over-length : (w o : List ℕ) → length w ≤ length o → length (over w o) ≡ length o
-unfolding over
-over-length w o h = simp (length-append, length-drop) (omega arith)
-
 over-past : (w o : List ℕ) → drop (length w) (over w o) ≡ drop (length w) o
 unfolding over
 over-past w o = drop-at w (drop (length w) o) (length w) refl
 
-module _ (req t file o : List ℕ) (fits : Fits req t file) where
+module _ (req t file o : List ℕ) where
   module _ (away : turnedAway req t file o ≡ false) (count : ℕ) (sound : checkTable t (length file) ≡ Sound count) where
-    answer-room : length (serve req t file o .buffer) ≡ length o
+    answer-room : Fits req t file → length (serve req t file o .buffer) ≡ length o
     unfolding answered
-    answer-room =
+    answer-room fits =
         let h = taken req t file o away in
         rw (answered-is req t file o count sound away) (over-length (answerTo req t file count) o (omega (arith, h .room, fits (h .size) (h .lengths) count sound)))
 
-    answer-past : drop (valueIn (serve req t file o .word)) (serve req t file o .buffer) ≡ drop (valueIn (serve req t file o .word)) o
+    answer-past : drop (callValue (serve req t file o .call)) (serve req t file o .buffer) ≡ drop (callValue (serve req t file o .call)) o
     unfolding answered
-    answer-past =
-        let h = taken req t file o away in
-        let l = fits (h .size) (h .lengths) count sound in
-        let n : length (answerTo req t file count) % 4294967296 ≡ length (answerTo req t file count) = omega arith in
-        rw (answered-is req t file o count sound away, n) (over-past (answerTo req t file count) o)
+    answer-past = rw (answered-is req t file o count sound away) (over-past (answerTo req t file count) o)
 
-  pub buffer-length : length (serve req t file o .buffer) ≡ length o
-  buffer-length = go (turnedAway req t file o) refl
+  pub buffer-length : Fits req t file → length (serve req t file o .buffer) ≡ length o
+  buffer-length fits = go (turnedAway req t file o) refl
     where
       go : (x : Bool) → turnedAway req t file o ≡ x → length (serve req t file o .buffer) ≡ length o
       go true e = rw (refused-kept req t file o e .1)
-      go false e = counted req t file o e (answer-room e)
+      go false e = counted req t file o e (λ count sound. answer-room e count sound fits)
 
-  pub buffer-past : drop (valueIn (serve req t file o .word)) (serve req t file o .buffer) ≡ drop (valueIn (serve req t file o .word)) o
+  pub buffer-past : drop (callValue (serve req t file o .call)) (serve req t file o .buffer) ≡ drop (callValue (serve req t file o .call)) o
   buffer-past = go (turnedAway req t file o) refl
     where
-      go : (x : Bool) → turnedAway req t file o ≡ x → drop (valueIn (serve req t file o .word)) (serve req t file o .buffer) ≡ drop (valueIn (serve req t file o .word)) o
+      go : (x : Bool) → turnedAway req t file o ≡ x → drop (callValue (serve req t file o .call)) (serve req t file o .buffer) ≡ drop (callValue (serve req t file o .call)) o
       go true e = rw (refused-kept req t file o e .1)
       go false e = counted req t file o e (answer-past e)

@@ -1,36 +1,19 @@
--- What can be said of one call: the number and the value in its word, and the conditions of the five refusals.
-use Prim.Native.Nat.{ℕ, _/_, _%_, _≤_}
+-- What can be said of one call: the conditions of the five refusals, their order, and the answer.
+use Prim.Native.Nat.{ℕ, _≤_}
 use mathlib.Core.Path.{_≡_}
 use mathlib.Core.List.{List}
 use mathlib.Core.Bool.{Bool, true, false, not, _&&_, _||_}
-use lib.ListN.{length, getD}
-use lib.Dec.{eqb, ltb}
+use lib.ListN.{length}
+use lib.Dec.{eqb}
 use Rattle.table.specs.Check.{checkTable}
 use Rattle.table.specs.declared.Checked.{Checked}
 use Rattle.table.specs.declared.Checked.the-variants.{Sound, Bad}
 use Rattle.table.specs.Blocks.{blockOf}
 use Rattle.decisions.specs.Decide.{decide}
 use Rattle.reply.specs.Answer.{answerBytes}
-use Rattle.ndushavire.specs.Serve.{wrongLength}
+use Rattle.ndushavire.specs.Serve.{smallBuffer, wrongSize, wrongLength, noRequest}
 
--- the number in a word: 0 answered, 1 to 5 refused
-abbrev pub numberIn : ℕ → ℕ
-numberIn w = w / 281474976710656
-
--- the value in a word: the answer's length, or what a refusal returns besides
-abbrev pub valueIn : ℕ → ℕ
-valueIn w = w % 4294967296
-
--- "answer buffer under 36,864 bytes"; "request under 20 or over 16,384 bytes"; "R bit clear"; "table unsound"
-abbrev pub smallBuffer : List ℕ → Bool
-smallBuffer o = ltb (length o) 36864
-
-abbrev pub wrongSize : List ℕ → Bool
-wrongSize req = ltb (length req) 20 || ltb 16384 (length req)
-
-abbrev pub noRequest : List ℕ → Bool
-noRequest req = ltb (getD req 4 0) 128
-
+-- "table unsound"
 abbrev pub isBad : Checked → Bool
 isBad (Sound count) = false
 isBad (Bad k) = true

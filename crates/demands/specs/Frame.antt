@@ -1,25 +1,39 @@
 -- What one call may alter.
 use Prim.Native.Nat.{ℕ, _/_}
-use mathlib.Core.List.{List, []}
-use mathlib.Core.Bool.{Bool, _&&_, _||_}
+use mathlib.Core.List.{List, [], _∷_}
+use mathlib.Core.Option.{Option, none, some}
+use mathlib.Core.Bool.{Bool, cond, _&&_, _||_}
 use lib.Dec.{eqb, leb, ltb}
+use Rattle.table.specs.Blocks.{privateAt}
+use Rattle.lookup.specs.Find.{findPublic}
+use Rattle.lookup.specs.declared.Found.{Found}
+use Rattle.lookup.specs.declared.Found.the-variants.{At, Nothing}
+use Rattle.diameter.specs.Avp.{dataOf}
+use Rattle.reading.specs.Kinds.{userName}
 use Rattle.reading.specs.Rules.{Judged, bad, fine}
-use Rattle.reading.specs.Request.{readRequest}
+use Rattle.reading.specs.Request.{bodyOf, readRequest, given, dataIn, identities}
 use Rattle.reading.specs.Found.{numberOf}
 use Rattle.reading.specs.declared.Outcome.{Outcome}
-use Rattle.decisions.specs.Assignment.{recordsOf, ownerOf}
-use Rattle.decisions.specs.Decide.{assignmentOf}
 
 -- a result 2xxx, B or X
 abbrev pub succeeds : Outcome → Bool
 succeeds r = eqb (numberOf r / 1000) 2
 
--- the private identity of the subscription that is asked about: the User-Name if given, else the named identity's
-unfoldable pub askedIn : List ℕ → List ℕ → ℕ → Judged → List ℕ
-askedIn req t count (bad r f) = []
-askedIn req t count (fine seen) = ownerOf t (assignmentOf seen req) (recordsOf t count (assignmentOf seen req))
+-- the private identity in the record of the first Public-Identity, if there is one and it is known
+abbrev pub ownerAt : List ℕ → Found → Option (List ℕ)
+ownerAt t (At k) = some (privateAt t k)
+ownerAt t Nothing = none
 
-unfoldable pub subscriptionOf : List ℕ → List ℕ → ℕ → List ℕ
+unfoldable pub firstOwner : List ℕ → ℕ → List (List ℕ) → Option (List ℕ)
+firstOwner t count [] = none
+firstOwner t count (a ∷ avps) = ownerAt t (findPublic t count (dataOf a))
+
+-- the subscription that a request asks about, by its private identity: the User-Name if given, else that of the first Public-Identity
+unfoldable pub askedIn : List ℕ → List ℕ → ℕ → Judged → Option (List ℕ)
+askedIn req t count (bad r f) = none
+askedIn req t count (fine seen) = cond (given seen userName) (some (dataIn seen userName)) (firstOwner t count (identities (bodyOf req)))
+
+unfoldable pub subscriptionOf : List ℕ → List ℕ → ℕ → Option (List ℕ)
 subscriptionOf req t count = askedIn req t count (readRequest req)
 
 -- the bytes of a record that an effect may write: state, bits, the server name with its length, the check word

@@ -1,76 +1,41 @@
 -- Each demand's hypotheses can be met: one table of two subscriptions, one SAR, and what is put into it, computed.
-use Prim.Native.Nat.{ℕ, zero, suc, _+_, _<_}
+use Prim.Native.Nat.{ℕ, zero, suc, _+_, _/_, _<_, _≤_}
 use mathlib.Core.Path.{_≡_, refl, ap, _∙_}
 use mathlib.Core.List.{List, [], _∷_, _++_}
+use mathlib.Core.Option.{Option·some-injective}
+use mathlib.Core.Logic.{_⊎_}
 use mathlib.Core.Bool.{Bool, true, false, _&&_}
 use native.Mathlib.Omega.{arith}
-use lib.ListN.{length, getD, take, drop, replicate, set}
-use lib.Seq.{sets}
+use lib.ListN.{length, getD, take, drop, replicate}
 use lib.Dec.{eqb, ltb, lit≤, lit<}
 use borrow.Author.Tests.{eqb-true, ltb-true}
 use Rattle.octets.proofs.All.{and-left, and-right}
-use Rattle.octets.specs.All.{allBelow}
-use Rattle.octets.specs.Name.{orderOf, alikeAt, same}
-use Rattle.octets.specs.Number.{be16At, be24At, be32At, putBe24, putBe32}
-use Rattle.octets.specs.Run.{zeros, zeroBetween, putName, over}
-use Rattle.octets.specs.Sum.{sumWords}
-use Rattle.record.specs.Fields.{hostOf, realmOf, publicOf, privateOf, serverOf}
-use Rattle.record.specs.HeaderBlock.{headerOf, soundHeader}
-use Rattle.record.specs.Networks.{networkOf, usedPlace, soundPlace, sameByte, otherPlace, newPlace, soundNetworks}
-use Rattle.record.specs.RecordBlock.{recordOf, soundRecord}
-use Rattle.table.specs.Blocks.{blockOf, tableOf, publicAt, privateAt}
+use Rattle.octets.specs.Run.{over}
+use Rattle.table.specs.Blocks.{blockOf, privateAt}
 use Rattle.table.specs.declared.Checked.the-variants.{Sound, Bad}
-use Rattle.table.specs.Check.{risesAt, soundAt, firstBad, checkRecords, checkTable}
-use Rattle.lookup.specs.Find.{firstFrom, publicIs, findPublic, privateIs, findPrivate, serverHere, servesAt, findServer}
-use Rattle.lookup.specs.Network.{networkIs, seek, networkNumber, roamsIn}
-use Rattle.rewrite.specs.Renew.{lacking, sealed, renewed, rewritten}
-use Rattle.rewrite.specs.Effect.{settled, settledAt, afterOf}
-use Rattle.diameter.specs.Avp.{padded, headOf, avpLen, vendorOf, valueOf, sound}
-use Rattle.diameter.specs.Walk.{walkFrom, walk}
+use Rattle.table.specs.Check.{checkTable}
+use Rattle.diameter.specs.Avp.{padded, avpLen, sound}
 use Rattle.diameter.specs.Put.{Piece, Whole, All, glue, bytesOf, avpsOf}
-use Rattle.pen.specs.Bytes.{wordBytes, headBytes, padding, vendorHead, copied, avpBytes, vendorBytes, numberBytes, vendorNumber, group, vendorGroup, ifThere}
-use Rattle.pen.specs.Groups.{vendorApplication, experimental, failed, vendorNumbers, capabilities}
-use Rattle.reading.specs.Kinds.{known, kindFrom, kindBy, rowOf, useIn}
-use Rattle.reading.specs.Rules.{isMember, members, goodContent, nothing, ruleBy, rule, failedOf, judge}
-use Rattle.reading.specs.Request.{headerFault, exampleOf, example, missingFrom, missing, complete, readWalk, readRequest, identities}
-use Rattle.decisions.specs.Reply.{served, mandatoryOf, optionalOf, profileOf}
-use Rattle.decisions.specs.Authorization.{mayRoam, authorizeRecord, authorizeFound, authorize}
-use Rattle.decisions.specs.Location.{locateRecord, locateFound, locate}
-use Rattle.decisions.specs.Types.{groupOf, startOf, effectOf}
-use Rattle.decisions.specs.Assignment.{identityFault, every, isOne, findAll, numbersOf, ownedHere, ownedUpTo, recordsOf, allKnown, ownerOf, ownAt, storesAt, fitsAt, rightAt, assigned, storedName, effected, assignRecords, assignKnown, assign}
-use Rattle.decisions.specs.Decide.{assignmentOf, decideRead, decideJudged, decide}
-use Rattle.reading.specs.Found.{numberOf}
-use Rattle.reply.specs.Answer.{resultBytes, proxies, frontBytes, originBytes, givenBytes, endBytes, bodyBytes, flagsOf, headerBytes, answerBytes}
-use Rattle.ndushavire.specs.Serve.{Served, refused, answered, serveChecked, wrongLength, serve}
-use Rattle.demands.specs.Call.{Tried, numberIn, valueIn, smallBuffer, wrongSize, noRequest, unsound, turnedAway, answerTo}
-use Rattle.demands.specs.Frame.{askedIn, subscriptionOf, alterable}
+use Rattle.pen.specs.Bytes.{wordBytes, headBytes, padding, vendorHead, numberBytes}
+use Rattle.pen.specs.Groups.{failed}
+use Rattle.decisions.specs.Decide.{decide}
+use Rattle.ndushavire.specs.declared.Call.the-variants.{Answered, Refused}
+use Rattle.ndushavire.specs.Serve.{Served, smallBuffer, wrongSize, wrongLength, noRequest, serve}
+use Rattle.ndushavire.specs.Word.{callNumber, callValue, callWord, Reads}
+use Rattle.worked.proofs.Sample.{header, person, request, answer, s, z, opened}
+use Rattle.demands.specs.Call.{Tried, unsound, turnedAway, answerTo}
+use Rattle.demands.specs.Frame.{firstOwner, askedIn, subscriptionOf, alterable}
 use Rattle.demands.specs.Insertion.{message, Foreign, Quiet, Inserted, ending, keep, put, FirstMarked, faultIn, Cut}
-use Rattle.demands.proofs.Demands.{demand-1, demand-1-none, demand-1-block, demand-1-length, demand-1-kept, demand-2-past, demand-2-failure, demand-2-others, demand-2-bytes, demand-2-sound, demand-3-unmarked, demand-3-table, demand-3-marked, demand-3-fault, demand-3-any}
-
--- `hss.isle` and `isle`; a block of zeros; a header of two records that keeps no names; a record of one-byte identities
-host : List ℕ
-host = 0x68 ∷ 0x73 ∷ 0x73 ∷ 0x2E ∷ 0x69 ∷ 0x73 ∷ 0x6C ∷ 0x65 ∷ []
-
-realm : List ℕ
-realm = 0x69 ∷ 0x73 ∷ 0x6C ∷ 0x65 ∷ []
-
-block : List ℕ
-block = replicate 512 0
-
-header : List ℕ
-header = sealed (sets (sets (sets (putBe32 (sets block 0 (1 ∷ 1 ∷ [])) 8 2) 12 (0 ∷ 8 ∷ 4 ∷ [])) 16 host) 80 realm)
-
-person : ℕ → ℕ → ℕ → ℕ → List ℕ → List ℕ
-person k public private state server =
-    sealed
-    (sets (sets (sets (sets (sets (putBe32 (sets block 0 (2 ∷ 1 ∷ [])) 4 k) 8 (state ∷ [])) 13 (1 ∷ 1 ∷ length server ∷ [])) 16 (public ∷ [])) 144 (private ∷ [])) 272 server)
+use Rattle.demands.proofs.Demands.{promised, demand-1, demand-1-number, demand-1-none, demand-1-block, demand-1-length, demand-1-fits, demand-1-word, demand-1-kept}
+use Rattle.demands.proofs.Demands.{demand-2, demand-2-failure, demand-2-others, demand-2-header, demand-2-bytes, demand-2-bits, demand-2-size, demand-2-sound, demand-2-question, demand-2-room, demand-2-past}
+use Rattle.demands.proofs.Demands.{demand-3-unmarked, demand-3-table, demand-3-marked, demand-3-fault, demand-3-cases, demand-3-any}
 
 -- two subscriptions, each registered at the server `s`; the table after `a` was removed; a buffer of the least room
 table : List ℕ
-table = header ++ (person 1 0x61 0x70 1 (0x73 ∷ []) ++ person 2 0x62 0x71 1 (0x73 ∷ []))
+table = header 2 0 ++ (person 1 0x61 0x70 1 (0x73 ∷ []) ++ person 2 0x62 0x71 1 (0x73 ∷ []))
 
 removed : List ℕ
-removed = header ++ (person 1 0x61 0x70 0 [] ++ person 2 0x62 0x71 1 (0x73 ∷ []))
+removed = header 2 0 ++ (person 1 0x61 0x70 0 [] ++ person 2 0x62 0x71 1 (0x73 ∷ []))
 
 room : List ℕ
 room = replicate 36864 0
@@ -104,13 +69,9 @@ rest server kind = application ∷ common ++ own server kind
 sar : List ℕ → ℕ → List ℕ
 sar server kind = message head (bytesOf (session ∷ rest server kind))
 
--- the answer to it: its result, and what follows the realm
-answer : List ℕ → List ℕ → List ℕ
-answer result after =
-    set (message head (bytesOf (session ∷ application ∷ []) ++ (result ++ (bytesOf (base 277 (wordBytes 1) ∷ base 264 host ∷ base 296 realm ∷ []) ++ after)))) 4 0x40
-
+-- a call that is answered by these bytes
 comes : List ℕ → List ℕ → Served
-comes after bytes = record { word = length bytes; table = after; buffer = over bytes room }
+comes after bytes = record { call = Answered (length bytes); table = after; buffer = over bytes room }
 
 -- "601 without V is unknown"; "V with vendor 0 is an unknown kind"; one with M. Their padding is no zeros
 plain : Piece
@@ -122,89 +83,108 @@ zeroVendor = record { avp = headBytes 601 128 13 ++ (0 ∷ 0 ∷ 0 ∷ 0 ∷ 0x6
 loud : Piece
 loud = record { avp = headBytes 999 64 11 ++ (1 ∷ 2 ∷ 3 ∷ []); pad = 0xFF ∷ [] }
 
-s : List ℕ
-s = 0x73 ∷ []
-
-z : List ℕ
-z = 0x7A ∷ []
-
 -- all that the instances open
-opened : ℕ
-unfolding host realm block header person table removed room base vendor head session application common own rest sar answer comes plain zeroVendor loud s z
-    message glue bytesOf avpsOf askedIn subscriptionOf alterable faultIn
-    allBelow orderOf alikeAt same be16At be24At be32At putBe24 putBe32 zeros zeroBetween putName over sumWords hostOf realmOf publicOf privateOf serverOf headerOf
-    soundHeader networkOf usedPlace soundPlace sameByte otherPlace newPlace soundNetworks recordOf soundRecord blockOf tableOf publicAt privateAt risesAt soundAt firstBad
-    checkRecords checkTable firstFrom publicIs findPublic privateIs findPrivate serverHere servesAt findServer networkIs seek networkNumber roamsIn lacking sealed renewed
-    rewritten settled settledAt afterOf padded headOf vendorOf valueOf sound walkFrom walk padding vendorHead copied avpBytes vendorBytes numberBytes vendorNumber group
-    vendorGroup ifThere vendorApplication experimental failed vendorNumbers capabilities known kindFrom kindBy rowOf useIn isMember members goodContent nothing ruleBy
-    rule failedOf judge headerFault exampleOf example missingFrom missing complete readWalk readRequest identities served mandatoryOf optionalOf profileOf mayRoam
-    authorizeRecord authorizeFound authorize locateRecord locateFound locate groupOf startOf effectOf identityFault every isOne findAll numbersOf ownedHere ownedUpTo
-    recordsOf allKnown ownerOf ownAt storesAt fitsAt rightAt assigned storedName effected assignRecords assignKnown assign assignmentOf decideRead decideJudged decide
-    numberOf resultBytes proxies frontBytes originBytes givenBytes endBytes bodyBytes flagsOf headerBytes answerBytes refused answered serveChecked wrongLength serve
-opened = 0
+all : ℕ
+unfolding opened table removed room base vendor head session application common own rest sar comes plain zeroVendor loud
+    message glue bytesOf avpsOf firstOwner askedIn subscriptionOf alterable faultIn
+all = 0
 
 -- the table is sound; the SAR is a success, which rewrites record 1 alone
 sound-table : checkTable table 0 ≡ Sound 2
-unfolding opened
+unfolding all
 sound-table = refl
 
 removal : serve (sar s 5) table [] room ≡ comes removed (answer (numberBytes 268 2001) [])
-unfolding opened
+unfolding all
 removal = refl
 
--- over this table and with this buffer a request is answered if its length and its R bit are right
-not-away : (req : List ℕ) → wrongSize req ≡ false → wrongLength req ≡ false → noRequest req ≡ false → turnedAway req table [] room ≡ false
-unfolding room
-not-away req a b c = rw (a, b, c, sound-table)
+-- it says 116 bytes; the word that is promised says the same
+removal-call : serve (sar s 5) table [] room .call ≡ Answered 116
+unfolding all
+removal-call = ap (λ (x : Served). x .call) removal
 
--- DEMAND 1: it is number 0 with the answer's length; a request of 19 bytes is number 2; two records of one public identity are number 5
-removal-word : serve (sar s 5) table [] room .word ≡ 116
-unfolding opened
-removal-word = ap (λ (x : Served). x .word) removal
+met-promised : serve (sar s 5) table [] room .call ≡ Answered 116
+met-promised = ap (λ (x : Served). x .call) (promised (sar s 5) table [] room {r = 116} (record { word-is = rw removal-call; table-is = refl; buffer-is = refl }))
 
-met-1 : Tried (numberIn (serve (sar s 5) table [] room .word)) (smallBuffer room) (wrongSize (sar s 5)) (wrongLength (sar s 5)) (noRequest (sar s 5)) (unsound table [])
+-- DEMAND 1: it is number 0 with the answer's length; a request of 19 bytes is refusal 2; two records of one public identity are refusal 5
+met-1 : Tried (callNumber (serve (sar s 5) table [] room .call)) (smallBuffer room) (wrongSize (sar s 5)) (wrongLength (sar s 5)) (noRequest (sar s 5)) (unsound table [])
 met-1 = demand-1 (sar s 5) table [] room
 
-met-1-length : valueIn (serve (sar s 5) table [] room .word) ≡ length (answerTo (sar s 5) table [] 2)
-met-1-length = demand-1-length (sar s 5) table [] room (rw removal-word) 2 sound-table
+met-1-number : callNumber (serve (sar s 5) table [] room .call) ≤ 5
+met-1-number = demand-1-number (sar s 5) table [] room
 
-met-1-none : valueIn (serve (take 19 (sar s 5)) table [] room .word) ≡ 0
-unfolding opened
-met-1-none = demand-1-none (take 19 (sar s 5)) table [] room (lit≤ tt) (lit≤ tt)
+met-1-length : 116 ≡ length (answerTo (sar s 5) table [] 2)
+met-1-length = demand-1-length (sar s 5) table [] room 116 removal-call 2 sound-table
+
+met-1-fits : length (answerTo (sar s 5) table [] 2) ≤ 36864
+unfolding all
+met-1-fits = demand-1-fits (sar s 5) table [] room refl refl 2 sound-table
+
+met-1-word : Reads (Answered 116) (callWord (Answered 116))
+met-1-word = rw removal-call at (demand-1-word (sar s 5) table [] room)
+
+short-refused : serve (take 19 (sar s 5)) table [] room .call ≡ Refused 2 0
+unfolding all
+short-refused = refl
+
+met-1-none : _≡_ {A = ℕ} 0 0
+met-1-none = demand-1-none (take 19 (sar s 5)) table [] room 2 0 short-refused (lit≤ tt)
 
 met-1-kept : serve (take 19 (sar s 5)) table [] room .table ≡ table
-unfolding opened
+unfolding all
 met-1-kept = demand-1-kept (take 19 (sar s 5)) table [] room refl .0
 
 twice : List ℕ
-twice = header ++ (person 1 0x61 0x70 1 s ++ person 2 0x61 0x71 1 s)
+twice = header 2 0 ++ (person 1 0x61 0x70 1 s ++ person 2 0x61 0x71 1 s)
 
-bad-twice : checkTable twice 0 ≡ Bad 2
-unfolding opened twice
-bad-twice = refl
+met-1-block : checkTable twice 0 ≡ Bad 2
+unfolding all twice
+met-1-block = demand-1-block (sar s 5) twice [] room 2 refl
 
-met-1-block : checkTable twice 0 ≡ Bad (valueIn (serve (sar s 5) twice [] room .word))
-unfolding opened
-met-1-block = demand-1-block (sar s 5) twice [] room (rw bad-twice)
-
--- DEMAND 2: a name that differs is X5005 and leaves the table; the removal leaves record 2, and of record 1 its identities
-met-2-failure : serve (sar z 5) table [] room .table ≡ table
-unfolding opened
-met-2-failure = demand-2-failure (sar z 5) table [] room 2 sound-table refl
+-- DEMAND 2: the removal leaves the decision's table, and of it record 2, the header, and of record 1 the identities and the bits above pending
+met-2 : serve (sar s 5) table [] room .table ≡ decide (sar s 5) table 2 [] .table
+unfolding all
+met-2 = demand-2 (sar s 5) table [] room 2 sound-table refl .1
 
 met-2-others : blockOf (serve (sar s 5) table [] room .table) 2 ≡ blockOf table 2
-unfolding opened
-met-2-others = demand-2-others (sar s 5) table [] room 2 sound-table 2 (lit≤ tt) (λ e. let d : _≡_ {A = ℕ} 0x71 0x70 = ap (λ (l : List ℕ). getD l 0 0) e in omega arith)
+unfolding all
+met-2-others =
+    demand-2-others (sar s 5) table [] room 2 sound-table 2 (lit≤ tt)
+    (λ e. let d : 0x71 ∷ [] ≡ 0x70 ∷ [] = Option·some-injective _ _ e in let c : _≡_ {A = ℕ} 0x71 0x70 = ap (λ (l : List ℕ). getD l 0 0) d in omega arith)
+
+met-2-header : blockOf (serve (sar s 5) table [] room .table) 0 ≡ blockOf table 0
+met-2-header = demand-2-header (sar s 5) table [] room 2 sound-table
 
 met-2-bytes : getD (blockOf (serve (sar s 5) table [] room .table) 1) 144 0 ≡ getD (blockOf table 1) 144 0
 unfolding alterable
 met-2-bytes = demand-2-bytes (sar s 5) table [] room 2 sound-table 1 144 (lit≤ tt) (lit< tt) refl
 
+met-2-bits : getD (blockOf (serve (sar s 5) table [] room .table) 1) 9 0 / 2 ≡ getD (blockOf table 1) 9 0 / 2
+met-2-bits = demand-2-bits (sar s 5) table [] room 2 sound-table 1 (lit≤ tt)
+
+met-2-size : length (serve (sar s 5) table [] room .table) ≡ length table
+met-2-size = demand-2-size (sar s 5) table [] room 2 sound-table
+
 met-2-sound : checkTable (serve (sar s 5) table [] room .table) 0 ≡ Sound 2
 met-2-sound = demand-2-sound (sar s 5) table [] room 2 sound-table
 
-met-2-past : drop (valueIn (serve (sar s 5) table [] room .word)) (serve (sar s 5) table [] room .buffer) ≡ drop (valueIn (serve (sar s 5) table [] room .word)) room
+met-2-room : length (serve (sar s 5) table [] room .buffer) ≡ length room
+met-2-room = demand-2-room (sar s 5) table [] room
+
+met-2-past : drop (callValue (serve (sar s 5) table [] room .call)) (serve (sar s 5) table [] room .buffer) ≡ drop (callValue (serve (sar s 5) table [] room .call)) room
 met-2-past = demand-2-past (sar s 5) table [] room
+
+-- a name that differs is X5005 and leaves the table; so does a LIR
+met-2-failure : serve (sar z 5) table [] room .table ≡ table
+unfolding all
+met-2-failure = demand-2-failure (sar z 5) table [] room 2 sound-table refl
+
+lir : List ℕ
+lir = request 302 (bytesOf (session ∷ application ∷ common ++ (vendor 601 (0x61 ∷ []) ∷ [])))
+
+met-2-question : serve lir table [] room .table ≡ table
+unfolding all lir
+met-2-question = demand-2-question lir table [] room (λ e. let d : _≡_ {A = ℕ} 302 301 = e in omega arith)
 
 -- DEMAND 3: a row is whole if a test says so of each
 isWhole : Piece → Bool
@@ -226,23 +206,23 @@ all-whole [] e = tt
 all-whole (q ∷ qs) e = (is-whole q (and-left (isWhole q) _ e), all-whole qs (and-right (isWhole q) _ e))
 
 foreign-plain : Foreign plain
-unfolding opened
+unfolding all
 foreign-plain = record { whole = record { right = refl; exact = refl; filled = refl }; plain = refl; stranger = refl }
 
 foreign-zero : Foreign zeroVendor
-unfolding opened
+unfolding all
 foreign-zero = record { whole = record { right = refl; exact = refl; filled = refl }; plain = refl; stranger = refl }
 
 foreign-loud : Foreign loud
-unfolding opened
+unfolding all
 foreign-loud = record { whole = record { right = refl; exact = refl; filled = refl }; plain = refl; stranger = refl }
 
 quiet-plain : Quiet plain
-unfolding opened
+unfolding all
 quiet-plain = record { foreign = foreign-plain; unmarked = refl }
 
 quiet-zero : Quiet zeroVendor
-unfolding opened
+unfolding all
 quiet-zero = record { foreign = foreign-zero; unmarked = refl }
 
 -- a row as it is
@@ -252,7 +232,7 @@ kept (q ∷ qs) = keep q (kept qs)
 
 -- two unmarked ones between, and one at the end of the SAR that succeeds: the same answer and the same table
 met-3-unmarked : serve (message head (bytesOf (session ∷ application ∷ plain ∷ zeroVendor ∷ common ++ (own s 5 ++ (plain ∷ []))))) table [] room ≡ comes removed (answer (numberBytes 268 2001) [])
-unfolding opened isWhole allWhole
+unfolding all isWhole allWhole
 met-3-unmarked =
     demand-3-unmarked head refl session (rest s 5) (application ∷ plain ∷ zeroVendor ∷ common ++ (own s 5 ++ (plain ∷ []))) (all-whole (session ∷ rest s 5) refl) (lit≤ tt) table [] room
     (keep _ (put plain quiet-plain (put zeroVendor quiet-zero (keep _ (keep _ (keep _ (keep _ (keep _ (keep _ (keep _ (keep _ (put plain quiet-plain ending))))))))))))
@@ -260,7 +240,7 @@ met-3-unmarked =
 
 -- one marked M between a front and a back
 markedAt : (front back : List Piece) → FirstMarked (front ++ back) (front ++ (loud ∷ back))
-unfolding opened
+unfolding all
 markedAt front back =
     record {
       mark = loud;
@@ -276,19 +256,23 @@ markedAt front back =
       rest = kept back;
     }
 
+-- these are all cases
+met-3-cases : Inserted Quiet common (plain ∷ common) ⊎ FirstMarked common (plain ∷ common)
+met-3-cases = demand-3-cases common (plain ∷ common) (put plain foreign-plain (kept common))
+
 unsupported-answer : Served
 unsupported-answer = comes table (answer (numberBytes 268 5001) (failed (loud .avp)))
 
 -- type 12 is bad content, B5004. The marked one before it: B5001, and the table is as it was
 met-3-marked : serve (message head (bytesOf (session ∷ application ∷ common ++ (loud ∷ own s 12)))) table [] room ≡ unsupported-answer
-unfolding opened isWhole allWhole unsupported-answer markedAt
+unfolding all isWhole allWhole unsupported-answer markedAt
 met-3-marked =
     demand-3-marked head refl session (rest s 12) (application ∷ common ++ (loud ∷ own s 12)) (all-whole (session ∷ rest s 12) refl) (lit≤ tt) table [] room
     (markedAt (application ∷ common) (own s 12)) refl refl
 
 -- the marked one behind it: the answer given without it
 met-3-fault : serve (message head (bytesOf (session ∷ rest s 12 ++ (loud ∷ [])))) table [] room ≡ comes table (answer (numberBytes 268 5004) (failed (vendorHead 614 16 ++ wordBytes 12)))
-unfolding opened isWhole allWhole markedAt
+unfolding all isWhole allWhole markedAt
 met-3-fault =
     demand-3-fault head refl session (rest s 12) (rest s 12 ++ (loud ∷ [])) (all-whole (session ∷ rest s 12) refl) (lit≤ tt) table [] room (markedAt (rest s 12) []) refl
 
@@ -300,16 +284,16 @@ many : List Piece
 many = application ∷ common ++ (vendor 601 (0x62 ∷ []) ∷ own s 1)
 
 met-3-missing : serve (message head (bytesOf (session ∷ lacking624 ++ (loud ∷ [])))) table [] room ≡ unsupported-answer
-unfolding opened isWhole allWhole unsupported-answer markedAt lacking624
+unfolding all isWhole allWhole unsupported-answer markedAt lacking624
 met-3-missing =
     demand-3-marked head refl session lacking624 (lacking624 ++ (loud ∷ [])) (all-whole (session ∷ lacking624) refl) (lit≤ tt) table [] room (markedAt lacking624 []) refl refl
 
 met-3-many : serve (message head (bytesOf (session ∷ many ++ (loud ∷ [])))) table [] room ≡ unsupported-answer
-unfolding opened isWhole allWhole unsupported-answer markedAt many
+unfolding all isWhole allWhole unsupported-answer markedAt many
 met-3-many = demand-3-marked head refl session many (many ++ (loud ∷ [])) (all-whole (session ∷ many) refl) (lit≤ tt) table [] room (markedAt many []) refl refl
 
 met-3-table : serve (message head (bytesOf (session ∷ many ++ (loud ∷ [])))) table [] room .table ≡ table
-unfolding opened isWhole allWhole many
+unfolding all isWhole allWhole many
 met-3-table = demand-3-table head refl session many (many ++ (loud ∷ [])) (all-whole (session ∷ many) refl) (lit≤ tt) table [] room (markedAt many [])
 
 -- the SAR as bytes is such a header and row
@@ -324,5 +308,5 @@ are-bytes (x ∷ l) e zero = ltb-true x 256 (and-left (ltb x 256) _ e)
 are-bytes (x ∷ l) e (suc i) = are-bytes l (and-right (ltb x 256) _ e) i
 
 met-3-any : Cut (sar s 5)
-unfolding opened allBytes
+unfolding all allBytes
 met-3-any = demand-3-any (sar s 5) (are-bytes (sar s 5) refl) (lit< tt) refl refl

@@ -24,8 +24,9 @@ use Rattle.decisions.specs.declared.Plan.{Plan}
 use Rattle.decisions.proofs.Ready.{sound-ready}
 use Rattle.decisions.proofs.Replies.{reply-fault}
 use Rattle.reply.specs.Answer.{roomOf, answerBytes}
+use Rattle.ndushavire.specs.Passed.{Passed}
 use Rattle.ndushavire.specs.Plans.{Plans, Answers}
-use Rattle.ndushavire.proofs.Room.{decide-room, decide-most}
+use Rattle.ndushavire.proofs.Room.{answer-most}
 
 -- A fault: the reply is the verdict's, and the table stays.
 module _ (req t file : List ℕ) (count : ℕ) (v : Verdict) (is : readRequest req ≡ bad (v .result) (failedBy req v)) where
@@ -56,9 +57,10 @@ module _ (req t file : List ℕ) (count : ℕ) (g : Given) (is : replyOf req t f
   pub answers : (before after : List ℕ) (r : ℕ) → Wrote (answerBytes req (blockOf t 0) (replyOf req t file g)) before after r → Answers req t count file before after r
   answers before after r w = rw is at w
 
-  pub answers-most : 20 ≤ length req → length req ≤ 16384 → length req % 4 ≡ 0 → SoundTable t (length file) count → (before after : List ℕ) (r : ℕ)
+  pub answers-most : (o : List ℕ) → Passed req o → SoundTable t (length file) count → (before after : List ℕ) (r : ℕ)
       → Wrote (answerBytes req (blockOf t 0) (replyOf req t file g)) before after r → r ≤ 36864
-  answers-most h k e s before after r w = omega (arith, w .count, decide-most req t file count g h k e s is, ap (λ (x : Reply). length (answerBytes req (blockOf t 0) x)) is)
+  answers-most o p s before after r w =
+      omega (arith, w .count, answer-most t file count s req (p .least) (p .most) (p .fours), ap (λ (x : Reply). length (answerBytes req (blockOf t 0) x)) is)
 
 -- A sound table is ready to be asked, and a Server-Name that was read has room in a record.
 pub read-fits : (req : List ℕ) (seen : Seen) → readRequest req ≡ fine seen → length (dataIn seen 10) ≤ 96

@@ -17,10 +17,14 @@ use Rattle.lookup.specs.SoundTable.{SoundTable}
 use Rattle.lookup.proofs.Sound.{sound-says}
 use Rattle.decisions.specs.Decide.{decide}
 use Rattle.reply.specs.Answer.{answerBytes}
+use Rattle.ndushavire.specs.Passed.{Passed}
 use Rattle.ndushavire.specs.Plans.{Answers}
-use Rattle.ndushavire.specs.Serve.{refused, answered, serveChecked, wrongLength, serve}
-use Rattle.ndushavire.specs.Promise.{DecidePromise, Served}
-use Rattle.ndushavire.specs.Word.{word}
+use Rattle.ndushavire.specs.declared.Call.{Call}
+use Rattle.ndushavire.specs.declared.Call.the-variants.{Answered, Refused}
+use Rattle.ndushavire.specs.Serve.{refused, answered, wrongSize, wrongLength, serveChecked, serve}
+use Rattle.ndushavire.specs.Promise.{DecidePromise, Leaves}
+use Rattle.ndushavire.specs.Word.{callWord}
+use Rattle.ndushavire.proofs.Tests.{neither}
 
 pub length-all : (req : List ℕ) {n : ℕ} → n ≡ be24At req 1 → (not (eqb n (length req)) || not (eqb (length req % 4) 0)) ≡ wrongLength req
 unfolding wrongLength
@@ -40,66 +44,64 @@ pub checked-sound : (t : List ℕ) (n count : ℕ) {c : Checked} → c ≡ check
 checked-sound t n count e f = sound-says t n count (sym e ∙ f)
 
 module _ (req t file o : List ℕ) (c : Checked) where
-  pub served-bad : (k : ℕ) {w : ℕ} → c ≡ Bad k → w ≡ word 5 k → Served req t file o c w t o
+  pub served-bad : (k : ℕ) → c ≡ Bad k → Leaves (serveChecked req t file o c) (Refused 5 k) t o
   unfolding serveChecked refused
-  served-bad k e f = record { word-is = f ∙ rw e; table-is = rw e; buffer-is = rw e }
+  served-bad k e = record { call-is = rw e; table-is = rw e; buffer-is = rw e }
 
-  pub served-sound : (count n : ℕ) {t' o' : List ℕ} → c ≡ Sound count → Answers req t count file o o' n → t' ≡ decide req t count file .table → Served req t file o c (word 0 n) t' o'
+  pub served-sound : (count n : ℕ) {t' o' : List ℕ} → c ≡ Sound count → Answers req t count file o o' n → t' ≡ decide req t count file .table
+      → Leaves (serveChecked req t file o c) (Answered n) t' o'
   unfolding serveChecked answered
-  served-sound count n e a d = let z : word 0 n ≡ n = omega arith in record { word-is = z ∙ a .count ∙ rw e; table-is = d ∙ rw e; buffer-is = a .bytes ∙ rw e }
+  served-sound count n e a d = record { call-is = ap Answered (a .count) ∙ rw e; table-is = d ∙ rw e; buffer-is = a .bytes ∙ rw e }
 
 -- The five refusals, in their order.
-module _ (req t file o : List ℕ) {w : ℕ} where
-  pub call-buffer : length o < 36864 → w ≡ word 1 0 → DecidePromise req t file o w t o
+module _ (req t file o : List ℕ) where
+  pub call-buffer : length o < 36864 → Leaves (serve req t file o) (Refused 1 0) t o
   unfolding serve refused
-  call-buffer a e = let h = lt-ltb (length o) 36864 a in record { word-is = e ∙ rw h; table-is = rw h; buffer-is = rw h }
+  call-buffer a = let h = lt-ltb (length o) 36864 a in record { call-is = rw h; table-is = rw h; buffer-is = rw h }
 
   module _ (room : 36864 ≤ length o) where
-    pub call-size : (ltb (length req) 20 || ltb 16384 (length req)) ≡ true → w ≡ word 2 0 → DecidePromise req t file o w t o
+    pub call-size : wrongSize req ≡ true → Leaves (serve req t file o) (Refused 2 0) t o
     unfolding serve refused
-    call-size a e = let h = le-ltb (length o) 36864 room in record { word-is = e ∙ rw (h, a); table-is = rw (h, a); buffer-is = rw (h, a) }
+    call-size a = let h = le-ltb (length o) 36864 room in record { call-is = rw (h, a); table-is = rw (h, a); buffer-is = rw (h, a) }
 
-    module _ (fits : (ltb (length req) 20 || ltb 16384 (length req)) ≡ false) {x : Bool} (is : x ≡ wrongLength req) where
-      pub call-length : x ≡ true → w ≡ word 3 0 → DecidePromise req t file o w t o
+    module _ (fits : wrongSize req ≡ false) {x : Bool} (is : x ≡ wrongLength req) where
+      pub call-length : x ≡ true → Leaves (serve req t file o) (Refused 3 0) t o
       unfolding serve refused
-      call-length a e =
+      call-length a =
           let h = le-ltb (length o) 36864 room in
           let l : wrongLength req ≡ true = sym is ∙ a in
-          record { word-is = e ∙ rw (h, fits, l); table-is = rw (h, fits, l); buffer-is = rw (h, fits, l) }
+          record { call-is = rw (h, fits, l); table-is = rw (h, fits, l); buffer-is = rw (h, fits, l) }
 
-      pub call-request : x ≡ false → getD req 4 0 < 128 → w ≡ word 4 0 → DecidePromise req t file o w t o
+      pub call-request : x ≡ false → getD req 4 0 < 128 → Leaves (serve req t file o) (Refused 4 0) t o
       unfolding serve refused
-      call-request a b e =
+      call-request a b =
           let h = le-ltb (length o) 36864 room in
           let l : wrongLength req ≡ false = sym is ∙ a in
-          let r = lt-ltb (getD req 4 0) 128 b in
-          record { word-is = e ∙ rw (h, fits, l, r); table-is = rw (h, fits, l, r); buffer-is = rw (h, fits, l, r) }
+          let q = lt-ltb (getD req 4 0) 128 b in
+          record { call-is = rw (h, fits, l, q); table-is = rw (h, fits, l, q); buffer-is = rw (h, fits, l, q) }
 
-      pub call-rest : x ≡ false → 128 ≤ getD req 4 0 → (c : Checked) → c ≡ checkTable t (length file) → {t' o' : List ℕ} → Served req t file o c w t' o' → DecidePromise req t file o w t' o'
+      pub call-rest : x ≡ false → 128 ≤ getD req 4 0 → (c : Checked) → c ≡ checkTable t (length file) → {r : Call} {t' o' : List ℕ} → Leaves (serveChecked req t file o c) r t' o'
+          → Leaves (serve req t file o) r t' o'
       unfolding serve
       call-rest a b c d s =
           let h = le-ltb (length o) 36864 room in
           let l : wrongLength req ≡ false = sym is ∙ a in
-          let r = le-ltb (getD req 4 0) 128 b in
-          record { word-is = s .word-is ∙ rw (h, fits, l, r, d); table-is = s .table-is ∙ rw (h, fits, l, r, d); buffer-is = s .buffer-is ∙ rw (h, fits, l, r, d) }
+          let q = le-ltb (getD req 4 0) 128 b in
+          rw (h, fits, l, q, ← d) s
 
-or-left : (a b : Bool) → (a || b) ≡ false → a ≡ false
-or-left true b e = e
-or-left false b e = refl
-
-or-right : (a b : Bool) → (a || b) ≡ false → b ≡ false
-or-right true b e = absurd (true≢false e)
-or-right false b e = e
+-- The call as a word.
+pub word-promised : (req t file o : List ℕ) {c : Call} {w : ℕ} {t' o' : List ℕ} → Leaves (serve req t file o) c t' o' → w ≡ callWord c → DecidePromise req t file o w t' o'
+word-promised req t file o s e = record { word-is = e ∙ ap callWord (s .call-is); table-is = s .table-is; buffer-is = s .buffer-is }
 
 -- a size that is not wrong
-pub size-least : (req : List ℕ) → (ltb (length req) 20 || ltb 16384 (length req)) ≡ false → 20 ≤ length req
-size-least req e = ltb-false (length req) 20 (or-left (ltb (length req) 20) (ltb 16384 (length req)) e)
+pub size-least : (req : List ℕ) → wrongSize req ≡ false → 20 ≤ length req
+size-least req e = ltb-false (length req) 20 (neither (ltb (length req) 20) (ltb 16384 (length req)) e .0)
 
-pub size-most : (req : List ℕ) → (ltb (length req) 20 || ltb 16384 (length req)) ≡ false → length req ≤ 16384
-size-most req e = ltb-false 16384 (length req) (or-right (ltb (length req) 20) (ltb 16384 (length req)) e)
+pub size-most : (req : List ℕ) → wrongSize req ≡ false → length req ≤ 16384
+size-most req e = ltb-false 16384 (length req) (neither (ltb (length req) 20) (ltb 16384 (length req)) e .1)
 
-pub promise-word : (req t file o : List ℕ) (v w : ℕ) {t' o' : List ℕ} → w ≡ v → DecidePromise req t file o v t' o' → DecidePromise req t file o w t' o'
-promise-word req t file o v w e p = record { word-is = e ∙ p .word-is; table-is = p .table-is; buffer-is = p .buffer-is }
-
-pub size-flags : (req : List ℕ) → (ltb (length req) 20 || ltb 16384 (length req)) ≡ false → 4 < length req
+pub size-flags : (req : List ℕ) → wrongSize req ≡ false → 4 < length req
 size-flags req e = omega (arith, size-least req e)
+
+pub passes : (req o : List ℕ) {x : Bool} → wrongSize req ≡ false → x ≡ wrongLength req → x ≡ false → 36864 ≤ length o → Passed req o
+passes req o a b c d = record { least = size-least req a; most = size-most req a; fours = length-even req b c; room = d }

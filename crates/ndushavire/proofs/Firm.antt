@@ -1,11 +1,12 @@
 -- How firm the promise is: it leaves one return for each input, and the word returned decides the answer.
-use Prim.Native.Nat.{ℕ, zero, suc, _+_, _*_, _≤_, _<_}
+use Prim.Native.Nat.{ℕ, zero, suc, _+_, _*_, _/_, _≤_, _<_}
 use mathlib.Core.Bool.{Bool, true, false, _&&_, cond}
 use mathlib.Core.Path.{_≡_, refl, sym, _∙_, ap}
 use mathlib.Core.List.{List}
 use native.Mathlib.Omega.{arith}
 use lib.ListN.{length}
 use lib.Dec.{leb, eqb}
+use borrow.Author.Tests.{eq-eqb, ne-eqb}
 use Rattle.octets.proofs.All.{and-left, and-right}
 use Rattle.record.specs.HeaderBlock.{headerOf, soundHeader}
 use Rattle.record.proofs.Sound.{header-count}
@@ -13,7 +14,8 @@ use Rattle.table.specs.Blocks.{blockOf}
 use Rattle.table.specs.Check.{soundAt, firstBad, checkRecords, checkTable}
 use Rattle.table.specs.declared.Checked.{Checked}
 use Rattle.table.specs.declared.Checked.the-variants.{Sound, Bad}
-use Rattle.ndushavire.specs.Word.{checkWord}
+use Rattle.ndushavire.specs.declared.Call.the-variants.{Answered, Refused}
+use Rattle.ndushavire.specs.Word.{word, checkWord, callWord, numberIn, valueIn, Reads}
 use Rattle.ndushavire.specs.Promise.{CheckPromise, DecidePromise}
 
 -- Any two returns that meet the promise are equal.
@@ -36,6 +38,20 @@ word-decides (Sound m) (Sound n) a b e = ap Sound (omega arith)
 word-decides (Sound m) (Bad n) a b e = absurd (omega arith)
 word-decides (Bad m) (Sound n) a b e = absurd (omega arith)
 word-decides (Bad m) (Bad n) a b e = ap Bad (omega arith)
+
+-- So is a call read back out of its word.
+pub answer-reads : (n : ℕ) → n < 4294967296 → Reads (Answered n) (callWord (Answered n))
+answer-reads n h =
+    let v : valueIn (word 0 n) ≡ n = omega arith in
+    let z : numberIn (word 0 n) ≡ 0 = omega arith in
+    record { number = z; place = omega arith; value = v; call = rw (eq-eqb (numberIn (word 0 n)) 0 z, v) }
+
+pub refusal-reads : (number besides : ℕ) → 1 ≤ number → besides < 4294967296 → Reads (Refused number besides) (callWord (Refused number besides))
+refusal-reads number besides l h =
+    let v : valueIn (word number besides) ≡ besides = omega arith in
+    let n : numberIn (word number besides) ≡ number = omega arith in
+    let q : word number besides / 4294967296 ≡ number * 65536 = omega arith in
+    record { number = n; place = rw q (omega arith); value = v; call = rw (ne-eqb (numberIn (word number besides)) 0 (λ q. omega (arith, n, q)), n, v) }
 
 -- What the check of a table answers does: no table has more than 4,096 records.
 first-carried : (good : ℕ → Bool) (count n k most : ℕ) → count ≤ most → k + n ≤ most + 1 → carried (firstBad good count n k) ≤ most

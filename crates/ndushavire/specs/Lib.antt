@@ -1,3 +1,4 @@
+pub mod Passed
 pub mod Plans
 pub mod Promise
 pub mod Serve

@@ -13,7 +13,7 @@ use record::header::Header;
 use requests::places;
 ghost use mathlib.Core.Path.{_≡_};
 ghost use mathlib.Core.Bool.{true};
-ghost use Prim.Native.Nat.{_+_, _*_, _≤_, _%_};
+ghost use Prim.Native.Nat.{_≤_};
 ghost use lib.ListN.{length, getD};
 ghost use lib.Dec.{eqb};
 ghost use Rattle.table.specs.Blocks.{blockOf};
@@ -24,6 +24,7 @@ ghost use Rattle.reading.specs.Found.{seenOf, failedBy};
 ghost use Rattle.decisions.specs.Assignment.{storedName};
 ghost use Rattle.decisions.specs.Decide.{assignmentOf, decide};
 ghost use Rattle.decisions.specs.Planned.{Ready, planned};
+ghost use Rattle.ndushavire.specs.Passed.{Passed};
 ghost use Rattle.ndushavire.specs.Plans.{Plans, Answers};
 
 // Whether the header says that names are kept.
@@ -125,7 +126,7 @@ fn answer_fault(
     count: usize,
     v: Verdict,
 ) -> usize
-    requires { ⌜ (20 ≤ length (now req)) × (length (now req) ≤ 16384) × (length (now req) % 4 ≡ 0) × SoundTable (now t) (length (now file)) count × (36864 ≤ length (now out)) × (readRequest (now req) ≡ bad (v .result) (failedBy (now req) v)) ⌝ }
+    requires { ⌜ Passed (now req) (now out) × SoundTable (now t) (length (now file)) count × (readRequest (now req) ≡ bad (v .result) (failedBy (now req) v)) ⌝ }
     ensures { λ r. ⌜ (r ≤ 36864) × Answers (now (req .entry)) (now (t .entry)) count (now (file .entry)) (now (out .entry)) (now (out .exit)) r ⌝ }
 {
     answering::answer(out, req, t, file, count, giving::faulty(v))
@@ -140,7 +141,7 @@ fn answer_read(
     count: usize,
     found: [usize; 17],
 ) -> usize
-    requires { ⌜ (20 ≤ length (now req)) × (length (now req) ≤ 16384) × (length (now req) % 4 ≡ 0) × SoundTable (now t) (length (now file)) count × (36864 ≤ length (now out)) × (readRequest (now req) ≡ fine (seenOf (now req) found)) ⌝ }
+    requires { ⌜ Passed (now req) (now out) × SoundTable (now t) (length (now file)) count × (readRequest (now req) ≡ fine (seenOf (now req) found)) ⌝ }
     ensures { λ r. ⌜ (r ≤ 36864) × Answers (now (req .entry)) (now (t .entry)) count (now (file .entry)) (now (out .entry)) (now (out .exit)) r
         × (now (t .exit) ≡ decide (now (req .entry)) (now (t .entry)) count (now (file .entry)) .table) ⌝ }
 {
@@ -153,7 +154,7 @@ fn answer_read(
 
 // One request over a sound table of so many records.
 pub fn answer_sound(out: &mut [u8], req: &[u8], t: &mut [u8], file: &[u8], count: usize) -> usize
-    requires { ⌜ (20 ≤ length (now req)) × (length (now req) ≤ 16384) × (length (now req) % 4 ≡ 0) × SoundTable (now t) (length (now file)) count × (36864 ≤ length (now out)) ⌝ }
+    requires { ⌜ Passed (now req) (now out) × SoundTable (now t) (length (now file)) count ⌝ }
     ensures { λ r. ⌜ (r ≤ 36864) × Answers (now (req .entry)) (now (t .entry)) count (now (file .entry)) (now (out .entry)) (now (out .exit)) r
         × (now (t .exit) ≡ decide (now (req .entry)) (now (t .entry)) count (now (file .entry)) .table) ⌝ }
 {

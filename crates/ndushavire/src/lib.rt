@@ -3,12 +3,13 @@ pub mod decide;
 
 use table::Checked;
 ghost use mathlib.Core.Path.{_≡_};
-ghost use Prim.Native.Nat.{_<_, _≤_, _%_};
+ghost use Prim.Native.Nat.{_≤_};
 ghost use lib.ListN.{length};
 ghost use Rattle.table.specs.Check.{checkTable};
 ghost use Rattle.ndushavire.specs.Word.{word, checkWord, callWord};
-ghost use Rattle.ndushavire.specs.Serve.{wrongLength};
-ghost use Rattle.ndushavire.specs.Promise.{CheckPromise, DecidePromise, Served};
+ghost use Rattle.ndushavire.specs.Passed.{Passed};
+ghost use Rattle.ndushavire.specs.Serve.{wrongLength, serveChecked, serve};
+ghost use Rattle.ndushavire.specs.Promise.{CheckPromise, DecidePromise, Leaves};
 
 // What the number of a returned word counts: 2^48.
 const NUMBER: u64 = 281474976710656;
@@ -48,7 +49,7 @@ fn word(number: u16, value: u32) -> u64
 }
 
 // The word of the check's answer.
-fn word_of(c: Checked) -> u64
+fn check_word(c: Checked) -> u64
     ensures { λ r. ⌜ r ≡ checkWord c ⌝ }
 {
     match c {
@@ -62,11 +63,11 @@ fn word_of(c: Checked) -> u64
 pub extern "C" fn ndushavire_check(table: &[u8], profile: &[u8]) -> u64
     ensures { λ r. ⌜ CheckPromise (now (table .entry)) (now (profile .entry)) r ⌝ }
 {
-    word_of(table::check(table, profile.len()))
+    check_word(table::check(table, profile.len()))
 }
 
 // The word of a call.
-fn word_of_call(c: Call) -> u64
+fn call_word(c: Call) -> u64
     ensures { λ r. ⌜ r ≡ callWord c ⌝ }
 {
     match c {
@@ -83,41 +84,50 @@ fn wrong_length(req: &[u8]) -> bool
     (octets::number::be24(req, 1) != req.len()) | (req.len() % 4 != 0)
 }
 
-fn refuse(number: u16, besides: u32) -> Call
-    ensures { λ r. ⌜ callWord r ≡ word number besides ⌝ }
-{
-    Call::Refused { number, besides }
-}
-
 // A request that the first four refusals let pass, over a table that was checked.
 fn call_checked(c: Checked, req: &[u8], t: &mut [u8], file: &[u8], out: &mut [u8]) -> Call
-    requires { ⌜ (20 ≤ length (now req)) × (length (now req) ≤ 16384) × (length (now req) % 4 ≡ 0) × (36864 ≤ length (now out)) × (c ≡ checkTable (now t) (length (now file))) ⌝ }
-    ensures { λ r. ⌜ Served (now (req .entry)) (now (t .entry)) (now (file .entry)) (now (out .entry)) c (callWord r) (now (t .exit)) (now (out .exit)) ⌝ }
+    requires { ⌜ Passed (now req) (now out) × (c ≡ checkTable (now t) (length (now file))) ⌝ }
+    ensures { λ r. ⌜ Leaves (serveChecked (now (req .entry)) (now (t .entry)) (now (file .entry)) (now (out .entry)) c) r (now (t .exit)) (now (out .exit)) ⌝ }
 {
     match c {
         Checked::Sound(count) => {
             let n = decide::answer_sound(out, req, t, file, count as usize);
             Call::Answered(n as u32)
         }
-        Checked::Bad(block) => refuse(UNSOUND, block),
+        Checked::Bad(block) => Call::Refused {
+            number: UNSOUND,
+            besides: block,
+        },
     }
 }
 
 // "Five refusals of the call. Tried in this order."
 fn one_call(req: &[u8], t: &mut [u8], file: &[u8], out: &mut [u8]) -> Call
-    ensures { λ r. ⌜ DecidePromise (now (req .entry)) (now (t .entry)) (now (file .entry)) (now (out .entry)) (callWord r) (now (t .exit)) (now (out .exit)) ⌝ }
+    ensures { λ r. ⌜ Leaves (serve (now (req .entry)) (now (t .entry)) (now (file .entry)) (now (out .entry))) r (now (t .exit)) (now (out .exit)) ⌝ }
 {
     if out.len() < ROOM {
-        return refuse(SMALL_BUFFER, 0);
+        return Call::Refused {
+            number: SMALL_BUFFER,
+            besides: 0,
+        };
     }
     if (req.len() < LEAST) | (MOST < req.len()) {
-        return refuse(WRONG_SIZE, 0);
+        return Call::Refused {
+            number: WRONG_SIZE,
+            besides: 0,
+        };
     }
     if wrong_length(req) {
-        return refuse(WRONG_LENGTH, 0);
+        return Call::Refused {
+            number: WRONG_LENGTH,
+            besides: 0,
+        };
     }
     if req[4] < R {
-        return refuse(NO_REQUEST, 0);
+        return Call::Refused {
+            number: NO_REQUEST,
+            besides: 0,
+        };
     }
     let c = table::check(t, file.len());
     call_checked(c, req, t, file, out)
@@ -133,5 +143,5 @@ pub extern "C" fn ndushavire_decide(
 ) -> u64
     ensures { λ r. ⌜ DecidePromise (now (request .entry)) (now (table .entry)) (now (profile .entry)) (now (answer .entry)) r (now (table .exit)) (now (answer .exit)) ⌝ }
 {
-    word_of_call(one_call(request, table, profile, answer))
+    call_word(one_call(request, table, profile, answer))
 }

@@ -1,90 +1,38 @@
 -- "Proved of the definitions, all in a single table under a single statement."
-use Prim.Native.Nat.{ℕ, _+_, _*_}
+use Prim.Native.Nat.{ℕ}
 use mathlib.Core.Path.{_≡_, refl}
 use mathlib.Core.List.{List, [], _∷_, _++_}
-use lib.ListN.{length, take, replicate, set}
-use lib.Seq.{sets}
-use Rattle.octets.specs.All.{allBelow}
-use Rattle.octets.specs.Name.{orderOf, alikeAt, same}
-use Rattle.octets.specs.Number.{be16At, be24At, be32At, putBe24, putBe32}
-use Rattle.octets.specs.Run.{zeros, zeroBetween, putName, over}
-use Rattle.octets.specs.Sum.{sumWords}
-use Rattle.record.specs.Fields.{hostOf, realmOf, publicOf, privateOf, serverOf}
-use Rattle.record.specs.HeaderBlock.{headerOf, soundHeader}
-use Rattle.record.specs.Networks.{networkOf, usedPlace, soundPlace, sameByte, otherPlace, newPlace, soundNetworks}
-use Rattle.record.specs.RecordBlock.{recordOf, soundRecord}
-use Rattle.table.specs.Blocks.{blockOf, tableOf, publicAt, privateAt}
-use Rattle.table.specs.Check.{risesAt, soundAt, firstBad, checkRecords, checkTable}
-use Rattle.lookup.specs.Find.{firstFrom, publicIs, findPublic, privateIs, findPrivate, serverHere, servesAt, findServer}
-use Rattle.lookup.specs.Network.{networkIs, seek, networkNumber, roamsIn}
-use Rattle.rewrite.specs.Renew.{lacking, sealed, renewed, rewritten}
-use Rattle.rewrite.specs.Effect.{settled, settledAt, afterOf}
-use Rattle.diameter.specs.Avp.{padded, headOf, vendorOf, valueOf, sound}
-use Rattle.diameter.specs.Walk.{walkFrom, walk}
-use Rattle.pen.specs.Bytes.{padding, vendorHead, copied, avpBytes, vendorBytes, numberBytes, vendorNumber, group, vendorGroup, ifThere}
-use Rattle.pen.specs.Groups.{vendorApplication, experimental, failed, vendorNumbers, capabilities}
-use Rattle.reading.specs.Kinds.{known, kindFrom, kindBy, rowOf, useIn}
-use Rattle.reading.specs.Rules.{isMember, members, goodContent, nothing, ruleBy, rule, failedOf, judge}
-use Rattle.reading.specs.Request.{headerFault, exampleOf, example, missingFrom, missing, complete, readWalk, readRequest, identities}
-use Rattle.decisions.specs.Reply.{served, mandatoryOf, optionalOf, profileOf}
-use Rattle.decisions.specs.Authorization.{mayRoam, authorizeRecord, authorizeFound, authorize}
-use Rattle.decisions.specs.Location.{locateRecord, locateFound, locate}
-use Rattle.decisions.specs.Types.{groupOf, startOf, effectOf}
-use Rattle.decisions.specs.Assignment.{identityFault, every, isOne, findAll, numbersOf, ownedHere, ownedUpTo, recordsOf, allKnown, ownerOf, ownAt, storesAt, fitsAt, rightAt, assigned, storedName, effected, assignRecords, assignKnown, assign}
-use Rattle.decisions.specs.Decide.{assignmentOf, decideRead, decideJudged, decide}
-use Rattle.reading.specs.Found.{numberOf}
-use Rattle.reply.specs.Answer.{resultBytes, proxies, frontBytes, originBytes, givenBytes, endBytes, bodyBytes, flagsOf, headerBytes, answerBytes}
-use Rattle.ndushavire.specs.Serve.{Served, refused, answered, serveChecked, wrongLength, serve}
-
--- `hss.isle` and `isle`, and a server name of so many bytes
-host : List ℕ
-host = 0x68 ∷ 0x73 ∷ 0x73 ∷ 0x2E ∷ 0x69 ∷ 0x73 ∷ 0x6C ∷ 0x65 ∷ []
-
-realm : List ℕ
-realm = 0x69 ∷ 0x73 ∷ 0x6C ∷ 0x65 ∷ []
-
-block : List ℕ
-block = replicate 512 0
-
-header : ℕ → ℕ → List ℕ
-header count keep = sealed (sets (sets (sets (putBe32 (sets block 0 (1 ∷ 1 ∷ [])) 8 count) 12 (keep ∷ 8 ∷ 4 ∷ [])) 16 host) 80 realm)
-
--- record k: a public identity of one byte, the private identity `p`, a state and a server name
-person : ℕ → ℕ → ℕ → List ℕ → List ℕ
-person k public state server =
-    sealed (sets (sets (sets (sets (sets (putBe32 (sets block 0 (2 ∷ 1 ∷ [])) 4 k) 8 (state ∷ [])) 13 (1 ∷ 1 ∷ length server ∷ [])) 16 (public ∷ [])) 144 (0x70 ∷ [])) 272 server)
-
--- a request of a command with a body; its header as in the worked case
-message : ℕ → List ℕ → List ℕ
-message command body =
-    putBe24 (putBe24 (0x01 ∷ 0x00 ∷ 0x00 ∷ 0x00 ∷ 0xC0 ∷ 0x00 ∷ 0x00 ∷ 0x00 ∷ 0x01 ∷ 0x00 ∷ 0x00 ∷ 0x00 ∷ 0x00 ∷ 0x00 ∷ 0x00 ∷ 0x01 ∷ 0x00 ∷ 0x00 ∷ 0x00 ∷ 0x02 ∷ []) 1 (20 + length body)) 5 command
-    ++ body
+use lib.ListN.{length, take, replicate}
+use Rattle.octets.specs.Run.{over}
+use Rattle.table.specs.declared.Checked.the-variants.{Sound, Bad}
+use Rattle.table.specs.Check.{checkTable}
+use Rattle.pen.specs.Bytes.{vendorHead, avpBytes, vendorBytes, numberBytes, vendorNumber}
+use Rattle.pen.specs.Groups.{vendorApplication, experimental, failed}
+use Rattle.ndushavire.specs.declared.Call.{Call}
+use Rattle.ndushavire.specs.declared.Call.the-variants.{Answered, Refused}
+use Rattle.ndushavire.specs.Serve.{serve}
+use Rattle.worked.proofs.Sample.{block, header, person, request, answer, s, z, opened}
 
 -- what every request needs, and a SAR of a type for the identity `a` with a server name
 common : List ℕ
 common = avpBytes 263 (0x73 ∷ []) ++ (vendorApplication ++ (numberBytes 277 1 ++ (avpBytes 264 (0x63 ∷ []) ++ (avpBytes 296 (0x72 ∷ []) ++ avpBytes 283 (0x72 ∷ [])))))
 
 assignment : ℕ → List ℕ → List ℕ
-assignment kind server = message 301 (common ++ (vendorBytes 601 (0x61 ∷ []) ++ (vendorBytes 602 server ++ (vendorNumber 614 kind ++ vendorNumber 624 1))))
+assignment kind server = request 301 (common ++ (vendorBytes 601 (0x61 ∷ []) ++ (vendorBytes 602 server ++ (vendorNumber 614 kind ++ vendorNumber 624 1))))
 
--- the answer to it: its result, and what follows the realm
-answer : List ℕ → List ℕ → List ℕ
-answer result rest =
-    set (message 301 (avpBytes 263 (0x73 ∷ []) ++ (vendorApplication ++ (result ++ (numberBytes 277 1 ++ (avpBytes 264 host ++ (avpBytes 296 realm ++ rest))))))) 4 0x40
-
--- A case: a request, a table, no profile file, a buffer of zeros of so many bytes; the word, the table afterwards, the answer
+-- A case: a request, a table, no profile file, a buffer of zeros of so many bytes; what the call comes to, the table afterwards, the answer
 record Case : Type 0 where
   req : List ℕ
   table : List ℕ
   room : ℕ
-  word : ℕ
+  call : Call
   after : List ℕ
   bytes : List ℕ
 
 abbrev Holds : List Case → Type 0
 Holds [] = Unit
 Holds (c ∷ cs) =
-    (serve (c .req) (c .table) [] (replicate (c .room) 0) ≡ record { word = c .word; table = c .after; buffer = over (c .bytes) (replicate (c .room) 0) })
+    (serve (c .req) (c .table) [] (replicate (c .room) 0) ≡ record { call = c .call; table = c .after; buffer = over (c .bytes) (replicate (c .room) 0) })
     × Holds cs
 
 -- "For `01000014C000012E010000000000000100000002` it writes exactly, as bytes"
@@ -101,41 +49,24 @@ exactly =
     ∷ 0x69 ∷ 0x73 ∷ 0x6C ∷ 0x65 ∷ 0x00 ∷ 0x00 ∷ 0x01 ∷ 0x17 ∷ 0x40 ∷ 0x00 ∷ 0x00 ∷ 0x10 ∷ 0x00 ∷ 0x00 ∷ 0x01 ∷ 0x07 ∷ 0x40 ∷ 0x00 ∷ 0x00 ∷ 0x08
     ∷ []
 
+-- tables: count 0 alone; one record `a` of a state and a server name under a header that keeps names or not; two of one public identity
 alone : List ℕ
 alone = header 0 0
 
--- all that the cases open
-opened : ℕ
-unfolding host realm block header person message common assignment answer worked exactly alone
-    allBelow orderOf alikeAt same be16At be24At be32At putBe24 putBe32 zeros zeroBetween putName over sumWords
-    hostOf realmOf publicOf privateOf serverOf headerOf soundHeader networkOf usedPlace soundPlace sameByte otherPlace newPlace soundNetworks recordOf soundRecord
-    blockOf tableOf publicAt privateAt risesAt soundAt firstBad checkRecords checkTable firstFrom publicIs findPublic privateIs findPrivate serverHere servesAt findServer
-    networkIs seek networkNumber roamsIn lacking sealed renewed rewritten settled settledAt afterOf padded headOf vendorOf valueOf sound walkFrom walk
-    padding vendorHead copied avpBytes vendorBytes numberBytes vendorNumber group vendorGroup ifThere vendorApplication experimental failed vendorNumbers capabilities
-    known kindFrom kindBy rowOf useIn isMember members goodContent nothing ruleBy rule failedOf judge
-    headerFault exampleOf example missingFrom missing complete readWalk readRequest identities served mandatoryOf optionalOf profileOf
-    mayRoam authorizeRecord authorizeFound authorize locateRecord locateFound locate groupOf startOf effectOf
-    identityFault every isOne findAll numbersOf ownedHere ownedUpTo recordsOf allKnown ownerOf ownAt storesAt fitsAt rightAt assigned storedName effected assignRecords assignKnown assign
-    assignmentOf decideRead decideJudged decide numberOf resultBytes proxies frontBytes originBytes givenBytes endBytes bodyBytes flagsOf headerBytes answerBytes
-    refused answered serveChecked wrongLength serve
-opened = 0
-
--- tables of one record `a`, of a state and a server name, under a header that keeps names or not
 one : ℕ → ℕ → List ℕ → List ℕ
-one keep state server = header 1 keep ++ person 1 0x61 state server
+one keep state server = header 1 keep ++ person 1 0x61 0x70 state server
 
-s : List ℕ
-s = 0x73 ∷ []
+two : List ℕ
+two = header 2 0 ++ (person 1 0x61 0x70 0 [] ++ person 2 0x61 0x70 0 [])
 
-z : List ℕ
-z = 0x7A ∷ []
-
--- a case that is answered, and one that is refused: nothing is altered
+-- a case that is refused, where nothing is altered, and one that is answered
 abbrev refusing : List ℕ → List ℕ → ℕ → ℕ → ℕ → Case
-refusing req table room number besides = record { req = req; table = table; room = room; word = number * 281474976710656 + besides; after = table; bytes = [] }
+refusing req table room number besides =
+    record { req = req; table = table; room = room; call = Refused number besides; after = table; bytes = [] }
 
 abbrev answering : List ℕ → List ℕ → List ℕ → List ℕ → Case
-answering req table after bytes = record { req = req; table = table; room = 36864; word = length bytes; after = after; bytes = bytes }
+answering req table after bytes =
+    record { req = req; table = table; room = 36864; call = Answered (length bytes); after = after; bytes = bytes }
 
 abbrev cases : List Case
 cases =
@@ -149,7 +80,7 @@ cases =
     -- a block of zeros: bad by its kind, though it sums to zero
     ∷ refusing worked block 36864 5 0
     -- two equal public identities: the later block is blamed
-    ∷ refusing worked (header 2 0 ++ (person 1 0x61 0 [] ++ person 2 0x61 0 [])) 36864 5 2
+    ∷ refusing worked two 36864 5 2
     -- SAR type 2 in state 0: X5007
     ∷ answering (assignment 2 s) (one 0 0 []) (one 0 0 []) (answer (experimental 5007) [])
     -- type 1 with another name: X5005
@@ -162,6 +93,14 @@ cases =
     ∷ answering (assignment 1 (replicate 97 0x73)) (one 0 0 []) (one 0 0 []) (answer (numberBytes 268 5004) (failed (vendorHead 602 109 ++ replicate 97 0x73)))
     ∷ []
 
-examples : Holds cases
-unfolding opened one s z
-examples = (refl, (refl, (refl, (refl, (refl, (refl, (refl, (refl, (refl, (refl, (refl, (refl, tt))))))))))))
+-- of the second entry: count 0 alone, the block of zeros, the two equal identities
+checks : (checkTable alone 0 ≡ Sound 0) × (checkTable block 0 ≡ Bad 0) × (checkTable two 0 ≡ Bad 2)
+unfolding opened alone two
+checks = (refl, refl, refl)
+
+calls : Holds cases
+unfolding opened common assignment worked exactly alone one two
+calls = (refl, (refl, (refl, (refl, (refl, (refl, (refl, (refl, (refl, (refl, (refl, (refl, tt))))))))))))
+
+examples : ((checkTable alone 0 ≡ Sound 0) × (checkTable block 0 ≡ Bad 0) × (checkTable two 0 ≡ Bad 2)) × Holds cases
+examples = (checks, calls)

@@ -12,7 +12,6 @@ call-checked-spec =
     (λ c κs. search (needs, checked-sound))
     (λ c. search needs)
     (λ c. search needs)
-    (λ c κs. search needs)
     (λ c. search needs)
     (λ c. search needs)
     (λ c. search (needs, served-sound))

@@ -1,4 +1,4 @@
-use Rattle.ndushavire.proofs.Calls.{call-buffer, call-size, call-length, call-request, call-rest, size-least, size-most, size-flags, length-even}
+use Rattle.ndushavire.proofs.Calls.{call-buffer, call-size, call-length, call-request, call-rest, size-least, size-flags, passes}
 use borrow.Author.Needs.{needs}
 use Rattle.ndushavire.proofs.one_call.Statement.{statement}
 use Rattle.ndushavire.proofs.one_call.Tie as tie
@@ -7,24 +7,14 @@ pub one-call-spec : {M : Type 1} → statement M
 one-call-spec =
     tie.close
     (tie.spec
-    (λ c κs. search needs)
     (λ c. search (needs, call-buffer))
-    (λ c κs. search needs)
     (λ c. search (needs, call-size))
     (λ c κs. search (needs, size-least))
-    (λ c κs. search needs)
     (λ c. search (needs, call-length))
     (λ c. search (needs, size-flags))
-    (λ c κs. search needs)
     (λ c. search (needs, call-request))
     (λ c κs. search needs)
-    (λ c κs. (
-      search (needs, size-least),
-      search (needs, size-most),
-      length-even (c .before .before .before .before .before .before .before .before .before .before .before .before .before .before .args .req .now) (c .before .before .before .before .before .before .before .wrong-length .ensures) (c .before .before .before .before .before .before .if3 .left),
-      search needs,
-      search needs,
-    ))
+    (λ c κs. (passes _ _ (search needs) (c .before .before .before .before .before .before .before .wrong-length .ensures) (c .before .before .before .before .before .before .if3 .left) (search needs), search needs))
     (λ c. search needs)
     (λ c. search needs)
     (λ c. search (needs, call-rest)))

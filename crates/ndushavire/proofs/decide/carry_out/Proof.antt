@@ -1,4 +1,4 @@
-use Rattle.ndushavire.proofs.Deciding.{ready-size, stored-fits, carried-owned, carried-named, carried-nothing}
+use Rattle.ndushavire.proofs.Deciding.{stored-fits, carried-owned, carried-named, carried-nothing}
 use borrow.Author.Needs.{needs}
 use Rattle.ndushavire.proofs.decide.carry_out.Statement.{statement}
 use Rattle.ndushavire.proofs.decide.carry_out.Tie as tie
@@ -10,7 +10,7 @@ carry-out-spec =
     (λ c κs. search needs)
     (λ c κs. search needs)
     (λ c κs. search needs)
-    (λ c κs. search (needs, ready-size, stored-fits))
+    (λ c κs. search (needs, stored-fits))
     (λ c. search needs)
     (λ c. search (needs, carried-owned))
     (λ c κs. search (needs, stored-fits))

@@ -1,9 +1,9 @@
 use borrow.Author.Needs.{needs}
-use Rattle.ndushavire.proofs.word_of.Statement.{statement}
-use Rattle.ndushavire.proofs.word_of.Tie as tie
+use Rattle.ndushavire.proofs.check_word.Statement.{statement}
+use Rattle.ndushavire.proofs.check_word.Tie as tie
 
-pub word-of-spec : {M : Type 1} → statement M
-word-of-spec =
+pub check-word-spec : {M : Type 1} → statement M
+check-word-spec =
     tie.close
     (tie.spec
     (λ c. search needs)

@@ -1,0 +1,90 @@
+-- What the worked cases and the instances of the demands share: names, blocks, a SAR and its answer, and all definitions that a computed case opens.
+use Prim.Native.Nat.{ℕ, _+_}
+use mathlib.Core.List.{List, [], _∷_, _++_}
+use lib.ListN.{length, replicate, set}
+use lib.Seq.{sets}
+use Rattle.octets.specs.All.{allBelow}
+use Rattle.octets.specs.Name.{orderOf, alikeAt, same}
+use Rattle.octets.specs.Number.{be16At, be24At, be32At, putBe24, putBe32}
+use Rattle.octets.specs.Run.{zeros, zeroBetween, putName, over}
+use Rattle.octets.specs.Sum.{sumWords}
+use Rattle.record.specs.Fields.{hostOf, realmOf, publicOf, privateOf, serverOf}
+use Rattle.record.specs.HeaderBlock.{headerOf, soundHeader}
+use Rattle.record.specs.Networks.{networkOf, usedPlace, soundPlace, sameByte, otherPlace, newPlace, soundNetworks}
+use Rattle.record.specs.RecordBlock.{recordOf, soundRecord}
+use Rattle.table.specs.Blocks.{blockOf, tableOf, publicAt, privateAt}
+use Rattle.table.specs.Check.{risesAt, soundAt, firstBad, checkRecords, checkTable}
+use Rattle.lookup.specs.Find.{firstFrom, publicIs, findPublic, privateIs, findPrivate, serverHere, servesAt, findServer}
+use Rattle.lookup.specs.Network.{networkIs, seek, networkNumber, roamsIn}
+use Rattle.rewrite.specs.Renew.{lacking, sealed, renewed, rewritten}
+use Rattle.rewrite.specs.Effect.{settled, settledAt, afterOf}
+use Rattle.diameter.specs.Avp.{padded, headOf, vendorOf, valueOf, sound}
+use Rattle.diameter.specs.Walk.{walkFrom, walk}
+use Rattle.pen.specs.Bytes.{padding, vendorHead, copied, avpBytes, vendorBytes, numberBytes, vendorNumber, group, vendorGroup, ifThere}
+use Rattle.pen.specs.Groups.{vendorApplication, experimental, failed, vendorNumbers, capabilities}
+use Rattle.reading.specs.Kinds.{known, kindFrom, kindBy, rowOf, useIn}
+use Rattle.reading.specs.Rules.{isMember, members, goodContent, nothing, ruleBy, rule, failedOf, judge}
+use Rattle.reading.specs.Request.{headerFault, exampleOf, example, missingFrom, missing, complete, readWalk, readRequest, identities}
+use Rattle.decisions.specs.Reply.{served, mandatoryOf, optionalOf, profileOf}
+use Rattle.decisions.specs.Authorization.{mayRoam, authorizeRecord, authorizeFound, authorize}
+use Rattle.decisions.specs.Location.{locateRecord, locateFound, locate}
+use Rattle.decisions.specs.Types.{groupOf, startOf, effectOf}
+use Rattle.decisions.specs.Assignment.{identityFault, every, isOne, findAll, numbersOf, ownedHere, ownedUpTo, recordsOf, allKnown, ownerOf, ownAt, storesAt, fitsAt, rightAt, assigned, storedName, effected, assignRecords, assignKnown, assign}
+use Rattle.decisions.specs.Decide.{assignmentOf, decideRead, decideJudged, decide}
+use Rattle.reading.specs.Found.{numberOf}
+use Rattle.reply.specs.Answer.{resultBytes, proxies, frontBytes, originBytes, givenBytes, endBytes, bodyBytes, flagsOf, headerBytes, answerBytes}
+use Rattle.ndushavire.specs.Serve.{refused, answered, wrongLength, serveChecked, serve}
+
+-- `hss.isle` and `isle`
+unfoldable pub host : List ℕ
+host = 0x68 ∷ 0x73 ∷ 0x73 ∷ 0x2E ∷ 0x69 ∷ 0x73 ∷ 0x6C ∷ 0x65 ∷ []
+
+unfoldable pub realm : List ℕ
+realm = 0x69 ∷ 0x73 ∷ 0x6C ∷ 0x65 ∷ []
+
+-- a block of zeros; a header of so many records that keeps names or not
+unfoldable pub block : List ℕ
+block = replicate 512 0
+
+unfoldable pub header : ℕ → ℕ → List ℕ
+header count keep = sealed (sets (sets (sets (putBe32 (sets block 0 (1 ∷ 1 ∷ [])) 8 count) 12 (keep ∷ 8 ∷ 4 ∷ [])) 16 host) 80 realm)
+
+-- record k: a public and a private identity of one byte each, a state and a server name
+unfoldable pub person : ℕ → ℕ → ℕ → ℕ → List ℕ → List ℕ
+person k public private state server =
+    sealed
+    (sets (sets (sets (sets (sets (putBe32 (sets block 0 (2 ∷ 1 ∷ [])) 4 k) 8 (state ∷ [])) 13 (1 ∷ 1 ∷ length server ∷ [])) 16 (public ∷ [])) 144 (private ∷ [])) 272 server)
+
+-- a request of a command with a body; its header as in the worked case
+unfoldable pub request : ℕ → List ℕ → List ℕ
+request command body =
+    putBe24 (putBe24 (0x01 ∷ 0x00 ∷ 0x00 ∷ 0x00 ∷ 0xC0 ∷ 0x00 ∷ 0x00 ∷ 0x00 ∷ 0x01 ∷ 0x00 ∷ 0x00 ∷ 0x00 ∷ 0x00 ∷ 0x00 ∷ 0x00 ∷ 0x01 ∷ 0x00 ∷ 0x00 ∷ 0x00 ∷ 0x02 ∷ []) 1 (20 + length body)) 5 command
+    ++ body
+
+-- the answer to a SAR of the Session-Id `s`: its result, and what follows the realm
+unfoldable pub answer : List ℕ → List ℕ → List ℕ
+answer result rest =
+    set (request 301 (avpBytes 263 (0x73 ∷ []) ++ (vendorApplication ++ (result ++ (numberBytes 277 1 ++ (avpBytes 264 host ++ (avpBytes 296 realm ++ rest))))))) 4 0x40
+
+-- two server names
+unfoldable pub s : List ℕ
+s = 0x73 ∷ []
+
+unfoldable pub z : List ℕ
+z = 0x7A ∷ []
+
+-- all that a case opens
+unfoldable pub opened : ℕ
+unfolding host realm block header person request answer s z
+    allBelow orderOf alikeAt same be16At be24At be32At putBe24 putBe32 zeros zeroBetween putName over sumWords
+    hostOf realmOf publicOf privateOf serverOf headerOf soundHeader networkOf usedPlace soundPlace sameByte otherPlace newPlace soundNetworks recordOf soundRecord
+    blockOf tableOf publicAt privateAt risesAt soundAt firstBad checkRecords checkTable firstFrom publicIs findPublic privateIs findPrivate serverHere servesAt findServer
+    networkIs seek networkNumber roamsIn lacking sealed renewed rewritten settled settledAt afterOf padded headOf vendorOf valueOf sound walkFrom walk
+    padding vendorHead copied avpBytes vendorBytes numberBytes vendorNumber group vendorGroup ifThere vendorApplication experimental failed vendorNumbers capabilities
+    known kindFrom kindBy rowOf useIn isMember members goodContent nothing ruleBy rule failedOf judge
+    headerFault exampleOf example missingFrom missing complete readWalk readRequest identities served mandatoryOf optionalOf profileOf
+    mayRoam authorizeRecord authorizeFound authorize locateRecord locateFound locate groupOf startOf effectOf
+    identityFault every isOne findAll numbersOf ownedHere ownedUpTo recordsOf allKnown ownerOf ownAt storesAt fitsAt rightAt assigned storedName effected assignRecords assignKnown assign
+    assignmentOf decideRead decideJudged decide numberOf resultBytes proxies frontBytes originBytes givenBytes endBytes bodyBytes flagsOf headerBytes answerBytes
+    refused answered serveChecked wrongLength serve
+opened = 0
