@@ -77,9 +77,12 @@ fn slice(name: &str, before: &[u8], own: &Change, given: &Change) {
     let (mut ours, mut theirs) = (before.to_vec(), before.to_vec());
     own.apply(&mut ours);
     given.apply(&mut theirs);
-    let Some(at) = ours.iter().zip(&theirs).position(|(a, b)| a != b) else {
-        println!("  {name}: the same bytes, told in another way");
-        return;
+    let at = match ours.iter().zip(&theirs).position(|(a, b)| a != b) {
+        Some(at) => at,
+        None => {
+            println!("  {name}: the same bytes, told in another way");
+            return;
+        }
     };
     let place = if name == "table" { format!(" (block {}, byte {})", at / BLOCK, at % BLOCK) } else { String::new() };
     println!(

@@ -204,7 +204,7 @@ fn read_bytes(from: &mut impl Read, count: usize) -> io::Result<Vec<u8>> {
     Ok(bytes)
 }
 
-fn broken(what: &str) -> io::Error {
+pub fn broken(what: &str) -> io::Error {
     io::Error::new(io::ErrorKind::InvalidData, what)
 }
 

@@ -122,8 +122,9 @@ fn first_server_name<'a>(table: Table<'a>, asked: Record<'a>, slip: Slip) -> Opt
 fn user_authorization<'a>(request: &Request<'a>, table: Table<'a>, slip: Slip) -> Verdict<'a> {
     let asked_type = request.authorization_type;
     let private = request.user_name.unwrap_or(&[]);
-    let Some((_, record)) = by_public(table, request.identities[0].data) else {
-        return Verdict::of(user_unknown(slip));
+    let record = match by_public(table, request.identities[0].data) {
+        Some((_, record)) => record,
+        None => return Verdict::of(user_unknown(slip)),
     };
     if !is_private_known(table, private) && !slip.is(Fault::UnknownUserNameMismatches) {
         return Verdict::of(user_unknown(slip));
@@ -192,8 +193,9 @@ fn may_roam(visited: &[u8], record: Record, table: Table, slip: Slip) -> bool {
 }
 
 fn location_info<'a>(request: &Request<'a>, table: Table<'a>, slip: Slip) -> Verdict<'a> {
-    let Some((_, record)) = by_public(table, request.identities[0].data) else {
-        return Verdict::of(user_unknown(slip));
+    let record = match by_public(table, request.identities[0].data) {
+        Some((_, record)) => record,
+        None => return Verdict::of(user_unknown(slip)),
     };
     if slip.is(Fault::BarredNotLocated) && record.has(BARRED) {
         return Verdict::of(Base(5003));

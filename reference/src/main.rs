@@ -15,7 +15,6 @@ use reference::stats;
 
 const USAGE: &str = "\
 reference check                                             check `table` against `profile`
-reference time --rounds R                                   time that check
 reference answer                                            answer the request on standard input
 reference show                                              an answer on standard input, in words
 reference gen      --kind K --seed S [--from F] --count N   write cases
@@ -43,8 +42,10 @@ fn run(arguments: &[String]) -> Result<bool, String> {
     let (name, rest) = arguments.split_first().ok_or(USAGE)?;
     let options = Options::parse(rest)?;
     match name.as_str() {
-        "check" => say(&program::check()?),
-        "time" => say(&program::time(options.rounds)?),
+        "check" => {
+            println!("{}", program::check()?);
+            Ok(true)
+        }
         "answer" => {
             let answer = program::answer(&standard_input()?)?;
             io::stdout().write_all(&answer).map_err(told)?;
@@ -54,7 +55,7 @@ fn run(arguments: &[String]) -> Result<bool, String> {
             print!("{}", show::show(&standard_input()?));
             Ok(true)
         }
-        "gen" => write_cases(&options).map_err(told),
+        "gen" => write_cases(&options, options.stream()?).map_err(told),
         "outcomes" => write_outcomes(&options).map_err(told),
         "compare" => {
             if options.command.is_empty() {
@@ -85,11 +86,6 @@ fn standard_input() -> Result<Vec<u8>, String> {
     Ok(bytes)
 }
 
-fn say(line: &str) -> Result<bool, String> {
-    println!("{line}");
-    Ok(true)
-}
-
 fn told(error: io::Error) -> String {
     error.to_string()
 }
@@ -100,14 +96,13 @@ struct Options {
     seed: u64,
     from: u64,
     count: u64,
-    rounds: u32,
     slip: Option<Slip>,
     command: Vec<String>,
 }
 
 impl Options {
     fn parse(arguments: &[String]) -> Result<Options, String> {
-        let mut options = Options { rounds: 100, ..Options::default() };
+        let mut options = Options::default();
         let mut rest = arguments.iter();
         while let Some(name) = rest.next() {
             if name == "--" {
@@ -121,7 +116,6 @@ impl Options {
                 "--seed" => options.seed = number()?,
                 "--from" => options.from = number()?,
                 "--count" => options.count = number()?,
-                "--rounds" => options.rounds = number()? as u32,
                 "--fault" => {
                     let fault = slip::by_name(value).ok_or_else(|| format!("no fault {value}"))?;
                     options.slip = Some(Slip::of(fault));
@@ -138,8 +132,7 @@ impl Options {
     }
 }
 
-fn write_cases(options: &Options) -> io::Result<bool> {
-    let stream = options.stream().map_err(io::Error::other)?;
+fn write_cases(options: &Options, stream: Stream) -> io::Result<bool> {
     let mut to = BufWriter::with_capacity(1 << 16, io::stdout().lock());
     for number in options.from..options.from + options.count {
         gen::make(stream, options.seed, number).case.write(&mut to)?;

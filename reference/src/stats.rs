@@ -5,7 +5,7 @@ use std::collections::BTreeMap;
 use crate::cases::{Case, Outcome};
 use crate::decide::{Code, Decision};
 use crate::gen::damage::DAMAGES;
-use crate::gen::twists::TWISTS;
+use crate::gen::twists::twists;
 use crate::gen::{self, Made, Stream};
 use crate::kinds::{needed, Command, Kind, FAILED_AVP, KINDS, SERVER_CAPABILITIES, USER_DATA};
 use crate::message::{sound_avps, Message};
@@ -24,9 +24,9 @@ pub struct Histogram {
 impl Histogram {
     pub fn count(&mut self, stream: Stream, made: &Made, outcome: &Outcome, why: &Why) {
         self.cases += 1;
-        match stream {
-            Stream::Tables => self.count_table(made, why),
-            Stream::Calls => self.count_call(made, outcome, why),
+        match (stream, why) {
+            (Stream::Tables, Why::Checked(found)) => self.count_table(made, *found),
+            _ => self.count_call(made, outcome, why),
         }
     }
 
@@ -34,16 +34,13 @@ impl Histogram {
         *self.rows.entry(row).or_insert(0) += 1;
     }
 
-    fn count_table(&mut self, made: &Made, why: &Why) {
-        let Why::Checked(found) = why else {
-            return;
-        };
+    fn count_table(&mut self, made: &Made, found: Result<u32, u32>) {
         let outcome = match (found, made.damaged) {
             (Ok(_), _) => "sound",
             (Err(0), Some(0)) => "block 0, which was damaged",
             (Err(0), _) => "block 0",
-            (Err(block), Some(damaged)) if *block as usize == damaged => "the damaged block",
-            (Err(block), Some(damaged)) if *block as usize == damaged + 1 => "the block after the damaged one",
+            (Err(block), Some(damaged)) if block as usize == damaged => "the damaged block",
+            (Err(block), Some(damaged)) if block as usize == damaged + 1 => "the block after the damaged one",
             (Err(_), Some(_)) => "another block",
             (Err(_), None) => "a record",
         };
@@ -271,7 +268,7 @@ fn required_of_calls() -> Vec<String> {
         want(format!("answer: {what}"));
     }
     want("request: 16,384 bytes".to_string());
-    for twist in TWISTS {
+    for twist in twists() {
         want(format!("made by: {}", twist.name));
     }
     wanted

@@ -188,7 +188,7 @@ pub fn check_with(table: &[u8], profile_length: usize, slip: Slip) -> Result<u32
     }
     let head = &table[..BLOCK];
     let mut count = word_at(head, header::COUNT);
-    if slip.is(Fault::PrefixTaken) && table.len().is_multiple_of(BLOCK) {
+    if slip.is(Fault::PrefixTaken) && table.len() % BLOCK == 0 {
         count = count.min((table.len() / BLOCK - 1) as u32);
     }
     if !length_fits(table.len(), count, slip) || !header_is_sound(head, slip) {

@@ -96,8 +96,9 @@ fn many_identities(rng: &mut Rng) -> Made {
         call.sound.model = big_subscription(rng, model);
     }
     let model = &call.sound.model;
-    let Some(first) = model.records.first().cloned() else {
-        return call.finish(rng);
+    let first = match model.records.first().cloned() {
+        Some(first) => first,
+        None => return call.finish(rng),
     };
     let same: Vec<Vec<u8>> =
         model.records.iter().filter(|it| it.private == first.private).map(|it| it.public.clone()).collect();
@@ -134,8 +135,9 @@ fn many_identities(rng: &mut Rng) -> Made {
 /// 150 records of one subscription, with short names, and one record of another.
 fn big_subscription(rng: &mut Rng, model: &TableModel) -> TableModel {
     let mut big = model.clone();
-    let Some(pattern) = model.records.first() else {
-        return big;
+    let pattern = match model.records.first() {
+        Some(first) => first,
+        None => return big,
     };
     let server_name = names::any(rng, LONGEST_SERVER_NAME);
     big.records.clear();

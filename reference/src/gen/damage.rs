@@ -379,8 +379,9 @@ pub fn damage(rng: &mut Rng, subject: &mut Subject, notes: &mut Vec<&'static str
         if damage.name == "length: over 4,096 records" && !rng.once_in(20) {
             continue;
         }
-        let Some(block) = (damage.doing)(rng, subject) else {
-            continue;
+        let block = match (damage.doing)(rng, subject) {
+            Some(block) => block,
+            None => continue,
         };
         notes.push(damage.name);
         if damage.mendable && rng.below(10) < 7 {
