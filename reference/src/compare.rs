@@ -130,11 +130,11 @@ impl Figures {
 }
 
 /// Compares; true if all outcomes agree.
-pub fn compare(stream: Stream, seed: u64, from: u64, count: u64, command: &[String]) -> io::Result<bool> {
+pub fn compare(stream: Stream, seed: u64, numbers: Range<u64>, command: &[String]) -> io::Result<bool> {
     let began = Instant::now();
     let mut figures = Figures::default();
-    let mut fed = start(stream, seed, from..from + count, command)?;
-    for number in from..from + count {
+    let mut fed = start(stream, seed, numbers.clone(), command)?;
+    for number in numbers.clone() {
         let (entry, table, own) = match fed.told.recv() {
             Ok(expected) => expected,
             Err(_) => break,
@@ -149,12 +149,12 @@ pub fn compare(stream: Stream, seed: u64, from: u64, count: u64, command: &[Stri
             Err(error) => {
                 println!("no outcome for case {number} of seed {seed}: {error}");
                 fed.end()?;
-                find_fatal(stream, seed, number..from + count, command)?;
+                find_fatal(stream, seed, number..numbers.end, command)?;
                 return Ok(false);
             }
         }
     }
-    if !fed.end()? || figures.cases != count {
+    if !fed.end()? || figures.cases != numbers.end - numbers.start {
         return Ok(false);
     }
     figures.print(began);

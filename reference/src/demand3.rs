@@ -2,6 +2,7 @@
 //! is marked, and give B5001 for the first marked one unless a fault stands before it.
 
 use std::io;
+use std::ops::Range;
 use std::time::Instant;
 
 use crate::account;
@@ -43,14 +44,15 @@ struct Inserted {
 }
 
 /// True if the driver's outcomes of all pairs relate as they should.
-pub fn compare(seed: u64, from: u64, count: u64, command: &[String]) -> io::Result<bool> {
+pub fn compare(seed: u64, numbers: Range<u64>, command: &[String]) -> io::Result<bool> {
     let began = Instant::now();
-    let mut fed = Fed::start(command, from..from + count, move |number| {
+    let mut fed = Fed::start(command, numbers.clone(), move |number| {
         let pair = pair(seed, number);
         (vec![pair.without, pair.with], pair.relation)
     })?;
     let (mut unmarked, mut before, mut marked, mut rewritten) = (0u64, 0u64, 0u64, 0u64);
-    for number in from..from + count {
+    let count = numbers.end - numbers.start;
+    for number in numbers {
         let relation = match fed.told.recv() {
             Ok(relation) => relation,
             Err(_) => break,

@@ -1,6 +1,7 @@
 //! Histograms of a stream of cases: what was done to get them, and what came of them.
 
 use std::collections::BTreeMap;
+use std::ops::Range;
 
 use crate::cases::{Case, Outcome};
 use crate::decide::{Code, Decision};
@@ -314,9 +315,9 @@ fn required_decisions(want: &mut impl FnMut(String)) {
 }
 
 /// Counts the cases of a stream, prints the histogram, and says whether every required row has enough cases.
-pub fn stats(stream: Stream, seed: u64, from: u64, count: u64) -> bool {
+pub fn stats(stream: Stream, seed: u64, numbers: Range<u64>) -> bool {
     let mut histogram = Histogram::default();
-    for number in from..from + count {
+    for number in numbers {
         let made = gen::make(stream, seed, number);
         let (outcome, why) = made.case.outcome_and_why(Slip::NONE);
         histogram.count(stream, &made, &outcome, &why);
