@@ -2,6 +2,7 @@
 
 use crate::cases::{Case, Change, Entry, Outcome, ALL_INTACT};
 use crate::gen::{Made, Stream};
+use crate::show::hex;
 use crate::table::BLOCK;
 
 const SLICES: [&str; 6] = [
@@ -13,15 +14,9 @@ const SLICES: [&str; 6] = [
     "bytes around the buffer were altered",
 ];
 
-pub fn hex(bytes: &[u8]) -> String {
-    let mut text = String::with_capacity(bytes.len() * 2);
-    for (n, byte) in bytes.iter().enumerate() {
-        if n % 4 == 0 && n > 0 {
-            text.push(if n % 32 == 0 { '\n' } else { ' ' });
-        }
-        text.push_str(&format!("{byte:02x}"));
-    }
-    text
+/// Lines of 32 bytes.
+pub fn lines(bytes: &[u8]) -> String {
+    bytes.chunks(32).map(hex).collect::<Vec<String>>().join("\n")
 }
 
 pub fn word(entry: Entry, outcome: &Outcome) -> String {
@@ -42,7 +37,7 @@ pub fn case(stream: Stream, seed: u64, number: u64, made: &Made) {
     println!("  made by: {}", made.notes.join(", "));
     println!("  table {} bytes, profile {} bytes, buffer {} bytes", case.table.len(), case.profile.len(), case.buffer);
     if case.entry == Entry::Decide {
-        println!("  request of {} bytes:\n{}", case.request.len(), hex(&case.request));
+        println!("  request of {} bytes:\n{}", case.request.len(), lines(&case.request));
     }
 }
 
@@ -98,5 +93,5 @@ pub fn answer(whose: &str, case: &Case, outcome: &Outcome) {
     }
     let mut buffer = case.buffer_before();
     outcome.buffer.apply(&mut buffer);
-    println!("  the answer of {whose}:\n{}", hex(&buffer[..(value as usize).min(buffer.len())]));
+    println!("  the answer of {whose}:\n{}", lines(&buffer[..(value as usize).min(buffer.len())]));
 }

@@ -121,8 +121,8 @@ fn relates(seed: u64, number: u64, relation: &Relation, without: &Outcome, with:
 }
 
 fn tell(pair: &Pair, without: &Outcome, with: &Outcome) {
-    println!("  request:\n{}", account::hex(&pair.without.request));
-    println!("  with AVPs put in ({:?}):\n{}", pair.relation, account::hex(&pair.with.request));
+    println!("  request:\n{}", account::lines(&pair.without.request));
+    println!("  with AVPs put in ({:?}):\n{}", pair.relation, account::lines(&pair.with.request));
     for (which, case, outcome) in [("without", &pair.without, without), ("with", &pair.with, with)] {
         println!("  {which}: {}", account::word(case.entry, outcome));
         account::answer(which, case, outcome);

@@ -189,7 +189,7 @@ fn judge<'a>(
 
 fn kind_of(avp: Avp, slip: Slip) -> Option<Kind> {
     if slip.is(Fault::UnknownByCodeAlone) {
-        return crate::kinds::KINDS.into_iter().find(|kind| kind.code() == avp.code);
+        return crate::kinds::KINDS.iter().copied().find(|kind| kind.code() == avp.code);
     }
     if slip.is(Fault::VendorZeroIsNone) && avp.vendor == Some(0) {
         return Kind::of(None, avp.code);

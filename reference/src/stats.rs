@@ -8,7 +8,7 @@ use crate::decide::{Code, Decision};
 use crate::gen::damage::DAMAGES;
 use crate::gen::twists::twists;
 use crate::gen::{self, Made, Stream};
-use crate::kinds::{needed, Command, Kind, FAILED_AVP, KINDS, SERVER_CAPABILITIES, USER_DATA};
+use crate::kinds::{needed, Command, Kind, COMMANDS, FAILED_AVP, KINDS, SERVER_CAPABILITIES, USER_DATA};
 use crate::message::{sound_avps, Message};
 use crate::serve::Why;
 use crate::slip::Slip;
@@ -237,7 +237,7 @@ fn required_of_calls() -> Vec<String> {
     for kind in [Kind::ServerName, Kind::VendorSpecificApplicationId] {
         want(format!("rule (h): {}", kind.name()));
     }
-    for command in [Command::UserAuthorization, Command::ServerAssignment, Command::LocationInfo] {
+    for command in COMMANDS {
         // A missing Session-Id is rule (b), unless there are no AVPs.
         for kind in needed(command).into_iter().skip(1) {
             want(format!("missing: {}", kind.name()));

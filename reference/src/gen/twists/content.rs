@@ -65,7 +65,7 @@ pub const TWISTS: &[Twist] = &[
 
 fn some_of(rng: &mut Rng, request: &RequestModel, wanted: fn(Kind) -> bool) -> Option<usize> {
     let places: Vec<usize> =
-        KINDS.into_iter().filter(|kind| wanted(*kind)).filter_map(|kind| request.place(kind)).collect();
+        KINDS.iter().copied().filter(|kind| wanted(*kind)).filter_map(|kind| request.place(kind)).collect();
     (!places.is_empty()).then(|| *rng.pick(&places))
 }
 

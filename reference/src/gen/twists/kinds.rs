@@ -21,7 +21,7 @@ pub const TWISTS: &[Twist] = &[
     }),
     if_it_fits("unnamed kinds", 8, |rng, r| {
         let command = Command::of(r.command)?;
-        let unnamed: Vec<Kind> = KINDS.into_iter().filter(|kind| !kind.is_named_in(command)).collect();
+        let unnamed: Vec<Kind> = KINDS.iter().copied().filter(|kind| !kind.is_named_in(command)).collect();
         for _ in 0..rng.between(1, 3) {
             let length = rng.below(9);
             let data = rng.bytes(length);
@@ -32,7 +32,7 @@ pub const TWISTS: &[Twist] = &[
         Some(())
     }),
     always("a known code of another vendor", 5, |rng, r| {
-        let kind = *rng.pick(&KINDS);
+        let kind = *rng.pick(KINDS);
         let piece = other_vendor(rng, kind);
         r.insert(rng, piece);
     }),
@@ -59,7 +59,7 @@ pub const TWISTS: &[Twist] = &[
         let mut piece = if rng.coin() {
             unknown(rng)
         } else {
-            let kind = *rng.pick(&KINDS);
+            let kind = *rng.pick(KINDS);
             let length = rng.below(9);
             let data = rng.bytes(length);
             Piece::of(rng, kind, data)
@@ -95,7 +95,7 @@ pub fn unknown(rng: &mut Rng) -> Piece {
     let flags = *rng.pick(&[0, 0, 0x20, M, 0x60]);
     match rng.below(5) {
         0 => {
-            let kind = *rng.pick(&KINDS);
+            let kind = *rng.pick(KINDS);
             let piece = other_vendor(rng, kind);
             Piece { flags: piece.flags & V | flags, ..piece }
         }
