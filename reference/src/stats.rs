@@ -5,7 +5,7 @@ use std::ops::Range;
 
 use crate::cases::{Case, Outcome};
 use crate::decide::{Code, Decision};
-use crate::gen::damage::DAMAGES;
+use crate::gen::damage::damages;
 use crate::gen::twists::twists;
 use crate::gen::{self, Made, Stream};
 use crate::kinds::{needed, Command, Kind, COMMANDS, FAILED_AVP, KINDS, SERVER_CAPABILITIES, USER_DATA};
@@ -201,7 +201,7 @@ fn required_of_tables() -> Vec<(String, u64)> {
     for outcome in ["sound", "block 0", "the damaged block", "the block after the damaged one"] {
         wanted.push((format!("all -> {outcome}"), ONE_IN));
     }
-    for damage in DAMAGES {
+    for damage in damages() {
         let one_in = if damage.name.contains("over 4,096 records") { 10 * ONE_IN } else { ONE_IN };
         wanted.push((damage.name.to_string(), one_in));
     }
