@@ -48,19 +48,19 @@ pub const DAMAGES: &[Damage] = &[
     }),
     of_header("header: two networks alike", alike_networks),
     of_header("header: bytes 400 to 507", |rng, s| stray_byte(rng, s.block(0), header::REST, CHECK_WORD)),
-    of_header("header: check word", |rng, s| other_word(rng, s.block(0), CHECK_WORD)).as_done(),
+    of_header("header: check word", |rng, s| other_word(rng, s.block(0), CHECK_WORD)).never_mended(),
     of_header("header: zeros", |_, s| {
         s.block(0).fill(0);
         Some(())
     })
-    .as_done(),
+    .never_mended(),
     of_header("header: zeros, count kept", |_, s| {
         s.bytes[..header::COUNT].fill(0);
         s.bytes[header::KEEP..BLOCK].fill(0);
         mend(s.block(0));
         Some(())
     })
-    .as_done(),
+    .never_mended(),
 ];
 
 fn some_network(rng: &mut Rng, s: &Subject) -> Option<Name> {

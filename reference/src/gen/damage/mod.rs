@@ -45,7 +45,7 @@ const fn of_whole(name: &'static str, doing: fn(&mut Rng, &mut Subject) -> Optio
 }
 
 impl Damage {
-    const fn as_done(self) -> Damage {
+    const fn never_mended(self) -> Damage {
         Damage { name: self.name, doing: self.doing, mendable: false }
     }
 

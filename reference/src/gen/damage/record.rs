@@ -83,12 +83,12 @@ pub const DAMAGES: &[Damage] = &[
     }),
     of_record("record: any profile part", |rng, s, n| put_part(s, n, rng.word(), rng.word() as u16)),
     of_record("record: bytes 406 to 507", |rng, s, n| stray_byte(rng, s.block(n), record::REST, CHECK_WORD)),
-    of_record("record: check word", |rng, s, n| other_word(rng, s.block(n), CHECK_WORD)).as_done(),
+    of_record("record: check word", |rng, s, n| other_word(rng, s.block(n), CHECK_WORD)).never_mended(),
     of_record("record: zeros", |_, s, n| {
         s.block(n).fill(0);
         Some(())
     })
-    .as_done(),
+    .never_mended(),
     of_record("record: the block before again", |rng, s, n| {
         s.bytes.copy_within((n - 1) * BLOCK..n * BLOCK, n * BLOCK);
         if rng.coin() {

@@ -28,7 +28,7 @@ pub const DAMAGES: &[Damage] = &[
         mend(s.block(block));
         Some(block)
     })
-    .as_done(),
+    .never_mended(),
     of_whole("order: a byte more than the block before", |rng, s| {
         let block = s.later_record(rng)?;
         let mut longer = public(s, block - 1);
@@ -52,7 +52,7 @@ pub const DAMAGES: &[Damage] = &[
         s.bytes.truncate(block * BLOCK);
         Some(0)
     })
-    .as_done(),
+    .never_mended(),
     of_whole("length: a complete prefix, count put right", |rng, s| {
         let block = s.some_record(rng)?;
         s.bytes.truncate(block * BLOCK);
@@ -60,41 +60,41 @@ pub const DAMAGES: &[Damage] = &[
         mend(s.block(0));
         Some(0)
     })
-    .as_done(),
+    .never_mended(),
     of_whole("length: a block of zeros appended", |_, s| {
         s.bytes.resize(s.bytes.len() + BLOCK, 0);
         Some(0)
     })
-    .as_done(),
+    .never_mended(),
     of_whole("length: the last block appended again", |_, s| {
         let last = s.bytes.len() - BLOCK;
         s.bytes.extend_from_within(last..);
         Some(0)
     })
-    .as_done(),
+    .never_mended(),
     of_whole("length: bytes appended", |rng, s| {
         let more = *rng.pick(&[1, 2, 3, 4, 256, 511]);
         s.bytes.extend(rng.bytes(more));
         Some(0)
     })
-    .as_done(),
+    .never_mended(),
     of_whole("length: bytes cut off", |rng, s| {
         let less = *rng.pick(&[1, 2, 3, 4, 256, 511]);
         s.bytes.truncate(s.bytes.len() - less);
         Some(0)
     })
-    .as_done(),
+    .never_mended(),
     of_whole("length: nothing", |_, s| {
         s.bytes.clear();
         Some(0)
     })
-    .as_done(),
+    .never_mended(),
     of_whole("length: under 512", |rng, s| {
         s.bytes.truncate(rng.below(512));
         Some(0)
     })
-    .as_done(),
-    of_whole(OVER_THE_MOST, over_the_most).as_done(),
+    .never_mended(),
+    of_whole(OVER_THE_MOST, over_the_most).never_mended(),
     of_whole("profile: one byte shorter than needed", |_, s| {
         let needed = profile_needed(s);
         if needed == 0 {
@@ -103,17 +103,17 @@ pub const DAMAGES: &[Damage] = &[
         s.profile.truncate(needed - 1);
         Some(first_reaching(s, needed))
     })
-    .as_done(),
+    .never_mended(),
     of_whole("profile: as short as may be", |_, s| {
         s.profile.truncate(profile_needed(s));
         Some(0)
     })
-    .as_done(),
+    .never_mended(),
     of_whole("profile: nothing", |_, s| {
         s.profile.clear();
         Some(first_reaching(s, 1))
     })
-    .as_done(),
+    .never_mended(),
     of_whole("anywhere: one bit", |rng, s| {
         let at = rng.below(s.bytes.len());
         s.bytes[at] ^= 1 << rng.below(8);
@@ -133,7 +133,7 @@ pub const DAMAGES: &[Damage] = &[
         put_word(bytes, down, word_at(bytes, down).wrapping_sub(by));
         Some(block)
     })
-    .as_done(),
+    .never_mended(),
 ];
 
 /// The public identity that a record had when the table was sound.

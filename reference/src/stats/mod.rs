@@ -1,20 +1,18 @@
 //! Histograms of a stream of cases: what was done to get them, and what came of them.
 
+mod required;
+
 use std::collections::BTreeMap;
 use std::ops::Range;
 
 use crate::cases::{Case, Outcome};
 use crate::decide::{Code, Decision};
-use crate::gen::damage::damages;
-use crate::gen::twists::twists;
 use crate::gen::{self, Made, Stream};
-use crate::kinds::{needed, Command, Kind, COMMANDS, FAILED_AVP, KINDS, SERVER_CAPABILITIES, USER_DATA};
+use crate::kinds::{Command, Kind, EXPERIMENTAL_RESULT, FAILED_AVP, RESULT_CODE, SERVER_CAPABILITIES, USER_DATA};
 use crate::message::{sound_avps, Message};
 use crate::serve::Why;
 use crate::slip::Slip;
-
-/// A required row has at least one case in so many; where a stream is short, at least one.
-const ONE_IN: u64 = 1000;
+use crate::table::word_at;
 
 #[derive(Default)]
 pub struct Histogram {
@@ -88,12 +86,12 @@ impl Histogram {
             None => "no record".to_string(),
         };
         match decision.command {
-            Some(Command::UserAuthorization) => format!("UAR: type {}, {state}: {result}", decision.asked),
+            Some(Command::UserAuthorization) => format!("UAR: type {}, {state}: {result}", decision.asked_type),
             Some(Command::LocationInfo) => format!("LIR: {state}: {result}"),
             _ => {
                 let many = if decision.records > 1 { "many" } else { "one or none" };
                 self.add(format!("SAR of {many}: {result}"));
-                let (asked, keep) = (decision.asked, decision.keep as u8);
+                let (asked, keep) = (decision.asked_type, decision.keep as u8);
                 format!("SAR: type {asked:2}, {state}, keep {keep}: {result}")
             }
         }
@@ -145,7 +143,7 @@ impl Histogram {
     /// Rows that must be there, with their least count, and have fewer cases.
     pub fn thin_rows(&self, stream: Stream) -> Vec<String> {
         let mut thin = Vec::new();
-        for (wanted, one_in) in required(stream) {
+        for (wanted, one_in) in required::rows(stream) {
             let count: u64 = self.rows.iter().filter(|(row, _)| row.starts_with(&wanted)).map(|(_, count)| count).sum();
             let least = (self.cases / one_in).max(1);
             if count < least {
@@ -174,144 +172,12 @@ pub fn code_name(code: Code) -> String {
 pub fn result_of(answer: &[u8]) -> Code {
     for avp in sound_avps(Message(answer).avps(), Slip::NONE) {
         match avp.code {
-            268 => return Code::Base(crate::table::word_at(avp.data, 0)),
-            297 => return Code::Experimental(crate::table::word_at(avp.data, 20)),
+            RESULT_CODE => return Code::Base(word_at(avp.data, 0)),
+            EXPERIMENTAL_RESULT => return Code::Experimental(word_at(avp.data, 20)),
             _ => {}
         }
     }
     Code::Base(0)
-}
-
-/// How a row that must be there begins, and in how many cases there is to be one.
-fn required(stream: Stream) -> Vec<(String, u64)> {
-    match stream {
-        Stream::Tables => required_of_tables(),
-        Stream::Calls => required_of_calls().into_iter().map(|row| (row, ONE_IN)).collect(),
-    }
-}
-
-fn required_of_tables() -> Vec<(String, u64)> {
-    let mut wanted = Vec::new();
-    for size in ["   0", "   1", "   2", "3-12"] {
-        wanted.push((format!("sound table of {size} records"), ONE_IN));
-    }
-    for size in [" 300", "4096"] {
-        wanted.push((format!("sound table of {size} records"), 50 * ONE_IN));
-    }
-    for outcome in ["sound", "block 0", "the damaged block", "the block after the damaged one"] {
-        wanted.push((format!("all -> {outcome}"), ONE_IN));
-    }
-    for damage in damages() {
-        let one_in = if damage.name.contains("over 4,096 records") { 10 * ONE_IN } else { ONE_IN };
-        wanted.push((damage.name.to_string(), one_in));
-    }
-    wanted
-}
-
-fn required_of_calls() -> Vec<String> {
-    let mut wanted = Vec::new();
-    let mut want = |row: String| wanted.push(row);
-    for number in 1..=5 {
-        want(format!("refused {number}"));
-    }
-    for code in [5011, 3008, 3001, 3007] {
-        want(format!("header: B{code}"));
-    }
-    for what in ["with V", "without V", "header cut off"] {
-        want(format!("rule (a): {what}"));
-    }
-    for rule in ['b', 'c', 'd'] {
-        want(format!("rule ({rule})"));
-    }
-    want("made by: unnamed kinds".to_string());
-    for kind in KINDS {
-        let named_somewhere_once = !kind.may_repeat_in(Command::UserAuthorization);
-        if named_somewhere_once {
-            want(format!("rule (f): {}", kind.name()));
-        }
-        if kind.is_four_bytes() {
-            want(format!("rule (g): {}", kind.name()));
-            want(format!("rule (h): {}", kind.name()));
-        }
-    }
-    for kind in [Kind::ServerName, Kind::VendorSpecificApplicationId] {
-        want(format!("rule (h): {}", kind.name()));
-    }
-    for command in COMMANDS {
-        // A missing Session-Id is rule (b), unless there are no AVPs.
-        for kind in needed(command).into_iter().skip(1) {
-            want(format!("missing: {}", kind.name()));
-        }
-    }
-    for code in [2001, 3001, 3007, 3008, 3009, 5001, 5003, 5004, 5005, 5009, 5011, 5012, 5014] {
-        want(format!("result: B{code}"));
-    }
-    for code in [2001, 2002, 2003, 2004, 5001, 5002, 5003, 5004, 5005, 5007] {
-        want(format!("result: X{code}"));
-    }
-    required_decisions(&mut want);
-    for what in [
-        "no Session-Id",
-        "1 Proxy-Info",
-        "2 or more Proxy-Info",
-        "Server-Capabilities",
-        "User-Name",
-        "Server-Name",
-        "User-Data",
-        "User-Data of 4,096",
-        "Failed-AVP",
-        "Failed-AVP without data",
-        "Failed-AVP with a Proxy-Info",
-        "records rewritten",
-        "over 16,384 bytes",
-        "over 32,000 bytes",
-    ] {
-        want(format!("answer: {what}"));
-    }
-    want("request: 16,384 bytes".to_string());
-    for twist in twists() {
-        want(format!("made by: {}", twist.name));
-    }
-    wanted
-}
-
-fn required_decisions(want: &mut impl FnMut(String)) {
-    for (asked, state, result) in [
-        (0, 0, "X2001"),
-        (0, 0, "X2002"),
-        (0, 1, "X2002"),
-        (0, 2, "X2002"),
-        (0, 1, "X5004"),
-        (1, 0, "X5003"),
-        (1, 1, "B2001"),
-        (1, 2, "B2001"),
-        (2, 0, "B2001"),
-        (2, 1, "B2001"),
-        (2, 2, "B2001"),
-        (2, 1, "X5004"),
-    ] {
-        want(format!("UAR: type {asked}, state {state}: {result}"));
-    }
-    for (state, result) in [(0, "X5003"), (0, "B2001"), (0, "X2003"), (1, "B2001"), (2, "B2001")] {
-        want(format!("LIR: state {state}: {result}"));
-    }
-    for asked in 0..=11 {
-        for state in 0..=2 {
-            for keep in 0..=1 {
-                let result = match (asked, state) {
-                    (2, 0 | 2) | (3, 1) | (4..=8 | 11, 0) => "X5007",
-                    (6 | 7, _) if keep == 0 => "X2004",
-                    (0, 0) => "B5012",
-                    _ => "B2001",
-                };
-                want(format!("SAR: type {asked:2}, state {state}, keep {keep}: {result}"));
-            }
-        }
-        want(format!("SAR: type {asked:2}, no record, keep"));
-    }
-    for result in ["B2001", "X2004", "X5002", "X5005", "X5007"] {
-        want(format!("SAR of many: {result}"));
-    }
 }
 
 /// Counts the cases of a stream, prints the histogram, and says whether every required row has enough cases.
