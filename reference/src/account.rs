@@ -35,7 +35,12 @@ pub fn case(stream: Stream, seed: u64, number: u64, made: &Made) {
     let case = &made.case;
     println!("case {number} of seed {seed} (gen --kind {} --seed {seed} --from {number} --count 1)", stream.name());
     println!("  made by: {}", made.notes.join(", "));
-    println!("  table {} bytes, profile {} bytes, buffer {} bytes", case.table.len(), case.profile.len(), case.buffer);
+    println!(
+        "  table {} bytes, profile {} bytes, buffer {} bytes",
+        case.table.len(),
+        case.profile.len(),
+        case.buffer_length
+    );
     if case.entry == Entry::Decide {
         println!("  request of {} bytes:\n{}", case.request.len(), lines(&case.request));
     }
@@ -88,7 +93,7 @@ fn slice(name: &str, before: &[u8], own: &Change, given: &Change) {
 
 pub fn answer(whose: &str, case: &Case, outcome: &Outcome) {
     let (number, _, value) = outcome.parts();
-    if number != 0 || !outcome.buffer.fits(case.buffer) {
+    if number != 0 || !outcome.buffer.fits(case.buffer_length) {
         return;
     }
     let mut buffer = case.buffer_before();

@@ -19,7 +19,7 @@ use crate::table::{LONGEST_SERVER_NAME, PENDING};
 struct Call {
     sound: Sound,
     request: RequestModel,
-    buffer: usize,
+    buffer_length: usize,
     notes: Vec<&'static str>,
 }
 
@@ -65,7 +65,7 @@ fn right(rng: &mut Rng) -> Call {
     };
     let mut sound = tables::sound(rng, size);
     let request = asks::any(rng, &mut sound.model);
-    Call { sound, request, buffer: LEAST_BUFFER, notes: vec![] }
+    Call { sound, request, buffer_length: LEAST_BUFFER, notes: vec![] }
 }
 
 impl Call {
@@ -77,11 +77,11 @@ impl Call {
     fn with_request(self, rng: &mut Rng, request: Vec<u8>) -> Made {
         let case = Case {
             entry: Entry::Decide,
-            fill: rng.byte(),
+            noise_from: rng.byte(),
             request,
             table: self.sound.model.encode(),
             profile: self.sound.profile,
-            buffer: self.buffer,
+            buffer_length: self.buffer_length,
         };
         Made { case, notes: self.notes, damaged: None }
     }
@@ -172,7 +172,7 @@ fn big_table(rng: &mut Rng) -> Made {
             *place = record;
         }
     }
-    Call { sound, request, buffer: LEAST_BUFFER, notes: vec!["4,096 records"] }.finish(rng)
+    Call { sound, request, buffer_length: LEAST_BUFFER, notes: vec!["4,096 records"] }.finish(rng)
 }
 
 /// A request brought to 16,384 bytes, or a little under or over, by AVPs that may repeat.
@@ -237,7 +237,7 @@ fn several_refusals(rng: &mut Rng) -> Made {
         *it = rng.coin();
     }
     if why[0] {
-        call.buffer = *rng.pick(&[0, 20, LEAST_BUFFER - 1]);
+        call.buffer_length = *rng.pick(&[0, 20, LEAST_BUFFER - 1]);
     }
     if why[3] {
         call.request.flags &= !R;
@@ -330,7 +330,7 @@ fn flipped(rng: &mut Rng) -> Made {
 fn buffers(rng: &mut Rng) -> Made {
     let mut call = right(rng);
     call.notes.push("another buffer");
-    call.buffer =
+    call.buffer_length =
         *rng.pick(&[0, 1, LEAST_BUFFER - 4, LEAST_BUFFER - 1, LEAST_BUFFER - 1, LEAST_BUFFER + 1, 40_000, 65_536]);
     call.finish(rng)
 }
@@ -345,5 +345,5 @@ fn big_user_data(rng: &mut Rng) -> Made {
         record.profile_start = rng.below(8192 - record.profile_length as usize + 1) as u32;
     }
     let request = asks::any(rng, &mut sound.model);
-    Call { sound, request, buffer: LEAST_BUFFER, notes: vec!["long profile parts"] }.finish(rng)
+    Call { sound, request, buffer_length: LEAST_BUFFER, notes: vec!["long profile parts"] }.finish(rng)
 }

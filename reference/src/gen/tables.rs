@@ -42,11 +42,11 @@ pub fn case(rng: &mut Rng) -> Made {
     }
     let case = Case {
         entry: Entry::Check,
-        fill: rng.byte(),
+        noise_from: rng.byte(),
         request: vec![],
         table: subject.bytes,
         profile: subject.profile,
-        buffer: 0,
+        buffer_length: 0,
     };
     Made { case, notes, damaged }
 }
