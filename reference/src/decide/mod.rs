@@ -67,8 +67,9 @@ pub struct Decision {
     pub command: Option<Command>,
     /// User-Authorization-Type or Server-Assignment-Type.
     pub asked_type: u32,
-    /// The state of the first record that was asked for.
+    /// Of the first record that was asked for.
     pub state: Option<u8>,
+    pub profile_start: usize,
     pub keep: bool,
     /// How many records were asked for.
     pub records: usize,
@@ -90,6 +91,7 @@ pub fn decide<'a>(request: &Request<'a>, table: Table<'a>, profile: &'a [u8], sl
         command: Some(request.command),
         asked_type,
         state: asked.first().map(|(_, record)| record.state()),
+        profile_start: asked.first().map_or(0, |(_, record)| record.profile_start()),
         keep: table.header().keep(),
         records: asked.len(),
         result: Some(verdict.result),

@@ -7,12 +7,12 @@ use std::ops::Range;
 
 use crate::cases::{Case, Outcome};
 use crate::decide::{Code, Decision};
-use crate::gen::{self, Made, Stream};
+use crate::gen::{self, Made, Stream, FAR};
 use crate::kinds::{Command, Kind, EXPERIMENTAL_RESULT, FAILED_AVP, RESULT_CODE, SERVER_CAPABILITIES, USER_DATA};
 use crate::message::{sound_avps, Message};
 use crate::serve::Why;
 use crate::slip::Slip;
-use crate::table::word_at;
+use crate::table::{word_at, BLOCK, LONGEST_PROFILE};
 
 #[derive(Default)]
 pub struct Histogram {
@@ -44,14 +44,10 @@ impl Histogram {
             (Err(_), None) => "a record",
         };
         if let Ok(records) = found {
-            let size = match records {
-                0..=2 => format!("{records:4}"),
-                3..=12 => "3-12".to_string(),
-                13..=299 => "more".to_string(),
-                300..=4095 => " 300".to_string(),
-                _ => "4096".to_string(),
-            };
-            self.add(format!("sound table of {size} records"));
+            self.add(format!("sound table of {} records", size(records as usize)));
+            if made.case.profile.len() > FAR {
+                self.add("sound table, profile over 65,536 bytes".to_string());
+            }
         }
         let twice = made.notes.contains(&"a second damage");
         let mended = if made.notes.contains(&"mended") { ", mended" } else { "" };
@@ -71,11 +67,19 @@ impl Histogram {
             Why::Header(code) => format!("header: B{code}"),
             Why::Rule(letter, what) => format!("rule ({letter}): {what}"),
             Why::Missing(kind) => format!("missing: {}", kind.name()),
-            Why::Decided(decision) => self.decision(decision),
+            Why::Decided(decision) => {
+                self.add(format!("decided over {} records", size(made.case.table.len() / BLOCK - 1)));
+                self.decision(decision)
+            }
         };
         self.add(row);
+        match made.case.request.len() {
+            16_384 => self.add("request: 16,384 bytes".to_string()),
+            length if length > FAR => self.add("request: over 65,536 bytes".to_string()),
+            _ => {}
+        }
         if outcome.parts().0 == 0 {
-            self.count_answer(&made.case, outcome);
+            self.count_answer(&made.case, outcome, why);
         }
     }
 
@@ -97,7 +101,7 @@ impl Histogram {
         }
     }
 
-    fn count_answer(&mut self, case: &Case, outcome: &Outcome) {
+    fn count_answer(&mut self, case: &Case, outcome: &Outcome, why: &Why) {
         let mut buffer = case.buffer_before();
         outcome.buffer.apply(&mut buffer);
         let answer = &buffer[..outcome.parts().2 as usize];
@@ -113,8 +117,15 @@ impl Histogram {
         for avp in &avps {
             match avp.code {
                 SERVER_CAPABILITIES => self.add("answer: Server-Capabilities".to_string()),
-                USER_DATA if avp.data.len() == 4096 => self.add("answer: User-Data of 4,096".to_string()),
-                USER_DATA => self.add("answer: User-Data".to_string()),
+                USER_DATA => {
+                    self.add("answer: User-Data".to_string());
+                    if avp.data.len() == LONGEST_PROFILE {
+                        self.add("answer: User-Data of 4,096".to_string());
+                    }
+                    if matches!(why, Why::Decided(decision) if decision.profile_start >= FAR) {
+                        self.add("answer: User-Data from past 65,536".to_string());
+                    }
+                }
                 1 => self.add("answer: User-Name".to_string()),
                 602 => self.add("answer: Server-Name".to_string()),
                 FAILED_AVP if avp.data.is_empty() => self.add("answer: Failed-AVP without data".to_string()),
@@ -134,9 +145,6 @@ impl Histogram {
             if answer.len() > least {
                 self.add(row.to_string());
             }
-        }
-        if case.request.len() == 16_384 {
-            self.add("request: 16,384 bytes".to_string());
         }
     }
 
@@ -158,6 +166,17 @@ impl Histogram {
             println!("{count:9} {:8.3}%  {row}", *count as f64 * 100.0 / self.cases as f64);
         }
         println!("{:9} cases", self.cases);
+    }
+}
+
+/// How many records, in few classes.
+fn size(records: usize) -> String {
+    match records {
+        0..=2 => records.to_string(),
+        3..=12 => "3 to 12".to_string(),
+        13..=255 => "13 to 255".to_string(),
+        256..=4095 => "256 to 4,095".to_string(),
+        _ => "4,096".to_string(),
     }
 }
 

@@ -2,7 +2,7 @@
 
 use crate::gen::damage::damages;
 use crate::gen::twists::twists;
-use crate::gen::Stream;
+use crate::gen::{Stream, MIXED};
 use crate::kinds::{needed, Command, Kind, COMMANDS, KINDS};
 
 /// A row has at least one case in so many; where a stream is short, at least one.
@@ -12,18 +12,19 @@ const ONE_IN: u64 = 1000;
 pub fn rows(stream: Stream) -> Vec<(String, u64)> {
     match stream {
         Stream::Tables => of_tables(),
-        Stream::Calls => of_calls().into_iter().map(|row| (row, ONE_IN)).collect(),
+        Stream::Calls => of_calls(),
     }
 }
 
 fn of_tables() -> Vec<(String, u64)> {
     let mut wanted = Vec::new();
-    for size in ["   0", "   1", "   2", "3-12"] {
+    for size in ["0", "1", "2", "3 to 12"] {
         wanted.push((format!("sound table of {size} records"), ONE_IN));
     }
-    for size in [" 300", "4096"] {
-        wanted.push((format!("sound table of {size} records"), 50 * ONE_IN));
+    for size in ["13 to 255", "256 to 4,095", "4,096"] {
+        wanted.push((format!("sound table of {size} records"), 20 * ONE_IN));
     }
+    wanted.push(("sound table, profile over 65,536 bytes".to_string(), 2 * ONE_IN));
     for outcome in ["sound", "block 0", "the damaged block", "the block after the damaged one"] {
         wanted.push((format!("all -> {outcome}"), ONE_IN));
     }
@@ -34,7 +35,7 @@ fn of_tables() -> Vec<(String, u64)> {
     wanted
 }
 
-fn of_calls() -> Vec<String> {
+fn of_calls() -> Vec<(String, u64)> {
     let mut wanted = Vec::new();
     wanted.extend((1..=5).map(|number| format!("refused {number}")));
     wanted.extend([5011, 3008, 3001, 3007].map(|code| format!("header: B{code}")));
@@ -45,8 +46,13 @@ fn of_calls() -> Vec<String> {
     assignments(&mut wanted);
     answers(&mut wanted);
     wanted.push("request: 16,384 bytes".to_string());
-    wanted.extend(twists().map(|twist| format!("made by: {}", twist.name)));
-    wanted
+    wanted.push("request: over 65,536 bytes".to_string());
+    wanted.extend(twists().map(|twist| twist.name).chain(MIXED).map(|name| format!("made by: {name}")));
+    let mut rows: Vec<(String, u64)> = wanted.into_iter().map(|row| (row, ONE_IN)).collect();
+    for size in ["13 to 255", "256 to 4,095", "4,096"] {
+        rows.push((format!("decided over {size} records"), 5 * ONE_IN));
+    }
+    rows
 }
 
 fn rules(wanted: &mut Vec<String>) {
@@ -141,6 +147,7 @@ fn answers(wanted: &mut Vec<String>) {
         "Server-Name",
         "User-Data",
         "User-Data of 4,096",
+        "User-Data from past 65,536",
         "Failed-AVP",
         "Failed-AVP without data",
         "Failed-AVP with a Proxy-Info",

@@ -41,12 +41,13 @@ pub const TWISTS: &[Twist] = &[
     }),
     always("header: length", 2, |rng, r| {
         let length = r.length() as u32;
-        r.told_length = Some(match rng.below(6) {
+        r.told_length = Some(match rng.below(7) {
             0 => length + 1,
             1 => length - 1,
             2 => length + 4,
             3 => length - 4,
             4 => 20,
+            5 => length + (1 << rng.between(16, 23)),
             _ => rng.word() & 0xFF_FFFF,
         });
     }),

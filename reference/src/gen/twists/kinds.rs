@@ -93,7 +93,7 @@ pub fn unknown(rng: &mut Rng) -> Piece {
     let length = if rng.once_in(20) { rng.below(200) } else { rng.below(10) };
     let data = rng.bytes(length);
     let flags = *rng.pick(&[0, 0, 0x20, M, 0x60]);
-    match rng.below(5) {
+    match rng.below(6) {
         0 => {
             let kind = *rng.pick(KINDS);
             let piece = other_vendor(rng, kind);
@@ -108,7 +108,13 @@ pub fn unknown(rng: &mut Rng) -> Piece {
             let code = *rng.pick(&[603, 604, 605, 606, 633, 637]);
             Piece::new(rng, Some(VENDOR), code, flags, data)
         }
+        // A known code in 16 bits.
         3 => {
+            let kind = rng.pick(KINDS);
+            let code = kind.code() | 1 << rng.between(16, 31);
+            Piece::new(rng, kind.vendor(), code, flags, data)
+        }
+        4 => {
             let code = rng.word();
             Piece::new(rng, Some(50), code, flags, data)
         }

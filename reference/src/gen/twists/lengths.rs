@@ -17,8 +17,12 @@ pub const TWISTS: &[Twist] = &[
     }),
     one_avp("a length past the end", 5, |rng, r, at| {
         let left: usize = r.pieces[at..].iter().map(Piece::padded).sum();
-        let past = *rng.pick(&[1, 2, 3, 4, 5, 1000]);
-        let told = if rng.once_in(4) { 0xFF_FFFF } else { left + past };
+        let told = match rng.below(6) {
+            0 => 0xFF_FFFF,
+            // The right length in 16 bits.
+            1 => r.pieces[at].length() + (1 << rng.between(16, 23)),
+            _ => left + *rng.pick(&[1, 2, 3, 4, 5, 1000]),
+        };
         r.pieces[at].told_length = Some(told as u32);
     }),
     one_avp("a length that ends with the request", 2, |rng, r, at| {
