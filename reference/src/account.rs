@@ -2,6 +2,7 @@
 
 use crate::cases::{Case, Change, Entry, Outcome, ALL_INTACT};
 use crate::gen::{Made, Stream};
+use crate::show::hex;
 use crate::table::BLOCK;
 
 const SLICES: [&str; 6] = [
@@ -13,15 +14,9 @@ const SLICES: [&str; 6] = [
     "bytes around the buffer were altered",
 ];
 
-pub fn hex(bytes: &[u8]) -> String {
-    let mut text = String::with_capacity(bytes.len() * 2);
-    for (n, byte) in bytes.iter().enumerate() {
-        if n % 4 == 0 && n > 0 {
-            text.push(if n % 32 == 0 { '\n' } else { ' ' });
-        }
-        text.push_str(&format!("{byte:02x}"));
-    }
-    text
+/// Lines of 32 bytes.
+pub fn lines(bytes: &[u8]) -> String {
+    bytes.chunks(32).map(hex).collect::<Vec<String>>().join("\n")
 }
 
 pub fn word(entry: Entry, outcome: &Outcome) -> String {
@@ -40,9 +35,14 @@ pub fn case(stream: Stream, seed: u64, number: u64, made: &Made) {
     let case = &made.case;
     println!("case {number} of seed {seed} (gen --kind {} --seed {seed} --from {number} --count 1)", stream.name());
     println!("  made by: {}", made.notes.join(", "));
-    println!("  table {} bytes, profile {} bytes, buffer {} bytes", case.table.len(), case.profile.len(), case.buffer);
+    println!(
+        "  table {} bytes, profile {} bytes, buffer {} bytes",
+        case.table.len(),
+        case.profile.len(),
+        case.buffer_length
+    );
     if case.entry == Entry::Decide {
-        println!("  request of {} bytes:\n{}", case.request.len(), hex(&case.request));
+        println!("  request of {} bytes:\n{}", case.request.len(), lines(&case.request));
     }
 }
 
@@ -77,9 +77,12 @@ fn slice(name: &str, before: &[u8], own: &Change, given: &Change) {
     let (mut ours, mut theirs) = (before.to_vec(), before.to_vec());
     own.apply(&mut ours);
     given.apply(&mut theirs);
-    let Some(at) = ours.iter().zip(&theirs).position(|(a, b)| a != b) else {
-        println!("  {name}: the same bytes, told in another way");
-        return;
+    let at = match ours.iter().zip(&theirs).position(|(a, b)| a != b) {
+        Some(at) => at,
+        None => {
+            println!("  {name}: the same bytes, told in another way");
+            return;
+        }
     };
     let place = if name == "table" { format!(" (block {}, byte {})", at / BLOCK, at % BLOCK) } else { String::new() };
     println!(
@@ -90,10 +93,10 @@ fn slice(name: &str, before: &[u8], own: &Change, given: &Change) {
 
 pub fn answer(whose: &str, case: &Case, outcome: &Outcome) {
     let (number, _, value) = outcome.parts();
-    if number != 0 || !outcome.buffer.fits(case.buffer) {
+    if number != 0 || !outcome.buffer.fits(case.buffer_length) {
         return;
     }
     let mut buffer = case.buffer_before();
     outcome.buffer.apply(&mut buffer);
-    println!("  the answer of {whose}:\n{}", hex(&buffer[..(value as usize).min(buffer.len())]));
+    println!("  the answer of {whose}:\n{}", lines(&buffer[..(value as usize).min(buffer.len())]));
 }

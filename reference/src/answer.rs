@@ -5,7 +5,7 @@ use crate::kinds::{
     Kind, APPLICATION, AUTH_APPLICATION_ID, EXPERIMENTAL_RESULT, EXPERIMENTAL_RESULT_CODE, FAILED_AVP,
     MANDATORY_CAPABILITY, OPTIONAL_CAPABILITY, RESULT_CODE, SERVER_CAPABILITIES, USER_DATA, VENDOR, VENDOR_ID,
 };
-use crate::message::{first_avp, sound_avps, Avp, Message, E, M, P, V};
+use crate::message::{first_avp, padded, sound_avps, Avp, Message, E, M, P, V};
 use crate::read::Failed;
 use crate::slip::{Fault, Slip};
 use crate::table::{Header, Record};
@@ -43,7 +43,7 @@ impl Avps {
     }
 
     fn pad(&mut self) {
-        self.0.resize(self.0.len().next_multiple_of(4), 0);
+        self.0.resize(padded(self.0.len()), 0);
     }
 }
 
@@ -80,10 +80,10 @@ pub fn answer(message: Message, header: Header, verdict: &Verdict, slip: Slip) -
 fn answer_header(message: Message, result: Code, avps: usize, slip: Slip) -> Vec<u8> {
     let mut header = message.0[..20].to_vec();
     let is_3xxx = match result {
+        Code::Base(code) | Code::Experimental(code) if slip.is(Fault::EBitForAllErrors) => code >= 3000,
         Code::Base(code) => code / 1000 == 3 && !slip.is(Fault::EBitLeftOut),
         Code::Experimental(_) => false,
-    } || (slip.is(Fault::EBitForAllErrors)
-        && !matches!(result, Code::Base(2001) | Code::Experimental(..=2999)));
+    };
     let kept = if slip.is(Fault::RetransmissionBitKept) { P | 0x10 } else { P };
     let p = if slip.is(Fault::PBitLeftOut) { 0 } else { message.flags() & kept };
     let length = if slip.is(Fault::AnswerLengthWithoutHeader) { avps } else { 20 + avps };

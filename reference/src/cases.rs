@@ -16,12 +16,12 @@ pub enum Entry {
 #[derive(Clone, PartialEq, Debug)]
 pub struct Case {
     pub entry: Entry,
-    /// What the buffer, and the bytes around every slice, hold before the call.
-    pub fill: u8,
+    /// Where in the noise the buffer begins, so that it holds other bytes in other calls.
+    pub noise_from: u8,
     pub request: Vec<u8>,
     pub table: Vec<u8>,
     pub profile: Vec<u8>,
-    pub buffer: usize,
+    pub buffer_length: usize,
 }
 
 /// What a call changed in a slice: from the first changed byte to the last.
@@ -45,9 +45,9 @@ pub struct Outcome {
 /// The longest slice a case may carry; more is a broken stream.
 const LONGEST: usize = 1 << 26;
 
-/// Byte `i` of the buffer before the call.
-pub fn filling(fill: u8, i: usize) -> u8 {
-    ((i as u32 + u32::from(fill)).wrapping_mul(2_654_435_761) >> 24) as u8
+/// Byte `n` of the noise that a buffer holds before the call.
+fn noise(n: usize) -> u8 {
+    ((n as u32).wrapping_mul(2_654_435_761) >> 24) as u8
 }
 
 impl Change {
@@ -84,7 +84,8 @@ impl Change {
 
 impl Case {
     pub fn buffer_before(&self) -> Vec<u8> {
-        (0..self.buffer).map(|i| filling(self.fill, i)).collect()
+        let from = usize::from(self.noise_from);
+        (from..from + self.buffer_length).map(noise).collect()
     }
 
     /// What this program does with the case.
@@ -114,8 +115,8 @@ impl Case {
     }
 
     pub fn write(&self, to: &mut impl Write) -> io::Result<()> {
-        to.write_all(&[self.entry as u8, self.fill, 0, 0])?;
-        for length in [self.request.len(), self.table.len(), self.profile.len(), self.buffer] {
+        to.write_all(&[self.entry as u8, self.noise_from, 0, 0])?;
+        for length in [self.request.len(), self.table.len(), self.profile.len(), self.buffer_length] {
             to.write_all(&(length as u32).to_le_bytes())?;
         }
         to.write_all(&self.request)?;
@@ -145,11 +146,11 @@ impl Case {
         }
         Ok(Some(Case {
             entry,
-            fill: head[0],
+            noise_from: head[0],
             request: read_bytes(from, lengths[0])?,
             table: read_bytes(from, lengths[1])?,
             profile: read_bytes(from, lengths[2])?,
-            buffer: lengths[3],
+            buffer_length: lengths[3],
         }))
     }
 }
@@ -204,7 +205,7 @@ fn read_bytes(from: &mut impl Read, count: usize) -> io::Result<Vec<u8>> {
     Ok(bytes)
 }
 
-fn broken(what: &str) -> io::Error {
+pub fn broken(what: &str) -> io::Error {
     io::Error::new(io::ErrorKind::InvalidData, what)
 }
 
@@ -216,11 +217,11 @@ mod tests {
     fn cases_and_outcomes_come_back_as_written() {
         let case = Case {
             entry: Entry::Decide,
-            fill: 9,
+            noise_from: 9,
             request: vec![1, 2, 3],
             table: vec![4; 512],
             profile: vec![],
-            buffer: 36_864,
+            buffer_length: 36_864,
         };
         let mut stream = Vec::new();
         case.write(&mut stream).unwrap();

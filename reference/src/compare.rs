@@ -8,7 +8,7 @@ use std::thread::{self, JoinHandle};
 use std::time::Instant;
 
 use crate::account;
-use crate::cases::{Case, Entry, Outcome};
+use crate::cases::{broken, Case, Entry, Outcome};
 use crate::gen::{self, Stream};
 use crate::slip::Slip;
 
@@ -34,7 +34,7 @@ impl<T: Send + 'static> Fed<T> {
     ) -> io::Result<Fed<T>> {
         let mut child =
             Command::new(&command[0]).args(&command[1..]).stdin(Stdio::piped()).stdout(Stdio::piped()).spawn()?;
-        let missing = || io::Error::other("the driver has no streams");
+        let missing = || broken("the driver has no streams");
         let input = child.stdin.take().ok_or_else(missing)?;
         let output = child.stdout.take().ok_or_else(missing)?;
         let (sender, told) = channel();
@@ -73,7 +73,7 @@ impl<T: Send + 'static> Fed<T> {
         let Fed { mut child, mut outcomes, told, feeder } = self;
         drop(told);
         let surplus = io::copy(&mut outcomes, &mut io::sink()).unwrap_or(0);
-        let fed = feeder.join().map_err(|_| io::Error::other("the maker of cases failed"))?;
+        let fed = feeder.join().map_err(|_| broken("the maker of cases failed"))?;
         let status = child.wait()?;
         if let Err(error) = fed {
             eprintln!("the driver stopped reading: {error}");
@@ -130,13 +130,14 @@ impl Figures {
 }
 
 /// Compares; true if all outcomes agree.
-pub fn compare(stream: Stream, seed: u64, from: u64, count: u64, command: &[String]) -> io::Result<bool> {
+pub fn compare(stream: Stream, seed: u64, numbers: Range<u64>, command: &[String]) -> io::Result<bool> {
     let began = Instant::now();
     let mut figures = Figures::default();
-    let mut fed = start(stream, seed, from..from + count, command)?;
-    for number in from..from + count {
-        let Ok((entry, table, own)) = fed.told.recv() else {
-            break;
+    let mut fed = start(stream, seed, numbers.clone(), command)?;
+    for number in numbers.clone() {
+        let (entry, table, own) = match fed.told.recv() {
+            Ok(expected) => expected,
+            Err(_) => break,
         };
         match fed.outcome() {
             Ok(given) if given == own => figures.count(entry, table, &own),
@@ -148,12 +149,12 @@ pub fn compare(stream: Stream, seed: u64, from: u64, count: u64, command: &[Stri
             Err(error) => {
                 println!("no outcome for case {number} of seed {seed}: {error}");
                 fed.end()?;
-                find_fatal(stream, seed, number..from + count, command)?;
+                find_fatal(stream, seed, number..numbers.end, command)?;
                 return Ok(false);
             }
         }
     }
-    if !fed.end()? || figures.cases != count {
+    if !fed.end()? || figures.cases != numbers.end - numbers.start {
         return Ok(false);
     }
     figures.print(began);

@@ -2,6 +2,7 @@
 //! is marked, and give B5001 for the first marked one unless a fault stands before it.
 
 use std::io;
+use std::ops::Range;
 use std::time::Instant;
 
 use crate::account;
@@ -11,7 +12,7 @@ use crate::compare::Fed;
 use crate::decide::Verdict;
 use crate::gen::{self, Stream};
 use crate::kinds::Kind;
-use crate::message::{sound_avps, Message, HEADER, M};
+use crate::message::{padded, sound_avps, Message, HEADER, M};
 use crate::read::{read_header, walk, Failed, Finding};
 use crate::rng::Rng;
 use crate::serve::{Why, MOST_REQUEST};
@@ -43,16 +44,18 @@ struct Inserted {
 }
 
 /// True if the driver's outcomes of all pairs relate as they should.
-pub fn compare(seed: u64, from: u64, count: u64, command: &[String]) -> io::Result<bool> {
+pub fn compare(seed: u64, numbers: Range<u64>, command: &[String]) -> io::Result<bool> {
     let began = Instant::now();
-    let mut fed = Fed::start(command, from..from + count, move |number| {
+    let mut fed = Fed::start(command, numbers.clone(), move |number| {
         let pair = pair(seed, number);
         (vec![pair.without, pair.with], pair.relation)
     })?;
     let (mut unmarked, mut before, mut marked, mut rewritten) = (0u64, 0u64, 0u64, 0u64);
-    for number in from..from + count {
-        let Ok(relation) = fed.told.recv() else {
-            break;
+    let count = numbers.end - numbers.start;
+    for number in numbers {
+        let relation = match fed.told.recv() {
+            Ok(relation) => relation,
+            Err(_) => break,
         };
         let (without, with) = match (fed.outcome(), fed.outcome()) {
             (Ok(without), Ok(with)) => (without, with),
@@ -118,8 +121,8 @@ fn relates(seed: u64, number: u64, relation: &Relation, without: &Outcome, with:
 }
 
 fn tell(pair: &Pair, without: &Outcome, with: &Outcome) {
-    println!("  request:\n{}", account::hex(&pair.without.request));
-    println!("  with AVPs put in ({:?}):\n{}", pair.relation, account::hex(&pair.with.request));
+    println!("  request:\n{}", account::lines(&pair.without.request));
+    println!("  with AVPs put in ({:?}):\n{}", pair.relation, account::lines(&pair.with.request));
     for (which, case, outcome) in [("without", &pair.without, without), ("with", &pair.with, with)] {
         println!("  {which}: {}", account::word(case.entry, outcome));
         account::answer(which, case, outcome);
@@ -131,10 +134,7 @@ fn pair(seed: u64, number: u64) -> Pair {
     let mut rng = Rng::for_case(seed ^ 0x3333, number);
     loop {
         let case = gen::make(Stream::Calls, rng.draw(), 0).case;
-        let Some(starts) = sound_starts(&case) else {
-            continue;
-        };
-        if let Some(pair) = put_in(&mut rng, case, &starts) {
+        if let Some(pair) = sound_starts(&case).and_then(|starts| put_in(&mut rng, case, &starts)) {
             return pair;
         }
     }
@@ -147,7 +147,7 @@ fn sound_starts(case: &Case) -> Option<Vec<usize>> {
     }
     let mut starts = vec![HEADER];
     for avp in sound_avps(Message(&case.request).avps(), Slip::NONE) {
-        starts.push(starts[starts.len() - 1] + avp.whole.len().next_multiple_of(4));
+        starts.push(starts[starts.len() - 1] + padded(avp.whole.len()));
     }
     (starts.len() > 1 && starts[starts.len() - 1] == case.request.len()).then_some(starts)
 }
@@ -198,14 +198,13 @@ fn put_in(rng: &mut Rng, without: Case, starts: &[usize]) -> Option<Pair> {
 }
 
 fn relation(with: &Case, first_marked: Option<usize>) -> Relation {
-    let Some(at) = first_marked else {
-        return Relation::Unmarked;
+    let at = match first_marked {
+        Some(at) => at,
+        None => return Relation::Unmarked,
     };
     let message = Message(&with.request);
-    let Ok(command) = read_header(message, Slip::NONE) else {
-        return Relation::FaultBefore;
-    };
-    if walk(&with.request[HEADER..at], command, Slip::NONE).is_err() {
+    let before = &with.request[HEADER..at];
+    if read_header(message, Slip::NONE).and_then(|command| walk(before, command, Slip::NONE)).is_err() {
         return Relation::FaultBefore;
     }
     let avp = sound_avps(&with.request[at..], Slip::NONE)[0];

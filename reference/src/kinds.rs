@@ -17,48 +17,57 @@ pub const USER_DATA: u32 = 606;
 
 #[derive(Clone, Copy, PartialEq, Eq, Debug)]
 pub enum Command {
-    UserAuthorization,
-    ServerAssignment,
-    LocationInfo,
+    UserAuthorization = 300,
+    ServerAssignment = 301,
+    LocationInfo = 302,
 }
+
+pub const COMMANDS: [Command; 3] = [Command::UserAuthorization, Command::ServerAssignment, Command::LocationInfo];
 
 impl Command {
     pub fn of(code: u32) -> Option<Command> {
-        match code {
-            300 => Some(Command::UserAuthorization),
-            301 => Some(Command::ServerAssignment),
-            302 => Some(Command::LocationInfo),
-            _ => None,
-        }
+        COMMANDS.into_iter().find(|command| command.code() == code)
     }
 
     pub fn code(self) -> u32 {
-        match self {
-            Command::UserAuthorization => 300,
-            Command::ServerAssignment => 301,
-            Command::LocationInfo => 302,
-        }
+        self as u32
     }
 }
 
-#[derive(Clone, Copy, PartialEq, Eq, Debug)]
-pub enum Kind {
-    SessionId,
-    VendorSpecificApplicationId,
-    AuthSessionState,
-    OriginHost,
-    OriginRealm,
-    DestinationHost,
-    DestinationRealm,
-    UserName,
-    ProxyInfo,
-    RouteRecord,
-    PublicIdentity,
-    VisitedNetworkIdentifier,
-    UserAuthorizationType,
-    ServerName,
-    ServerAssignmentType,
-    UserDataAlreadyAvailable,
+macro_rules! kinds {
+    ($($kind:ident = $code:literal $name:literal,)*) => {
+        /// A known kind; its value is its code.
+        #[derive(Clone, Copy, PartialEq, Eq, Debug)]
+        pub enum Kind { $($kind = $code,)* }
+
+        pub const KINDS: &[Kind] = &[$(Kind::$kind,)*];
+
+        impl Kind {
+            pub fn name(self) -> &'static str {
+                match self { $(Kind::$kind => $name,)* }
+            }
+        }
+    };
+}
+
+// Without V up to 600; from there on of vendor 10415.
+kinds! {
+    SessionId = 263 "Session-Id",
+    VendorSpecificApplicationId = 260 "Vendor-Specific-Application-Id",
+    AuthSessionState = 277 "Auth-Session-State",
+    OriginHost = 264 "Origin-Host",
+    OriginRealm = 296 "Origin-Realm",
+    DestinationHost = 293 "Destination-Host",
+    DestinationRealm = 283 "Destination-Realm",
+    UserName = 1 "User-Name",
+    ProxyInfo = 284 "Proxy-Info",
+    RouteRecord = 282 "Route-Record",
+    PublicIdentity = 601 "Public-Identity",
+    VisitedNetworkIdentifier = 600 "Visited-Network-Identifier",
+    UserAuthorizationType = 623 "User-Authorization-Type",
+    ServerName = 602 "Server-Name",
+    ServerAssignmentType = 614 "Server-Assignment-Type",
+    UserDataAlreadyAvailable = 624 "User-Data-Already-Available",
 }
 
 use Kind::*;
@@ -67,58 +76,18 @@ use Kind::*;
 const NEEDED_EVERYWHERE: [Kind; 6] =
     [SessionId, VendorSpecificApplicationId, AuthSessionState, OriginHost, OriginRealm, DestinationRealm];
 
-pub const KINDS: [Kind; 16] = [
-    SessionId,
-    VendorSpecificApplicationId,
-    AuthSessionState,
-    OriginHost,
-    OriginRealm,
-    DestinationHost,
-    DestinationRealm,
-    UserName,
-    ProxyInfo,
-    RouteRecord,
-    PublicIdentity,
-    VisitedNetworkIdentifier,
-    UserAuthorizationType,
-    ServerName,
-    ServerAssignmentType,
-    UserDataAlreadyAvailable,
-];
-
 impl Kind {
     /// The known kind of this vendor and code; `None` for the vendor is an AVP without V.
     pub fn of(vendor: Option<u32>, code: u32) -> Option<Kind> {
-        KINDS.into_iter().find(|kind| kind.vendor() == vendor && kind.code() == code)
+        KINDS.iter().copied().find(|kind| kind.vendor() == vendor && kind.code() == code)
     }
 
     pub fn code(self) -> u32 {
-        match self {
-            SessionId => 263,
-            VendorSpecificApplicationId => 260,
-            AuthSessionState => 277,
-            OriginHost => 264,
-            OriginRealm => 296,
-            DestinationHost => 293,
-            DestinationRealm => 283,
-            UserName => 1,
-            ProxyInfo => 284,
-            RouteRecord => 282,
-            PublicIdentity => 601,
-            VisitedNetworkIdentifier => 600,
-            UserAuthorizationType => 623,
-            ServerName => 602,
-            ServerAssignmentType => 614,
-            UserDataAlreadyAvailable => 624,
-        }
+        self as u32
     }
 
     pub fn vendor(self) -> Option<u32> {
         (self.code() >= 600).then_some(VENDOR)
-    }
-
-    pub fn name(self) -> &'static str {
-        name_of(self.vendor(), self.code()).unwrap_or("")
     }
 
     pub fn is_four_bytes(self) -> bool {
@@ -166,35 +135,22 @@ pub fn needed(command: Command) -> Vec<Kind> {
 
 /// The name of an AVP that document 01 knows or writes, or that real requests carry.
 pub fn name_of(vendor: Option<u32>, code: u32) -> Option<&'static str> {
+    if let Some(kind) = Kind::of(vendor, code) {
+        return Some(kind.name());
+    }
     Some(match (vendor, code) {
-        (None, 1) => "User-Name",
-        (None, 258) => "Auth-Application-Id",
+        (None, AUTH_APPLICATION_ID) => "Auth-Application-Id",
         (None, 259) => "Acct-Application-Id",
-        (None, 260) => "Vendor-Specific-Application-Id",
-        (None, 263) => "Session-Id",
-        (None, 264) => "Origin-Host",
-        (None, 266) => "Vendor-Id",
-        (None, 268) => "Result-Code",
-        (None, 277) => "Auth-Session-State",
+        (None, VENDOR_ID) => "Vendor-Id",
+        (None, RESULT_CODE) => "Result-Code",
         (None, 278) => "Origin-State-Id",
-        (None, 279) => "Failed-AVP",
-        (None, 282) => "Route-Record",
-        (None, 283) => "Destination-Realm",
-        (None, 284) => "Proxy-Info",
-        (None, 293) => "Destination-Host",
-        (None, 296) => "Origin-Realm",
-        (None, 297) => "Experimental-Result",
-        (None, 298) => "Experimental-Result-Code",
-        (Some(VENDOR), 600) => "Visited-Network-Identifier",
-        (Some(VENDOR), 601) => "Public-Identity",
-        (Some(VENDOR), 602) => "Server-Name",
-        (Some(VENDOR), 603) => "Server-Capabilities",
-        (Some(VENDOR), 604) => "Mandatory-Capability",
-        (Some(VENDOR), 605) => "Optional-Capability",
-        (Some(VENDOR), 606) => "User-Data",
-        (Some(VENDOR), 614) => "Server-Assignment-Type",
-        (Some(VENDOR), 623) => "User-Authorization-Type",
-        (Some(VENDOR), 624) => "User-Data-Already-Available",
+        (None, FAILED_AVP) => "Failed-AVP",
+        (None, EXPERIMENTAL_RESULT) => "Experimental-Result",
+        (None, EXPERIMENTAL_RESULT_CODE) => "Experimental-Result-Code",
+        (Some(VENDOR), SERVER_CAPABILITIES) => "Server-Capabilities",
+        (Some(VENDOR), MANDATORY_CAPABILITY) => "Mandatory-Capability",
+        (Some(VENDOR), OPTIONAL_CAPABILITY) => "Optional-Capability",
+        (Some(VENDOR), USER_DATA) => "User-Data",
         (Some(VENDOR), 633) => "Originating-Request",
         (Some(VENDOR), 637) => "UAR-Flags",
         _ => return None,

@@ -1,6 +1,7 @@
 //! The commands; README.md says what each does.
 
 use std::io::{self, BufReader, BufWriter, Read, Write};
+use std::ops::Range;
 use std::process::ExitCode;
 
 use reference::cases::Case;
@@ -15,7 +16,6 @@ use reference::stats;
 
 const USAGE: &str = "\
 reference check                                             check `table` against `profile`
-reference time --rounds R                                   time that check
 reference answer                                            answer the request on standard input
 reference show                                              an answer on standard input, in words
 reference gen      --kind K --seed S [--from F] --count N   write cases
@@ -23,7 +23,7 @@ reference outcomes [--fault NAME]                           read cases, write ou
 reference compare  --kind K --seed S [--from F] --count N -- DRIVER [ARGUMENT ...]
 reference stats    --kind K --seed S [--from F] --count N   histogram
 reference faults                                            list the deliberate faults
-reference mutants  --seed S --count N                       whether each deliberate fault is noticed
+reference mutants  --seed S [--from F] --count N            whether each deliberate fault is noticed
 kinds: tables, calls; compare alone: demand3";
 
 fn main() -> ExitCode {
@@ -43,8 +43,10 @@ fn run(arguments: &[String]) -> Result<bool, String> {
     let (name, rest) = arguments.split_first().ok_or(USAGE)?;
     let options = Options::parse(rest)?;
     match name.as_str() {
-        "check" => say(&program::check()?),
-        "time" => say(&program::time(options.rounds)?),
+        "check" => {
+            println!("{}", program::check()?);
+            Ok(true)
+        }
         "answer" => {
             let answer = program::answer(&standard_input()?)?;
             io::stdout().write_all(&answer).map_err(told)?;
@@ -54,21 +56,21 @@ fn run(arguments: &[String]) -> Result<bool, String> {
             print!("{}", show::show(&standard_input()?));
             Ok(true)
         }
-        "gen" => write_cases(&options).map_err(told),
-        "outcomes" => write_outcomes(&options).map_err(told),
+        "gen" => write_cases(options.stream()?, options.seed, options.numbers()?).map_err(told),
+        "outcomes" => write_outcomes(options.slip).map_err(told),
         "compare" => {
             if options.command.is_empty() {
                 return Err("compare needs -- and a driver".to_string());
             }
-            let (seed, from, count, command) = (options.seed, options.from, options.count, &options.command);
+            let (seed, numbers, command) = (options.seed, options.numbers()?, &options.command);
             match options.kind.as_deref() {
-                Some("demand3") => demand3::compare(seed, from, count, command),
-                _ => compare::compare(options.stream()?, seed, from, count, command),
+                Some("demand3") => demand3::compare(seed, numbers, command),
+                _ => compare::compare(options.stream()?, seed, numbers, command),
             }
             .map_err(told)
         }
-        "stats" => Ok(stats::stats(options.stream()?, options.seed, options.from, options.count)),
-        "mutants" => Ok(mutants::mutants(options.seed, options.count)),
+        "stats" => Ok(stats::stats(options.stream()?, options.seed, options.numbers()?)),
+        "mutants" => Ok(mutants::mutants(options.seed, options.numbers()?)),
         "faults" => {
             for (fault, what) in slip::FAULTS {
                 println!("{:28} {what}", format!("{fault:?}"));
@@ -85,29 +87,22 @@ fn standard_input() -> Result<Vec<u8>, String> {
     Ok(bytes)
 }
 
-fn say(line: &str) -> Result<bool, String> {
-    println!("{line}");
-    Ok(true)
-}
-
 fn told(error: io::Error) -> String {
     error.to_string()
 }
 
-#[derive(Default)]
 struct Options {
     kind: Option<String>,
     seed: u64,
     from: u64,
-    count: u64,
-    rounds: u32,
-    slip: Option<Slip>,
+    count: Option<u64>,
+    slip: Slip,
     command: Vec<String>,
 }
 
 impl Options {
     fn parse(arguments: &[String]) -> Result<Options, String> {
-        let mut options = Options { rounds: 100, ..Options::default() };
+        let mut options = Options { kind: None, seed: 0, from: 0, count: None, slip: Slip::NONE, command: Vec::new() };
         let mut rest = arguments.iter();
         while let Some(name) = rest.next() {
             if name == "--" {
@@ -120,11 +115,10 @@ impl Options {
                 "--kind" => options.kind = Some(value.clone()),
                 "--seed" => options.seed = number()?,
                 "--from" => options.from = number()?,
-                "--count" => options.count = number()?,
-                "--rounds" => options.rounds = number()? as u32,
+                "--count" => options.count = Some(number()?),
                 "--fault" => {
                     let fault = slip::by_name(value).ok_or_else(|| format!("no fault {value}"))?;
-                    options.slip = Some(Slip::of(fault));
+                    options.slip = Slip::of(fault);
                 }
                 _ => return Err(format!("{name} is not known\n{USAGE}")),
             }
@@ -136,20 +130,25 @@ impl Options {
         let name = self.kind.as_ref().ok_or("--kind is needed")?;
         Stream::by_name(name).ok_or_else(|| format!("no kind {name}"))
     }
+
+    /// The numbers of the cases. A run of none would show nothing, so their count is needed.
+    fn numbers(&self) -> Result<Range<u64>, String> {
+        let count = self.count.filter(|count| *count > 0).ok_or("--count is needed, 1 or more")?;
+        let end = self.from.checked_add(count).ok_or("--from and --count are too great")?;
+        Ok(self.from..end)
+    }
 }
 
-fn write_cases(options: &Options) -> io::Result<bool> {
-    let stream = options.stream().map_err(io::Error::other)?;
+fn write_cases(stream: Stream, seed: u64, numbers: Range<u64>) -> io::Result<bool> {
     let mut to = BufWriter::with_capacity(1 << 16, io::stdout().lock());
-    for number in options.from..options.from + options.count {
-        gen::make(stream, options.seed, number).case.write(&mut to)?;
+    for number in numbers {
+        gen::make(stream, seed, number).case.write(&mut to)?;
     }
     to.flush()?;
     Ok(true)
 }
 
-fn write_outcomes(options: &Options) -> io::Result<bool> {
-    let slip = options.slip.unwrap_or(Slip::NONE);
+fn write_outcomes(slip: Slip) -> io::Result<bool> {
     let mut from = BufReader::with_capacity(1 << 16, io::stdin().lock());
     let mut to = BufWriter::with_capacity(1 << 16, io::stdout().lock());
     while let Some(case) = Case::read(&mut from)? {

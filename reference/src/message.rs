@@ -77,6 +77,11 @@ pub enum LengthFault {
     Header(Vec<u8>),
 }
 
+/// A length with its padding.
+pub fn padded(length: usize) -> usize {
+    (length + 3) / 4 * 4
+}
+
 /// The first AVP of `bytes`, and what follows it and its padding.
 pub fn first_avp(bytes: &[u8], slip: Slip) -> Result<(Avp<'_>, &[u8]), LengthFault> {
     if bytes.len() < 8 {
@@ -95,9 +100,9 @@ pub fn first_avp(bytes: &[u8], slip: Slip) -> Result<(Avp<'_>, &[u8]), LengthFau
     if length < least || length > bytes.len() {
         return Err(LengthFault::Header(header_alone(&bytes[..header])));
     }
-    let padded = length.next_multiple_of(4);
+    let end = padded(length);
     if slip.is(Fault::LengthWithPadding) {
-        length = padded.min(bytes.len());
+        length = end.min(bytes.len());
     }
     let avp = Avp {
         code: word_at(bytes, 0),
@@ -107,7 +112,7 @@ pub fn first_avp(bytes: &[u8], slip: Slip) -> Result<(Avp<'_>, &[u8]), LengthFau
         whole: &bytes[..length],
     };
     // The last member of a group may have its padding cut.
-    Ok((avp, bytes.get(padded..).unwrap_or(&[])))
+    Ok((avp, bytes.get(end..).unwrap_or(&[])))
 }
 
 /// A header with its own length.
@@ -121,10 +126,7 @@ pub fn header_alone(header: &[u8]) -> Vec<u8> {
 pub fn sound_avps(bytes: &[u8], slip: Slip) -> Vec<Avp<'_>> {
     let mut avps = Vec::new();
     let mut rest = bytes;
-    while !rest.is_empty() {
-        let Ok((avp, after)) = first_avp(rest, slip) else {
-            break;
-        };
+    while let Ok((avp, after)) = first_avp(rest, slip) {
         avps.push(avp);
         rest = after;
     }

@@ -1,18 +1,20 @@
 //! Each deliberate fault against the true program: after how many cases is it noticed?
 
+use std::ops::Range;
+
 use crate::gen::{make, Stream};
 use crate::slip::{Fault, Slip, FAULTS};
 
-/// Prints for each fault the first case that shows it; true if every fault is noticed.
-pub fn mutants(seed: u64, count: u64) -> bool {
+/// Prints for each fault after how many cases one shows it; true if every fault is noticed.
+pub fn mutants(seed: u64, numbers: Range<u64>) -> bool {
     let mut noticed: Vec<Option<(Stream, u64)>> = vec![None; FAULTS.len()];
-    for number in 0..count {
+    for (tried, number) in (1..).zip(numbers) {
         for stream in [Stream::Calls, Stream::Tables] {
             let case = make(stream, seed, number).case;
             let truly = case.outcome(Slip::NONE);
             for (place, (fault, _)) in noticed.iter_mut().zip(FAULTS) {
                 if place.is_none() && case.outcome(Slip::of(*fault)) != truly {
-                    *place = Some((stream, number));
+                    *place = Some((stream, tried));
                 }
             }
         }
@@ -34,7 +36,7 @@ fn name(fault: Fault) -> String {
 
 fn told(found: Option<(Stream, u64)>) -> String {
     match found {
-        Some((stream, number)) => format!("{:6} {:>8}", stream.name(), number + 1),
+        Some((stream, tried)) => format!("{:6} {tried:>8}", stream.name()),
         None => format!("{:>15}", "not noticed"),
     }
 }

@@ -39,13 +39,3 @@ pub fn answer(request: &[u8]) -> Result<Vec<u8>, String> {
     buffer.truncate(word as usize);
     Ok(buffer)
 }
-
-/// Times the check of the table, in nanoseconds for one.
-pub fn time(rounds: u32) -> Result<String, String> {
-    let (table, profile) = (file("table")?, file("profile")?);
-    let began = std::time::Instant::now();
-    for _ in 0..rounds {
-        std::hint::black_box(table::check(std::hint::black_box(&table), profile.len())).ok();
-    }
-    Ok(format!("{} ns", began.elapsed().as_nanos() / u128::from(rounds.max(1))))
-}

@@ -90,9 +90,7 @@ pub fn read_header<'a>(message: Message, slip: Slip) -> Result<Command, Finding<
     if slip.is(Fault::ReservedHeaderBitsAsked) && message.flags() & 0x0F != 0 {
         return Err(fault(3008));
     }
-    let Some(command) = command else {
-        return Err(fault(3001));
-    };
+    let command = command.ok_or_else(|| fault(3001))?;
     if message.application() != APPLICATION {
         return Err(fault(3007));
     }
@@ -158,16 +156,15 @@ fn judge<'a>(
         return Err(Finding { result: 5005, failed: Failed::Example(Kind::SessionId), why });
     }
     let overlooked = (slip.is(Fault::ReservedFlagsOfUnknownIgnored) && kind.is_none())
-        || (slip.is(Fault::ReservedFlagsOfUnnamedIgnored) && kind.is_some_and(|kind| !kind.is_named_in(command)))
+        || (slip.is(Fault::ReservedFlagsOfUnnamedIgnored) && matches!(kind, Some(kind) if !kind.is_named_in(command)))
         || (slip.is(Fault::LowestReservedFlagIgnored) && avp.flags & 0x1E == 0);
     if reserved && !overlooked {
         return Err(whole(3009, 'c', "reserved flags"));
     }
-    let Some(kind) = kind else {
-        if avp.is_marked() && !slip.is(Fault::MarkIgnored) {
-            return Err(whole(5001, 'd', "unknown and marked"));
-        }
-        return Ok(None);
+    let kind = match kind {
+        Some(kind) => kind,
+        None if avp.is_marked() && !slip.is(Fault::MarkIgnored) => return Err(whole(5001, 'd', "unknown and marked")),
+        None => return Ok(None),
     };
     if !kind.is_named_in(command) {
         if slip.is(Fault::MarkedUnnamedFails) && avp.is_marked() {
@@ -192,7 +189,7 @@ fn judge<'a>(
 
 fn kind_of(avp: Avp, slip: Slip) -> Option<Kind> {
     if slip.is(Fault::UnknownByCodeAlone) {
-        return crate::kinds::KINDS.into_iter().find(|kind| kind.code() == avp.code);
+        return crate::kinds::KINDS.iter().copied().find(|kind| kind.code() == avp.code);
     }
     if slip.is(Fault::VendorZeroIsNone) && avp.vendor == Some(0) {
         return Kind::of(None, avp.code);
@@ -256,8 +253,9 @@ fn application_is_good(data: &[u8], slip: Slip) -> bool {
     let (mut vendors, mut applications) = (0, 0);
     let mut rest = data;
     while !rest.is_empty() {
-        let Ok((member, after)) = first_avp(rest, slip) else {
-            return slip.is(Fault::GroupTailTaken) && rest.len() < 8 && applications == 1 && vendors > 0;
+        let (member, after) = match first_avp(rest, slip) {
+            Ok(read) => read,
+            Err(_) => return slip.is(Fault::GroupTailTaken) && rest.len() < 8 && applications == 1 && vendors > 0,
         };
         rest = after;
         if member.has_reserved_flags() && !slip.is(Fault::MemberReservedFlagsTaken) {

@@ -58,7 +58,11 @@ impl Rng {
     }
 
     pub fn bytes(&mut self, n: usize) -> Vec<u8> {
-        (0..n).map(|_| self.byte()).collect()
+        let mut bytes = vec![0; n];
+        for eight in bytes.chunks_mut(8) {
+            eight.copy_from_slice(&self.draw().to_le_bytes()[..eight.len()]);
+        }
+        bytes
     }
 
     pub fn pick<'a, T>(&mut self, items: &'a [T]) -> &'a T {

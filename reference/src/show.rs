@@ -179,13 +179,8 @@ pub fn experimental_name(code: u32) -> &'static str {
     }
 }
 
-fn hex(bytes: &[u8]) -> String {
-    let mut text = String::new();
-    for (n, byte) in bytes.iter().enumerate() {
-        if n > 0 && n % 4 == 0 {
-            text.push(' ');
-        }
-        text.push_str(&format!("{byte:02x}"));
-    }
-    text
+/// Words of 4 bytes.
+pub fn hex(bytes: &[u8]) -> String {
+    let word = |word: &[u8]| word.iter().map(|byte| format!("{byte:02x}")).collect::<String>();
+    bytes.chunks(4).map(word).collect::<Vec<String>>().join(" ")
 }

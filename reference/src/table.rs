@@ -79,6 +79,16 @@ fn zero(bytes: &[u8]) -> bool {
     bytes.iter().fold(0, |all, byte| all | byte) == 0
 }
 
+/// The name at `at`, of the length that stands at `length_at`.
+fn name(block: &[u8], length_at: usize, at: usize) -> &[u8] {
+    &block[at..][..block[length_at] as usize]
+}
+
+/// The words at `at`, as many as `count_at` says.
+fn words(block: &[u8], count_at: usize, at: usize) -> Vec<u32> {
+    (0..block[count_at] as usize).map(|n| word_at(block, at + 4 * n)).collect()
+}
+
 /// The header of a table that was found sound.
 #[derive(Clone, Copy)]
 pub struct Header<'a>(pub &'a [u8]);
@@ -89,11 +99,11 @@ impl<'a> Header<'a> {
     }
 
     pub fn host(&self) -> &'a [u8] {
-        &self.0[header::HOST..][..self.0[header::HOST_LENGTH] as usize]
+        name(self.0, header::HOST_LENGTH, header::HOST)
     }
 
     pub fn realm(&self) -> &'a [u8] {
-        &self.0[header::REALM..][..self.0[header::REALM_LENGTH] as usize]
+        name(self.0, header::REALM_LENGTH, header::REALM)
     }
 
     pub fn networks(&self) -> usize {
@@ -101,8 +111,8 @@ impl<'a> Header<'a> {
     }
 
     pub fn network(&self, n: usize) -> &'a [u8] {
-        let place = &self.0[header::NETWORK_PLACES + n * NETWORK_PLACE..][..NETWORK_PLACE];
-        &place[1..][..place[0] as usize]
+        let place = header::NETWORK_PLACES + n * NETWORK_PLACE;
+        name(self.0, place, place + 1)
     }
 }
 
@@ -124,26 +134,24 @@ impl<'a> Record<'a> {
     }
 
     pub fn public(&self) -> &'a [u8] {
-        &self.0[record::PUBLIC..][..self.0[record::PUBLIC_LENGTH] as usize]
+        name(self.0, record::PUBLIC_LENGTH, record::PUBLIC)
     }
 
     pub fn private(&self) -> &'a [u8] {
-        &self.0[record::PRIVATE..][..self.0[record::PRIVATE_LENGTH] as usize]
+        name(self.0, record::PRIVATE_LENGTH, record::PRIVATE)
     }
 
     /// The stored server name; empty if there is none.
     pub fn server_name(&self) -> &'a [u8] {
-        &self.0[record::SERVER..][..self.0[record::SERVER_LENGTH] as usize]
+        name(self.0, record::SERVER_LENGTH, record::SERVER)
     }
 
     pub fn mandatory(&self) -> Vec<u32> {
-        let count = self.0[record::MANDATORY_COUNT] as usize;
-        (0..count).map(|n| word_at(self.0, record::MANDATORY + 4 * n)).collect()
+        words(self.0, record::MANDATORY_COUNT, record::MANDATORY)
     }
 
     pub fn optional(&self) -> Vec<u32> {
-        let count = self.0[record::OPTIONAL_COUNT] as usize;
-        (0..count).map(|n| word_at(self.0, record::OPTIONAL + 4 * n)).collect()
+        words(self.0, record::OPTIONAL_COUNT, record::OPTIONAL)
     }
 
     pub fn profile_start(&self) -> usize {
@@ -188,7 +196,7 @@ pub fn check_with(table: &[u8], profile_length: usize, slip: Slip) -> Result<u32
     }
     let head = &table[..BLOCK];
     let mut count = word_at(head, header::COUNT);
-    if slip.is(Fault::PrefixTaken) && table.len().is_multiple_of(BLOCK) {
+    if slip.is(Fault::PrefixTaken) && table.len() % BLOCK == 0 {
         count = count.min((table.len() / BLOCK - 1) as u32);
     }
     if !length_fits(table.len(), count, slip) || !header_is_sound(head, slip) {

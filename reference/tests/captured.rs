@@ -59,7 +59,7 @@ fn a_network_name_too_long_for_the_table() {
 }
 
 #[test]
-fn a_public_identity_of_200_bytes() {
+fn a_public_identity_of_199_bytes() {
     assert_eq!(result(&captured!("icscf-36-uar")), "X5001");
 }
 

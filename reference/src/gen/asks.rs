@@ -8,7 +8,8 @@ use crate::message::{P, R};
 use crate::rng::Rng;
 use crate::table::{LONGEST_IDENTITY, LONGEST_SERVER_NAME, NOT_REGISTERED, PENDING};
 
-const ABSENT: &[u8] = b"sip:nobody@isle";
+pub const ABSENT: &[u8] = b"sip:nobody@isle";
+pub const REMOVALS: [u32; 6] = [4, 5, 6, 7, 8, 11];
 
 /// A request of any command. The table may be changed to suit it.
 pub fn any(rng: &mut Rng, table: &mut TableModel) -> RequestModel {
@@ -23,9 +24,19 @@ pub fn any(rng: &mut Rng, table: &mut TableModel) -> RequestModel {
     let mut own = match command {
         Command::UserAuthorization => user_authorization(rng, table),
         Command::LocationInfo => location_info(rng, table),
-        Command::ServerAssignment => server_assignment(rng, table),
+        Command::ServerAssignment => {
+            let asked_type = rng.below(12) as u32;
+            server_assignment(rng, table, asked_type)
+        }
     };
     surround(rng, command, &mut own)
+}
+
+/// A SAR of one of the types that carry User-Data.
+pub fn user_data(rng: &mut Rng, table: &mut TableModel) -> RequestModel {
+    let asked_type = rng.below(4) as u32;
+    let mut own = server_assignment(rng, table, asked_type);
+    surround(rng, Command::ServerAssignment, &mut own)
 }
 
 /// The AVPs that every request has, around the command's own.
@@ -88,7 +99,7 @@ fn some_record(rng: &mut Rng, table: &TableModel) -> RecordModel {
 }
 
 /// A public identity that is in no record, mostly; near a real one.
-fn unknown_public(rng: &mut Rng, record: &RecordModel) -> Vec<u8> {
+pub fn unknown_public(rng: &mut Rng, record: &RecordModel) -> Vec<u8> {
     match rng.below(5) {
         0 => vec![],
         1 => ABSENT.to_vec(),
@@ -107,7 +118,7 @@ fn other_private(rng: &mut Rng, table: &TableModel, than: &[u8]) -> Vec<u8> {
     rng.pick(&others).private.clone()
 }
 
-fn unknown_private(rng: &mut Rng, private: &[u8]) -> Vec<u8> {
+pub fn unknown_private(rng: &mut Rng, private: &[u8]) -> Vec<u8> {
     match rng.below(4) {
         0 => vec![],
         1 => ABSENT.to_vec(),
@@ -169,9 +180,8 @@ fn location_info(rng: &mut Rng, table: &TableModel) -> Vec<Piece> {
     vec![Piece::of(rng, Kind::PublicIdentity, public)]
 }
 
-fn server_assignment(rng: &mut Rng, table: &mut TableModel) -> Vec<Piece> {
-    let asked_type = rng.below(12) as u32;
-    let removal = matches!(asked_type, 4..=8 | 11);
+fn server_assignment(rng: &mut Rng, table: &mut TableModel, asked_type: u32) -> Vec<Piece> {
+    let removal = REMOVALS.contains(&asked_type);
     if rng.below(5) < 2 {
         agree(rng, table);
     }
@@ -193,11 +203,7 @@ fn server_assignment(rng: &mut Rng, table: &mut TableModel) -> Vec<Piece> {
             _ => vec![record.public.clone()],
         }
     };
-    let mut own = Vec::new();
     let named = !identities.is_empty();
-    for public in identities {
-        own.push(Piece::of(rng, Kind::PublicIdentity, public));
-    }
     let user_name = match rng.below(20) {
         0 => Some(unknown_private(rng, &private)),
         1 => Some(other_private(rng, table, &private)),
@@ -205,10 +211,25 @@ fn server_assignment(rng: &mut Rng, table: &mut TableModel) -> Vec<Piece> {
         2 => None,
         _ => Some(private.clone()),
     };
+    let server_name = server_name(rng, table, &record);
+    assignment(rng, asked_type, identities, user_name, server_name)
+}
+
+/// The AVPs that a SAR has of its own.
+pub fn assignment(
+    rng: &mut Rng,
+    asked_type: u32,
+    identities: Vec<Vec<u8>>,
+    user_name: Option<Vec<u8>>,
+    server_name: Vec<u8>,
+) -> Vec<Piece> {
+    let mut own = Vec::new();
+    for public in identities {
+        own.push(Piece::of(rng, Kind::PublicIdentity, public));
+    }
     if let Some(name) = user_name {
         own.push(Piece::of(rng, Kind::UserName, name));
     }
-    let server_name = server_name(rng, table, &record);
     own.push(Piece::of(rng, Kind::ServerName, server_name));
     own.push(Piece::number(rng, Kind::ServerAssignmentType, asked_type));
     let available = rng.once_in(3) as u32;

@@ -9,6 +9,9 @@ pub mod request;
 mod tables;
 pub mod twists;
 
+pub use calls::MIXED;
+pub use tables::FAR;
+
 use crate::cases::Case;
 use crate::rng::Rng;
 

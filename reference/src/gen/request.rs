@@ -1,7 +1,7 @@
 //! A request as its maker thinks of it, and its bytes.
 
 use crate::kinds::{Kind, APPLICATION, AUTH_APPLICATION_ID, VENDOR, VENDOR_ID};
-use crate::message::{M, V};
+use crate::message::{padded, M, V};
 use crate::rng::Rng;
 
 /// One AVP; it may lie about its length.
@@ -61,7 +61,7 @@ impl Piece {
     }
 
     pub fn padded(&self) -> usize {
-        self.length().next_multiple_of(4)
+        padded(self.length())
     }
 
     pub fn encode(&self, to: &mut Vec<u8>) {

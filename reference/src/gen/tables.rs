@@ -10,7 +10,7 @@ use crate::cases::{Case, Entry};
 use crate::rng::Rng;
 use crate::table::{
     BARRED, LONGEST_HOST, LONGEST_IDENTITY, LONGEST_PROFILE, LONGEST_SERVER_NAME, MOST_CAPABILITIES, MOST_NETWORKS,
-    NOT_REGISTERED, PENDING, UNREGISTERED_SERVICES,
+    MOST_RECORDS, NOT_REGISTERED, PENDING, UNREGISTERED_SERVICES,
 };
 
 /// A sound table with its profile file.
@@ -19,13 +19,17 @@ pub struct Sound {
     pub profile: Vec<u8>,
 }
 
+/// Past what 16 bits can say.
+pub const FAR: usize = 65_536;
+
 /// A case of the table check: a sound table, or one damaged in one place, now and then in two.
 pub fn case(rng: &mut Rng) -> Made {
-    let (size, mut notes) = match rng.below(2000) {
-        0 => (4096, vec!["4,096 records"]),
-        1..=10 => (300, vec!["300 records"]),
-        _ => (rng.below(13), vec![]),
+    let size = match rng.below(2000) {
+        0 => MOST_RECORDS as usize,
+        1..=6 => many(rng),
+        _ => rng.below(13),
     };
+    let mut notes = vec![];
     let sound = sound(rng, size);
     let mut subject = damage::Subject { bytes: sound.model.encode(), profile: sound.profile, model: sound.model };
     let mut damaged = None;
@@ -42,13 +46,21 @@ pub fn case(rng: &mut Rng) -> Made {
     }
     let case = Case {
         entry: Entry::Check,
-        fill: rng.byte(),
+        noise_from: rng.byte(),
         request: vec![],
         table: subject.bytes,
         profile: subject.profile,
-        buffer: 0,
+        buffer_length: 0,
     };
     Made { case, notes, damaged }
+}
+
+/// A number of records from 13 to 4,096: each power of 2 as often as another, and as often as not the power itself or
+/// one beside it, where a look-up by halving would go wrong first.
+pub fn many(rng: &mut Rng) -> usize {
+    let power = 1 << rng.between(4, 12);
+    let many = if rng.coin() { power - 1 + rng.below(3) } else { rng.between(power / 2, power) };
+    many.clamp(13, MOST_RECORDS as usize)
 }
 
 /// A sound table of so many records.
@@ -76,6 +88,10 @@ pub fn sound(rng: &mut Rng, records: usize) -> Sound {
 }
 
 fn profile(rng: &mut Rng) -> Vec<u8> {
+    if rng.once_in(200) {
+        let length = rng.between(FAR - 1, 2 * FAR + LONGEST_PROFILE);
+        return rng.bytes(length);
+    }
     let length = match rng.below(40) {
         0 => LONGEST_PROFILE + rng.below(3) - 1,
         1 => 2 * LONGEST_PROFILE,
@@ -166,11 +182,12 @@ fn capabilities(rng: &mut Rng) -> Vec<u32> {
 }
 
 /// A part within the profile file, at its edges as often as not.
-fn profile_part(rng: &mut Rng, file: usize) -> (u32, u16) {
+pub fn profile_part(rng: &mut Rng, file: usize) -> (u32, u16) {
     let start = match rng.below(6) {
         0 => 0,
         1 => file,
         2 => file - rng.below(2).min(file),
+        _ if file > FAR && rng.coin() => rng.between(FAR, file),
         _ => rng.below(file + 1),
     };
     let longest = (file - start).min(LONGEST_PROFILE);

@@ -60,7 +60,7 @@ pub fn avp(code: u32, data: &[u8]) -> Vec<u8> {
         out.extend(10415u32.to_be_bytes());
     }
     out.extend(data);
-    out.resize(out.len().next_multiple_of(4), 0);
+    out.resize((out.len() + 3) / 4 * 4, 0);
     out
 }
 

@@ -1,0 +1,30 @@
+//! LIR.
+
+use super::Code::{Base, Experimental};
+use super::{by_public, first_server_name, user_unknown, Verdict};
+use crate::read::Request;
+use crate::slip::{Fault, Slip};
+use crate::table::{Table, BARRED, NOT_REGISTERED, UNREGISTERED_SERVICES};
+
+pub fn location_info<'a>(request: &Request<'a>, table: Table<'a>, slip: Slip) -> Verdict<'a> {
+    let record = match by_public(table, request.identities[0].data) {
+        Some((_, record)) => record,
+        None => return Verdict::of(user_unknown(slip)),
+    };
+    if slip.is(Fault::BarredNotLocated) && record.has(BARRED) {
+        return Verdict::of(Base(5003));
+    }
+    if record.state() != NOT_REGISTERED {
+        if record.server_name().is_empty() {
+            return Verdict::of(Base(5012));
+        }
+        return Verdict::of(Base(2001)).with_server_name(record.server_name());
+    }
+    if !record.has(UNREGISTERED_SERVICES) && !slip.is(Fault::UnregisteredServicesNotAsked) {
+        return Verdict::of(Experimental(5003));
+    }
+    match first_server_name(table, record, slip) {
+        Some(name) if !slip.is(Fault::LocationByOwnNameAlone) => Verdict::of(Base(2001)).with_server_name(name),
+        _ => Verdict::of(Experimental(2003)).with_capabilities(record),
+    }
+}

@@ -1,0 +1,129 @@
+//! Cases of the decision: a request, right or twisted, over a table, sound or damaged.
+
+mod long;
+mod mixed;
+mod refused;
+
+use super::asks;
+use super::request::RequestModel;
+use super::tables::{self, Sound};
+use super::twists;
+use super::Made;
+use crate::cases::{Case, Entry};
+use crate::rng::Rng;
+use crate::serve::LEAST_BUFFER;
+
+pub use mixed::NOTES as MIXED;
+
+/// A case in the making.
+struct Call {
+    sound: Sound,
+    request: RequestModel,
+    buffer_length: usize,
+    notes: Vec<&'static str>,
+}
+
+pub fn case(rng: &mut Rng) -> Made {
+    if rng.once_in(2000) {
+        return long::table(rng);
+    }
+    match rng.below(200) {
+        0..=3 => long::identities(rng),
+        4..=7 => long::request(rng),
+        8..=10 => long::faulty_avp(rng),
+        11..=18 => long::user_data(rng),
+        19..=22 => refused::several(rng),
+        23..=25 => refused::short(rng),
+        26 => refused::overlong(rng),
+        27..=34 => refused::damaged(rng),
+        35..=38 => refused::buffers(rng),
+        39..=40 => noise(rng),
+        41..=46 => flipped(rng),
+        47..=52 => mixed::case(rng),
+        _ => plain(rng),
+    }
+}
+
+/// A request with up to 3 twists over a sound table.
+fn plain(rng: &mut Rng) -> Made {
+    let mut call = right(rng);
+    let twists = match rng.below(20) {
+        0..=8 => 0,
+        9..=15 => 1,
+        16..=18 => 2,
+        _ => 3,
+    };
+    for _ in 0..twists {
+        call.notes.push(twists::twist_once(rng, &mut call.request));
+    }
+    call.finish(rng)
+}
+
+/// A right request over a table of few records, now and then of many or none.
+fn right(rng: &mut Rng) -> Call {
+    let size = match rng.below(1000) {
+        0..=5 => tables::many(rng),
+        6..=33 => 0,
+        _ => rng.between(1, 12),
+    };
+    right_over(rng, size)
+}
+
+fn right_over(rng: &mut Rng, records: usize) -> Call {
+    let mut sound = tables::sound(rng, records);
+    let request = asks::any(rng, &mut sound.model);
+    Call::new(sound, request)
+}
+
+impl Call {
+    fn new(sound: Sound, request: RequestModel) -> Call {
+        Call { sound, request, buffer_length: LEAST_BUFFER, notes: vec![] }
+    }
+
+    fn noted(mut self, note: &'static str) -> Call {
+        self.notes.push(note);
+        self
+    }
+
+    fn finish(self, rng: &mut Rng) -> Made {
+        let bytes = self.request.encode();
+        self.with_request(rng, bytes)
+    }
+
+    fn with_request(self, rng: &mut Rng, request: Vec<u8>) -> Made {
+        let case = Case {
+            entry: Entry::Decide,
+            noise_from: rng.byte(),
+            request,
+            table: self.sound.model.encode(),
+            profile: self.sound.profile,
+            buffer_length: self.buffer_length,
+        };
+        Made { case, notes: self.notes, damaged: None }
+    }
+}
+
+/// A sound header, and anything after it.
+fn noise(rng: &mut Rng) -> Made {
+    let mut call = right(rng).noted("noise");
+    call.request.pieces.truncate(rng.below(3));
+    let length = 4 * rng.below(20);
+    // Small bytes: lengths and codes then have a chance to be sound.
+    call.request.tail = (0..length).map(|_| if rng.coin() { 0 } else { rng.byte() }).collect();
+    call.finish(rng)
+}
+
+/// Some bytes of a right request turned into others.
+fn flipped(rng: &mut Rng) -> Made {
+    let call = right(rng).noted("bytes turned");
+    let mut bytes = call.request.encode();
+    for _ in 0..rng.between(1, 3) {
+        let at = rng.below(bytes.len());
+        bytes[at] = match rng.below(3) {
+            0 => bytes[at] ^ 1 << rng.below(8),
+            1 => 0,
+            _ => rng.byte(),
+        };
+    }
+    call.with_request(rng, bytes)
+}

@@ -1,0 +1,100 @@
+//! Calls that are refused, or only just not.
+
+use super::{right, right_over, Call};
+use crate::gen::damage;
+use crate::gen::tables::FAR;
+use crate::gen::twists;
+use crate::gen::Made;
+use crate::message::{HEADER, R};
+use crate::rng::Rng;
+use crate::serve::{LEAST_BUFFER, MOST_REQUEST};
+
+/// Several reasons to refuse at once: the first in order counts.
+pub fn several(rng: &mut Rng) -> Made {
+    let mut call = right(rng).noted("several refusals");
+    let mut why = [false; 5];
+    for it in &mut why {
+        *it = rng.coin();
+    }
+    if why[0] {
+        call.buffer_length = *rng.pick(&[0, 20, LEAST_BUFFER - 1]);
+    }
+    if why[3] {
+        call.request.flags &= !R;
+    }
+    let true_length = call.request.length() as u32;
+    if why[2] {
+        call.request.told_length = Some(*rng.pick(&[20, true_length + 4, true_length ^ 1]));
+    }
+    let mut bytes = call.request.encode();
+    if why[1] {
+        match rng.below(4) {
+            0 => bytes.truncate(rng.below(HEADER)),
+            1 => bytes.truncate(HEADER - 1),
+            2 => bytes.resize(FAR + true_length as usize, 0),
+            _ => bytes.resize(MOST_REQUEST + *rng.pick(&[1, 4]), 0),
+        }
+        if !why[2] && bytes.len() >= 4 {
+            let length = bytes.len() as u32;
+            bytes[1..4].copy_from_slice(&length.to_be_bytes()[1..]);
+        }
+    }
+    if why[4] {
+        return damage_table(rng, call, bytes);
+    }
+    call.with_request(rng, bytes)
+}
+
+/// Over 65,536 bytes, and in 16 bits the length of a request that would be answered.
+pub fn overlong(rng: &mut Rng) -> Made {
+    let records = rng.between(4, 12);
+    let call = right_over(rng, records).noted("over 65,536 bytes");
+    let mut bytes = call.request.encode();
+    bytes.resize(bytes.len() + FAR * rng.between(1, 2), 0);
+    if rng.coin() {
+        let length = bytes.len() as u32;
+        bytes[1..4].copy_from_slice(&length.to_be_bytes()[1..]);
+    }
+    call.with_request(rng, bytes)
+}
+
+/// Requests of no, few or 20 bytes and a little more.
+pub fn short(rng: &mut Rng) -> Made {
+    let call = right(rng).noted("about 20 bytes");
+    let length = if rng.coin() { rng.between(16, 32) } else { rng.below(20) };
+    let mut bytes = call.request.encode();
+    bytes.truncate(length);
+    if rng.below(4) > 0 && length >= 4 {
+        bytes[1..4].copy_from_slice(&(length as u32).to_be_bytes()[1..]);
+    }
+    call.with_request(rng, bytes)
+}
+
+pub fn buffers(rng: &mut Rng) -> Made {
+    let mut call = right(rng).noted("another buffer");
+    call.buffer_length =
+        *rng.pick(&[0, 1, LEAST_BUFFER - 4, LEAST_BUFFER - 1, LEAST_BUFFER - 1, LEAST_BUFFER + 1, 40_000, 65_536]);
+    call.finish(rng)
+}
+
+/// A damaged table under a request that would be answered, also under one that needs no record.
+pub fn damaged(rng: &mut Rng) -> Made {
+    let mut call = right(rng).noted("damaged table");
+    if rng.once_in(3) {
+        call.notes.push(twists::twist_once(rng, &mut call.request));
+    }
+    let bytes = call.request.encode();
+    damage_table(rng, call, bytes)
+}
+
+fn damage_table(rng: &mut Rng, mut call: Call, request: Vec<u8>) -> Made {
+    let model = call.sound.model.clone();
+    let profile = std::mem::take(&mut call.sound.profile);
+    let mut subject = damage::Subject { bytes: model.encode(), profile, model };
+    let damaged = damage::damage(rng, &mut subject, &mut call.notes);
+    let mut made = call.with_request(rng, request);
+    made.case.table = subject.bytes;
+    made.case.profile = subject.profile;
+    made.damaged = damaged;
+    made
+}

@@ -1,0 +1,152 @@
+//! Twists of content: the kinds that are judged, 260 and its members, Proxy-Info.
+
+use super::kinds::proxy_info;
+use super::{always, if_it_fits, one_avp, Twist};
+use crate::gen::request::{application, member, RequestModel};
+use crate::kinds::{Kind, APPLICATION, AUTH_APPLICATION_ID, KINDS, VENDOR, VENDOR_ID};
+use crate::message::{M, V};
+use crate::rng::Rng;
+
+pub const TWISTS: &[Twist] = &[
+    if_it_fits("a 4-byte kind of another length", 6, |rng, r| {
+        let at = some_of(rng, r, Kind::is_four_bytes)?;
+        let length = *rng.pick(&[0, 1, 2, 3, 5, 7, 8, 12]);
+        r.pieces[at].data.resize(length, 0);
+        Some(())
+    }),
+    if_it_fits("a 4-byte kind of another value", 8, |rng, r| {
+        let at = some_of(rng, r, Kind::is_four_bytes)?;
+        let value = *rng.pick(&[0, 1, 2, 3, 11, 12, 256, 257, 1 << 24, 1 << 24 | 1, 0xFFFF_FFFF]);
+        r.pieces[at].data = u32::to_be_bytes(value).to_vec();
+        Some(())
+    }),
+    if_it_fits("Server-Name of another length", 5, |rng, r| {
+        let at = r.place(Kind::ServerName)?;
+        let length = *rng.pick(&[0, 1, 95, 96, 97, 98, 200, 352]);
+        r.pieces[at].data.resize(length, b's');
+        Some(())
+    }),
+    if_it_fits("260: its members", 14, |rng, r| {
+        let at = r.place(Kind::VendorSpecificApplicationId)?;
+        r.pieces[at].data = broken_application(rng);
+        Some(())
+    }),
+    always("Proxy-Infos", 4, |rng, r| {
+        for _ in 0..rng.between(1, 4) {
+            let piece = proxy_info(rng);
+            r.insert(rng, piece);
+        }
+    }),
+    always("Proxy-Info with reserved flags", 4, |rng, r| {
+        let mut piece = proxy_info(rng);
+        piece.flags |= 1 << rng.below(5);
+        r.insert(rng, piece);
+    }),
+    always("284 with V", 2, |rng, r| {
+        let mut piece = proxy_info(rng);
+        piece.flags = V | if rng.coin() { M } else { 0 };
+        piece.vendor = *rng.pick(&[0, VENDOR]);
+        r.insert(rng, piece);
+    }),
+    always("Proxy-Info at its length's fault", 2, |rng, r| {
+        for _ in 0..2 {
+            let piece = proxy_info(rng);
+            r.insert(rng, piece);
+        }
+        if let Some(at) = r.place(Kind::ProxyInfo) {
+            r.pieces[at].told_length = Some(rng.below(8) as u32);
+        }
+    }),
+    one_avp("any content", 3, |rng, r, at| {
+        let length = rng.below(40);
+        r.pieces[at].data = rng.bytes(length);
+    }),
+];
+
+fn some_of(rng: &mut Rng, request: &RequestModel, wanted: fn(Kind) -> bool) -> Option<usize> {
+    let places: Vec<usize> =
+        KINDS.iter().copied().filter(|kind| wanted(*kind)).filter_map(|kind| request.place(kind)).collect();
+    (!places.is_empty()).then(|| *rng.pick(&places))
+}
+
+/// 260 broken in one way, or in a way that only looks so.
+fn broken_application(rng: &mut Rng) -> Vec<u8> {
+    let vendor = member(VENDOR_ID, M, VENDOR);
+    let auth = member(AUTH_APPLICATION_ID, M, APPLICATION);
+    let join = |members: &[&[u8]]| members.concat();
+    match rng.below(22) {
+        0 => vec![],
+        1 => vendor,
+        2 => auth,
+        3 => join(&[&vendor, &vendor]),
+        4 => join(&[&vendor, &auth, &auth]),
+        5 => join(&[&auth, &vendor, &vendor]),
+        6 => join(&[&vendor, &member(VENDOR_ID, M, *rng.pick(&[0, 50, VENDOR + 1])), &auth]),
+        7 => join(&[&member(VENDOR_ID, M, *rng.pick(&[0, 50])), &auth]),
+        8 => join(&[&vendor, &member(AUTH_APPLICATION_ID, M, *rng.pick(&[0, 1, APPLICATION + 1]))]),
+        9 => join(&[&vendor, &auth, &member(*rng.pick(&[259, 263, 1, 268]), M, APPLICATION)]),
+        10 | 19 | 20 => {
+            // A member with V, of length 12 or 16.
+            let mut with_v = member(VENDOR_ID, V | M, VENDOR);
+            if rng.coin() {
+                with_v[7] = 16;
+                with_v.splice(8..8, [0, 0, 0, 0]);
+            }
+            if rng.coin() {
+                with_v[8..12].copy_from_slice(&VENDOR.to_be_bytes());
+            }
+            join(&[&vendor, &with_v, &auth])
+        }
+        11 => {
+            let flags = M | 1 << rng.below(5);
+            match rng.coin() {
+                true => join(&[&member(VENDOR_ID, flags, VENDOR), &auth]),
+                false => join(&[&vendor, &member(AUTH_APPLICATION_ID, flags, APPLICATION)]),
+            }
+        }
+        12 => {
+            let mut data = join(&[&vendor, &auth]);
+            let more = *rng.pick(&[1, 2, 3, 4, 7, 8]);
+            data.extend(rng.bytes(more));
+            data
+        }
+        13 => {
+            let mut data = join(&[&vendor, &auth]);
+            data.truncate(24 - rng.between(1, 11));
+            data
+        }
+        14 | 15 => {
+            // One member's length is another: the last one's past the end, or too small, or of 5 to 8 bytes.
+            let mut data = if rng.coin() { join(&[&vendor, &auth]) } else { join(&[&auth, &vendor]) };
+            let at = if rng.coin() { 7 } else { 19 };
+            data[at] = *rng.pick(&[0, 7, 8, 11, 13, 14, 16, 24, 25]);
+            if rng.coin() {
+                data.extend([0; 4]);
+            }
+            data
+        }
+        16 => {
+            // A member of 5 bytes whose padding is whole, cut or missing.
+            let mut data = join(&[&vendor, &auth]);
+            data[19] = 13;
+            let more = rng.between(1, 4);
+            data.extend(vec![0; more]);
+            data
+        }
+        17 => {
+            let mut data = join(&[&vendor, &auth]);
+            let at = rng.below(data.len());
+            data[at] ^= 1 << rng.below(8);
+            data
+        }
+        18 => {
+            let count = rng.between(2, 60);
+            let mut data = auth;
+            for _ in 0..count {
+                data.extend(&vendor);
+            }
+            data
+        }
+        _ => application(rng),
+    }
+}

@@ -1,0 +1,216 @@
+//! Histograms of a stream of cases: what was done to get them, and what came of them.
+
+mod required;
+
+use std::collections::BTreeMap;
+use std::ops::Range;
+
+use crate::cases::{Case, Outcome};
+use crate::decide::{Code, Decision};
+use crate::gen::{self, Made, Stream, FAR};
+use crate::kinds::{Command, Kind, EXPERIMENTAL_RESULT, FAILED_AVP, RESULT_CODE, SERVER_CAPABILITIES, USER_DATA};
+use crate::message::{sound_avps, Message};
+use crate::serve::Why;
+use crate::slip::Slip;
+use crate::table::{word_at, BLOCK, LONGEST_PROFILE};
+
+#[derive(Default)]
+pub struct Histogram {
+    rows: BTreeMap<String, u64>,
+    cases: u64,
+}
+
+impl Histogram {
+    pub fn count(&mut self, stream: Stream, made: &Made, outcome: &Outcome, why: &Why) {
+        self.cases += 1;
+        match (stream, why) {
+            (Stream::Tables, Why::Checked(found)) => self.count_table(made, *found),
+            _ => self.count_call(made, outcome, why),
+        }
+    }
+
+    fn add(&mut self, row: String) {
+        *self.rows.entry(row).or_insert(0) += 1;
+    }
+
+    fn count_table(&mut self, made: &Made, found: Result<u32, u32>) {
+        let outcome = match (found, made.damaged) {
+            (Ok(_), _) => "sound",
+            (Err(0), Some(0)) => "block 0, which was damaged",
+            (Err(0), _) => "block 0",
+            (Err(block), Some(damaged)) if block as usize == damaged => "the damaged block",
+            (Err(block), Some(damaged)) if block as usize == damaged + 1 => "the block after the damaged one",
+            (Err(_), Some(_)) => "another block",
+            (Err(_), None) => "a record",
+        };
+        if let Ok(records) = found {
+            self.add(format!("sound table of {} records", size(records as usize)));
+            if made.case.profile.len() > FAR {
+                self.add("sound table, profile over 65,536 bytes".to_string());
+            }
+        }
+        let twice = made.notes.contains(&"a second damage");
+        let mended = if made.notes.contains(&"mended") { ", mended" } else { "" };
+        for note in made.notes.iter().filter(|note| note.contains(':') && !twice) {
+            self.add(format!("{note}{mended} -> {outcome}"));
+        }
+        self.add(format!("all -> {outcome}"));
+    }
+
+    fn count_call(&mut self, made: &Made, outcome: &Outcome, why: &Why) {
+        for note in &made.notes {
+            self.add(format!("made by: {note}"));
+        }
+        let row = match why {
+            Why::Checked(_) => return,
+            Why::Refused(number) => format!("refused {number}"),
+            Why::Header(code) => format!("header: B{code}"),
+            Why::Rule(letter, what) => format!("rule ({letter}): {what}"),
+            Why::Missing(kind) => format!("missing: {}", kind.name()),
+            Why::Decided(decision) => {
+                self.add(format!("decided over {} records", size(made.case.table.len() / BLOCK - 1)));
+                self.decision(decision)
+            }
+        };
+        self.add(row);
+        match made.case.request.len() {
+            16_384 => self.add("request: 16,384 bytes".to_string()),
+            length if length > FAR => self.add("request: over 65,536 bytes".to_string()),
+            _ => {}
+        }
+        if outcome.parts().0 == 0 {
+            self.count_answer(&made.case, outcome, why);
+        }
+    }
+
+    fn decision(&mut self, decision: &Decision) -> String {
+        let result = decision.result.map_or(String::new(), code_name);
+        let state = match decision.state {
+            Some(state) => format!("state {state}"),
+            None => "no record".to_string(),
+        };
+        match decision.command {
+            Some(Command::UserAuthorization) => format!("UAR: type {}, {state}: {result}", decision.asked_type),
+            Some(Command::LocationInfo) => format!("LIR: {state}: {result}"),
+            _ => {
+                let many = if decision.records > 1 { "many" } else { "one or none" };
+                self.add(format!("SAR of {many}: {result}"));
+                let (asked, keep) = (decision.asked_type, decision.keep as u8);
+                format!("SAR: type {asked:2}, {state}, keep {keep}: {result}")
+            }
+        }
+    }
+
+    fn count_answer(&mut self, case: &Case, outcome: &Outcome, why: &Why) {
+        let mut buffer = case.buffer_before();
+        outcome.buffer.apply(&mut buffer);
+        let answer = &buffer[..outcome.parts().2 as usize];
+        let avps = sound_avps(Message(answer).avps(), Slip::NONE);
+        self.add(format!("result: {}", code_name(result_of(answer))));
+        let copies = avps.iter().filter(|avp| avp.code == Kind::ProxyInfo.code()).count();
+        if copies > 0 {
+            self.add(format!("answer: {} Proxy-Info", if copies > 1 { "2 or more" } else { "1" }));
+        }
+        if avps.iter().all(|avp| avp.code != Kind::SessionId.code()) {
+            self.add("answer: no Session-Id".to_string());
+        }
+        for avp in &avps {
+            match avp.code {
+                SERVER_CAPABILITIES => self.add("answer: Server-Capabilities".to_string()),
+                USER_DATA => {
+                    self.add("answer: User-Data".to_string());
+                    if avp.data.len() == LONGEST_PROFILE {
+                        self.add("answer: User-Data of 4,096".to_string());
+                    }
+                    if matches!(why, Why::Decided(decision) if decision.profile_start >= FAR) {
+                        self.add("answer: User-Data from past 65,536".to_string());
+                    }
+                }
+                1 => self.add("answer: User-Name".to_string()),
+                602 => self.add("answer: Server-Name".to_string()),
+                FAILED_AVP if avp.data.is_empty() => self.add("answer: Failed-AVP without data".to_string()),
+                FAILED_AVP => {
+                    self.add("answer: Failed-AVP".to_string());
+                    if copies > 0 && avp.data.starts_with(&Kind::ProxyInfo.code().to_be_bytes()) {
+                        self.add("answer: Failed-AVP with a Proxy-Info".to_string());
+                    }
+                }
+                _ => {}
+            }
+        }
+        if !outcome.table.bytes.is_empty() {
+            self.add("answer: records rewritten".to_string());
+        }
+        for (least, row) in [(16_384, "answer: over 16,384 bytes"), (32_000, "answer: over 32,000 bytes")] {
+            if answer.len() > least {
+                self.add(row.to_string());
+            }
+        }
+    }
+
+    /// Rows that must be there, with their least count, and have fewer cases.
+    pub fn thin_rows(&self, stream: Stream) -> Vec<String> {
+        let mut thin = Vec::new();
+        for (wanted, one_in) in required::rows(stream) {
+            let count: u64 = self.rows.iter().filter(|(row, _)| row.starts_with(&wanted)).map(|(_, count)| count).sum();
+            let least = (self.cases / one_in).max(1);
+            if count < least {
+                thin.push(format!("{wanted}: {count} of {least}"));
+            }
+        }
+        thin
+    }
+
+    pub fn print(&self) {
+        for (row, count) in &self.rows {
+            println!("{count:9} {:8.3}%  {row}", *count as f64 * 100.0 / self.cases as f64);
+        }
+        println!("{:9} cases", self.cases);
+    }
+}
+
+/// How many records, in few classes.
+fn size(records: usize) -> String {
+    match records {
+        0..=2 => records.to_string(),
+        3..=12 => "3 to 12".to_string(),
+        13..=255 => "13 to 255".to_string(),
+        256..=4095 => "256 to 4,095".to_string(),
+        _ => "4,096".to_string(),
+    }
+}
+
+pub fn code_name(code: Code) -> String {
+    match code {
+        Code::Base(code) => format!("B{code}"),
+        Code::Experimental(code) => format!("X{code}"),
+    }
+}
+
+/// The result of an answer.
+pub fn result_of(answer: &[u8]) -> Code {
+    for avp in sound_avps(Message(answer).avps(), Slip::NONE) {
+        match avp.code {
+            RESULT_CODE => return Code::Base(word_at(avp.data, 0)),
+            EXPERIMENTAL_RESULT => return Code::Experimental(word_at(avp.data, 20)),
+            _ => {}
+        }
+    }
+    Code::Base(0)
+}
+
+/// Counts the cases of a stream, prints the histogram, and says whether every required row has enough cases.
+pub fn stats(stream: Stream, seed: u64, numbers: Range<u64>) -> bool {
+    let mut histogram = Histogram::default();
+    for number in numbers {
+        let made = gen::make(stream, seed, number);
+        let (outcome, why) = made.case.outcome_and_why(Slip::NONE);
+        histogram.count(stream, &made, &outcome, &why);
+    }
+    histogram.print();
+    let thin = histogram.thin_rows(stream);
+    for row in &thin {
+        println!("too few: {row}");
+    }
+    thin.is_empty()
+}

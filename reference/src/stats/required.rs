@@ -1,0 +1,160 @@
+//! The rows that a histogram must have.
+
+use crate::gen::damage::damages;
+use crate::gen::twists::twists;
+use crate::gen::{Stream, MIXED};
+use crate::kinds::{needed, Command, Kind, COMMANDS, KINDS};
+
+/// A row has at least one case in so many; where a stream is short, at least one.
+const ONE_IN: u64 = 1000;
+
+/// How each row begins, and in how many cases there is to be one.
+pub fn rows(stream: Stream) -> Vec<(String, u64)> {
+    match stream {
+        Stream::Tables => of_tables(),
+        Stream::Calls => of_calls(),
+    }
+}
+
+fn of_tables() -> Vec<(String, u64)> {
+    let mut wanted = Vec::new();
+    for size in ["0", "1", "2", "3 to 12"] {
+        wanted.push((format!("sound table of {size} records"), ONE_IN));
+    }
+    for size in ["13 to 255", "256 to 4,095", "4,096"] {
+        wanted.push((format!("sound table of {size} records"), 20 * ONE_IN));
+    }
+    wanted.push(("sound table, profile over 65,536 bytes".to_string(), 2 * ONE_IN));
+    for outcome in ["sound", "block 0", "the damaged block", "the block after the damaged one"] {
+        wanted.push((format!("all -> {outcome}"), ONE_IN));
+    }
+    for damage in damages() {
+        let one_in = if damage.name.contains("over 4,096 records") { 10 * ONE_IN } else { ONE_IN };
+        wanted.push((damage.name.to_string(), one_in));
+    }
+    wanted
+}
+
+fn of_calls() -> Vec<(String, u64)> {
+    let mut wanted = Vec::new();
+    wanted.extend((1..=5).map(|number| format!("refused {number}")));
+    wanted.extend([5011, 3008, 3001, 3007].map(|code| format!("header: B{code}")));
+    rules(&mut wanted);
+    missing(&mut wanted);
+    results(&mut wanted);
+    authorizations_and_locations(&mut wanted);
+    assignments(&mut wanted);
+    answers(&mut wanted);
+    wanted.push("request: 16,384 bytes".to_string());
+    wanted.push("request: over 65,536 bytes".to_string());
+    wanted.extend(twists().map(|twist| twist.name).chain(MIXED).map(|name| format!("made by: {name}")));
+    let mut rows: Vec<(String, u64)> = wanted.into_iter().map(|row| (row, ONE_IN)).collect();
+    for size in ["13 to 255", "256 to 4,095", "4,096"] {
+        rows.push((format!("decided over {size} records"), 5 * ONE_IN));
+    }
+    rows
+}
+
+fn rules(wanted: &mut Vec<String>) {
+    for what in ["with V", "without V", "header cut off"] {
+        wanted.push(format!("rule (a): {what}"));
+    }
+    for rule in ['b', 'c', 'd'] {
+        wanted.push(format!("rule ({rule})"));
+    }
+    for kind in KINDS {
+        let once_somewhere = !kind.may_repeat_in(Command::UserAuthorization);
+        if once_somewhere {
+            wanted.push(format!("rule (f): {}", kind.name()));
+        }
+        if kind.is_four_bytes() {
+            wanted.push(format!("rule (g): {}", kind.name()));
+            wanted.push(format!("rule (h): {}", kind.name()));
+        }
+    }
+    for kind in [Kind::ServerName, Kind::VendorSpecificApplicationId] {
+        wanted.push(format!("rule (h): {}", kind.name()));
+    }
+}
+
+fn missing(wanted: &mut Vec<String>) {
+    for command in COMMANDS {
+        // A missing Session-Id is rule (b), unless there are no AVPs.
+        for kind in needed(command).into_iter().skip(1) {
+            wanted.push(format!("missing: {}", kind.name()));
+        }
+    }
+}
+
+fn results(wanted: &mut Vec<String>) {
+    for code in [2001, 3001, 3007, 3008, 3009, 5001, 5003, 5004, 5005, 5009, 5011, 5012, 5014] {
+        wanted.push(format!("result: B{code}"));
+    }
+    for code in [2001, 2002, 2003, 2004, 5001, 5002, 5003, 5004, 5005, 5007] {
+        wanted.push(format!("result: X{code}"));
+    }
+}
+
+fn authorizations_and_locations(wanted: &mut Vec<String>) {
+    for (asked_type, state, result) in [
+        (0, 0, "X2001"),
+        (0, 0, "X2002"),
+        (0, 1, "X2002"),
+        (0, 2, "X2002"),
+        (0, 1, "X5004"),
+        (1, 0, "X5003"),
+        (1, 1, "B2001"),
+        (1, 2, "B2001"),
+        (2, 0, "B2001"),
+        (2, 1, "B2001"),
+        (2, 2, "B2001"),
+        (2, 1, "X5004"),
+    ] {
+        wanted.push(format!("UAR: type {asked_type}, state {state}: {result}"));
+    }
+    for (state, result) in [(0, "X5003"), (0, "B2001"), (0, "X2003"), (1, "B2001"), (2, "B2001")] {
+        wanted.push(format!("LIR: state {state}: {result}"));
+    }
+}
+
+fn assignments(wanted: &mut Vec<String>) {
+    for asked_type in 0..=11 {
+        for state in 0..=2 {
+            for keep in 0..=1 {
+                let result = match (asked_type, state) {
+                    (2, 0 | 2) | (3, 1) | (4..=8 | 11, 0) => "X5007",
+                    (6 | 7, _) if keep == 0 => "X2004",
+                    (0, 0) => "B5012",
+                    _ => "B2001",
+                };
+                wanted.push(format!("SAR: type {asked_type:2}, state {state}, keep {keep}: {result}"));
+            }
+        }
+        wanted.push(format!("SAR: type {asked_type:2}, no record, keep"));
+    }
+    for result in ["B2001", "X2004", "X5002", "X5005", "X5007"] {
+        wanted.push(format!("SAR of many: {result}"));
+    }
+}
+
+fn answers(wanted: &mut Vec<String>) {
+    for what in [
+        "no Session-Id",
+        "1 Proxy-Info",
+        "2 or more Proxy-Info",
+        "Server-Capabilities",
+        "User-Name",
+        "Server-Name",
+        "User-Data",
+        "User-Data of 4,096",
+        "User-Data from past 65,536",
+        "Failed-AVP",
+        "Failed-AVP without data",
+        "Failed-AVP with a Proxy-Info",
+        "records rewritten",
+        "over 16,384 bytes",
+        "over 32,000 bytes",
+    ] {
+        wanted.push(format!("answer: {what}"));
+    }
+}
