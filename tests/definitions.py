@@ -76,15 +76,17 @@ def record(case):
 
 
 def opened():
-    """The `use` lines of the worked examples, and those of the names that they open which these lines bring."""
-    text = open('crates/worked/proofs/Examples.antt').read()
+    """The `use` lines of what the worked examples share, and those of the names that they open which these lines bring."""
+    text = open('crates/worked/proofs/Sample.antt').read()
     uses = re.findall(r'^use .*', text, re.MULTILINE)
     brought = set(re.findall(r'[^\s{},]+', ' '.join(use[use.index('{'):] for use in uses)))
-    names = re.search(r'^opened : ℕ\nunfolding (.*?)^opened = ', text, re.MULTILINE | re.DOTALL).group(1).split()
+    names = re.search(r'^unfoldable pub opened : ℕ\nunfolding (.*?)^opened = ', text, re.MULTILINE | re.DOTALL).group(1).split()
     return uses, [name for name in names if name in brought]
 
 
 CASES = '''%s
+use mathlib.Core.Path.{_≡_}
+use Rattle.ndushavire.specs.Word.{callIn}
 
 -- all that the cases open
 unfoldable pub opened : ℕ
@@ -105,7 +107,7 @@ pub record Case : Type 0 where
 abbrev pub Agrees : Case → Type 0
 Agrees c =
     serve (c .request) (c .table) (c .profile) (replicate (c .room) 0)
-    ≡ record { word = c .word; table = sets (c .table) (c .at) (c .changed); buffer = over (c .answer) (replicate (c .room) 0) }
+    ≡ record { call = callIn (c .word); table = sets (c .table) (c .at) (c .changed); buffer = over (c .answer) (replicate (c .room) 0) }
 
 abbrev pub Agree : List Case → Type 0
 Agree [] = Unit
