@@ -16,7 +16,7 @@ use Rattle.octets.specs.Sum.{sumWords}
 use Rattle.octets.proofs.Runs.{zero-at}
 use Rattle.record.specs.HeaderBlock.{headerOf, soundTop, soundCounts, soundNumbers, soundRest, soundHeader}
 use Rattle.record.specs.Networks.{soundNetworks}
-use Rattle.record.specs.Fields.{privateOf, serverOf, stateOf, barred, unregisteredServices}
+use Rattle.record.specs.Fields.{privateOf, serverOf, mandatoryOf, optionalOf, profileOf, stateOf, barred, unregisteredServices}
 use Rattle.table.specs.Blocks.{blockOf, privateAt}
 use Rattle.lookup.specs.Find.{isAt, publicIs, findPublic, findPrivate, findServer}
 use Rattle.lookup.proofs.Chains.{chain-says}
@@ -37,7 +37,7 @@ use Rattle.reading.specs.declared.Outcome.the-variants.{Base, Experimental}
 use Rattle.reading.specs.declared.Ruled.{Ruled}
 use Rattle.reading.specs.declared.Ruled.the-variants.{Taken, Skipped, Fault}
 use Rattle.decisions.specs.Types.{groupOf, isRemoval, effectOf}
-use Rattle.decisions.specs.Reply.{Reply, plain, failing, serving, served, mandatoryOf, optionalOf, capable, servedBy, profileOf}
+use Rattle.decisions.specs.Reply.{Reply, plain, failing, serving, served, capable, servedBy}
 use Rattle.decisions.specs.Authorization.{mayRoam, authorizeRecord, authorizeFound, authorize}
 use Rattle.decisions.specs.Location.{locateRecord, locateFound, locate}
 use Rattle.decisions.specs.Assignment.{Decision, Assignment, identityFault, every, isEmpty, firstOf, ownerOf, ownAt, storesAt, fitsAt, rightAt, recordsOf, allKnown, assigned, unaltered, effected, assignRecords, assignKnown, assign}

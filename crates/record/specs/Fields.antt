@@ -1,9 +1,10 @@
--- The names that stand in a block, and the bits of a record.
-use Prim.Native.Nat.{ℕ, _/_, _%_, _-_}
+-- The names that stand in a block, a record's capabilities, profile and bits.
+use Prim.Native.Nat.{ℕ, _*_, _/_, _%_, _-_}
 use mathlib.Core.Bool.{Bool}
 use mathlib.Core.List.{List}
 use lib.ListN.{getD, take, drop}
 use lib.Dec.{eqb}
+use Rattle.octets.specs.Number.{be16At, be32At}
 
 -- Header: "13, 14 lengths of host and realm; 16-79 host; 80-143 realm"
 unfoldable pub hostOf : List ℕ → List ℕ
@@ -21,6 +22,17 @@ privateOf b = take (getD b 14 0) (drop 144 b)
 
 unfoldable pub serverOf : List ℕ → List ℕ
 serverOf b = take (getD b 15 0) (drop 272 b)
+
+-- "11, 12 counts of mandatory and optional capabilities; 368-383, 384-399 capabilities, 32 bits each": the bytes of their words
+unfoldable pub mandatoryOf : List ℕ → List ℕ
+mandatoryOf b = take (4 * getD b 11 0) (drop 368 b)
+
+unfoldable pub optionalOf : List ℕ → List ℕ
+optionalOf b = take (4 * getD b 12 0) (drop 384 b)
+
+-- "400-403 and 404-405 profile start and length": the part of the profile file that is a record's
+unfoldable pub profileOf : List ℕ → List ℕ → List ℕ
+profileOf b file = take (be16At b 404) (drop (be32At b 400) file)
 
 -- "8 state"; "9 bits 0 pending, 1 barred, 2 unregistered services"
 abbrev pub stateOf : List ℕ → ℕ
