@@ -28,7 +28,7 @@ fn put_failed(out: &mut [u8], req: &[u8], v: Verdict) -> usize
     let place = v.place;
     if 0 < place {
         let result = v.result;
-        return failed::put_faulty(out, req, place, failed::number_of(result));
+        return failed::put_faulty(out, req, place, reading::number_of(result));
     }
     0
 }

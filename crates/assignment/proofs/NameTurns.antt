@@ -8,7 +8,6 @@ use native.Mathlib.Omega.{arith}
 use lib.ListN.{length, drop}
 use lib.Dec.{eqb}
 use borrow.Author.Tests.{eqb-true, eqb-false, eq-eqb, lt-ltb}
-use Rattle.record.specs.Fields.{privateOf}
 use Rattle.table.specs.Blocks.{blockOf}
 use Rattle.table.proofs.Blocks.{block-length}
 use Rattle.lookup.specs.Find.{firstFrom, publicIs, findPublic}
@@ -31,7 +30,7 @@ use Rattle.requests.specs.declared.identities.Next.{Next}
 use Rattle.requests.specs.declared.identities.Next.the-variants as next
 use Rattle.requests.proofs.Naming.{named-none, named-first, named-stands, named-failed}
 use Rattle.decisions.specs.Assignment.{isOne, findAll, numbersOf, identityFault}
-use Rattle.assignment.specs.Survey.{both, strange, lookFound, surveyOf, surveyBy}
+use Rattle.assignment.specs.Survey.{both, lookFound, surveyOf}
 use Rattle.assignment.specs.Identities.{Begins, Tells}
 use Rattle.assignment.specs.declared.Survey.{Survey}
 use Rattle.assignment.specs.declared.Named.the-variants.{Lacking, Second, Nobody, First}
@@ -70,15 +69,6 @@ module _ (t owner server : List ℕ) (kind count : ℕ) (s : List ℕ) where
           (both-assoc seen (lookFound t (findPublic t count (dataAt s place)) owner server kind) (surveyOf t owner server kind (findAll t count (restOf s past)))
           ∙ ap (both seen) (sym (survey-cons t owner server kind (findPublic t count (dataAt s place)) (findAll t count (restOf s past))))
           ∙ (rw (named-first s at r n place past d) at left))
-
-pub survey-here : (t : List ℕ) (f : Found) (server : List ℕ) (kind k : ℕ) (fs : List Found) {b p : List ℕ} {r : Survey} → f ≡ At k → b ≡ blockOf t k → p ≡ privateOf b
-    → r ≡ surveyOf t p server kind fs → r ≡ surveyBy t f server kind fs
-unfolding surveyBy
-survey-here t f server kind k fs e eb ep er = rw (e, ← eb, ← ep) er
-
-pub survey-unknown : (t : List ℕ) (f : Found) (server : List ℕ) (kind : ℕ) (fs : List Found) → f ≡ Nothing → strange ≡ surveyBy t f server kind fs
-unfolding surveyBy
-survey-unknown t f server kind fs e = rw e
 
 -- What is found in a table with a found record settled is what was found.
 find-kept : (x y : List ℕ) (count : ℕ) → ((j : ℕ) → 1 ≤ j → j ≤ count → Kept (blockOf y j) (blockOf x j)) → (avps : List (List ℕ)) → findAll y count avps ≡ findAll x count avps

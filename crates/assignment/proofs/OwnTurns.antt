@@ -2,8 +2,8 @@
 -- table as it came.
 use Prim.Native.Nat.{ℕ, zero, suc, _+_, _*_, _<_, _≤_}
 use mathlib.Core.List.{List, [], _∷_, _++_}
-use mathlib.Core.Bool.{Bool, true, false, cond, _&&_, _||_}
-use mathlib.Core.Path.{_≡_, refl, _∙_}
+use mathlib.Core.Bool.{Bool, true, false, cond, _&&_, _||_, and-true, or-false, or-assoc}
+use mathlib.Core.Path.{_≡_, refl, sym, _∙_}
 use mathlib.Core.Logic.{_≢_}
 use native.Mathlib.Omega.{arith}
 use lib.ListN.{length}
@@ -19,18 +19,10 @@ use Rattle.decisions.specs.Assignment.{isOne, ownedHere, ownedUpTo}
 unfoldable pub ownedFrom : List ℕ → List ℕ → ℕ → ℕ → Bool
 ownedFrom t user k j = leb k j && ownedHere (blockOf t j) user
 
-one-append : (xs ys : List ℕ) (j : ℕ) → isOne (xs ++ ys) j ≡ (isOne xs j || isOne ys j)
+pub one-append : (xs ys : List ℕ) (j : ℕ) → isOne (xs ++ ys) j ≡ (isOne xs j || isOne ys j)
 unfolding isOne
 one-append [] ys j = refl
-one-append (x ∷ xs) ys j = rw (one-append xs ys j) (go (eqb j x))
-  where
-    go : (u : Bool) → (u || (isOne xs j || isOne ys j)) ≡ ((u || isOne xs j) || isOne ys j)
-    go true = refl
-    go false = refl
-
-or-false : (u : Bool) → (u || false) ≡ u
-or-false true = refl
-or-false false = refl
+one-append (x ∷ xs) ys j = rw (one-append xs ys j) (sym (or-assoc (eqb j x) (isOne xs j) (isOne ys j)))
 
 -- Such a record is one of the list that document 01 means.
 owned-one : (t user : List ℕ) (n j : ℕ) → 1 ≤ j → isOne (ownedUpTo t user n) j ≡ (leb j n && ownedHere (blockOf t j) user)
@@ -39,11 +31,7 @@ owned-one t user zero j h = rw (lt-leb j 0 h)
 owned-one t user (suc n) j h = one-append (ownedUpTo t user n) (cond (ownedHere (blockOf t (suc n)) user) (suc n ∷ []) []) j ∙ rw (owned-one t user n j h) (go (eqb j (suc n)) refl)
   where
     last : (u v : Bool) → ownedHere (blockOf t (suc n)) user ≡ u → eqb j (suc n) ≡ v → isOne (cond (ownedHere (blockOf t (suc n)) user) (suc n ∷ []) []) j ≡ (v && u)
-    last true v e f = rw (e, f) (or-false v ∙ both v)
-      where
-        both : (v : Bool) → v ≡ (v && true)
-        both true = refl
-        both false = refl
+    last true v e f = rw (e, f) (or-false v ∙ sym (and-true v))
     last false true e f = rw e
     last false false e f = rw e
 
@@ -60,7 +48,8 @@ owned-one t user (suc n) j h = one-append (ownedUpTo t user n) (cond (ownedHere 
         near true f q = let l : n < j = ltb-true n j f in rw (lt-leb j n l, lt-leb j (suc n) (omega arith))
         near false f q = let l : j ≤ n = ltb-false n j f in rw (le-leb j n l, le-leb j (suc n) (omega arith))
 
-no-zero : (t user : List ℕ) (n : ℕ) → isOne (ownedUpTo t user n) 0 ≡ false
+-- the header's block is none of them
+pub no-zero : (t user : List ℕ) (n : ℕ) → isOne (ownedUpTo t user n) 0 ≡ false
 unfolding ownedUpTo isOne
 no-zero t user zero = refl
 no-zero t user (suc n) = one-append (ownedUpTo t user n) (cond (ownedHere (blockOf t (suc n)) user) (suc n ∷ []) []) 0 ∙ rw (no-zero t user n) (go (ownedHere (blockOf t (suc n)) user))

@@ -1,8 +1,8 @@
 -- What the plan of a SAR promises, by its identities.
 use Prim.Native.Nat.{ℕ, _≤_}
 use mathlib.Core.List.{List, [], _∷_}
-use mathlib.Core.Option.{none, some}
-use mathlib.Core.Bool.{Bool, true, false, cond, not, _&&_, _||_, true≢false}
+use mathlib.Core.Option.{none, some, Option·some-ne-none}
+use mathlib.Core.Bool.{Bool, true, false, cond, not, _&&_, _||_, and-true, true≢false}
 use mathlib.Core.Path.{_≡_, refl, sym, ap, _∙_}
 use native.Mathlib.Omega.{arith}
 use lib.Dec.{eqb, leb}
@@ -19,19 +19,19 @@ use Rattle.reading.specs.Found.{failedBy}
 use Rattle.reading.specs.Request.{bodyOf, identities}
 use Rattle.reading.specs.declared.Outcome.the-variants.{Base, Experimental}
 use Rattle.decisions.specs.Types.{groupOf, isRemoval, startOf, between}
-use Rattle.decisions.specs.Reply.{Reply, plain, failing}
+use Rattle.decisions.specs.Reply.{plain, failing}
 use Rattle.decisions.specs.Gives.{givenFault}
 use Rattle.decisions.specs.Assignment.{Assignment, identityFault, every, isEmpty, findAll, numbersOf, ownedUpTo, recordsOf, allKnown, ownerOf, unaltered, assignRecords, assignKnown, assign}
 use Rattle.decisions.specs.Planned.{replyOf, planned, decisionOf}
 use Rattle.decisions.specs.declared.Group.{Group}
-use Rattle.decisions.specs.declared.Group.the-variants.{Removal, Failure, Rest}
 use Rattle.decisions.specs.declared.Start.the-variants.{Present}
 use Rattle.decisions.specs.declared.Given.{Given}
 use Rattle.decisions.specs.declared.Plan.{Plan}
-use Rattle.assignment.specs.Survey.{strange, surveyOf, surveyBy, sightOf, findingOf}
+use Rattle.decisions.proofs.Ranges.{removal-is}
+use Rattle.assignment.specs.Survey.{surveyOf, sightOf, findingOf}
 use Rattle.assignment.specs.Plans.{only, planOf}
 use Rattle.assignment.specs.Identities.{lacking, second, Begins, Tells}
-use Rattle.assignment.specs.Assigns.{sarOf, Assigns, surveyFor, userKnown, knowing, numberOf}
+use Rattle.assignment.specs.Assigns.{sarOf, Assigns, ownerBy, userKnown, alsoKnown, numberOf}
 use Rattle.assignment.specs.declared.Survey.{Survey}
 use Rattle.assignment.specs.declared.Sight.{Sight}
 use Rattle.assignment.specs.declared.Finding.{Finding}
@@ -50,15 +50,19 @@ module _ (t : List ℕ) (count : ℕ) (named : Bool) (user : List ℕ) where
   unfolding userKnown
   user-given e h = rw e h
 
-pub for-user : (t : List ℕ) (f : Found) (named : Bool) (user server : List ℕ) (kind : ℕ) (fs : List Found) {v : Survey} → named ≡ true → v ≡ surveyOf t user server kind fs
-    → v ≡ surveyFor t f named user server kind fs
-unfolding surveyFor
-for-user t f named user server kind fs e h = rw e h
+module _ (t : List ℕ) (f : Found) (named : Bool) (user server : List ℕ) (kind : ℕ) (fs : List Found) {v : Survey} where
+  pub survey-none : f ≡ Nothing → v ≡ surveyOf t user server kind fs → v ≡ surveyOf t (ownerBy t f named user) server kind fs
+  unfolding ownerBy
+  survey-none d h = rw d h
 
-pub for-first : (t : List ℕ) (f : Found) (named : Bool) (user server : List ℕ) (kind : ℕ) (fs : List Found) {v : Survey} → named ≡ false → v ≡ surveyBy t f server kind fs
-    → v ≡ surveyFor t f named user server kind fs
-unfolding surveyFor
-for-first t f named user server kind fs e h = rw e h
+  module _ (k : ℕ) (d : f ≡ At k) where
+    pub survey-given : named ≡ true → v ≡ surveyOf t user server kind fs → v ≡ surveyOf t (ownerBy t f named user) server kind fs
+    unfolding ownerBy
+    survey-given e h = rw (d, e) h
+
+    pub survey-first : {b p : List ℕ} → named ≡ false → b ≡ blockOf t k → p ≡ privateOf b → v ≡ surveyOf t p server kind fs → v ≡ surveyOf t (ownerBy t f named user) server kind fs
+    unfolding ownerBy privateAt
+    survey-first e eb ep h = rw (d, e, ← eb, ← ep) h
 
 -- A plan promises what is decided where the identities are not at fault.
 promise : (req t : List ℕ) (count : ℕ) (s : Assignment) (keep : Bool) (p : Plan) → identityFault (isRemoval (groupOf (s .kind))) (s .named) (s .identities) ≡ none
@@ -80,42 +84,27 @@ pub fault-second : (req t : List ℕ) (count : ℕ) (s : Assignment) (keep : Boo
 unfolding assign assignKnown decisionOf replyOf planned
 fault-second req t count s keep place e a b = record { decides = λ file. rw (b, a, e) }
 
-removal-least : (kind : ℕ) → (between 4 kind 8 || eqb kind 11) ≡ true → 4 ≤ kind
-removal-least kind e = go (between 4 kind 8) refl e
+-- A removal is none of the types 0 to 3.
+removal-least : (kind : ℕ) → isRemoval (groupOf kind) ≡ true → 4 ≤ kind
+removal-least kind e = go (between 4 kind 8) refl (sym (removal-is kind) ∙ e)
   where
     go : (x : Bool) → between 4 kind 8 ≡ x → (x || eqb kind 11) ≡ true → 4 ≤ kind
     go true f h = leb-true 4 kind (and-left (leb 4 kind) (leb kind 8) f)
     go false f h = omega (arith, eqb-true kind 11 h)
 
--- A removal starts from state 1 or 2, and is none of the types 0 to 3.
-removal-says : (kind : ℕ) → isRemoval (groupOf kind) ≡ true → (between 4 kind 8 || eqb kind 11) ≡ true
-unfolding groupOf
-removal-says kind e = go (between 4 kind 8 || eqb kind 11) (between 9 kind 10) refl e
-  where
-    go : (x y : Bool) → (between 4 kind 8 || eqb kind 11) ≡ x → isRemoval (cond x Removal (cond y Failure Rest)) ≡ true → (between 4 kind 8 || eqb kind 11) ≡ true
-    go true y f h = f
-    go false true f h = absurd (true≢false (sym h))
-    go false false f h = absurd (true≢false (sym h))
-
+-- A removal starts from state 1 or 2.
 removal-starts : (kind : ℕ) → isRemoval (groupOf kind) ≡ true → startOf kind ≡ Present
 unfolding startOf
 removal-starts kind e =
-    let f : (between 4 kind 8 || eqb kind 11) ≡ true = removal-says kind e in
-    let h : 4 ≤ kind = removal-least kind f in
-    rw (ne-eqb kind 2 (λ q. omega arith), ne-eqb kind 3 (λ q. omega arith), f)
+    let h : 4 ≤ kind = removal-least kind e in
+    rw (ne-eqb kind 2 (λ q. omega arith), ne-eqb kind 3 (λ q. omega arith), e)
 
 -- Without identities: the User-Name's records that are not in state 0.
 nobody-means : (removal named : Bool) → identityFault removal named [] ≡ none → (removal ≡ true) × (named ≡ true)
 unfolding identityFault
 nobody-means true true e = (refl, refl)
-nobody-means true false e = absurd (never e)
-  where
-    never : {r : Reply} → some r ≡ none → ⊥
-    never p = let z : _≡_ {A = ℕ} 0 1 = cc in omega arith
-nobody-means false named e = absurd (never e)
-  where
-    never : {r : Reply} → some r ≡ none → ⊥
-    never p = let z : _≡_ {A = ℕ} 0 1 = cc in omega arith
+nobody-means true false e = absurd (Option·some-ne-none _ e)
+nobody-means false named e = absurd (Option·some-ne-none _ e)
 
 module _ (req t : List ℕ) (count kind : ℕ) (server : List ℕ) (already : ℕ) (named : Bool) (user : List ℕ) (keep : Bool) where
   pub owned-promise : {s : Sight} {known : Bool} {f : Finding} {p : Plan} → identities (bodyOf req) ≡ [] → identityFault (isRemoval (groupOf kind)) named (identities (bodyOf req)) ≡ none
@@ -136,11 +125,7 @@ module _ (req t : List ℕ) (count kind : ℕ) (server : List ℕ) (already : �
       both = nobody-means (isRemoval (groupOf kind)) named (rw none-named at e)
 
       later : 4 ≤ kind
-      later = removal-least kind (removal-says kind (both .0))
-
-      plus : (x : Bool) → x ≡ (x && true)
-      plus true = refl
-      plus false = refl
+      later = removal-least kind (both .0)
 
       right : Right t count sar (ownedUpTo t user count) (record { known = known; own = true; stores = true; fits = s .fits; right = not (s .empty) })
       right =
@@ -149,7 +134,7 @@ module _ (req t : List ℕ) (count kind : ℕ) (server : List ℕ) (already : �
             own = λ _. rw (both .1) (sym (owned-own t user count));
             stores = λ _ h. absurd (omega (arith, eqb-true kind 0 h, later));
             fits = λ _. ap (λ (x : Sight). x .fits) es;
-            right = λ _. rw (owned-right t user kind count (removal-starts kind (both .0))) (ap (λ (x : Sight). not (x .empty)) es ∙ plus (not (isEmpty (ownedUpTo t user count))));
+            right = λ _. rw (owned-right t user kind count (removal-starts kind (both .0))) (ap (λ (x : Sight). not (x .empty)) es ∙ sym (and-true (not (isEmpty (ownedUpTo t user count)))));
           }
 
       first : FirstIs t count sar (ownedUpTo t user count) 0
@@ -167,51 +152,25 @@ module _ (t : List ℕ) (count : ℕ) (s : Assignment) (f : Found) (fs : List Fo
   first-known (At k) d h = refl
   first-known Nothing d h = absurd (true≢false (sym h ∙ all-known ∙ rw d))
 
-  survey-named : s .named ≡ true → (v : Survey) → v ≡ surveyOf t (s .user) (s .server) (s .kind) (f ∷ fs) → Right t count s (numbersOf (f ∷ fs)) (knowing v (userKnown t count (s .named) (s .user)))
-  unfolding knowing surveyOf ownerOf every
-  survey-named n v ev =
+  owner-is : allKnown t count s ≡ true → ownerBy t f (s .named) (s .user) ≡ ownerOf t s (numbersOf (f ∷ fs))
+  unfolding ownerBy ownerOf numbersOf
+  owner-is h = go f refl
+    where
+      go : (g : Found) → f ≡ g → ownerBy t g (s .named) (s .user) ≡ ownerOf t s (numbersOf (g ∷ fs))
+      go (At k) d = refl
+      go Nothing d = absurd (true≢false (sym h ∙ all-known ∙ rw d))
+
+  survey-right : (v : Survey) → v ≡ surveyOf t (ownerBy t f (s .named) (s .user)) (s .server) (s .kind) (f ∷ fs)
+      → Right t count s (numbersOf (f ∷ fs)) (alsoKnown v (userKnown t count (s .named) (s .user)))
+  unfolding alsoKnown surveyOf every
+  survey-right v ev =
       record {
         known = rw ev (sym all-known);
-        own = λ _. rw (ev, n);
+        own = λ h. rw (ev, owner-is h);
         stores = λ _ _. rw ev;
         fits = λ _. rw ev;
         right = λ h. rw (ev, first-known f refl h);
       }
-
-  survey-first : (k : ℕ) → f ≡ At k → s .named ≡ false → (v : Survey) → v ≡ surveyOf t (privateOf (blockOf t k)) (s .server) (s .kind) (f ∷ fs)
-      → Right t count s (numbersOf (f ∷ fs)) (knowing v (userKnown t count (s .named) (s .user)))
-  unfolding knowing surveyOf ownerOf every privateAt numbersOf
-  survey-first k d n v ev =
-      record {
-        known = rw ev (sym all-known);
-        own = λ _. rw (ev, n, d);
-        stores = λ _ _. rw ev;
-        fits = λ _. rw ev;
-        right = λ h. rw (ev, first-known f refl h);
-      }
-
-  survey-strange : f ≡ Nothing → (v : Survey) → v ≡ strange → Right t count s (numbersOf (f ∷ fs)) (knowing v (userKnown t count (s .named) (s .user)))
-  unfolding knowing
-  survey-strange d v ev =
-      record {
-        known = rw ev (sym no);
-        own = λ h. absurd (true≢false (sym h ∙ no));
-        stores = λ h _. absurd (true≢false (sym h ∙ no));
-        fits = λ h. absurd (true≢false (sym h ∙ no));
-        right = λ h. absurd (true≢false (sym h ∙ no));
-      }
-    where
-      no : allKnown t count s ≡ false
-      no = all-known ∙ rw d
-
-  survey-right : (v : Survey) → v ≡ surveyFor t f (s .named) (s .user) (s .server) (s .kind) (f ∷ fs) → Right t count s (numbersOf (f ∷ fs)) (knowing v (userKnown t count (s .named) (s .user)))
-  unfolding surveyFor surveyBy
-  survey-right v ev = go (s .named) f refl refl
-    where
-      go : (b : Bool) (g : Found) → s .named ≡ b → f ≡ g → Right t count s (numbersOf (f ∷ fs)) (knowing v (userKnown t count (s .named) (s .user)))
-      go true g n d = survey-named n v (ev ∙ rw n)
-      go false (At k) n d = survey-first k d n v (ev ∙ rw (n, d))
-      go false Nothing n d = survey-strange d v (ev ∙ rw (n, d))
 
   first-is : (p : ℕ → Bool) → firstFrom p count 1 ≡ f → FirstIs t count s (numbersOf (f ∷ fs)) (numberOf f)
   unfolding numbersOf
@@ -227,15 +186,17 @@ unfolding recordsOf
 records-named t count s f fs e h = rw (h, e)
 
 module _ (req t : List ℕ) (count place kind : ℕ) (server : List ℕ) (already : ℕ) (named : Bool) (user : List ℕ) (keep : Bool) where
-  pub first-promise : {name : List ℕ} {f : Found} {v w : Survey} {u : Bool} {x : Finding} {k : ℕ} {p : Plan} → Begins place req
-      → identityFault (isRemoval (groupOf kind)) named (identities (bodyOf req)) ≡ none → name ≡ dataAt req place → f ≡ findPublic t count name
-      → v ≡ surveyFor t f named user server kind (findAll t count (identities (bodyOf req))) → u ≡ userKnown t count named user → w ≡ knowing v u → x ≡ findingOf w kind
-      → k ≡ numberOf f → p ≡ planOf x kind keep already k false → Assigns req t count (sarOf req kind server already named user) keep p
+  -- its premises go from the plan back to the request
+  pub first-promise : {name : List ℕ} {f : Found} {v w : Survey} {u : Bool} {x : Finding} {k : ℕ} {p : Plan} → p ≡ planOf x kind keep already k false → k ≡ numberOf f
+      → x ≡ findingOf w kind → w ≡ alsoKnown v u → u ≡ userKnown t count named user
+      → v ≡ surveyOf t (ownerBy t f named user) server kind (findAll t count (identities (bodyOf req))) → f ≡ findPublic t count name → name ≡ dataAt req place
+      → identityFault (isRemoval (groupOf kind)) named (identities (bodyOf req)) ≡ none → Begins place req
+      → Assigns req t count (sarOf req kind server already named user) keep p
   unfolding findAll findPublic
-  first-promise {name} {f} {v} {w} {u} {x} {k} {p} b e en ef ev eu ew ex ek ep =
+  first-promise {name} {f} {v} {w} {u} {x} {k} {p} ep ek ex ew eu ev ef en e b =
       promise req t count (sarOf req kind server already named user) keep p e
       (λ file. rw (ep, ex, ew, eu, ek)
-      (plan-right req t file count (sarOf req kind server already named user) (numbersOf (f ∷ others)) (knowing v (userKnown t count named user)) (numberOf f) keep false
+      (plan-right req t file count (sarOf req kind server already named user) (numbersOf (f ∷ others)) (alsoKnown v (userKnown t count named user)) (numberOf f) keep false
       (survey-right t count (sarOf req kind server already named user) f others list v (ev ∙ rw list)) (first-is t count (sarOf req kind server already named user) f others list (publicIs t name) (sym ef))
       (ap numbersOf list)
       ∙ rw (records-named t count (sarOf req kind server already named user) f others list (rw (b .rest)))))

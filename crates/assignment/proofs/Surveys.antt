@@ -1,7 +1,7 @@
 -- Laws of what is seen of a SAR's records: one identity more, one block more.
 use Prim.Native.Nat.{ℕ, zero, suc}
 use mathlib.Core.List.{List, [], _∷_, _++_}
-use mathlib.Core.Bool.{Bool, true, false, cond, _&&_}
+use mathlib.Core.Bool.{Bool, true, false, cond, _&&_, and-assoc, and-true}
 use mathlib.Core.Path.{_≡_, refl, sym}
 use lib.Dec.{ltb}
 use Rattle.octets.specs.Name.{same}
@@ -23,10 +23,6 @@ unfolding surveyOf lookFound lookAt every numbersOf ownAt storesAt fitsAt rightA
 survey-cons t owner server kind (At k) fs = refl
 survey-cons t owner server kind Nothing fs = refl
 
-and-assoc : (a b c : Bool) → ((a && b) && c) ≡ (a && (b && c))
-and-assoc true b c = refl
-and-assoc false b c = refl
-
 pub both-assoc : (a b c : Survey) → both (both a b) c ≡ both a (both b c)
 both-assoc a b c =
     rw (
@@ -36,10 +32,6 @@ both-assoc a b c =
       and-assoc (a .fits) (b .fits) (c .fits),
       and-assoc (a .right) (b .right) (c .right),
     )
-
-and-true : (a : Bool) → (a && true) ≡ a
-and-true true = refl
-and-true false = refl
 
 -- None left.
 pub both-clean : (t owner server : List ℕ) (kind : ℕ) (a : Survey) → both a (surveyOf t owner server kind []) ≡ a

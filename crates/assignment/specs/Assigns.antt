@@ -3,6 +3,7 @@ use Prim.Native.Nat.{ℕ}
 use mathlib.Core.Path.{_≡_}
 use mathlib.Core.List.{List}
 use mathlib.Core.Bool.{Bool, cond, not, _&&_, _||_}
+use Rattle.table.specs.Blocks.{privateAt}
 use Rattle.lookup.specs.Find.{isAt, findPrivate}
 use Rattle.lookup.specs.declared.Found.{Found}
 use Rattle.lookup.specs.declared.Found.the-variants.{At, Nothing}
@@ -10,7 +11,6 @@ use Rattle.reading.specs.Request.{bodyOf, identities}
 use Rattle.decisions.specs.Assignment.{Assignment, assign}
 use Rattle.decisions.specs.Planned.{decisionOf}
 use Rattle.decisions.specs.declared.Plan.{Plan}
-use Rattle.assignment.specs.Survey.{surveyOf, surveyBy}
 use Rattle.assignment.specs.declared.Survey.{Survey}
 
 -- what a SAR says, by its parts
@@ -22,17 +22,18 @@ sarOf req kind server already named user =
 pub record Assigns (req t : List ℕ) (count : ℕ) (s : Assignment) (keep : Bool) (p : Plan) : Type 0 where
   pub decides : (file : List ℕ) → decisionOf req t count file s p ≡ assign t count file keep s
 
--- the survey for the User-Name if one is given, else for the subscription of a record that was found or not
-unfoldable pub surveyFor : List ℕ → Found → Bool → List ℕ → List ℕ → ℕ → List Found → Survey
-surveyFor t f named user server kind fs = cond named (surveyOf t user server kind fs) (surveyBy t f server kind fs)
+-- "All in one subscription, the User-Name's if given": else that of the first record, if it was found
+unfoldable pub ownerBy : List ℕ → Found → Bool → List ℕ → List ℕ
+ownerBy t (At k) named user = cond named user (privateAt t k)
+ownerBy t Nothing named user = user
 
 -- "or a User-Name given, unknown"
 unfoldable pub userKnown : List ℕ → ℕ → Bool → List ℕ → Bool
 userKnown t count named user = not named || isAt (findPrivate t count user)
 
 -- a survey with another word on what is known
-unfoldable pub knowing : Survey → Bool → Survey
-knowing v known = record { known = v .known && known; own = v .own; stores = v .stores; fits = v .fits; right = v .right }
+unfoldable pub alsoKnown : Survey → Bool → Survey
+alsoKnown v known = record { known = v .known && known; own = v .own; stores = v .stores; fits = v .fits; right = v .right }
 
 abbrev pub numberOf : Found → ℕ
 numberOf (At k) = k

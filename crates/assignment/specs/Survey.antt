@@ -68,8 +68,3 @@ findingOf v kind =
     (cond (not (v .fits)) Taken
     (cond (not (v .right)) WrongState
     Fine))))
-
--- of all, where the subscription is that of a record that was found or not
-unfoldable pub surveyBy : List ℕ → Found → List ℕ → ℕ → List Found → Survey
-surveyBy t (At k) server kind fs = surveyOf t (privateOf (blockOf t k)) server kind fs
-surveyBy t Nothing server kind fs = strange

@@ -13,6 +13,7 @@ use lookup::Found;
 use reading::Outcome;
 use reading::Verdict;
 use reading::kinds;
+use record::fields;
 ghost use mathlib.Core.Path.{_≡_};
 ghost use mathlib.Core.Bool.{true};
 ghost use mathlib.Core.List.{[]};
@@ -25,7 +26,8 @@ ghost use Rattle.decisions.specs.Types.{groupOf, isRemoval};
 ghost use Rattle.decisions.specs.Assignment.{findAll, identityFault};
 ghost use Rattle.decisions.specs.Gives.{Within};
 ghost use Rattle.decisions.specs.Planned.{Ready};
-ghost use Rattle.assignment.specs.Assigns.{sarOf, Assigns, surveyFor, userKnown, knowing, numberOf};
+ghost use Rattle.assignment.specs.Survey.{surveyOf};
+ghost use Rattle.assignment.specs.Assigns.{sarOf, Assigns, ownerBy, userKnown, alsoKnown, numberOf};
 ghost use Rattle.assignment.specs.Identities.{Begins, Tells};
 
 fn is_removal(g: Group) -> bool
@@ -61,20 +63,8 @@ fn user_known(t: &[u8], count: usize, f: Found, named: bool, user: &[u8]) -> boo
     }
 }
 
-// A survey, with another word on what is known.
-fn know(v: Survey, known: bool) -> Survey
-    ensures { λ r. ⌜ r ≡ knowing v known ⌝ }
-{
-    Survey {
-        known: v.known & known,
-        own: v.own,
-        stores: v.stores,
-        fits: v.fits,
-        right: v.right,
-    }
-}
-
-fn survey_for(
+// All that are named, asked whether they are the User-Name's if one is given, else the first record's. Where that one is unknown, nothing is compared.
+fn survey(
     t: &[u8],
     f: Found,
     count: usize,
@@ -85,12 +75,29 @@ fn survey_for(
     kind: u32,
 ) -> Survey
     requires { ⌜ (endOf f ≤ length (now t)) × Ready (now t) count ⌝ }
-    ensures { λ r. ⌜ r ≡ surveyFor (now (t .entry)) f named (now (user .entry)) (now (server .entry)) kind (findAll (now (t .entry)) count (identities (bodyOf (now (req .entry))))) ⌝ }
+    ensures { λ r. ⌜ r ≡ surveyOf (now (t .entry)) (ownerBy (now (t .entry)) f named (now (user .entry))) (now (server .entry)) kind (findAll (now (t .entry)) count (identities (bodyOf (now (req .entry))))) ⌝ }
 {
+    let Found::At(first) = f else {
+        return naming::survey_all(t, count, req, user, server, kind);
+    };
     if named {
         return naming::survey_all(t, count, req, user, server, kind);
     }
-    naming::survey_by(t, f, count, req, server, kind)
+    let owner = fields::private(table::block(t, first as usize));
+    naming::survey_all(t, count, req, owner, server, kind)
+}
+
+// A survey, with another word on what is known.
+fn also_known(v: Survey, known: bool) -> Survey
+    ensures { λ r. ⌜ r ≡ alsoKnown v known ⌝ }
+{
+    Survey {
+        known: v.known & known,
+        own: v.own,
+        stores: v.stores,
+        fits: v.fits,
+        right: v.right,
+    }
 }
 
 // The identities begin at a place.
@@ -110,8 +117,8 @@ fn plan_first(
     ensures { λ r. ⌜ Assigns (now (req .entry)) (now (t .entry)) count (sarOf (now (req .entry)) kind (now (server .entry)) already named (now (user .entry))) keep r ⌝ }
 {
     let f = lookup::find_public(t, count, diameter::data_at(req, place));
-    let v = survey_for(t, f, count, req, named, user, server, kind);
-    let w = know(v, user_known(t, count, f, named, user));
+    let v = survey(t, f, count, req, named, user, server, kind);
+    let w = also_known(v, user_known(t, count, f, named, user));
     plan::plan_of(
         looking::finding(w, kind),
         kind,
@@ -138,6 +145,7 @@ fn plan_owned(
     ensures { λ r. ⌜ Assigns (now (req .entry)) (now (t .entry)) count (sarOf (now (req .entry)) kind (now (server .entry)) already named (now (user .entry))) keep r ⌝ }
 {
     let s = owned::sight_of(t, count, user, server);
+    // None of them is in state 0, so their states are right if there is one at all.
     let v = Survey {
         known: lookup::known_private(t, count, user),
         own: true,

@@ -2,20 +2,17 @@
 use crate::Named;
 use crate::Survey;
 use crate::looking;
-use lookup::Found;
-use record::fields;
 use requests::identities;
 use requests::identities::Next;
 use requests::walk;
 ghost use mathlib.Core.Path.{_≡_};
 ghost use Prim.Native.Nat.{_≤_};
 ghost use lib.ListN.{length};
-ghost use Rattle.lookup.specs.Find.{endOf};
 ghost use Rattle.lookup.specs.SoundTable.{Ordered};
 ghost use Rattle.rewrite.specs.Effect.{afterOf};
 ghost use Rattle.reading.specs.Request.{bodyOf, identities};
 ghost use Rattle.decisions.specs.Assignment.{isOne, findAll, numbersOf};
-ghost use Rattle.assignment.specs.Survey.{surveyOf, surveyBy};
+ghost use Rattle.assignment.specs.Survey.{surveyOf};
 ghost use Rattle.assignment.specs.Identities.{Tells};
 
 // How many identities there are, as far as it matters: "Others need exactly one identity"; "A removal without identity needs a User-Name".
@@ -70,30 +67,6 @@ pub fn survey_all(
         at = past;
     }
     seen
-}
-
-// The same where no User-Name is given: the subscription is that of the first record.
-pub fn survey_by(t: &[u8], f: Found, count: usize, req: &[u8], server: &[u8], kind: u32) -> Survey
-    requires { ⌜ (endOf f ≤ length (now t)) × (count ≤ 4096) × Ordered (now t) count ⌝ }
-    ensures { λ r. ⌜ r ≡ surveyBy (now (t .entry)) f (now (server .entry)) kind (findAll (now (t .entry)) count (identities (bodyOf (now (req .entry))))) ⌝ }
-{
-    match f {
-        Found::At(k) => survey_all(
-            t,
-            count,
-            req,
-            fields::private(table::block(t, k as usize)),
-            server,
-            kind,
-        ),
-        Found::Nothing => Survey {
-            known: false,
-            own: true,
-            stores: true,
-            fits: true,
-            right: true,
-        },
-    }
 }
 
 // The effect on each record that is named.

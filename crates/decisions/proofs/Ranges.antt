@@ -1,16 +1,25 @@
 -- An assignment type by its range, a law for each way through the code.
 use Prim.Native.Nat.{ℕ, _<_, _≤_}
-use mathlib.Core.Bool.{Bool, true, false, _||_}
-use mathlib.Core.Path.{_≡_}
+use mathlib.Core.Bool.{Bool, true, false, cond, _||_}
+use mathlib.Core.Path.{_≡_, refl}
 use native.Mathlib.Omega.{arith}
 use lib.Dec.{ltb, eqb}
 use borrow.Author.Tests.{le-leb, lt-leb, ne-eqb}
 use Rattle.reading.specs.declared.Outcome.the-variants.{Base, Experimental}
-use Rattle.decisions.specs.Types.{groupOf, startOf, allowed, effectOf}
+use Rattle.decisions.specs.Types.{between, groupOf, isRemoval, startOf, allowed, effectOf}
 use Rattle.decisions.specs.declared.Group.the-variants.{Removal, Failure, Rest}
 use Rattle.decisions.specs.declared.Start.{Start}
 use Rattle.decisions.specs.declared.Start.the-variants.{Registered, NotRegistered, Present, Every}
 use Rattle.decisions.specs.declared.Effect.{Effect}
+
+pub removal-is : (k : ℕ) → isRemoval (groupOf k) ≡ (between 4 k 8 || eqb k 11)
+unfolding groupOf
+removal-is k = go (between 4 k 8 || eqb k 11) (between 9 k 10)
+  where
+    go : (x y : Bool) → isRemoval (cond x Removal (cond y Failure Rest)) ≡ x
+    go true y = refl
+    go false true = refl
+    go false false = refl
 
 module _ (k : ℕ) where
   pub group-removal : 4 ≤ k → k < 9 → Removal ≡ groupOf k
@@ -43,19 +52,19 @@ module _ (k : ℕ) where
 
   pub start-eleven : k ≡ 11 → Present ≡ startOf k
   unfolding startOf
-  start-eleven e = rw e
+  start-eleven e = rw (removal-is k, e)
 
   pub start-range : (k ≡ 2 → ⊥) → (k ≡ 3 → ⊥) → 2 ≤ k → k < 9 → Present ≡ startOf k
   unfolding startOf
-  start-range a b c d = rw (ne-eqb k 2 a, ne-eqb k 3 b, le-leb 4 k (omega arith), le-leb k 8 (omega arith))
+  start-range a b c d = rw (ne-eqb k 2 a, ne-eqb k 3 b, removal-is k, le-leb 4 k (omega arith), le-leb k 8 (omega arith))
 
   pub start-low : k < 2 → Every ≡ startOf k
   unfolding startOf
-  start-low a = rw (ne-eqb k 2 (omega arith), ne-eqb k 3 (omega arith), lt-leb 4 k (omega arith), ne-eqb k 11 (omega arith))
+  start-low a = rw (ne-eqb k 2 (omega arith), ne-eqb k 3 (omega arith), removal-is k, lt-leb 4 k (omega arith), ne-eqb k 11 (omega arith))
 
   pub start-high : 9 ≤ k → (k ≡ 11 → ⊥) → Every ≡ startOf k
   unfolding startOf
-  start-high a b = rw (ne-eqb k 2 (omega arith), ne-eqb k 3 (omega arith), le-leb 4 k (omega arith), lt-leb k 8 (omega arith), ne-eqb k 11 b)
+  start-high a b = rw (ne-eqb k 2 (omega arith), ne-eqb k 3 (omega arith), removal-is k, le-leb 4 k (omega arith), lt-leb k 8 (omega arith), ne-eqb k 11 b)
 
 module _ (s : Start) (state : ℕ) where
   pub allow-registered : s ≡ Registered → eqb state 1 ≡ allowed s state

@@ -6,7 +6,7 @@ use mathlib.Core.Bool.{Bool, true, false, cond, not, _&&_, _||_}
 use lib.ListN.{getD}
 use lib.Dec.{eqb, leb, ltb}
 use Rattle.octets.specs.Name.{same}
-use Rattle.record.specs.Fields.{privateOf, serverOf, stateOf}
+use Rattle.record.specs.Fields.{privateOf, serverOf, profileOf, stateOf}
 use Rattle.table.specs.Blocks.{blockOf, privateAt}
 use Rattle.lookup.specs.Find.{isAt, findPublic, findPrivate}
 use Rattle.lookup.specs.declared.Found.{Found}
@@ -17,7 +17,7 @@ use Rattle.reading.specs.Kinds.{publicIdentity}
 use Rattle.reading.specs.Request.{example}
 use Rattle.reading.specs.declared.Outcome.{Outcome}
 use Rattle.reading.specs.declared.Outcome.the-variants.{Base, Experimental}
-use Rattle.decisions.specs.Reply.{Reply, plain, failing, profileOf}
+use Rattle.decisions.specs.Reply.{Reply, plain, failing}
 use Rattle.decisions.specs.Types.{groupOf, isRemoval, startOf, allowed, effectOf}
 
 -- A decision: what the answer carries, and the table afterwards
@@ -77,7 +77,7 @@ recordsOf t count s = cond (isEmpty (s .identities)) (ownedUpTo t (s .user) coun
 unfoldable pub allKnown : List ℕ → ℕ → Assignment → Bool
 allKnown t count s = every isAt (findAll t count (s .identities)) && (not (s .named) || isAt (findPrivate t count (s .user)))
 
--- "All in one subscription, the User-Name's if given, else X5002."
+-- "All in one subscription, the User-Name's if given, else X5002.": the first record's otherwise. Where there is no record nothing is compared.
 abbrev pub firstOf : List ℕ → ℕ
 firstOf [] = 0
 firstOf (k ∷ ks) = k
@@ -129,7 +129,7 @@ effected t count file keep s records =
       table = afterOf t count (isOne records) (effectOf (s .kind) keep .state) (storedName (effectOf (s .kind) keep .named) (s .server));
     }
 
--- "All in one subscription, else X5002. Type 0: stored name equal to the request's, B2001, else B5012. A stored name .. that differs: X5005. Wrong state: X5007"
+-- "All in one subscription, .. else X5002. Type 0: stored name equal to the request's, B2001, else B5012. A stored name .. that differs ..: X5005. Wrong state: X5007"
 unfoldable pub assignRecords : List ℕ → ℕ → List ℕ → Bool → Assignment → List ℕ → Decision
 assignRecords t count file keep s records =
     cond (not (every (ownAt t (ownerOf t s records)) records)) (unaltered t (plain (Experimental 5002)))

@@ -4,20 +4,16 @@ use mathlib.Core.List.{List, []}
 use mathlib.Core.Bool.{cond}
 use lib.ListN.{getD}
 use lib.Dec.{eqb}
-use Rattle.record.specs.Fields.{serverOf}
-use Rattle.table.specs.Blocks.{blockOf, privateAt}
+use Rattle.record.specs.Fields.{serverOf, mandatoryOf, optionalOf, profileOf}
+use Rattle.table.specs.Blocks.{blockOf, privateAt, ofBlock}
 use Rattle.lookup.specs.Network.{Short}
 use Rattle.lookup.specs.SoundTable.{Ordered}
 use Rattle.rewrite.specs.Effect.{afterOf}
 use Rattle.reading.specs.Found.{failedBy}
-use Rattle.decisions.specs.Reply.{Reply, mandatoryOf, optionalOf, profileOf}
+use Rattle.decisions.specs.Reply.{Reply}
 use Rattle.decisions.specs.Assignment.{Decision, Assignment, isOne, findAll, numbersOf, ownedUpTo, storedName}
 use Rattle.decisions.specs.declared.Given.{Given}
 use Rattle.decisions.specs.declared.Plan.{Plan}
-
--- something of block k, nothing of block 0
-abbrev pub ofBlock : (List ℕ → List ℕ) → List ℕ → ℕ → List ℕ
-ofBlock f t k = cond (eqb k 0) [] (f (blockOf t k))
 
 unfoldable pub replyOf : List ℕ → List ℕ → List ℕ → Given → Reply
 replyOf req t file g =

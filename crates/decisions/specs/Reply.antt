@@ -1,12 +1,11 @@
 -- What a decision gives the answer to carry.
-use Prim.Native.Nat.{ℕ, _*_}
+use Prim.Native.Nat.{ℕ}
 use mathlib.Core.List.{List, []}
 use mathlib.Core.Option.{Option, none}
 use mathlib.Core.Bool.{cond}
-use lib.ListN.{length, getD, take, drop}
+use lib.ListN.{length}
 use lib.Dec.{eqb}
-use Rattle.octets.specs.Number.{be16At, be32At}
-use Rattle.record.specs.Fields.{serverOf}
+use Rattle.record.specs.Fields.{serverOf, mandatoryOf, optionalOf}
 use Rattle.table.specs.Blocks.{blockOf}
 use Rattle.lookup.specs.declared.Found.{Found}
 use Rattle.lookup.specs.declared.Found.the-variants.{At, Nothing}
@@ -38,13 +37,7 @@ serving r name = record { result = r; user = []; server = name; mandatory = []; 
 unfoldable pub served : Outcome → List ℕ → Reply
 served r name = cond (eqb (length name) 0) (plain (Base 5012)) (serving r name)
 
--- with the asked record's capabilities: "11, 12 counts of mandatory and optional capabilities; 368-383, 384-399 capabilities, 32 bits each"
-unfoldable pub mandatoryOf : List ℕ → List ℕ
-mandatoryOf b = take (4 * getD b 11 0) (drop 368 b)
-
-unfoldable pub optionalOf : List ℕ → List ℕ
-optionalOf b = take (4 * getD b 12 0) (drop 384 b)
-
+-- with the asked record's capabilities
 abbrev pub capable : Outcome → List ℕ → Reply
 capable r b = record { result = r; user = []; server = []; mandatory = mandatoryOf b; optional = optionalOf b; profile = []; failed = none }
 
@@ -52,7 +45,3 @@ capable r b = record { result = r; user = []; server = []; mandatory = mandatory
 abbrev pub servedBy : List ℕ → Found → Outcome → Reply → Reply
 servedBy t (At k) r other = serving r (serverOf (blockOf t k))
 servedBy t Nothing r other = other
-
--- the part of the profile file that is a record's: "400-403 and 404-405 profile start and length"
-unfoldable pub profileOf : List ℕ → List ℕ → List ℕ
-profileOf b file = take (be16At b 404) (drop (be32At b 400) file)

@@ -21,9 +21,9 @@ isRemoval Removal = true
 isRemoval Failure = false
 isRemoval Rest = false
 
--- "type 2 needs 1; type 3 needs 0 or 2; removals need 1 or 2 for each"
+-- "type 2 needs 1; type 3 needs 0 or 2; removals need 1 or 2 for each"; the others start from any state
 unfoldable pub startOf : ℕ → Start
-startOf k = cond (eqb k 2) Registered (cond (eqb k 3) NotRegistered (cond (between 4 k 8 || eqb k 11) Present Every))
+startOf k = cond (eqb k 2) Registered (cond (eqb k 3) NotRegistered (cond (isRemoval (groupOf k)) Present Every))
 
 abbrev pub allowed : Start → ℕ → Bool
 allowed Registered state = eqb state 1
@@ -31,7 +31,7 @@ allowed NotRegistered state = eqb state 0 || eqb state 2
 allowed Present state = ltb 0 state
 allowed Every state = true
 
--- "Effects, pending cleared": the rows of the table. A name that is kept is the request's, else X5005 was given.
+-- "Effects, pending cleared": the rows of the table. Type 0 has no row and never comes here. A name that is kept is the request's, else X5005 was given.
 unfoldable pub effectOf : ℕ → Bool → Effect
 effectOf k keep =
     cond (leb k 2) (record { state = 1; named = true; result = Base 2001 })

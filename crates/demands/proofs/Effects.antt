@@ -8,12 +8,13 @@ use mathlib.Core.Logic.{_⊎_, inl, inr}
 use lib.ListN.{getD}
 use lib.Dec.{eqb, leb}
 use borrow.Author.Tests.{eqb-true}
+use Rattle.record.specs.Fields.{profileOf}
 use Rattle.table.specs.Blocks.{blockOf, privateAt}
 use Rattle.rewrite.specs.Effect.{afterOf}
 use Rattle.reading.specs.Rules.{Seen, Judged, bad, fine}
 use Rattle.reading.specs.Request.{commandOf, readRequest}
 use Rattle.reading.specs.declared.Outcome.the-variants.{Experimental}
-use Rattle.decisions.specs.Reply.{Reply, plain, profileOf}
+use Rattle.decisions.specs.Reply.{Reply, plain}
 use Rattle.decisions.specs.Types.{groupOf, isRemoval, effectOf}
 use Rattle.decisions.specs.Assignment.{Decision, Assignment, identityFault, every, isOne, isEmpty, recordsOf, allKnown, firstOf, ownerOf, ownAt, fitsAt, rightAt, assigned, storedName, unaltered, effected, assignRecords, assignKnown, assign}
 use Rattle.decisions.specs.Decide.{assignmentOf, decideRead, decideJudged, decide}

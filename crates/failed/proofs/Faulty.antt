@@ -1,4 +1,4 @@
--- The faulty AVP of a request: its number's result, its own bytes, its header alone.
+-- The faulty AVP of a request: its own bytes, or its header alone.
 use Prim.Native.Nat.{ℕ, _+_, _-_, _*_, _/_, _%_, _≤_, _<_, min}
 use mathlib.Core.Path.{_≡_, refl, sym, ap, _∙_}
 use mathlib.Core.Bool.{Bool, true, false, cond}
@@ -16,19 +16,8 @@ use Rattle.octets.proofs.Parts.{part-cut}
 use Rattle.diameter.specs.Avp.{headOf, avpHead, avpLen}
 use Rattle.pen.specs.Groups.{failed, failedSize}
 use Rattle.pen.proofs.Groups.{failed-length}
-use Rattle.reading.specs.Found.{numberOf}
 use Rattle.reading.specs.Rules.{failedOf}
-use Rattle.reading.specs.declared.Outcome.{Outcome}
-use Rattle.reading.specs.declared.Outcome.the-variants.{Base, Experimental}
 use Rattle.failed.specs.Failing.{headPart, alone}
-
-pub base-number : (o : Outcome) (n : ℕ) → o ≡ Base n → n ≡ numberOf o
-unfolding numberOf
-base-number o n e = rw e
-
-pub experimental-number : (o : Outcome) (n : ℕ) → o ≡ Experimental n → n ≡ numberOf o
-unfolding numberOf
-experimental-number o n e = rw e
 
 -- The length in a header, byte by byte.
 pub length-read : (s : List ℕ) (at x y z a b c : ℕ) → x ≡ getD s (at + 5) 0 → a ≡ x → y ≡ getD s (at + 6) 0 → b ≡ y → z ≡ getD s (at + 7) 0 → c ≡ z

@@ -3,7 +3,6 @@ use octets::name;
 use octets::number;
 use octets::run;
 use pen::group;
-use reading::Outcome;
 use reading::kinds;
 ghost use mathlib.Core.Path.{_≡_};
 ghost use Prim.Native.Nat.{_+_, _*_, _≤_, _<_};
@@ -11,21 +10,10 @@ ghost use lib.ListN.{length, take, drop};
 ghost use Rattle.octets.specs.Run.{Wrote};
 ghost use Rattle.diameter.specs.Avp.{avpLen};
 ghost use Rattle.pen.specs.Groups.{failed, failedSize};
-ghost use Rattle.reading.specs.Found.{numberOf};
 ghost use Rattle.reading.specs.Kinds.{rowOf};
 ghost use Rattle.reading.specs.Request.{example};
 ghost use Rattle.reading.specs.Rules.{failedOf};
 ghost use Rattle.failed.specs.Failing.{headPart, alone, sizeOf, sample};
-
-// A result's number, B or X.
-pub fn number_of(o: Outcome) -> u32
-    ensures { λ r. ⌜ r ≡ numberOf o ⌝ }
-{
-    match o {
-        Outcome::Base(n) => n,
-        Outcome::Experimental(n) => n,
-    }
-}
 
 // The length in the header of the AVP at a place, bytes past the end taken as 0.
 fn length_at(s: &[u8], at: usize) -> usize

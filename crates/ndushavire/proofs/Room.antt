@@ -16,14 +16,14 @@ use Rattle.octets.proofs.Chains.{chain-says}
 use Rattle.octets.proofs.Runs.{zero-at}
 use Rattle.record.specs.HeaderBlock.{headerOf, soundCounts, soundNumbers, soundRest, soundHeader}
 use Rattle.record.specs.Networks.{soundNetworks}
-use Rattle.record.specs.Fields.{privateOf, serverOf, soundHead}
+use Rattle.record.specs.Fields.{privateOf, serverOf, mandatoryOf, optionalOf, profileOf, soundHead}
 use Rattle.table.specs.Blocks.{blockOf, privateAt}
 use Rattle.lookup.proofs.Sound.{sound-header}
 use Rattle.lookup.specs.SoundTable.{SoundTable}
 use Rattle.pen.specs.Bytes.{copiedSize}
 use Rattle.reading.specs.Request.{bodyOf}
 use Rattle.reading.specs.declared.Outcome.{Outcome}
-use Rattle.decisions.specs.Reply.{Reply, plain, failing, serving, mandatoryOf, optionalOf, capable, profileOf}
+use Rattle.decisions.specs.Reply.{Reply, plain, failing, serving, capable}
 use Rattle.decisions.specs.Assignment.{Assignment, assigned}
 use Rattle.decisions.specs.Decide.{decide}
 use Rattle.decisions.specs.Planned.{replyOf}

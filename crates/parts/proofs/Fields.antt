@@ -11,14 +11,12 @@ use lib.Seq.{take-nil}
 use borrow.Author.Tests.{ltb-true, leb-true, leb-false, ne-eqb, lt-ltb}
 use Rattle.octets.specs.Number.{be16At, be32At}
 use Rattle.octets.proofs.All.{and-left, and-right}
-use Rattle.record.specs.Fields.{hostOf, realmOf, privateOf, serverOf}
+use Rattle.record.specs.Fields.{hostOf, realmOf, privateOf, serverOf, mandatoryOf, optionalOf, profileOf}
 use Rattle.record.specs.HeaderBlock.{headerOf}
 use Rattle.record.specs.RecordBlock.{recordOf}
-use Rattle.table.specs.Blocks.{blockOf}
+use Rattle.table.specs.Blocks.{blockOf, ofBlock}
 use Rattle.lookup.specs.SoundTable.{SoundTable}
 use Rattle.lookup.proofs.Sound.{sound-header, sound-tests, sound-limits}
-use Rattle.decisions.specs.Reply.{mandatoryOf, optionalOf, profileOf}
-use Rattle.decisions.specs.Planned.{ofBlock}
 use Rattle.parts.specs.SoundAlone.{SoundAlone, profileAt}
 
 -- a table that is sound beside a profile file is sound

@@ -3,9 +3,9 @@ use Prim.Native.Nat.{ℕ}
 use mathlib.Core.List.{List, []}
 use mathlib.Core.Bool.{cond}
 use lib.Dec.{eqb}
+use Rattle.record.specs.Fields.{profileOf}
 use Rattle.table.specs.Blocks.{blockOf}
 use Rattle.lookup.specs.SoundTable.{SoundTable}
-use Rattle.decisions.specs.Reply.{profileOf}
 
 -- a sound table where the profile file does not matter: sound beside a file of some length
 pub record SoundAlone (t : List ℕ) (count : ℕ) : Type 0 where

@@ -8,11 +8,9 @@ ghost use Prim.Native.Nat.{_+_, _*_, _≤_};
 ghost use lib.ListN.{length, take, drop};
 ghost use lib.Dec.{leb, ltb};
 ghost use Rattle.octets.specs.Number.{be16At, be32At};
-ghost use Rattle.record.specs.Fields.{hostOf, realmOf, privateOf, serverOf};
-ghost use Rattle.table.specs.Blocks.{blockOf};
+ghost use Rattle.record.specs.Fields.{hostOf, realmOf, privateOf, serverOf, mandatoryOf, optionalOf, profileOf};
+ghost use Rattle.table.specs.Blocks.{blockOf, ofBlock};
 ghost use Rattle.lookup.specs.SoundTable.{SoundTable};
-ghost use Rattle.decisions.specs.Reply.{mandatoryOf, optionalOf, profileOf};
-ghost use Rattle.decisions.specs.Planned.{ofBlock};
 ghost use Rattle.parts.specs.SoundAlone.{SoundAlone, profileAt};
 
 // Origin-Host and Origin-Realm.

@@ -4,10 +4,23 @@ pub mod group;
 pub mod kinds;
 pub mod rules;
 
+ghost use mathlib.Core.Path.{_≡_};
+ghost use Rattle.reading.specs.Found.{numberOf};
+
 // "B is a base Result-Code, X an Experimental-Result of vendor 10415. They share numbers and never stand for one another."
 pub enum Outcome {
     Base(u32),
     Experimental(u32),
+}
+
+// A result's number, B or X.
+pub fn number_of(o: Outcome) -> u32
+    ensures { λ r. ⌜ r ≡ numberOf o ⌝ }
+{
+    match o {
+        Outcome::Base(n) => n,
+        Outcome::Experimental(n) => n,
+    }
 }
 
 // A result beside the place of the AVP at fault (0: no AVP of the request is) and the kind that is missing (0: none is).

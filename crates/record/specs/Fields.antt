@@ -1,10 +1,10 @@
--- What every block begins with, the names that stand in a block, and the bits of a record.
-use Prim.Native.Nat.{ℕ, _/_, _%_, _-_}
+-- What every block begins with, the names that stand in a block, a record's capabilities, profile and bits.
+use Prim.Native.Nat.{ℕ, _*_, _/_, _%_, _-_}
 use mathlib.Core.Bool.{Bool, _&&_}
 use mathlib.Core.List.{List}
 use lib.ListN.{getD, take, drop}
 use lib.Dec.{eqb}
-use Rattle.octets.specs.Number.{be32At}
+use Rattle.octets.specs.Number.{be16At, be32At}
 
 -- "0 kind", "1 edition 1", "4-7 block number"; the two bytes not named are zero
 abbrev pub soundHead : List ℕ → ℕ → ℕ → Bool
@@ -27,7 +27,17 @@ privateOf b = take (getD b 14 0) (drop 144 b)
 unfoldable pub serverOf : List ℕ → List ℕ
 serverOf b = take (getD b 15 0) (drop 272 b)
 
--- "8 state; 9 bits; 10 roaming"; the length of the server name
+-- What every block begins with, the names that stand in a block, a record's capabilities, profile and bits.
+use Prim.Native.Nat.{ℕ, _*_, _/_, _%_, _-_}
+use mathlib.Core.Bool.{Bool, _&&_}
+use mathlib.Core.List.{List}
+use lib.ListN.{getD, take, drop}
+use lib.Dec.{eqb}
+use Rattle.octets.specs.Number.{be16At, be32At}
+
+-- "0 kind", "1 edition 1", "4-7 block number"; the two bytes not named are zero
+abbrev pub soundHead : List ℕ → ℕ → ℕ → Bool
+soundHead b kind k = eqb (getD b 0 0) kind && eqb (getD b 1 0) 1 && eqb (getD b 2 0) 0 && eqb (getD b 3 0) 0 && eqb (be32At b 4) k
 abbrev pub stateOf : List ℕ → ℕ
 stateOf b = getD b 8 0
 

@@ -5,7 +5,7 @@ use mathlib.Core.List.{List}
 use native.Mathlib.Omega.{arith}
 use lib.Dec.{ltb}
 use lib.ListN.{length, length-append, length-take, length-drop}
-use Rattle.record.specs.Fields.{hostOf, realmOf, privateOf, serverOf}
+use Rattle.record.specs.Fields.{hostOf, realmOf, privateOf, serverOf, mandatoryOf, optionalOf}
 use Rattle.table.specs.Blocks.{blockOf, privateAt}
 use Rattle.lookup.specs.SoundTable.{SoundTable}
 use Rattle.diameter.specs.Walk.{Walk}
@@ -15,7 +15,7 @@ use Rattle.pen.proofs.Groups.{application-length, experimental-length, capabili
 use Rattle.reading.specs.Request.{bodyOf, sessionOf}
 use Rattle.reading.specs.declared.Outcome.{Outcome}
 use Rattle.reading.specs.declared.Outcome.the-variants.{Base, Experimental}
-use Rattle.decisions.specs.Reply.{Reply, mandatoryOf, optionalOf}
+use Rattle.decisions.specs.Reply.{Reply}
 use Rattle.decisions.specs.Planned.{replyOf}
 use Rattle.decisions.specs.declared.Given.{Given}
 use Rattle.parts.proofs.Fields.{alone, host-length, realm-length, user-field, server-field, mandatory-field, optional-field, part-length, profile-length}

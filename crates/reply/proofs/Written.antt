@@ -8,16 +8,14 @@ use borrow.Author.Tests.{eq-eqb, ne-eqb}
 use borrow.Rule.Slice.PartMut.{midOf, putMid}
 use Rattle.octets.specs.Run.{Wrote}
 use Rattle.octets.proofs.Writes.{then, named}
-use Rattle.record.specs.Fields.{hostOf, realmOf, privateOf, serverOf}
-use Rattle.table.specs.Blocks.{blockOf}
+use Rattle.record.specs.Fields.{hostOf, realmOf, privateOf, serverOf, mandatoryOf, optionalOf}
+use Rattle.table.specs.Blocks.{blockOf, ofBlock}
 use Rattle.pen.specs.Bytes.{copiedSize, avpBytes, numberBytes}
 use Rattle.pen.specs.Groups.{experimental, capabilities}
 use Rattle.reading.specs.Found.{numberOf}
 use Rattle.reading.specs.Request.{bodyOf, sessionOf}
 use Rattle.reading.specs.declared.Outcome.{Outcome}
 use Rattle.reading.specs.declared.Outcome.the-variants.{Base, Experimental}
-use Rattle.decisions.specs.Reply.{mandatoryOf, optionalOf}
-use Rattle.decisions.specs.Planned.{ofBlock}
 use Rattle.parts.specs.SoundAlone.{profileAt}
 use Rattle.reply.specs.Answer.{resultBytes, namedBytes, vendorNamed, frontBytes, originBytes, flagsOf, headerBytes}
 use Rattle.reply.specs.Pieces.{startBytes, topBytes, nameBytes, dataBytes, givenOf}

@@ -3,8 +3,8 @@ use Prim.Native.Nat.{ℕ, _+_, _/_, _%_}
 use mathlib.Core.List.{List, [], _∷_, _++_}
 use lib.ListN.{length}
 use lib.Dec.{eqb}
-use Rattle.record.specs.Fields.{privateOf, serverOf}
-use Rattle.table.specs.Blocks.{blockOf}
+use Rattle.record.specs.Fields.{privateOf, serverOf, mandatoryOf, optionalOf}
+use Rattle.table.specs.Blocks.{blockOf, ofBlock}
 use Rattle.pen.specs.Bytes.{copied, copiedSize, ifThere}
 use Rattle.pen.specs.Groups.{capabilities}
 use Rattle.reading.specs.Kinds.{kindOf, proxyInfo}
@@ -12,8 +12,6 @@ use Rattle.reading.specs.Request.{bodyOf, sessionOf}
 use Rattle.reading.specs.Found.{failedBy}
 use Rattle.reading.specs.declared.Outcome.{Outcome}
 use Rattle.reading.specs.declared.Verdict.{Verdict}
-use Rattle.decisions.specs.Reply.{mandatoryOf, optionalOf}
-use Rattle.decisions.specs.Planned.{ofBlock}
 use Rattle.parts.specs.SoundAlone.{profileAt}
 use Rattle.reply.specs.Answer.{namedBytes, vendorNamed, failedPart, proxies, frontBytes, originBytes, headerBytes}
 

@@ -12,7 +12,7 @@ ghost use Rattle.reply.specs.Pieces.{startBytes};
 fn flags_of(flags: u8, result: Outcome) -> u8
     ensures { λ r. ⌜ r ≡ flagsOf flags result ⌝ }
 {
-    if failed::number_of(result) / 1000 == 3 {
+    if reading::number_of(result) / 1000 == 3 {
         return flags / 64 % 2 * 64 + 32;
     }
     flags / 64 % 2 * 64

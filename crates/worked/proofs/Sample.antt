@@ -8,7 +8,7 @@ use Rattle.octets.specs.Name.{orderOf, alikeAt, same}
 use Rattle.octets.specs.Number.{be16At, be24At, be32At, putBe24, putBe32}
 use Rattle.octets.specs.Run.{zeros, zeroBetween, putName, over}
 use Rattle.octets.specs.Sum.{sumWords}
-use Rattle.record.specs.Fields.{hostOf, realmOf, publicOf, privateOf, serverOf}
+use Rattle.record.specs.Fields.{hostOf, realmOf, publicOf, privateOf, serverOf, mandatoryOf, optionalOf, profileOf}
 use Rattle.record.specs.HeaderBlock.{headerOf, soundHeader}
 use Rattle.record.specs.Networks.{networkOf, usedPlace, soundPlace, sameByte, otherPlace, newPlace, soundNetworks}
 use Rattle.record.specs.RecordBlock.{recordOf, soundRecord}
@@ -25,7 +25,7 @@ use Rattle.pen.specs.Groups.{vendorApplication, experimental, failed, vendorNum
 use Rattle.reading.specs.Kinds.{known, kindFrom, kindBy, rowOf, useIn}
 use Rattle.reading.specs.Rules.{isMember, members, goodContent, nothing, ruleBy, rule, failedOf, judge}
 use Rattle.reading.specs.Request.{headerFault, exampleOf, example, missingFrom, missing, complete, readWalk, readRequest, identities}
-use Rattle.decisions.specs.Reply.{served, mandatoryOf, optionalOf, profileOf}
+use Rattle.decisions.specs.Reply.{served}
 use Rattle.decisions.specs.Authorization.{mayRoam, authorizeRecord, authorizeFound, authorize}
 use Rattle.decisions.specs.Location.{locateRecord, locateFound, locate}
 use Rattle.decisions.specs.Types.{groupOf, startOf, effectOf}

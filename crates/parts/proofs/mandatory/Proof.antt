@@ -1,4 +1,4 @@
-use Rattle.decisions.specs.Reply.{mandatoryOf}
+use Rattle.record.specs.Fields.{mandatoryOf}
 use Rattle.parts.proofs.Fields.{record-room, part-there, part-short, part-none, mandatory-field, mandatory-few, mandatory-words}
 use borrow.Author.Needs.{needs}
 use Rattle.parts.proofs.mandatory.Statement.{statement}

@@ -1,4 +1,4 @@
-use Rattle.decisions.specs.Reply.{optionalOf}
+use Rattle.record.specs.Fields.{optionalOf}
 use Rattle.parts.proofs.Fields.{record-room, part-there, part-short, part-none, optional-field, optional-few, optional-words}
 use borrow.Author.Needs.{needs}
 use Rattle.parts.proofs.optional.Statement.{statement}

@@ -18,5 +18,7 @@ plan-first-spec =
     (λ c κs. search needs)
     (λ c κs. search needs)
     (λ c.
-    first-promise _ _ _ _ _ _ _ _ _ _ (c .before .before .before .before .before .before .before .before .before .before .before .before .pre .1) (c .before .before .before .before .before .before .before .before .before .before .before .before .pre .2) (c .before .before .before .before .before .before .before .data-at .ensures .0) (c .before .before .before .before .before .before .find-public .ensures) (c .before .before .before .before .before .survey-for .ensures) (c .before .before .before .before .user-known .ensures) (c .before .before .before .know .ensures)
-    (c .before .before .finding .ensures) (c .before .number-of .ensures) (c .plan-of .ensures)))
+    let found = c .before .before .before .before .before .before in
+    let asked = found .before .before .before .before .before .before .pre in
+    first-promise _ _ _ _ _ _ _ _ _ _ (c .plan-of .ensures) (c .before .number-of .ensures) (c .before .before .finding .ensures)
+    (c .before .before .before .also-known .ensures) (search needs) (search needs) (found .find-public .ensures) (search needs) (asked .2) (asked .1)))

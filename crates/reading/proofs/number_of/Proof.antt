@@ -1,0 +1,14 @@
+use Rattle.reading.specs.Found.{numberOf}
+use borrow.Author.Needs.{needs}
+use Rattle.reading.proofs.number_of.Statement.{statement}
+use Rattle.reading.proofs.number_of.Tie as tie
+
+pub number-of-spec : {M : Type 1} → statement M
+unfolding numberOf
+number-of-spec =
+    tie.close
+    (tie.spec
+    (λ c. search needs)
+    (λ c. search needs)
+    (λ c. search needs)
+    (λ c. search needs))
