@@ -1,6 +1,6 @@
--- Every request whose lengths are right and whose AVPs are all sound is a header and a row of whole AVPs: so demand 3 speaks of any such request.
+-- Every request whose length is right and whose first AVP passes (a) is a header, a row of whole AVPs and what is behind them: so demand 3 speaks of any such request.
 use Prim.Native.Nat.{ℕ, zero, suc, _+_, _-_, _/_, _%_, _<_, _≤_}
-use mathlib.Core.List.{List, [], _∷_, _++_}
+use mathlib.Core.List.{List, [], _∷_, _++_, append-assoc}
 use mathlib.Core.Bool.{Bool, true, false, not, _||_, true≢false}
 use mathlib.Core.Path.{_≡_, refl, sym, ap, _∙_}
 use native.Mathlib.Omega.{arith}
@@ -11,19 +11,20 @@ use borrow.Author.Tests.{eqb-true}
 use Rattle.octets.specs.Number.{be24At, putBe24}
 use Rattle.octets.proofs.Numbers.{be24-take}
 use Rattle.diameter.specs.Avp.{padded, avpHead, avpLen, sound}
-use Rattle.diameter.specs.Walk.{avp, walk}
 use Rattle.diameter.specs.Put.{Piece, bytesOf, Whole, All}
-use Rattle.diameter.proofs.Walks.{sound-says, sound-of, walk-sound, walk-faulty}
+use Rattle.diameter.proofs.Walks.{sound-says, sound-of}
 use Rattle.diameter.proofs.Reading.{flags-take}
-use Rattle.reading.specs.Request.{bodyOf}
 use Rattle.ndushavire.specs.Serve.{wrongLength}
-use Rattle.demands.specs.Insertion.{message, allSound, Cut}
+use Rattle.demands.specs.Insertion.{message, Cut}
 
--- bytes cut into a row of whole AVPs
+-- bytes cut into a row of whole AVPs and what is behind it
 record Row (t : List ℕ) : Type 0 where
   row : List Piece
+  tail : List ℕ
   whole : All Whole row
-  bytes : t ≡ bytesOf row
+  fours : length tail % 4 ≡ 0
+  stops : sound tail ≡ false
+  bytes : t ≡ bytesOf row ++ tail
 
 -- the AVP at the front, with its padding
 module _ (t : List ℕ) (s : sound t ≡ true) (fours : length t % 4 ≡ 0) where
@@ -68,9 +69,9 @@ module _ (t : List ℕ) (s : sound t ≡ true) (fours : length t % 4 ≡ 0) wher
         filled = rw (front-taken, front-length) (length-take-le p t (padded-within .0));
       }
 
-  front-joined : (row : List Piece) → drop p t ≡ bytesOf row → t ≡ bytesOf (front ∷ row)
+  front-joined : (row : List Piece) (tail : List ℕ) → drop p t ≡ bytesOf row ++ tail → t ≡ bytesOf (front ∷ row) ++ tail
   unfolding bytesOf
-  front-joined row e = sym (take-append-drop p t) ∙ rw (front-taken, e)
+  front-joined row tail e = sym (take-append-drop p t) ∙ rw (append-assoc (take n t ++ take (p - n) (drop n t)) (bytesOf row) tail, front-taken, e)
 
   rest-fours : length (drop p t) % 4 ≡ 0
   rest-fours = rw length-drop (omega (arith, padded-within .0, padded-within .1))
@@ -79,25 +80,32 @@ module _ (t : List ℕ) (s : sound t ≡ true) (fours : length t % 4 ≡ 0) wher
   rest-shorter = let h = sound-says t s in rw length-drop (omega (arith, h .eight, h .least, within, padded-within .0, padded-within .2))
 
 abbrev Rows : ℕ → Type 0
-Rows k = (t : List ℕ) → length t ≤ k → length t % 4 ≡ 0 → allSound (walk t) ≡ true → Row t
+Rows k = (t : List ℕ) → length t ≤ k → length t % 4 ≡ 0 → Row t
 
-row-none : Row []
+row-none : (t : List ℕ) → length t % 4 ≡ 0 → sound t ≡ false → Row t
 unfolding bytesOf
-row-none = record { row = []; whole = tt; bytes = refl }
+row-none t f s = record { row = []; tail = t; whole = tt; fours = f; stops = s; bytes = refl }
 
 row-step : (k : ℕ) → Rows k → Rows (suc k)
-row-step k next [] h f e = row-none
-row-step k next (x ∷ t) h f e = go (sound (x ∷ t)) refl
+row-step k next t h f = go (sound t) refl
   where
-    go : (b : Bool) → sound (x ∷ t) ≡ b → Row (x ∷ t)
-    go false s = absurd (true≢false (sym (rw (walk-faulty (x ∷ t) s (omega arith)) at e)))
+    go : (b : Bool) → sound t ≡ b → Row t
+    go false s = row-none t f s
     go true s =
-        let r = next (drop (padded (avpLen (x ∷ t))) (x ∷ t)) (omega (arith, rest-shorter (x ∷ t) s f)) (rest-fours (x ∷ t) s f) (rw (walk-sound (x ∷ t) s) at e) in
-        record { row = front (x ∷ t) s f ∷ r .row; whole = (front-whole (x ∷ t) s f, r .whole); bytes = front-joined (x ∷ t) s f (r .row) (r .bytes) }
+        let r = next (drop (padded (avpLen t)) t) (omega (arith, rest-shorter t s f)) (rest-fours t s f) in
+        record {
+          row = front t s f ∷ r .row;
+          tail = r .tail;
+          whole = (front-whole t s f, r .whole);
+          fours = r .fours;
+          stops = r .stops;
+          bytes = front-joined t s f (r .row) (r .tail) (r .bytes);
+        }
 
 row-start : Rows zero
-row-start [] h f e = row-none
-row-start (x ∷ t) h f e = absurd (omega arith)
+unfolding sound
+row-start [] h f = row-none [] f refl
+row-start (x ∷ t) h f = absurd (omega arith)
 
 row-of : (k : ℕ) → Rows k
 row-of zero = row-start
@@ -119,26 +127,39 @@ module _ (req : List ℕ) (bytes : (i : ℕ) → getD req i 0 < 256) (long : 20 
       let c : length req % 256 ≡ getD h 3 0 = rw (head-at 3 (omega arith)) (omega (arith, field, bytes 1, bytes 2, bytes 3)) in
       rw (a, b, c, set-getD h 1 0, set-getD h 2 0) (set-getD h 3 0)
 
-  joined-so : (row : List Piece) → drop 20 req ≡ bytesOf row → req ≡ message h (bytesOf row)
+  joined-so : (body : List ℕ) → drop 20 req ≡ body → req ≡ message h body
   unfolding message
-  joined-so row d =
-      let l : 20 + length (bytesOf row) ≡ length req = rw (← d, length-drop) (omega arith) in
+  joined-so body d =
+      let l : 20 + length body ≡ length req = rw (← d, length-drop) (omega arith) in
       rw (l, field-kept, ← d) (sym (take-append-drop 20 req))
 
-  cut-by : 20 < length req → (row : List Piece) → All Whole row → drop 20 req ≡ bytesOf row → Cut req
+  cut-by : sound (drop 20 req) ≡ true → (tail : List ℕ) → length tail % 4 ≡ 0 → sound tail ≡ false → (row : List Piece) → All Whole row → drop 20 req ≡ bytesOf row ++ tail → Cut req
   unfolding bytesOf
-  cut-by more [] w d = absurd (omega (arith, rw length-drop at (ap length d)))
-  cut-by more (q ∷ qs) w d = record { head = h; first = q; rest = qs; twenty = length-take-le 20 req long; whole = w; joined = joined-so (q ∷ qs) d }
+  cut-by begins tail f s [] w d = absurd (true≢false (sym begins ∙ ap sound d ∙ s))
+  cut-by begins tail f s (q ∷ qs) w d =
+      record {
+        head = h;
+        first = q;
+        rest = qs;
+        tail = tail;
+        twenty = length-take-le 20 req long;
+        whole = w;
+        fours = f;
+        stops = s;
+        joined = joined-so (bytesOf (q ∷ qs) ++ tail) d;
+      }
 
 right-lengths : (a b : Bool) → (not a || not b) ≡ false → (a ≡ true) × (b ≡ true)
 right-lengths true true e = (refl, refl)
 right-lengths true false e = absurd (true≢false e)
 right-lengths false b e = absurd (true≢false e)
 
-pub every-request : (req : List ℕ) → ((i : ℕ) → getD req i 0 < 256) → 20 < length req → wrongLength req ≡ false → allSound (bodyOf req) ≡ true → Cut req
+pub every-request : (req : List ℕ) → ((i : ℕ) → getD req i 0 < 256) → wrongLength req ≡ false → sound (drop 20 req) ≡ true → Cut req
 unfolding wrongLength
-every-request req bytes more right sounds =
+every-request req bytes right begins =
     let e = right-lengths (eqb (be24At req 1) (length req)) (eqb (length req % 4) 0) right in
     let f : length req % 4 ≡ 0 = eqb-true _ _ (e .1) in
-    let r = row-of (length (drop 20 req)) (drop 20 req) (omega arith) (rw length-drop (omega arith)) sounds in
-    cut-by req bytes (omega arith) (eqb-true _ _ (e .0)) more (r .row) (r .whole) (r .bytes)
+    let b = sound-says (drop 20 req) begins in
+    let l : 28 ≤ length req = omega (arith, b .eight, b .least, b .within, length-drop 20 req) in
+    let r = row-of (length (drop 20 req)) (drop 20 req) (omega arith) (rw length-drop (omega arith)) in
+    cut-by req bytes (omega arith) (eqb-true _ _ (e .0)) begins (r .tail) (r .fours) (r .stops) (r .row) (r .whole) (r .bytes)

@@ -1,6 +1,6 @@
 -- The three demands, as theorems about `serve`: what a call comes to, the table and the buffer afterwards, for any request, table, profile file and buffer.
 -- What the words below mean is in specs/Call, specs/Frame and specs/Insertion.
-use Prim.Native.Nat.{ℕ, _/_, _<_, _≤_}
+use Prim.Native.Nat.{ℕ, _/_, _%_, _<_, _≤_}
 use mathlib.Core.List.{List, _∷_}
 use mathlib.Core.Option.{some}
 use mathlib.Core.Bool.{true, false}
@@ -11,8 +11,9 @@ use Rattle.octets.specs.Run.{over}
 use Rattle.table.specs.Blocks.{blockOf, privateAt}
 use Rattle.table.specs.Check.{checkTable}
 use Rattle.table.specs.declared.Checked.the-variants.{Sound, Bad}
-use Rattle.diameter.specs.Put.{Piece, Whole, All, bytesOf}
-use Rattle.reading.specs.Request.{commandOf, bodyOf}
+use Rattle.diameter.specs.Avp.{sound}
+use Rattle.diameter.specs.Put.{Piece, Whole, All}
+use Rattle.reading.specs.Request.{commandOf}
 use Rattle.decisions.specs.Decide.{decide}
 use Rattle.reply.specs.Answer.{answerBytes}
 use Rattle.ndushavire.specs.declared.Call.the-variants.{Answered, Refused}
@@ -21,11 +22,11 @@ use Rattle.ndushavire.specs.Word.{callNumber, callValue, callWord, callIn, Read
 use Rattle.ndushavire.specs.Promise.{DecidePromise}
 use Rattle.demands.specs.Call.{Tried, unsound, turnedAway, answerTo}
 use Rattle.demands.specs.Frame.{succeeds, subscriptionOf, alterable}
-use Rattle.demands.specs.Insertion.{message, Foreign, Quiet, Inserted, FirstMarked, faultIn, unsupported, allSound, Cut}
+use Rattle.demands.specs.Insertion.{requestOf, Foreign, Quiet, Inserted, FirstMarked, faultIn, unsupported, Cut}
 use Rattle.demands.proofs.Refusals.{refusals, number-most, besides-none, besides-block, answer-long, word-reads, refused-kept, answered-is, buffer-length, buffer-past}
 use Rattle.demands.proofs.Fitting.{fits}
 use Rattle.demands.proofs.Frame.{question-kept, failure-kept, others-kept, header-kept, bytes-kept, bits-kept, size-kept, sound-kept}
-use Rattle.demands.proofs.Insertions.{quiet-foreign, unmarked-same, marked-or-not, marked-kept, mark-answered, fault-first}
+use Rattle.demands.proofs.Insertions.{unmarked-same, marked-or-not, marked-kept, mark-answered, fault-first}
 use Rattle.demands.proofs.Cuts.{every-request}
 
 -- THE CALL. What the exported call is promised to return and to leave is `serve`: the call that its word says, the table, the buffer. So each theorem below is one about it.
@@ -110,31 +111,33 @@ module _ (req t file o : List ℕ) where
   pub demand-2-past : drop (callValue (serve req t file o .call)) (serve req t file o .buffer) ≡ drop (callValue (serve req t file o .call)) o
   demand-2-past = buffer-past req t file o
 
--- DEMAND 3. A request is a header and a row of whole AVPs, `q` and then `qs`. AVPs of unknown kinds are put into the row after its first, at one place or at several,
--- so that it is `q` and then `rs`; the length field is put right, and the whole stays within 16,384 bytes.
-module _ (head : List ℕ) (twenty : length head ≡ 20) (q : Piece) (qs rs : List Piece) (whole : All Whole (q ∷ qs)) (most : length (message head (bytesOf (q ∷ rs))) ≤ 16384)
-    (t file o : List ℕ) where
+-- DEMAND 3. A request is a header, a row of AVPs that pass (a), `q` and then `qs`, and any bytes behind them. AVPs of unknown kinds are put into the row after its first, at one place
+-- or at several, so that it is `q` and then `rs`; the length field is put right, and the whole stays within 16,384 bytes. Before `q` there is no place, for (b) wants a Session-Id there;
+-- nor are there such AVPs with reserved flags, which (c) calls B3009.
+module _ (head : List ℕ) (twenty : length head ≡ 20) (q : Piece) (qs rs : List Piece) (whole : All Whole (q ∷ qs)) (tail : List ℕ) (fours : length tail % 4 ≡ 0)
+    (most : length (requestOf head (q ∷ rs) tail) ≤ 16384) (t file o : List ℕ) where
   -- If none of them is marked M, the call comes to the same, and leaves the same table and the same buffer.
-  pub demand-3-unmarked : Inserted Quiet qs rs → serve (message head (bytesOf (q ∷ rs))) t file o ≡ serve (message head (bytesOf (q ∷ qs))) t file o
-  demand-3-unmarked i = unmarked-same head twenty q qs rs whole (quiet-foreign i) most i t file o
+  pub demand-3-unmarked : Inserted Quiet qs rs → serve (requestOf head (q ∷ rs) tail) t file o ≡ serve (requestOf head (q ∷ qs) tail) t file o
+  demand-3-unmarked i = unmarked-same head twenty q qs rs whole tail fours most i t file o
 
   -- If one is, the table is as it was ..
-  pub demand-3-table : FirstMarked qs rs → serve (message head (bytesOf (q ∷ rs))) t file o .table ≡ t
-  demand-3-table m = marked-kept head twenty q qs rs whole m most t file o
+  pub demand-3-table : FirstMarked qs rs → serve (requestOf head (q ∷ rs) tail) t file o .table ≡ t
+  demand-3-table m = marked-kept head twenty q qs rs whole tail fours most m t file o
 
   -- .. and the answer is the one of B5001 with the first marked one in Failed-AVP (before a missing AVP, and before a SAR's own B5005 and B5009) ..
-  pub demand-3-marked : (m : FirstMarked qs rs) → faultIn head (q ∷ m .front) ≡ false → turnedAway (message head (bytesOf (q ∷ qs))) t file o ≡ false
-      → serve (message head (bytesOf (q ∷ rs))) t file o ≡ answered (message head (bytesOf (q ∷ rs))) t o (unsupported t (m .mark))
-  demand-3-marked m e = mark-answered head twenty q qs rs whole m most e t file o
+  pub demand-3-marked : (m : FirstMarked qs rs) → faultIn head (q ∷ m .front) ≡ false → turnedAway (requestOf head (q ∷ qs) tail) t file o ≡ false
+      → serve (requestOf head (q ∷ rs) tail) t file o ≡ answered (requestOf head (q ∷ rs) tail) t o (unsupported t (m .mark))
+  demand-3-marked m e = mark-answered head twenty q qs rs whole tail fours most m e t file o
 
   -- .. unless the header or an AVP before it breaks a reading rule, (a) to (h): then the call gives what it gives without them.
-  pub demand-3-fault : (m : FirstMarked qs rs) → faultIn head (q ∷ m .front) ≡ true → serve (message head (bytesOf (q ∷ rs))) t file o ≡ serve (message head (bytesOf (q ∷ qs))) t file o
-  demand-3-fault m e = fault-first head twenty q qs rs whole m most e t file o
+  pub demand-3-fault : (m : FirstMarked qs rs) → faultIn head (q ∷ m .front) ≡ true → serve (requestOf head (q ∷ rs) tail) t file o ≡ serve (requestOf head (q ∷ qs) tail) t file o
+  demand-3-fault m e = fault-first head twenty q qs rs whole tail fours most m e t file o
 
 -- These are all cases: of those put in none is marked, or one is the first that is.
 pub demand-3-cases : (qs rs : List Piece) → Inserted Foreign qs rs → Inserted Quiet qs rs ⊎ FirstMarked qs rs
 demand-3-cases qs rs = marked-or-not
 
--- And these are all requests: bytes with an AVP, whose length is right and whose AVPs have sound lengths, are such a header and row.
-pub demand-3-any : (req : List ℕ) → ((i : ℕ) → getD req i 0 < 256) → 20 < length req → wrongLength req ≡ false → allSound (bodyOf req) ≡ true → Cut req
+-- And these are all requests that are not refused by their length and whose first AVP passes (a): their bytes are such a header, row and rest, and the row is as long as it can be,
+-- so that every place before the first length fault is one of its places. Any other has no place: no AVP, or a length fault in its first.
+pub demand-3-any : (req : List ℕ) → ((i : ℕ) → getD req i 0 < 256) → wrongLength req ≡ false → sound (drop 20 req) ≡ true → Cut req
 demand-3-any = every-request

@@ -1,5 +1,5 @@
 -- Demand 3: AVPs of unknown kinds put into a request after its first AVP. Without M nothing changes; the first with M is B5001, unless a fault before it decides.
-use Prim.Native.Nat.{ℕ, _+_, _≤_}
+use Prim.Native.Nat.{ℕ, _+_, _%_, _≤_}
 use mathlib.Core.List.{List, [], _∷_, _++_}
 use mathlib.Core.Option.{none, some}
 use mathlib.Core.Bool.{Bool, true, false, not, cond, _||_, true≢false}
@@ -11,7 +11,7 @@ use lib.Dec.{eqb}
 use Rattle.pen.specs.Bytes.{ifThere}
 use Rattle.diameter.specs.Walk.{Walk, ended, avp, walk}
 use Rattle.diameter.specs.Put.{glue, Piece, bytesOf, avpsOf, Whole, All}
-use Rattle.diameter.proofs.Pieces.{walk-row, row-even, avps-joined, glue-glue}
+use Rattle.diameter.proofs.Pieces.{walk-pieces, row-even, avps-joined, glue-glue}
 use Rattle.reading.specs.declared.Outcome.the-variants.{Base}
 use Rattle.reading.specs.Kinds.{sessionId}
 use Rattle.reading.specs.Rules.{Seen, Judged, bad, fine, nothing, rule, onRule, judge}
@@ -21,7 +21,7 @@ use Rattle.decisions.specs.Decide.{decideJudged, decide}
 use Rattle.reply.specs.Answer.{proxies}
 use Rattle.ndushavire.specs.Serve.{answered, serve}
 use Rattle.demands.specs.Call.{turnedAway}
-use Rattle.demands.specs.Insertion.{message, Foreign, isMarked, Quiet, Inserted, ending, keep, put, FirstMarked, isFault, faultIn, unsupported}
+use Rattle.demands.specs.Insertion.{message, requestOf, Foreign, isMarked, Quiet, Inserted, ending, keep, put, FirstMarked, isFault, faultIn, unsupported}
 use Rattle.demands.proofs.Refusals.{refused-kept, answered-is, counted}
 use Rattle.demands.proofs.Messages.{message-length, message-flags, message-read, readBody, Fit, size-right, length-right, Alike, served-same}
 
@@ -122,12 +122,12 @@ foreign-proxies = inserted-same proxies (λ a v w e. rw e) (λ u w p. rw (p .str
 pub quiet-foreign : {qs rs : List Piece} → Inserted Quiet qs rs → Inserted Foreign qs rs
 quiet-foreign = inserted-as (λ u p. p .foreign)
 
-quiet-read : (head : List ℕ) (a : List ℕ) {qs rs : List Piece} → Inserted Quiet qs rs → readBody head (avp a (glue (avpsOf rs) ended)) ≡ readBody head (avp a (glue (avpsOf qs) ended))
+quiet-read : (head : List ℕ) (a : List ℕ) {qs rs : List Piece} → Inserted Quiet qs rs → (w : Walk) → readBody head (avp a (glue (avpsOf rs) w)) ≡ readBody head (avp a (glue (avpsOf qs) w))
 unfolding readBody readWalk
-quiet-read head a {qs} {rs} i =
+quiet-read head a {qs} {rs} i w =
     let c = commandOf head in
-    let e : judge c (avp a (glue (avpsOf rs) ended)) nothing ≡ judge c (avp a (glue (avpsOf qs) ended)) nothing =
-    ap (λ (f : Seen → Judged). f nothing) (judge-goes c a (glue (avpsOf rs) ended) (glue (avpsOf qs) ended) (quiet-judge c i ended)) in
+    let e : judge c (avp a (glue (avpsOf rs) w)) nothing ≡ judge c (avp a (glue (avpsOf qs) w)) nothing =
+    ap (λ (f : Seen → Judged). f nothing) (judge-goes c a (glue (avpsOf rs) w) (glue (avpsOf qs) w) (quiet-judge c i w)) in
     rw e
 
 -- What reading a request comes to, by the header's fault, by rule (b), by what the AVPs in front come to, and by those behind.
@@ -171,61 +171,92 @@ none-decides head true false (fine seen) k a e g = rw (g seen)
 mark-judged : (command : ℕ) (m : Piece) (w : Walk) (seen : Seen) → Foreign m → isMarked m ≡ true → judge command (avp (m .avp) w) seen ≡ bad (Base 5001) (some (m .avp))
 mark-judged command m w seen f e = judge-marked command (m .avp) w (f .plain) (f .stranger) seen e ∙ rw (put-failed m 5001 (f .whole) refl)
 
--- A request, the row of its AVPs after the first, and the longer row.
-module _ (head : List ℕ) (twenty : length head ≡ 20) (q : Piece) (qs rs : List Piece) (whole : All Whole (q ∷ qs)) (i : Inserted Foreign qs rs)
-    (most : length (message head (bytesOf (q ∷ rs))) ≤ 16384) where
+-- A request, the row of its AVPs after the first, the longer row, and what is behind it.
+module _ (head : List ℕ) (twenty : length head ≡ 20) (q : Piece) (qs rs : List Piece) (whole : All Whole (q ∷ qs)) (tail : List ℕ) (fours : length tail % 4 ≡ 0)
+    (most : length (requestOf head (q ∷ rs) tail) ≤ 16384) where
   abbrev short : List ℕ
-  short = bytesOf (q ∷ qs)
+  short = bytesOf (q ∷ qs) ++ tail
 
   abbrev long : List ℕ
-  long = bytesOf (q ∷ rs)
+  long = bytesOf (q ∷ rs) ++ tail
 
-  long-whole : All Whole (q ∷ rs)
-  long-whole = (whole .0, inserted-whole (λ u p. p .whole) i (whole .1))
-
-  long-fit : Fit long
-  long-fit = record { most = rw (← message-length head twenty long) most; fours = row-even (q ∷ rs) long-whole }
-
-  short-fit : Fit short
-  short-fit = record { most = omega (arith, long-fit .most, inserted-longer (keep q i)); fours = row-even (q ∷ qs) whole }
-
-  short-walk : walk short ≡ avp (q .avp) (glue (avpsOf qs) ended)
+  short-walk : walk short ≡ avp (q .avp) (glue (avpsOf qs) (walk tail))
   unfolding avpsOf glue
-  short-walk = walk-row (q ∷ qs) whole
+  short-walk = walk-pieces (q ∷ qs) tail whole
 
-  long-walk : walk long ≡ avp (q .avp) (glue (avpsOf rs) ended)
-  unfolding avpsOf glue
-  long-walk = walk-row (q ∷ rs) long-whole
+  even : (ps : List Piece) → All Whole ps → length (bytesOf ps ++ tail) % 4 ≡ 0
+  even ps w = rw (length-append (bytesOf ps) tail) (omega (arith, row-even ps w, fours))
 
-  both-alike : Alike (walk long) (walk short)
-  unfolding avpsOf glue
-  both-alike = rw (long-walk, short-walk) (record { session = refl; copies = foreign-proxies (keep q i) ended })
+  module _ (i : Inserted Foreign qs rs) where
+    long-whole : All Whole (q ∷ rs)
+    long-whole = (whole .0, inserted-whole (λ u p. p .whole) i (whole .1))
 
-  both-named : identities (walk long) ≡ identities (walk short)
-  unfolding avpsOf glue
-  both-named = rw (long-walk, short-walk) (foreign-identities (keep q i) ended)
+    long-fit : Fit long
+    long-fit = record { most = rw (← message-length head twenty long) most; fours = even (q ∷ rs) long-whole }
+
+    short-fit : Fit short
+    short-fit =
+        record {
+          most = omega (arith, long-fit .most, inserted-longer (keep q i), length-append (bytesOf (q ∷ qs)) tail, length-append (bytesOf (q ∷ rs)) tail);
+          fours = even (q ∷ qs) whole;
+        }
+
+    long-walk : walk long ≡ avp (q .avp) (glue (avpsOf rs) (walk tail))
+    unfolding avpsOf glue
+    long-walk = walk-pieces (q ∷ rs) tail long-whole
+
+    both-alike : Alike (walk long) (walk short)
+    unfolding avpsOf glue
+    both-alike = rw (long-walk, short-walk) (record { session = refl; copies = foreign-proxies (keep q i) (walk tail) })
+
+    both-named : identities (walk long) ≡ identities (walk short)
+    unfolding avpsOf glue
+    both-named = rw (long-walk, short-walk) (foreign-identities (keep q i) (walk tail))
+
+    both-served : readBody head (walk long) ≡ readBody head (walk short) → (t file o : List ℕ) → serve (message head long) t file o ≡ serve (message head short) t file o
+    both-served e t file o = served-same head twenty long short both-alike e both-named t file o long-fit short-fit
+
+    turned-same : (t file o : List ℕ) → turnedAway (message head long) t file o ≡ turnedAway (message head short) t file o
+    turned-same t file o =
+        rw (
+          size-right head twenty long long-fit,
+          size-right head twenty short short-fit,
+          length-right head twenty long long-fit,
+          length-right head twenty short short-fit,
+          message-flags head twenty long,
+          message-flags head twenty short,
+        )
 
   pub unmarked-same : Inserted Quiet qs rs → (t file o : List ℕ) → serve (message head long) t file o ≡ serve (message head short) t file o
-  unmarked-same j t file o =
-      served-same head twenty long short both-alike (rw (long-walk, short-walk) (quiet-read head (q .avp) j)) both-named t file o long-fit short-fit
+  unmarked-same j = let i = quiet-foreign j in both-served i (rw (long-walk i, short-walk) (quiet-read head (q .avp) j (walk tail)))
 
 -- Some are marked: the row before the first marked one decides, or that one does.
 marked-inserted : {qs rs : List Piece} → FirstMarked qs rs → Inserted Foreign qs rs
 marked-inserted m = rw (m .row, m .longer) (inserted-joined (quiet-foreign (m .quiet)) (put (m .mark) (m .foreign) (m .rest)))
 
-row-joined : (q : Piece) (ps ss : List Piece) → glue (avpsOf (q ∷ ps ++ ss)) ended ≡ glue (avpsOf (q ∷ ps)) (glue (avpsOf ss) ended)
-row-joined q ps ss = rw (avps-joined (q ∷ ps) ss) (glue-glue (avpsOf (q ∷ ps)) (avpsOf ss) ended)
+row-joined : (q : Piece) (ps ss : List Piece) (w : Walk) → glue (avpsOf (q ∷ ps ++ ss)) w ≡ glue (avpsOf (q ∷ ps)) (glue (avpsOf ss) w)
+row-joined q ps ss w = rw (avps-joined (q ∷ ps) ss) (glue-glue (avpsOf (q ∷ ps)) (avpsOf ss) w)
 
-module _ (head : List ℕ) (twenty : length head ≡ 20) (q : Piece) (qs rs : List Piece) (whole : All Whole (q ∷ qs)) (m : FirstMarked qs rs)
-    (most : length (message head (bytesOf (q ∷ rs))) ≤ 16384) where
+module _ (head : List ℕ) (twenty : length head ≡ 20) (q : Piece) (qs rs : List Piece) (whole : All Whole (q ∷ qs)) (tail : List ℕ) (fours : length tail % 4 ≡ 0)
+    (most : length (requestOf head (q ∷ rs) tail) ≤ 16384) (m : FirstMarked qs rs) where
   abbrev i : Inserted Foreign qs rs
   i = marked-inserted m
+
+  abbrev longer : List ℕ
+  longer = requestOf head (q ∷ rs) tail
+
+  abbrev shorter : List ℕ
+  shorter = requestOf head (q ∷ qs) tail
 
   abbrev headed : Bool
   headed = eqb (headerFault head) 0
 
   abbrev behind : List Piece → Seen → Judged
-  behind ps = judge (commandOf head) (glue (avpsOf ps) ended)
+  behind ps = judge (commandOf head) (glue (avpsOf ps) (walk tail))
+
+  -- what reading comes to, by those behind the front row
+  reading : (Seen → Judged) → Judged
+  reading = readFrom head headed (frontOther q (m .front)) (frontJudged head q (m .front))
 
   front-same : frontJudged head q (m .before) ≡ frontJudged head q (m .front)
   front-same = ap (λ (f : Seen → Judged). f nothing) (quiet-judge (commandOf head) (keep q (m .quiet)) ended)
@@ -234,62 +265,47 @@ module _ (head : List ℕ) (twenty : length head ≡ 20) (q : Piece) (qs rs : Li
   unfolding avpsOf glue
   other-same = refl
 
-  long-read : readBody head (walk (bytesOf (q ∷ rs))) ≡ readFrom head headed (frontOther q (m .front)) (frontJudged head q (m .front)) (behind (m .mark ∷ m .after))
+  long-read : readBody head (walk (bytesOf (q ∷ rs) ++ tail)) ≡ reading (behind (m .mark ∷ m .after))
+  unfolding reading
   long-read =
-      ap (readBody head) (walk-row (q ∷ rs) (long-whole head twenty q qs rs whole i most) ∙ ap (λ (l : List Piece). glue (avpsOf (q ∷ l)) ended) (m .longer) ∙ row-joined q (m .before) (m .mark ∷ m .after))
-      ∙ read-behind head q (m .before) (glue (avpsOf (m .mark ∷ m .after)) ended)
+      ap (readBody head)
+      (walk-pieces (q ∷ rs) tail (long-whole head twenty q qs rs whole tail fours most i)
+      ∙ ap (λ (l : List Piece). glue (avpsOf (q ∷ l)) (walk tail)) (m .longer)
+      ∙ row-joined q (m .before) (m .mark ∷ m .after) (walk tail))
+      ∙ read-behind head q (m .before) (glue (avpsOf (m .mark ∷ m .after)) (walk tail))
       ∙ rw (front-same, other-same)
 
-  short-read : readBody head (walk (bytesOf (q ∷ qs))) ≡ readFrom head headed (frontOther q (m .front)) (frontJudged head q (m .front)) (behind (m .back))
+  short-read : readBody head (walk (bytesOf (q ∷ qs) ++ tail)) ≡ reading (behind (m .back))
+  unfolding reading
   short-read =
-      ap (readBody head) (walk-row (q ∷ qs) whole ∙ ap (λ (l : List Piece). glue (avpsOf (q ∷ l)) ended) (m .row) ∙ row-joined q (m .front) (m .back))
-      ∙ read-behind head q (m .front) (glue (avpsOf (m .back)) ended)
+      ap (readBody head)
+      (walk-pieces (q ∷ qs) tail whole ∙ ap (λ (l : List Piece). glue (avpsOf (q ∷ l)) (walk tail)) (m .row) ∙ row-joined q (m .front) (m .back) (walk tail))
+      ∙ read-behind head q (m .front) (glue (avpsOf (m .back)) (walk tail))
 
-  pub fault-first : faultIn head (q ∷ m .front) ≡ true → (t file o : List ℕ) → serve (message head (bytesOf (q ∷ rs))) t file o ≡ serve (message head (bytesOf (q ∷ qs))) t file o
-  unfolding faultIn
-  fault-first e t file o =
-      served-same head twenty (bytesOf (q ∷ rs)) (bytesOf (q ∷ qs)) (both-alike head twenty q qs rs whole i most)
+  pub fault-first : faultIn head (q ∷ m .front) ≡ true → (t file o : List ℕ) → serve longer t file o ≡ serve shorter t file o
+  unfolding faultIn reading
+  fault-first e =
+      both-served head twenty q qs rs whole tail fours most i
       (long-read ∙ fault-decides head headed (frontOther q (m .front)) (frontJudged head q (m .front)) (behind (m .mark ∷ m .after)) (behind (m .back)) e ∙ sym short-read)
-      (both-named head twenty q qs rs whole i most) t file o (long-fit head twenty q qs rs whole i most) (short-fit head twenty q qs rs whole i most)
 
-  abbrev longer : List ℕ
-  longer = message head (bytesOf (q ∷ rs))
-
-  long-decides : (t : List ℕ) (count : ℕ) (file : List ℕ)
-      → decide longer t count file ≡ decideJudged longer t count file (readFrom head headed (frontOther q (m .front)) (frontJudged head q (m .front)) (behind (m .mark ∷ m .after)))
+  long-decides : (t : List ℕ) (count : ℕ) (file : List ℕ) → decide longer t count file ≡ decideJudged longer t count file (reading (behind (m .mark ∷ m .after)))
   unfolding decide
-  long-decides t count file = rw (message-read head twenty (bytesOf (q ∷ rs)), long-read)
+  long-decides t count file = rw (message-read head twenty (bytesOf (q ∷ rs) ++ tail), long-read)
 
   mark-decides : faultIn head (q ∷ m .front) ≡ false → (t : List ℕ) (count : ℕ) (file : List ℕ) → decide longer t count file ≡ unsupported t (m .mark)
-  unfolding faultIn decideJudged avpsOf glue
+  unfolding faultIn decideJudged avpsOf glue reading
   mark-decides e t count file =
       long-decides t count file
       ∙ rw (none-decides head headed (frontOther q (m .front)) (frontJudged head q (m .front)) (behind (m .mark ∷ m .after)) (m .mark .avp) e
-      (λ seen. mark-judged (commandOf head) (m .mark) (glue (avpsOf (m .after)) ended) seen (m .foreign) (m .marking)))
+      (λ seen. mark-judged (commandOf head) (m .mark) (glue (avpsOf (m .after)) (walk tail)) seen (m .foreign) (m .marking)))
 
-  turned-same : (t file o : List ℕ) → turnedAway longer t file o ≡ turnedAway (message head (bytesOf (q ∷ qs))) t file o
-  turned-same t file o =
-      let x = bytesOf (q ∷ rs) in
-      let y = bytesOf (q ∷ qs) in
-      let a = long-fit head twenty q qs rs whole i most in
-      let b = short-fit head twenty q qs rs whole i most in
-      rw (
-        size-right head twenty x a,
-        size-right head twenty y b,
-        length-right head twenty x a,
-        length-right head twenty y b,
-        message-flags head twenty x,
-        message-flags head twenty y,
-      )
-
-  pub mark-answered : faultIn head (q ∷ m .front) ≡ false → (t file o : List ℕ) → turnedAway (message head (bytesOf (q ∷ qs))) t file o ≡ false
-      → serve longer t file o ≡ answered longer t o (unsupported t (m .mark))
+  pub mark-answered : faultIn head (q ∷ m .front) ≡ false → (t file o : List ℕ) → turnedAway shorter t file o ≡ false → serve longer t file o ≡ answered longer t o (unsupported t (m .mark))
   mark-answered e t file o away =
-      let f : turnedAway longer t file o ≡ false = turned-same t file o ∙ away in
+      let f : turnedAway longer t file o ≡ false = turned-same head twenty q qs rs whole tail fours most i t file o ∙ away in
       counted longer t file o f (λ count sound. answered-is longer t file o count sound f ∙ ap (answered longer t o) (mark-decides e t count file))
 
   pub marked-kept : (t file o : List ℕ) → serve longer t file o .table ≡ t
-  unfolding answered faultIn
+  unfolding answered faultIn reading
   marked-kept t file o = go (turnedAway longer t file o) refl (faultIn head (q ∷ m .front)) refl
     where
       go : (x : Bool) → turnedAway longer t file o ≡ x → (y : Bool) → faultIn head (q ∷ m .front) ≡ y → serve longer t file o .table ≡ t

@@ -1,5 +1,5 @@
 -- AVPs of unknown kinds put into a request.
-use Prim.Native.Nat.{ℕ, _+_}
+use Prim.Native.Nat.{ℕ, _+_, _%_}
 use mathlib.Core.List.{List, [], _∷_, _++_}
 use mathlib.Core.Option.{some}
 use mathlib.Core.Bool.{Bool, true, false, not, _||_}
@@ -7,8 +7,8 @@ use mathlib.Core.Path.{_≡_}
 use lib.ListN.{length}
 use lib.Dec.{eqb}
 use Rattle.octets.specs.Number.{putBe24}
-use Rattle.diameter.specs.Avp.{avpFlags, reserved, marked}
-use Rattle.diameter.specs.Walk.{Walk, ended, faulty, avp}
+use Rattle.diameter.specs.Avp.{avpFlags, reserved, marked, sound}
+use Rattle.diameter.specs.Walk.{ended}
 use Rattle.diameter.specs.Put.{Piece, Whole, All, bytesOf, avpsOf, glue}
 use Rattle.reading.specs.Kinds.{kindOf}
 use Rattle.reading.specs.Rules.{Judged, bad, fine, nothing, judge}
@@ -17,9 +17,13 @@ use Rattle.reading.specs.declared.Outcome.the-variants.{Base}
 use Rattle.decisions.specs.Reply.{failing}
 use Rattle.decisions.specs.Assignment.{Decision, unaltered}
 
--- a request of a header of 20 bytes and a body, "the length field put right"
+-- a request of a header of 20 bytes and a body, its length field put right
 unfoldable pub message : List ℕ → List ℕ → List ℕ
 message head body = putBe24 head 1 (20 + length body) ++ body
+
+-- a request of a header, a row of AVPs and what is behind them
+abbrev pub requestOf : List ℕ → List Piece → List ℕ → List ℕ
+requestOf head qs tail = message head (bytesOf qs ++ tail)
 
 -- an AVP of an unknown kind with its padding: sound, filled up to a multiple of 4, no reserved flag
 pub record Foreign (u : Piece) : Type 0 where
@@ -63,21 +67,18 @@ isFault (fine seen) = false
 unfoldable pub faultIn : List ℕ → List Piece → Bool
 faultIn head qs = not (eqb (headerFault head) 0) || firstOther (glue (avpsOf qs) ended) || isFault (judge (commandOf head) (glue (avpsOf qs) ended) nothing)
 
--- "AVP unsupported": B5001 with the AVP in Failed-AVP, and the table as it was
+-- (d) "kind unknown: with M B5001": the AVP is in Failed-AVP, and the table is as it was
 abbrev pub unsupported : List ℕ → Piece → Decision
 unsupported t m = unaltered t (failing (Base 5001) (some (m .avp)))
 
--- all AVPs of a body have sound lengths
-abbrev pub allSound : Walk → Bool
-allSound ended = true
-allSound (faulty t) = false
-allSound (avp a w) = allSound w
-
--- a request cut into its header and its AVPs
+-- A request cut into its header, its AVPs that pass (a), and what is behind them: nothing, or bytes at whose front no AVP passes (a).
 pub record Cut (req : List ℕ) : Type 0 where
   pub head : List ℕ
   pub first : Piece
   pub rest : List Piece
+  pub tail : List ℕ
   pub twenty : length head ≡ 20
   pub whole : All Whole (first ∷ rest)
-  pub joined : req ≡ message head (bytesOf (first ∷ rest))
+  pub fours : length tail % 4 ≡ 0
+  pub stops : sound tail ≡ false
+  pub joined : req ≡ requestOf head (first ∷ rest) tail

@@ -25,7 +25,7 @@ use Rattle.ndushavire.specs.Word.{callNumber, callValue, callWord, Reads}
 use Rattle.worked.proofs.Sample.{header, person, request, answer, s, z, opened}
 use Rattle.demands.specs.Call.{Tried, unsound, turnedAway, answerTo}
 use Rattle.demands.specs.Frame.{firstOwner, askedIn, subscriptionOf, alterable}
-use Rattle.demands.specs.Insertion.{message, Foreign, Quiet, Inserted, ending, keep, put, FirstMarked, faultIn, Cut}
+use Rattle.demands.specs.Insertion.{message, requestOf, Foreign, Quiet, Inserted, ending, keep, put, FirstMarked, faultIn, Cut}
 use Rattle.demands.proofs.Demands.{promised, demand-1, demand-1-number, demand-1-none, demand-1-block, demand-1-length, demand-1-fits, demand-1-word, demand-1-kept}
 use Rattle.demands.proofs.Demands.{demand-2, demand-2-failure, demand-2-others, demand-2-header, demand-2-bytes, demand-2-bits, demand-2-size, demand-2-sound, demand-2-question, demand-2-room, demand-2-past}
 use Rattle.demands.proofs.Demands.{demand-3-unmarked, demand-3-table, demand-3-marked, demand-3-fault, demand-3-cases, demand-3-any}
@@ -67,7 +67,7 @@ rest : List ℕ → ℕ → List Piece
 rest server kind = application ∷ common ++ own server kind
 
 sar : List ℕ → ℕ → List ℕ
-sar server kind = message head (bytesOf (session ∷ rest server kind))
+sar server kind = requestOf head (session ∷ rest server kind) []
 
 -- a call that is answered by these bytes
 comes : List ℕ → List ℕ → Served
@@ -231,12 +231,27 @@ kept [] = ending
 kept (q ∷ qs) = keep q (kept qs)
 
 -- two unmarked ones between, and one at the end of the SAR that succeeds: the same answer and the same table
-met-3-unmarked : serve (message head (bytesOf (session ∷ application ∷ plain ∷ zeroVendor ∷ common ++ (own s 5 ++ (plain ∷ []))))) table [] room ≡ comes removed (answer (numberBytes 268 2001) [])
+met-3-unmarked : serve (requestOf head (session ∷ application ∷ plain ∷ zeroVendor ∷ common ++ (own s 5 ++ (plain ∷ []))) []) table [] room ≡ comes removed (answer (numberBytes 268 2001) [])
 unfolding all isWhole allWhole
 met-3-unmarked =
-    demand-3-unmarked head refl session (rest s 5) (application ∷ plain ∷ zeroVendor ∷ common ++ (own s 5 ++ (plain ∷ []))) (all-whole (session ∷ rest s 5) refl) (lit≤ tt) table [] room
+    demand-3-unmarked head refl session (rest s 5) (application ∷ plain ∷ zeroVendor ∷ common ++ (own s 5 ++ (plain ∷ []))) (all-whole (session ∷ rest s 5) refl) [] refl (lit≤ tt) table [] room
     (keep _ (put plain quiet-plain (put zeroVendor quiet-zero (keep _ (keep _ (keep _ (keep _ (keep _ (keep _ (keep _ (keep _ (put plain quiet-plain ending))))))))))))
     ∙ removal
+
+-- the same before an AVP that says a length of 4, which is B5014
+cut : List ℕ
+cut = 0 ∷ 0 ∷ 0 ∷ 1 ∷ 0 ∷ 0 ∷ 0 ∷ 4 ∷ []
+
+cut-answered : serve (requestOf head (session ∷ rest s 5) cut) table [] room ≡ comes table (answer (numberBytes 268 5014) (failed (headBytes 1 0 8)))
+unfolding all cut
+cut-answered = refl
+
+met-3-tail : serve (requestOf head (session ∷ application ∷ plain ∷ common ++ own s 5) cut) table [] room ≡ comes table (answer (numberBytes 268 5014) (failed (headBytes 1 0 8)))
+unfolding all isWhole allWhole cut
+met-3-tail =
+    demand-3-unmarked head refl session (rest s 5) (application ∷ plain ∷ common ++ own s 5) (all-whole (session ∷ rest s 5) refl) cut refl (lit≤ tt) table [] room
+    (keep _ (put plain quiet-plain (kept (common ++ own s 5))))
+    ∙ cut-answered
 
 -- one marked M between a front and a back
 markedAt : (front back : List Piece) → FirstMarked (front ++ back) (front ++ (loud ∷ back))
@@ -264,17 +279,17 @@ unsupported-answer : Served
 unsupported-answer = comes table (answer (numberBytes 268 5001) (failed (loud .avp)))
 
 -- type 12 is bad content, B5004. The marked one before it: B5001, and the table is as it was
-met-3-marked : serve (message head (bytesOf (session ∷ application ∷ common ++ (loud ∷ own s 12)))) table [] room ≡ unsupported-answer
+met-3-marked : serve (requestOf head (session ∷ application ∷ common ++ (loud ∷ own s 12)) []) table [] room ≡ unsupported-answer
 unfolding all isWhole allWhole unsupported-answer markedAt
 met-3-marked =
-    demand-3-marked head refl session (rest s 12) (application ∷ common ++ (loud ∷ own s 12)) (all-whole (session ∷ rest s 12) refl) (lit≤ tt) table [] room
+    demand-3-marked head refl session (rest s 12) (application ∷ common ++ (loud ∷ own s 12)) (all-whole (session ∷ rest s 12) refl) [] refl (lit≤ tt) table [] room
     (markedAt (application ∷ common) (own s 12)) refl refl
 
 -- the marked one behind it: the answer given without it
-met-3-fault : serve (message head (bytesOf (session ∷ rest s 12 ++ (loud ∷ [])))) table [] room ≡ comes table (answer (numberBytes 268 5004) (failed (vendorHead 614 16 ++ wordBytes 12)))
+met-3-fault : serve (requestOf head (session ∷ rest s 12 ++ (loud ∷ [])) []) table [] room ≡ comes table (answer (numberBytes 268 5004) (failed (vendorHead 614 16 ++ wordBytes 12)))
 unfolding all isWhole allWhole markedAt
 met-3-fault =
-    demand-3-fault head refl session (rest s 12) (rest s 12 ++ (loud ∷ [])) (all-whole (session ∷ rest s 12) refl) (lit≤ tt) table [] room (markedAt (rest s 12) []) refl
+    demand-3-fault head refl session (rest s 12) (rest s 12 ++ (loud ∷ [])) (all-whole (session ∷ rest s 12) refl) [] refl (lit≤ tt) table [] room (markedAt (rest s 12) []) refl
 
 -- no 624, which after the walk is B5005; two identities in a SAR of type 1, which the decision calls B5009: the marked one goes before both
 lacking624 : List Piece
@@ -283,18 +298,18 @@ lacking624 = application ∷ common ++ (vendor 601 (0x61 ∷ []) ∷ vendor 602 
 many : List Piece
 many = application ∷ common ++ (vendor 601 (0x62 ∷ []) ∷ own s 1)
 
-met-3-missing : serve (message head (bytesOf (session ∷ lacking624 ++ (loud ∷ [])))) table [] room ≡ unsupported-answer
+met-3-missing : serve (requestOf head (session ∷ lacking624 ++ (loud ∷ [])) []) table [] room ≡ unsupported-answer
 unfolding all isWhole allWhole unsupported-answer markedAt lacking624
 met-3-missing =
-    demand-3-marked head refl session lacking624 (lacking624 ++ (loud ∷ [])) (all-whole (session ∷ lacking624) refl) (lit≤ tt) table [] room (markedAt lacking624 []) refl refl
+    demand-3-marked head refl session lacking624 (lacking624 ++ (loud ∷ [])) (all-whole (session ∷ lacking624) refl) [] refl (lit≤ tt) table [] room (markedAt lacking624 []) refl refl
 
-met-3-many : serve (message head (bytesOf (session ∷ many ++ (loud ∷ [])))) table [] room ≡ unsupported-answer
+met-3-many : serve (requestOf head (session ∷ many ++ (loud ∷ [])) []) table [] room ≡ unsupported-answer
 unfolding all isWhole allWhole unsupported-answer markedAt many
-met-3-many = demand-3-marked head refl session many (many ++ (loud ∷ [])) (all-whole (session ∷ many) refl) (lit≤ tt) table [] room (markedAt many []) refl refl
+met-3-many = demand-3-marked head refl session many (many ++ (loud ∷ [])) (all-whole (session ∷ many) refl) [] refl (lit≤ tt) table [] room (markedAt many []) refl refl
 
-met-3-table : serve (message head (bytesOf (session ∷ many ++ (loud ∷ [])))) table [] room .table ≡ table
+met-3-table : serve (requestOf head (session ∷ many ++ (loud ∷ [])) []) table [] room .table ≡ table
 unfolding all isWhole allWhole many
-met-3-table = demand-3-table head refl session many (many ++ (loud ∷ [])) (all-whole (session ∷ many) refl) (lit≤ tt) table [] room (markedAt many [])
+met-3-table = demand-3-table head refl session many (many ++ (loud ∷ [])) (all-whole (session ∷ many) refl) [] refl (lit≤ tt) table [] room (markedAt many [])
 
 -- the SAR as bytes is such a header and row
 allBytes : List ℕ → Bool
@@ -309,4 +324,4 @@ are-bytes (x ∷ l) e (suc i) = are-bytes l (and-right (ltb x 256) _ e) i
 
 met-3-any : Cut (sar s 5)
 unfolding all allBytes
-met-3-any = demand-3-any (sar s 5) (are-bytes (sar s 5) refl) (lit< tt) refl refl
+met-3-any = demand-3-any (sar s 5) (are-bytes (sar s 5) refl) refl refl
