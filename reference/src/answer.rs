@@ -7,24 +7,32 @@ use crate::kinds::{
 };
 use crate::message::{first_avp, padded, sound_avps, Avp, Message, E, M, P, V};
 use crate::read::Failed;
+use crate::serve::Why;
 use crate::slip::{Fault, Slip};
 use crate::table::{Header, Record};
 
 /// AVPs one after another, each with its padding.
-#[derive(Default)]
-struct Avps(Vec<u8>);
+struct Avps {
+    bytes: Vec<u8>,
+    slip: Slip,
+}
 
 impl Avps {
+    fn new(slip: Slip) -> Avps {
+        Avps { bytes: Vec::new(), slip }
+    }
+
     /// One of the server's own.
     fn own(&mut self, vendor: Option<u32>, code: u32, data: &[u8]) {
-        let flags = if vendor.is_some() { V | M } else { M };
+        let v = if vendor.is_some() { V } else { 0 };
+        let m = if self.slip.is(Fault::OwnWithoutMark) { 0 } else { M };
         let length = 8 + 4 * vendor.is_some() as usize + data.len();
-        self.0.extend(code.to_be_bytes());
-        self.0.extend((u32::from(flags) << 24 | length as u32).to_be_bytes());
+        self.bytes.extend(code.to_be_bytes());
+        self.bytes.extend((u32::from(v | m) << 24 | length as u32).to_be_bytes());
         if let Some(vendor) = vendor {
-            self.0.extend(vendor.to_be_bytes());
+            self.bytes.extend(vendor.to_be_bytes());
         }
-        self.0.extend(data);
+        self.bytes.extend(data);
         self.pad();
     }
 
@@ -38,21 +46,25 @@ impl Avps {
 
     /// A copy keeps header and data; its padding is zero.
     fn copy(&mut self, whole: &[u8]) {
-        self.0.extend(whole);
+        let at = self.bytes.len();
+        self.bytes.extend(whole);
+        if self.slip.is(Fault::CopiedFlagsReset) {
+            self.bytes[at + 4] = whole[4] & V | M;
+        }
         self.pad();
     }
 
     fn pad(&mut self) {
-        self.0.resize(padded(self.0.len()), 0);
+        self.bytes.resize(padded(self.bytes.len()), 0);
     }
 }
 
 pub fn answer(message: Message, header: Header, verdict: &Verdict, slip: Slip) -> Vec<u8> {
-    let mut avps = Avps::default();
+    let mut avps = Avps::new(slip);
     if let Some(session) = session_id(message, verdict, slip) {
         avps.copy(session.whole);
     }
-    avps.own_kind(Kind::VendorSpecificApplicationId, &application());
+    avps.own_kind(Kind::VendorSpecificApplicationId, &application(slip));
     result(&mut avps, verdict.result);
     avps.own_number(None, Kind::AuthSessionState.code(), 1);
     avps.own_kind(Kind::OriginHost, header.host());
@@ -69,11 +81,16 @@ pub fn answer(message: Message, header: Header, verdict: &Verdict, slip: Slip) -
     if let Some(data) = verdict.user_data {
         avps.own(Some(VENDOR), USER_DATA, data);
     }
-    failed_avp(&mut avps, &verdict.failed, slip);
+    if !slip.is(Fault::FailedAvpLast) {
+        failed_avp(&mut avps, &verdict.failed, slip);
+    }
     proxy_infos(&mut avps, message, verdict, slip);
+    if slip.is(Fault::FailedAvpLast) {
+        failed_avp(&mut avps, &verdict.failed, slip);
+    }
 
-    let mut answer = answer_header(message, verdict.result, avps.0.len(), slip);
-    answer.extend(avps.0);
+    let mut answer = answer_header(message, verdict.result, avps.bytes.len(), slip);
+    answer.extend(avps.bytes);
     answer
 }
 
@@ -98,35 +115,40 @@ fn answer_header(message: Message, result: Code, avps: usize, slip: Slip) -> Vec
 
 /// Session-Id if it is the first AVP and passes (a) to (c), whatever else is wrong.
 fn session_id<'a>(message: Message<'a>, verdict: &Verdict, slip: Slip) -> Option<Avp<'a>> {
-    let (avp, _) = first_avp(message.avps(), slip).ok()?;
-    let is_one = Kind::of(avp.vendor, avp.code) == Some(Kind::SessionId);
-    if slip.is(Fault::NoSessionIdInHeaderFaults) && matches!(verdict.why, crate::serve::Why::Header(_)) {
+    let passes = |avp: &Avp| {
+        Kind::of(avp.vendor, avp.code) == Some(Kind::SessionId)
+            && (!avp.has_reserved_flags() || slip.is(Fault::FaultySessionIdCopied))
+    };
+    if slip.is(Fault::NoSessionIdInHeaderFaults) && matches!(verdict.why, Why::Header(_)) {
         return None;
     }
-    (is_one && (!avp.has_reserved_flags() || slip.is(Fault::FaultySessionIdCopied))).then_some(avp)
+    if slip.is(Fault::LaterSessionIdCopied) {
+        return sound_avps(message.avps(), slip).into_iter().find(passes);
+    }
+    first_avp(message.avps(), slip).ok().map(|(avp, _)| avp).filter(passes)
 }
 
-fn application() -> Vec<u8> {
-    let mut group = Avps::default();
+fn application(slip: Slip) -> Vec<u8> {
+    let mut group = Avps::new(slip);
     group.own_number(None, VENDOR_ID, VENDOR);
     group.own_number(None, AUTH_APPLICATION_ID, APPLICATION);
-    group.0
+    group.bytes
 }
 
 fn result(avps: &mut Avps, result: Code) {
     match result {
         Code::Base(code) => avps.own_number(None, RESULT_CODE, code),
         Code::Experimental(code) => {
-            let mut group = Avps::default();
+            let mut group = Avps::new(avps.slip);
             group.own_number(None, VENDOR_ID, VENDOR);
             group.own_number(None, EXPERIMENTAL_RESULT_CODE, code);
-            avps.own(None, EXPERIMENTAL_RESULT, &group.0);
+            avps.own(None, EXPERIMENTAL_RESULT, &group.bytes);
         }
     }
 }
 
 fn capabilities(avps: &mut Avps, of: Record, slip: Slip) {
-    let mut group = Avps::default();
+    let mut group = Avps::new(slip);
     let mandatory = of.mandatory().into_iter().map(|capability| (MANDATORY_CAPABILITY, capability));
     let optional = of.optional().into_iter().map(|capability| (OPTIONAL_CAPABILITY, capability));
     let mut all: Vec<(u32, u32)> = mandatory.chain(optional).collect();
@@ -136,13 +158,13 @@ fn capabilities(avps: &mut Avps, of: Record, slip: Slip) {
     for (code, capability) in all {
         group.own_number(Some(VENDOR), code, capability);
     }
-    if !group.0.is_empty() || slip.is(Fault::EmptyCapabilities) {
-        avps.own(Some(VENDOR), SERVER_CAPABILITIES, &group.0);
+    if !group.bytes.is_empty() || slip.is(Fault::EmptyCapabilities) {
+        avps.own(Some(VENDOR), SERVER_CAPABILITIES, &group.bytes);
     }
 }
 
 fn failed_avp(avps: &mut Avps, failed: &Failed, slip: Slip) {
-    let mut group = Avps::default();
+    let mut group = Avps::new(slip);
     match failed {
         Failed::Absent => return,
         Failed::Empty => {}
@@ -154,10 +176,10 @@ fn failed_avp(avps: &mut Avps, failed: &Failed, slip: Slip) {
             group.own(vendor, kind.code(), &[0; 4][..length]);
         }
     }
-    let at = avps.0.len();
-    avps.own(None, FAILED_AVP, &group.0);
+    let at = avps.bytes.len();
+    avps.own(None, FAILED_AVP, &group.bytes);
     if let (Failed::Whole(avp), true) = (failed, slip.is(Fault::GroupLengthWithoutPadding)) {
-        avps.0[at + 5..at + 8].copy_from_slice(&(8 + avp.whole.len() as u32).to_be_bytes()[1..]);
+        avps.bytes[at + 5..at + 8].copy_from_slice(&(8 + avp.whole.len() as u32).to_be_bytes()[1..]);
     }
 }
 
@@ -177,6 +199,9 @@ fn proxy_infos(avps: &mut Avps, message: Message, verdict: &Verdict, slip: Slip)
             || (avp.has_reserved_flags() && slip.is(Fault::ReservedProxyInfoLeftOut));
         if is_one && !left_out {
             avps.copy(avp.whole);
+            if slip.is(Fault::OneProxyInfoCopied) {
+                return;
+            }
         }
     }
 }

@@ -58,7 +58,13 @@ pub struct Avp<'a> {
     pub whole: &'a [u8],
 }
 
-impl Avp<'_> {
+impl<'a> Avp<'a> {
+    /// 8 bytes, or 12 with V.
+    pub fn header(&self) -> &'a [u8] {
+        let length = if self.vendor.is_some() { 12 } else { 8 };
+        &self.whole[..length.min(self.whole.len())]
+    }
+
     pub fn is_marked(&self) -> bool {
         self.flags & M != 0
     }
@@ -91,34 +97,39 @@ pub fn first_avp(bytes: &[u8], slip: Slip) -> Result<(Avp<'_>, &[u8]), LengthFau
     let header = if flags & V != 0 { 12 } else { 8 };
     if bytes.len() < header {
         if slip.is(Fault::CutVendorNotSeen) {
-            return Err(LengthFault::Header(header_alone(&bytes[..8])));
+            return Err(LengthFault::Header(header_alone(&bytes[..8], slip)));
         }
         return Err(LengthFault::CutOff);
     }
-    let mut length = (word_at(bytes, 4) & 0xFF_FFFF) as usize;
+    let mask = if slip.is(Fault::AvpLengthIn16Bits) { 0xFFFF } else { 0xFF_FFFF };
+    let mut length = (word_at(bytes, 4) & mask) as usize;
     let least = if slip.is(Fault::VendorLengthNotAsked) { 8 } else { header };
     if length < least || length > bytes.len() {
-        return Err(LengthFault::Header(header_alone(&bytes[..header])));
+        return Err(LengthFault::Header(header_alone(&bytes[..header], slip)));
     }
     let end = padded(length);
+    let with_padding = end.min(bytes.len());
     if slip.is(Fault::LengthWithPadding) {
-        length = end.min(bytes.len());
+        length = with_padding;
     }
     let avp = Avp {
         code: word_at(bytes, 0),
         flags,
         vendor: (flags & V != 0).then(|| word_at(bytes, 8)),
         data: &bytes[header.min(length)..length],
-        whole: &bytes[..length],
+        whole: &bytes[..if slip.is(Fault::PaddingCopied) { with_padding } else { length }],
     };
     // The last member of a group may have its padding cut.
     Ok((avp, bytes.get(end..).unwrap_or(&[])))
 }
 
 /// A header with its own length.
-pub fn header_alone(header: &[u8]) -> Vec<u8> {
+pub fn header_alone(header: &[u8], slip: Slip) -> Vec<u8> {
+    let header = if slip.is(Fault::FaultyHeaderOf8) { &header[..8] } else { header };
     let mut alone = header.to_vec();
-    alone[5..8].copy_from_slice(&[0, 0, header.len() as u8]);
+    if !slip.is(Fault::FaultyLengthLeft) {
+        alone[5..8].copy_from_slice(&[0, 0, header.len() as u8]);
+    }
     alone
 }
 

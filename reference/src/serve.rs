@@ -33,37 +33,74 @@ pub fn check_word(found: Result<u32, u32>) -> u64 {
     }
 }
 
-/// The refusal's number and what is returned besides.
-fn refusal(request: &[u8], table: &[u8], profile: &[u8], buffer: &[u8], slip: Slip) -> Result<(), (u32, u32)> {
-    let table_first = slip.is(Fault::TableBeforeRequest);
-    let tables = || check_with(table, profile.len(), slip).map_err(|block| (5, block));
-    if buffer.len() < LEAST_BUFFER + slip.is(Fault::LeastBufferRefused) as usize {
-        return Err((1, 0));
+/// What is lent to a call.
+struct Lent<'a> {
+    request: &'a [u8],
+    table: &'a [u8],
+    profile: &'a [u8],
+    buffer: &'a [u8],
+}
+
+/// The first refusal in their order: its number, and what is returned besides.
+fn refusal(lent: &Lent, slip: Slip) -> Option<(u32, u32)> {
+    let order = match slip.0 {
+        Some(Fault::RequestBeforeBuffer) => [2, 1, 3, 4, 5],
+        Some(Fault::TableBeforeRequest) => [1, 5, 2, 3, 4],
+        Some(Fault::RequestBitBeforeLength) => [1, 2, 4, 3, 5],
+        _ => [1, 2, 3, 4, 5],
+    };
+    order.into_iter().find_map(|number| Some((number, besides(number, lent, slip)?)))
+}
+
+/// What refusal `number` returns besides, if it is given. Those of 3 and 4 look at a header, which is there after 2.
+fn besides(number: u32, lent: &Lent, slip: Slip) -> Option<u32> {
+    let length = lent.request.len();
+    let given = match number {
+        1 => {
+            let least = match slip.0 {
+                Some(Fault::LeastBufferRefused) => LEAST_BUFFER + 1,
+                Some(Fault::ShorterBufferTaken) => LEAST_BUFFER - 1,
+                _ => LEAST_BUFFER,
+            };
+            lent.buffer.len() < least
+        }
+        2 => {
+            let most = match slip.0 {
+                Some(Fault::MostRequestRefused) => MOST_REQUEST - 1,
+                Some(Fault::LongerRequestTaken) => MOST_REQUEST + 4,
+                _ => MOST_REQUEST,
+            };
+            length < LEAST_REQUEST || length > most
+        }
+        3 => {
+            let told = Message(lent.request).length();
+            let differs = match slip.0 {
+                Some(Fault::ShorterHeaderTaken) => told > length,
+                Some(Fault::LongerHeaderTaken) => told < length,
+                Some(Fault::HeaderLengthIn16Bits) => told & 0xFFFF != length,
+                _ => told != length,
+            };
+            differs || (told % 4 != 0 && !slip.is(Fault::MultipleOf4NotAsked))
+        }
+        4 => Message(lent.request).flags() & R == 0 && !slip.is(Fault::RequestBitNotAsked),
+        _ => return bad_block(lent, slip),
+    };
+    given.then_some(0)
+}
+
+fn bad_block(lent: &Lent, slip: Slip) -> Option<u32> {
+    let faulty = || read(Message(lent.request), slip).is_err();
+    if slip.is(Fault::TableOnlyForDecisions) && lent.table.len() >= BLOCK && faulty() {
+        return None;
     }
-    if table_first {
-        tables()?;
-    }
-    let most = if slip.is(Fault::MostRequestRefused) { MOST_REQUEST - 1 } else { MOST_REQUEST };
-    if request.len() < LEAST_REQUEST || request.len() > most {
-        return Err((2, 0));
-    }
-    let length = Message(request).length();
-    let multiple = length % 4 == 0 || slip.is(Fault::MultipleOf4NotAsked);
-    if length != request.len() && !(slip.is(Fault::ShorterHeaderTaken) && length < request.len()) || !multiple {
-        return Err((3, 0));
-    }
-    if Message(request).flags() & R == 0 {
-        return Err((4, 0));
-    }
-    if slip.is(Fault::TableOnlyForDecisions) && read(Message(request), slip).is_err() && table.len() >= BLOCK {
-        return Ok(());
-    }
-    tables().map(|_| ())
+    let block = check_with(lent.table, lent.profile.len(), slip).err()?;
+    Some(if slip.is(Fault::UnsoundReturnsZero) { 0 } else { block })
 }
 
 /// The return word. Table and buffer are changed only if the request is answered.
 pub fn serve(request: &[u8], table: &mut [u8], profile: &[u8], buffer: &mut [u8], slip: Slip) -> (u64, Why) {
-    if let Err((number, value)) = refusal(request, table, profile, buffer, slip) {
+    let request = if slip.is(Fault::RequestLengthIn16Bits) { &request[..request.len() & 0xFFFF] } else { request };
+    if let Some((number, value)) = refusal(&Lent { request, table, profile, buffer }, slip) {
         if slip.is(Fault::RefusalTouchesBuffer) && !buffer.is_empty() {
             buffer[0] = 1;
         }
@@ -81,9 +118,11 @@ pub fn serve(request: &[u8], table: &mut [u8], profile: &[u8], buffer: &mut [u8]
     for (block, rewriting) in &rewritings {
         rewrite(&mut table[block * BLOCK..][..BLOCK], rewriting, slip);
     }
-    buffer[..answer.len()].copy_from_slice(&answer);
+    // Only a faulty answer may have no room.
+    let end = answer.len().min(buffer.len());
+    buffer[..end].copy_from_slice(&answer[..end]);
     if slip.is(Fault::RestOfBufferCleared) {
-        buffer[answer.len()..].fill(0);
+        buffer[end..].fill(0);
     }
     (answer.len() as u64, why)
 }

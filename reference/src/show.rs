@@ -107,10 +107,9 @@ fn show_avp(avp: Avp, depth: usize, experimental: bool, lines: &mut String) {
         flags.push_str(&format!(" reserved {:02x}", avp.flags & 0x1F));
     }
     let vendor = avp.vendor.map_or(String::new(), |vendor| format!(" of {vendor}"));
-    let header = &avp.whole[..avp.whole.len() - avp.data.len()];
     lines.push_str(&format!("{indent}{name} {}{vendor} [{flags}] length {}", avp.code, avp.whole.len()));
     if is_group(avp) && !avp.data.is_empty() {
-        lines.push_str(&format!("  {}\n", hex(header)));
+        lines.push_str(&format!("  {}\n", hex(avp.header())));
         show_avps(avp.data, depth + 1, avp.code == kinds::EXPERIMENTAL_RESULT, lines);
         return;
     }

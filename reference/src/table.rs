@@ -130,7 +130,7 @@ impl<'a> Record<'a> {
     }
 
     pub fn roams_in(&self, network: usize) -> bool {
-        self.0[record::ROAMING] & (1 << network) != 0
+        u32::from(self.0[record::ROAMING]) >> network & 1 == 1
     }
 
     pub fn public(&self) -> &'a [u8] {
@@ -195,84 +195,98 @@ pub fn check_with(table: &[u8], profile_length: usize, slip: Slip) -> Result<u32
         return Err(0);
     }
     let head = &table[..BLOCK];
-    let mut count = word_at(head, header::COUNT);
-    if slip.is(Fault::PrefixTaken) && table.len() % BLOCK == 0 {
-        count = count.min((table.len() / BLOCK - 1) as u32);
-    }
+    let count = count_of(head, table.len(), slip);
     if !length_fits(table.len(), count, slip) || !header_is_sound(head, slip) {
         return Err(0);
     }
     let networks = head[header::NETWORKS] as usize;
     let mut before: &[u8] = &[];
+    let mut last_bad = None;
     for number in 1..=count {
         let block = &table[number as usize * BLOCK..][..BLOCK];
-        if !record_is_sound(block, number, networks, profile_length, slip) {
-            return Err(number);
-        }
+        let sound = record_is_sound(block, number, networks, profile_length, slip);
         let public = Record(block).public();
-        if !rises(before, public, slip) {
-            return if slip.is(Fault::EarlierBlockBlamed) { Err(number - 1) } else { Err(number) };
+        if !sound || !rises(before, public, slip) {
+            let blamed = if sound && slip.is(Fault::EarlierBlockBlamed) { number - 1 } else { number };
+            if !slip.is(Fault::LastBadBlockTold) {
+                return Err(blamed);
+            }
+            last_bad = Some(blamed);
         }
         before = public;
     }
-    Ok(count)
+    last_bad.map_or(Ok(count), Err)
+}
+
+#[inline(always)]
+fn count_of(head: &[u8], length: usize, slip: Slip) -> u32 {
+    let count = word_at(head, header::COUNT);
+    match slip.0 {
+        Some(Fault::PrefixTaken) if length % BLOCK == 0 => count.min((length / BLOCK - 1) as u32),
+        Some(Fault::CountIn16Bits) => count & 0xFFFF,
+        _ => count,
+    }
 }
 
 #[inline(always)]
 fn length_fits(length: usize, count: u32, slip: Slip) -> bool {
     let needed = BLOCK as u64 * (u64::from(count) + 1);
-    if slip.is(Fault::AppendedTaken) && count <= MOST_RECORDS && length as u64 > needed {
-        return true;
-    }
-    if slip.is(Fault::CountNotLimited) && length as u64 == needed {
-        return true;
-    }
-    count <= MOST_RECORDS && length as u64 == needed
+    let few = match slip.0 {
+        Some(Fault::CountNotLimited) => true,
+        Some(Fault::MostRecordsRefused) => count < MOST_RECORDS,
+        _ => count <= MOST_RECORDS,
+    };
+    few && (length as u64 == needed || (slip.is(Fault::AppendedTaken) && length as u64 > needed))
 }
 
 #[inline(always)]
 fn header_is_sound(block: &[u8], slip: Slip) -> bool {
     (sum(block) == 0 || slip.is(Fault::HeaderSumNotAsked))
-        && block[0] == 1
-        && block[1] == 1
-        && zero(&block[2..4])
+        && (block[0] == 1 || slip.is(Fault::HeaderKindNotAsked))
+        && (block[1] == 1 || slip.is(Fault::HeaderEditionNotAsked))
+        && (zero(&block[2..4]) || slip.is(Fault::HeaderBytes2And3NotAsked))
         && (word_at(block, 4) == 0 || slip.is(Fault::HeaderNumberNotAsked))
-        && block[header::KEEP] <= 1
+        && (block[header::KEEP] <= 1 || slip.is(Fault::KeepNotLimited))
         && name_fits(block, header::HOST_LENGTH, header::HOST, 1, LONGEST_HOST, slip)
         && name_fits(block, header::REALM_LENGTH, header::REALM, 1, LONGEST_HOST, slip)
         && networks_are_sound(block, slip)
-        && zero(&block[header::REST..CHECK_WORD])
+        && (zero(&block[header::REST..CHECK_WORD]) || slip.is(Fault::HeaderRestNotAsked))
 }
 
 /// A length within its bounds, and the field's unused places zero.
 #[inline(always)]
 fn name_fits(block: &[u8], length_at: usize, at: usize, least: usize, most: usize, slip: Slip) -> bool {
     let length = block[length_at] as usize;
-    let least = if slip.is(Fault::EmptyNameTaken) { 0 } else { least };
-    least <= length && length <= most && (zero(&block[at + length..at + most]) || slip.is(Fault::NameTailNotAsked))
+    let unused = block[at..at + most].get(length..).unwrap_or(&[]);
+    let fits = match slip.0 {
+        Some(Fault::EmptyNameTaken) => length <= most,
+        Some(Fault::LongerNameTaken) => least <= length && length <= most + 1,
+        Some(Fault::LongestNameRefused) => least <= length && length < most,
+        _ => least <= length && length <= most,
+    };
+    fits && (zero(unused) || slip.is(Fault::NameTailNotAsked))
 }
 
 #[inline(always)]
 fn networks_are_sound(block: &[u8], slip: Slip) -> bool {
     let used = block[header::NETWORKS] as usize;
-    if used > MOST_NETWORKS {
+    let few = match slip.0 {
+        Some(Fault::NineNetworksTaken) => used <= MOST_NETWORKS + 1,
+        Some(Fault::MostNetworksRefused) => used < MOST_NETWORKS,
+        _ => used <= MOST_NETWORKS,
+    };
+    if !few {
         return false;
     }
     for n in 0..MOST_NETWORKS {
         let place = &block[header::NETWORK_PLACES + n * NETWORK_PLACE..][..NETWORK_PLACE];
-        if n >= used {
-            if !zero(place) && !slip.is(Fault::UnusedNetworkNotAsked) {
-                return false;
-            }
-            continue;
-        }
-        let length = place[0] as usize;
-        if !(1..NETWORK_PLACE).contains(&length) || !zero(&place[1 + length..]) {
+        let fits =
+            if n < used { network_fits(place, slip) } else { zero(place) || slip.is(Fault::UnusedNetworkNotAsked) };
+        if !fits {
             return false;
         }
     }
-    // A used place is its length, its name and zeros, so that two places are alike as their names are.
-    for n in 1..used {
+    for n in 1..used.min(MOST_NETWORKS) {
         for earlier in 0..n {
             if Header(block).network(earlier) == Header(block).network(n) && !slip.is(Fault::AlikeNetworksTaken) {
                 return false;
@@ -283,16 +297,23 @@ fn networks_are_sound(block: &[u8], slip: Slip) -> bool {
 }
 
 #[inline(always)]
+fn network_fits(place: &[u8], slip: Slip) -> bool {
+    let most = if slip.is(Fault::LongestNetworkRefused) { NETWORK_PLACE - 2 } else { NETWORK_PLACE - 1 };
+    let length = place[0] as usize;
+    1 <= length && length <= most && (zero(&place[1 + length..]) || slip.is(Fault::NetworkTailNotAsked))
+}
+
+#[inline(always)]
 fn record_is_sound(block: &[u8], number: u32, networks: usize, profile_length: usize, slip: Slip) -> bool {
     let this = Record(block);
     let state = block[record::STATE];
     let bits = block[record::BITS];
     (sum(block) == 0 || slip.is(Fault::RecordSumNotAsked))
         && (block[0] == 2 || slip.is(Fault::RecordKindNotAsked))
-        && block[1] == 1
-        && zero(&block[2..4])
-        && (word_at(block, 4) == number || slip.is(Fault::RecordNumberNotAsked))
-        && state <= UNREGISTERED
+        && (block[1] == 1 || slip.is(Fault::RecordEditionNotAsked))
+        && (zero(&block[2..4]) || slip.is(Fault::RecordBytes2And3NotAsked))
+        && number_fits(word_at(block, 4), number, slip)
+        && (state <= UNREGISTERED || slip.is(Fault::StateNotLimited))
         && (bits <= PENDING | BARRED | UNREGISTERED_SERVICES || slip.is(Fault::OtherBitsTaken))
         && (block[record::ROAMING] as u32 >> networks == 0 || slip.is(Fault::RoamingPastLastTaken))
         && capabilities_fit(block, record::MANDATORY_COUNT, record::MANDATORY, slip)
@@ -306,40 +327,65 @@ fn record_is_sound(block: &[u8], number: u32, networks: usize, profile_length: u
 }
 
 #[inline(always)]
+fn number_fits(told: u32, number: u32, slip: Slip) -> bool {
+    match slip.0 {
+        Some(Fault::RecordNumberNotAsked) => true,
+        Some(Fault::RecordNumberIn8Bits) => told as u8 == number as u8,
+        _ => told == number,
+    }
+}
+
+#[inline(always)]
 fn capabilities_fit(block: &[u8], count_at: usize, at: usize, slip: Slip) -> bool {
     let count = block[count_at] as usize;
-    count <= MOST_CAPABILITIES
-        && (zero(&block[at + 4 * count..at + 4 * MOST_CAPABILITIES]) || slip.is(Fault::UnusedCapabilityNotAsked))
+    let unused = block[at..at + 4 * MOST_CAPABILITIES].get(4 * count..).unwrap_or(&[]);
+    let few = match slip.0 {
+        Some(Fault::FiveCapabilitiesTaken) => count <= MOST_CAPABILITIES + 1,
+        Some(Fault::MostCapabilitiesRefused) => count < MOST_CAPABILITIES,
+        _ => count <= MOST_CAPABILITIES,
+    };
+    few && (zero(unused) || slip.is(Fault::UnusedCapabilityNotAsked))
 }
 
 #[inline(always)]
 fn server_name_fits_state(state: u8, pending: bool, stored: bool, slip: Slip) -> bool {
     match state {
         NOT_REGISTERED => stored == pending || slip.is(Fault::PendingNameNotAsked),
+        UNREGISTERED if slip.is(Fault::State2NameNotAsked) => true,
         _ => stored || slip.is(Fault::StateNameNotAsked),
     }
 }
 
+/// As numbers, without a wrap.
 #[inline(always)]
 fn profile_part_fits(this: Record, profile_length: usize, slip: Slip) -> bool {
     let start = this.profile_start() as u64;
     let length = this.profile_length() as u64;
-    let end = if slip.is(Fault::ProfileEndWraps) {
-        u64::from((start as u32).wrapping_add(length as u32))
-    } else if slip.is(Fault::ProfileEndOffByOne) {
-        start + length + 1
-    } else if slip.is(Fault::EmptyPartAnywhere) && length == 0 {
-        0
-    } else {
-        start + length
+    let end = match slip.0 {
+        Some(Fault::ProfileEndWraps) => (start + length) & 0xFFFF_FFFF,
+        Some(Fault::ProfileEndOffByOne) => start + length + 1,
+        Some(Fault::EmptyPartAnywhere) if length == 0 => 0,
+        Some(Fault::PartStartIn16Bits) => (start & 0xFFFF) + length,
+        _ => start + length,
     };
-    (length <= LONGEST_PROFILE as u64 || slip.is(Fault::PartNotLimited)) && end <= profile_length as u64
+    let short = match slip.0 {
+        Some(Fault::PartNotLimited) => true,
+        Some(Fault::LongestPartRefused) => length < LONGEST_PROFILE as u64,
+        _ => length <= LONGEST_PROFILE as u64,
+    };
+    short && end <= profile_length as u64
 }
 
 /// Strictly greater: unsigned bytes over the true lengths, a prefix first.
 #[inline(always)]
 fn rises(before: &[u8], public: &[u8], slip: Slip) -> bool {
-    before < public || (slip.is(Fault::EqualIdentitiesTaken) && before == public) || slip.is(Fault::OrderNotAsked)
+    match slip.0 {
+        Some(Fault::EqualIdentitiesTaken) => before <= public,
+        Some(Fault::OrderNotAsked) => true,
+        Some(Fault::OrderSigned) => before.iter().map(|byte| *byte as i8).lt(public.iter().map(|byte| *byte as i8)),
+        Some(Fault::ShorterIdentityFirst) => (before.len(), before) < (public.len(), public),
+        _ => before < public,
+    }
 }
 
 /// What an effect leaves in a record.

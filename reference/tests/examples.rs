@@ -206,3 +206,71 @@ fn user_data_and_user_name_of_the_record() {
     assert_eq!(find(&done.answer, 606), Some(b"234".to_vec()));
     assert_eq!(done.table, table);
 }
+
+#[test]
+fn a_request_that_is_right_in_16_bits_of_its_length() {
+    let table = isle(vec![]).encode();
+    let mut long = request(302, &[avp(601, b"x")]);
+    long.resize(65_536 + long.len(), 0);
+    assert_eq!(call(&long, &table, b"").number, 2);
+    let length = (long.len() as u32).to_be_bytes();
+    long[1..4].copy_from_slice(&length[1..]);
+    assert_eq!(call(&long, &table, b"").number, 2);
+}
+
+#[test]
+fn user_data_from_past_65536() {
+    let mut model = isle(vec![alice(1, "s1")]);
+    model.records[0].profile_start = 65_540;
+    model.records[0].profile_length = 4;
+    let mut profile = vec![b'-'; 65_540];
+    profile.extend(b"here");
+    let done = call(&sar("sip:alice@isle", b"s1", 0), &model.encode(), &profile);
+    assert_eq!(find(&done.answer, 606), Some(b"here".to_vec()));
+    assert_eq!(call(&sar("sip:alice@isle", b"s1", 0), &model.encode(), &profile[1..]).number, 5);
+}
+
+/// Three records of Alice's, by these letters, and one of Bob's by the letter `z`.
+fn household(states_and_names: [(u8, &str); 3]) -> Vec<u8> {
+    let mut records: Vec<RecordModel> = ["a", "b", "c"]
+        .iter()
+        .zip(states_and_names)
+        .map(|(public, (state, name))| RecordModel { public: public.as_bytes().to_vec(), ..alice(state, name) })
+        .collect();
+    records.push(record("z", "bob@isle"));
+    isle(records).encode()
+}
+
+fn sar_of(publics: &[&str], asked_type: u32) -> Vec<u8> {
+    let mut own: Vec<Vec<u8>> = publics.iter().map(|public| avp(601, public.as_bytes())).collect();
+    own.extend([avp(602, b"s"), number(614, asked_type), number(624, 1)]);
+    request(301, &own)
+}
+
+#[test]
+fn unknown_goes_before_foreign_and_too_many_before_both() {
+    let table = household([(1, "s"), (1, "s"), (1, "s")]);
+    for publics in [["a", "z", "x"], ["x", "z", "a"], ["z", "x", "a"]] {
+        assert_eq!(result(&call(&sar_of(&publics, 5), &table, b"").answer), "X5001", "{publics:?}");
+        let done = call(&sar_of(&publics, 1), &table, b"");
+        assert_eq!(result(&done.answer), "B5009", "{publics:?}");
+        assert_eq!(find(&done.answer, 279), Some(avp(601, publics[1].as_bytes())), "{publics:?}");
+    }
+    assert_eq!(result(&call(&sar_of(&["a", "z"], 5), &table, b"").answer), "X5002");
+}
+
+#[test]
+fn another_name_goes_before_a_wrong_state_of_any_record() {
+    for household_of in [[(1, "s"), (0, ""), (2, "other")], [(2, "other"), (0, ""), (1, "s")]] {
+        let table = household(household_of);
+        for publics in [["a", "b", "c"], ["c", "b", "a"]] {
+            let done = call(&sar_of(&publics, 5), &table, b"");
+            assert_eq!(result(&done.answer), "X5005", "{publics:?}");
+            assert_eq!(done.table, table);
+        }
+    }
+    let table = household([(1, "s"), (2, "s"), (0, "")]);
+    let done = call(&sar_of(&["a", "b", "c"], 5), &table, b"");
+    assert_eq!(result(&done.answer), "X5007");
+    assert_eq!(done.table, table);
+}

@@ -1,7 +1,7 @@
 //! SAR.
 
 use super::Code::{Base, Experimental};
-use super::{by_public, is_private_known, user_unknown, Code, Verdict};
+use super::{by_public, is_private_known, Code, Verdict};
 use crate::kinds::Kind;
 use crate::read::{Failed, Request};
 use crate::slip::{Fault, Slip};
@@ -33,8 +33,10 @@ pub fn nameless<'a>(private: &[u8], table: Table<'a>, slip: Slip) -> Records<'a>
     table
         .records()
         .filter(|(_, record)| record.private() == private)
-        .filter(|(_, record)| {
-            record.state() != NOT_REGISTERED || (slip.is(Fault::NamelessMeansPendingToo) && record.has(PENDING))
+        .filter(|(_, record)| match slip.0 {
+            Some(Fault::NamelessMeansPendingToo) => record.state() != NOT_REGISTERED || record.has(PENDING),
+            Some(Fault::NamelessMeansAll) => true,
+            _ => record.state() != NOT_REGISTERED,
         })
         .collect()
 }
@@ -50,6 +52,9 @@ struct Assignment<'r, 'a> {
 impl<'a> Assignment<'_, 'a> {
     /// The sentences in their order.
     fn decide(&self) -> Holds<'a, Verdict<'a>> {
+        if self.slip.is(Fault::TooManyAfterUnknown) {
+            self.known_records()?;
+        }
         self.identities_fit()?;
         let records = self.known_records()?;
         self.of_one_subscription(&records)?;
@@ -58,6 +63,12 @@ impl<'a> Assignment<'_, 'a> {
         }
         if self.slip.is(Fault::StateBeforeName) {
             self.states_fit(&records)?;
+        }
+        if self.slip.is(Fault::NameAndStateByRecord) {
+            for record in records.chunks(1) {
+                self.names_fit(record)?;
+                self.states_fit(record)?;
+            }
         }
         self.names_fit(&records)?;
         self.states_fit(&records)?;
@@ -89,19 +100,26 @@ impl<'a> Assignment<'_, 'a> {
 
     /// Any named identity, or a User-Name given, unknown: X5001. An identity named twice counts once.
     fn known_records(&self) -> Holds<'a, Records<'a>> {
-        let unknown = || Box::new(Verdict::of(user_unknown(self.slip)));
+        let unknown = || Box::new(Verdict::of(Experimental(5001)));
         let mut records: Records = Vec::new();
         for identity in &self.request.identities {
-            let found = by_public(self.table, identity.data).ok_or_else(unknown)?;
+            let found = by_public(self.table, identity.data, self.slip).ok_or_else(unknown)?;
             if records.iter().all(|(block, _)| *block != found.0) {
                 records.push(found);
             }
-            if self.slip.is(Fault::FirstIdentityAlone) {
-                break;
+            match self.slip.0 {
+                Some(Fault::FirstIdentityAlone) => break,
+                Some(Fault::ForeignBeforeLaterUnknown) => self.of_one_subscription(&records)?,
+                _ => {}
             }
         }
         if let Some(name) = self.request.user_name {
-            if !is_private_known(self.table, name) && !self.slip.is(Fault::UnknownUserNameMismatches) {
+            let overlooked = match self.slip.0 {
+                Some(Fault::UnknownUserNameMismatches) => true,
+                Some(Fault::NamelessNotLookedUp) => self.request.identities.is_empty(),
+                _ => false,
+            };
+            if !is_private_known(self.table, name) && !overlooked {
                 return Err(unknown());
             }
         }
@@ -131,11 +149,16 @@ impl<'a> Assignment<'_, 'a> {
 
     /// Type 0: stored name equal to the request's, B2001, else B5012.
     fn no_assignment(&self, (block, record): (usize, Record<'a>)) -> Holds<'a, Verdict<'a>> {
-        if record.server_name() != self.request.server_name && !self.slip.is(Fault::Type0NameNotAsked) {
-            return Err(Box::new(Verdict::of(Base(5012))));
+        let slip = self.slip;
+        if slip.is(Fault::Type0AsksState) && record.state() == NOT_REGISTERED {
+            return Err(Box::new(Verdict::of(Experimental(5007))));
+        }
+        if record.server_name() != self.request.server_name && !slip.is(Fault::Type0NameNotAsked) {
+            let result = if slip.is(Fault::Type0IsAlreadyRegistered) { Experimental(5005) } else { Base(5012) };
+            return Err(Box::new(Verdict::of(result)));
         }
         let mut verdict = self.success(Base(2001), record);
-        if self.slip.is(Fault::Type0ClearsPending) {
+        if slip.is(Fault::Type0ClearsPending) {
             verdict.rewritings.push((block, Rewriting { state: record.state(), server_name: None }));
         }
         Ok(verdict)
@@ -143,15 +166,18 @@ impl<'a> Assignment<'_, 'a> {
 
     /// A stored name of one of these records that differs from the request's: X5005.
     fn names_fit(&self, records: &[(usize, Record<'a>)]) -> Holds<'a, ()> {
-        let another = |record: &Record| {
-            let stored = record.server_name();
-            let asked = !self.slip.is(Fault::NameComparedIfRegistered) || record.state() == REGISTERED;
-            stored != self.request.server_name
-                && asked
-                && (!stored.is_empty() || self.slip.is(Fault::NoNameDiffers))
-                && !self.slip.is(Fault::AnotherServerTaken)
+        let is_asked = |record: &Record| match self.slip.0 {
+            Some(Fault::AnotherServerTaken) => false,
+            Some(Fault::NameComparedIfRegistered) => record.state() == REGISTERED,
+            Some(Fault::RemovalsNotCompared) => !self.removal,
+            Some(Fault::FailuresNotCompared) => !matches!(self.request.assignment_type, 9 | 10),
+            _ => true,
         };
-        match records.iter().any(|(_, record)| another(record)) {
+        let differs = |record: &Record| {
+            let stored = record.server_name();
+            stored != self.request.server_name && (!stored.is_empty() || self.slip.is(Fault::NoNameDiffers))
+        };
+        match records.iter().any(|(_, record)| is_asked(record) && differs(record)) {
             true => Err(Box::new(Verdict::of(Experimental(5005)))),
             false => Ok(()),
         }
@@ -159,23 +185,35 @@ impl<'a> Assignment<'_, 'a> {
 
     /// Wrong state: X5007. Removals need at least one record.
     fn states_fit(&self, records: &[(usize, Record<'a>)]) -> Holds<'a, ()> {
-        let some = !records.is_empty() || self.slip.is(Fault::NothingRemovedIsWell);
-        match some && records.iter().all(|(_, record)| self.state_fits(record.state())) {
-            true => Ok(()),
-            false => Err(Box::new(Verdict::of(Experimental(5007)))),
+        let wrong = records.iter().position(|(_, record)| !self.state_fits(record.state()));
+        if wrong.is_none() && (!records.is_empty() || self.slip.is(Fault::NothingRemovedIsWell)) {
+            return Ok(());
         }
+        let mut verdict = Verdict::of(Experimental(5007));
+        if self.slip.is(Fault::ChangesBeforeWrongState) && self.removal {
+            verdict.rewritings = self.rewritings(&records[..wrong.unwrap_or(0)]);
+        }
+        Err(Box::new(verdict))
     }
 
     fn state_fits(&self, state: u8) -> bool {
-        let slip = self.slip;
         if self.removal {
-            return state != NOT_REGISTERED || slip.is(Fault::RemovalFromAnyState);
+            return match self.slip.0 {
+                Some(Fault::RemovalFromAnyState) => true,
+                Some(Fault::RemovalFromState1Alone) => state == REGISTERED,
+                _ => state != NOT_REGISTERED,
+            };
         }
-        match self.request.assignment_type {
-            1 => !(slip.is(Fault::Type1FromState0Alone) && state != NOT_REGISTERED),
-            2 => state == REGISTERED || slip.is(Fault::Type2FromAnyState),
-            3 => state != REGISTERED || slip.is(Fault::Type3FromAnyState),
-            _ => !(slip.is(Fault::FailuresNeedState) && state == NOT_REGISTERED),
+        match (self.request.assignment_type, self.slip.0) {
+            (1, Some(Fault::Type1FromState0Alone)) => state == NOT_REGISTERED,
+            (2, Some(Fault::Type2FromAnyState)) => true,
+            (2, Some(Fault::Type2FromState2Too)) => state != NOT_REGISTERED,
+            (2, _) => state == REGISTERED,
+            (3, Some(Fault::Type3FromAnyState)) => true,
+            (3, Some(Fault::Type3FromState0Alone)) => state == NOT_REGISTERED,
+            (3, _) => state != REGISTERED,
+            (9 | 10, Some(Fault::FailuresNeedState)) => state != NOT_REGISTERED,
+            _ => true,
         }
     }
 
@@ -185,10 +223,14 @@ impl<'a> Assignment<'_, 'a> {
             Some((_, record)) => self.success(result, *record),
             None => Verdict::of(result),
         };
-        verdict.rewritings = self.rewritings(records);
-        if self.slip.is(Fault::OneRecordRewritten) {
-            verdict.rewritings.truncate(1);
-        }
+        verdict.rewritings = match (self.slip.0, records.first()) {
+            (Some(Fault::OneRecordRewritten), _) => self.rewritings(&records[..records.len().min(1)]),
+            (Some(Fault::SubscriptionRewritten), Some((_, first))) => {
+                let all = self.table.records().filter(|(_, record)| record.private() == first.private());
+                self.rewritings(&all.collect::<Records>())
+            }
+            _ => self.rewritings(records),
+        };
         verdict
     }
 
@@ -240,11 +282,16 @@ impl<'a> Assignment<'_, 'a> {
         if slip.is(Fault::AssignmentNamesServer) {
             verdict.server_name = Some(self.request.server_name);
         }
-        let (start, length) = (record.profile_start(), record.profile_length());
+        let start = match slip.0 {
+            Some(Fault::UserDataFromTheStart) => 0,
+            Some(Fault::ProfileStartIn16Bits) => record.profile_start() & 0xFFFF,
+            _ => record.profile_start(),
+        };
+        let length = record.profile_length();
         let asked = (self.request.already_available == 0 || slip.is(Fault::UserDataAlways))
             && !(slip.is(Fault::NoUserDataForType0) && asked_type == 0);
         if asked && (length != 0 || slip.is(Fault::EmptyUserData)) {
-            verdict.user_data = Some(&self.profile[start..start + length]);
+            verdict.user_data = self.profile.get(start..start + length);
         }
         verdict
     }

@@ -1,20 +1,20 @@
 //! UAR.
 
 use super::Code::{Base, Experimental};
-use super::{by_public, first_server_name, is_private_known, user_unknown, Verdict};
+use super::{by_public, first_server_name, is_private_known, Verdict};
 use crate::read::Request;
 use crate::slip::{Fault, Slip};
-use crate::table::{Record, Table, BARRED, NOT_REGISTERED};
+use crate::table::{Record, Table, BARRED, NOT_REGISTERED, UNREGISTERED};
 
 pub fn user_authorization<'a>(request: &Request<'a>, table: Table<'a>, slip: Slip) -> Verdict<'a> {
     let asked_type = request.authorization_type;
     let private = request.user_name.unwrap_or(&[]);
-    let record = match by_public(table, request.identities[0].data) {
+    let record = match by_public(table, request.identities[0].data, slip) {
         Some((_, record)) => record,
-        None => return Verdict::of(user_unknown(slip)),
+        None => return Verdict::of(Experimental(5001)),
     };
     if !is_private_known(table, private) && !slip.is(Fault::UnknownUserNameMismatches) {
-        return Verdict::of(user_unknown(slip));
+        return Verdict::of(Experimental(5001));
     }
     if record.private() != private {
         return Verdict::of(Experimental(5002));
@@ -23,7 +23,8 @@ pub fn user_authorization<'a>(request: &Request<'a>, table: Table<'a>, slip: Sli
     if slip.is(Fault::RoamingBeforeBarring) && !roaming {
         return Verdict::of(Experimental(5004));
     }
-    if record.has(BARRED) && !slip.is(Fault::BarringNotAsked) {
+    let barring_free = slip.is(Fault::BarringNotAsked) || (slip.is(Fault::BarringFreeForType1) && asked_type == 1);
+    if record.has(BARRED) && !barring_free {
         return Verdict::of(if slip.is(Fault::BarredIsExperimental) { Experimental(5003) } else { Base(5003) });
     }
     if !roaming {
@@ -44,13 +45,20 @@ fn is_roaming_asked(asked_type: u32, slip: Slip) -> bool {
 fn may_roam(visited: &[u8], record: Record, table: Table, slip: Slip) -> bool {
     let header = table.header();
     let alike = |name: &[u8]| name == visited || (slip.is(Fault::NetworkPrefixTaken) && name.starts_with(visited));
-    (0..header.networks())
-        .any(|n| alike(header.network(n)) && (record.roams_in(n) || slip.is(Fault::RoamingBitNotAsked)))
+    let allowed = |n: usize| match slip.0 {
+        Some(Fault::RoamingBitNotAsked) => true,
+        Some(Fault::RoamingBitsFromTheTop) => record.roams_in(7 - n),
+        _ => record.roams_in(n),
+    };
+    (0..header.networks()).any(|n| alike(header.network(n)) && allowed(n))
 }
 
 /// What a user who is known, not barred and where he may be is told.
 fn by_type_and_state<'a>(asked_type: u32, record: Record<'a>, table: Table<'a>, slip: Slip) -> Verdict<'a> {
-    let state = record.state();
+    let state = match record.state() {
+        UNREGISTERED if slip.is(Fault::State2IsState0InAuthorization) => NOT_REGISTERED,
+        state => state,
+    };
     if asked_type == 2 {
         if slip.is(Fault::Type2NamesServer) && state != NOT_REGISTERED {
             return Verdict::of(Base(2001)).with_server_name(record.server_name());

@@ -1,20 +1,21 @@
 //! LIR.
 
 use super::Code::{Base, Experimental};
-use super::{by_public, first_server_name, user_unknown, Verdict};
+use super::{by_public, first_server_name, Verdict};
 use crate::read::Request;
 use crate::slip::{Fault, Slip};
-use crate::table::{Table, BARRED, NOT_REGISTERED, UNREGISTERED_SERVICES};
+use crate::table::{Table, BARRED, NOT_REGISTERED, UNREGISTERED, UNREGISTERED_SERVICES};
 
 pub fn location_info<'a>(request: &Request<'a>, table: Table<'a>, slip: Slip) -> Verdict<'a> {
-    let record = match by_public(table, request.identities[0].data) {
+    let record = match by_public(table, request.identities[0].data, slip) {
         Some((_, record)) => record,
-        None => return Verdict::of(user_unknown(slip)),
+        None => return Verdict::of(Experimental(5001)),
     };
     if slip.is(Fault::BarredNotLocated) && record.has(BARRED) {
         return Verdict::of(Base(5003));
     }
-    if record.state() != NOT_REGISTERED {
+    let overlooked = slip.is(Fault::State2IsState0InLocation) && record.state() == UNREGISTERED;
+    if record.state() != NOT_REGISTERED && !overlooked {
         if record.server_name().is_empty() {
             return Verdict::of(Base(5012));
         }

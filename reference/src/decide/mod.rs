@@ -1,6 +1,7 @@
 //! What is decided of a request without fault.
 
 mod assignment;
+mod astray;
 mod authorization;
 mod location;
 
@@ -17,7 +18,7 @@ pub enum Code {
     Experimental(u32),
 }
 
-use Code::{Base, Experimental};
+use Code::Base;
 
 /// A decision: the result, what the answer carries, and what becomes of the records.
 pub struct Verdict<'a> {
@@ -86,6 +87,7 @@ pub fn decide<'a>(request: &Request<'a>, table: Table<'a>, profile: &'a [u8], sl
             (request.assignment_type, assignment::server_assignment(request, table, profile, slip))
         }
     };
+    astray::verdict(&mut verdict, request, table, slip);
     let asked = asked_records(request, table);
     verdict.why = Why::Decided(Decision {
         command: Some(request.command),
@@ -107,7 +109,10 @@ fn asked_records<'a>(request: &Request, table: Table<'a>) -> Vec<(usize, Record<
     table.records().filter(|(_, record)| request.identities.iter().any(|avp| avp.data == record.public())).collect()
 }
 
-fn by_public<'a>(table: Table<'a>, public: &[u8]) -> Option<(usize, Record<'a>)> {
+fn by_public<'a>(table: Table<'a>, public: &[u8], slip: Slip) -> Option<(usize, Record<'a>)> {
+    if let Some(found) = astray::by_public(table, public, slip) {
+        return found;
+    }
     table.records().find(|(_, record)| record.public() == public)
 }
 
@@ -120,18 +125,14 @@ fn first_server_name<'a>(table: Table<'a>, asked: Record<'a>, slip: Slip) -> Opt
     if slip.is(Fault::AskedNameFirst) && !asked.server_name().is_empty() {
         return Some(asked.server_name());
     }
-    table
+    let mut names = table
         .records()
-        .filter(|(_, record)| record.private() == asked.private())
+        .filter(|(_, record)| record.private() == asked.private() || slip.is(Fault::NameOfAnySubscription))
         .filter(|(_, record)| !slip.is(Fault::PendingNamesLeftOut) || record.state() != NOT_REGISTERED)
         .map(|(_, record)| record.server_name())
-        .find(|name| !name.is_empty())
-}
-
-fn user_unknown(slip: Slip) -> Code {
-    if slip.is(Fault::BaseForUserUnknown) {
-        Base(5001)
-    } else {
-        Experimental(5001)
+        .filter(|name| !name.is_empty());
+    if slip.is(Fault::LastNameOfSubscription) {
+        return names.last();
     }
+    names.next()
 }

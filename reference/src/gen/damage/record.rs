@@ -5,6 +5,7 @@ use super::fields::{
     SERVER,
 };
 use super::{of_record, Damage, Subject};
+use crate::gen::tables::{profile_part, FAR};
 use crate::table::{put_word, record, BLOCK, CHECK_WORD, LONGEST_PROFILE, MOST_CAPABILITIES, MOST_NETWORKS, PENDING};
 
 pub const DAMAGES: &[Damage] = &[
@@ -69,6 +70,10 @@ pub const DAMAGES: &[Damage] = &[
         let length = rng.between(1, LONGEST_PROFILE) as u16;
         let wrapped = rng.below(s.profile.len() + 1).min(length as usize - 1) as u32;
         put_part(s, n, wrapped.wrapping_sub(u32::from(length)), length)
+    }),
+    of_record("record: profile part that lies in the file by 16 bits of its start", |rng, s, n| {
+        let (start, length) = profile_part(rng, s.profile.len().min(FAR - 1));
+        put_part(s, n, start + FAR as u32 * rng.between(1, 0xFFFF) as u32, length)
     }),
     of_record("record: empty profile part past the file", |rng, s, n| {
         let past = *rng.pick(&[1, 2, 1000]);

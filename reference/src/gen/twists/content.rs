@@ -14,7 +14,7 @@ pub const TWISTS: &[Twist] = &[
         r.pieces[at].data.resize(length, 0);
         Some(())
     }),
-    if_it_fits("a 4-byte kind of another value", 8, |rng, r| {
+    if_it_fits("a 4-byte kind of another value", 12, |rng, r| {
         let at = some_of(rng, r, Kind::is_four_bytes)?;
         let value = *rng.pick(&[0, 1, 2, 3, 11, 12, 256, 257, 1 << 24, 1 << 24 | 1, 0xFFFF_FFFF]);
         r.pieces[at].data = u32::to_be_bytes(value).to_vec();
