@@ -64,13 +64,17 @@ module _ (s : List ℕ) (at len head : ℕ) (h : Here s at len head) where
   pub data-length : length (dataOf (take len (drop at s))) ≡ len - head
   data-length = rw (head-taken, length-drop, counted)
 
-  data-is : take (at + len - (at + head)) (drop (at + head) s) ≡ dataOf (take len (drop at s))
+  -- the part that is given as the data
+  abbrev given : List ℕ
+  given = take (at + len - (at + head)) (drop (at + head) s)
+
+  data-is : given ≡ dataOf (take len (drop at s))
   data-is =
       let n : at + len - (at + head) ≡ len - head = omega arith in
       let m : head + (len - head) ≡ len = omega (arith, h .least) in
       rw (head-taken, n, ← drop-drop head at s, ← drop-take head (len - head) (drop at s), m)
 
-  pub data-there : (take (at + len - (at + head)) (drop (at + head) s) ≡ dataOf (take len (drop at s))) × (length (take (at + len - (at + head)) (drop (at + head) s)) ≤ length s)
+  pub data-there : (given ≡ dataOf (take len (drop at s))) × (length given ≤ length s)
   data-there = (data-is, rw (data-is, data-length) (omega (arith, h .room)))
 
 -- the reader's answer, and what is then at the place

@@ -8,10 +8,9 @@ use native.Mathlib.Nat.{pow-le-pow-right}
 use lib.Dec.{leb, lit<}
 use lib.ListN.{length, take}
 use borrow.Author.Tests.{leb-true, leb-false}
-use borrow.Rule.Slice.PartMut.{midOf, putMid}
 use Rattle.io.specs.Digits.{digits, Fewest}
 use Rattle.octets.specs.Run.{Wrote}
-use Rattle.octets.proofs.Writes.{then, named}
+use Rattle.octets.proofs.Writes.{lent, back, then, named}
 use Rattle.lines.specs.Words.{Number, Words}
 
 -- A number of 32 bits takes at most ten digits.
@@ -30,15 +29,13 @@ pub number-room : (n k : ℕ) (text out : List ℕ) → Fewest 10 1 n k → n < 
 number-room n k text out f h e r = omega (arith, ten-places n k f h)
 
 pub number-wrote : (n k : ℕ) (text : List ℕ) {b xs : List ℕ} → Fewest 10 1 n k → k ≡ length (take k text) → take k text ≡ digits 10 k n
-    → Wrote (take k text) b xs (length (take k text))
-    → Number n b xs k
+    → Wrote (take k text) b xs (length (take k text)) → Number n b xs k
 number-wrote n k text f e d w = record { fewest = f; wrote = named d (sym e) w }
 
 -- Words, a number after them, words after both.
-pub words-wrote : (n : ℕ) (first last : List ℕ) {b xs ys zs : List ℕ} {k : ℕ} → Wrote first b xs (length first)
-    → Number n (midOf (length first) (length xs - length first) xs) ys k
-    → Wrote last (midOf (length first + k) (length (putMid (length first) (length xs - length first) xs ys) - (length first + k)) (putMid (length first) (length xs - length first) xs ys)) zs (length last)
-    → Words first n last b (putMid (length first + k) (length (putMid (length first) (length xs - length first) xs ys) - (length first + k)) (putMid (length first) (length xs - length first) xs ys) zs) (length first + k + length last)
+pub words-wrote : (n : ℕ) (first last : List ℕ) {b xs ys zs : List ℕ} {k : ℕ} → Wrote first b xs (length first) → Number n (lent (length first) xs) ys k
+    → Wrote last (lent (length first + k) (back (length first) xs ys)) zs (length last)
+    → Words first n last b (back (length first + k) (back (length first) xs ys) zs) (length first + k + length last)
 words-wrote n first last {k = k} p q r = record {
   places = k;
   fewest = q .fewest;

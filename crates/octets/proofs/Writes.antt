@@ -70,16 +70,21 @@ over-then w v b n k e h =
     let l : length (w ++ v) ≡ n + length v = length-append w v ∙ ap (λ (m : ℕ). m + length v) e in
     rw (take-at w (drop (length w) b) n e, d, z, append-nil, drop-drop (length v) n b, l, append-assoc w v (drop (n + length v) b))
 
--- the same, as the borrow checker gives a part that was lent to the end, `&mut out[n..]`, and has come back
-pub over-part : (w v b xs ys : List ℕ) (n : ℕ) → length w ≡ n → xs ≡ over w b → ys ≡ over v (midOf n (length xs - n) xs)
-    → putMid n (length xs - n) xs ys ≡ over (w ++ v) b
+-- a part that is lent to the end, `&mut out[n..]`, and the whole where it has come back
+abbrev pub lent : ℕ → List ℕ → List ℕ
+lent n xs = midOf n (length xs - n) xs
+
+abbrev pub back : ℕ → List ℕ → List ℕ → List ℕ
+back n xs ys = putMid n (length xs - n) xs ys
+
+over-part : (w v b xs ys : List ℕ) (n : ℕ) → length w ≡ n → xs ≡ over w b → ys ≡ over v (lent n xs) → back n xs ys ≡ over (w ++ v) b
 over-part w v b xs ys n e ex ey =
     let l : length (drop n (over w b)) ≡ length (over w b) - n = length-drop n (over w b) in
     let t : take (length (over w b) - n) (drop n (over w b)) ≡ drop n (over w b) = take-all (length (over w b) - n) (drop n (over w b)) (omega (arith, l)) in
     rw (ey, ex, t) (over-then w v b n (length (over w b) - n) e (omega (arith, over-size w b)))
 
 -- what was written, and after it what a writer wrote that was lent the rest
-pub then : {w v b xs ys : List ℕ} {n r : ℕ} → Wrote w b xs n → Wrote v (midOf n (length xs - n) xs) ys r → Wrote (w ++ v) b (putMid n (length xs - n) xs ys) (n + r)
+pub then : {w v b xs ys : List ℕ} {n r : ℕ} → Wrote w b xs n → Wrote v (lent n xs) ys r → Wrote (w ++ v) b (back n xs ys) (n + r)
 then {w} {v} {b} {xs} {ys} {n} {r} p q = record {
   count = omega (arith, p .count, q .count, length-append w v);
   bytes = over-part w v b xs ys n (sym (p .count)) (p .bytes) (q .bytes);
@@ -95,8 +100,7 @@ unfolding over
 front {w} {b} p = rw (p .bytes) (take-at w (drop (length w) b) _ (sym (p .count)))
 
 -- the other way round: the rest was written first, and then the front, whose length is where the rest began
-pub then-front : {h v b ys zs : List ℕ} {n r : ℕ} → n ≤ length b → Wrote v (midOf n (length b - n) b) ys r → Wrote h (putMid n (length b - n) b ys) zs n
-    → Wrote (h ++ v) b zs (n + r)
+pub then-front : {h v b ys zs : List ℕ} {n r : ℕ} → n ≤ length b → Wrote v (lent n b) ys r → Wrote h (back n b ys) zs n → Wrote (h ++ v) b zs (n + r)
 unfolding over
 then-front {h} {v} {b} {ys} {zs} {n} {r} room p q =
     let t : take (length b - n) (drop n b) ≡ drop n b = take-all (length b - n) (drop n b) (omega (arith, length-drop n b)) in
@@ -118,8 +122,7 @@ pub going-none : (b all : List ℕ) → Going b b 0 all all
 unfolding over
 going-none b all = record { done = []; wrote = record { count = refl; bytes = refl }; whole = refl }
 
-pub going-more : {b xs ys all v rest : List ℕ} {n r : ℕ} → Going b xs n (v ++ rest) all → Wrote v (midOf n (length xs - n) xs) ys r
-    → Going b (putMid n (length xs - n) xs ys) (n + r) rest all
+pub going-more : {b xs ys all v rest : List ℕ} {n r : ℕ} → Going b xs n (v ++ rest) all → Wrote v (lent n xs) ys r → Going b (back n xs ys) (n + r) rest all
 going-more {v = v} {rest = rest} g p = record { done = g .done ++ v; wrote = then (g .wrote) p; whole = append-assoc (g .done) v rest ∙ g .whole }
 
 pub going-end : {b xs all : List ℕ} {n : ℕ} → Going b xs n [] all → Wrote all b xs n

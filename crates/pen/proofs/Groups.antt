@@ -5,11 +5,10 @@ use native.Mathlib.Numerals.{add-one}
 use native.Mathlib.Omega.{arith}
 use mathlib.Core.Path.{_≡_, refl, _∙_}
 use mathlib.Core.List.{List, _++_, append-assoc, append-nil}
-use borrow.Rule.Slice.PartMut.{midOf, putMid}
 use lib.Dec.{ltb}
 use lib.ListN.{length, take, drop, length-append, length-take, length-drop}
 use Rattle.octets.specs.Run.{over, Wrote}
-use Rattle.octets.proofs.Writes.{then, named}
+use Rattle.octets.proofs.Writes.{lent, back, then, named}
 use Rattle.pen.specs.Bytes.{padding, headBytes, vendorHead, copied, vendorBytes, numberBytes, group, vendorGroup}
 use Rattle.pen.specs.Groups.{vendorApplication, experimental, failed, failedSize, vendorNumbers, words, capabilities, capabilitiesSize}
 use Rattle.pen.proofs.Sizes.{there-length, copied-length, vendorHead-length, group-length, vendorGroup-length}
@@ -28,15 +27,14 @@ unfolding failed
 failed-length a = group-length 279 (copied a) ∙ rw copied-length
 
 -- the group's length is 8 and two numbers of 12
-pub wrote-pair : (code c m d n : ℕ) {b xs ys zs : List ℕ} {r t : ℕ} → Wrote (headBytes code 64 32) b xs 8 → Wrote (numberBytes c m) (midOf 8 (length xs - 8) xs) ys r
-    → Wrote (numberBytes d n) (midOf (8 + r) (length (putMid 8 (length xs - 8) xs ys) - (8 + r)) (putMid 8 (length xs - 8) xs ys)) zs t
-    → Wrote (group code (numberBytes c m ++ numberBytes d n)) b (putMid (8 + r) (length (putMid 8 (length xs - 8) xs ys) - (8 + r)) (putMid 8 (length xs - 8) xs ys) zs) (8 + r + t)
+pub wrote-pair : (code c m d n : ℕ) {b xs ys zs : List ℕ} {r t : ℕ} → Wrote (headBytes code 64 32) b xs 8 → Wrote (numberBytes c m) (lent 8 xs) ys r
+    → Wrote (numberBytes d n) (lent (8 + r) (back 8 xs ys)) zs t
+    → Wrote (group code (numberBytes c m ++ numberBytes d n)) b (back (8 + r) (back 8 xs ys) zs) (8 + r + t)
 unfolding group numberBytes
 wrote-pair code c m d n p q s = then (then p q) s
 
-pub wrote-failed : (d : List ℕ) {b xs ys : List ℕ} {r : ℕ} → Wrote (headBytes 279 64 (failedSize (length d))) b xs 8
-    → Wrote (copied d) (midOf 8 (length xs - 8) xs) ys r
-    → Wrote (failed d) b (putMid 8 (length xs - 8) xs ys) (8 + r)
+pub wrote-failed : (d : List ℕ) {b xs ys : List ℕ} {r : ℕ} → Wrote (headBytes 279 64 (failedSize (length d))) b xs 8 → Wrote (copied d) (lent 8 xs) ys r
+    → Wrote (failed d) b (back 8 xs ys) (8 + r)
 unfolding failed group
 wrote-failed d p q = named (rw copied-length) refl (then p q)
 
@@ -60,8 +58,8 @@ unfolding vendorNumbers over
 wrote-no-number code s b = record { count = refl; bytes = refl }
 
 pub wrote-next-number : (code : ℕ) (s : List ℕ) (i m : ℕ) {b xs ys : List ℕ} {n r : ℕ} → i < m → 4 * m ≤ length s → Wrote (vendorNumbers code s i) b xs n
-    → Wrote (vendorBytes code (take (4 * i + 4 - 4 * i) (drop (4 * i) s))) (midOf n (length xs - n) xs) ys r
-    → Wrote (vendorNumbers code s (i + 1)) b (putMid n (length xs - n) xs ys) (n + r)
+    → Wrote (vendorBytes code (take (4 * i + 4 - 4 * i) (drop (4 * i) s))) (lent n xs) ys r
+    → Wrote (vendorNumbers code s (i + 1)) b (back n xs ys) (n + r)
 unfolding vendorNumbers
 wrote-next-number code s i m h room p q =
     let e : take (4 * i + 4 - 4 * i) (drop (4 * i) s) ≡ take 4 (drop (4 * i) s) = rw (add-sub-cancel-left (4 * i) 4) in
@@ -88,9 +86,9 @@ wrote-no-capabilities m o b h = wrote-none (words m + words o) _ b (omega arith)
 
 pub wrote-capabilities : (m o : List ℕ) {b xs ys zs : List ℕ} {r t : ℕ} → (words m + words o ≡ 0 → ⊥)
     → Wrote (vendorHead 603 (capabilitiesSize (words m) (words o))) b xs 12
-    → Wrote (vendorNumbers 604 m (words m)) (midOf 12 (length xs - 12) xs) ys r
-    → Wrote (vendorNumbers 605 o (words o)) (midOf (12 + r) (length (putMid 12 (length xs - 12) xs ys) - (12 + r)) (putMid 12 (length xs - 12) xs ys)) zs t
-    → Wrote (capabilities m o) b (putMid (12 + r) (length (putMid 12 (length xs - 12) xs ys) - (12 + r)) (putMid 12 (length xs - 12) xs ys) zs) (12 + r + t)
+    → Wrote (vendorNumbers 604 m (words m)) (lent 12 xs) ys r
+    → Wrote (vendorNumbers 605 o (words o)) (lent (12 + r) (back 12 xs ys)) zs t
+    → Wrote (capabilities m o) b (back (12 + r) (back 12 xs ys) zs) (12 + r + t)
 unfolding capabilities vendorGroup
 wrote-capabilities m o h p q s =
     let l : 12 + length (vendorNumbers 604 m (words m) ++ vendorNumbers 605 o (words o)) ≡ capabilitiesSize (words m) (words o) = omega (arith, members-length m o) in

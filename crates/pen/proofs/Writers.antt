@@ -1,40 +1,37 @@
 -- Each AVP is written by the writers of its parts, one after the other.
-use Prim.Native.Nat.{ℕ, _+_, _-_, _*_, _/_, _≤_, _<_}
+use Prim.Native.Nat.{ℕ, _+_, _-_, _≤_, _<_}
 use mathlib.Core.Path.{refl}
 use mathlib.Core.List.{List}
 use borrow.Author.Tests.{lt-ltb, le-ltb}
-use borrow.Rule.Slice.PartMut.{midOf, putMid}
 use lib.ListN.{length, replicate}
 use lib.Dec.{ltb}
+use Rattle.octets.specs.Number.{inFours}
 use Rattle.octets.specs.Run.{over, Wrote}
-use Rattle.octets.proofs.Writes.{then}
+use Rattle.octets.proofs.Writes.{lent, back, then}
 use Rattle.pen.specs.Bytes.{padding, wordBytes, headBytes, vendorHead, copied, avpBytes, vendorBytes, numberBytes, ifThere}
 
-pub wrote-vendorHead : (code len : ℕ) {b xs ys : List ℕ} → Wrote (headBytes code 192 len) b xs 8 → Wrote (wordBytes 10415) (midOf 8 (length xs - 8) xs) ys 4
-    → Wrote (vendorHead code len) b (putMid 8 (length xs - 8) xs ys) 12
+pub wrote-vendorHead : (code len : ℕ) {b xs ys : List ℕ} → Wrote (headBytes code 192 len) b xs 8 → Wrote (wordBytes 10415) (lent 8 xs) ys 4
+    → Wrote (vendorHead code len) b (back 8 xs ys) 12
 unfolding vendorHead
 wrote-vendorHead code len p q = then p q
 
-pub wrote-copied : (d : List ℕ) {b xs ys : List ℕ} {k : ℕ} → Wrote d b xs (length d)
-    → Wrote (replicate ((length d + 3) / 4 * 4 - length d) 0) (midOf (length d) (length xs - length d) xs) ys k
-    → Wrote (copied d) b (putMid (length d) (length xs - length d) xs ys) (length d + k)
+pub wrote-copied : (d : List ℕ) {b xs ys : List ℕ} {k : ℕ} → Wrote d b xs (length d) → Wrote (replicate (inFours (length d) - length d) 0) (lent (length d) xs) ys k
+    → Wrote (copied d) b (back (length d) xs ys) (length d + k)
 unfolding copied padding
 wrote-copied d p q = then p q
 
-pub wrote-avp : (code : ℕ) (d : List ℕ) {b xs ys : List ℕ} {r : ℕ} → Wrote (headBytes code 64 (8 + length d)) b xs 8
-    → Wrote (copied d) (midOf 8 (length xs - 8) xs) ys r
-    → Wrote (avpBytes code d) b (putMid 8 (length xs - 8) xs ys) (8 + r)
+pub wrote-avp : (code : ℕ) (d : List ℕ) {b xs ys : List ℕ} {r : ℕ} → Wrote (headBytes code 64 (8 + length d)) b xs 8 → Wrote (copied d) (lent 8 xs) ys r
+    → Wrote (avpBytes code d) b (back 8 xs ys) (8 + r)
 unfolding avpBytes
 wrote-avp code d p q = then p q
 
-pub wrote-vendor : (code : ℕ) (d : List ℕ) {b xs ys : List ℕ} {r : ℕ} → Wrote (vendorHead code (12 + length d)) b xs 12
-    → Wrote (copied d) (midOf 12 (length xs - 12) xs) ys r
-    → Wrote (vendorBytes code d) b (putMid 12 (length xs - 12) xs ys) (12 + r)
+pub wrote-vendor : (code : ℕ) (d : List ℕ) {b xs ys : List ℕ} {r : ℕ} → Wrote (vendorHead code (12 + length d)) b xs 12 → Wrote (copied d) (lent 12 xs) ys r
+    → Wrote (vendorBytes code d) b (back 12 xs ys) (12 + r)
 unfolding vendorBytes
 wrote-vendor code d p q = then p q
 
-pub wrote-number : (code n : ℕ) {b xs ys : List ℕ} → Wrote (headBytes code 64 12) b xs 8 → Wrote (wordBytes n) (midOf 8 (length xs - 8) xs) ys 4
-    → Wrote (numberBytes code n) b (putMid 8 (length xs - 8) xs ys) 12
+pub wrote-number : (code n : ℕ) {b xs ys : List ℕ} → Wrote (headBytes code 64 12) b xs 8 → Wrote (wordBytes n) (lent 8 xs) ys 4
+    → Wrote (numberBytes code n) b (back 8 xs ys) 12
 unfolding numberBytes
 wrote-number code n p q = then p q
 

@@ -92,7 +92,8 @@ fn put_numbers(out: &mut [u8], code: u32, src: &[u8], n: usize) -> usize
 // Server-Capabilities, or nothing where there are none.
 pub fn put_capabilities(out: &mut [u8], mandatory: &[u8], optional: &[u8]) -> usize
     requires { ⌜ capabilitiesSize (words (now mandatory)) (words (now optional)) ≤ length (now out) ⌝ }
-    ensures { λ r. ⌜ (r ≤ capabilitiesSize (words (now (mandatory .entry))) (words (now (optional .entry)))) × Wrote (capabilities (now (mandatory .entry)) (now (optional .entry))) (now (out .entry)) (now (out .exit)) r ⌝ }
+    ensures { λ r. ⌜ (r ≤ capabilitiesSize (words (now (mandatory .entry))) (words (now (optional .entry))))
+        × Wrote (capabilities (now (mandatory .entry)) (now (optional .entry))) (now (out .entry)) (now (out .exit)) r ⌝ }
 {
     let m = mandatory.len() / 4;
     let o = optional.len() / 4;

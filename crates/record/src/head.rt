@@ -4,13 +4,13 @@ ghost use mathlib.Core.Path.{_≡_};
 ghost use lib.ListN.{length};
 ghost use Rattle.record.specs.Fields.{soundHead};
 
-pub const KIND_AT: usize = 0;
+const KIND_AT: usize = 0;
 
-pub const EDITION_AT: usize = 1;
+const EDITION_AT: usize = 1;
 
-pub const NUMBER_AT: usize = 4;
+const NUMBER_AT: usize = 4;
 
-pub const EDITION: u8 = 1;
+const EDITION: u8 = 1;
 
 // The kind, the edition, the two bytes not named, and the block's number.
 pub fn sound(b: &[u8], kind: u8, k: u32) -> bool

@@ -8,11 +8,11 @@ ghost use Rattle.octets.specs.All.{allBelow};
 ghost use Rattle.record.specs.Networks.{placeAt, usedPlace, soundPlace, sameByte, otherPlace, newPlace, soundNetworks};
 
 // "eight places of 32: a length 1 to 31, then the visited network's name"
-pub const PLACES: usize = 8;
+const PLACES: usize = 8;
 
-pub const PLACE: usize = 32;
+const PLACE: usize = 32;
 
-pub const MOST_NAME: usize = 31;
+const MOST_NAME: usize = 31;
 
 // Where place i begins.
 pub fn place(i: usize) -> usize

@@ -8,8 +8,7 @@ use native.Mathlib.Omega.{arith}
 use lib.Dec.{ltb}
 use borrow.Author.Tests.{ltb-true, ltb-false}
 use lib.ListN.{length, getD, take, drop}
-use lib.Seq.{getD-take, getD-drop, ext-getD}
-use Rattle.octets.proofs.Parts.{spliced, spliced-part, spliced-length, spliced-before, spliced-after}
+use Rattle.octets.proofs.Parts.{part-alike, spliced, spliced-part, spliced-length, spliced-before, spliced-after}
 use Rattle.table.specs.Blocks.{blockOf}
 use Rattle.table.proofs.Blocks.{block-length}
 use Rattle.rewrite.specs.Renew.{renewed, rewritten}
@@ -20,28 +19,16 @@ module _ (t : List ℕ) (k : ℕ) (y : List ℕ) (whole : length y ≡ 512) (fit
   unfolding blockOf
   block-spliced = ap (λ (n : ℕ). take n (drop (512 * k) (spliced t (512 * k) y))) (sym whole) ∙ spliced-part t (512 * k) y (omega arith)
 
-  byte-apart : (j i : ℕ) → j ≢ k → i < 512 → getD (spliced t (512 * k) y) (512 * j + i) 0 ≡ getD t (512 * j + i) 0
-  byte-apart j i h l = go (ltb j k) refl
+  byte-apart : (j i : ℕ) → j ≢ k → 512 * j ≤ i → i < 512 * j + 512 → getD (spliced t (512 * k) y) i 0 ≡ getD t i 0
+  byte-apart j i h u v = go (ltb j k) refl
     where
-      go : (x : Bool) → ltb j k ≡ x → getD (spliced t (512 * k) y) (512 * j + i) 0 ≡ getD t (512 * j + i) 0
-      go true e = let f : j < k = ltb-true _ _ e in spliced-before t (512 * k) y (omega arith) (512 * j + i) (omega arith)
-      go false e = let f : k ≤ j = ltb-false _ _ e in spliced-after t (512 * k) y (omega arith) (512 * j + i) (omega arith)
+      go : (x : Bool) → ltb j k ≡ x → getD (spliced t (512 * k) y) i 0 ≡ getD t i 0
+      go true e = let f : j < k = ltb-true _ _ e in spliced-before t (512 * k) y (omega arith) i (omega arith)
+      go false e = let f : k ≤ j = ltb-false _ _ e in spliced-after t (512 * k) y (omega arith) i (omega arith)
 
-  block-apart : (j : ℕ) → j ≢ k → 512 * j + 512 ≤ length t → blockOf (spliced t (512 * k) y) j ≡ blockOf t j
+  block-apart : (j : ℕ) → j ≢ k → blockOf (spliced t (512 * k) y) j ≡ blockOf t j
   unfolding blockOf
-  block-apart j h g =
-      let long : length (spliced t (512 * k) y) ≡ length t = spliced-length t (512 * k) y (omega arith) in
-      ext-getD 0 (blockOf (spliced t (512 * k) y) j) (blockOf t j)
-      (block-length (spliced t (512 * k) y) j (omega arith) ∙ sym (block-length t j g))
-      (λ i l.
-      let b : i < 512 = omega (arith, block-length (spliced t (512 * k) y) j (omega arith)) in
-      rw (
-        getD-take 512 (drop (512 * j) (spliced t (512 * k) y)) i 0 b,
-        getD-take 512 (drop (512 * j) t) i 0 b,
-        getD-drop (512 * j) (spliced t (512 * k) y) i 0,
-        getD-drop (512 * j) t i 0,
-      )
-      (byte-apart j i h b))
+  block-apart j h = part-alike (spliced t (512 * k) y) t (512 * j) 512 (spliced-length t (512 * k) y (omega arith)) (λ i u v. byte-apart j i h u v)
 
 module _ (t : List ℕ) (k state bits : ℕ) (name : List ℕ) (fits : 512 * k + 512 ≤ length t) where
   abbrev new : List ℕ
@@ -61,4 +48,4 @@ module _ (t : List ℕ) (k state bits : ℕ) (name : List ℕ) (fits : 512 * k +
   block-renewed = rw is-spliced (block-spliced t k new new-length fits)
 
   pub block-other : (j : ℕ) → j ≢ k → 512 * j + 512 ≤ length t → blockOf (rewritten t k state bits name) j ≡ blockOf t j
-  block-other j h g = rw is-spliced (block-apart t k new new-length fits j h g)
+  block-other j h g = rw is-spliced (block-apart t k new new-length fits j h)

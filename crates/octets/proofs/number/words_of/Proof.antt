@@ -5,8 +5,9 @@ use Rattle.octets.proofs.number.words_of.Tie as tie
 
 returns : tie.Need-returns
 returns c =
-    turned-words (c .before .before .args .a) (c .before .before .args .b) (c .before .before .args .c) (c .before .before .args .d) (c .before .before .args .e) (c .before .before .args .f) (c .before .before .args .g) (c .before .before .args .h)
-    (search needs) (search needs) (search needs) (search needs) (search needs) (search needs) (search needs) (search needs) _ (c .before .of-eight .ensures) _ (c .turned .ensures)
+    let x = c .before .before .args in
+    turned-words (x .a) (x .b) (x .c) (x .d) (x .e) (x .f) (x .g) (x .h) (search needs) (search needs) (search needs) (search needs) (search needs)
+    (search needs) (search needs) (search needs) _ (c .before .of-eight .ensures) _ (c .turned .ensures)
 
 pub words-of-spec : {M : Type 1} → statement M
 words-of-spec =
