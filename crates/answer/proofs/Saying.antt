@@ -16,7 +16,7 @@ use Rattle.ndushavire.specs.Serve.{Served, refused, answered, smallBuffer, wron
 use Rattle.ndushavire.specs.Word.{callWord, numberIn, valueIn}
 use Rattle.ndushavire.specs.Promise.{DecidePromise}
 use Rattle.ndushavire.proofs.Tests.{either}
-use Rattle.answer.specs.Said.{Fits, Stands, Said}
+use Rattle.answer.specs.Said.{Fits, Said}
 
 -- A call that leaves the buffer's length as it was has room for the answer that it says.
 abbrev Room : List ℕ → Served → Type 0
@@ -60,5 +60,6 @@ said-answer w o e f = record { said = rw (eq-eqb (numberIn w) 0 e) (record { cou
 pub said-refusal : (w : ℕ) {r : ℕ} {o o' : List ℕ} → (numberIn w ≡ 0 → ⊥) → Words (114 ∷ 101 ∷ 102 ∷ 117 ∷ 115 ∷ 101 ∷ 100 ∷ 32 ∷ []) (numberIn w) (10 ∷ []) o o' r → Said w o o' r
 said-refusal w f h = record { said = rw (ne-eqb (numberIn w) 0 f) h }
 
-pub said-served : (req t file o : List ℕ) (w : ℕ) {t' o' p : List ℕ} {r : ℕ} → DecidePromise req t file o w t' o' → Said w o' p r → Said (callWord (serve req t file o .call)) (serve req t file o .buffer) p r
+pub said-served : (req t file o : List ℕ) (w : ℕ) {t' o' p : List ℕ} {r : ℕ} → DecidePromise req t file o w t' o' → Said w o' p r
+    → Said (callWord (serve req t file o .call)) (serve req t file o .buffer) p r
 said-served req t file o w d s = rw (← d .word-is, ← d .buffer-is) s

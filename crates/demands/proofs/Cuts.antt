@@ -133,7 +133,8 @@ module _ (req : List ℕ) (bytes : (i : ℕ) → getD req i 0 < 256) (long : 20 
       let l : 20 + length body ≡ length req = rw (← d, length-drop) (omega arith) in
       rw (l, field-kept, ← d) (sym (take-append-drop 20 req))
 
-  cut-by : sound (drop 20 req) ≡ true → (tail : List ℕ) → length tail % 4 ≡ 0 → sound tail ≡ false → (row : List Piece) → All Whole row → drop 20 req ≡ bytesOf row ++ tail → Cut req
+  cut-by : sound (drop 20 req) ≡ true → (tail : List ℕ) → length tail % 4 ≡ 0 → sound tail ≡ false → (row : List Piece) → All Whole row
+      → drop 20 req ≡ bytesOf row ++ tail → Cut req
   unfolding bytesOf
   cut-by begins tail f s [] w d = absurd (true≢false (sym begins ∙ ap sound d ∙ s))
   cut-by begins tail f s (q ∷ qs) w d =

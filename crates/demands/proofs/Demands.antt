@@ -111,9 +111,9 @@ module _ (req t file o : List ℕ) where
   pub demand-2-past : drop (callValue (serve req t file o .call)) (serve req t file o .buffer) ≡ drop (callValue (serve req t file o .call)) o
   demand-2-past = buffer-past req t file o
 
--- DEMAND 3. A request is a header, a row of AVPs that pass (a), `q` and then `qs`, and any bytes behind them. AVPs of unknown kinds are put into the row after its first, at one place
--- or at several, so that it is `q` and then `rs`; the length field is put right, and the whole stays within 16,384 bytes. Before `q` there is no place, for (b) wants a Session-Id there;
--- nor are there such AVPs with reserved flags, which (c) calls B3009.
+-- DEMAND 3. A request is a header, a row of AVPs that pass (a), `q` and then `qs`, and any bytes behind them. AVPs of unknown kinds are put into the row after its first,
+-- at one place or at several, so that it is `q` and then `rs`; the length field is put right, and the whole stays within 16,384 bytes. Before `q` there is no place, for
+-- (b) wants a Session-Id there; nor does it speak of AVPs with reserved flags, which (c) calls B3009.
 module _ (head : List ℕ) (twenty : length head ≡ 20) (q : Piece) (qs rs : List Piece) (whole : All Whole (q ∷ qs)) (tail : List ℕ) (fours : length tail % 4 ≡ 0)
     (most : length (requestOf head (q ∷ rs) tail) ≤ 16384) (t file o : List ℕ) where
   -- If none of them is marked M, the call comes to the same, and leaves the same table and the same buffer.
@@ -137,7 +137,7 @@ module _ (head : List ℕ) (twenty : length head ≡ 20) (q : Piece) (qs rs : Li
 pub demand-3-cases : (qs rs : List Piece) → Inserted Foreign qs rs → Inserted Quiet qs rs ⊎ FirstMarked qs rs
 demand-3-cases qs rs = marked-or-not
 
--- And these are all requests that are not refused by their length and whose first AVP passes (a): their bytes are such a header, row and rest, and the row is as long as it can be,
--- so that every place before the first length fault is one of its places. Any other has no place: no AVP, or a length fault in its first.
+-- And these are all requests of a right length whose first AVP passes (a): their bytes are such a header, row and rest, and the row is as long as it can be, so that
+-- every place before the first length fault is one of its places. Any other has no place: it has no AVP, or a length fault in its first.
 pub demand-3-any : (req : List ℕ) → ((i : ℕ) → getD req i 0 < 256) → wrongLength req ≡ false → sound (drop 20 req) ≡ true → Cut req
 demand-3-any = every-request

@@ -28,6 +28,9 @@ pub record Altered (t : List ℕ) (count : ℕ) (keep : Bool) (s : Assignment) (
   pub table : d .table ≡ afterOf t count (isOne (recordsOf t count s)) (effectOf (s .kind) keep .state) (storedName (effectOf (s .kind) keep .named) (s .server))
 
 module _ (t : List ℕ) (count : ℕ) (file : List ℕ) (keep : Bool) (s : Assignment) where
+  abbrev fault : Option Reply
+  fault = identityFault (isRemoval (groupOf (s .kind))) (s .named) (s .identities)
+
   abbrev Cases : Decision → Type 0
   Cases d = (d .table ≡ t) ⊎ Altered t count keep s d
 
@@ -47,7 +50,8 @@ module _ (t : List ℕ) (count : ℕ) (file : List ℕ) (keep : Bool) (s : Assig
       go true = refl
       go false = refl
 
-  chain-cases : identityFault (isRemoval (groupOf (s .kind))) (s .named) (s .identities) ≡ none → allKnown t count s ≡ true → (own query other wrong : Bool) (x y z w : Reply) → every (ownAt t (ownerOf t s (recordsOf t count s))) (recordsOf t count s) ≡ own
+  chain-cases : fault ≡ none → allKnown t count s ≡ true → (own query other wrong : Bool) (x y z w : Reply)
+      → every (ownAt t (ownerOf t s (recordsOf t count s))) (recordsOf t count s) ≡ own
       → Cases (cond (not own) (unaltered t x) (cond query (unaltered t y) (cond other (unaltered t z) (cond wrong (unaltered t w) (effected t count file keep s (recordsOf t count s))))))
   unfolding effected
   chain-cases i a false query other wrong x y z w e = inl refl
@@ -56,13 +60,13 @@ module _ (t : List ℕ) (count : ℕ) (file : List ℕ) (keep : Bool) (s : Assig
   chain-cases i a true false false true x y z w e = inl refl
   chain-cases i a true false false false x y z w e = inr (record { identified = i; known = a; owned = e; result = result-is (firstOf (recordsOf t count s)); table = refl })
 
-  records-cases : identityFault (isRemoval (groupOf (s .kind))) (s .named) (s .identities) ≡ none → allKnown t count s ≡ true → Cases (assignRecords t count file keep s (recordsOf t count s))
+  records-cases : fault ≡ none → allKnown t count s ≡ true → Cases (assignRecords t count file keep s (recordsOf t count s))
   unfolding assignRecords
   records-cases i a =
       let ks = recordsOf t count s in
       chain-cases i a (every (ownAt t (ownerOf t s ks)) ks) (eqb (s .kind) 0) (not (every (fitsAt t (s .server)) ks)) (isEmpty ks || not (every (rightAt t (s .kind)) ks)) _ _ _ _ refl
 
-  known-cases : (f : Option Reply) → identityFault (isRemoval (groupOf (s .kind))) (s .named) (s .identities) ≡ f → Cases (assignKnown t count file keep s f)
+  known-cases : (f : Option Reply) → fault ≡ f → Cases (assignKnown t count file keep s f)
   unfolding assignKnown
   known-cases (some r) i = inl refl
   known-cases none i = go (allKnown t count s) refl
@@ -73,7 +77,7 @@ module _ (t : List ℕ) (count : ℕ) (file : List ℕ) (keep : Bool) (s : Assig
 
   assign-cases : Cases (assign t count file keep s)
   unfolding assign
-  assign-cases = known-cases (identityFault (isRemoval (groupOf (s .kind))) (s .named) (s .identities)) refl
+  assign-cases = known-cases fault refl
 
 -- a SAR that was read without fault altered the table
 pub record Assigned (req t : List ℕ) (count : ℕ) (file : List ℕ) : Type 0 where

@@ -101,7 +101,8 @@ owner-is t count s = go (isRemoval (groupOf (s .kind))) (s .named) (s .identitie
     none-given true r e = Option·some-ne-none r e
     none-given false r e = Option·some-ne-none r e
 
-    go : (removal named : Bool) (ids : List (List ℕ)) → identityFault removal named ids ≡ none → (every isAt (findAll t count ids) && (not named || isAt (findPrivate t count (s .user)))) ≡ true
+    go : (removal named : Bool) (ids : List (List ℕ)) → identityFault removal named ids ≡ none
+        → (every isAt (findAll t count ids) && (not named || isAt (findPrivate t count (s .user)))) ≡ true
         → some (cond named (s .user) (privateAt t (firstOf (cond (isEmpty ids) (ownedUpTo t (s .user) count) (numbersOf (findAll t count ids))))))
         ≡ cond named (some (s .user)) (firstOwner t count ids)
     go removal true ids i a = refl

@@ -122,7 +122,8 @@ foreign-proxies = inserted-same proxies (λ a v w e. rw e) (λ u w p. rw (p .str
 pub quiet-foreign : {qs rs : List Piece} → Inserted Quiet qs rs → Inserted Foreign qs rs
 quiet-foreign = inserted-as (λ u p. p .foreign)
 
-quiet-read : (head : List ℕ) (a : List ℕ) {qs rs : List Piece} → Inserted Quiet qs rs → (w : Walk) → readBody head (avp a (glue (avpsOf rs) w)) ≡ readBody head (avp a (glue (avpsOf qs) w))
+quiet-read : (head : List ℕ) (a : List ℕ) {qs rs : List Piece} → Inserted Quiet qs rs → (w : Walk)
+    → readBody head (avp a (glue (avpsOf rs) w)) ≡ readBody head (avp a (glue (avpsOf qs) w))
 unfolding readBody readWalk
 quiet-read head a {qs} {rs} i w =
     let c = commandOf head in
@@ -299,7 +300,8 @@ module _ (head : List ℕ) (twenty : length head ≡ 20) (q : Piece) (qs rs : Li
       ∙ rw (none-decides head headed (frontOther q (m .front)) (frontJudged head q (m .front)) (behind (m .mark ∷ m .after)) (m .mark .avp) e
       (λ seen. mark-judged (commandOf head) (m .mark) (glue (avpsOf (m .after)) (walk tail)) seen (m .foreign) (m .marking)))
 
-  pub mark-answered : faultIn head (q ∷ m .front) ≡ false → (t file o : List ℕ) → turnedAway shorter t file o ≡ false → serve longer t file o ≡ answered longer t o (unsupported t (m .mark))
+  pub mark-answered : faultIn head (q ∷ m .front) ≡ false → (t file o : List ℕ) → turnedAway shorter t file o ≡ false
+      → serve longer t file o ≡ answered longer t o (unsupported t (m .mark))
   mark-answered e t file o away =
       let f : turnedAway longer t file o ≡ false = turned-same head twenty q qs rs whole tail fours most i t file o ∙ away in
       counted longer t file o f (λ count sound. answered-is longer t file o count sound f ∙ ap (answered longer t o) (mark-decides e t count file))

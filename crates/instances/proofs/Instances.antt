@@ -4,14 +4,14 @@ use mathlib.Core.Path.{_≡_, refl, ap, _∙_}
 use mathlib.Core.List.{List, [], _∷_, _++_}
 use mathlib.Core.Option.{Option·some-injective}
 use mathlib.Core.Logic.{_⊎_}
-use mathlib.Core.Bool.{Bool, true, false, _&&_}
+use mathlib.Core.Bool.{Bool, true, _&&_}
 use native.Mathlib.Omega.{arith}
 use lib.ListN.{length, getD, take, drop, replicate}
 use lib.Dec.{eqb, ltb, lit≤, lit<}
 use borrow.Author.Tests.{eqb-true, ltb-true}
 use Rattle.octets.proofs.All.{and-left, and-right}
 use Rattle.octets.specs.Run.{over}
-use Rattle.table.specs.Blocks.{blockOf, privateAt}
+use Rattle.table.specs.Blocks.{blockOf}
 use Rattle.table.specs.declared.Checked.the-variants.{Sound, Bad}
 use Rattle.table.specs.Check.{checkTable}
 use Rattle.diameter.specs.Avp.{padded, avpLen, sound}
@@ -23,7 +23,7 @@ use Rattle.ndushavire.specs.declared.Call.the-variants.{Answered, Refused}
 use Rattle.ndushavire.specs.Serve.{Served, smallBuffer, wrongSize, wrongLength, noRequest, serve}
 use Rattle.ndushavire.specs.Word.{callNumber, callValue, callWord, Reads}
 use Rattle.worked.proofs.Sample.{header, person, request, answer, s, z, opened}
-use Rattle.demands.specs.Call.{Tried, unsound, turnedAway, answerTo}
+use Rattle.demands.specs.Call.{Tried, unsound, answerTo}
 use Rattle.demands.specs.Frame.{firstOwner, askedIn, subscriptionOf, alterable}
 use Rattle.demands.specs.Insertion.{message, requestOf, Foreign, Quiet, Inserted, ending, keep, put, FirstMarked, faultIn, Cut}
 use Rattle.demands.proofs.Demands.{promised, demand-1, demand-1-number, demand-1-none, demand-1-block, demand-1-length, demand-1-fits, demand-1-word, demand-1-kept}

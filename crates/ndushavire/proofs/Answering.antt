@@ -1,29 +1,26 @@
 -- What is written and what is left, by what reading the request found.
-use Prim.Native.Nat.{ℕ, _+_, _≤_, _%_}
+use Prim.Native.Nat.{ℕ, _≤_}
 use mathlib.Core.List.{List}
-use mathlib.Core.Bool.{Bool, true, false}
-use mathlib.Core.Path.{_≡_, refl, sym, ap, _∙_}
+use mathlib.Core.Path.{_≡_, ap, _∙_}
 use native.Mathlib.Omega.{arith}
 use lib.ListN.{length}
 use Rattle.octets.specs.Run.{Wrote}
 use Rattle.table.specs.Blocks.{blockOf}
 use Rattle.lookup.specs.SoundTable.{SoundTable}
-use Rattle.reading.specs.Rules.{Seen, Judged, bad, fine}
-use Rattle.reading.specs.Request.{bodyOf, readRequest, dataIn}
-use Rattle.reading.specs.Found.{seenOf, failedBy, judgedOf}
+use Rattle.reading.specs.Rules.{Seen, bad, fine}
+use Rattle.reading.specs.Request.{readRequest, dataIn}
+use Rattle.reading.specs.Found.{failedBy}
 use Rattle.reading.specs.declared.Verdict.{Verdict}
-use Rattle.reading.specs.declared.Walked.{Walked}
 use Rattle.requests.proofs.Kept.{server-most}
-use Rattle.decisions.specs.Reply.{Reply, failing}
+use Rattle.decisions.specs.Reply.{Reply}
 use Rattle.decisions.specs.Gives.{givenFault}
-use Rattle.decisions.specs.Assignment.{Decision, Assignment}
+use Rattle.decisions.specs.Assignment.{Decision}
 use Rattle.decisions.specs.Decide.{assignmentOf, decideJudged, decide}
-use Rattle.decisions.specs.Planned.{Ready, replyOf, planned, decisionOf}
+use Rattle.decisions.specs.Planned.{replyOf, planned, decisionOf}
 use Rattle.decisions.specs.declared.Given.{Given}
 use Rattle.decisions.specs.declared.Plan.{Plan}
-use Rattle.decisions.proofs.Ready.{sound-ready}
 use Rattle.decisions.proofs.Replies.{reply-fault}
-use Rattle.reply.specs.Answer.{roomOf, answerBytes}
+use Rattle.reply.specs.Answer.{answerBytes}
 use Rattle.ndushavire.specs.Passed.{Passed}
 use Rattle.ndushavire.specs.Plans.{Plans, Answers}
 use Rattle.ndushavire.proofs.Room.{answer-most}

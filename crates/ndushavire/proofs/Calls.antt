@@ -1,22 +1,19 @@
 -- What each way through a call promises.
-use Prim.Native.Nat.{ℕ, _+_, _*_, _≤_, _<_, _%_}
+use Prim.Native.Nat.{ℕ, _≤_, _<_, _%_}
 use mathlib.Core.List.{List}
-use mathlib.Core.Bool.{Bool, true, false, cond, not, _||_, true≢false}
+use mathlib.Core.Bool.{Bool, true, false, not, _||_, true≢false}
 use mathlib.Core.Path.{_≡_, refl, sym, ap, _∙_}
 use native.Mathlib.Omega.{arith}
 use lib.ListN.{length, getD}
 use lib.Dec.{eqb, ltb}
-use borrow.Author.Tests.{lt-ltb, le-ltb, eqb-true, eqb-false, eq-eqb, ne-eqb, ltb-false}
+use borrow.Author.Tests.{lt-ltb, le-ltb, eqb-true, ltb-false}
 use Rattle.octets.specs.Number.{be24At}
-use Rattle.octets.specs.Run.{over, Wrote}
-use Rattle.table.specs.Blocks.{blockOf}
 use Rattle.table.specs.Check.{checkTable}
 use Rattle.table.specs.declared.Checked.{Checked}
 use Rattle.table.specs.declared.Checked.the-variants.{Sound, Bad}
 use Rattle.lookup.specs.SoundTable.{SoundTable}
 use Rattle.lookup.proofs.Sound.{sound-says}
 use Rattle.decisions.specs.Decide.{decide}
-use Rattle.reply.specs.Answer.{answerBytes}
 use Rattle.ndushavire.specs.Passed.{Passed}
 use Rattle.ndushavire.specs.Plans.{Answers}
 use Rattle.ndushavire.specs.declared.Call.{Call}

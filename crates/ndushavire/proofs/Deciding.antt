@@ -1,8 +1,8 @@
 -- The plan of each command, and what carrying it out leaves.
 use Prim.Native.Nat.{ℕ, _+_, _*_, _≤_}
-use mathlib.Core.List.{List, []}
-use mathlib.Core.Bool.{Bool, true, false, cond}
-use mathlib.Core.Path.{_≡_, refl, sym, ap, _∙_}
+use mathlib.Core.List.{List}
+use mathlib.Core.Bool.{Bool, true, false}
+use mathlib.Core.Path.{_≡_, ap, _∙_}
 use native.Mathlib.Omega.{arith}
 use lib.ListN.{length, getD}
 use lib.Dec.{eqb}
@@ -14,7 +14,7 @@ use Rattle.reading.specs.Request.{commandOf, bodyOf, given, dataIn, valueIn, id
 use Rattle.decisions.specs.Authorization.{authorize}
 use Rattle.decisions.specs.Location.{locate}
 use Rattle.decisions.specs.Gives.{Gives}
-use Rattle.decisions.specs.Assignment.{Assignment, isOne, findAll, numbersOf, ownedUpTo, storedName}
+use Rattle.decisions.specs.Assignment.{isOne, findAll, numbersOf, ownedUpTo, storedName}
 use Rattle.decisions.specs.Decide.{assignmentOf, decideRead}
 use Rattle.decisions.specs.Planned.{Ready, plannedRecords, planned, decisionOf}
 use Rattle.decisions.specs.declared.Given.{Given}
@@ -37,7 +37,8 @@ module _ (req t : List ℕ) (count : ℕ) (seen : Seen) where
   unfolding decisionOf planned decideRead
   lir-planned c d b g p = record { decides = λ file. rw (p, g .reply req file, ne-eqb (commandOf req) 300 c, ne-eqb (commandOf req) 301 d, b) }
 
-  pub sar-planned : {kind already : ℕ} {server user : List ℕ} {named keep : Bool} {p : Plan} → commandOf req ≡ 301 → kind ≡ valueIn seen 11 → server ≡ dataIn seen 10 → already ≡ valueIn seen 12
+  pub sar-planned : {kind already : ℕ} {server user : List ℕ} {named keep : Bool} {p : Plan} → commandOf req ≡ 301 → kind ≡ valueIn seen 11 → server ≡ dataIn seen 10
+      → already ≡ valueIn seen 12
       → named ≡ given seen 7 → user ≡ dataIn seen 7 → keep ≡ eqb (getD (blockOf t 0) 12 0) 1 → Assigns req t count (sarOf req kind server already named user) keep p
       → Plans req t count seen p
   unfolding assignmentOf decideRead
@@ -64,9 +65,6 @@ module _ (t : List ℕ) (count : ℕ) (req : List ℕ) (seen : Seen) (p : Plan) 
 
 pub stored-fits : (seen : Seen) (name server : List ℕ) → name ≡ dataIn seen 10 → length server ≤ length name → length (dataIn seen 10) ≤ 96 → length server ≤ 96
 stored-fits seen name server a b c = omega (arith, ap length a)
-
-pub ready-size : (t : List ℕ) (count : ℕ) → Ready t count → length t ≡ 512 * (count + 1)
-ready-size t count r = r .ordered .size
 
 pub ready-whole : (t : List ℕ) (count : ℕ) → Ready t count → 512 ≤ length t
 ready-whole t count r = omega (arith, r .ordered .size)

@@ -7,7 +7,6 @@ use native.Mathlib.Omega.{arith}
 use lib.ListN.{length}
 use lib.Dec.{leb, eqb}
 use borrow.Author.Tests.{eq-eqb, ne-eqb}
-use Rattle.octets.proofs.All.{and-left, and-right}
 use Rattle.record.specs.HeaderBlock.{headerOf, soundHeader}
 use Rattle.record.proofs.Sound.{header-count}
 use Rattle.table.specs.Blocks.{blockOf}

@@ -10,7 +10,6 @@ use Rattle.table.specs.Blocks.{blockOf}
 use Rattle.table.specs.Check.{checkTable}
 use Rattle.table.specs.declared.Checked.{Checked}
 use Rattle.table.specs.declared.Checked.the-variants.{Sound, Bad}
-use Rattle.decisions.specs.Reply.{Reply}
 use Rattle.decisions.specs.Assignment.{Decision}
 use Rattle.decisions.specs.Decide.{decide}
 use Rattle.reply.specs.Answer.{answerBytes}
