@@ -26,7 +26,8 @@ module _ (req t file : List ℕ) (v : Verdict) (user server capable profile : �
   wrote-body p q = then p q
 
   -- the body was written first, and then the header with the length
-  pub wrote-whole : {b ys zs : List ℕ} {r : ℕ} → 636 + copiesOf req t file v profile ≤ length b → Wrote (bodyWith req t file v user server capable profile) (midOf 20 (length b - 20) b) ys r
+  pub wrote-whole : {b ys zs : List ℕ} {r : ℕ} → 636 + copiesOf req t file v profile ≤ length b
+      → Wrote (bodyWith req t file v user server capable profile) (midOf 20 (length b - 20) b) ys r
       → Wrote (headerBytes req (v .result) (20 + r)) (putMid 20 (length b - 20) b ys) zs 20 → Wrote (answerWith req t file v user server capable profile) b zs (20 + r)
   unfolding answerWith
   wrote-whole room p q = named (rw (p .count)) refl (then-front (omega arith) p q)

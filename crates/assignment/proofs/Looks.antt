@@ -34,13 +34,15 @@ pub owned-all : (b user : List ℕ) {p : List ℕ} {x : Bool} → p ≡ privateO
 unfolding ownedHere
 owned-all b user e f = rw (f, e)
 
-pub look-all : (b owner server : List ℕ) (kind : ℕ) {p s : List ℕ} {own stores right : Bool} {start : Start} → s ≡ serverOf b → stores ≡ same s server → p ≡ privateOf b → own ≡ same p owner
+pub look-all : (b owner server : List ℕ) (kind : ℕ) {p s : List ℕ} {own stores right : Bool} {start : Start} → s ≡ serverOf b → stores ≡ same s server
+    → p ≡ privateOf b → own ≡ same p owner
     → start ≡ startOf kind → right ≡ allowed start (getD b 8 0)
     → record { known = true; own = own; stores = stores; fits = eqb (getD b 15 0) 0 || stores; right = right } ≡ lookAt b owner server kind
 unfolding lookAt
 look-all b owner server kind a c d e f g = rw (g, f, e, d, c, a)
 
-pub look-here : (t owner server : List ℕ) (kind : ℕ) (f : Found) (k : ℕ) {b : List ℕ} {r : Survey} → f ≡ At k → b ≡ blockOf t k → r ≡ lookAt b owner server kind → r ≡ lookFound t f owner server kind
+pub look-here : (t owner server : List ℕ) (kind : ℕ) (f : Found) (k : ℕ) {b : List ℕ} {r : Survey} → f ≡ At k → b ≡ blockOf t k → r ≡ lookAt b owner server kind
+    → r ≡ lookFound t f owner server kind
 unfolding lookFound
 look-here t owner server kind f k e g h = rw (e, ← g) h
 

@@ -79,7 +79,8 @@ unfolding assign assignKnown decisionOf replyOf planned
 fault-lacking req t count s keep e a b = record { decides = λ file. rw (b, a, e) }
 
 pub fault-second : (req t : List ℕ) (count : ℕ) (s : Assignment) (keep : Bool) (place : ℕ) {g : Given} {p : Plan}
-    → identityFault (isRemoval (groupOf (s .kind))) (s .named) (s .identities) ≡ some (failing (Base 5009) (failedBy req (second place))) → g ≡ givenFault (second place) → p ≡ only g
+    → identityFault (isRemoval (groupOf (s .kind))) (s .named) (s .identities) ≡ some (failing (Base 5009) (failedBy req (second place)))
+    → g ≡ givenFault (second place) → p ≡ only g
     → Assigns req t count s keep p
 unfolding assign assignKnown decisionOf replyOf planned
 fault-second req t count s keep place e a b = record { decides = λ file. rw (b, a, e) }
@@ -107,7 +108,8 @@ nobody-means true false e = absurd (Option·some-ne-none _ e)
 nobody-means false named e = absurd (Option·some-ne-none _ e)
 
 module _ (req t : List ℕ) (count kind : ℕ) (server : List ℕ) (already : ℕ) (named : Bool) (user : List ℕ) (keep : Bool) where
-  pub owned-promise : {s : Sight} {known : Bool} {f : Finding} {p : Plan} → identities (bodyOf req) ≡ [] → identityFault (isRemoval (groupOf kind)) named (identities (bodyOf req)) ≡ none
+  pub owned-promise : {s : Sight} {known : Bool} {f : Finding} {p : Plan} → identities (bodyOf req) ≡ []
+      → identityFault (isRemoval (groupOf kind)) named (identities (bodyOf req)) ≡ none
       → s ≡ sightOf t user server count → known ≡ isAt (findPrivate t count user)
       → f ≡ findingOf (record { known = known; own = true; stores = true; fits = s .fits; right = not (s .empty) }) kind → p ≡ planOf f kind keep already 0 true
       → Assigns req t count (sarOf req kind server already named user) keep p
@@ -194,13 +196,16 @@ module _ (req t : List ℕ) (count place kind : ℕ) (server : List ℕ) (alread
       → Assigns req t count (sarOf req kind server already named user) keep p
   unfolding findAll findPublic
   first-promise {name} {f} {v} {w} {u} {x} {k} {p} ep ek ex ew eu ev ef en e b =
-      promise req t count (sarOf req kind server already named user) keep p e
+      promise req t count sar keep p e
       (λ file. rw (ep, ex, ew, eu, ek)
-      (plan-right req t file count (sarOf req kind server already named user) (numbersOf (f ∷ others)) (alsoKnown v (userKnown t count named user)) (numberOf f) keep false
-      (survey-right t count (sarOf req kind server already named user) f others list v (ev ∙ rw list)) (first-is t count (sarOf req kind server already named user) f others list (publicIs t name) (sym ef))
+      (plan-right req t file count sar (numbersOf (f ∷ others)) (alsoKnown v (userKnown t count named user)) (numberOf f) keep false
+      (survey-right t count sar f others list v (ev ∙ rw list)) (first-is t count sar f others list (publicIs t name) (sym ef))
       (ap numbersOf list)
-      ∙ rw (records-named t count (sarOf req kind server already named user) f others list (rw (b .rest)))))
+      ∙ rw (records-named t count sar f others list (rw (b .rest)))))
     where
+      sar : Assignment
+      sar = sarOf req kind server already named user
+
       others : List Found
       others = findAll t count (b .others)
 

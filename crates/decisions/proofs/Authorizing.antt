@@ -83,6 +83,7 @@ module _ (t : List ℕ) (count : ℕ) (user network : List ℕ) (kind : ℕ) whe
     unfolding authorizeFound
     authorize-none f e s = rw e (gives-plain t (Experimental 5001) s)
 
-    pub authorize-found : (public : List ℕ) {f : Found} → f ≡ findPublic t count public → Gives t g (authorizeFound t count user network kind f) → Gives t g (authorize t count user public network kind)
+    pub authorize-found : (public : List ℕ) {f : Found} → f ≡ findPublic t count public → Gives t g (authorizeFound t count user network kind f)
+        → Gives t g (authorize t count user public network kind)
     unfolding authorize
     authorize-found public e s = rw (← e) s

@@ -45,13 +45,13 @@ module _ (req t file : List ℕ) {g : Given} where
 
 -- "the server name (none stored: B5012)"
 module _ (t : List ℕ) (r : Outcome) (k : ℕ) {b n : List ℕ} {g : Given} (block : b ≡ blockOf t k) (name : n ≡ serverOf b) where
-  pub named-none : length n ≡ 0 → g ≡ givenPlain (Base 5012) → Gives t g (served r (serverOf (blockOf t k)))
+  pub served-none : length n ≡ 0 → g ≡ givenPlain (Base 5012) → Gives t g (served r (serverOf (blockOf t k)))
   unfolding served
-  named-none h e = rw (← block, ← name, eq-eqb _ _ h) (gives-plain t (Base 5012) e)
+  served-none h e = rw (← block, ← name, eq-eqb _ _ h) (gives-plain t (Base 5012) e)
 
-  pub named-some : 1 ≤ k → (length n ≡ 0 → ⊥) → g ≡ givenServer r k → Gives t g (served r (serverOf (blockOf t k)))
+  pub served-some : 1 ≤ k → (length n ≡ 0 → ⊥) → g ≡ givenServer r k → Gives t g (served r (serverOf (blockOf t k)))
   unfolding served
-  named-some some h e = let s : eqb (length (serverOf (blockOf t k))) 0 ≡ false = rw (← block, ← name) (ne-eqb _ _ h) in rw s (gives-server t r k some e)
+  served-some some h e = let s : eqb (length (serverOf (blockOf t k))) 0 ≡ false = rw (← block, ← name) (ne-eqb _ _ h) in rw s (gives-server t r k some e)
 
 -- The name of a record that was found, else capabilities.
 module _ (f : Found) (r other : Outcome) (k : ℕ) {g : Given} (t : List ℕ) where
@@ -82,6 +82,7 @@ module _ (t : List ℕ) (count : ℕ) (user : List ℕ) (k : ℕ) (c : Choice) {
   carry-first other e q s = rw (e, ← q) (s t)
 
 -- A choice by a test carries the choice's reply.
-pub carried-cond : (t : List ℕ) (count : ℕ) (user b : List ℕ) (x : Bool) (c d : Choice) → carried t count user b (cond x c d) ≡ cond x (carried t count user b c) (carried t count user b d)
+pub carried-cond : (t : List ℕ) (count : ℕ) (user b : List ℕ) (x : Bool) (c d : Choice)
+    → carried t count user b (cond x c d) ≡ cond x (carried t count user b c) (carried t count user b d)
 carried-cond t count user b true c d = refl
 carried-cond t count user b false c d = refl

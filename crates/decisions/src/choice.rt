@@ -26,7 +26,7 @@ pub enum Choice {
 }
 
 // The server name of block k.
-fn named(t: &[u8], result: Outcome, k: u32) -> Given
+fn served(t: &[u8], result: Outcome, k: u32) -> Given
     requires { ⌜ (1 ≤ k) × (512 * k + 512 ≤ length (now t)) ⌝ }
     ensures { λ r. ⌜ Gives (now (t .entry)) r (served result (serverOf (blockOf (now (t .entry)) k))) ⌝ }
 {
@@ -38,7 +38,7 @@ fn named(t: &[u8], result: Outcome, k: u32) -> Given
 }
 
 // The server name of a record that was found, or else the capabilities of block k.
-fn named_by(f: Found, result: Outcome, other: Outcome, k: u32) -> Given
+fn served_by(f: Found, result: Outcome, other: Outcome, k: u32) -> Given
     requires { ⌜ (1 ≤ k) × (f ≡ Found.At 0 → ⊥) ⌝ }
     ensures { λ r. ⌜ ((t : List ℕ) → Gives t r (servedBy t f result (capable other (blockOf t k)))) ⌝ }
 {
@@ -55,10 +55,10 @@ pub fn carry(t: &[u8], count: usize, user: &[u8], k: u32, choice: Choice) -> Giv
 {
     match choice {
         Choice::Alone(result) => giving::plain(result),
-        Choice::Server(result) => named(t, result, k),
+        Choice::Server(result) => served(t, result, k),
         Choice::Capabilities(result) => giving::capable(result, k),
         Choice::First(result, other) => {
-            named_by(lookup::first_server(t, count, user), result, other, k)
+            served_by(lookup::first_server(t, count, user), result, other, k)
         }
     }
 }

@@ -28,7 +28,8 @@ length-read s at x y z a b c ex ea ey eb ez ec = simp (getD-drop) (rw (ea, ex, e
 pub whole-past : (s : List ℕ) (at n : ℕ) → length s ≤ at → [] ≡ take n (drop at s)
 whole-past s at n h = rw (drop-of-length-le s h) (sym (take-nil n))
 
-pub whole-there : (s : List ℕ) (at n to : ℕ) → at < length s → n ≡ avpLen (drop at s) → to ≡ min (at + n) (length s) → take (to - at) (drop at s) ≡ take (avpLen (drop at s)) (drop at s)
+pub whole-there : (s : List ℕ) (at n to : ℕ) → at < length s → n ≡ avpLen (drop at s) → to ≡ min (at + n) (length s)
+    → take (to - at) (drop at s) ≡ take (avpLen (drop at s)) (drop at s)
 whole-there s at n to h en et = part-cut s at n to (length s) refl (omega arith) et ∙ ap (λ (m : ℕ). take m (drop at s)) en
 
 -- The header, whole or cut off.

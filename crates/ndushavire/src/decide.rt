@@ -83,10 +83,10 @@ fn plan_read(req: &[u8], t: &[u8], count: usize, found: [usize; 17]) -> Plan
     ensures { λ r. ⌜ Plans (now (req .entry)) (now (t .entry)) count (seenOf (now (req .entry)) found) r ⌝ }
 {
     let command = requests::command(req);
-    if command == requests::UAR {
+    if command == reading::UAR {
         return plan_uar(req, t, count, found);
     }
-    if command == requests::SAR {
+    if command == reading::SAR {
         return plan_sar(req, t, count, found);
     }
     plan_lir(req, t, count, found)

@@ -95,7 +95,7 @@ pub fn optional(t: &[u8], count: usize, k: usize) -> &[u8]
 }
 
 // The part of the profile file that a record's block names.
-fn named<'a>(b: &[u8], file: &'a [u8]) -> &'a [u8]
+fn profile_in<'a>(b: &[u8], file: &'a [u8]) -> &'a [u8]
     requires { ⌜ (length (now b) ≡ 512) × (be32At (now b) 400 + be16At (now b) 404 ≤ length (now file)) ⌝ }
     ensures { λ r. ⌜ now r ≡ profileOf (now (b .entry)) (now (file .entry)) ⌝ }
 {
@@ -110,7 +110,7 @@ pub fn profile<'a>(t: &[u8], count: usize, file: &'a [u8], k: usize) -> &'a [u8]
     ensures { λ r. ⌜ (now r ≡ profileAt (now (t .entry)) (now (file .entry)) k) × (length (now r) ≤ 4096) ⌝ }
 {
     if is_record(count, k) {
-        return named(table::block(t, k), file);
+        return profile_in(table::block(t, k), file);
     }
     &file[..0]
 }

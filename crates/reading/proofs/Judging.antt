@@ -57,7 +57,8 @@ module _ (command : ℕ) (earlier : Bool) (k flags : ℕ) (four good : Bool) (pl
   unfolding ruleBy
   rule-unknown r z e = e ∙ rw (plain, z)
 
-module _ (command : ℕ) (earlier : Bool) (k flags : ℕ) (four good : Bool) (plain : flags % 32 ≡ 0) (known : k ≡ 0 → ⊥) (u : Use) (e : u ≡ useIn command (rowOf k)) (x : Bool) (ex : x ≡ isUnnamed u) where
+module _ (command : ℕ) (earlier : Bool) (k flags : ℕ) (four good : Bool) (plain : flags % 32 ≡ 0) (known : k ≡ 0 → ⊥) (u : Use) (e : u ≡ useIn command (rowOf k))
+    (x : Bool) (ex : x ≡ isUnnamed u) where
   pub rule-unnamed : x ≡ true → Skipped ≡ ruleBy command earlier k flags four good
   unfolding ruleBy
   rule-unnamed t = rw (plain, ne-eqb _ _ known, ← e, ← ex, t)
@@ -89,7 +90,8 @@ getD-within f (y ∷ l) (suc i) d e h = getD-within f l i d e (le-of-suc-le-suc 
 pub seen-at : (s places : List ℕ) (k : ℕ) → k < length places → getD (seenOf s places) k none ≡ partAt s (getD places k 0)
 seen-at s places k h = getD-within (partAt s) places k none 0 h
 
-pub rule-there : (s places : List ℕ) (command at len head flags k : ℕ) (earlier : Bool) (c : Content) (good : Bool) (r : Ruled) → Here s at len head → flags ≡ avpFlags (take len (drop at s))
+pub rule-there : (s places : List ℕ) (command at len head flags k : ℕ) (earlier : Bool) (c : Content) (good : Bool) (r : Ruled) → Here s at len head
+    → flags ≡ avpFlags (take len (drop at s))
     → k ≡ kindOf (take len (drop at s)) → k < length places → earlier ≡ present (partAt s (getD places k 0)) → c ≡ rowOf k .content → good ≡ goodContent c (take len (drop at s))
     → r ≡ ruleBy command earlier k flags (eqb len (head + 4)) good → r ≡ rule command (seenOf s places) (take len (drop at s))
 unfolding rule

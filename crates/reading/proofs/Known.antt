@@ -81,7 +81,8 @@ unfolding kindBy kindFrom known
 kind-stranger flags vendor code h v = simp (le-leb _ _ h, ne-eqb _ _ v, and-false)
 
 -- the kind of the AVP at a place
-pub kind-there : (s : List ℕ) (at len head : ℕ) → Here s at len head → (flags vendor code r : ℕ) → flags ≡ getD s (at + 4) 0 → vendor ≡ vendorOf (drop at s) → code ≡ avpCode (drop at s)
+pub kind-there : (s : List ℕ) (at len head : ℕ) → Here s at len head → (flags vendor code r : ℕ) → flags ≡ getD s (at + 4) 0 → vendor ≡ vendorOf (drop at s)
+    → code ≡ avpCode (drop at s)
     → r ≡ kindBy flags vendor code → r ≡ kindOf (take len (drop at s))
 kind-there s at len head h flags vendor code r ef ev ec e =
     let t = drop at s in

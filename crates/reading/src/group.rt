@@ -8,6 +8,11 @@ ghost use Rattle.diameter.specs.Reader.{Here};
 ghost use Rattle.diameter.specs.Walk.{walk};
 ghost use Rattle.reading.specs.Rules.{isMember, members};
 
+// The codes of the members.
+const VENDOR_ID: u32 = 266;
+
+const AUTH_APPLICATION_ID: u32 = 258;
+
 // Whether the AVP at a place is a 4-byte member with such a code and value.
 fn is_member(s: &[u8], at: usize, len: usize, head: usize, code: u32, value: u32) -> bool
     requires { ⌜ Here (now s) at len head ⌝ }
@@ -17,8 +22,8 @@ fn is_member(s: &[u8], at: usize, len: usize, head: usize, code: u32, value: u32
         return false;
     }
     let flags = s[at + 4];
-    (flags % 32 == 0)
-        & (flags < 128)
+    (flags % crate::P_FLAG == 0)
+        & (flags < crate::V_FLAG)
         & (number::be32(s, at) == code)
         & (number::be32(s, at + 8) == value)
 }
@@ -40,10 +45,10 @@ pub fn application_ok(s: &[u8]) -> bool
         else {
             return false;
         };
-        if is_member(s, at, len, head, 266, 10415) {
+        if is_member(s, at, len, head, VENDOR_ID, crate::VENDOR) {
             vendor = true;
         } else {
-            if is_member(s, at, len, head, 258, 16777216) & !application {
+            if is_member(s, at, len, head, AUTH_APPLICATION_ID, crate::CX) & !application {
                 application = true;
             } else {
                 return false;

@@ -49,11 +49,11 @@ const O: Use = Use::Optional;
 
 const R: Use = Use::Repeated;
 
-const UAR: [Use; 17] = [U, N, N, N, N, N, N, N, N, N, U, U, U, O, O, R, R];
+const IN_UAR: [Use; 17] = [U, N, N, N, N, N, N, N, N, N, U, U, U, O, O, R, R];
 
-const SAR: [Use; 17] = [U, N, N, N, N, N, N, O, R, U, N, N, N, U, O, R, R];
+const IN_SAR: [Use; 17] = [U, N, N, N, N, N, N, O, R, U, N, N, N, U, O, R, R];
 
-const LIR: [Use; 17] = [U, N, N, N, N, N, N, U, N, U, U, U, U, U, O, R, R];
+const IN_LIR: [Use; 17] = [U, N, N, N, N, N, N, U, N, U, U, U, U, U, O, R, R];
 
 // The kinds' codes and vendors.
 const CODES: [u32; 17] = [
@@ -148,10 +148,10 @@ fn vendor_kind(code: u32) -> usize
 pub fn kind_by(flags: u8, vendor: u32, code: u32) -> usize
     ensures { λ r. ⌜ (r ≡ kindBy flags vendor code) × (r < 17) ⌝ }
 {
-    if flags < 128 {
+    if flags < crate::V_FLAG {
         return base_kind(code);
     }
-    if vendor == 10415 {
+    if vendor == crate::VENDOR {
         return vendor_kind(code);
     }
     0
@@ -175,13 +175,13 @@ pub fn use_in(command: usize, k: usize) -> Use
     requires { ⌜ k < 17 ⌝ }
     ensures { λ r. ⌜ r ≡ useIn command (rowOf k) ⌝ }
 {
-    if command == 300 {
-        return UAR[k];
+    if command == crate::UAR {
+        return IN_UAR[k];
     }
-    if command == 301 {
-        return SAR[k];
+    if command == crate::SAR {
+        return IN_SAR[k];
     }
-    LIR[k]
+    IN_LIR[k]
 }
 
 pub fn unnamed(u: Use) -> bool

@@ -35,7 +35,7 @@ pub fn good_content(c: Content, s: &[u8], at: usize, len: usize, head: usize) ->
 fn unknown(flags: u8) -> Ruled
     ensures { λ r. ⌜ r ≡ strange flags ⌝ }
 {
-    if flags / 64 % 2 == 1 {
+    if flags / crate::M_FLAG % 2 == 1 {
         return Ruled::Fault(5001);
     }
     Ruled::Skipped
@@ -46,7 +46,7 @@ pub fn rule_by(command: usize, earlier: bool, k: usize, flags: u8, four: bool, g
     requires { ⌜ k < 17 ⌝ }
     ensures { λ r. ⌜ r ≡ ruleBy command earlier k flags four good ⌝ }
 {
-    if flags % 32 != 0 {
+    if flags % crate::P_FLAG != 0 {
         return Ruled::Fault(3009);
     }
     if k == 0 {

@@ -54,7 +54,8 @@ module _ {b xs ys : List ℕ} {n r : ℕ} where
   wrote-names t x y user server ex ey p q = named (rw (ex, ey)) refl (then p q)
 
   pub wrote-data : (t file m o p : List ℕ) (capable profile : ℕ) → m ≡ ofBlock mandatoryOf t capable → o ≡ ofBlock optionalOf t capable → p ≡ profileAt t file profile
-      → Wrote (capabilities m o) b xs n → Wrote (vendorNamed 606 p) (midOf n (length xs - n) xs) ys r → Wrote (dataBytes t file capable profile) b (putMid n (length xs - n) xs ys) (n + r)
+      → Wrote (capabilities m o) b xs n → Wrote (vendorNamed 606 p) (midOf n (length xs - n) xs) ys r
+      → Wrote (dataBytes t file capable profile) b (putMid n (length xs - n) xs ys) (n + r)
   unfolding dataBytes
   wrote-data t file m o p capable profile em eo ep u v = named (rw (em, eo, ep)) refl (then u v)
 

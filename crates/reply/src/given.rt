@@ -13,8 +13,13 @@ fn put_names(out: &mut [u8], t: &[u8], count: usize, user: usize, server: usize)
     requires { ⌜ SoundAlone (now t) count × (244 ≤ length (now out)) ⌝ }
     ensures { λ r. ⌜ (r ≤ 244) × Wrote (nameBytes (now (t .entry)) user server) (now (out .entry)) (now (out .exit)) r ⌝ }
 {
-    let a = pen::put_avp_if(out, 1, parts::user(t, count, user));
-    a + pen::put_vendor_if(&mut out[a..], 602, parts::server(t, count, server))
+    let a = pen::put_avp_if(out, crate::USER_NAME, parts::user(t, count, user));
+    a
+        + pen::put_vendor_if(
+            &mut out[a..],
+            crate::SERVER_NAME,
+            parts::server(t, count, server),
+        )
 }
 
 // Server-Capabilities and User-Data.
@@ -32,7 +37,12 @@ fn put_data(
     let mandatory = parts::mandatory(t, count, capable);
     let optional = parts::optional(t, count, capable);
     let a = group::put_capabilities(out, mandatory, optional);
-    a + pen::put_vendor_if(&mut out[a..], 606, parts::profile(t, count, file, profile))
+    a
+        + pen::put_vendor_if(
+            &mut out[a..],
+            crate::USER_DATA,
+            parts::profile(t, count, file, profile),
+        )
 }
 
 // All four, of the blocks with these numbers.

@@ -1,6 +1,8 @@
 // The answer's header.
 use octets::run;
 use reading::Outcome;
+use requests::E_BIT;
+use requests::P_BIT;
 ghost use mathlib.Core.Path.{_≡_};
 ghost use Prim.Native.Nat.{_≤_};
 ghost use lib.ListN.{length};
@@ -13,9 +15,9 @@ fn flags_of(flags: u8, result: Outcome) -> u8
     ensures { λ r. ⌜ r ≡ flagsOf flags result ⌝ }
 {
     if reading::number_of(result) / 1000 == 3 {
-        return flags / 64 % 2 * 64 + 32;
+        return flags / P_BIT % 2 * P_BIT + E_BIT;
     }
-    flags / 64 % 2 * 64
+    flags / P_BIT % 2 * P_BIT
 }
 
 // Version 1, the length, the flags.

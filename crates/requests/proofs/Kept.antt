@@ -94,7 +94,8 @@ unfolding complete
 complete-fine command (bad r f) seen e = bad-fine r f seen e
 complete-fine command (fine σ) seen e = go (eqb (missing command σ) 0) refl e
   where
-    go : (x : Bool) → eqb (missing command σ) 0 ≡ x → cond x (fine σ) (bad (Base 5005) (some (example (missing command σ)))) ≡ fine seen → (fine σ ≡ fine seen) × (missing command seen ≡ 0)
+    go : (x : Bool) → eqb (missing command σ) 0 ≡ x → cond x (fine σ) (bad (Base 5005) (some (example (missing command σ)))) ≡ fine seen
+        → (fine σ ≡ fine seen) × (missing command seen ≡ 0)
     go true p d = let q : σ ≡ seen = cc in (d, rw (← q) (eqb-true _ _ p))
     go false p d = bad-fine _ _ _ d
 
@@ -102,7 +103,8 @@ walk-fine : (command : ℕ) (w : Walk) (seen : Seen) → readWalk command w ≡ 
 unfolding readWalk
 walk-fine command w seen e = go (firstOther w) e
   where
-    go : (x : Bool) → cond x (bad (Base 5005) (some (example 1))) (complete command (judge command w nothing)) ≡ fine seen → (judge command w nothing ≡ fine seen) × (missing command seen ≡ 0)
+    go : (x : Bool) → cond x (bad (Base 5005) (some (example 1))) (complete command (judge command w nothing)) ≡ fine seen
+        → (judge command w nothing ≡ fine seen) × (missing command seen ≡ 0)
     go true d = bad-fine _ _ _ d
     go false d = complete-fine command (judge command w nothing) seen d
 

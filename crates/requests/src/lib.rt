@@ -16,14 +16,10 @@ ghost use Rattle.reading.specs.Kinds.{isNeeded, useIn, rowOf};
 ghost use Rattle.reading.specs.Request.{commandOf, headerFault, firstOther, missing, complete, bodyOf, readRequest, sessionOf};
 ghost use Rattle.reading.specs.Found.{seenOf, judgedOf};
 
-// User-Authorization, Server-Assignment and Location-Info, and their application.
-pub const UAR: usize = 300;
+// The header's flags that an answer may have.
+pub const P_BIT: u8 = 64;
 
-pub const SAR: usize = 301;
-
-pub const LIR: usize = 302;
-
-pub const CX: u32 = 16777216;
+pub const E_BIT: u8 = 32;
 
 // The command of a request.
 pub fn command(req: &[u8]) -> usize
@@ -41,14 +37,14 @@ pub fn header_fault(req: &[u8]) -> u32
     if req[0] != 1 {
         return 5011;
     }
-    if req[4] / 32 % 2 == 1 {
+    if req[4] / E_BIT % 2 == 1 {
         return 3008;
     }
     let n = command(req);
-    if (n < UAR) | (LIR < n) {
+    if (n < reading::UAR) | (reading::LIR < n) {
         return 3001;
     }
-    if number::be32(req, 8) != CX {
+    if number::be32(req, 8) != reading::CX {
         return 3007;
     }
     0
@@ -135,7 +131,9 @@ pub fn session(req: &[u8]) -> &[u8]
     else {
         return &req[..0];
     };
-    if (kinds::kind_at(req, walk::BODY, len, head) == kinds::SESSION_ID) & (flags % 32 == 0) {
+    if (kinds::kind_at(req, walk::BODY, len, head) == kinds::SESSION_ID)
+        & (flags % reading::P_FLAG == 0)
+    {
         return diameter::avp_part(req, walk::BODY, len, head);
     }
     &req[..0]

@@ -13,7 +13,9 @@ use Rattle.assignment.proofs.naming.settle_named.Statement.{statement}
 use Rattle.assignment.proofs.naming.settle_named.Tie as tie
 
 abbrev Inv-loop : tie.InvT-loop
-Inv-loop t₀ count req state server at₀ t at = Ordered t count × (length t ≡ length t₀) × (afterOf t count (isOne (numbersOf (findAll t count (restOf req at)))) state server ≡ afterOf t₀ count (isOne (numbersOf (findAll t₀ count (identities (bodyOf req))))) state server)
+Inv-loop t₀ count req state server at₀ t at =
+    Ordered t count × (length t ≡ length t₀)
+    × (afterOf t count (isOne (numbersOf (findAll t count (restOf req at)))) state server ≡ afterOf t₀ count (isOne (numbersOf (findAll t₀ count (identities (bodyOf req))))) state server)
 
 abbrev μ-loop : tie.MeasureT-loop
 μ-loop t₀ count req state server at₀ t at = length req - at

@@ -12,7 +12,8 @@ use Rattle.assignment.proofs.naming.survey_all.Statement.{statement}
 use Rattle.assignment.proofs.naming.survey_all.Tie as tie
 
 abbrev Inv-loop : tie.InvT-loop
-Inv-loop t count req owner server kind seen₀ at₀ seen at = both seen (surveyOf t owner server kind (findAll t count (restOf req at))) ≡ surveyOf t owner server kind (findAll t count (identities (bodyOf req)))
+Inv-loop t count req owner server kind seen₀ at₀ seen at =
+    both seen (surveyOf t owner server kind (findAll t count (restOf req at))) ≡ surveyOf t owner server kind (findAll t count (identities (bodyOf req)))
 
 abbrev μ-loop : tie.MeasureT-loop
 μ-loop t count req owner server kind seen₀ at₀ seen at = length req - at

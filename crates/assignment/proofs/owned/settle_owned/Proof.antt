@@ -9,7 +9,9 @@ use Rattle.assignment.proofs.owned.settle_owned.Statement.{statement}
 use Rattle.assignment.proofs.owned.settle_owned.Tie as tie
 
 abbrev Inv-loop : tie.InvT-loop
-Inv-loop t₀ count user state server k₀ t k = (1 ≤ k) × (k ≤ count + 1) × (length t ≡ 512 * (count + 1)) × (afterOf t count (ownedFrom t user k) state server ≡ afterOf t₀ count (isOne (ownedUpTo t₀ user count)) state server)
+Inv-loop t₀ count user state server k₀ t k =
+    (1 ≤ k) × (k ≤ count + 1) × (length t ≡ 512 * (count + 1))
+    × (afterOf t count (ownedFrom t user k) state server ≡ afterOf t₀ count (isOne (ownedUpTo t₀ user count)) state server)
 
 abbrev μ-loop : tie.MeasureT-loop
 μ-loop t₀ count user state server k₀ t k = count + 1 - k

@@ -1,10 +1,10 @@
 use Rattle.parts.proofs.Fields.{profile-lent}
 use borrow.Author.Needs.{needs}
-use Rattle.parts.proofs.named.Statement.{statement}
-use Rattle.parts.proofs.named.Tie as tie
+use Rattle.parts.proofs.profile_in.Statement.{statement}
+use Rattle.parts.proofs.profile_in.Tie as tie
 
-pub named-spec : {M : Type 1} → statement M
-named-spec =
+pub profile-in-spec : {M : Type 1} → statement M
+profile-in-spec =
     tie.close
     (tie.spec
     (λ c κs. search needs)

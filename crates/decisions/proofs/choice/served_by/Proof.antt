@@ -1,10 +1,10 @@
 use Rattle.decisions.proofs.Replies.{by-found, by-none}
 use borrow.Author.Needs.{needs}
-use Rattle.decisions.proofs.choice.named_by.Statement.{statement}
-use Rattle.decisions.proofs.choice.named_by.Tie as tie
+use Rattle.decisions.proofs.choice.served_by.Statement.{statement}
+use Rattle.decisions.proofs.choice.served_by.Tie as tie
 
-pub named-by-spec : {M : Type 1} → statement M
-named-by-spec =
+pub served-by-spec : {M : Type 1} → statement M
+served-by-spec =
     tie.close
     (tie.spec
     (λ c. search needs)
