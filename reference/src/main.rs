@@ -73,7 +73,7 @@ fn run(arguments: &[String]) -> Result<bool, String> {
         "mutants" => Ok(mutants::mutants(options.seed, options.numbers()?)),
         "faults" => {
             for (fault, what) in slip::FAULTS {
-                println!("{:28} {what}", format!("{fault:?}"));
+                println!("{:30} {what}", format!("{fault:?}"));
             }
             Ok(true)
         }

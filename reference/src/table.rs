@@ -185,12 +185,20 @@ impl<'a> Table<'a> {
 
 /// The record count of a sound table, or the number of the first bad block.
 pub fn check(table: &[u8], profile_length: usize) -> Result<u32, u32> {
-    check_with(table, profile_length, Slip::NONE)
+    checked(table, profile_length, Slip::NONE)
 }
 
-/// `check` with a deliberate fault. Inlined, so that the true check has no trace of the faults.
-#[inline(always)]
+/// `check`, or as a program with a deliberate fault does it.
 pub fn check_with(table: &[u8], profile_length: usize, slip: Slip) -> Result<u32, u32> {
+    match slip.0 {
+        None => check(table, profile_length),
+        Some(_) => checked(table, profile_length, slip),
+    }
+}
+
+/// Inlined with all that it calls, so that the true check has no trace of the faults.
+#[inline(always)]
+fn checked(table: &[u8], profile_length: usize, slip: Slip) -> Result<u32, u32> {
     if table.len() < BLOCK {
         return Err(0);
     }

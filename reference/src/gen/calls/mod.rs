@@ -62,8 +62,8 @@ fn plain(rng: &mut Rng) -> Made {
 /// A right request over a table of few records, now and then of many or none.
 fn right(rng: &mut Rng) -> Call {
     let size = match rng.below(1000) {
-        0..=5 => tables::many(rng),
-        6..=33 => 0,
+        0..=9 => tables::many(rng),
+        10..=37 => 0,
         _ => rng.between(1, 12),
     };
     right_over(rng, size)
