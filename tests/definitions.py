@@ -4,7 +4,7 @@
 Takes calls that the independent program made and its outcomes of them, picks COUNT that show every refusal, every result
 and every assignment type, and writes them as a crate with one statement, which antt computes from the definitions alone.
 The crate stands in a folder outside the repository, beside copies of the crates that crates/worked stands on. What the
-cases open is read from crates/worked/proofs/Examples.antt, so that there is one list of it.
+cases open is read from crates/worked/proofs/Sample.antt, so that there is one list of it.
 """
 import collections, itertools, os, re, shutil, struct, subprocess, sys, tempfile
 
