@@ -7,11 +7,11 @@ use mathlib.Core.Path.{_≡_, refl, sym, _∙_}
 use mathlib.Core.Logic.{_≢_}
 use native.Mathlib.Omega.{arith}
 use lib.ListN.{length, getD, set, take, drop, length-set, length-append, length-drop, List·getD-append}
-use lib.Seq.{drop-at, take-append-le, drop-append-le, drop-set-lt, getD-set-same, getD-set-other}
+use lib.Seq.{drop-at, take-append-le, drop-append-le, drop-set-lt, getD-set-other}
 use lib.Dec.{eqb}
 use borrow.Author.Tests.{eq-eqb, le-ltb}
 use Rattle.octets.specs.Number.{be24At, putBe24}
-use Rattle.octets.proofs.Numbers.{be32-alike}
+use Rattle.octets.proofs.Numbers.{be24-alike, be32-alike, field-put}
 use Rattle.diameter.specs.Walk.{Walk, walk}
 use Rattle.table.specs.Blocks.{blockOf}
 use Rattle.table.specs.Check.{checkTable}
@@ -51,20 +51,6 @@ module _ (head : List ℕ) (n : ℕ) where
   put-past =
       drop-set-lt 5 (set (set head 1 a) 2 b) 3 c (omega arith) ∙ drop-set-lt 5 (set head 1 a) 2 b (omega arith) ∙ drop-set-lt 5 head 1 a (omega arith)
 
-  module _ (room : 4 ≤ length head) where
-    put-first : getD (putBe24 head 1 n) 1 0 ≡ a
-    unfolding putBe24
-    put-first =
-        getD-set-other (set (set head 1 a) 2 b) 3 1 c 0 (omega arith) ∙ getD-set-other (set head 1 a) 2 1 b 0 (omega arith) ∙ getD-set-same head 1 a 0 (omega arith)
-
-    put-second : getD (putBe24 head 1 n) 2 0 ≡ b
-    unfolding putBe24
-    put-second = getD-set-other (set (set head 1 a) 2 b) 3 2 c 0 (omega arith) ∙ getD-set-same (set head 1 a) 2 b 0 (simp length-set (omega arith))
-
-    put-third : getD (putBe24 head 1 n) 3 0 ≡ c
-    unfolding putBe24
-    put-third = getD-set-same (set (set head 1 a) 2 b) 3 c 0 (simp length-set (omega arith))
-
 module _ (head : List ℕ) (twenty : length head ≡ 20) (body : List ℕ) where
   abbrev n : ℕ
   n = 20 + length body
@@ -87,13 +73,7 @@ module _ (head : List ℕ) (twenty : length head ≡ 20) (body : List ℕ) where
   message-flags = message-at 4 (omega arith) (omega arith) (omega arith) (omega arith)
 
   pub message-command : commandOf (message head body) ≡ commandOf head
-  unfolding be24At
-  message-command =
-      rw (
-        message-at 5 (omega arith) (omega arith) (omega arith) (omega arith),
-        message-at 6 (omega arith) (omega arith) (omega arith) (omega arith),
-        message-at 7 (omega arith) (omega arith) (omega arith) (omega arith),
-      )
+  message-command = be24-alike (message head body) head 5 5 (λ j l. message-at (5 + j) (omega arith) (omega arith) (omega arith) (omega arith))
 
   pub message-fault : headerFault (message head body) ≡ headerFault head
   unfolding headerFault
@@ -116,10 +96,7 @@ module _ (head : List ℕ) (twenty : length head ≡ 20) (body : List ℕ) where
   message-body = rw (drop-at (putBe24 head 1 n) body 20 front)
 
   pub message-field : n < 16777216 → be24At (message head body) 1 ≡ n
-  unfolding be24At
-  message-field h =
-      rw (message-put 1 (omega arith), message-put 2 (omega arith), message-put 3 (omega arith), put-first head n (omega arith), put-second head n (omega arith), put-third head n (omega arith))
-      (omega arith)
+  message-field h = be24-alike (message head body) (putBe24 head 1 n) 1 1 (λ j l. message-put (1 + j) (omega arith)) ∙ field-put head 1 n (omega arith) h
 
 -- reading a message: its header's fault, else its walk
 unfoldable pub readBody : List ℕ → Walk → Judged

@@ -1,16 +1,16 @@
 -- Demand 3 over bytes: a row of whole padded AVPs in front of any bytes is that row in front of their walk.
 use Prim.Native.Nat.{ℕ, _+_, _%_, _≤_, _<_}
 use mathlib.Core.Path.{_≡_, refl, ap, _∙_}
-use mathlib.Core.List.{List, [], _∷_, _++_, append-assoc, append-nil}
+use mathlib.Core.List.{List, [], _∷_, _++_, append-assoc}
 use mathlib.Core.Bool.{true}
 use native.Mathlib.Omega.{arith}
 use lib.ListN.{length, drop, getD, length-append, List·getD-append}
 use lib.Seq.{take-at, drop-at}
 use Rattle.octets.specs.Number.{be24At}
 use Rattle.diameter.specs.Avp.{padded, avpHead, avpLen, sound}
-use Rattle.diameter.specs.Walk.{Walk, ended, avp, walk}
+use Rattle.diameter.specs.Walk.{Walk, avp, walk}
 use Rattle.diameter.specs.Put.{glue, Piece, bytesOf, avpsOf, Whole, All}
-use Rattle.diameter.proofs.Walks.{sound-says, sound-of, walk-sound, walk-nil}
+use Rattle.diameter.proofs.Walks.{sound-says, sound-of, walk-sound}
 
 -- a header in front is read alike, whatever follows
 module _ (a y : List ℕ) (big : 8 ≤ length a) where
@@ -53,9 +53,6 @@ walk-pieces [] t h = refl
 walk-pieces (q ∷ qs) t h =
     rw (append-assoc (q .avp ++ q .pad) (bytesOf qs) t)
     (walk-piece q (bytesOf qs ++ t) (h .0) ∙ ap (avp (q .avp)) (walk-pieces qs t (h .1)))
-
-pub walk-row : (qs : List Piece) → All Whole qs → walk (bytesOf qs) ≡ glue (avpsOf qs) ended
-walk-row qs h = rw (append-nil, walk-nil) at (walk-pieces qs [] h)
 
 -- a row's length is a multiple of 4, so that what is put in leaves the message's length one
 padded-even : (n : ℕ) → padded n % 4 ≡ 0

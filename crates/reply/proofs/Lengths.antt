@@ -5,9 +5,7 @@ use mathlib.Core.List.{List}
 use native.Mathlib.Omega.{arith}
 use lib.Dec.{ltb}
 use lib.ListN.{length, length-append, length-take, length-drop}
-use Rattle.record.specs.Fields.{hostOf, realmOf, privateOf, serverOf, mandatoryOf, optionalOf}
-use Rattle.table.specs.Blocks.{blockOf, privateAt}
-use Rattle.lookup.specs.SoundTable.{SoundTable}
+use Rattle.record.specs.Fields.{hostOf, realmOf}
 use Rattle.diameter.specs.Walk.{Walk}
 use Rattle.pen.specs.Bytes.{copiedSize, avpBytes, vendorBytes}
 use Rattle.pen.proofs.Sizes.{copied-length, avp-length, vendor-length, number-length, there-length}
@@ -16,9 +14,6 @@ use Rattle.reading.specs.Request.{bodyOf, sessionOf}
 use Rattle.reading.specs.declared.Outcome.{Outcome}
 use Rattle.reading.specs.declared.Outcome.the-variants.{Base, Experimental}
 use Rattle.decisions.specs.Reply.{Reply}
-use Rattle.decisions.specs.Planned.{replyOf}
-use Rattle.decisions.specs.declared.Given.{Given}
-use Rattle.parts.proofs.Fields.{alone, host-length, realm-length, user-field, server-field, mandatory-field, optional-field, part-length, profile-length}
 use Rattle.reply.proofs.Copies.{session-proxies}
 use Rattle.reply.specs.Answer.{resultBytes, namedBytes, vendorNamed, failedPart, proxies, frontBytes, originBytes, givenBytes, endBytes, bodyBytes, headerBytes, answerBytes, roomOf}
 
@@ -81,25 +76,3 @@ pub room-most : (req : List ℕ) (r : Reply) → 20 ≤ length req → length re
     → roomOf (bodyOf req) r ≤ 36864
 unfolding roomOf
 room-most req r a b e h = omega (arith, session-proxies req a e)
-
--- What a decision gives of a sound table is within these limits, and a profile is no longer than 4,096 bytes.
-module _ (req t file : List ℕ) (count : ℕ) (g : Given) (s : SoundTable t (length file) count) where
-  pub reply-limited : Limited (blockOf t 0) (replyOf req t file g)
-  unfolding replyOf privateAt
-  reply-limited =
-      let a = alone t (length file) count s in
-      record {
-        host = host-length t count a;
-        realm = realm-length t count a;
-        user = part-length privateOf 128 t count (user-field t count a) (g .user);
-        server = part-length serverOf 96 t count (server-field t count a) (g .server);
-        mandatory = part-length mandatoryOf 16 t count (mandatory-field t count a) (g .capable);
-        optional = part-length optionalOf 16 t count (optional-field t count a) (g .capable);
-      }
-
-  pub reply-profile : length (replyOf req t file g .profile) ≤ 4096
-  unfolding replyOf
-  reply-profile = profile-length t file count s (g .profile)
-
-  pub reply-length : 20 ≤ length req → length (answerBytes req (blockOf t 0) (replyOf req t file g)) ≤ roomOf (bodyOf req) (replyOf req t file g)
-  reply-length h = answer-length req (blockOf t 0) (replyOf req t file g) h reply-limited
