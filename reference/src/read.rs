@@ -100,6 +100,7 @@ pub fn read_header<'a>(message: Message, slip: Slip) -> Result<Command, Finding<
         let failed = if slip.is(Fault::FailedAvpForHeaderFaults) { Failed::Empty } else { Failed::Absent };
         return Err(Finding { result, failed, why: Why::Header(result) });
     }
+    // Without one only if it is not asked.
     Ok(command.unwrap_or(Command::LocationInfo))
 }
 

@@ -21,8 +21,8 @@ fn of_tables() -> Vec<(String, u64)> {
     for size in ["0", "1", "2", "3 to 12"] {
         wanted.push((format!("sound table of {size} records"), ONE_IN));
     }
-    for size in ["13 to 255", "256 to 4,095", "4,096"] {
-        wanted.push((format!("sound table of {size} records"), 20 * ONE_IN));
+    for (size, times) in [("13 to 255", 20), ("256 to 4,095", 20), ("4,096", 50)] {
+        wanted.push((format!("sound table of {size} records"), times * ONE_IN));
     }
     wanted.push(("sound table, profile over 65,536 bytes".to_string(), 2 * ONE_IN));
     for outcome in ["sound", "block 0", "the damaged block", "the block after the damaged one"] {

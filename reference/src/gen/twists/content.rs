@@ -71,82 +71,88 @@ fn some_of(rng: &mut Rng, request: &RequestModel, wanted: fn(Kind) -> bool) -> O
 
 /// 260 broken in one way, or in a way that only looks so.
 fn broken_application(rng: &mut Rng) -> Vec<u8> {
-    let vendor = member(VENDOR_ID, M, VENDOR);
-    let auth = member(AUTH_APPLICATION_ID, M, APPLICATION);
-    let join = |members: &[&[u8]]| members.concat();
     match rng.below(22) {
+        0..=10 => other_members(rng),
+        11..=13 => member_with_v(rng),
+        14 => member_with_reserved_flags(rng),
+        15..=20 => other_bytes(rng),
+        _ => application(rng),
+    }
+}
+
+fn vendor() -> Vec<u8> {
+    member(VENDOR_ID, M, VENDOR)
+}
+
+fn auth() -> Vec<u8> {
+    member(AUTH_APPLICATION_ID, M, APPLICATION)
+}
+
+/// Members too few, too many, of another value or of another kind; each passes (a) and (c).
+fn other_members(rng: &mut Rng) -> Vec<u8> {
+    match rng.below(11) {
         0 => vec![],
-        1 => vendor,
-        2 => auth,
-        3 => join(&[&vendor, &vendor]),
-        4 => join(&[&vendor, &auth, &auth]),
-        5 => join(&[&auth, &vendor, &vendor]),
-        6 => join(&[&vendor, &member(VENDOR_ID, M, *rng.pick(&[0, 50, VENDOR + 1])), &auth]),
-        7 => join(&[&member(VENDOR_ID, M, *rng.pick(&[0, 50])), &auth]),
-        8 => join(&[&vendor, &member(AUTH_APPLICATION_ID, M, *rng.pick(&[0, 1, APPLICATION + 1]))]),
-        9 => join(&[&vendor, &auth, &member(*rng.pick(&[259, 263, 1, 268]), M, APPLICATION)]),
-        10 | 19 | 20 => {
-            // A member with V, of length 12 or 16.
-            let mut with_v = member(VENDOR_ID, V | M, VENDOR);
-            if rng.coin() {
-                with_v[7] = 16;
-                with_v.splice(8..8, [0, 0, 0, 0]);
-            }
-            if rng.coin() {
-                with_v[8..12].copy_from_slice(&VENDOR.to_be_bytes());
-            }
-            join(&[&vendor, &with_v, &auth])
-        }
-        11 => {
-            let flags = M | 1 << rng.below(5);
-            match rng.coin() {
-                true => join(&[&member(VENDOR_ID, flags, VENDOR), &auth]),
-                false => join(&[&vendor, &member(AUTH_APPLICATION_ID, flags, APPLICATION)]),
-            }
-        }
-        12 => {
-            let mut data = join(&[&vendor, &auth]);
+        1 => vendor(),
+        2 => auth(),
+        3 => [vendor(), vendor()].concat(),
+        4 => [vendor(), auth(), auth()].concat(),
+        5 => [auth(), vendor(), vendor()].concat(),
+        6 => [vendor(), member(VENDOR_ID, M, *rng.pick(&[0, 50, VENDOR + 1])), auth()].concat(),
+        7 => [member(VENDOR_ID, M, *rng.pick(&[0, 50])), auth()].concat(),
+        8 => [vendor(), member(AUTH_APPLICATION_ID, M, *rng.pick(&[0, 1, APPLICATION + 1]))].concat(),
+        9 => [vendor(), auth(), member(*rng.pick(&[259, 263, 1, 268]), M, APPLICATION)].concat(),
+        _ => [auth(), vendor().repeat(rng.between(2, 60))].concat(),
+    }
+}
+
+/// Of length 12 or 16.
+fn member_with_v(rng: &mut Rng) -> Vec<u8> {
+    let mut with_v = member(VENDOR_ID, V | M, VENDOR);
+    if rng.coin() {
+        with_v[7] = 16;
+        with_v.splice(8..8, [0, 0, 0, 0]);
+    }
+    if rng.coin() {
+        with_v[8..12].copy_from_slice(&VENDOR.to_be_bytes());
+    }
+    [vendor(), with_v, auth()].concat()
+}
+
+fn member_with_reserved_flags(rng: &mut Rng) -> Vec<u8> {
+    let flags = M | 1 << rng.below(5);
+    match rng.coin() {
+        true => [member(VENDOR_ID, flags, VENDOR), auth()].concat(),
+        false => [vendor(), member(AUTH_APPLICATION_ID, flags, APPLICATION)].concat(),
+    }
+}
+
+/// Right members with bytes more, bytes less or other bytes.
+fn other_bytes(rng: &mut Rng) -> Vec<u8> {
+    let mut data = if rng.coin() { [vendor(), auth()].concat() } else { [auth(), vendor()].concat() };
+    match rng.below(6) {
+        0 => {
             let more = *rng.pick(&[1, 2, 3, 4, 7, 8]);
             data.extend(rng.bytes(more));
-            data
         }
-        13 => {
-            let mut data = join(&[&vendor, &auth]);
-            data.truncate(24 - rng.between(1, 11));
-            data
-        }
-        14 | 15 => {
+        1 => data.truncate(24 - rng.between(1, 11)),
+        2 | 3 => {
             // One member's length is another: the last one's past the end, or too small, or of 5 to 8 bytes.
-            let mut data = if rng.coin() { join(&[&vendor, &auth]) } else { join(&[&auth, &vendor]) };
             let at = if rng.coin() { 7 } else { 19 };
             data[at] = *rng.pick(&[0, 7, 8, 11, 13, 14, 16, 24, 25]);
             if rng.coin() {
                 data.extend([0; 4]);
             }
-            data
         }
-        16 => {
+        4 => {
             // A member of 5 bytes whose padding is whole, cut or missing.
-            let mut data = join(&[&vendor, &auth]);
             data[19] = 13;
             let more = rng.between(1, 4);
             data.extend(vec![0; more]);
-            data
         }
-        17 => {
-            let mut data = join(&[&vendor, &auth]);
+        _ => {
             let at = rng.below(data.len());
             data[at] ^= 1 << rng.below(8);
-            data
         }
-        18 => {
-            let count = rng.between(2, 60);
-            let mut data = auth;
-            for _ in 0..count {
-                data.extend(&vendor);
-            }
-            data
-        }
-        _ => application(rng),
     }
+    data
 }
