@@ -29,7 +29,7 @@ def read(made, told):
 
 
 def small(case):
-    long = len(case.request) > MOST_REQUEST and case.word >> 48 != 2
+    long = len(case.request) > (20000 if case.word >> 48 == 2 else MOST_REQUEST)
     return not long and len(case.table) <= MOST_TABLE and len(case.profile) <= MOST_PROFILE
 
 
