@@ -1,6 +1,6 @@
 -- Demand 2: what a call leaves alone, and that a sound table stays sound.
-use Prim.Native.Nat.{ℕ, zero, suc, _+_, _*_, _/_, _≤_, _<_}
-use mathlib.Core.List.{List, [], _∷_, _++_}
+use Prim.Native.Nat.{ℕ, _+_, _*_, _/_, _≤_, _<_}
+use mathlib.Core.List.{List, [], _∷_}
 use mathlib.Core.Option.{none, some, Option·some-ne-none}
 use mathlib.Core.Bool.{Bool, true, false, cond, not, _&&_, _||_, true≢false}
 use mathlib.Core.Path.{_≡_, refl, sym, ap, _∙_}
@@ -33,9 +33,10 @@ use Rattle.requests.proofs.Kept.{server-most, server-least}
 use Rattle.decisions.specs.declared.Effect.{Effect}
 use Rattle.decisions.specs.Reply.{Reply}
 use Rattle.decisions.specs.Types.{between, groupOf, isRemoval, effectOf}
-use Rattle.decisions.specs.Assignment.{Assignment, identityFault, every, isOne, isEmpty, firstOf, allKnown, findAll, numbersOf, ownedHere, ownedUpTo, recordsOf, ownerOf, ownAt, storedName}
+use Rattle.decisions.specs.Assignment.{Assignment, identityFault, every, isOne, isEmpty, firstOf, allKnown, findAll, numbersOf, ownedUpTo, recordsOf, ownerOf, ownAt, storedName}
 use Rattle.decisions.specs.Decide.{assignmentOf, decide}
 use Rattle.decisions.proofs.Ready.{public-within}
+use Rattle.assignment.proofs.OwnTurns.{no-zero}
 use Rattle.ndushavire.specs.Serve.{answered, serve}
 use Rattle.demands.specs.Call.{turnedAway}
 use Rattle.demands.specs.Frame.{succeeds, ownerAt, firstOwner, askedIn, subscriptionOf, alterable}
@@ -52,24 +53,6 @@ one-holds p (j ∷ ks) k a e = go (eqb k j) refl e (one-holds p ks k (and-right 
     go true f g next = rw (eqb-true k j f) (and-left (p j) (every p ks) a)
     go false f g next = next g
 
-one-append : (xs ys : List ℕ) (j : ℕ) → isOne xs j ≡ false → isOne ys j ≡ false → isOne (xs ++ ys) j ≡ false
-unfolding isOne
-one-append [] ys j a b = b
-one-append (x ∷ xs) ys j a b = go (eqb j x) a (λ e. one-append xs ys j e b)
-  where
-    go : (u : Bool) → (u || isOne xs j) ≡ false → (isOne xs j ≡ false → isOne (xs ++ ys) j ≡ false) → (u || isOne (xs ++ ys) j) ≡ false
-    go true e next = e
-    go false e next = next e
-
-owned-later : (t user : List ℕ) (n : ℕ) → isOne (ownedUpTo t user n) 0 ≡ false
-unfolding ownedUpTo isOne
-owned-later t user zero = refl
-owned-later t user (suc n) = one-append (ownedUpTo t user n) (cond (ownedHere (blockOf t (suc n)) user) (suc n ∷ []) []) 0 (owned-later t user n) (go (ownedHere (blockOf t (suc n)) user))
-  where
-    go : (u : Bool) → isOne (cond u (suc n ∷ []) []) 0 ≡ false
-    go true = rw (ne-eqb 0 (suc n) (omega arith))
-    go false = refl
-
 named-later : (t : List ℕ) (count : ℕ) (avps : List (List ℕ)) → isOne (numbersOf (findAll t count avps)) 0 ≡ false
 unfolding findAll numbersOf isOne
 named-later t count [] = refl
@@ -84,7 +67,7 @@ unfolding recordsOf
 records-later t count s = go (isEmpty (s .identities))
   where
     go : (x : Bool) → isOne (cond x (ownedUpTo t (s .user) count) (numbersOf (findAll t count (s .identities)))) 0 ≡ false
-    go true = owned-later t (s .user) count
+    go true = no-zero t (s .user) count
     go false = named-later t count (s .identities)
 
 -- the owner that the decision asks for is the User-Name, or the owner of the first identity
