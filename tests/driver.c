@@ -107,34 +107,35 @@ static uint64_t call(unsigned entry, uint8_t *const slice[SLICES], const size_t 
     return 0;
 }
 
-static void run_case(unsigned entry, unsigned fill, const size_t length[SLICES])
+/* Reads the slices of a case one behind the other; the buffer is noise. */
+static void read_case(unsigned fill, const size_t length[SLICES], uint8_t *before[SLICES])
 {
-    uint8_t *before[SLICES], *slice[SLICES];
-    size_t at, room = GUARD, total = 0;
-    uint32_t intact = 0;
-    uint64_t word;
+    size_t at = 0;
     int s;
 
-    for (s = 0; s < SLICES; s++) {
-        total += length[s];
-        room += length[s] + GUARD;
-    }
-    make_noise(room + 256 + 8);
-    make_room(&given, total + 1);
-    make_room(&lent, room + 8);
-
+    for (s = 0; s < SLICES; s++)
+        at += length[s];
+    make_room(&given, at + 1);
     at = 0;
     for (s = 0; s < SLICES; s++) {
         before[s] = given.at + at;
         at += length[s];
     }
-    at = total - length[BUFFER];
+    at -= length[BUFFER];
     if (fread(given.at, 1, at, stdin) != at)
         fail("a case is cut off");
     memcpy(before[BUFFER], noise.at + fill, length[BUFFER]);
+}
 
-    /* The slices begin at any address: the fill decides how far from a multiple of 8. */
-    at = fill & 7;
+/* Copies them to where they are lent, with guards of noise around each. They begin at any address: the fill decides
+ * how far from a multiple of 8. */
+static void lend_case(unsigned fill, const size_t length[SLICES], uint8_t *const before[SLICES], uint8_t *slice[SLICES],
+                      size_t room)
+{
+    size_t at = fill & 7;
+    int s;
+
+    make_room(&lent, room + 8);
     memcpy(lent.at + at, noise.at + fill, room);
     for (s = 0; s < SLICES; s++) {
         at += GUARD;
@@ -142,16 +143,17 @@ static void run_case(unsigned entry, unsigned fill, const size_t length[SLICES])
         memcpy(slice[s], before[s], length[s]);
         at += length[s];
     }
+}
 
-    word = call(entry, slice, length);
+/* The guards that are still noise, a bit for those before and behind each slice. */
+static uint32_t guards_intact(unsigned fill, const size_t length[SLICES], uint8_t *const slice[SLICES])
+{
+    const uint8_t *noise_there = noise.at + fill - (fill & 7);
+    uint32_t intact = 0;
+    size_t at = fill & 7;
+    int s;
 
-    if (memcmp(before[REQUEST], slice[REQUEST], length[REQUEST]) == 0)
-        intact |= 1u << REQUEST_INTACT;
-    if (memcmp(before[PROFILE], slice[PROFILE], length[PROFILE]) == 0)
-        intact |= 1u << PROFILE_INTACT;
-    at = fill & 7;
     for (s = 0; s < SLICES; s++) {
-        const uint8_t *noise_there = noise.at + fill - (fill & 7);
         size_t after = (size_t)(slice[s] - lent.at) + length[s];
 
         if (memcmp(lent.at + at, noise_there + at, GUARD) == 0 &&
@@ -159,7 +161,30 @@ static void run_case(unsigned entry, unsigned fill, const size_t length[SLICES])
             intact |= 1u << (GUARDS_INTACT + s);
         at = after;
     }
+    return intact;
+}
 
+static void run_case(unsigned entry, unsigned fill, const size_t length[SLICES])
+{
+    uint8_t *before[SLICES], *slice[SLICES];
+    size_t room = GUARD;
+    uint32_t intact;
+    uint64_t word;
+    int s;
+
+    for (s = 0; s < SLICES; s++)
+        room += length[s] + GUARD;
+    make_noise(room + 256 + 8);
+    read_case(fill, length, before);
+    lend_case(fill, length, before, slice, room);
+
+    word = call(entry, slice, length);
+
+    intact = guards_intact(fill, length, slice);
+    if (memcmp(before[REQUEST], slice[REQUEST], length[REQUEST]) == 0)
+        intact |= 1u << REQUEST_INTACT;
+    if (memcmp(before[PROFILE], slice[PROFILE], length[PROFILE]) == 0)
+        intact |= 1u << PROFILE_INTACT;
     write_number(word, 8);
     write_number(intact, 4);
     write_change(before[TABLE], slice[TABLE], length[TABLE]);
