@@ -1,3 +1,4 @@
+pub mod Lent
 pub mod Passed
 pub mod Plans
 pub mod Promise
