@@ -4,5 +4,6 @@ pub mod Effects
 pub mod Fitting
 pub mod Frame
 pub mod Insertions
+pub mod Longer
 pub mod Messages
 pub mod Refusals
