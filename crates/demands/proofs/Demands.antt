@@ -20,7 +20,7 @@ use Rattle.ndushavire.specs.declared.Call.the-variants.{Answered, Refused}
 use Rattle.ndushavire.specs.Serve.{answered, smallBuffer, wrongSize, wrongLength, noRequest, serve}
 use Rattle.ndushavire.specs.Word.{callNumber, callValue, callWord, callIn, Reads, ReadsCheck}
 use Rattle.ndushavire.specs.Promise.{CheckPromise, DecidePromise}
-use Rattle.ndushavire.proofs.Firm.{check-said}
+use Rattle.demands.proofs.Firm.{check-said}
 use Rattle.demands.specs.Call.{Tried, unsound, turnedAway, answerTo}
 use Rattle.demands.specs.Frame.{succeeds, subscriptionOf, alterable}
 use Rattle.demands.specs.Insertion.{requestOf, Foreign, Quiet, Inserted, FirstMarked, faultIn, unsupported, Cut, Longer, Newer}

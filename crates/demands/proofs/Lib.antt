@@ -1,6 +1,7 @@
 pub mod Cuts
 pub mod Demands
 pub mod Effects
+pub mod Firm
 pub mod Fitting
 pub mod Frame
 pub mod Insertions

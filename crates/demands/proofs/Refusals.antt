@@ -17,8 +17,8 @@ use Rattle.ndushavire.specs.declared.Call.{Call}
 use Rattle.ndushavire.specs.declared.Call.the-variants.{Answered, Refused}
 use Rattle.ndushavire.specs.Serve.{Served, refused, answered, smallBuffer, wrongSize, wrongLength, noRequest, serveChecked, serve}
 use Rattle.ndushavire.specs.Word.{callNumber, callValue, callWord, checkValue, Reads}
-use Rattle.ndushavire.proofs.Firm.{check-most, answer-reads, refusal-reads}
-use Rattle.ndushavire.proofs.Tests.{neither}
+use Rattle.demands.proofs.Firm.{check-most, answer-reads, refusal-reads}
+use Rattle.fitting.proofs.Tests.{neither}
 use Rattle.demands.specs.Call.{Tried, Fits, isBad, unsound, turnedAway, answerTo}
 
 -- the tests of a call as arguments
