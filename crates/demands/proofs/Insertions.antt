@@ -18,10 +18,12 @@ use Rattle.reading.specs.Request.{commandOf, headerFault, firstOther, complete,
 use Rattle.requests.proofs.Insert.{judge-unmarked, judge-marked, andThen, judge-glue, put-failed}
 use Rattle.decisions.specs.Decide.{decideJudged, decide}
 use Rattle.reply.specs.Answer.{proxies}
-use Rattle.ndushavire.specs.Serve.{answered, noRequest, serve}
+use Rattle.ndushavire.specs.Lent.{Lent, asking}
+use Rattle.ndushavire.specs.Word.{checkValue}
+use Rattle.ndushavire.specs.Serve.{noRequest, checkOf, answered, decision, serve}
 use Rattle.demands.specs.Call.{turnedAway}
 use Rattle.demands.specs.Insertion.{message, requestOf, Foreign, isMarked, Quiet, Inserted, ending, keep, put, FirstMarked, isFault, faultIn, unsupported}
-use Rattle.demands.proofs.Refusals.{refused-kept, refused-alike, answered-is, counted}
+use Rattle.demands.proofs.Refusals.{refused-kept, refused-alike, answered-is, taken}
 use Rattle.demands.proofs.Messages.{message-length, message-flags, message-read, readBody, Fit, size-right, length-right, Alike, served-same}
 
 -- what a fold that passes over those put in makes of the longer row
@@ -167,11 +169,11 @@ module _ (head : List ℕ) (twenty : length head ≡ 20) (q : Piece) (qs rs : Li
     unfolding avpsOf glue
     both-named = rw (long-walk, short-walk) (foreign-identities (keep q i) (walk tail))
 
-    both-served : readBody head (walk long) ≡ readBody head (walk short) → (t file o : List ℕ) → serve (message head long) t file o ≡ serve (message head short) t file o
-    both-served e t file o = served-same head twenty long short both-alike e both-named t file o long-fit short-fit
+    both-served : readBody head (walk long) ≡ readBody head (walk short) → (x : Lent) → serve (asking x (message head long)) ≡ serve (asking x (message head short))
+    both-served e x = served-same head twenty long short both-alike e both-named x long-fit short-fit
 
-    turned-same : (t file o : List ℕ) → turnedAway (message head long) t file o ≡ turnedAway (message head short) t file o
-    turned-same t file o =
+    turned-same : (x : Lent) → turnedAway (asking x (message head long)) ≡ turnedAway (asking x (message head short))
+    turned-same x =
         rw (
           size-right head twenty long long-fit,
           size-right head twenty short short-fit,
@@ -181,14 +183,14 @@ module _ (head : List ℕ) (twenty : length head ≡ 20) (q : Piece) (qs rs : Li
           message-flags head twenty short,
         )
 
-    pub refused-same : (t file o : List ℕ) → turnedAway (message head short) t file o ≡ true → serve (message head long) t file o ≡ serve (message head short) t file o
-    refused-same t file o e =
+    pub refused-same : (x : Lent) → turnedAway (asking x (message head short)) ≡ true → serve (asking x (message head long)) ≡ serve (asking x (message head short))
+    refused-same x e =
         let size = size-right head twenty long long-fit ∙ sym (size-right head twenty short short-fit) in
         let lengths = length-right head twenty long long-fit ∙ sym (length-right head twenty short short-fit) in
         let flags : noRequest (message head long) ≡ noRequest (message head short) = rw (message-flags head twenty long, message-flags head twenty short) in
-        refused-alike (message head long) (message head short) t file o size lengths flags e
+        refused-alike x (message head long) (message head short) size lengths flags e
 
-  pub unmarked-same : Inserted Quiet qs rs → (t file o : List ℕ) → serve (message head long) t file o ≡ serve (message head short) t file o
+  pub unmarked-same : Inserted Quiet qs rs → (x : Lent) → serve (asking x (message head long)) ≡ serve (asking x (message head short))
   unmarked-same j = let i = quiet-foreign j in both-served i (rw (long-walk i, short-walk) (quiet-read head (q .avp) j (walk tail)))
 
 -- Some are marked: the row before the first marked one decides, or that one does.
@@ -243,7 +245,7 @@ module _ (head : List ℕ) (twenty : length head ≡ 20) (q : Piece) (qs rs : Li
       (walk-pieces (q ∷ qs) tail whole ∙ ap (λ (l : List Piece). glue (avpsOf (q ∷ l)) (walk tail)) (m .row) ∙ row-joined q (m .front) (m .back) (walk tail))
       ∙ read-behind head q (m .front) (glue (avpsOf (m .back)) (walk tail))
 
-  pub fault-first : faultIn head (q ∷ m .front) ≡ true → (t file o : List ℕ) → serve longer t file o ≡ serve shorter t file o
+  pub fault-first : faultIn head (q ∷ m .front) ≡ true → (x : Lent) → serve (asking x longer) ≡ serve (asking x shorter)
   unfolding faultIn reading
   fault-first e =
       both-served head twenty q qs rs whole tail fours most i
@@ -260,21 +262,26 @@ module _ (head : List ℕ) (twenty : length head ≡ 20) (q : Piece) (qs rs : Li
       ∙ rw (none-decides head headed (frontOther q (m .front)) (frontJudged head q (m .front)) (behind (m .mark ∷ m .after)) (m .mark .avp) e
       (λ seen. mark-judged (commandOf head) (m .mark) (glue (avpsOf (m .after)) (walk tail)) seen (m .foreign) (m .marking)))
 
-  pub mark-answered : faultIn head (q ∷ m .front) ≡ false → (t file o : List ℕ) → turnedAway shorter t file o ≡ false
-      → serve longer t file o ≡ answered longer t o (unsupported t (m .mark))
-  mark-answered e t file o away =
-      let f : turnedAway longer t file o ≡ false = turned-same head twenty q qs rs whole tail fours most i t file o ∙ away in
-      counted longer t file o f (λ count sound. answered-is longer t file o count sound f ∙ ap (answered longer t o) (mark-decides e t count file))
+  pub mark-answered : faultIn head (q ∷ m .front) ≡ false → (x : Lent) → turnedAway (asking x shorter) ≡ false
+      → serve (asking x longer) ≡ answered (asking x longer) (unsupported (x .table) (m .mark))
+  mark-answered e x away =
+      let f : turnedAway (asking x longer) ≡ false = turned-same head twenty q qs rs whole tail fours most i x ∙ away in
+      let count = checkValue (checkOf x) in
+      answered-is (asking x longer) count (taken (asking x longer) f .table) f ∙ ap (answered (asking x longer)) (mark-decides e (x .table) count (x .profile))
 
-  pub marked-kept : (t file o : List ℕ) → serve longer t file o .table ≡ t
+  pub marked-kept : (x : Lent) → serve (asking x longer) .table ≡ x .table
   unfolding answered faultIn reading
-  marked-kept t file o = go (turnedAway longer t file o) refl (faultIn head (q ∷ m .front)) refl
+  marked-kept x = go (turnedAway (asking x longer)) refl (faultIn head (q ∷ m .front)) refl
     where
-      go : (x : Bool) → turnedAway longer t file o ≡ x → (y : Bool) → faultIn head (q ∷ m .front) ≡ y → serve longer t file o .table ≡ t
-      go true e y f = refused-kept longer t file o e .0
+      count : ℕ
+      count = checkValue (checkOf x)
+
+      answers : turnedAway (asking x longer) ≡ false → serve (asking x longer) ≡ answered (asking x longer) (decision (asking x longer) count)
+      answers e = answered-is (asking x longer) count (taken (asking x longer) e .table) e
+
+      go : (y : Bool) → turnedAway (asking x longer) ≡ y → (z : Bool) → faultIn head (q ∷ m .front) ≡ z → serve (asking x longer) .table ≡ x .table
+      go true e z f = refused-kept (asking x longer) e .0
       go false e true f =
-          counted longer t file o e
-          (λ count sound.
-          rw (answered-is longer t file o count sound e, long-decides t count file)
-          (fault-keeps head headed (frontOther q (m .front)) (frontJudged head q (m .front)) (behind (m .mark ∷ m .after)) f longer t count file))
-      go false e false f = counted longer t file o e (λ count sound. rw (answered-is longer t file o count sound e, mark-decides f t count file))
+          rw (answers e, long-decides (x .table) count (x .profile))
+          (fault-keeps head headed (frontOther q (m .front)) (frontJudged head q (m .front)) (behind (m .mark ∷ m .after)) f longer (x .table) count (x .profile))
+      go false e false f = rw (answers e, mark-decides f (x .table) count (x .profile))

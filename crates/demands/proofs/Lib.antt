@@ -8,3 +8,4 @@ pub mod Insertions
 pub mod Longer
 pub mod Messages
 pub mod Refusals
+pub mod Trials

@@ -33,7 +33,8 @@ use Rattle.decisions.specs.Assignment.{identityFault, every, isOne, findAll, nu
 use Rattle.decisions.specs.Decide.{assignmentOf, decideRead, decideJudged, decide}
 use Rattle.reading.specs.Found.{numberOf}
 use Rattle.reply.specs.Answer.{resultBytes, proxies, frontBytes, originBytes, givenBytes, endBytes, bodyBytes, flagsOf, headerBytes, answerBytes}
-use Rattle.ndushavire.specs.Serve.{refused, answered, wrongLength, serveChecked, serve}
+use Rattle.ndushavire.specs.Trial.{tried}
+use Rattle.ndushavire.specs.Serve.{wrongLength, refused, answered, serve}
 
 -- `hss.isle` and `isle`
 unfoldable pub host : List ℕ
@@ -100,5 +101,5 @@ unfolding host realm block header person request answer common assignment one tw
     mayRoam authorizeRecord authorizeFound authorize locateRecord locateFound locate groupOf startOf effectOf
     identityFault every isOne findAll numbersOf ownedHere ownedUpTo recordsOf allKnown ownerOf ownAt storesAt fitsAt rightAt assigned storedName effected assignRecords assignKnown assign
     assignmentOf decideRead decideJudged decide numberOf resultBytes proxies frontBytes originBytes givenBytes endBytes bodyBytes flagsOf headerBytes answerBytes
-    refused answered serveChecked wrongLength serve
+    tried wrongLength refused answered serve
 opened = 0
