@@ -51,7 +51,8 @@ module _ (req t file : List ℕ) (count : ℕ) (seen : Seen) (is : readRequest r
 
 -- The answer of a reply that is the decision's.
 module _ (req t file : List ℕ) (count : ℕ) (g : Given) (is : replyOf req t file g ≡ decide req t count file .reply) where
-  pub answers : (before after : List ℕ) (r : ℕ) → Wrote (answerBytes req (blockOf t 0) (replyOf req t file g)) before after r → Answers req t count file before after r
+  pub answers : (before after : List ℕ) (r : ℕ) → Wrote (answerBytes req (blockOf t 0) (replyOf req t file g)) before after r
+      → Answers req t count file before after r
   answers before after r w = rw is at w
 
   pub given-room : (o : List ℕ) → Passed req o → SoundTable t (length file) count → roomOf (bodyOf req) (replyOf req t file g) ≤ 36864

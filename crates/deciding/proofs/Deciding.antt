@@ -27,19 +27,23 @@ pub keep-read : (t : List ℕ) {h : List ℕ} → h ≡ blockOf t 0 → eqb (get
 keep-read t e = rw e
 
 module _ (req t : List ℕ) (count : ℕ) (seen : Seen) where
-  pub uar-planned : {user public network : List ℕ} {kind : ℕ} {g : Given} {p : Plan} → commandOf req ≡ 300 → user ≡ dataIn seen 7 → public ≡ dataIn seen 8 → network ≡ dataIn seen 9
+  pub uar-planned : {user public network : List ℕ} {kind : ℕ} {g : Given} {p : Plan} → commandOf req ≡ 300 → user ≡ dataIn seen 7 → public ≡ dataIn seen 8
+      → network ≡ dataIn seen 9
       → kind ≡ valueIn seen 13 → Gives t g (authorize t count user public network kind) → p ≡ only g → Plans req t count seen p
   unfolding decisionOf planned decideRead
   uar-planned c a b d e g p = record { decides = λ file. rw (p, g .reply req file, eq-eqb (commandOf req) 300 c, a, b, d, e) }
 
-  pub lir-planned : {public : List ℕ} {g : Given} {p : Plan} → (commandOf req ≡ 300 → ⊥) → (commandOf req ≡ 301 → ⊥) → public ≡ dataIn seen 8 → Gives t g (locate t count public)
+  pub lir-planned : {public : List ℕ} {g : Given} {p : Plan} → (commandOf req ≡ 300 → ⊥) → (commandOf req ≡ 301 → ⊥) → public ≡ dataIn seen 8
+      → Gives t g (locate t count public)
       → p ≡ only g → Plans req t count seen p
   unfolding decisionOf planned decideRead
   lir-planned c d b g p = record { decides = λ file. rw (p, g .reply req file, ne-eqb (commandOf req) 300 c, ne-eqb (commandOf req) 301 d, b) }
 
-  pub sar-planned : {kind already : ℕ} {server user : List ℕ} {named keep : Bool} {p : Plan} → commandOf req ≡ 301 → kind ≡ valueIn seen 11 → server ≡ dataIn seen 10
+  pub sar-planned : {kind already : ℕ} {server user : List ℕ} {named keep : Bool} {p : Plan} → commandOf req ≡ 301 → kind ≡ valueIn seen 11
+      → server ≡ dataIn seen 10
       → already ≡ valueIn seen 12
-      → named ≡ given seen 7 → user ≡ dataIn seen 7 → keep ≡ eqb (getD (blockOf t 0) 12 0) 1 → Assigns req t count (sarOf req kind server already named user) keep p
+      → named ≡ given seen 7 → user ≡ dataIn seen 7 → keep ≡ eqb (getD (blockOf t 0) 12 0) 1
+      → Assigns req t count (sarOf req kind server already named user) keep p
       → Plans req t count seen p
   unfolding assignmentOf decideRead
   sar-planned {p = p} c a b d e f k h =
@@ -49,7 +53,8 @@ module _ (req t : List ℕ) (count : ℕ) (seen : Seen) where
 
 -- What is left of the table.
 module _ (t : List ℕ) (count : ℕ) (req : List ℕ) (seen : Seen) (p : Plan) where
-  pub carried-owned : {name server user y : List ℕ} → name ≡ dataIn seen 10 → server ≡ storedName (p .named) name → user ≡ dataIn seen 7 → p .write ≡ true → p .owned ≡ true
+  pub carried-owned : {name server user y : List ℕ} → name ≡ dataIn seen 10 → server ≡ storedName (p .named) name → user ≡ dataIn seen 7 → p .write ≡ true
+      → p .owned ≡ true
       → y ≡ afterOf t count (isOne (ownedUpTo t user count)) (p .state) server → y ≡ planned t count (assignmentOf seen req) p
   unfolding planned plannedRecords assignmentOf
   carried-owned a b c d e f = rw (d, e) (f ∙ rw (b, a, c))

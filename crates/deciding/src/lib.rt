@@ -125,7 +125,8 @@ fn answer_fault(
     count: usize,
     v: Verdict,
 ) -> usize
-    requires { ⌜ Passed (now req) (now out) × SoundTable (now t) (length (now file)) count × (readRequest (now req) ≡ bad (v .result) (failedBy (now req) v)) ⌝ }
+    requires { ⌜ Passed (now req) (now out) × SoundTable (now t) (length (now file)) count
+        × (readRequest (now req) ≡ bad (v .result) (failedBy (now req) v)) ⌝ }
     ensures { λ r. ⌜ (r ≤ 36864) × Answers (now (req .entry)) (now (t .entry)) count (now (file .entry)) (now (out .entry)) (now (out .exit)) r ⌝ }
 {
     answering::answer(out, req, t, file, count, giving::faulty(v))
@@ -140,7 +141,8 @@ fn answer_read(
     count: usize,
     found: [usize; 17],
 ) -> usize
-    requires { ⌜ Passed (now req) (now out) × SoundTable (now t) (length (now file)) count × (readRequest (now req) ≡ fine (seenOf (now req) found)) ⌝ }
+    requires { ⌜ Passed (now req) (now out) × SoundTable (now t) (length (now file)) count
+        × (readRequest (now req) ≡ fine (seenOf (now req) found)) ⌝ }
     ensures { λ r. ⌜ (r ≤ 36864) × Answers (now (req .entry)) (now (t .entry)) count (now (file .entry)) (now (out .entry)) (now (out .exit)) r
         × (now (t .exit) ≡ decide (now (req .entry)) (now (t .entry)) count (now (file .entry)) .table) ⌝ }
 {

@@ -33,7 +33,8 @@ use Rattle.requests.proofs.Kept.{server-most, server-least}
 use Rattle.decisions.specs.declared.Effect.{Effect}
 use Rattle.decisions.specs.Reply.{Reply}
 use Rattle.decisions.specs.Types.{between, groupOf, isRemoval, effectOf}
-use Rattle.decisions.specs.Assignment.{Assignment, identityFault, every, isOne, isEmpty, firstOf, allKnown, findAll, numbersOf, ownedUpTo, recordsOf, ownerOf, ownAt, storedName}
+use Rattle.decisions.specs.Assignment.{Assignment, identityFault, every, isOne, isEmpty, firstOf, allKnown, findAll, numbersOf, ownedUpTo, recordsOf}
+use Rattle.decisions.specs.Assignment.{ownerOf, ownAt, storedName}
 use Rattle.decisions.specs.Decide.{assignmentOf, decide}
 use Rattle.decisions.proofs.Ready.{public-within}
 use Rattle.assignment.proofs.OwnTurns.{no-zero}
@@ -60,7 +61,8 @@ unfolding findAll numbersOf isOne
 named-later t count [] = refl
 named-later t count (a ∷ avps) = go (findPublic t count (dataOf a)) refl (named-later t count avps)
   where
-    go : (f : Found) → findPublic t count (dataOf a) ≡ f → isOne (numbersOf (findAll t count avps)) 0 ≡ false → isOne (numbersOf (f ∷ findAll t count avps)) 0 ≡ false
+    go : (f : Found) → findPublic t count (dataOf a) ≡ f → isOne (numbersOf (findAll t count avps)) 0 ≡ false
+        → isOne (numbersOf (f ∷ findAll t count avps)) 0 ≡ false
     go Nothing e next = next
     go (At k) e next = rw (ne-eqb 0 k (omega (arith, public-within t count (dataOf a) (sym e) .from k refl))) next
 
@@ -73,7 +75,8 @@ records-later t count s = go (isEmpty (s .identities))
     go false = named-later t count (s .identities)
 
 -- the owner that the decision asks for is the User-Name, or the owner of the first identity
-owner-is : (t : List ℕ) (count : ℕ) (s : Assignment) → identityFault (isRemoval (groupOf (s .kind))) (s .named) (s .identities) ≡ none → allKnown t count s ≡ true
+owner-is : (t : List ℕ) (count : ℕ) (s : Assignment) → identityFault (isRemoval (groupOf (s .kind))) (s .named) (s .identities) ≡ none
+    → allKnown t count s ≡ true
     → some (ownerOf t s (recordsOf t count s)) ≡ cond (s .named) (some (s .user)) (firstOwner t count (s .identities))
 unfolding identityFault allKnown ownerOf recordsOf findAll numbersOf every firstOwner
 owner-is t count s = go (isRemoval (groupOf (s .kind))) (s .named) (s .identities)
@@ -112,7 +115,8 @@ row : (kind : ℕ) (keep : Bool) → Row (effectOf kind keep)
 unfolding effectOf numberOf
 row kind keep = go (leb kind 2) (eqb kind 3) (between 6 kind 7) keep
   where
-    go : (a b c d : Bool) → Row (cond a (record { state = 1; named = true; result = Base 2001 }) (cond b (record { state = 2; named = true; result = Base 2001 })
+    go : (a b c d : Bool)
+        → Row (cond a (record { state = 1; named = true; result = Base 2001 }) (cond b (record { state = 2; named = true; result = Base 2001 })
         (cond c (cond d (record { state = 2; named = true; result = Base 2001 }) (record { state = 0; named = false; result = Experimental 2004 }))
         (record { state = 0; named = false; result = Base 2001 }))))
     go true b c d = row-named 1 (Base 2001) (omega arith) (omega arith) refl
@@ -159,7 +163,8 @@ module _ (req t : List ℕ) (count : ℕ) (file : List ℕ) (size : length t ≡
   unfolding subscriptionOf askedIn assignmentOf ownAt
   assigned-owner k e =
       let own = one-holds (ownAt t (ownerOf t asked (recordsOf t count asked))) (recordsOf t count asked) k (a .altered .owned) e in
-      ap some (same-eq (privateAt t k) (ownerOf t asked (recordsOf t count asked)) own) ∙ owner-is t count asked (a .altered .identified) (a .altered .known) ∙ rw (a .read)
+      ap some (same-eq (privateAt t k) (ownerOf t asked (recordsOf t count asked)) own) ∙ owner-is t count asked (a .altered .identified) (a .altered .known)
+      ∙ rw (a .read)
 
   assigned-good : succeeds (decide req t count file .reply .result) ≡ true
   assigned-good = rw (a .altered .result) (row (asked .kind) keep .good)
@@ -168,7 +173,8 @@ module _ (req t : List ℕ) (count : ℕ) (file : List ℕ) (size : length t ≡
   unfolding alterable
   assigned-bytes k i h l e = go (chosen k) refl
     where
-      kept : (x y z u v w : Bool) → eqb i 8 ≡ x → eqb i 9 ≡ y → eqb i 15 ≡ z → leb 272 i ≡ u → ltb i 368 ≡ v → leb 508 i ≡ w → (x || y || z || u && v || w) ≡ false
+      kept : (x y z u v w : Bool) → eqb i 8 ≡ x → eqb i 9 ≡ y → eqb i 15 ≡ z → leb 272 i ≡ u → ltb i 368 ≡ v → leb 508 i ≡ w
+          → (x || y || z || u && v || w) ≡ false
           → getD (settled (blockOf t k) (effect .state) name) i 0 ≡ getD (blockOf t k) i 0
       kept false false false false v false ex ey ez eu ev ew f =
           settled-low (blockOf t k) (effect .state) name i (leb-false 272 i eu) (eqb-false i 8 ex) (eqb-false i 9 ey) (eqb-false i 15 ez)
@@ -238,7 +244,8 @@ module _ (x : Lent) (count : ℕ) (sound : checkOf x ≡ Sound count) where
   pub others-kept : (k : ℕ) → k ≤ count → some (privateAt t k) ≢ subscriptionOf req t count → blockOf (serve x .table) k ≡ blockOf t k
   others-kept k h n = after-call (λ (y : List ℕ). blockOf y k ≡ blockOf t k) refl (λ a. stays a (isOne (recordsOf t count (assignmentOf (a .seen) req)) k) refl)
     where
-      stays : (a : Assigned req t count file) (x : Bool) → isOne (recordsOf t count (assignmentOf (a .seen) req)) k ≡ x → blockOf (decide req t count file .table) k ≡ blockOf t k
+      stays : (a : Assigned req t count file) (x : Bool) → isOne (recordsOf t count (assignmentOf (a .seen) req)) k ≡ x
+          → blockOf (decide req t count file .table) k ≡ blockOf t k
       stays a true e = absurd (n (assigned-owner req t count file (says .size) a k e))
       stays a false e = assigned-stays req t count file (says .size) a k h e
 

@@ -1,4 +1,5 @@
--- Demand 3: AVPs of unknown kinds put into a request after its first AVP. Without M nothing changes; the first with M is B5001, unless a fault before it decides.
+-- Demand 3: AVPs of unknown kinds put into a request after its first AVP. Without M nothing changes; the first with M is B5001, unless a fault before it
+-- decides.
 use Prim.Native.Nat.{ℕ, _+_, _%_, _≤_}
 use mathlib.Core.List.{List, [], _∷_, _++_}
 use mathlib.Core.Option.{none, some}
@@ -27,7 +28,8 @@ use Rattle.demands.proofs.Refusals.{refused-kept, refused-alike, answer
 use Rattle.demands.proofs.Messages.{message-length, message-flags, message-read, readBody, Fit, size-right, length-right, Alike, served-same}
 
 -- what a fold that passes over those put in makes of the longer row
-inserted-same : {X : Type 0} {P : Piece → Type 0} (f : Walk → X) → ((a : List ℕ) (v w : Walk) → f v ≡ f w → f (avp a v) ≡ f (avp a w)) → ((u : Piece) (w : Walk) → P u → f (avp (u .avp) w) ≡ f w)
+inserted-same : {X : Type 0} {P : Piece → Type 0} (f : Walk → X) → ((a : List ℕ) (v w : Walk) → f v ≡ f w → f (avp a v) ≡ f (avp a w))
+    → ((u : Piece) (w : Walk) → P u → f (avp (u .avp) w) ≡ f w)
     → {qs rs : List Piece} → Inserted P qs rs → (w : Walk) → f (glue (avpsOf rs) w) ≡ f (glue (avpsOf qs) w)
 unfolding glue avpsOf
 inserted-same f goes skips ending w = refl
@@ -88,7 +90,8 @@ quiet-read head a {qs} {rs} i w =
 
 -- What reading a request comes to, by the header's fault, by rule (b), by what the AVPs in front come to, and by those behind.
 readFrom : List ℕ → Bool → Bool → Judged → (Seen → Judged) → Judged
-readFrom head h f j next = cond h (cond f (bad (Base 5005) (some (example sessionId))) (complete (commandOf head) (andThen j next))) (bad (Base (headerFault head)) none)
+readFrom head h f j next =
+    cond h (cond f (bad (Base 5005) (some (example sessionId))) (complete (commandOf head) (andThen j next))) (bad (Base (headerFault head)) none)
 
 abbrev frontOther : Piece → List Piece → Bool
 frontOther q ps = firstOther (glue (avpsOf (q ∷ ps)) ended)
@@ -101,7 +104,8 @@ read-behind : (head : List ℕ) (q : Piece) (ps : List Piece) (w : Walk)
 unfolding readFrom readBody readWalk avpsOf glue
 read-behind head q ps w = rw (judge-glue (commandOf head) (avpsOf (q ∷ ps)) w nothing)
 
-fault-decides : (head : List ℕ) (h f : Bool) (j : Judged) (k l : Seen → Judged) → (not h || f || isFault j) ≡ true → readFrom head h f j k ≡ readFrom head h f j l
+fault-decides : (head : List ℕ) (h f : Bool) (j : Judged) (k l : Seen → Judged) → (not h || f || isFault j) ≡ true
+    → readFrom head h f j k ≡ readFrom head h f j l
 unfolding readFrom andThen
 fault-decides head false f j k l e = refl
 fault-decides head true true j k l e = refl
@@ -116,7 +120,8 @@ fault-keeps head true true j k e req t count file = refl
 fault-keeps head true false (bad r g) k e req t count file = refl
 fault-keeps head true false (fine seen) k e req t count file = absurd (true≢false (sym e))
 
-none-decides : (head : List ℕ) (h f : Bool) (j : Judged) (k : Seen → Judged) (a : List ℕ) → (not h || f || isFault j) ≡ false → ((seen : Seen) → k seen ≡ bad (Base 5001) (some a))
+none-decides : (head : List ℕ) (h f : Bool) (j : Judged) (k : Seen → Judged) (a : List ℕ) → (not h || f || isFault j) ≡ false
+    → ((seen : Seen) → k seen ≡ bad (Base 5001) (some a))
     → readFrom head h f j k ≡ bad (Base 5001) (some a)
 unfolding readFrom andThen complete
 none-decides head false f j k a e g = absurd (true≢false e)
@@ -124,7 +129,8 @@ none-decides head true true j k a e g = absurd (true≢false e)
 none-decides head true false (bad r x) k a e g = absurd (true≢false e)
 none-decides head true false (fine seen) k a e g = rw (g seen)
 
-mark-judged : (command : ℕ) (m : Piece) (w : Walk) (seen : Seen) → Foreign m → isMarked m ≡ true → judge command (avp (m .avp) w) seen ≡ bad (Base 5001) (some (m .avp))
+mark-judged : (command : ℕ) (m : Piece) (w : Walk) (seen : Seen) → Foreign m → isMarked m ≡ true
+    → judge command (avp (m .avp) w) seen ≡ bad (Base 5001) (some (m .avp))
 mark-judged command m w seen f e = judge-marked command (m .avp) w (f .plain) (f .stranger) seen e ∙ rw (put-failed m 5001 (f .whole) refl)
 
 -- A request, the row of its AVPs after the first, the longer row, and what is behind it.
@@ -169,7 +175,8 @@ module _ (head : List ℕ) (twenty : length head ≡ 20) (q : Piece) (qs rs : Li
     unfolding avpsOf glue
     both-named = rw (long-walk, short-walk) (foreign-identities (keep q i) (walk tail))
 
-    both-served : readBody head (walk long) ≡ readBody head (walk short) → (x : Lent) → serve (asking x (message head long)) ≡ serve (asking x (message head short))
+    both-served : readBody head (walk long) ≡ readBody head (walk short) → (x : Lent)
+        → serve (asking x (message head long)) ≡ serve (asking x (message head short))
     both-served e x = served-same head twenty long short both-alike e both-named x long-fit short-fit
 
     turned-same : (x : Lent) → turnedAway (asking x (message head long)) ≡ turnedAway (asking x (message head short))
@@ -183,7 +190,8 @@ module _ (head : List ℕ) (twenty : length head ≡ 20) (q : Piece) (qs rs : Li
           message-flags head twenty short,
         )
 
-    pub refused-same : (x : Lent) → turnedAway (asking x (message head short)) ≡ true → serve (asking x (message head long)) ≡ serve (asking x (message head short))
+    pub refused-same : (x : Lent) → turnedAway (asking x (message head short)) ≡ true
+        → serve (asking x (message head long)) ≡ serve (asking x (message head short))
     refused-same x e =
         let size = size-right head twenty long long-fit ∙ sym (size-right head twenty short short-fit) in
         let lengths = length-right head twenty long long-fit ∙ sym (length-right head twenty short short-fit) in
@@ -249,9 +257,11 @@ module _ (head : List ℕ) (twenty : length head ≡ 20) (q : Piece) (qs rs : Li
   unfolding faultIn reading
   fault-first e =
       both-served head twenty q qs rs whole tail fours most i
-      (long-read ∙ fault-decides head headed (frontOther q (m .front)) (frontJudged head q (m .front)) (behind (m .mark ∷ m .after)) (behind (m .back)) e ∙ sym short-read)
+      (long-read ∙ fault-decides head headed (frontOther q (m .front)) (frontJudged head q (m .front)) (behind (m .mark ∷ m .after)) (behind (m .back)) e
+      ∙ sym short-read)
 
-  long-decides : (t : List ℕ) (count : ℕ) (file : List ℕ) → decide longer t count file ≡ decideJudged longer t count file (reading (behind (m .mark ∷ m .after)))
+  long-decides : (t : List ℕ) (count : ℕ) (file : List ℕ)
+      → decide longer t count file ≡ decideJudged longer t count file (reading (behind (m .mark ∷ m .after)))
   unfolding decide
   long-decides t count file = rw (message-read head twenty (bytesOf (q ∷ rs) ++ tail), long-read)
 
@@ -283,5 +293,6 @@ module _ (head : List ℕ) (twenty : length head ≡ 20) (q : Piece) (qs rs : Li
       go true e z f = refused-kept (asking x longer) e .0
       go false e true f =
           rw (answers e, long-decides (x .table) count (x .profile))
-          (fault-keeps head headed (frontOther q (m .front)) (frontJudged head q (m .front)) (behind (m .mark ∷ m .after)) f longer (x .table) count (x .profile))
+          (fault-keeps head headed (frontOther q (m .front)) (frontJudged head q (m .front)) (behind (m .mark ∷ m .after)) f longer (x .table) count
+          (x .profile))
       go false e false f = rw (answers e, mark-decides f (x .table) count (x .profile))

@@ -149,7 +149,8 @@ module _ (head : List ℕ) (twenty : length head ≡ 20) (b c : List ℕ) (alike
   answered-same x d = rw (answer-same (blockOf (x .table) 0) (d .reply))
 
   module _ (read : readBody head (walk b) ≡ readBody head (walk c)) (named : identities (walk b) ≡ identities (walk c)) where
-    judged-same : (t : List ℕ) (count : ℕ) (file : List ℕ) (j : Judged) → decideJudged (message head b) t count file j ≡ decideJudged (message head c) t count file j
+    judged-same : (t : List ℕ) (count : ℕ) (file : List ℕ) (j : Judged)
+        → decideJudged (message head b) t count file j ≡ decideJudged (message head c) t count file j
     unfolding decideJudged decideRead assignmentOf
     judged-same t count file (bad r f) = refl
     judged-same t count file (fine seen) =
@@ -163,7 +164,8 @@ module _ (head : List ℕ) (twenty : length head ≡ 20) (b c : List ℕ) (alike
     unfolding serve refused
     served-same x f g =
         let k = checkValue (checkOf x) in
-        let answers : answered (asking x (message head b)) (decision (asking x (message head b)) k) ≡ answered (asking x (message head c)) (decision (asking x (message head c)) k) =
+        let answers : answered (asking x (message head b)) (decision (asking x (message head b)) k) ≡ answered (asking x (message head c))
+        (decision (asking x (message head c)) k) =
         rw (decide-same (x .table) k (x .profile)) (answered-same x (decision (asking x (message head c)) k)) in
         rw (
           size-right head twenty b f,

@@ -86,7 +86,8 @@ pub record Cut (req : List ℕ) : Type 0 where
   pub stops : sound tail ≡ false
   pub joined : req ≡ requestOf head (first ∷ rest) tail
 
--- `longer` is `req` with AVPs of unknown kinds put in after its first AVP, at any places before its first length fault; its length field is right, and it stays within the limit.
+-- `longer` is `req` with AVPs of unknown kinds put in after its first AVP, at any places before its first length fault; its length field is right, and it
+-- stays within the limit.
 pub record Longer (req longer : List ℕ) : Type 0 where
   pub cut : Cut req
   pub row : List Piece
@@ -108,7 +109,8 @@ firstMark ending = none
 firstMark (keep q i) = behind q (firstMark i)
 firstMark (put u f i) = cond (isMarked u) (some (record { front = []; mark = u })) (firstMark i)
 
--- what a call with them comes to: the same, but B5001 for the first marked one, unless the call is refused or the header or an AVP before that one breaks a reading rule
+-- what a call with them comes to: the same, but B5001 for the first marked one, unless the call is refused or the header or an AVP before that one breaks a
+-- reading rule
 unfoldable pub newer : (x : Lent) → List ℕ → List ℕ → Piece → Option Mark → Served
 newer x longer head q none = serve x
 newer x longer head q (some m) = cond (turnedAway x || faultIn head (q ∷ m .front)) (serve x) (answered (asking x longer) (unsupported (x .table) (m .mark)))

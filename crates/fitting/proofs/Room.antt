@@ -39,7 +39,8 @@ module _ (t file : List ℕ) (count : ℕ) (s : SoundTable t (length file) count
   header-empty =
       let b : List ℕ = blockOf t 0 in
       let two = chain-says (soundCounts (headerOf b)) (_ ∷ []) (s .header) in
-      let q = chain-says (eqb (sumWords b 128) 0) (soundHead b 1 0 ∷ soundNumbers (headerOf b) ∷ soundRest b (headerOf b) ∷ soundNetworks b (headerOf b .networks) ∷ []) (two 1) in
+      let q = chain-says (eqb (sumWords b 128) 0)
+      (soundHead b 1 0 ∷ soundNumbers (headerOf b) ∷ soundRest b (headerOf b) ∷ soundNetworks b (headerOf b .networks) ∷ []) (two 1) in
       let r = chain-says (zeroBetween b (16 + headerOf b .host) 80) (_ ∷ _ ∷ []) (q 3) in
       omega (arith, zero-at b 400 508 (r 2) 404 (omega arith) (omega arith), zero-at b 400 508 (r 2) 405 (omega arith) (omega arith))
 
@@ -95,7 +96,8 @@ module _ (t file : List ℕ) (count : ℕ) (s : SoundTable t (length file) count
       of-decide t count file Modest (λ o. none-said o)
       (λ o f i. within (failing o f) (omega arith) (omega arith) (omega arith) (omega arith) (omega arith) i (inl refl))
       (λ o n. within (serving o (serverOf (blockOf t n))) (omega arith) (server-most n) (omega arith) (omega arith) (omega arith) (omega arith) (inl refl))
-      (λ o n i. within (capable o (blockOf t n)) (omega arith) (omega arith) (able-most mandatoryOf (mandatory-field t count (alone t (length file) count s)) n i)
+      (λ o n i. within (capable o (blockOf t n)) (omega arith) (omega arith)
+      (able-most mandatoryOf (mandatory-field t count (alone t (length file) count s)) n i)
       (able-most optionalOf (optional-field t count (alone t (length file) count s)) n i) (omega arith) (omega arith) (inl refl))
       (λ a o n. go a o n (leb (a .kind) 3) (eqb (a .already) 0)) req h k
     where
@@ -103,7 +105,16 @@ module _ (t file : List ℕ) (count : ℕ) (s : SoundTable t (length file) count
       none-said o = within (plain o) (omega arith) (omega arith) (omega arith) (omega arith) (omega arith) (omega arith) (inl refl)
 
       go : (a : Assignment) (o : Outcome) (n : ℕ) (x y : Bool)
-          → Modest (cond x (record { result = o; user = privateAt t n; server = []; mandatory = []; optional = []; profile = cond y (profileOf (blockOf t n) file) []; failed = none }) (plain o))
+          → Modest (cond x (record {
+            result = o;
+            user = privateAt t n;
+            server = [];
+            mandatory = [];
+            optional = [];
+            profile = cond y
+                (profileOf (blockOf t n) file) [];
+            failed = none;
+          }) (plain o))
       go a o n true true = within _ (user-most n) (omega arith) (omega arith) (omega arith) (profile-most n) (omega arith) (inr refl)
       go a o n true false = within _ (user-most n) (omega arith) (omega arith) (omega arith) (omega arith) (omega arith) (inr refl)
       go a o n false y = none-said o

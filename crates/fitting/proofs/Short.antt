@@ -59,7 +59,8 @@ read-short req h k =
     either ShortFault (eqb (headerFault req) 0)
     (either ShortFault (firstOther (bodyOf req)) (omega (arith, example-length sessionId))
     (go (judge (commandOf req) (bodyOf req) nothing)
-    (judge-short (length (drop 20 req)) (omega (arith, length-drop 20 req)) (commandOf req) (bodyOf req) (walk-within (length (drop 20 req)) 0 (drop 20 req) (omega arith)) nothing)))
+    (judge-short (length (drop 20 req)) (omega (arith, length-drop 20 req)) (commandOf req) (bodyOf req)
+    (walk-within (length (drop 20 req)) 0 (drop 20 req) (omega arith)) nothing)))
     (omega arith)
   where
     go : (j : Judged) → ShortFault j → ShortFault (complete (commandOf req) j)

@@ -29,7 +29,8 @@ use Rattle.decisions.specs.Reply.{served}
 use Rattle.decisions.specs.Authorization.{mayRoam, authorizeRecord, authorizeFound, authorize}
 use Rattle.decisions.specs.Location.{locateRecord, locateFound, locate}
 use Rattle.decisions.specs.Types.{groupOf, startOf, effectOf}
-use Rattle.decisions.specs.Assignment.{identityFault, every, isOne, findAll, numbersOf, ownedHere, ownedUpTo, recordsOf, allKnown, ownerOf, ownAt, storesAt, fitsAt, rightAt, assigned, storedName, effected, assignRecords, assignKnown, assign}
+use Rattle.decisions.specs.Assignment.{identityFault, every, isOne, findAll, numbersOf, ownedHere, ownedUpTo, recordsOf, allKnown, ownerOf, ownAt, storesAt}
+use Rattle.decisions.specs.Assignment.{fitsAt, rightAt, assigned, storedName, effected, assignRecords, assignKnown, assign}
 use Rattle.decisions.specs.Decide.{assignmentOf, decideRead, decideJudged, decide}
 use Rattle.reading.specs.Found.{numberOf}
 use Rattle.reply.specs.Answer.{resultBytes, proxies, frontBytes, originBytes, givenBytes, endBytes, bodyBytes, flagsOf, headerBytes, answerBytes}
@@ -53,23 +54,26 @@ header count keep = sealed (sets (sets (sets (putBe32 (sets block 0 (1 ∷ 1 ∷
 -- record k: a public and a private identity of one byte each, a state and a server name
 unfoldable pub person : ℕ → ℕ → ℕ → ℕ → List ℕ → List ℕ
 person k public private state server =
-    sealed
-    (sets (sets (sets (sets (sets (putBe32 (sets block 0 (2 ∷ 1 ∷ [])) 4 k) 8 (state ∷ [])) 13 (1 ∷ 1 ∷ length server ∷ [])) 16 (public ∷ [])) 144 (private ∷ [])) 272 server)
+    let numbers = sets (sets (putBe32 (sets block 0 (2 ∷ 1 ∷ [])) 4 k) 8 (state ∷ [])) 13 (1 ∷ 1 ∷ length server ∷ []) in
+    sealed (sets (sets (sets numbers 16 (public ∷ [])) 144 (private ∷ [])) 272 server)
 
 -- a request of a command with a body; its header as in the worked case
 unfoldable pub request : ℕ → List ℕ → List ℕ
 request command body =
-    putBe24 (putBe24 (0x01 ∷ 0x00 ∷ 0x00 ∷ 0x00 ∷ 0xC0 ∷ 0x00 ∷ 0x00 ∷ 0x00 ∷ 0x01 ∷ 0x00 ∷ 0x00 ∷ 0x00 ∷ 0x00 ∷ 0x00 ∷ 0x00 ∷ 0x01 ∷ 0x00 ∷ 0x00 ∷ 0x00 ∷ 0x02 ∷ []) 1 (20 + length body)) 5 command
-    ++ body
+    let head = 0x01 ∷ 0x00 ∷ 0x00 ∷ 0x00 ∷ 0xC0 ∷ 0x00 ∷ 0x00 ∷ 0x00 ∷ 0x01 ∷ 0x00 ∷ 0x00 ∷ 0x00 ∷ 0x00 ∷ 0x00 ∷ 0x00 ∷ 0x01 ∷ 0x00 ∷ 0x00 ∷ 0x00 ∷ 0x02 ∷ [] in
+    putBe24 (putBe24 head 1 (20 + length body)) 5 command ++ body
 
 -- the answer to a SAR of the Session-Id `s`: its result, and what follows the realm
 unfoldable pub answer : List ℕ → List ℕ → List ℕ
 answer result rest =
-    set (request 301 (avpBytes 263 (0x73 ∷ []) ++ (vendorApplication ++ (result ++ (numberBytes 277 1 ++ (avpBytes 264 host ++ (avpBytes 296 realm ++ rest))))))) 4 0x40
+    let own = avpBytes 264 host ++ (avpBytes 296 realm ++ rest) in
+    set (request 301 (avpBytes 263 (0x73 ∷ []) ++ (vendorApplication ++ (result ++ (numberBytes 277 1 ++ own))))) 4 0x40
 
 -- what every request needs, and a SAR of a type for the identity `a` with a server name
 unfoldable pub common : List ℕ
-common = avpBytes 263 (0x73 ∷ []) ++ (vendorApplication ++ (numberBytes 277 1 ++ (avpBytes 264 (0x63 ∷ []) ++ (avpBytes 296 (0x72 ∷ []) ++ avpBytes 283 (0x72 ∷ [])))))
+common =
+    avpBytes 263 (0x73 ∷ []) ++ (vendorApplication ++
+    (numberBytes 277 1 ++ (avpBytes 264 (0x63 ∷ []) ++ (avpBytes 296 (0x72 ∷ []) ++ avpBytes 283 (0x72 ∷ [])))))
 
 unfoldable pub assignment : ℕ → List ℕ → List ℕ
 assignment kind server = request 301 (common ++ (vendorBytes 601 (0x61 ∷ []) ++ (vendorBytes 602 server ++ (vendorNumber 614 kind ++ vendorNumber 624 1))))
