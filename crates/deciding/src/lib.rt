@@ -19,7 +19,7 @@ ghost use Rattle.table.specs.Blocks.{blockOf};
 ghost use Rattle.lookup.specs.SoundTable.{SoundTable};
 ghost use Rattle.reading.specs.Rules.{bad, fine};
 ghost use Rattle.reading.specs.Request.{commandOf, readRequest, dataIn};
-ghost use Rattle.reading.specs.Found.{seenOf, failedBy};
+ghost use Rattle.reading.specs.Found.{seenOf};
 ghost use Rattle.decisions.specs.Assignment.{storedName};
 ghost use Rattle.decisions.specs.Decide.{assignmentOf, decide};
 ghost use Rattle.decisions.specs.Planned.{Ready, planned};
@@ -35,7 +35,7 @@ fn keep(t: &[u8]) -> bool
     h[Header::KEEP_AT] == 1
 }
 
-fn plan_uar(req: &[u8], t: &[u8], count: usize, found: [usize; 17]) -> Plan
+fn plan_uar(req: &[u8], t: &[u8], count: usize, found: [usize; kinds::KINDS]) -> Plan
     requires { ⌜ Ready (now t) count × (commandOf (now req) ≡ 300) ⌝ }
     ensures { λ r. ⌜ Plans (now (req .entry)) (now (t .entry)) count (seenOf (now (req .entry)) found) r ⌝ }
 {
@@ -49,7 +49,7 @@ fn plan_uar(req: &[u8], t: &[u8], count: usize, found: [usize; 17]) -> Plan
     ))
 }
 
-fn plan_sar(req: &[u8], t: &[u8], count: usize, found: [usize; 17]) -> Plan
+fn plan_sar(req: &[u8], t: &[u8], count: usize, found: [usize; kinds::KINDS]) -> Plan
     requires { ⌜ Ready (now t) count × (commandOf (now req) ≡ 301) ⌝ }
     ensures { λ r. ⌜ Plans (now (req .entry)) (now (t .entry)) count (seenOf (now (req .entry)) found) r ⌝ }
 {
@@ -66,7 +66,7 @@ fn plan_sar(req: &[u8], t: &[u8], count: usize, found: [usize; 17]) -> Plan
     )
 }
 
-fn plan_lir(req: &[u8], t: &[u8], count: usize, found: [usize; 17]) -> Plan
+fn plan_lir(req: &[u8], t: &[u8], count: usize, found: [usize; kinds::KINDS]) -> Plan
     requires { ⌜ Ready (now t) count × (commandOf (now req) ≡ 300 → ⊥) × (commandOf (now req) ≡ 301 → ⊥) ⌝ }
     ensures { λ r. ⌜ Plans (now (req .entry)) (now (t .entry)) count (seenOf (now (req .entry)) found) r ⌝ }
 {
@@ -78,7 +78,7 @@ fn plan_lir(req: &[u8], t: &[u8], count: usize, found: [usize; 17]) -> Plan
 }
 
 // The plan of a request that was read, by its command.
-fn plan_read(req: &[u8], t: &[u8], count: usize, found: [usize; 17]) -> Plan
+fn plan_read(req: &[u8], t: &[u8], count: usize, found: [usize; kinds::KINDS]) -> Plan
     requires { ⌜ Ready (now t) count × (20 ≤ length (now req)) ⌝ }
     ensures { λ r. ⌜ Plans (now (req .entry)) (now (t .entry)) count (seenOf (now (req .entry)) found) r ⌝ }
 {
@@ -100,7 +100,7 @@ fn stored(named: bool, server: &[u8]) -> &[u8]
 }
 
 // The effect that is planned, if there is one.
-fn carry_out(t: &mut [u8], count: usize, req: &[u8], found: [usize; 17], p: Plan)
+fn carry_out(t: &mut [u8], count: usize, req: &[u8], found: [usize; kinds::KINDS], p: Plan)
     requires { ⌜ Ready (now t) count × (length (dataIn (seenOf (now req) found) 10) ≤ 96) ⌝ }
     ensures { λ _. ⌜ now (t .exit) ≡ planned (now (t .entry)) count (assignmentOf (seenOf (now (req .entry)) found) (now (req .entry))) p ⌝ }
 {
@@ -125,8 +125,7 @@ fn answer_fault(
     count: usize,
     v: Verdict,
 ) -> usize
-    requires { ⌜ Passed (now req) (now out) × SoundTable (now t) (length (now file)) count
-        × (readRequest (now req) ≡ bad (v .result) (failedBy (now req) v)) ⌝ }
+    requires { ⌜ Passed (now req) (now out) × SoundTable (now t) (length (now file)) count × (readRequest (now req) ≡ bad v) ⌝ }
     ensures { λ r. ⌜ (r ≤ 36864) × Answers (now (req .entry)) (now (t .entry)) count (now (file .entry)) (now (out .entry)) (now (out .exit)) r ⌝ }
 {
     answering::answer(out, req, t, file, count, giving::faulty(v))
@@ -139,10 +138,9 @@ fn answer_read(
     t: &mut [u8],
     file: &[u8],
     count: usize,
-    found: [usize; 17],
+    found: [usize; kinds::KINDS],
 ) -> usize
-    requires { ⌜ Passed (now req) (now out) × SoundTable (now t) (length (now file)) count
-        × (readRequest (now req) ≡ fine (seenOf (now req) found)) ⌝ }
+    requires { ⌜ Passed (now req) (now out) × SoundTable (now t) (length (now file)) count × (readRequest (now req) ≡ fine (seenOf (now req) found)) ⌝ }
     ensures { λ r. ⌜ (r ≤ 36864) × Answers (now (req .entry)) (now (t .entry)) count (now (file .entry)) (now (out .entry)) (now (out .exit)) r
         × (now (t .exit) ≡ decide (now (req .entry)) (now (t .entry)) count (now (file .entry)) .table) ⌝ }
 {

@@ -9,7 +9,7 @@ use Rattle.table.specs.Blocks.{blockOf, privateAt, ofBlock}
 use Rattle.lookup.specs.Network.{Short}
 use Rattle.lookup.specs.SoundTable.{Ordered}
 use Rattle.rewrite.specs.Effect.{afterOf}
-use Rattle.reading.specs.Found.{failedBy}
+use Rattle.failed.specs.Failing.{failedBy}
 use Rattle.decisions.specs.Reply.{Reply}
 use Rattle.decisions.specs.Assignment.{Decision, Assignment, isOne, findAll, numbersOf, ownedUpTo, storedName}
 use Rattle.decisions.specs.declared.Given.{Given}
