@@ -6,7 +6,7 @@ SHELL := /bin/bash
 .DELETE_ON_ERROR:
 .NOTPARALLEL:
 export PYTHONDONTWRITEBYTECODE := 1
-.PHONY: run test clean fmt examples tables stores reference installs bench stack install uninstall
+.PHONY: run test clean fmt examples tables texts stores reference installs bench stack install uninstall
 .PHONY: differential noticed soak mutants stats definitions-check vectors
 
 MACHINE := $(shell uname -m)
@@ -51,7 +51,7 @@ target/bin/%: $(PROVED)
 	rt check $*
 	touch $@
 
-test: fmt examples tables stores reference installs noticed differential
+test: fmt examples tables texts stores reference installs noticed differential
 
 fmt:
 	rt fmt --check
@@ -60,8 +60,13 @@ examples: $(foreach mode,c99 cxx,$(addprefix target/$(mode)/,check decide)) targ
 	RUN='$(RUN)' tests/decide.sh target/test/decide target/c/maketable target/c99/decide target/cxx/decide
 	RUN='$(RUN)' tests/captured.sh target/test/captured target/c/maketable $(BINARY) target/c99/decide target/cxx/decide
 
-tables: examples
-	RUN='$(RUN)' tests/tables.sh target/test/tables target/c/maketable target/c99/check target/cxx/check
+tables: examples target/c/showtable
+	RUN='$(RUN)' tests/tables.sh target/test/tables target/c/maketable target/c/showtable target/c99/check target/cxx/check
+
+# From a table to text and back.
+COUNT_texts := 2000
+texts: target/c/maketable target/c/showtable target/c/texts
+	tests/texts.sh target/test/texts target/c/maketable target/c/showtable target/c/texts $(SEED) $(COUNT_texts)
 
 stores: target/c/store target/c++/store
 	for store in $^; do rm -rf target/test/store; mkdir -p target/test/store; $$store target/test/store; done
@@ -131,7 +136,11 @@ $(BINARY): $(REFERENCE)
 	cd reference && cargo build --offline --release --quiet
 	touch $@
 
-target/c/maketable: examples/maketable.c examples/load.h
+target/c/%: examples/%.c examples/load.h
+	mkdir -p $(@D)
+	$(CC) -std=c99 $(STRICT) -o $@ $<
+
+target/c/texts: tests/texts.c examples/load.h
 	mkdir -p $(@D)
 	$(CC) -std=c99 $(STRICT) -o $@ $<
 
