@@ -16,7 +16,8 @@ X86_CXX := g++
 RUN :=
 else
 X86_CC := x86_64-linux-gnu-gcc -static
-X86_CXX := x86_64-linux-gnu-g++ -static
+# The C++ examples need no library of C++; with g++ the cross package's libm.a would be wanted, which names files of another place.
+X86_CXX := x86_64-linux-gnu-gcc -static
 RUN = $(KIT)/on/$(MACHINE)/toolchain/bin/qemu-x86_64
 endif
 # Asked for only where a recipe needs it: `make clean` works without rt.
