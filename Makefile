@@ -6,7 +6,7 @@ SHELL := /bin/bash
 .DELETE_ON_ERROR:
 .NOTPARALLEL:
 export PYTHONDONTWRITEBYTECODE := 1
-.PHONY: run test clean fmt examples tables texts stores reference installs bench stack install uninstall
+.PHONY: run test clean fmt examples tables texts page stores reference installs bench stack install uninstall
 .PHONY: differential noticed soak mutants stats definitions-check vectors
 
 MACHINE := $(shell uname -m)
@@ -52,7 +52,7 @@ target/bin/%: $(PROVED)
 	rt check $*
 	touch $@
 
-test: fmt examples tables texts stores reference installs noticed differential
+test: fmt examples tables texts page stores reference installs noticed differential
 
 fmt:
 	rt fmt --check
@@ -68,6 +68,10 @@ tables: examples target/c/showtable
 COUNT_texts := 2000
 texts: target/c/maketable target/c/showtable target/c/texts
 	tests/texts.sh target/test/texts target/c/maketable target/c/showtable target/c/texts $(SEED) $(COUNT_texts)
+
+# The worked table of docs/TABLE.md.
+page: target/c/maketable target/c/showtable
+	tests/page.sh target/test/page target/c/maketable target/c/showtable
 
 stores: target/c/store target/c++/store
 	for store in $^; do rm -rf target/test/store; mkdir -p target/test/store; $$store target/test/store; done

@@ -2,35 +2,12 @@
  * It writes no file. Never send its output over a table in use, as with `> table`: the shell empties that file before
  * this program has read a line. Send both into a new folder, check them there and switch; tablecheck(1) shows how.
  *
- * The text is paragraphs of words, apart by empty lines. A word is `key=value` or a key alone; a value holds no
- * blank, or stands in quotes, where \" \\ \n and \xHH (two hexadecimal digits) mean a quote, a backslash, a line's
- * end and any byte. A word that begins with # and the rest of its line are a comment.
- *
- * The first paragraph is the header:
- *   host=NAME realm=NAME        1 to 64 bytes each
- *   keep=N                      1: a line whose registration timed out keeps its server; 0: it does not
- *   network=NAME                a visited network, 1 to 31 bytes; up to eight, none twice
- * Each other one is a record, in any order:
- *   public=NAME private=NAME    1 to 128 bytes each; no public identity twice
- *   state=STATE                 not-registered (as if left out), registered or unregistered
- *   pending barred unregistered-services
- *   roaming=NAME                a network of the header; a word for each network that is allowed
- *   mandatory=N,N optional=N,N  capabilities, up to four of each, 32 bits
- *   server=NAME                 1 to 96 bytes; wanted where registered, unregistered or pending, and nowhere else
- *   profile=TEXT                up to 4,096 bytes
- *   profile-at=N                where in the profile file these begin; seldom wanted
- *
- * The profile file is the records' parts, one behind the other in the table's order. Only a text that showtable wrote of
- * a file of another shape has profile-at: such parts stand where they say and may share bytes, and records without the
- * word have theirs behind all of these. There, too, a paragraph may be bytes that belong to no record:
- *   unused=TEXT profile-at=N    1 to 4,096 bytes
- * Bytes that nobody names any more, as after a record was taken out, are zero. A part that has grown into its neighbour is
- * refused: take its profile-at away.
+ * TABLE.md among the documents says how the text is written ("As text") and what stands in the blocks; households.txt is an
+ * example. showtable goes the other way.
  *
  * Exit status: 0 written; 1 the text is refused with its line, since no sound table can be made from it; 2 wrong use, a
  * file that cannot be read, or no memory, or standard output fails. Nothing is written of a text that is refused.
- * This program stands apart from the library and reads the table's rules for itself, so that each tests the other;
- * docs/TABLE.md has them. showtable goes the other way. */
+ * This program stands apart from the library and reads the table's rules for itself, so that each tests the other. */
 #include <ctype.h>
 #include <stdarg.h>
 

@@ -2,16 +2,12 @@
  * the same two files of it again, byte for byte, so a line can be edited and the next table made with nothing lost:
  * states, names of servers and whatever bytes a name or a profile has.
  *
- * The text's records stand in the table's order, and comments of an older text are not in it: a table holds none. It is
- * plain ASCII with \xHH for every other byte, so that no editor alters what it does not show.
+ * TABLE.md among the documents says how the text is written ("As text") and what stands in the blocks. The text is plain
+ * ASCII, with \xHH for every other byte, so that no editor alters what it does not show.
  *
- * Where the profile file is not just the records' parts one behind the other (parts may be shared, overlap, stand in another
- * order, and leave bytes that no record has), each record says by profile-at where its part begins, and paragraphs with
- * `unused` hold the bytes of no record. maketable's head says what these words mean to an edited text.
- *
- * Nothing is written of a table that is unsound. Exit status: 0 written, 1 unsound (the first bad block is named on
- * standard error), 2 wrong use, a file that cannot be read, or no memory, or standard output fails.
- * This program stands apart from the library and reads the table's rules for itself; docs/TABLE.md has them. */
+ * Exit status: 0 written; 1 the table is unsound, and its first bad block is named on standard error; 2 wrong use, a file
+ * that cannot be read, or no memory, or standard output fails. Nothing is written of a table that is unsound.
+ * This program stands apart from the library and reads the table's rules for itself, so that each tests the other. */
 #include "load.h"
 
 enum { BLOCK = 512, RECORDS = 4096, NETWORKS = 8, NETWORK = 32, CAPABILITIES = 4, PART = 4096 };

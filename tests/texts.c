@@ -14,7 +14,7 @@
 
 #include "../examples/load.h"
 
-enum { BLOCK = 512, RECORDS = 4096, PART = 4096 };
+enum { BLOCK = 512, RECORDS = 4096, PART = 4096, DAMAGES = 2 };
 
 typedef struct {
     uint8_t *bytes;
@@ -281,22 +281,34 @@ static void shows(const char *text, const char *what) {
     if (run(showtable, "table", "profile", text) != 0 || !is_empty("errors")) fail(what);
 }
 
-/* Changes a byte, and mends the check word more often than not; gives whether the copy was refused. */
-static int damaged(Bytes table, Bytes profile) {
+/* Changes a byte, or puts the record before in a block's place; mends the check word more often than not. */
+static void damage(Bytes table) {
     static const uint16_t places[] = {0, 1, 2, 7, 8, 9, 10, 11, 12, 13, 14, 15, 144, 176, 403, 404, 405, 406, 507};
-    uint8_t *block = table.bytes + BLOCK * below((uint32_t)(table.length / BLOCK));
-    uint8_t *at = block + (one_in(2) ? places[below(sizeof places / sizeof places[0])] : below(BLOCK));
-    *at = (uint8_t)(one_in(2) ? *at ^ 1u << below(8) : one_in(2) ? 0 : below(256));
-    if (!one_in(4)) seal(block);
-    write_file("table", table);
-    const int status = run(showtable, "table", "profile", "text");
-    if (status == 1) {
-        if (!is_empty("text") || is_empty("errors")) fail("a damaged table: something was written, or nothing said");
-        return 1;
+    const uint32_t k = below((uint32_t)(table.length / BLOCK));
+    uint8_t *block = table.bytes + BLOCK * k;
+    if (k > 1 && one_in(6)) {
+        memcpy(block, block - BLOCK, BLOCK);
+        put32(block + 4, k);
+    } else {
+        uint8_t *at = block + (one_in(2) ? places[below(sizeof places / sizeof places[0])] : below(BLOCK));
+        *at = (uint8_t)(one_in(2) ? *at ^ 1u << below(8) : one_in(2) ? 0 : below(256));
     }
-    if (status != 0) fail("a damaged table: another status than 0 and 1");
-    makes("text", table, profile, "a damaged table was shown and is not made again");
-    return 0;
+    if (!one_in(4)) seal(block);
+}
+
+/* Whether a damaged copy was refused. */
+static int damaged(Bytes table, Bytes profile) {
+    const Bytes copy = {(uint8_t *)malloc(table.length), table.length};
+    if (copy.bytes == NULL) stop("no memory");
+    memcpy(copy.bytes, table.bytes, table.length);
+    damage(copy);
+    write_file("table", copy);
+    const int status = run(showtable, "table", "profile", "text");
+    if (status != 0 && status != 1) fail("a damaged table: another status than 0 and 1");
+    if (status == 0) makes("text", copy, profile, "a damaged table was shown and is not made again");
+    if (status == 1 && (!is_empty("text") || is_empty("errors"))) fail("a damaged table: something was written, or nothing said");
+    free(copy.bytes);
+    return status;
 }
 
 static const char *absolute(const char *path) {
@@ -330,11 +342,11 @@ int main(int argc, char **argv) {
         text.bytes = load("text", &text.length);
         if (run(showtable, "made-table", "made-profile", "again") != 0 || !holds("again", text)) fail("the made table is shown otherwise");
         free(text.bytes);
-        refused += (unsigned long)damaged(table, profile);
+        for (int i = 0; i < DAMAGES; i++) refused += (unsigned long)damaged(table, profile);
         free(table.bytes);
         free(profile.bytes);
     }
-    if (count > 100 && (refused == 0 || refused == count)) fail("no damaged table was refused, or each");
+    if (count > 100 && (refused == 0 || refused == DAMAGES * count)) fail("no damaged table was refused, or each");
     printf("texts: %lu tables of %lu records to text and back, byte for byte; %lu damaged ones refused (seed %lu)\n", count, records, refused, seed);
     return 0;
 }
