@@ -281,17 +281,28 @@ static void shows(const char *text, const char *what) {
     if (run(showtable, "table", "profile", text) != 0 || !is_empty("errors")) fail(what);
 }
 
-/* Changes a byte, or puts the record before in a block's place; mends the check word more often than not. */
-static void damage(Bytes table) {
+/* Changes a byte of a block. */
+static void change(uint8_t *block) {
     static const uint16_t places[] = {0, 1, 2, 7, 8, 9, 10, 11, 12, 13, 14, 15, 144, 176, 403, 404, 405, 406, 507};
-    const uint32_t k = below((uint32_t)(table.length / BLOCK));
+    uint8_t *at = block + (one_in(2) ? places[below(sizeof places / sizeof places[0])] : below(BLOCK));
+    *at = (uint8_t)(one_in(2) ? *at ^ 1u << below(8) : one_in(2) ? 0 : below(256));
+}
+
+/* Damages a block in one of the ways that chance seldom finds, or in any; mends the check word more often than not. */
+static void damage(Bytes table) {
+    const uint32_t k = one_in(4) ? 0 : below((uint32_t)(table.length / BLOCK)), way = below(8);
     uint8_t *block = table.bytes + BLOCK * k;
-    if (k > 1 && one_in(6)) {
+    if (way == 0 && k > 1) { /* a record twice */
         memcpy(block, block - BLOCK, BLOCK);
         put32(block + 4, k);
+    } else if (way == 0 && k == 0 && block[15] > 1) { /* a network twice */
+        memcpy(block + 144 + 32 * (block[15] - 1), block + 144, 32);
+    } else if (way == 1 && k > 0) {
+        put_part(block, 0, PART + 1);
+    } else if (way == 2 && k > 0 && block[11] > 0 && block[12] > 0) { /* a capability past the count */
+        block[one_in(2) ? 11 : 12]--;
     } else {
-        uint8_t *at = block + (one_in(2) ? places[below(sizeof places / sizeof places[0])] : below(BLOCK));
-        *at = (uint8_t)(one_in(2) ? *at ^ 1u << below(8) : one_in(2) ? 0 : below(256));
+        change(block);
     }
     if (!one_in(4)) seal(block);
 }

@@ -99,6 +99,9 @@ profile="abcde" profile-at=10
 public=e private=q
 profile-at=20
 
+public=ee private=q
+profile="d" profile-at=13
+
 unused="0123456789" profile-at=0
 
 unused="zzzzz" profile-at=15
