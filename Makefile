@@ -6,7 +6,7 @@ SHELL := /bin/bash
 .DELETE_ON_ERROR:
 .NOTPARALLEL:
 export PYTHONDONTWRITEBYTECODE := 1
-.PHONY: run test clean fmt examples tables texts page stores reference installs bench stack install uninstall
+.PHONY: run test clean fmt header examples tables texts page stores reference installs bench stack install uninstall
 .PHONY: differential noticed soak mutants stats definitions-check vectors
 
 MACHINE := $(shell uname -m)
@@ -52,10 +52,14 @@ target/bin/%: $(PROVED)
 	rt check $*
 	touch $@
 
-test: fmt examples tables texts page stores reference installs noticed differential
+test: fmt header examples tables texts page stores reference installs noticed differential
 
 fmt:
 	rt fmt --check
+
+# The header by itself, in C and in C++.
+header: target/c/header target/c++/header
+	for header in $^; do $$header; done
 
 examples: $(foreach mode,c99 cxx,$(addprefix target/$(mode)/,check decide)) target/c/maketable $(BINARY)
 	RUN='$(RUN)' tests/decide.sh target/test/decide target/c/maketable target/c99/decide target/cxx/decide
@@ -144,6 +148,14 @@ $(BINARY): $(REFERENCE)
 target/c/%: examples/%.c examples/load.h
 	mkdir -p $(@D)
 	$(CC) -std=c99 $(STRICT) -o $@ $<
+
+target/c/header: tests/header.c $(HEADER)
+	mkdir -p $(@D)
+	$(CC) -std=c99 $(STRICT) -o $@ $<
+
+target/c++/header: tests/header.c $(HEADER)
+	mkdir -p $(@D)
+	$(CXX) $(STRICT) -o $@ -x c++ $<
 
 target/c/texts: tests/texts.c examples/load.h
 	mkdir -p $(@D)
