@@ -6,7 +6,7 @@ SHELL := /bin/bash
 .DELETE_ON_ERROR:
 .NOTPARALLEL:
 export PYTHONDONTWRITEBYTECODE := 1
-.PHONY: run test clean fmt header examples tables texts page stores reference installs bench stack install uninstall
+.PHONY: run test clean fmt header examples tables texts page aims stores reference installs bench stack install uninstall
 .PHONY: differential noticed soak mutants stats definitions-check vectors
 
 MACHINE := $(shell uname -m)
@@ -52,7 +52,7 @@ target/bin/%: $(PROVED)
 	rt check $*
 	touch $@
 
-test: fmt header examples tables texts page stores reference installs noticed differential
+test: fmt header examples tables texts page aims stores reference installs noticed differential
 
 fmt:
 	rt fmt --check
@@ -76,6 +76,10 @@ texts: target/c/maketable target/c/showtable target/c/texts
 # The worked table of docs/TABLE.md.
 page: target/c/maketable target/c/showtable
 	tests/page.sh target/test/page target/c/maketable target/c/showtable
+
+# Whether make bench marks a missed aim.
+aims: target/c/aims
+	tests/aims.sh target/test/aims target/c/aims
 
 stores: target/c/store target/c++/store
 	for store in $^; do rm -rf target/test/store; mkdir -p target/test/store; $$store target/test/store; done
@@ -157,6 +161,10 @@ target/c++/header: tests/header.c $(HEADER)
 	mkdir -p $(@D)
 	$(CXX) $(STRICT) -o $@ -x c++ $<
 
+target/c/aims: tests/aims.c bench/aims.h
+	mkdir -p $(@D)
+	$(CC) -std=c99 $(STRICT) -o $@ $<
+
 target/c/texts: tests/texts.c examples/load.h
 	mkdir -p $(@D)
 	$(CC) -std=c99 $(STRICT) -o $@ $<
@@ -195,9 +203,10 @@ DECIDED := 1-short 16-short 300-short 4096-short 1-tiny 16-tiny 300-tiny 4096-ti
 samples = $(foreach size,$(1),target/bench/$(size).table target/bench/$(size).profile $(word 2,$(subst -, ,$(size))))
 
 bench: $(addprefix target/bench/,check decide) $(patsubst %,target/bench/%.table,$(sort $(CHECKED) $(DECIDED)))
-	$(CC) --version | head -n 1
-	target/bench/check $(call samples,$(CHECKED))
-	target/bench/decide $(call samples,$(DECIDED))
+	@{ $(CC) --version | head -n 1; \
+	   target/bench/check $(call samples,$(CHECKED)); \
+	   target/bench/decide $(call samples,$(DECIDED)); } | tee target/bench/report
+	@bench/summary.sh target/bench/report
 
 # How much stack the calls of the archive take.
 stack: target/c99/stack $(DECIDED:%=target/bench/%.table)
@@ -206,13 +215,13 @@ stack: target/c99/stack $(DECIDED:%=target/bench/%.table)
 target/native/libndushavire.a: bench/native-lib $(PROVED)
 	bench/native-lib ndushavire
 
-target/bench/check: bench/check.c bench/sum.c bench/samples.h bench/timing.h examples/load.h $(HEADER) $(TIMED) target/bench/libreference_c.a
+target/bench/check: bench/check.c bench/aims.h bench/sum.c bench/samples.h bench/timing.h examples/load.h $(HEADER) $(TIMED) target/bench/libreference_c.a
 	$(CC) -O3 -DSUM=sum_plain -c -o target/bench/sum-plain.o bench/sum.c
 	$(CC) -O3 $(TUNE) -DSUM=sum_native -c -o target/bench/sum-native.o bench/sum.c
 	$(CC) -std=c99 $(STRICT) -o $@ bench/check.c target/bench/sum-plain.o target/bench/sum-native.o $(TIMED) \
 	    target/bench/libreference_c.a -lpthread -ldl -lm
 
-target/bench/decide: bench/decide.c bench/requests.h bench/samples.h bench/timing.h examples/load.h $(HEADER) $(TIMED) target/bench/libreference_c.a
+target/bench/decide: bench/decide.c bench/aims.h bench/requests.h bench/samples.h bench/timing.h examples/load.h $(HEADER) $(TIMED) target/bench/libreference_c.a
 	$(CC) -std=c99 $(STRICT) -o $@ bench/decide.c $(TIMED) target/bench/libreference_c.a -lpthread -ldl -lm
 
 target/c99/stack: bench/stack.c bench/requests.h bench/samples.h examples/load.h $(HEADER) $(ARCHIVE)
