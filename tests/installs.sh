@@ -25,7 +25,8 @@ esac
 {
     printf '%s\n' "${programs[@]}" include/ndushavire.h lib/libndushavire.a lib/pkgconfig/ndushavire.pc \
         share/man/man1/{answer,tablecheck}.1 share/man/man3/ndushavire{,_check,_decide}.3 share/doc/ndushavire/README.md \
-        share/doc/ndushavire/examples/{check.c,decide.c,households.txt,load.h,maketable.c,store.h}
+        share/doc/ndushavire/examples/{check.c,decide.c,households.txt,load.h,maketable.c,showtable.c,store.h} \
+        share/doc/ndushavire/examples/{no-avps.hex,no-avps.answer,icscf-20-lir.hex,scscf-12-sar.hex}
     (cd "$top" && printf 'share/doc/ndushavire/%s\n' docs/*.md | sed 's|/docs/|/|')
 } | sed '/^$/d' | sort >"$room/expected"
 

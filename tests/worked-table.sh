@@ -1,5 +1,5 @@
 #!/usr/bin/env bash
-# page.sh ROOM MAKETABLE SHOWTABLE: the worked table of docs/TABLE.md. Its text makes the blocks that stand there, byte for byte,
+# worked-table.sh ROOM MAKETABLE SHOWTABLE: the worked table of docs/TABLE.md. Its text makes the blocks that stand there, byte for byte,
 # showtable writes that text again, and the sum that the page works out is right.
 set -euo pipefail
 room=$1 maketable=$2 showtable=$3
@@ -8,7 +8,7 @@ rm -rf "$room"
 mkdir -p "$room"
 
 fail() {
-    echo "page.sh: $*" >&2
+    echo "worked-table.sh: $*" >&2
     exit 1
 }
 sed -n '/^## A worked table/,/^## As text/p' "$page" >"$room/section"
@@ -26,4 +26,4 @@ for word in $(od -A n -v -t u4 --endian=big -j 512 -N 508 "$room/table"); do sum
 sum=$(printf %08x $((sum & 0xffffffff)))
 check=$(od -A n -t x4 --endian=big -j 1020 "$room/table" | tr -d ' ')
 grep -q -x -F "The record's first 127 words sum to $sum, and $sum + $check = 2^32." "$room/section" || fail "the page does not say that $sum is the sum"
-echo "page.sh: the worked table of TABLE.md, $(wc -l <"$room/blocks") lines of it, is what maketable makes"
+echo "worked-table.sh: the worked table of TABLE.md, $(wc -l <"$room/blocks") lines of it, is what maketable makes"
