@@ -126,14 +126,15 @@ static uint32_t part_length(void) { return one_in(3) ? 0 : one_in(30) ? PART : b
 static Bytes put_parts(uint8_t *table, size_t count) {
     const uint32_t kind = below(3);
     Bytes profile = {NULL, 0};
-    uint32_t end = kind == 0 ? 0 : below(50);
+    const int gaps = kind == 1 && one_in(2);
+    uint32_t end = kind == 0 || !gaps ? 0 : below(50);
     const size_t step = kind == 1 && count > 1 ? count - 1 : 1; /* from the last to the first */
     for (size_t i = 0, k = kind == 1 ? count - 1 : 0; i < count; i++, k = (k + step) % count) {
         const uint32_t length = part_length();
         put_part(table + BLOCK * (k + 1), end, length);
-        end += length + (kind == 1 && one_in(3) ? below(6000) : 0);
+        end += length + (gaps && one_in(3) ? below(6000) : 0);
     }
-    profile.length = end + (kind == 1 && one_in(2) ? below(9000) : 0);
+    profile.length = end + (gaps && one_in(2) ? below(9000) : 0);
     for (size_t k = 1; kind == 2 && k <= count; k++) {
         const uint32_t length = part_length();
         if (profile.length < length) continue;
