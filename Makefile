@@ -17,8 +17,8 @@ X86_CXX := g++
 RUN :=
 else
 X86_CC := x86_64-linux-gnu-gcc -static
-# The C++ examples need no library of C++; with g++ the cross package's libm.a would be wanted, which names files of another place.
-X86_CXX := x86_64-linux-gnu-gcc -static
+# gcc compiles C++ too, and unlike g++ asks for no static libm, of which Debian's script for the linker names a wrong folder.
+X86_CXX := $(X86_CC)
 RUN = $(KIT)/on/$(MACHINE)/toolchain/bin/qemu-x86_64
 endif
 # Asked for only where a recipe needs it: `make clean` works without rt.

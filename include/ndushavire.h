@@ -10,7 +10,11 @@
  * share one profile. While ndushavire_decide runs, no one else may read or write its table or its answer. Checks of
  * one table may run beside each other.
  *
- * Stack. A call takes under 48 KiB (some 37 KiB measured).
+ * The profile file is what call servers are sent of each line: bytes without a structure of their own, into which the
+ * table's records point. Table and profile file are a pair, made, checked and kept together.
+ *
+ * Stack. A call takes under 48 KiB (some 37 KiB measured). The archive has no unwind tables: a debugger's backtrace
+ * ends at the call.
  *
  * What comes here. User-Authorization, Server-Assignment and Location-Info requests. The base protocol's own
  * (Capabilities-Exchange, Device-Watchdog, Disconnect-Peer) are the daemon's: a call would answer each with B3001.
