@@ -18,7 +18,8 @@ int main(void) {
     holds(sscanf(NDUSHAVIRE_VERSION, "%u.%u.%u%c", &major, &minor, &patch, &rest) == 3 && minor < 100 && patch < 100 &&
               major * 10000 + minor * 100 + patch == NDUSHAVIRE_VERSION_NUMBER,
           "NDUSHAVIRE_VERSION_NUMBER is not that of NDUSHAVIRE_VERSION");
-    holds(NDUSHAVIRE_TABLE_MAX == NDUSHAVIRE_BLOCK * (NDUSHAVIRE_RECORDS_MAX + 1), "NDUSHAVIRE_TABLE_MAX is not the header and the most records");
+    holds(NDUSHAVIRE_TABLE_MAX == NDUSHAVIRE_BLOCK * (NDUSHAVIRE_RECORDS_MAX + 1),
+          "NDUSHAVIRE_TABLE_MAX is not the header and the most records");
 #if NDUSHAVIRE_VERSION_NUMBER < 100 || NDUSHAVIRE_TABLE_MAX < 2
     holds(0, "a number is no number to the preprocessor");
 #endif

@@ -188,7 +188,8 @@ static void loose_value(FILE *to, const char *key, const uint8_t *bytes, size_t 
 }
 
 static void loose_numbers(FILE *to, const char *key, const uint8_t *values, size_t count) {
-    for (size_t i = 0; i < count; i++) fprintf(to, "%s%s%lu", i == 0 ? key : ",", one_in(3) ? "0" : "", (unsigned long)get32(values + 4 * i));
+    for (size_t i = 0; i < count; i++)
+        fprintf(to, "%s%s%lu", i == 0 ? key : ",", one_in(3) ? "0" : "", (unsigned long)get32(values + 4 * i));
     if (count > 0) loose_gap(to);
 }
 
@@ -200,7 +201,11 @@ static void loose_record(FILE *to, const uint8_t *header, const uint8_t *record,
         case 1: loose_value(to, "private", record + 144, record[14]); break;
         case 2: if (record[15] > 0) loose_value(to, "server", record + 272, record[15]); break;
         case 3: if (record[8] > 0 || one_in(2)) fprintf(to, "state=%s ", states[record[8]]); break;
-        case 4: fprintf(to, "%s%s%s", record[9] & 4 ? "unregistered-services " : "", record[9] & 2 ? "barred " : "", record[9] & 1 ? "pending " : ""); break;
+        case 4:
+            fputs(record[9] & 4 ? "unregistered-services " : "", to);
+            fputs(record[9] & 2 ? "barred " : "", to);
+            fputs(record[9] & 1 ? "pending " : "", to);
+            break;
         case 5:
             for (unsigned n = header[15]; n-- > 0;)
                 if (record[10] >> n & 1) loose_value(to, "roaming", header + 145 + 32 * n, header[144 + 32 * n]);
@@ -274,7 +279,8 @@ static int run(const char *program, const char *first, const char *second, const
 }
 
 static void makes(const char *text, Bytes table, Bytes profile, const char *what) {
-    if (run(maketable, "table", text, "made-table") != 0 || run(maketable, "profile", text, "made-profile") != 0 || !is_empty("errors")) fail(what);
+    if (run(maketable, "table", text, "made-table") != 0 || !is_empty("errors")) fail(what);
+    if (run(maketable, "profile", text, "made-profile") != 0 || !is_empty("errors")) fail(what);
     if (!holds("made-table", table) || !holds("made-profile", profile)) fail(what);
 }
 
@@ -359,6 +365,7 @@ int main(int argc, char **argv) {
         free(profile.bytes);
     }
     if (count > 100 && (refused == 0 || refused == DAMAGES * count)) fail("no damaged table was refused, or each");
-    printf("texts: %lu tables of %lu records to text and back, byte for byte; %lu damaged ones refused (seed %lu)\n", count, records, refused, seed);
+    printf("texts: %lu tables of %lu records to text and back, byte for byte; %lu of %lu damaged ones refused (seed %lu)\n", count,
+           records, refused, DAMAGES * count, seed);
     return 0;
 }
