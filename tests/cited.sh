@@ -1,6 +1,6 @@
 #!/usr/bin/env bash
-# cited.sh ROOM CC..: in an installation, whatever the README and the manual pages cite is there: each file that they name, each page
-# of another section. Then the README's trial, word by word. RUN, if set, is the emulator.
+# cited.sh ROOM CC..: in an installation, whatever the README and the manual pages cite is there: each file that they name, each
+# manual page. Then the README's trial, word by word. RUN, if set, is the emulator.
 set -euo pipefail
 room=$1
 shift
@@ -39,8 +39,9 @@ for page in "$prefix"/share/man/man*/*; do
 done
 for page in "$readme" "$prefix"/share/man/man*/*; do
     while read -r name section; do
+        [ "$name" != sync ] || continue # of the system
         there "$prefix/share/man/man$section/$name.$section" "$page"
-    done < <({ sed -n 's/^\.Xr \([a-z_]*\) \([0-9]\).*/\1 \2/p' "$page" && grep -o -E '[a-z_]+\([13]\)' "$page" | tr '()' '  '; } | sort -u)
+    done < <({ sed -n 's/^\.Xr \([a-z_-]*\) \([0-9]\).*/\1 \2/p' "$page" && grep -o -E '[a-z_-]+\([13]\)' "$page" | tr '()' '  '; } | sort -u)
 done
 [ "$cited" -gt 20 ] || fail "only $cited citations were found"
 
