@@ -41,7 +41,10 @@ for page in "$readme" "$prefix"/share/man/man*/*; do
     while read -r name section; do
         [ "$name" != sync ] || continue # of the system
         there "$prefix/share/man/man$section/$name.$section" "$page"
-    done < <({ sed -n 's/^\.Xr \([a-z_-]*\) \([0-9]\).*/\1 \2/p' "$page" && grep -o -E '[a-z_-]+\([13]\)' "$page" | tr '()' '  '; } | sort -u)
+    done < <(case $page in
+    *.md) grep -o -E '[a-z_-]+\([13]\)' "$page" | tr '()' '  ' ;;
+    *) sed -n 's/^\.Xr \([a-z_-]*\) \([0-9]\).*/\1 \2/p' "$page" ;;
+    esac | sort -u)
 done
 [ "$cited" -gt 20 ] || fail "only $cited citations were found"
 
