@@ -16,7 +16,8 @@ X86_CXX := g++
 RUN :=
 else
 X86_CC := x86_64-linux-gnu-gcc -static
-X86_CXX := x86_64-linux-gnu-g++ -static
+# gcc compiles C++ too, and unlike g++ asks for no static libm, of which Debian's script for the linker names a wrong folder.
+X86_CXX := $(X86_CC)
 RUN = $(KIT)/on/$(MACHINE)/toolchain/bin/qemu-x86_64
 endif
 # Asked for only where a recipe needs it: `make clean` works without rt.
