@@ -6,7 +6,7 @@ SHELL := /bin/bash
 .DELETE_ON_ERROR:
 .NOTPARALLEL:
 export PYTHONDONTWRITEBYTECODE := 1
-.PHONY: run test clean fmt examples tables stores reference installs bench stack install uninstall
+.PHONY: run test clean fmt examples tables stores programs reference installs bench stack install uninstall
 .PHONY: differential noticed soak mutants stats definitions-check vectors
 
 MACHINE := $(shell uname -m)
@@ -52,7 +52,7 @@ target/bin/%: $(PROVED)
 	rt check $*
 	touch $@
 
-test: fmt examples tables stores reference installs noticed differential
+test: fmt examples tables stores programs reference installs noticed differential
 
 fmt:
 	rt fmt --check
@@ -66,6 +66,9 @@ tables: examples
 
 stores: target/c/store target/c++/store
 	for store in $^; do rm -rf target/test/store; mkdir -p target/test/store; $$store target/test/store; done
+
+programs: target/bin/answer target/bin/tablecheck target/c/maketable
+	tests/programs.sh target/test/programs target/c/maketable target/bin $(PROGRAM)
 
 reference:
 	cd reference && cargo test --offline --quiet
