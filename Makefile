@@ -63,6 +63,7 @@ examples: $(foreach mode,c99 cxx,$(addprefix target/$(mode)/,check decide)) targ
 
 tables: examples
 	RUN='$(RUN)' tests/tables.sh target/test/tables target/c/maketable target/c99/check target/cxx/check
+	RUN='$(RUN)' tests/switch.sh target/test/switch target/c/maketable target/c99/check
 
 # store.h by itself, and the daemon that ndushavire(3) shows on a disk that fails.
 stores: target/c/store target/c++/store target/c/maketable $(ARCHIVE)
