@@ -29,7 +29,7 @@ HEADER := include/ndushavire.h
 BINARY := reference/target/release/reference
 PROVED := crates.txt $(shell find crates -name '*.rt' -o -name '*.antt' -o -type d)
 # x86-64 code as well, and nothing of theirs is static: installed on x86-64 alone.
-PROGRAMS := $(if $(filter x86_64,$(MACHINE)),target/bin/answer target/bin/tablecheck)
+PROGRAMS := $(if $(filter x86_64,$(MACHINE)),target/bin/answer target/bin/tablecheck target/c99/check)
 REFERENCE := $(shell find reference -path reference/target -prune -o -name '*.rs' -print -o -name 'Cargo.*' -print)
 
 # The sample, and three answers of the program answer over it in a form to read: to a header alone, to the question where
@@ -211,35 +211,19 @@ target/bench/%.table: bench/households.sh target/c/maketable
 	target/c/maketable profile target/bench/$*.txt >target/bench/$*.profile
 	target/c/maketable table target/bench/$*.txt >$@
 
-# ---- the installation, under PREFIX and below DESTDIR if that is set
-VERSION := $(shell sed -n 's/^\#define NDUSHAVIRE_VERSION "\(.*\)"$$/\1/p' $(HEADER))
+# ---- the installation: what goes where, and how it is taken away again, is packaging/install.sh's
 PREFIX ?= /usr/local
-DESTDIR ?=
-override PREFIX := $(if $(filter /%,$(PREFIX)),$(PREFIX),$(CURDIR)/$(PREFIX))
-ROOT = $(DESTDIR)$(PREFIX)
-DOC = $(ROOT)/share/doc/ndushavire
-PAGES := man1/answer.1 man1/tablecheck.1 man3/ndushavire.3
+export PREFIX DESTDIR BINDIR LIBDIR INCLUDEDIR MANDIR DOCDIR
+.PHONY: installable
 
-install: $(ARCHIVE) $(PROGRAMS)
-	install -d '$(ROOT)/lib/pkgconfig' '$(ROOT)/include' '$(DOC)/examples' '$(ROOT)/share/man/man1' '$(ROOT)/share/man/man3'
-	install -m 644 $(ARCHIVE) '$(ROOT)/lib/'
-	install -m 644 $(HEADER) '$(ROOT)/include/'
-	sed 's|@PREFIX@|$(PREFIX)|; s|@VERSION@|$(VERSION)|' packaging/ndushavire.pc.in >'$(ROOT)/lib/pkgconfig/ndushavire.pc'
-	chmod 644 '$(ROOT)/lib/pkgconfig/ndushavire.pc'
-	for page in $(PAGES); do install -m 644 "man/$${page#*/}" "$(ROOT)/share/man/$$page"; done
-	for name in check decide; do ln -sf ndushavire.3 "$(ROOT)/share/man/man3/ndushavire_$$name.3"; done
-	install -m 644 README.md docs/*.md '$(DOC)/'
-	install -m 644 $(addprefix examples/,check.c decide.c maketable.c load.h store.h households.txt) '$(DOC)/examples/'
-ifneq ($(PROGRAMS),)
-	install -d '$(ROOT)/bin'
-	install -m 755 $(PROGRAMS) '$(ROOT)/bin/'
-endif
+installable:
+	packaging/install.sh try
+
+install: installable $(ARCHIVE) $(PROGRAMS)
+	packaging/install.sh install $(ARCHIVE) $(PROGRAMS)
 
 uninstall:
-	rm -f '$(ROOT)/lib/libndushavire.a' '$(ROOT)/include/ndushavire.h' '$(ROOT)/lib/pkgconfig/ndushavire.pc'
-	rm -f '$(ROOT)/bin/answer' '$(ROOT)/bin/tablecheck'
-	rm -f $(PAGES:%='$(ROOT)/share/man/%') '$(ROOT)/share/man/man3/ndushavire_check.3' '$(ROOT)/share/man/man3/ndushavire_decide.3'
-	rm -rf '$(DOC)'
+	packaging/install.sh uninstall
 
 clean:
 	rm -rf target reference/target
