@@ -34,7 +34,8 @@ docdir=$(absolute DOCDIR "${DOCDIR:-$prefix/share/doc/ndushavire}")
 below=${DESTDIR-}
 note=$docdir/installed
 
-# ---- what goes where: a file of the tree, its place and its mode
+# ---- what goes where: a file of the tree, its place and its mode. Two captured requests go with the examples, to be tried.
+requests=(tests/captured/icscf-20-lir.hex tests/captured/scscf-12-sar.hex)
 sources=() places=() modes=()
 goes() { # SOURCE PLACE MODE
     sources+=("$1") places+=("$2") modes+=("$3")
@@ -45,7 +46,7 @@ list_files() { # ARCHIVE PROGRAM..
     goes include/ndushavire.h "$includedir/ndushavire.h" 644
     for file in man/*; do goes "$file" "$mandir/man${file##*.}/${file#man/}" 644; done
     for file in README.md docs/*.md; do goes "$file" "$docdir/${file##*/}" 644; done
-    for file in examples/*; do goes "$file" "$docdir/$file" 644; done
+    for file in examples/* "${requests[@]}"; do goes "$file" "$docdir/examples/${file##*/}" 644; done
     for file in "${@:2}"; do
         name=${file##*/}
         [ "$name" != check ] || name=ndushavire-check
