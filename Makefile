@@ -7,7 +7,7 @@ SHELL := /bin/bash
 .DELETE_ON_ERROR:
 .NOTPARALLEL:
 export PYTHONDONTWRITEBYTECODE := 1
-.PHONY: help run test clean fmt kit pages header examples tables texts aims stores reference installs cited bench stack install uninstall
+.PHONY: help run test clean fmt kit pages header examples tables texts aims stores programs reference installs cited bench stack installable install uninstall
 .PHONY: differential noticed soak mutants stats definitions-check vectors
 
 MACHINE := $(shell uname -m)
@@ -30,7 +30,7 @@ HEADER := include/ndushavire.h
 BINARY := reference/target/release/reference
 PROVED := crates.txt $(shell find crates -name '*.rt' -o -name '*.antt' -o -type d)
 # x86-64 code as well, and nothing of theirs is static: installed on x86-64 alone.
-PROGRAMS := $(if $(filter x86_64,$(MACHINE)),target/bin/answer target/bin/tablecheck)
+PROGRAMS := $(if $(filter x86_64,$(MACHINE)),target/bin/answer target/bin/tablecheck target/c99/check)
 REFERENCE := $(shell find reference -path reference/target -prune -o -name '*.rs' -print -o -name 'Cargo.*' -print)
 
 #: help               this list
@@ -59,7 +59,7 @@ target/bin/%: $(PROVED)
 	touch $@
 
 #: test               every test from fmt to differential below, some 3 minutes once the library is proved
-test: fmt kit pages header examples tables texts aims stores reference installs cited noticed differential
+test: fmt kit pages header examples tables texts aims stores programs reference installs cited noticed differential
 
 #: fmt                whether crates/ is in the kit's layout
 fmt:
@@ -83,9 +83,10 @@ examples: $(foreach mode,c99 cxx,$(addprefix target/$(mode)/,check decide)) targ
 	RUN='$(RUN)' tests/decide.sh target/test/decide target/c/maketable target/c99/decide target/cxx/decide
 	RUN='$(RUN)' tests/captured.sh target/test/captured target/c/maketable $(BINARY) target/c99/decide target/cxx/decide
 
-#: tables             tables made from text, and damaged ones: is the first bad block named
+#: tables             tables made from text, damaged ones, and the switch to a new one as tablecheck(1) has it
 tables: examples target/c/showtable
 	RUN='$(RUN)' tests/tables.sh target/test/tables target/c/maketable target/c/showtable target/c99/check target/cxx/check
+	RUN='$(RUN)' tests/switch.sh target/test/switch target/c/maketable target/c99/check
 
 COUNT_texts := 2000
 #: texts              from a table to text and back, over 2,000 random tables; half a minute
@@ -96,9 +97,14 @@ texts: target/c/maketable target/c/showtable target/c/texts
 aims: target/c/aims
 	tests/aims.sh target/test/aims target/c/aims
 
-#: stores             a table stored while calls of the system fail
-stores: target/c/store target/c++/store
-	for store in $^; do rm -rf target/test/store; mkdir -p target/test/store; $$store target/test/store; done
+#: stores             store.h by itself, and the daemon that ndushavire(3) shows, on a disk that fails
+stores: target/c/store target/c++/store target/c/maketable $(ARCHIVE)
+	for store in target/c/store target/c++/store; do rm -rf target/test/store; mkdir -p target/test/store; $$store target/test/store; done
+	RUN='$(RUN)' tests/daemon.sh target/test/daemon target/c/maketable $(ARCHIVE) $(X86_CC)
+
+#: programs           arguments of the programs answer and tablecheck
+programs: target/bin/answer target/bin/tablecheck target/c/maketable
+	tests/programs.sh target/test/programs target/c/maketable target/bin $(PROGRAM)
 
 #: reference          the independent program's own tests
 reference:
@@ -268,39 +274,20 @@ target/bench/%.table: bench/households.sh target/c/maketable
 	target/c/maketable profile target/bench/$*.txt >target/bench/$*.profile
 	target/c/maketable table target/bench/$*.txt >$@
 
-# ---- the installation, under PREFIX and below DESTDIR if that is set
-VERSION := $(shell sed -n 's/^\#define NDUSHAVIRE_VERSION "\(.*\)"$$/\1/p' $(HEADER))
+# ---- the installation: what goes where, and how it is taken away again, is packaging/install.sh's
 PREFIX ?= /usr/local
-DESTDIR ?=
-override PREFIX := $(if $(filter /%,$(PREFIX)),$(PREFIX),$(CURDIR)/$(PREFIX))
-ROOT = $(DESTDIR)$(PREFIX)
-DOC = $(ROOT)/share/doc/ndushavire
-INSTALLED_EXAMPLES := $(addprefix examples/,check.c decide.c maketable.c showtable.c load.h store.h households.txt no-avps.hex no-avps.answer) \
-    $(addprefix tests/captured/,icscf-20-lir.hex scscf-12-sar.hex)
-PAGES := man1/answer.1 man1/tablecheck.1 man3/ndushavire.3
+export PREFIX DESTDIR BINDIR LIBDIR INCLUDEDIR MANDIR DOCDIR
+#: installable        whether make install could, without doing it
+installable:
+	packaging/install.sh try
 
 #: install            archive, header, programs, manual pages, examples under PREFIX (/usr/local), below DESTDIR if that is set
-install: $(ARCHIVE) $(PROGRAMS)
-	install -d '$(ROOT)/lib/pkgconfig' '$(ROOT)/include' '$(DOC)/examples' '$(ROOT)/share/man/man1' '$(ROOT)/share/man/man3'
-	install -m 644 $(ARCHIVE) '$(ROOT)/lib/'
-	install -m 644 $(HEADER) '$(ROOT)/include/'
-	sed 's|@PREFIX@|$(PREFIX)|; s|@VERSION@|$(VERSION)|' packaging/ndushavire.pc.in >'$(ROOT)/lib/pkgconfig/ndushavire.pc'
-	chmod 644 '$(ROOT)/lib/pkgconfig/ndushavire.pc'
-	for page in $(PAGES); do install -m 644 "man/$${page#*/}" "$(ROOT)/share/man/$$page"; done
-	for name in check decide; do ln -sf ndushavire.3 "$(ROOT)/share/man/man3/ndushavire_$$name.3"; done
-	install -m 644 packaging/README.md docs/*.md '$(DOC)/'
-	install -m 644 $(INSTALLED_EXAMPLES) '$(DOC)/examples/'
-ifneq ($(PROGRAMS),)
-	install -d '$(ROOT)/bin'
-	install -m 755 $(PROGRAMS) '$(ROOT)/bin/'
-endif
+install: installable $(ARCHIVE) $(PROGRAMS)
+	packaging/install.sh install $(ARCHIVE) $(PROGRAMS)
 
 #: uninstall          takes all that away again
 uninstall:
-	rm -f '$(ROOT)/lib/libndushavire.a' '$(ROOT)/include/ndushavire.h' '$(ROOT)/lib/pkgconfig/ndushavire.pc'
-	rm -f '$(ROOT)/bin/answer' '$(ROOT)/bin/tablecheck'
-	rm -f $(PAGES:%='$(ROOT)/share/man/%') '$(ROOT)/share/man/man3/ndushavire_check.3' '$(ROOT)/share/man/man3/ndushavire_decide.3'
-	rm -rf '$(DOC)'
+	packaging/install.sh uninstall
 
 #: clean              removes target/ and reference/target/
 clean:

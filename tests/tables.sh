@@ -194,9 +194,19 @@ ends() { # STATUS COMMAND..
     [ "$status" = "$1" ] && [ ! -s "$room/said" ] && [ -s "$room/errors" ] || fail "${*:2}: not reported, or status $status instead of $1"
     tried=$((tried + 1))
 }
+version=$(sed -n 's/^#define NDUSHAVIRE_VERSION "\(.*\)"$/\1/p' "$(dirname "$0")/../include/ndushavire.h")
 for check in "${checks[@]}"; do
     ends 2 "${run[@]}" "$check" "$table" "$room/none"
+    ends 2 "${run[@]}" "$check" "$room" "$profile"
+    ends 2 "${run[@]}" "$check"
     ends 2 "${run[@]}" "$check" "$table"
+    ends 2 "${run[@]}" "$check" "$table" "$profile" "$profile"
+    ends 2 "${run[@]}" "$check" --version "$profile"
+    ends 2 bash -c '"$@" >/dev/full' - "${run[@]}" "$check" "$table" "$profile"
+    ends 2 bash -c '"$@" >&-' - "${run[@]}" "$check" "$table" "$profile"
+    ends 2 bash -c '"$@" >/dev/full' - "${run[@]}" "$check" --help
+    [ "$("${run[@]}" "$check" --version)" = "ndushavire-check $version" ] || fail "$check --version does not say $version"
+    [[ $("${run[@]}" "$check" --help) == 'usage: ndushavire-check '* ]] || fail "$check --help says nothing of its use"
 done
 ends 2 "$maketable"
 ends 2 "$maketable" record "$text"

@@ -1,10 +1,10 @@
 use Rattle.files.proofs.Counts.{got-within, got-front}
 use borrow.Author.Needs.{needs}
-use Rattle.answer.proofs.main.Statement.{statement}
-use Rattle.answer.proofs.main.Tie as tie
+use Rattle.answer.proofs.take_table.Statement.{statement}
+use Rattle.answer.proofs.take_table.Tie as tie
 
-pub main-spec : {M : Type 1} → statement M
-main-spec =
+pub take-table-spec : {M : Type 1} → statement M
+take-table-spec =
     tie.close
     (tie.spec
     (λ c. search needs)
