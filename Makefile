@@ -7,7 +7,7 @@ SHELL := /bin/bash
 .NOTPARALLEL:
 export PYTHONDONTWRITEBYTECODE := 1
 .PHONY: run test clean fmt examples tables stores reference installs bench stack install uninstall
-.PHONY: differential noticed soak mutants stats definitions-check vectors
+.PHONY: differential noticed soak mutants stats definitions-check cases
 
 MACHINE := $(shell uname -m)
 ifeq ($(MACHINE),x86_64)
@@ -119,10 +119,10 @@ COUNT_DEFINITIONS := 300
 definitions-check: $(BINARY)
 	RT_JOBS=2 tests/definitions.py $(BINARY) $(SEED) $(COUNT_DEFINITIONS)
 
-# Writes crates/vectors/stdin and stdout anew: the cases that the program vectors runs in the gate, and what the
-# independent program says of them.
-vectors: $(BINARY)
-	tests/vectors.py $(BINARY) crates/vectors
+# Writes crates/cases/stdin and stdout anew: what the gate's program `cases` runs, and what the independent program says
+# of it.
+cases: $(BINARY)
+	tests/cases.py $(BINARY) crates/cases
 
 $(ARCHIVE): $(PROVED)
 	rt staticlib ndushavire

@@ -1,6 +1,6 @@
 use borrow.Author.Needs.{needs}
-use Rattle.vectors.proofs.main.Statement.{statement}
-use Rattle.vectors.proofs.main.Tie as tie
+use Rattle.cases.proofs.main.Statement.{statement}
+use Rattle.cases.proofs.main.Tie as tie
 
 abbrev Inv-loop : tie.InvT-loop
 Inv-loop turns₀ turns = Unit {0}

@@ -1,11 +1,11 @@
 use native.Mathlib.Omega.{arith}
 use Rattle.files.proofs.Counts.{front}
 use borrow.Author.Needs.{needs}
-use Rattle.vectors.proofs.take_request.Statement.{statement}
-use Rattle.vectors.proofs.take_request.Tie as tie
+use Rattle.cases.proofs.take_profile.Statement.{statement}
+use Rattle.cases.proofs.take_profile.Tie as tie
 
-pub take-request-spec : {M : Type 1} → statement M
-take-request-spec =
+pub take-profile-spec : {M : Type 1} → statement M
+take-profile-spec =
     tie.close
     (tie.spec
     (λ c. search needs)
@@ -15,4 +15,5 @@ take-request-spec =
     (λ c. search needs)
     (λ c. front _ _ (omega arith))
     (λ c κs. search needs)
+    (λ c. search needs)
     (λ c. search needs))

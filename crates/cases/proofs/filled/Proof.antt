@@ -1,8 +1,8 @@
 use native.Mathlib.Omega.{arith}
 use Rattle.files.proofs.Counts.{front}
 use borrow.Author.Needs.{needs}
-use Rattle.vectors.proofs.filled.Statement.{statement}
-use Rattle.vectors.proofs.filled.Tie as tie
+use Rattle.cases.proofs.filled.Statement.{statement}
+use Rattle.cases.proofs.filled.Tie as tie
 
 pub filled-spec : {M : Type 1} → statement M
 filled-spec =

@@ -1,19 +1,18 @@
 use native.Mathlib.Omega.{arith}
 use Rattle.files.proofs.Counts.{front}
 use borrow.Author.Needs.{needs}
-use Rattle.vectors.proofs.call.Statement.{statement}
-use Rattle.vectors.proofs.call.Tie as tie
+use Rattle.cases.proofs.take_table.Statement.{statement}
+use Rattle.cases.proofs.take_table.Tie as tie
 
-pub call-spec : {M : Type 1} → statement M
-call-spec =
+pub take-table-spec : {M : Type 1} → statement M
+take-table-spec =
     tie.close
     (tie.spec
-    (λ c κs. search needs)
     (λ c. search needs)
+    (λ c. search needs)
+    (λ c κs. search needs)
     (λ c. search needs)
     (λ c. search needs)
     (λ c. front _ _ (omega arith))
     (λ c κs. search needs)
-    (λ c. search needs)
-    (λ c. search needs)
     (λ c. search needs))

@@ -1,5 +1,5 @@
 #!/usr/bin/env python3
-"""vectors.py REFERENCE CRATE: writes CRATE/stdin, the cases that the program `vectors` runs, and CRATE/stdout, their outcomes.
+"""cases.py REFERENCE CRATE: writes CRATE/stdin, the cases that the program `cases` runs, and CRATE/stdout, their outcomes.
 
 Both are the independent program's: it makes the cases and says their outcomes. Chosen are small cases: for each of its deliberate
 faults one that shows it; of each result one, and then more: a refusal with what it returns besides; a command with its result; of a
