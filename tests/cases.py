@@ -8,9 +8,10 @@ identities. After them stand the requests of real software in captured/, each ov
 is random: a second run writes the same bytes."""
 import collections, pathlib, struct, sys
 
-from streams import HEAD, answer, avps, cases, made, outcomes, run, slices
+import streams
+from streams import answer, avps, made, outcomes, run
 
-MOST = 650_000  # bytes of cases
+MOST = 649_500  # bytes of cases
 CX = 10415
 RULES = tuple(('B', n) for n in (5001, 5004, 5014, 3009, 5011, 3008, 3001, 3007))
 KNOWN = {(n, 0) for n in (263, 260, 277, 264, 296, 293, 283, 1, 284, 282)} | {(n, CX) for n in (601, 600, 623, 602, 614, 624)}
@@ -31,8 +32,9 @@ def row(case, outcome):
     """What a case comes to, and what its answer carries."""
     if outcome.word >> 48 or case.entry == 1:
         several = case.entry == 1 or outcome.word >> 48 == 5  # a bad block has many causes
-        return (case.entry, outcome.word, case.sizes[0] > 16384), case.fill % 6 if several else 0
-    asked, table, _ = slices(case)
+        return (case.entry, outcome.word, streams.sizes(case).get('request', 0) > 16384), case.fill % 6 if several else 0
+    held = streams.slices(case)
+    asked, table = held['request'], held['table']
     said, carried = None, []
     for kind, data in avps(answer(case, outcome)[20:]):
         if kind == (268, 0):
@@ -54,14 +56,15 @@ def row(case, outcome):
 
 
 def fits(case):
-    """Whether the program has room for a case."""
-    request, table, profile = case.sizes
-    return request <= 20000 and table <= 4096 and profile <= 8192 and case.room <= 40000
+    """Whether the program has room for a case, 40,000 bytes for a slice and 65,536 for all, and the table is of few records."""
+    sizes = streams.sizes(case)
+    return max(sizes.values()) <= 40000 and sum(sizes.values()) <= 65536 and sizes['table'] <= 4096
 
 
 def small(case):
-    request, table, profile = case.sizes
-    return table <= 2048 and profile <= 700 and (request <= 900 or request > 16384)
+    sizes = streams.sizes(case)
+    request = sizes.get('request', 0)
+    return sizes['table'] <= 2048 and sizes['profile'] <= 700 and (request <= 900 or request > 16384)
 
 
 def fitting(reference):
@@ -69,7 +72,7 @@ def fitting(reference):
     found = []
     for kind, seeds, count in (('tables', (1,), 4000), ('calls', range(1, 6), 20000)):
         for seed in seeds:
-            found += [case for case in cases(made(reference, kind, seed, count)) if fits(case)]
+            found += [case for case in streams.cases(made(reference, kind, seed, count)) if fits(case)]
     return sorted(found, key=lambda case: len(case.whole))
 
 
@@ -138,7 +141,7 @@ def real(folder):
     for path in sorted(folder.glob('*.hex')):
         lines = [line for line in path.read_text().splitlines() if not line.startswith('#')]
         request = bytes.fromhex(''.join(lines))
-        yield HEAD.pack(2, 0, 0, len(request), len(table), len(profile), 36864) + request + table + profile
+        yield streams.case(2, 0, request, table, profile, 36864)
 
 
 def main():

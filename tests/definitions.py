@@ -25,7 +25,9 @@ Case = collections.namedtuple('Case', 'request table profile room word at change
 
 def read(made, told):
     for case, outcome in zip(streams.cases(made), streams.outcomes(told)):
-        yield Case(*streams.slices(case), case.room, outcome.word, *outcome.table, streams.answer(case, outcome))
+        held, changes = streams.slices(case), streams.changes(case, outcome)
+        yield Case(held['request'], held['table'], held['profile'], len(held['buffer']), outcome.word, *changes['table'],
+                   streams.answer(case, outcome))
 
 
 def small(case):

@@ -17,4 +17,5 @@ pub mod serve;
 pub mod show;
 pub mod slip;
 pub mod stats;
+pub mod streams;
 pub mod table;

@@ -1,146 +1,82 @@
-// The cases of the independent program, from standard input: each is called, and its outcome is written as that program writes
-// its own. What it wrote of the same cases is this program's expected output.
+// The gate's cases, from standard input: each is called, and its outcome is written. What the independent program says of the same cases
+// is this program's expected output. reference/README.md has the form of both, under "Streams".
+mod calls;
 mod noise;
 mod outcome;
+mod words;
 
 use files::Got;
-use octets::run;
 ghost use Prim.Native.Nat.{_≤_};
 ghost use lib.ListN.{length};
 
-// What stands before the bytes of a case.
-pub struct Head {
-    entry: u8,
-    fill: u8,
-    request: usize,
-    table: usize,
-    profile: usize,
-    buffer: usize,
-}
-
-// The entry that is the table's check.
-const CHECK: u8 = 1;
-
-fn of_four(a: u8, b: u8, c: u8, d: u8) -> usize {
-    (a as usize) + (b as usize) * 256 + (c as usize) * 65536 + (d as usize) * 16777216
-}
-
-fn length_at(s: &[u8], at: usize) -> usize
-    requires { ⌜ at ≤ 16 ⌝ }
-    requires { ⌜ 20 ≤ length (now s) ⌝ }
-{
-    of_four(s[at], s[at + 1], s[at + 2], s[at + 3])
-}
-
-fn head_of(s: &[u8]) -> Head
-    requires { ⌜ 20 ≤ length (now s) ⌝ }
-{
-    let entry = s[0];
-    let fill = s[1];
-    let request = length_at(s, 4);
-    let table = length_at(s, 8);
-    let profile = length_at(s, 12);
-    let buffer = length_at(s, 16);
-    Head {
-        entry,
-        fill,
-        request,
-        table,
-        profile,
-        buffer,
-    }
-}
-
-// Whether standard input gave n bytes more.
-fn filled(out: &mut [u8], n: usize) -> bool
-    requires { ⌜ n ≤ length (now out) ⌝ }
-{
-    let Got::Bytes(got) = files::load_input(&mut out[..n]) else {
+// Whether standard input had as many bytes more as out has room for.
+fn filled(out: &mut [u8]) -> bool {
+    let Got::Bytes(got) = files::load_input(out) else {
         return false;
     };
-    got == n
+    got == out.len()
 }
 
-// The call of an entry, with a buffer of n bytes.
-fn call(entry: u8, req: &[u8], t: &mut [u8], file: &[u8], out: &mut [u8], n: usize) -> u64
-    requires { ⌜ n ≤ length (now out) ⌝ }
+// Puts there what a slice holds before the call.
+fn hold(out: &mut [u8], noisy: bool, fill: u8) -> bool
+    requires { ⌜ length (now out) ≤ 65536 ⌝ }
 {
-    if entry == CHECK {
-        return ndushavire::ndushavire_check(t, file);
+    if noisy {
+        noise::fill(out, fill);
+        return true;
     }
-    ndushavire::ndushavire_decide(req, t, file, &mut out[..n])
+    filled(out)
 }
 
-// Both buffers hold the same noise: one is lent, the other shows what changed. So do was and t of the table.
-fn decide(h: Head, req: &[u8], was: &[u8], t: &mut [u8], file: &[u8]) -> bool
-    requires { ⌜ length (now t) ≤ length (now was) ⌝ }
+// Puts n slices there, one behind the other; false if they have no room or the input ends.
+fn hold_all(given: &mut [u8], w: &[u8; 64], n: usize, fill: u8) -> bool
+    requires { ⌜ (length (now given) ≤ 65536) × (n ≤ 16) ⌝ }
 {
-    let n = h.buffer;
-    if 40000 < n {
-        return false;
+    let mut at = 0;
+    for s in 0..n {
+        let more = words::length_of(w, s);
+        if given.len() - at < more {
+            return false;
+        }
+        if !hold(&mut given[at..at + more], words::is_noise(w, s), fill) {
+            return false;
+        }
+        at += more;
     }
-    let mut out = [0u8; 40000];
-    let mut before = [0u8; 40000];
-    noise::fill(&mut out, h.fill);
-    noise::fill(&mut before, h.fill);
-    let w = call(h.entry, req, t, file, &mut out, n);
-    outcome::put(w, was, t, &before, &out, n)
+    true
 }
 
-fn take_profile(h: Head, req: &[u8], was: &[u8], t: &mut [u8]) -> bool
-    requires { ⌜ length (now t) ≤ length (now was) ⌝ }
+// A case behind its first four bytes, which are entry, fill and how many slices and numbers there are.
+fn run(entry: u8, fill: u8, slices: usize, numbers: usize) -> bool
+    requires { ⌜ (slices ≤ 255) × (numbers ≤ 255) ⌝ }
 {
-    let n = h.profile;
-    if 8192 < n {
+    let n = slices + numbers;
+    if 16 < n {
         return false;
     }
-    let mut space = [0u8; 8192];
-    if !filled(&mut space, n) {
+    let mut w = [0u8; 64];
+    if !filled(&mut w[..4 * n]) {
         return false;
     }
-    decide(h, req, was, t, &space[..n])
+    let mut given = [0u8; 65536];
+    if !hold_all(&mut given, &w, slices, fill) {
+        return false;
+    }
+    calls::call(entry, &given, &w)
 }
 
-fn keep_table(h: Head, req: &[u8], t: &mut [u8]) -> bool {
-    if 4096 < t.len() {
-        return false;
-    }
-    let mut was = [0u8; 4096];
-    run::copy(&mut was, t);
-    take_profile(h, req, &was, t)
-}
-
-fn take_table(h: Head, req: &[u8]) -> bool {
-    let n = h.table;
-    if 4096 < n {
-        return false;
-    }
-    let mut space = [0u8; 4096];
-    if !filled(&mut space, n) {
-        return false;
-    }
-    keep_table(h, req, &mut space[..n])
-}
-
-fn take_request(h: Head) -> bool {
-    let n = h.request;
-    if 20000 < n {
-        return false;
-    }
-    let mut space = [0u8; 20000];
-    if !filled(&mut space, n) {
-        return false;
-    }
-    take_table(h, &space[..n])
-}
-
-// One case: false at the end of the input, or where a case is larger than the room for it.
+// One case: false at the end of the input, or where there is no room for a case.
 fn one_case() -> bool {
-    let mut head = [0u8; 20];
-    if !filled(&mut head, 20) {
+    let mut head = [0u8; 4];
+    if !filled(&mut head) {
         return false;
     }
-    take_request(head_of(&head))
+    run(
+        head[0],
+        head[1],
+        octets::wide(head[2]),
+        octets::wide(head[3]),
+    )
 }
 
 fn main() {

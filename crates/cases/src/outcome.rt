@@ -1,27 +1,18 @@
-// An outcome: the word, six flags, and what changed in the table and in the buffer, from the first changed byte to the last.
+// An outcome: the word, that nothing was altered that may not be, and what changed in each slice that is written to, from the first
+// changed byte to the last.
 use libc::STDOUT_FILENO;
+use octets::number;
 ghost use Prim.Native.Nat.{_≤_};
 ghost use lib.ListN.{length};
 
-// The request, the profile file and what lies around the four slices are as they were: nothing here could change them.
-const UNALTERED: u64 = 63;
-
-// A number, its lowest byte first.
-fn store(out: &mut [u8], n: u64) {
-    let mut rest = n;
-    for i in 0..out.len() {
-        out[i] = (rest % 256) as u8;
-        rest /= 256;
-    }
-}
-
-// The lowest k bytes of a number.
-fn put_number(n: u64, k: usize) -> bool
-    requires { ⌜ k ≤ 8 ⌝ }
-{
-    let mut bytes = [0u8; 8];
-    store(&mut bytes, n);
-    io::write_all(STDOUT_FILENO, &bytes[..k])
+// What stands before the changes: the word, four bytes of zeros, since nothing here could alter what is lent to be read, and how many
+// changes there are.
+pub fn put(word: u64, changes: u8) -> bool {
+    let mut bytes = [0u8; 13];
+    number::put_be32(&mut bytes, 0, (word / 4294967296) as u32);
+    number::put_be32(&mut bytes, 4, (word % 4294967296) as u32);
+    bytes[12] = changes;
+    io::write_all(STDOUT_FILENO, &bytes)
 }
 
 // The first of n bytes that changed; 0 if none did.
@@ -54,22 +45,20 @@ fn past_change(before: &[u8], after: &[u8], from: usize, n: usize) -> usize
     end
 }
 
-fn put_change(before: &[u8], after: &[u8], n: usize) -> bool
-    requires { ⌜ (n ≤ length (now before)) × (n ≤ length (now after)) ⌝ }
+fn put_changed(before: &[u8], after: &[u8]) -> bool
+    requires { ⌜ (length (now before) ≤ length (now after)) × (length (now before) ≤ 40000) ⌝ }
 {
-    let first = first_change(before, after, n);
-    let past = past_change(before, after, first, n);
-    put_number(first as u64, 4)
-        & put_number((past - first) as u64, 4)
-        & io::write_all(STDOUT_FILENO, &after[first..past])
+    let first = first_change(before, after, before.len());
+    let past = past_change(before, after, first, before.len());
+    let mut bytes = [0u8; 8];
+    number::put_be32(&mut bytes, 0, first as u32);
+    number::put_be32(&mut bytes, 4, (past - first) as u32);
+    io::write_all(STDOUT_FILENO, &bytes) & io::write_all(STDOUT_FILENO, &after[first..past])
 }
 
-// Writes the outcome of a call over a buffer of n bytes, and says whether it was written.
-pub fn put(w: u64, was: &[u8], t: &[u8], before: &[u8], out: &[u8], n: usize) -> bool
-    requires { ⌜ (length (now t) ≤ length (now was)) × (n ≤ length (now before)) × (n ≤ length (now out)) ⌝ }
+// What changed in a slice, which lies at the front of after.
+pub fn put_change(before: &[u8], after: &[u8; 40000]) -> bool
+    requires { ⌜ length (now before) ≤ 40000 ⌝ }
 {
-    put_number(w, 8)
-        & put_number(UNALTERED, 4)
-        & put_change(was, t, t.len())
-        & put_change(before, out, n)
+    put_changed(before, after)
 }

@@ -6,7 +6,7 @@ use super::damage;
 use super::model::{RecordModel, TableModel};
 use super::names;
 use super::Made;
-use crate::cases::{Case, Entry};
+use crate::cases::Case;
 use crate::rng::Rng;
 use crate::table::{
     BARRED, LONGEST_HOST, LONGEST_IDENTITY, LONGEST_PROFILE, LONGEST_SERVER_NAME, MOST_CAPABILITIES, MOST_NETWORKS,
@@ -44,15 +44,7 @@ pub fn case(rng: &mut Rng) -> Made {
             damaged = None;
         }
     }
-    let case = Case {
-        entry: Entry::Check,
-        noise_from: rng.byte(),
-        request: vec![],
-        table: subject.bytes,
-        profile: subject.profile,
-        buffer_length: 0,
-    };
-    Made { case, notes, damaged }
+    Made { case: Case::check(rng.byte(), subject.bytes, subject.profile), notes, damaged }
 }
 
 /// A number of records from 13 to 4,096: each power of 2 as often as another, and as often as not the power itself or

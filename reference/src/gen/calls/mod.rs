@@ -9,7 +9,7 @@ use super::request::RequestModel;
 use super::tables::{self, Sound};
 use super::twists;
 use super::Made;
-use crate::cases::{Case, Entry};
+use crate::cases::Case;
 use crate::rng::Rng;
 use crate::serve::LEAST_BUFFER;
 
@@ -91,14 +91,8 @@ impl Call {
     }
 
     fn with_request(self, rng: &mut Rng, request: Vec<u8>) -> Made {
-        let case = Case {
-            entry: Entry::Decide,
-            noise_from: rng.byte(),
-            request,
-            table: self.sound.model.encode(),
-            profile: self.sound.profile,
-            buffer_length: self.buffer_length,
-        };
+        let table = self.sound.model.encode();
+        let case = Case::decide(rng.byte(), request, table, self.sound.profile, self.buffer_length);
         Made { case, notes: self.notes, damaged: None }
     }
 }
