@@ -1,9 +1,9 @@
 //! A case and its outcomes, as a person reads them.
 
+use crate::block::BLOCK;
 use crate::cases::{altered_bits, Case, Change, Entry, Outcome, Slice};
 use crate::gen::{Made, Stream};
 use crate::show::hex;
-use crate::table::BLOCK;
 
 /// Lines of 32 bytes.
 pub fn lines(bytes: &[u8]) -> String {

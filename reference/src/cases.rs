@@ -4,9 +4,10 @@ use std::borrow::Cow;
 
 use self::Lent::{Read, Written};
 use self::Slice::{Buffer, Profile, Request, Table};
-use crate::serve::{self, Why};
+use crate::serve;
 use crate::slip::Slip;
 use crate::table;
+use crate::verdict::Why;
 
 /// An entry, under its number in the streams.
 #[derive(Clone, Copy, PartialEq, Eq, Debug)]
