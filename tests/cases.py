@@ -76,13 +76,23 @@ def fitting(reference):
     return sorted(found, key=lambda case: len(case.whole))
 
 
+def showing(reference, fault, found, told):
+    """The first case that shows a fault, if one does; most are shown by one of the first thousand."""
+    at, count = 0, 1000
+    while at < len(found):
+        some = found[at:at + count]
+        wrong = outcomes(run(reference, 'outcomes', '--fault', fault, given=b''.join(case.whole for case in some)))
+        for case, right, other in zip(some, told[at:at + count], wrong):
+            if right.whole != other.whole:
+                return case.whole
+        at, count = at + count, 2 * count
+
+
 def telling(reference, found, told):
     """For each deliberate fault of the independent program the first case that shows it."""
-    stream = b''.join(case.whole for case in found)
     for line in run(reference, 'faults').decode().splitlines():
         fault = line.split()[0]
-        wrong = outcomes(run(reference, 'outcomes', '--fault', fault, given=stream))
-        case = next((case.whole for case, right, other in zip(found, told, wrong) if right.whole != other.whole), None)
+        case = showing(reference, fault, found, told)
         if case is None:
             print(f'no case shows {fault}')
         else:
