@@ -89,8 +89,8 @@ differential: target/c99/driver $(BINARY)
 	    $(BINARY) compare --kind $${of%:*} --seed $(SEED) --count $${of#*:} -- $(DRIVER); \
 	done
 
-noticed: $(BINARY)
-	tests/noticed.sh $(BINARY)
+noticed: target/c99/overstep $(BINARY)
+	tests/noticed.sh $(BINARY) $(RUN) target/c99/overstep
 
 # 5,000,000 tables and as many calls. Each round has the next seed: with SEED=N ROUNDS=M a run that was stopped goes on.
 ROUNDS := 50
@@ -146,6 +146,10 @@ target/c++/store: tests/store.c examples/store.h examples/load.h
 target/c99/driver: tests/driver.c $(HEADER) $(ARCHIVE)
 	mkdir -p $(@D)
 	$(X86_CC) -std=c99 $(STRICT) -o $@ $< $(ARCHIVE)
+
+target/c99/overstep: tests/overstep.c tests/driver.c $(HEADER) $(ARCHIVE)
+	mkdir -p $(@D)
+	$(X86_CC) -std=c99 $(STRICT) -Wl,--wrap=ndushavire_check -o $@ tests/overstep.c tests/driver.c $(ARCHIVE)
 
 target/c99/%: examples/%.c examples/load.h $(HEADER) $(ARCHIVE)
 	mkdir -p $(@D)

@@ -27,7 +27,7 @@ pub fn case(stream: Stream, seed: u64, number: u64, made: &Made) {
     println!("case {number} of seed {seed} (gen --kind {} --seed {seed} --from {number} --count 1)", stream.name());
     println!("  made by: {}", made.notes.join(", "));
     for (lent, held) in case.entry.lent().iter().zip(&case.slices) {
-        println!("  {} of {} bytes", lent.slice().name(), held.len());
+        println!("  {} of {} bytes", lent.slice().name(), held.length());
         if lent.slice() == Slice::Request {
             println!("{}", lines(&case.held(Slice::Request)));
         }

@@ -137,15 +137,11 @@ impl Entry {
 }
 
 impl Held {
-    pub fn len(&self) -> usize {
+    pub fn length(&self) -> usize {
         match self {
             Held::Bytes(bytes) => bytes.len(),
             Held::Noise(length) => *length,
         }
-    }
-
-    pub fn is_empty(&self) -> bool {
-        self.len() == 0
     }
 
     fn bytes(&self, fill: u8) -> Cow<'_, [u8]> {

@@ -17,7 +17,7 @@ impl Case {
         for (held, lent) in self.slices.iter().zip(self.entry.lent()) {
             let written = if lent.written() { WRITTEN } else { 0 };
             let noise = if matches!(held, Held::Noise(_)) { NOISE } else { 0 };
-            write_u32(to, held.len() as u32 | written | noise)?;
+            write_u32(to, held.length() as u32 | written | noise)?;
         }
         for number in &self.numbers {
             write_u32(to, *number)?;
