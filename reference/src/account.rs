@@ -53,7 +53,7 @@ pub fn difference(stream: Stream, seed: u64, number: u64, made: &Made, own: &Out
             println!("  the {} was altered", slice.name());
         }
         match (case.entry.change(own, slice), case.entry.change(given, slice)) {
-            (Some(own), Some(given)) if own != given => changed(slice.name(), &case.held(slice), own, given),
+            (Some(own), Some(given)) if own != given => changed(&slice.name(), &case.held(slice), own, given),
             _ => {}
         }
     }

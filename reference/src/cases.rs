@@ -82,13 +82,8 @@ fn noise(n: usize) -> u8 {
 }
 
 impl Slice {
-    pub fn name(self) -> &'static str {
-        match self {
-            Request => "request",
-            Table => "table",
-            Profile => "profile",
-            Buffer => "buffer",
-        }
+    pub fn name(self) -> String {
+        format!("{self:?}").to_lowercase()
     }
 }
 
