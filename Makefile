@@ -8,7 +8,7 @@ SHELL := /bin/bash
 .NOTPARALLEL:
 export PYTHONDONTWRITEBYTECODE := 1
 .PHONY: help run test clean fmt kit pages header examples tables texts aims stores programs reference installs cited bench stack installable install uninstall
-.PHONY: differential noticed soak mutants stats definitions-check vectors
+.PHONY: differential noticed soak mutants stats definitions-check cases
 
 MACHINE := $(shell uname -m)
 ifeq ($(MACHINE),x86_64)
@@ -136,8 +136,8 @@ differential: target/c99/driver $(BINARY)
 	done
 
 #: noticed            whether such a comparison would fail
-noticed: $(BINARY)
-	tests/noticed.sh $(BINARY)
+noticed: target/c99/overstep $(BINARY)
+	tests/noticed.sh $(BINARY) $(RUN) target/c99/overstep
 
 # 5,000,000 tables and as many calls. Each round has the next seed: with SEED=N ROUNDS=M a run that was stopped goes on.
 ROUNDS := 50
@@ -170,11 +170,11 @@ COUNT_DEFINITIONS := 300
 definitions-check: $(BINARY)
 	RT_JOBS=2 tests/definitions.py $(BINARY) $(SEED) $(COUNT_DEFINITIONS)
 
-# Writes crates/vectors/stdin and stdout anew: the cases that the program vectors runs in the gate, and what the
-# independent program says of them.
-#: vectors            chooses anew the cases that the gate runs
-vectors: $(BINARY)
-	tests/vectors.py $(BINARY) crates/vectors
+# Writes crates/cases/stdin and stdout anew: what the gate's program `cases` runs, and what the independent program says
+# of it.
+#: cases              chooses anew the cases that the gate runs, a minute
+cases: $(BINARY)
+	tests/cases.py $(BINARY) crates/cases
 
 $(ARCHIVE): $(PROVED)
 	rt staticlib ndushavire
@@ -214,6 +214,10 @@ target/c++/store: tests/store.c examples/store.h examples/load.h
 target/c99/driver: tests/driver.c $(HEADER) $(ARCHIVE)
 	mkdir -p $(@D)
 	$(X86_CC) -std=c99 $(STRICT) -o $@ $< $(ARCHIVE)
+
+target/c99/overstep: tests/overstep.c tests/driver.c $(HEADER) $(ARCHIVE)
+	mkdir -p $(@D)
+	$(X86_CC) -std=c99 $(STRICT) -Wl,--wrap=ndushavire_check -o $@ tests/overstep.c tests/driver.c $(ARCHIVE)
 
 target/c99/%: examples/%.c examples/load.h $(HEADER) $(ARCHIVE)
 	mkdir -p $(@D)
