@@ -31,8 +31,8 @@ typedef struct {
 /* What outlives a daemon: the disk, the faults to come, the peer. */
 static struct Model {
     Bytes on_disk;             /* what has the name `table` after a power cut */
-    int renamed;               /* whether the folder has a change that is not on disk and that a flush would write */
-    int forgets;               /* whether a flush that fails is not made up for by the next: what it should have written counts as written */
+    int renamed;               /* whether the folder has a change that is not on disk, and that a flush would write */
+    int forgets;               /* whether what a failed flush should have written is not written by the next one either */
     struct {
         ino_t number;          /* 0: free */
         Bytes flushed;
@@ -62,29 +62,31 @@ static void forget_file(ino_t number) {
     if (i < FILES) model->file[i].number = 0;
 }
 
+static ino_t number_at(int folder, const char *name) {
+    struct stat found;
+    return fstatat(folder, name, &found, AT_SYMLINK_NOFOLLOW) == 0 ? found.st_ino : 0;
+}
+
 static void flush_file(int folder, ino_t number) {
     static const char *const names[] = {"table", "table.new"};
     forget_file(number);
     for (int i = 0; i < 2; i++) {
-        struct stat found;
+        const unsigned slot = slot_of(0); /* there is one: a file that loses its name is forgotten */
+        if (number_at(folder, names[i]) != number) continue;
         const int file = openat(folder, names[i], O_RDONLY);
-        if (file >= 0 && fstat(file, &found) == 0 && found.st_ino == number) {
-            const unsigned slot = slot_of(0);
-            model->file[slot].number = number;
-            slurp(file, &model->file[slot].flushed);
-        }
-        if (file >= 0) close(file);
+        slurp(file, &model->file[slot].flushed);
+        model->file[slot].number = number;
+        close(file);
     }
 }
 
 static void flush_folder(int folder) {
-    struct stat found;
+    const ino_t number = number_at(folder, "table");
+    const unsigned slot = slot_of(number);
     if (!model->renamed) return;
     model->renamed = 0;
-    model->on_disk.length = 0;
-    if (fstatat(folder, "table", &found, 0) != 0) return;
-    const unsigned slot = slot_of(found.st_ino);
-    if (slot < FILES) model->on_disk = model->file[slot].flushed;
+    model->on_disk.length = 0; /* a file whose bytes were not flushed may be empty */
+    if (number != 0 && slot < FILES) model->on_disk = model->file[slot].flushed;
 }
 
 /* ---- the calls that store.h makes */
@@ -138,12 +140,22 @@ static int disk_fsync(int file) {
 
 static int disk_renameat(int from_folder, const char *from, int to_folder, const char *to) {
     if (fails()) return -1;
+    const ino_t number = number_at(to_folder, to);
     const int result = renameat(from_folder, from, to_folder, to);
-    if (result == 0) model->renamed = 1;
+    if (result == 0) {
+        model->renamed = 1;
+        if (number != 0) forget_file(number);
+    }
     return done(result);
 }
 
-static int disk_unlinkat(int folder, const char *name, int how) { return fails() ? -1 : done(unlinkat(folder, name, how)); }
+static int disk_unlinkat(int folder, const char *name, int how) {
+    if (fails()) return -1;
+    const ino_t number = number_at(folder, name);
+    const int result = unlinkat(folder, name, how);
+    if (result == 0 && number != 0) forget_file(number);
+    return done(result);
+}
 
 static int disk_fstatat(int folder, const char *name, struct stat *to, int how) {
     return fails() ? -1 : done(fstatat(folder, name, to, how));

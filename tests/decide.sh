@@ -48,7 +48,8 @@ echo 01000014 C000012E 01000000 00000001 0000000 | unread 'half a byte'
 for decide in "${decides[@]}"; do
     status=0
     "${run[@]}" "$decide" "$table" "$profile" "$examples/no-avps.hex" >/dev/full 2>"$room/errors" || status=$?
-    [ "$status" = 2 ] && grep -q '^standard output: ' "$room/errors" || { echo "decide.sh: $decide with nowhere to write ends with status $status" >&2; exit 1; }
+    [ "$status" = 2 ] && grep -q '^standard output: ' "$room/errors" ||
+        { echo "decide.sh: $decide with nowhere to write ends with status $status" >&2; exit 1; }
     tried=$((tried + 1))
 done
 truncate -s -512 "$table"

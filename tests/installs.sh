@@ -76,12 +76,14 @@ installed "$odd" "$odd" "$odd/lib" "$odd/include" DESTDIR=
 installed "$odd" "$odd" "$odd/lib" "$odd/include" DESTDIR= # and once more over itself
 
 # A packager's folders.
-quiet install PREFIX=/usr LIBDIR=/usr/lib/x86_64-linux-gnu/ MANDIR=/man INCLUDEDIR=/usr/include/island DOCDIR=/usr/share/doc/n "DESTDIR=$room/package"
+quiet install PREFIX=/usr LIBDIR=/usr/lib/x86_64-linux-gnu/ MANDIR=/man INCLUDEDIR=/usr/include/island DOCDIR=/usr/share/doc/n \
+    "DESTDIR=$room/package"
 for name in usr/lib/x86_64-linux-gnu/{libndushavire.a,pkgconfig/ndushavire.pc} man/man3/ndushavire_check.3 man/man1/answer.1 \
     usr/include/island/ndushavire.h usr/share/doc/n/{installed,README.md,examples/check.c}; do
     [ -e "$room/package/$name" ] || fail "there is no $name of a package"
 done
-grep -q -x -F 'libdir=${prefix}/lib/x86_64-linux-gnu' "$room/package/usr/lib/x86_64-linux-gnu/pkgconfig/ndushavire.pc" || fail 'the pkg-config file has another libdir'
+grep -q -x -F 'libdir=${prefix}/lib/x86_64-linux-gnu' "$room/package/usr/lib/x86_64-linux-gnu/pkgconfig/ndushavire.pc" ||
+    fail 'the pkg-config file has another libdir'
 [ "$(files_in "$room/package" | wc -l)" = "$(wc -l <"$room/expected")" ] || fail 'a package has other files'
 uninstalled "$room/package/usr" PREFIX=/usr DOCDIR=/usr/share/doc/n "DESTDIR=$room/package"
 uninstalled "$room/package/man" "PREFIX=$odd" DESTDIR=
@@ -91,7 +93,8 @@ uninstalled "$room/package/man" "PREFIX=$odd" DESTDIR=
 mkdir "$room/made"
 touch "$room/made/check" "$room/made/answer"
 PREFIX=$room/named DESTDIR='' "$top/packaging/install.sh" install "$top/target/staticlib/libndushavire.a" "$room/made/check" "$room/made/answer"
-[ -x "$room/named/bin/ndushavire-check" ] && [ -x "$room/named/bin/answer" ] && [ "$(find "$room/named/bin" -type f | wc -l)" = 2 ] || fail 'other programs'
+[ -x "$room/named/bin/ndushavire-check" ] && [ -x "$room/named/bin/answer" ] && [ "$(find "$room/named/bin" -type f | wc -l)" = 2 ] ||
+    fail 'other programs than the two given'
 uninstalled "$room/named" "PREFIX=$room/named" DESTDIR=
 
 # What is refused alters nothing: neither the tree nor what is installed.
@@ -162,5 +165,6 @@ printf '%s\n' . ./lib ./lib/other.a ./sbin ./share ./share/doc ./share/doc/ndush
     fail 'uninstalling took more or less than what was installed'
 quiet install "PREFIX=$room/shared" DESTDIR=
 quiet uninstall "PREFIX=$room/shared" DESTDIR=
-[ "$(cd "$room/shared" && find . | LC_ALL=C sort | tr '\n' ' ')" = '. ./include ' ] || fail "of folders that were there these are left: $(find "$room/shared")"
+[ "$(cd "$room/shared" && find . | LC_ALL=C sort | tr '\n' ' ')" = '. ./include ' ] ||
+    fail "of folders that were there these are left: $(find "$room/shared")"
 echo "installs.sh: $(wc -l <"$room/expected") files installed, $tried trials of installing and uninstalling, an example built from them"
