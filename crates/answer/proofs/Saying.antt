@@ -15,7 +15,7 @@ use Rattle.lines.specs.Words.{Words}
 use Rattle.ndushavire.specs.Serve.{Served, refused, answered, smallBuffer, wrongSize, wrongLength, noRequest, serveChecked, serve}
 use Rattle.ndushavire.specs.Word.{callWord, numberIn, valueIn}
 use Rattle.ndushavire.specs.Promise.{DecidePromise}
-use Rattle.ndushavire.proofs.Tests.{either}
+use Rattle.fitting.proofs.Tests.{either}
 use Rattle.answer.specs.Said.{Fits, Said}
 
 -- A call that leaves the buffer's length as it was has room for the answer that it says.

@@ -18,20 +18,26 @@ use Rattle.decisions.specs.Decide.{decide}
 use Rattle.reply.specs.Answer.{answerBytes}
 use Rattle.ndushavire.specs.declared.Call.the-variants.{Answered, Refused}
 use Rattle.ndushavire.specs.Serve.{answered, smallBuffer, wrongSize, wrongLength, noRequest, serve}
-use Rattle.ndushavire.specs.Word.{callNumber, callValue, callWord, callIn, Reads}
-use Rattle.ndushavire.specs.Promise.{DecidePromise}
+use Rattle.ndushavire.specs.Word.{callNumber, callValue, callWord, callIn, Reads, ReadsCheck}
+use Rattle.ndushavire.specs.Promise.{CheckPromise, DecidePromise}
+use Rattle.demands.proofs.Firm.{check-said}
 use Rattle.demands.specs.Call.{Tried, unsound, turnedAway, answerTo}
 use Rattle.demands.specs.Frame.{succeeds, subscriptionOf, alterable}
-use Rattle.demands.specs.Insertion.{requestOf, Foreign, Quiet, Inserted, FirstMarked, faultIn, unsupported, Cut}
+use Rattle.demands.specs.Insertion.{requestOf, Foreign, Quiet, Inserted, FirstMarked, faultIn, unsupported, Cut, Longer, Newer}
 use Rattle.demands.proofs.Refusals.{refusals, number-most, besides-none, besides-block, answer-long, word-reads, refused-kept, answered-is, buffer-length, buffer-past}
 use Rattle.demands.proofs.Fitting.{fits}
 use Rattle.demands.proofs.Frame.{question-kept, failure-kept, others-kept, header-kept, bytes-kept, bits-kept, size-kept, sound-kept}
-use Rattle.demands.proofs.Insertions.{unmarked-same, marked-or-not, marked-kept, mark-answered, fault-first}
+use Rattle.demands.proofs.Insertions.{unmarked-same, marked-kept, mark-answered, fault-first}
+use Rattle.demands.proofs.Longer.{marked-or-not, longer-newer}
 use Rattle.demands.proofs.Cuts.{every-request}
 
 -- THE CALL. What the exported call is promised to return and to leave is `serve`: the call that its word says, the table, the buffer. So each theorem below is one about it.
 pub promised : (req t file o : List ℕ) {r : ℕ} {t' o' : List ℕ} → DecidePromise req t file o r t' o' → serve req t file o ≡ record { call = callIn r; table = t'; buffer = o' }
 promised req t file o p = rw (p .word-is, p .table-is, p .buffer-is, word-reads req t file o (fits req t file) .call)
+
+-- THE CHECK. Out of its word the caller reads number 0 and the count of records, or 5 and the first bad block; bits 32 to 47 are 0.
+pub checked : (t file : List ℕ) {r : ℕ} → CheckPromise t file r → ReadsCheck (checkTable t (length file)) r
+checked t file p = check-said t file p
 
 -- DEMAND 1. Every call ends in an answer or in exactly one of five refusals, each given exactly when the paper says, tried in its order.
 module _ (req t file o : List ℕ) where
@@ -111,9 +117,14 @@ module _ (req t file o : List ℕ) where
   pub demand-2-past : drop (callValue (serve req t file o .call)) (serve req t file o .buffer) ≡ drop (callValue (serve req t file o .call)) o
   demand-2-past = buffer-past req t file o
 
--- DEMAND 3. A request is a header, a row of AVPs that pass (a), `q` and then `qs`, and any bytes behind them. AVPs of unknown kinds are put into the row after its first,
--- at one place or at several, so that it is `q` and then `rs`; the length field is put right, and the whole stays within 16,384 bytes. Before `q` there is no place, for
--- (b) wants a Session-Id there; nor does it speak of AVPs with reserved flags, which (c) calls B3009.
+-- DEMAND 3. Let `longer` be a request `req` with AVPs of unknown kinds put in after its first, at one place or at several, so that it stays within 16,384 bytes. A call with `longer`
+-- comes to what it comes to with `req`, and leaves the same table and the same buffer; but if one of those put in is marked M, the table is as it was, and the answer is the
+-- one of B5001 with the first such in Failed-AVP, unless the call is refused or the header or an AVP before that one breaks a reading rule. Before the first AVP there is
+-- no place, for (b) wants a Session-Id there; nor does this speak of AVPs with reserved flags, which (c) calls B3009.
+pub demand-3 : (req longer t file o : List ℕ) (l : Longer req longer) → Newer req longer t file o l
+demand-3 = longer-newer
+
+-- Case by case: a request is a header, a row of AVPs that pass (a), `q` and then `qs`, and any bytes behind them; the longer one has the row `q` and then `rs`.
 module _ (head : List ℕ) (twenty : length head ≡ 20) (q : Piece) (qs rs : List Piece) (whole : All Whole (q ∷ qs)) (tail : List ℕ) (fours : length tail % 4 ≡ 0)
     (most : length (requestOf head (q ∷ rs) tail) ≤ 16384) (t file o : List ℕ) where
   -- If none of them is marked M, the call comes to the same, and leaves the same table and the same buffer.

@@ -5,7 +5,7 @@ use mathlib.Core.Path.{refl}
 use lib.ListN.{length}
 use Rattle.lookup.proofs.Sound.{sound-says}
 use Rattle.ndushavire.proofs.Calls.{size-least, size-most, length-even}
-use Rattle.ndushavire.proofs.Room.{answer-most}
+use Rattle.fitting.proofs.Room.{answer-most}
 use Rattle.demands.specs.Call.{Fits}
 
 pub fits : (req t file : List ℕ) → Fits req t file

@@ -4,7 +4,6 @@ use mathlib.Core.List.{List, [], _∷_, _++_}
 use mathlib.Core.Option.{none, some}
 use mathlib.Core.Bool.{Bool, true, false, not, cond, _||_, true≢false}
 use mathlib.Core.Path.{_≡_, refl, sym, ap, _∙_, fun-ext}
-use mathlib.Core.Logic.{_⊎_, inl, inr}
 use native.Mathlib.Omega.{arith}
 use lib.ListN.{length, length-append}
 use lib.Dec.{eqb}
@@ -19,10 +18,10 @@ use Rattle.reading.specs.Request.{commandOf, headerFault, firstOther, complete,
 use Rattle.requests.proofs.Insert.{judge-unmarked, judge-marked, andThen, judge-glue, put-failed}
 use Rattle.decisions.specs.Decide.{decideJudged, decide}
 use Rattle.reply.specs.Answer.{proxies}
-use Rattle.ndushavire.specs.Serve.{answered, serve}
+use Rattle.ndushavire.specs.Serve.{answered, noRequest, serve}
 use Rattle.demands.specs.Call.{turnedAway}
 use Rattle.demands.specs.Insertion.{message, requestOf, Foreign, isMarked, Quiet, Inserted, ending, keep, put, FirstMarked, isFault, faultIn, unsupported}
-use Rattle.demands.proofs.Refusals.{refused-kept, answered-is, counted}
+use Rattle.demands.proofs.Refusals.{refused-kept, refused-alike, answered-is, counted}
 use Rattle.demands.proofs.Messages.{message-length, message-flags, message-read, readBody, Fit, size-right, length-right, Alike, served-same}
 
 -- what a fold that passes over those put in makes of the longer row
@@ -53,52 +52,6 @@ inserted-joined : {P : Piece → Type 0} {qs rs ps ss : List Piece} → Inserted
 inserted-joined ending j = j
 inserted-joined (keep q i) j = keep q (inserted-joined i j)
 inserted-joined (put u p i) j = put u p (inserted-joined i j)
-
--- Those put in are unmarked, or one of them is the first that is marked.
-keep-more : (q : Piece) {qs rs : List Piece} → Inserted Quiet qs rs ⊎ FirstMarked qs rs → Inserted Quiet (q ∷ qs) (q ∷ rs) ⊎ FirstMarked (q ∷ qs) (q ∷ rs)
-keep-more q (inl i) = inl (keep q i)
-keep-more q (inr m) =
-    inr (record {
-      mark = m .mark;
-      front = q ∷ m .front;
-      back = m .back;
-      before = q ∷ m .before;
-      after = m .after;
-      row = ap (q ∷_) (m .row);
-      longer = ap (q ∷_) (m .longer);
-      quiet = keep q (m .quiet);
-      foreign = m .foreign;
-      marking = m .marking;
-      rest = m .rest;
-    })
-
-put-quiet : (u : Piece) → Quiet u → {qs rs : List Piece} → Inserted Quiet qs rs ⊎ FirstMarked qs rs → Inserted Quiet qs (u ∷ rs) ⊎ FirstMarked qs (u ∷ rs)
-put-quiet u p (inl i) = inl (put u p i)
-put-quiet u p (inr m) =
-    inr (record {
-      mark = m .mark;
-      front = m .front;
-      back = m .back;
-      before = u ∷ m .before;
-      after = m .after;
-      row = m .row;
-      longer = ap (u ∷_) (m .longer);
-      quiet = put u p (m .quiet);
-      foreign = m .foreign;
-      marking = m .marking;
-      rest = m .rest;
-    })
-
-put-more : (u : Piece) → Foreign u → {qs rs : List Piece} → Inserted Foreign qs rs → Inserted Quiet qs rs ⊎ FirstMarked qs rs → (x : Bool) → isMarked u ≡ x
-    → Inserted Quiet qs (u ∷ rs) ⊎ FirstMarked qs (u ∷ rs)
-put-more u f {qs} {rs} i e true h =
-    inr (record { mark = u; front = []; back = qs; before = []; after = rs; row = refl; longer = refl; quiet = ending; foreign = f; marking = h; rest = i })
-put-more u f i e false h = put-quiet u (record { foreign = f; unmarked = h }) e
-
-pub marked-or-not : {qs rs : List Piece} → Inserted Foreign qs rs → Inserted Quiet qs rs ⊎ FirstMarked qs rs
-marked-or-not ending = inl ending
-marked-or-not (keep q i) = keep-more q (marked-or-not i)
-marked-or-not (put u f i) = put-more u f i (marked-or-not i) (isMarked u) refl
 
 -- the folds that pass over unknown kinds: the judgement those without M, the identities and the copies all of them
 judge-goes : (command : ℕ) (a : List ℕ) (v w : Walk) → judge command v ≡ judge command w → judge command (avp a v) ≡ judge command (avp a w)
@@ -227,6 +180,13 @@ module _ (head : List ℕ) (twenty : length head ≡ 20) (q : Piece) (qs rs : Li
           message-flags head twenty long,
           message-flags head twenty short,
         )
+
+    pub refused-same : (t file o : List ℕ) → turnedAway (message head short) t file o ≡ true → serve (message head long) t file o ≡ serve (message head short) t file o
+    refused-same t file o e =
+        let size = size-right head twenty long long-fit ∙ sym (size-right head twenty short short-fit) in
+        let lengths = length-right head twenty long long-fit ∙ sym (length-right head twenty short short-fit) in
+        let flags : noRequest (message head long) ≡ noRequest (message head short) = rw (message-flags head twenty long, message-flags head twenty short) in
+        refused-alike (message head long) (message head short) t file o size lengths flags e
 
   pub unmarked-same : Inserted Quiet qs rs → (t file o : List ℕ) → serve (message head long) t file o ≡ serve (message head short) t file o
   unmarked-same j = let i = quiet-foreign j in both-served i (rw (long-walk i, short-walk) (quiet-read head (q .avp) j (walk tail)))

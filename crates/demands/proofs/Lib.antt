@@ -1,8 +1,10 @@
 pub mod Cuts
 pub mod Demands
 pub mod Effects
+pub mod Firm
 pub mod Fitting
 pub mod Frame
 pub mod Insertions
+pub mod Longer
 pub mod Messages
 pub mod Refusals

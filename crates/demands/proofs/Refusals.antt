@@ -16,9 +16,9 @@ use Rattle.decisions.specs.Decide.{decide}
 use Rattle.ndushavire.specs.declared.Call.{Call}
 use Rattle.ndushavire.specs.declared.Call.the-variants.{Answered, Refused}
 use Rattle.ndushavire.specs.Serve.{Served, refused, answered, smallBuffer, wrongSize, wrongLength, noRequest, serveChecked, serve}
-use Rattle.ndushavire.specs.Word.{callNumber, callValue, callWord, Reads}
-use Rattle.ndushavire.proofs.Firm.{carried, check-carried, answer-reads, refusal-reads}
-use Rattle.ndushavire.proofs.Tests.{neither}
+use Rattle.ndushavire.specs.Word.{callNumber, callValue, callWord, checkValue, Reads}
+use Rattle.demands.proofs.Firm.{check-most, answer-reads, refusal-reads}
+use Rattle.fitting.proofs.Tests.{neither}
 use Rattle.demands.specs.Call.{Tried, Fits, isBad, unsound, turnedAway, answerTo}
 
 -- the tests of a call as arguments
@@ -113,7 +113,7 @@ module _ (req t file o : List ℕ) where
 
 -- The word of a call is read back: what it carries is short.
 module _ (req t file o : List ℕ) (fits : Fits req t file) where
-  reads-by : (a b c d : Bool) (x : Checked) → wrongSize req ≡ b → wrongLength req ≡ c → checkTable t (length file) ≡ x → carried x ≤ 4096
+  reads-by : (a b c d : Bool) (x : Checked) → wrongSize req ≡ b → wrongLength req ≡ c → checkTable t (length file) ≡ x → checkValue x ≤ 4096
       → Reads (byTests req t file o a b c d x .call) (callWord (byTests req t file o a b c d x .call))
   unfolding byTests refused serveChecked answered
   reads-by true b c d x eb ec e k = refusal-reads 1 0 (omega arith) (omega arith)
@@ -126,7 +126,7 @@ module _ (req t file o : List ℕ) (fits : Fits req t file) where
   pub word-reads : Reads (serve req t file o .call) (callWord (serve req t file o .call))
   word-reads =
       rw (is-by-tests req t file o)
-      (reads-by (smallBuffer o) (wrongSize req) (wrongLength req) (noRequest req) (checkTable t (length file)) refl refl refl (check-carried t (length file)))
+      (reads-by (smallBuffer o) (wrongSize req) (wrongLength req) (noRequest req) (checkTable t (length file)) refl refl refl (check-most t (length file)))
 
 -- What is refused leaves the table and the buffer; what is not is answered.
 kept : (req t file o : List ℕ) (a b c d : Bool) (x : Checked) → (a || b || c || d || isBad x) ≡ true
@@ -141,6 +141,23 @@ kept req t file o false false false false (Sound n) e = absurd (true≢false (sy
 
 pub refused-kept : (req t file o : List ℕ) → turnedAway req t file o ≡ true → (serve req t file o .table ≡ t) × (serve req t file o .buffer ≡ o)
 refused-kept req t file o e = rw (is-by-tests req t file o) (kept req t file o (smallBuffer o) (wrongSize req) (wrongLength req) (noRequest req) (checkTable t (length file)) e)
+
+-- two requests of which the tests say the same are refused alike
+refused-by : (req other t file o : List ℕ) (a b c d : Bool) (x : Checked) → (a || b || c || d || isBad x) ≡ true → byTests req t file o a b c d x ≡ byTests other t file o a b c d x
+unfolding byTests serveChecked
+refused-by req other t file o true b c d x e = refl
+refused-by req other t file o false true c d x e = refl
+refused-by req other t file o false false true d x e = refl
+refused-by req other t file o false false false true x e = refl
+refused-by req other t file o false false false false (Bad k) e = refl
+refused-by req other t file o false false false false (Sound n) e = absurd (true≢false (sym e))
+
+pub refused-alike : (req other t file o : List ℕ) → wrongSize req ≡ wrongSize other → wrongLength req ≡ wrongLength other → noRequest req ≡ noRequest other
+    → turnedAway other t file o ≡ true → serve req t file o ≡ serve other t file o
+refused-alike req other t file o b c d e =
+    is-by-tests req t file o
+    ∙ rw (b, c, d) (refused-by req other t file o (smallBuffer o) (wrongSize other) (wrongLength other) (noRequest other) (checkTable t (length file)) e)
+    ∙ sym (is-by-tests other t file o)
 
 answers : (req t file o : List ℕ) (a b c d : Bool) (x : Checked) (count : ℕ) → x ≡ Sound count → (a || b || c || d || isBad x) ≡ false
     → byTests req t file o a b c d x ≡ answered req t o (decide req t count file)

@@ -21,18 +21,21 @@ use Rattle.pen.specs.Groups.{failed}
 use Rattle.decisions.specs.Decide.{decide}
 use Rattle.ndushavire.specs.declared.Call.the-variants.{Answered, Refused}
 use Rattle.ndushavire.specs.Serve.{Served, smallBuffer, wrongSize, wrongLength, noRequest, serve}
-use Rattle.ndushavire.specs.Word.{callNumber, callValue, callWord, Reads}
+use Rattle.ndushavire.specs.Word.{word, callNumber, callValue, callWord, Reads, ReadsCheck}
 use Rattle.worked.proofs.Sample.{header, person, request, answer, s, z, opened}
 use Rattle.demands.specs.Call.{Tried, unsound, answerTo}
 use Rattle.demands.specs.Frame.{firstOwner, askedIn, subscriptionOf, alterable}
-use Rattle.demands.specs.Insertion.{message, requestOf, Foreign, Quiet, Inserted, ending, keep, put, FirstMarked, faultIn, Cut}
-use Rattle.demands.proofs.Demands.{promised, demand-1, demand-1-number, demand-1-none, demand-1-block, demand-1-length, demand-1-fits, demand-1-word, demand-1-kept}
+use Rattle.demands.specs.Insertion.{message, requestOf, Foreign, Quiet, Inserted, ending, keep, put, FirstMarked, faultIn, Cut, Longer, firstMark, newer, Newer}
+use Rattle.demands.proofs.Demands.{promised, checked, demand-1, demand-1-number, demand-1-none, demand-1-block, demand-1-length, demand-1-fits, demand-1-word, demand-1-kept}
 use Rattle.demands.proofs.Demands.{demand-2, demand-2-failure, demand-2-others, demand-2-header, demand-2-bytes, demand-2-bits, demand-2-size, demand-2-sound, demand-2-question, demand-2-room, demand-2-past}
-use Rattle.demands.proofs.Demands.{demand-3-unmarked, demand-3-table, demand-3-marked, demand-3-fault, demand-3-cases, demand-3-any}
+use Rattle.demands.proofs.Demands.{demand-3, demand-3-unmarked, demand-3-table, demand-3-marked, demand-3-fault, demand-3-cases, demand-3-any}
 
--- two subscriptions, each registered at the server `s`; the table after `a` was removed; a buffer of the least room
+-- two subscriptions, each registered at the server `s`; two records of one public identity; the table after `a` was removed; a buffer of the least room
 table : List ℕ
 table = header 2 0 ++ (person 1 0x61 0x70 1 (0x73 ∷ []) ++ person 2 0x62 0x71 1 (0x73 ∷ []))
+
+twice : List ℕ
+twice = header 2 0 ++ (person 1 0x61 0x70 1 s ++ person 2 0x61 0x71 1 s)
 
 removed : List ℕ
 removed = header 2 0 ++ (person 1 0x61 0x70 0 [] ++ person 2 0x62 0x71 1 (0x73 ∷ []))
@@ -106,6 +109,15 @@ removal-call = ap (λ (x : Served). x .call) removal
 met-promised : serve (sar s 5) table [] room .call ≡ Answered 116
 met-promised = ap (λ (x : Served). x .call) (promised (sar s 5) table [] room {r = 116} (record { word-is = rw removal-call; table-is = refl; buffer-is = refl }))
 
+-- of the second entry: 2 records, and block 2 where two have one public identity
+met-checked : ReadsCheck (Sound 2) 2
+unfolding all
+met-checked = checked table [] (record { answer = refl })
+
+met-checked-bad : ReadsCheck (Bad 2) (word 5 2)
+unfolding all twice
+met-checked-bad = checked twice [] (record { answer = refl })
+
 -- DEMAND 1: it is number 0 with the answer's length; a request of 19 bytes is refusal 2; two records of one public identity are refusal 5
 met-1 : Tried (callNumber (serve (sar s 5) table [] room .call)) (smallBuffer room) (wrongSize (sar s 5)) (wrongLength (sar s 5)) (noRequest (sar s 5)) (unsound table [])
 met-1 = demand-1 (sar s 5) table [] room
@@ -133,9 +145,6 @@ met-1-none = demand-1-none (take 19 (sar s 5)) table [] room 2 0 short-refused (
 met-1-kept : serve (take 19 (sar s 5)) table [] room .table ≡ table
 unfolding all
 met-1-kept = demand-1-kept (take 19 (sar s 5)) table [] room refl .0
-
-twice : List ℕ
-twice = header 2 0 ++ (person 1 0x61 0x70 1 s ++ person 2 0x61 0x71 1 s)
 
 met-1-block : checkTable twice 0 ≡ Bad 2
 unfolding all twice
@@ -325,3 +334,36 @@ are-bytes (x ∷ l) e (suc i) = are-bytes l (and-right (ltb x 256) _ e) i
 met-3-any : Cut (sar s 5)
 unfolding all allBytes
 met-3-any = demand-3-any (sar s 5) (are-bytes (sar s 5) refl) refl refl
+
+-- In one sentence: the SAR of type 5 with two unmarked ones put in, and with a marked one behind them.
+cut-sar : Cut (sar s 5)
+unfolding all isWhole allWhole
+cut-sar = record { head = head; first = session; rest = rest s 5; tail = []; twenty = refl; whole = all-whole (session ∷ rest s 5) refl; fours = refl; stops = refl; joined = refl }
+
+quietly : List Piece
+quietly = application ∷ plain ∷ zeroVendor ∷ common ++ own s 5
+
+loudly : List Piece
+loudly = application ∷ plain ∷ loud ∷ common ++ own s 5
+
+longer-quietly : Longer (sar s 5) (requestOf head (session ∷ quietly) [])
+unfolding all quietly cut-sar
+longer-quietly =
+    record { cut = cut-sar; row = quietly; inserted = keep _ (put plain foreign-plain (put zeroVendor foreign-zero (kept (common ++ own s 5)))); bytes = refl; most = lit≤ tt }
+
+longer-loudly : Longer (sar s 5) (requestOf head (session ∷ loudly) [])
+unfolding all loudly cut-sar
+longer-loudly =
+    record { cut = cut-sar; row = loudly; inserted = keep _ (put plain foreign-plain (put loud foreign-loud (kept (common ++ own s 5)))); bytes = refl; most = lit≤ tt }
+
+met-3-quietly : serve (requestOf head (session ∷ quietly) []) table [] room ≡ comes removed (answer (numberBytes 268 2001) [])
+unfolding all quietly longer-quietly cut-sar firstMark newer kept
+met-3-quietly = demand-3 (sar s 5) (requestOf head (session ∷ quietly) []) table [] room longer-quietly .comes ∙ removal
+
+met-3-loudly : serve (requestOf head (session ∷ loudly) []) table [] room ≡ unsupported-answer
+unfolding all loudly longer-loudly cut-sar firstMark newer kept unsupported-answer
+met-3-loudly = demand-3 (sar s 5) (requestOf head (session ∷ loudly) []) table [] room longer-loudly .comes
+
+met-3-left : serve (requestOf head (session ∷ loudly) []) table [] room .table ≡ table
+unfolding all loudly longer-loudly cut-sar firstMark kept
+met-3-left = demand-3 (sar s 5) (requestOf head (session ∷ loudly) []) table [] room longer-loudly .table _ refl

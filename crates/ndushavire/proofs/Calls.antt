@@ -14,14 +14,14 @@ use Rattle.table.specs.declared.Checked.the-variants.{Sound, Bad}
 use Rattle.lookup.specs.SoundTable.{SoundTable}
 use Rattle.lookup.proofs.Sound.{sound-says}
 use Rattle.decisions.specs.Decide.{decide}
-use Rattle.ndushavire.specs.Passed.{Passed}
-use Rattle.ndushavire.specs.Plans.{Answers}
+use Rattle.deciding.specs.Passed.{Passed}
+use Rattle.deciding.specs.Plans.{Answers}
 use Rattle.ndushavire.specs.declared.Call.{Call}
 use Rattle.ndushavire.specs.declared.Call.the-variants.{Answered, Refused}
 use Rattle.ndushavire.specs.Serve.{refused, answered, wrongSize, wrongLength, serveChecked, serve}
 use Rattle.ndushavire.specs.Promise.{DecidePromise, Leaves}
 use Rattle.ndushavire.specs.Word.{callWord}
-use Rattle.ndushavire.proofs.Tests.{neither}
+use Rattle.fitting.proofs.Tests.{neither}
 
 pub length-all : (req : List ℕ) {n : ℕ} → n ≡ be24At req 1 → (not (eqb n (length req)) || not (eqb (length req % 4) 0)) ≡ wrongLength req
 unfolding wrongLength

@@ -1,5 +1,4 @@
-pub mod Passed
-pub mod Plans
+pub mod Lent
 pub mod Promise
 pub mod Serve
 pub mod Word

@@ -16,6 +16,14 @@ abbrev pub checkWord : Checked → ℕ
 checkWord (Sound count) = word 0 count
 checkWord (Bad block) = word 5 block
 
+abbrev pub checkNumber : Checked → ℕ
+checkNumber (Sound count) = 0
+checkNumber (Bad block) = 5
+
+abbrev pub checkValue : Checked → ℕ
+checkValue (Sound count) = count
+checkValue (Bad block) = block
+
 -- a call: number 0 with the answer's length; a refusal's number with what it returns besides
 abbrev pub callNumber : Call → ℕ
 callNumber (Answered n) = 0
@@ -46,9 +54,22 @@ callBy false number value = Refused number value
 abbrev pub callIn : ℕ → Call
 callIn w = callBy (eqb (numberIn w) 0) (numberIn w) (valueIn w)
 
--- so is a call read back
+abbrev pub checkBy : Bool → ℕ → Checked
+checkBy true value = Sound value
+checkBy false value = Bad value
+
+abbrev pub checkIn : ℕ → Checked
+checkIn w = checkBy (eqb (numberIn w) 0) (valueIn w)
+
+-- so is a call read back, and so is the check's answer
 pub record Reads (c : Call) (w : ℕ) : Type 0 where
   pub number : numberIn w ≡ callNumber c
   pub place : placeIn w ≡ 0
   pub value : valueIn w ≡ callValue c
   pub call : callIn w ≡ c
+
+pub record ReadsCheck (c : Checked) (w : ℕ) : Type 0 where
+  pub number : numberIn w ≡ checkNumber c
+  pub place : placeIn w ≡ 0
+  pub value : valueIn w ≡ checkValue c
+  pub answer : checkIn w ≡ c

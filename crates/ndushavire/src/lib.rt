@@ -1,6 +1,4 @@
 // What the daemon calls.
-pub mod decide;
-
 use diameter::message;
 use table::Checked;
 ghost use mathlib.Core.Path.{_≡_};
@@ -8,7 +6,7 @@ ghost use Prim.Native.Nat.{_≤_};
 ghost use lib.ListN.{length};
 ghost use Rattle.table.specs.Check.{checkTable};
 ghost use Rattle.ndushavire.specs.Word.{word, checkWord, callWord};
-ghost use Rattle.ndushavire.specs.Passed.{Passed};
+ghost use Rattle.deciding.specs.Passed.{Passed};
 ghost use Rattle.ndushavire.specs.Serve.{wrongLength, serveChecked, serve};
 ghost use Rattle.ndushavire.specs.Promise.{CheckPromise, DecidePromise, Leaves};
 
@@ -89,7 +87,7 @@ fn call_checked(c: Checked, req: &[u8], t: &mut [u8], file: &[u8], out: &mut [u8
 {
     match c {
         Checked::Sound(count) => {
-            let n = decide::answer_sound(out, req, t, file, count as usize);
+            let n = deciding::answer_sound(out, req, t, file, count as usize);
             Call::Answered(n as u32)
         }
         Checked::Bad(block) => Call::Refused {

@@ -66,6 +66,20 @@ unfoldable pub answer : List ℕ → List ℕ → List ℕ
 answer result rest =
     set (request 301 (avpBytes 263 (0x73 ∷ []) ++ (vendorApplication ++ (result ++ (numberBytes 277 1 ++ (avpBytes 264 host ++ (avpBytes 296 realm ++ rest))))))) 4 0x40
 
+-- what every request needs, and a SAR of a type for the identity `a` with a server name
+unfoldable pub common : List ℕ
+common = avpBytes 263 (0x73 ∷ []) ++ (vendorApplication ++ (numberBytes 277 1 ++ (avpBytes 264 (0x63 ∷ []) ++ (avpBytes 296 (0x72 ∷ []) ++ avpBytes 283 (0x72 ∷ [])))))
+
+unfoldable pub assignment : ℕ → List ℕ → List ℕ
+assignment kind server = request 301 (common ++ (vendorBytes 601 (0x61 ∷ []) ++ (vendorBytes 602 server ++ (vendorNumber 614 kind ++ vendorNumber 624 1))))
+
+-- one record `a` of a state and a server name under a header that keeps names or not; two of one public identity
+unfoldable pub one : ℕ → ℕ → List ℕ → List ℕ
+one keep state server = header 1 keep ++ person 1 0x61 0x70 state server
+
+unfoldable pub two : List ℕ
+two = header 2 0 ++ (person 1 0x61 0x70 0 [] ++ person 2 0x61 0x70 0 [])
+
 -- two server names
 unfoldable pub s : List ℕ
 s = 0x73 ∷ []
@@ -75,7 +89,7 @@ z = 0x7A ∷ []
 
 -- all that a case opens
 unfoldable pub opened : ℕ
-unfolding host realm block header person request answer s z
+unfolding host realm block header person request answer common assignment one two s z
     allBelow orderOf alikeAt same be16At be24At be32At putBe24 putBe32 zeros zeroBetween putName over sumWords
     hostOf realmOf publicOf privateOf serverOf headerOf soundHeader networkOf usedPlace soundPlace sameByte otherPlace newPlace soundNetworks recordOf soundRecord
     blockOf tableOf publicAt privateAt risesAt soundAt firstBad checkRecords checkTable firstFrom publicIs findPublic privateIs findPrivate serverHere servesAt findServer
