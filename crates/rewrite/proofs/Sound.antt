@@ -14,10 +14,10 @@ use Rattle.octets.specs.Sum.{sumWords}
 use Rattle.octets.proofs.All.{and-right}
 use Rattle.octets.proofs.Numbers.{be16-alike, be32-alike}
 use Rattle.octets.proofs.Runs.{at-zero, zero-alike}
-use Rattle.record.specs.Fields.{soundHead, cleared}
+use Rattle.record.specs.Fields.{cleared}
 use Rattle.record.specs.HeaderBlock.{headerOf}
-use Rattle.record.specs.RecordBlock.{recordOf, soundServer, soundRecord}
-use Rattle.record.proofs.Tests.{RecordTests, record-says, record-holds, Limits, limits-say, limits-hold, Rest, rest-says, rest-holds}
+use Rattle.record.specs.RecordBlock.{recordOf, isRecord, soundServer, soundRecord}
+use Rattle.record.proofs.Tests.{RecordTests, record-says, record-holds, Limits, limits-say, limits-hold, Zeros, rest-says, rest-holds}
 use Rattle.table.specs.Blocks.{blockOf, publicAt}
 use Rattle.table.specs.Check.{isLess, risesAt, soundAt, checkTable}
 use Rattle.table.specs.declared.Checked.the-variants.{Sound}
@@ -83,13 +83,12 @@ module _ (b : List ℕ) (state : ℕ) (name : List ℕ) (whole : length b ≡ 51
   size-at : be16At new 404 ≡ be16At b 404
   size-at = be16-alike new b 404 404 (λ j l. high (404 + j) (omega arith) (omega arith))
 
-  head-same : (k : ℕ) → soundHead new 2 k ≡ soundHead b 2 k
+  head-same : (k : ℕ) → isRecord (recordOf new) k ≡ isRecord (recordOf b) k
+  unfolding recordOf
   head-same k =
       rw (
         low 0 (omega arith) (omega arith) (omega arith) (omega arith),
         low 1 (omega arith) (omega arith) (omega arith) (omega arith),
-        low 2 (omega arith) (omega arith) (omega arith) (omega arith),
-        low 3 (omega arith) (omega arith) (omega arith) (omega arith),
         be32-alike new b 4 4 (λ j l. low (4 + j) (omega arith) (omega arith) (omega arith) (omega arith)),
       )
 
@@ -115,10 +114,11 @@ module _ (b : List ℕ) (state : ℕ) (name : List ℕ) (whole : length b ≡ 51
       rw (state-at, bits-at, server-at, ne-eqb (cleared (getD b 9 0) % 2) 1 (omega arith))
       (fitting-so (eqb (length name) 0) (eqb state 0) (ltb 0 (length name)) (ltb 0 state) fit)
 
-  rest-kept : Rest b (recordOf b) → Rest new (recordOf new)
+  rest-kept : Zeros b (recordOf b) → Zeros new (recordOf new)
   unfolding recordOf
   rest-kept z =
       record {
+        blank = zero-alike new b 2 4 (λ i u v. low i (omega arith) (omega arith) (omega arith) (omega arith)) ∙ z .blank;
         public = rw (byte 13 (omega arith) (omega arith)) (zero-alike new b _ 144 (λ i u v. low i (omega arith) (omega arith) (omega arith) (omega arith)) ∙ z .public);
         private = rw (byte 14 (omega arith) (omega arith)) (zero-alike new b _ 272 (λ i u v. low i (omega arith) (omega arith) (omega arith) (omega arith)) ∙ z .private);
         server = rw server-at (at-zero new (272 + length name) 368 past);
