@@ -41,8 +41,11 @@ soundLimits r =
     && leb (r .private) 128 && leb (r .server) 96 && leb (r .size) 4096
 
 -- "State 1 or 2 needs a server name; state 0 has one exactly if pending is set."
+abbrev pub serverFits : ℕ → ℕ → ℕ → Bool
+serverFits size state bits = eqb size 0 && (eqb state 0 && not (pending bits)) || ltb 0 size && (ltb 0 state || pending bits)
+
 abbrev pub soundServer : Record → Bool
-soundServer r = eqb (r .server) 0 && (eqb (r .state) 0 && not (pending (r .bits))) || ltb 0 (r .server) && (ltb 0 (r .state) || pending (r .bits))
+soundServer r = serverFits (r .server) (r .state) (r .bits)
 
 -- "roaming, bit n for network n, none past the last"
 abbrev pub soundRoaming : Record → ℕ → Bool

@@ -1,5 +1,5 @@
 use Rattle.decisions.proofs.Ready.{sound-ready}
-use Rattle.ndushavire.proofs.Answering.{plan-reply, plan-table, answers, answers-most, read-fits}
+use Rattle.ndushavire.proofs.Answering.{plan-reply, plan-table, answers, answers-most, plan-fits}
 use Rattle.ndushavire.proofs.Room.{given-room}
 use borrow.Author.Needs.{needs}
 use Rattle.ndushavire.proofs.decide.answer_read.Statement.{statement}
@@ -11,7 +11,7 @@ answer-read-spec =
     (tie.spec
     (λ c κs. search (needs, sound-ready))
     (λ c κs. search (needs, given-room, plan-reply))
-    (λ c κs. search (needs, sound-ready, read-fits))
+    (λ c κs. search (needs, sound-ready, plan-fits))
     (λ c. search needs)
     (λ c. search needs)
     (λ c. search (needs, answers-most, answers, plan-reply, plan-table)))
