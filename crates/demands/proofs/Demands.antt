@@ -16,13 +16,14 @@ use Rattle.diameter.specs.Put.{Piece, Whole, All}
 use Rattle.reading.specs.Request.{commandOf}
 use Rattle.decisions.specs.Decide.{decide}
 use Rattle.reply.specs.Answer.{answerBytes}
+use Rattle.rewrite.specs.Change.{alterable}
 use Rattle.ndushavire.specs.declared.Call.the-variants.{Answered, Refused}
 use Rattle.ndushavire.specs.Serve.{answered, smallBuffer, wrongSize, wrongLength, noRequest, serve}
 use Rattle.ndushavire.specs.Word.{callNumber, callValue, callWord, callIn, Reads, ReadsCheck}
 use Rattle.ndushavire.specs.Promise.{CheckPromise, DecidePromise}
 use Rattle.demands.proofs.Firm.{check-said}
 use Rattle.demands.specs.Call.{Tried, unsound, turnedAway, answerTo}
-use Rattle.demands.specs.Frame.{succeeds, subscriptionOf, alterable}
+use Rattle.demands.specs.Frame.{succeeds, subscriptionOf}
 use Rattle.demands.specs.Insertion.{requestOf, Foreign, Quiet, Inserted, FirstMarked, faultIn, unsupported, Cut, Longer, Newer}
 use Rattle.demands.proofs.Refusals.{refusals, number-most, besides-none, besides-block, answer-long, word-reads, refused-kept, answered-is, buffer-length, buffer-past}
 use Rattle.demands.proofs.Fitting.{fits}

@@ -24,7 +24,7 @@ use Rattle.ndushavire.specs.Serve.{Served, smallBuffer, wrongSize, wrongLength,
 use Rattle.ndushavire.specs.Word.{word, callNumber, callValue, callWord, Reads, ReadsCheck}
 use Rattle.worked.proofs.Sample.{header, person, request, answer, s, z, opened}
 use Rattle.demands.specs.Call.{Tried, unsound, answerTo}
-use Rattle.demands.specs.Frame.{firstOwner, askedIn, subscriptionOf, alterable}
+use Rattle.demands.specs.Frame.{firstOwner, askedIn, subscriptionOf}
 use Rattle.demands.specs.Insertion.{message, requestOf, Foreign, Quiet, Inserted, ending, keep, put, FirstMarked, faultIn, Cut, Longer, firstMark, newer, Newer}
 use Rattle.demands.proofs.Demands.{promised, checked, demand-1, demand-1-number, demand-1-none, demand-1-block, demand-1-length, demand-1-fits, demand-1-word, demand-1-kept}
 use Rattle.demands.proofs.Demands.{demand-2, demand-2-failure, demand-2-others, demand-2-header, demand-2-bytes, demand-2-bits, demand-2-size, demand-2-sound, demand-2-question, demand-2-room, demand-2-past}
@@ -89,7 +89,7 @@ loud = record { avp = headBytes 999 64 11 ++ (1 ∷ 2 ∷ 3 ∷ []); pad = 0xFF 
 -- all that the instances open
 all : ℕ
 unfolding opened table removed room base vendor head session application common own rest sar comes plain zeroVendor loud
-    message glue bytesOf avpsOf firstOwner askedIn subscriptionOf alterable faultIn
+    message glue bytesOf avpsOf firstOwner askedIn subscriptionOf faultIn
 all = 0
 
 -- the table is sound; the SAR is a success, which rewrites record 1 alone
@@ -165,7 +165,6 @@ met-2-header : blockOf (serve (sar s 5) table [] room .table) 0 ≡ blockOf tabl
 met-2-header = demand-2-header (sar s 5) table [] room 2 sound-table
 
 met-2-bytes : getD (blockOf (serve (sar s 5) table [] room .table) 1) 144 0 ≡ getD (blockOf table 1) 144 0
-unfolding alterable
 met-2-bytes = demand-2-bytes (sar s 5) table [] room 2 sound-table 1 144 (lit≤ tt) (lit< tt) refl
 
 met-2-bits : getD (blockOf (serve (sar s 5) table [] room .table) 1) 9 0 / 2 ≡ getD (blockOf table 1) 9 0 / 2
