@@ -37,7 +37,7 @@ fn keep(t: &[u8]) -> bool
     h[Header::KEEP_AT] == 1
 }
 
-fn plan_uar(req: &[u8], t: &[u8], count: usize, found: [usize; 17]) -> Plan
+fn plan_uar(req: &[u8], t: &[u8], count: usize, found: [usize; kinds::KINDS]) -> Plan
     requires { ⌜ Ready (now t) count × (commandOf (now req) ≡ 300) ⌝ }
     ensures { λ r. ⌜ Plans (now (req .entry)) (now (t .entry)) count (seenOf (now (req .entry)) found) r ⌝ }
 {
@@ -51,7 +51,7 @@ fn plan_uar(req: &[u8], t: &[u8], count: usize, found: [usize; 17]) -> Plan
     ))
 }
 
-fn plan_sar(req: &[u8], t: &[u8], count: usize, found: [usize; 17]) -> Plan
+fn plan_sar(req: &[u8], t: &[u8], count: usize, found: [usize; kinds::KINDS]) -> Plan
     requires { ⌜ Ready (now t) count × (readRequest (now req) ≡ fine (seenOf (now req) found)) × (commandOf (now req) ≡ 301) ⌝ }
     ensures { λ r. ⌜ Plans (now (req .entry)) (now (t .entry)) count (seenOf (now (req .entry)) found) r ⌝ }
 {
@@ -68,7 +68,7 @@ fn plan_sar(req: &[u8], t: &[u8], count: usize, found: [usize; 17]) -> Plan
     )
 }
 
-fn plan_lir(req: &[u8], t: &[u8], count: usize, found: [usize; 17]) -> Plan
+fn plan_lir(req: &[u8], t: &[u8], count: usize, found: [usize; kinds::KINDS]) -> Plan
     requires { ⌜ Ready (now t) count × (commandOf (now req) ≡ 300 → ⊥) × (commandOf (now req) ≡ 301 → ⊥) ⌝ }
     ensures { λ r. ⌜ Plans (now (req .entry)) (now (t .entry)) count (seenOf (now (req .entry)) found) r ⌝ }
 {
@@ -80,7 +80,7 @@ fn plan_lir(req: &[u8], t: &[u8], count: usize, found: [usize; 17]) -> Plan
 }
 
 // The plan of a request that was read, by its command.
-fn plan_read(req: &[u8], t: &[u8], count: usize, found: [usize; 17]) -> Plan
+fn plan_read(req: &[u8], t: &[u8], count: usize, found: [usize; kinds::KINDS]) -> Plan
     requires { ⌜ Ready (now t) count × (readRequest (now req) ≡ fine (seenOf (now req) found)) × (20 ≤ length (now req)) ⌝ }
     ensures { λ r. ⌜ Plans (now (req .entry)) (now (t .entry)) count (seenOf (now (req .entry)) found) r ⌝ }
 {
@@ -102,7 +102,7 @@ fn stored(named: bool, server: &[u8]) -> &[u8]
 }
 
 // The effect that is planned, if there is one.
-fn carry_out(t: &mut [u8], count: usize, req: &[u8], found: [usize; 17], p: Plan)
+fn carry_out(t: &mut [u8], count: usize, req: &[u8], found: [usize; kinds::KINDS], p: Plan)
     requires { ⌜ Ready (now t) count × (p .write ≡ true → Fitting (p .state) (storedName (p .named) (dataIn (seenOf (now req) found) 10))) ⌝ }
     ensures { λ _. ⌜ now (t .exit) ≡ planned (now (t .entry)) count (assignmentOf (seenOf (now (req .entry)) found) (now (req .entry))) p ⌝ }
 {
@@ -140,7 +140,7 @@ fn answer_read(
     t: &mut [u8],
     file: &[u8],
     count: usize,
-    found: [usize; 17],
+    found: [usize; kinds::KINDS],
 ) -> usize
     requires { ⌜ Passed (now req) (now out) × SoundTable (now t) (length (now file)) count × (readRequest (now req) ≡ fine (seenOf (now req) found)) ⌝ }
     ensures { λ r. ⌜ (r ≤ 36864) × Answers (now (req .entry)) (now (t .entry)) count (now (file .entry)) (now (out .entry)) (now (out .exit)) r
