@@ -11,7 +11,6 @@ use Rattle.lookup.specs.SoundTable.{SoundTable}
 use Rattle.rewrite.specs.Renew.{Fitting}
 use Rattle.reading.specs.Rules.{Seen, bad, fine}
 use Rattle.reading.specs.Request.{bodyOf, readRequest, dataIn}
-use Rattle.reading.specs.Found.{failedBy}
 use Rattle.reading.specs.declared.Verdict.{Verdict}
 use Rattle.decisions.specs.Reply.{Reply}
 use Rattle.decisions.specs.Gives.{givenFault}
@@ -27,7 +26,7 @@ use Rattle.deciding.specs.Plans.{Plans, Answers}
 use Rattle.fitting.proofs.Room.{decide-room, answer-most}
 
 -- A fault: the reply is the verdict's, and the table stays.
-module _ (req t file : List ℕ) (count : ℕ) (v : Verdict) (is : readRequest req ≡ bad (v .result) (failedBy req v)) where
+module _ (req t file : List ℕ) (count : ℕ) (v : Verdict) (is : readRequest req ≡ bad v) where
   pub fault-reply : (g : Given) → g ≡ givenFault v → replyOf req t file g ≡ decide req t count file .reply
   unfolding decide decideJudged
   fault-reply g e = reply-fault req t file v e ∙ rw is

@@ -21,7 +21,7 @@ ghost use Rattle.lookup.specs.SoundTable.{SoundTable};
 ghost use Rattle.rewrite.specs.Renew.{Fitting};
 ghost use Rattle.reading.specs.Rules.{bad, fine};
 ghost use Rattle.reading.specs.Request.{commandOf, readRequest, dataIn};
-ghost use Rattle.reading.specs.Found.{seenOf, failedBy};
+ghost use Rattle.reading.specs.Found.{seenOf};
 ghost use Rattle.decisions.specs.Assignment.{storedName};
 ghost use Rattle.decisions.specs.Decide.{assignmentOf, decide};
 ghost use Rattle.decisions.specs.Planned.{Ready, planned};
@@ -127,7 +127,7 @@ fn answer_fault(
     count: usize,
     v: Verdict,
 ) -> usize
-    requires { ⌜ Passed (now req) (now out) × SoundTable (now t) (length (now file)) count × (readRequest (now req) ≡ bad (v .result) (failedBy (now req) v)) ⌝ }
+    requires { ⌜ Passed (now req) (now out) × SoundTable (now t) (length (now file)) count × (readRequest (now req) ≡ bad v) ⌝ }
     ensures { λ r. ⌜ (r ≤ 36864) × Answers (now (req .entry)) (now (t .entry)) count (now (file .entry)) (now (out .entry)) (now (out .exit)) r ⌝ }
 {
     answering::answer(out, req, t, file, count, giving::faulty(v))

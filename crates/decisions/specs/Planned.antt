@@ -10,7 +10,7 @@ use Rattle.lookup.specs.Network.{Short}
 use Rattle.lookup.specs.SoundTable.{Ordered}
 use Rattle.rewrite.specs.Change.{afterOf}
 use Rattle.rewrite.specs.Renew.{settled}
-use Rattle.reading.specs.Found.{failedBy}
+use Rattle.failed.specs.Failing.{failedBy}
 use Rattle.decisions.specs.Reply.{Reply}
 use Rattle.decisions.specs.Assignment.{Decision, Assignment, isOne, findAll, numbersOf, ownedUpTo, storedName}
 use Rattle.decisions.specs.declared.Given.{Given}

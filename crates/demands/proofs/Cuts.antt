@@ -18,13 +18,13 @@ use Rattle.ndushavire.specs.Serve.{wrongLength}
 use Rattle.demands.specs.Insertion.{message, Cut}
 
 -- bytes cut into a row of whole AVPs and what is behind it
-record Row (t : List ℕ) : Type 0 where
-  row : List Piece
-  tail : List ℕ
-  whole : All Whole row
-  fours : length tail % 4 ≡ 0
-  stops : sound tail ≡ false
-  bytes : t ≡ bytesOf row ++ tail
+pub record Row (t : List ℕ) : Type 0 where
+  pub row : List Piece
+  pub tail : List ℕ
+  pub whole : All Whole row
+  pub fours : length tail % 4 ≡ 0
+  pub stops : sound tail ≡ false
+  pub bytes : t ≡ bytesOf row ++ tail
 
 -- the AVP at the front, with its padding
 module _ (t : List ℕ) (s : sound t ≡ true) (fours : length t % 4 ≡ 0) where
@@ -79,7 +79,7 @@ module _ (t : List ℕ) (s : sound t ≡ true) (fours : length t % 4 ≡ 0) wher
   rest-shorter : length (drop p t) < length t
   rest-shorter = let h = sound-says t s in rw length-drop (omega (arith, h .eight, h .least, within, padded-within .0, padded-within .2))
 
-abbrev Rows : ℕ → Type 0
+abbrev pub Rows : ℕ → Type 0
 Rows k = (t : List ℕ) → length t ≤ k → length t % 4 ≡ 0 → Row t
 
 row-none : (t : List ℕ) → length t % 4 ≡ 0 → sound t ≡ false → Row t
@@ -107,7 +107,7 @@ unfolding sound
 row-start [] h f = row-none [] f refl
 row-start (x ∷ t) h f = absurd (omega arith)
 
-row-of : (k : ℕ) → Rows k
+pub row-of : (k : ℕ) → Rows k
 row-of zero = row-start
 row-of (suc k) = row-step k (row-of k)
 

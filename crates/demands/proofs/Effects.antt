@@ -110,7 +110,7 @@ module _ (req t : List ℕ) (count : ℕ) (file : List ℕ) where
 
   judged-cases : (j : Judged) → readRequest req ≡ j → Result
   unfolding decide decideJudged
-  judged-cases (bad r f) e = inl (rw e)
+  judged-cases (bad v) e = inl (rw e)
   judged-cases (fine seen) e = read-cases seen e (rw e)
 
   pub decide-cases : (decide req t count file .table ≡ t) ⊎ Assigned req t count file

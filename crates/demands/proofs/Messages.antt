@@ -18,15 +18,15 @@ use Rattle.table.specs.Check.{checkTable}
 use Rattle.table.specs.declared.Checked.{Checked}
 use Rattle.table.specs.declared.Checked.the-variants.{Sound, Bad}
 use Rattle.reading.specs.declared.Dialect.{Dialect}
-use Rattle.reading.specs.declared.Outcome.the-variants.{Base}
-use Rattle.reading.specs.Rules.{Judged, bad, fine}
-use Rattle.reading.specs.Request.{commandOf, dialectOf, cx, headerFault, bodyOf, readWalk, readIn, readRequest, identities, sessionOf}
+use Rattle.reading.specs.Rules.{Judged, bad}
+use Rattle.reading.specs.Request.{commandOf, dialectOf, cx, headerFault, bodyOf, faultOf, readWalk, readIn, readRequest, identities, sessionOf}
 use Rattle.decisions.specs.Reply.{Reply}
 use Rattle.decisions.specs.Assignment.{Decision}
 use Rattle.decisions.specs.Decide.{assignmentOf, decideRead, decideJudged, decide}
 use Rattle.reply.specs.Answer.{proxies, endBytes, bodyBytes, headerBytes, answerBytes}
 use Rattle.ndushavire.specs.Serve.{refused, answered, smallBuffer, wrongSize, wrongLength, noRequest, serveChecked, serve}
 use Rattle.demands.specs.Insertion.{message}
+use Rattle.demands.proofs.Moved.{Moved, faults, same}
 
 -- a header with another length field
 module _ (head : List ℕ) (n : ℕ) where
@@ -94,16 +94,19 @@ module _ (head : List ℕ) (twenty : length head ≡ 20) (body : List ℕ) where
       let l : 15 ≤ length (drop 5 (putBe24 head 1 n)) = rw (length-drop, front) (omega arith) in
       rw (drop-append-le 5 (putBe24 head 1 n) body (omega (arith, front)), take-append-le 15 (drop 5 (putBe24 head 1 n)) body l, put-past head n)
 
-  pub message-body : bodyOf (message head body) ≡ walk body
+  pub message-drop : drop 20 (message head body) ≡ body
   unfolding message
-  message-body = rw (drop-at (putBe24 head 1 n) body 20 front)
+  message-drop = drop-at (putBe24 head 1 n) body 20 front
+
+  pub message-body : bodyOf (message head body) ≡ walk body
+  message-body = rw message-drop
 
   pub message-field : n < 16777216 → be24At (message head body) 1 ≡ n
   message-field h = be24-alike (message head body) (putBe24 head 1 n) 1 1 (λ j l. message-put (1 + j) (omega arith)) ∙ field-put head 1 n (omega arith) h
 
 -- reading a message: its header's fault, else its walk
 unfoldable pub readBody : List ℕ → Walk → Judged
-readBody head w = cond (eqb (headerFault (dialectOf cx head) head) 0) (readWalk (dialectOf cx head) w) (bad (Base (headerFault (dialectOf cx head) head)) none)
+readBody head w = cond (eqb (headerFault (dialectOf cx head) head) 0) (readWalk (dialectOf cx head) w) (bad (faultOf (headerFault (dialectOf cx head) head)))
 
 pub message-read : (head : List ℕ) → length head ≡ 20 → (body : List ℕ) → readRequest (message head body) ≡ readBody head (walk body)
 unfolding readIn readBody
@@ -157,16 +160,18 @@ module _ (head : List ℕ) (twenty : length head ≡ 20) (x y : List ℕ) (alike
   unfolding answered
   answered-same t o d = rw (answer-same (blockOf t 0) (d .reply))
 
-  module _ (read : readBody head (walk x) ≡ readBody head (walk y)) (named : identities (walk x) ≡ identities (walk y)) where
-    judged-same : (t : List ℕ) (count : ℕ) (file : List ℕ) (j : Judged) → decideJudged (message head x) t count file j ≡ decideJudged (message head y) t count file j
+  module _ {from : ℕ} {more : ℕ → ℕ} (read : Moved (message head x) (message head y) from more (readBody head (walk x)) (readBody head (walk y)))
+      (named : identities (walk x) ≡ identities (walk y)) where
+    judged-same : (t : List ℕ) (count : ℕ) (file : List ℕ) {j k : Judged} → Moved (message head x) (message head y) from more j k
+        → decideJudged (message head x) t count file j ≡ decideJudged (message head y) t count file k
     unfolding decideJudged decideRead assignmentOf
-    judged-same t count file (bad r f) = refl
-    judged-same t count file (fine seen) =
+    judged-same t count file (faults v w l) = rw (l .failed, l .result)
+    judged-same t count file (same seen) =
         rw (message-command head twenty x, message-command head twenty y, message-body head twenty x, message-body head twenty y, named)
 
     decide-same : (t : List ℕ) (count : ℕ) (file : List ℕ) → decide (message head x) t count file ≡ decide (message head y) t count file
     unfolding decide
-    decide-same t count file = rw (message-read head twenty x, message-read head twenty y, read) (judged-same t count file (readBody head (walk y)))
+    decide-same t count file = rw (message-read head twenty x, message-read head twenty y) (judged-same t count file read)
 
     checked-same : (t file o : List ℕ) (c : Checked) → serveChecked (message head x) t file o c ≡ serveChecked (message head y) t file o c
     unfolding serveChecked

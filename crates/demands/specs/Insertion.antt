@@ -63,11 +63,11 @@ pub record FirstMarked (qs rs : List Piece) : Type 0 where
 
 -- the header, or one of the AVPs in front, breaks a reading rule: (b) of the first, (a) and (c) to (h) of each
 abbrev pub isFault : Judged → Bool
-isFault (bad r f) = true
+isFault (bad v) = true
 isFault (fine seen) = false
 
 unfoldable pub faultIn : List ℕ → List Piece → Bool
-faultIn head qs = not (eqb (headerFault (dialectOf cx head) head) 0) || firstOther (glue (avpsOf qs) ended) || isFault (judge (dialectOf cx head) (glue (avpsOf qs) ended) nothing)
+faultIn head qs = not (eqb (headerFault (dialectOf cx head) head) 0) || firstOther (glue (avpsOf qs) ended) || isFault (judge (dialectOf cx head) 20 (glue (avpsOf qs) ended) nothing)
 
 -- (d) "kind unknown: with M B5001": the AVP is in Failed-AVP, and the table is as it was
 abbrev pub unsupported : List ℕ → Piece → Decision

@@ -17,7 +17,7 @@ use Rattle.lookup.specs.declared.Found.the-variants.{At, Nothing}
 use Rattle.diameter.specs.Walk.{walk}
 use Rattle.reading.specs.Kinds.{userName, publicIdentity, visitedNetwork, authorizationType}
 use Rattle.reading.specs.Rules.{Seen, Judged, bad, fine}
-use Rattle.reading.specs.Request.{commandOf, bodyOf, example, readRequest, dataIn, valueIn, identities}
+use Rattle.reading.specs.Request.{commandOf, bodyOf, readRequest, dataIn, valueIn, identities}
 use Rattle.reading.specs.declared.Outcome.{Outcome}
 use Rattle.reading.specs.declared.Outcome.the-variants.{Base, Experimental}
 use Rattle.decisions.specs.Types.{groupOf, isRemoval, effectOf}
@@ -27,9 +27,10 @@ use Rattle.decisions.specs.Location.{locateRecord, locateFound, locate}
 use Rattle.decisions.specs.Assignment.{Assignment, identityFault, every, isEmpty, firstOf, ownerOf, ownAt, storesAt, fitsAt, rightAt, recordsOf, allKnown, assigned, unaltered, effected, assignRecords, assignKnown, assign}
 use Rattle.decisions.specs.Decide.{assignmentOf, decideRead, decideJudged, decide}
 use Rattle.reply.specs.Answer.{failedPart}
-use Rattle.reply.proofs.Copies.{example-length}
+use Rattle.failed.specs.Failing.{example, failedBy}
+use Rattle.failed.proofs.Short.{example-length}
 use Rattle.fitting.proofs.Tests.{either}
-use Rattle.fitting.proofs.Short.{AllShort, ShortFault, walk-within, holds-short, read-short, identities-short}
+use Rattle.fitting.proofs.Short.{AllShort, walk-within, holds-short, failed-short, identities-short}
 
 module _ (t : List ℕ) (count : ℕ) (file : List ℕ) (P : Reply → Type 0) (alone : (o : Outcome) → P (plain o))
     (faulty : (o : Outcome) (f : Option (List ℕ)) → length (failedPart f) ≤ 16400 → P (failing o f)) (named : (o : Outcome) (k : ℕ) → P (serving o (serverOf (blockOf t k))))
@@ -98,7 +99,7 @@ module _ (t : List ℕ) (count : ℕ) (file : List ℕ) (P : Reply → Type 0) (
             (isEmpty ks || not (every (rightAt t (s .kind)) ks))
         go false ks = alone (Experimental 5001)
 
-  of-fault : (m : ℕ) → m ≤ 16364 → (removal given : Bool) (avps : List (List ℕ)) → AllShort m avps → (x : Reply) → identityFault removal given avps ≡ some x → P x
+  of-fault : (m : ℕ) → m ≤ 16384 → (removal given : Bool) (avps : List (List ℕ)) → AllShort m avps → (x : Reply) → identityFault removal given avps ≡ some x → P x
   unfolding identityFault
   of-fault m h removal given [] i x e = go (removal && given) e
     where
@@ -106,7 +107,7 @@ module _ (t : List ℕ) (count : ℕ) (file : List ℕ) (P : Reply → Type 0) (
       go true q = absurd (Option·none-ne-some x q)
       go false q =
           let z : failing (Base 5005) (some (example publicIdentity)) ≡ x = cc in
-          rw (← z) (faulty (Base 5005) (some (example publicIdentity)) (omega (arith, example-length publicIdentity)))
+          rw (← z) (faulty (Base 5005) (some (example publicIdentity)) (holds-short 16384 (example publicIdentity) (omega arith) (omega (arith, example-length publicIdentity))))
   of-fault m h removal given (a ∷ []) i x e = absurd (Option·none-ne-some x e)
   of-fault m h removal given (a ∷ (b ∷ avps)) i x e = go removal e
     where
@@ -116,7 +117,7 @@ module _ (t : List ℕ) (count : ℕ) (file : List ℕ) (P : Reply → Type 0) (
 
   pub of-decide : (req : List ℕ) → 20 ≤ length req → length req ≤ 16384 → P (decide req t count file .reply)
   unfolding decide decideJudged decideRead assignmentOf walk assign
-  of-decide req h k = go (readRequest req) (read-short req h k)
+  of-decide req h k = go (readRequest req)
     where
       within : AllShort (length (drop 20 req)) (identities (bodyOf req))
       within = identities-short (length (drop 20 req)) (bodyOf req) (walk-within (length (drop 20 req)) 0 (drop 20 req) (omega arith))
@@ -133,6 +134,6 @@ module _ (t : List ℕ) (count : ℕ) (file : List ℕ) (P : Reply → Type 0) (
       by false true seen = sar (assignmentOf seen req) refl (eqb (getD (blockOf t 0) 12 0) 1)
       by false false seen = of-lir (dataIn seen publicIdentity)
 
-      go : (j : Judged) → ShortFault j → P (decideJudged req t count file j .reply)
-      go (bad r f) s = faulty r f s
-      go (fine seen) s = by (eqb (commandOf req) 300) (eqb (commandOf req) 301) seen
+      go : (j : Judged) → P (decideJudged req t count file j .reply)
+      go (bad v) = faulty (v .result) (failedBy req v) (failed-short req v k)
+      go (fine seen) = by (eqb (commandOf req) 300) (eqb (commandOf req) 301) seen
