@@ -14,6 +14,7 @@ use Rattle.table.specs.declared.Checked.the-variants.{Sound, Bad}
 use Rattle.diameter.specs.Avp.{sound}
 use Rattle.diameter.specs.Put.{Piece, Whole, All}
 use Rattle.reading.specs.Request.{commandOf}
+use Rattle.rewrite.specs.Change.{alterable}
 use Rattle.ndushavire.specs.declared.Call.the-variants.{Answered, Refused}
 use Rattle.ndushavire.specs.Lent.{Lent, asking}
 use Rattle.ndushavire.specs.Serve.{wrongSize, wrongLength, checkOf, trials, answered, decision, serve}
@@ -21,7 +22,7 @@ use Rattle.ndushavire.specs.Word.{callNumber, callValue, callWord, callIn, Read
 use Rattle.ndushavire.specs.Promise.{CheckPromise, DecidePromise}
 use Rattle.demands.proofs.Firm.{check-said}
 use Rattle.demands.specs.Call.{turnedAway, answerTo, Exactly}
-use Rattle.demands.specs.Frame.{succeeds, subscriptionOf, alterable}
+use Rattle.demands.specs.Frame.{succeeds, subscriptionOf}
 use Rattle.demands.specs.Insertion.{requestOf, Foreign, Quiet, Inserted, FirstMarked, faultIn, unsupported, Cut, Longer, Newer}
 use Rattle.demands.proofs.Refusals.{refusals, number-most, besides-none, besides-block, answer-long, answer-within, word-reads, refused-kept}
 use Rattle.demands.proofs.Refusals.{answered-is, buffer-length, buffer-past}

@@ -10,7 +10,8 @@ use lib.Dec.{eqb, leb}
 use borrow.Author.Tests.{eqb-true}
 use Rattle.record.specs.Fields.{profileOf}
 use Rattle.table.specs.Blocks.{blockOf, privateAt}
-use Rattle.rewrite.specs.Effect.{afterOf}
+use Rattle.rewrite.specs.Change.{afterOf}
+use Rattle.rewrite.specs.Renew.{settled}
 use Rattle.reading.specs.Rules.{Seen, Judged, bad, fine}
 use Rattle.reading.specs.Request.{commandOf, readRequest}
 use Rattle.reading.specs.declared.Outcome.the-variants.{Experimental}
@@ -26,8 +27,8 @@ pub record Altered (t : List ℕ) (count : ℕ) (keep : Bool) (s : Assignment) (
   pub known : allKnown t count s ≡ true
   pub owned : every (ownAt t (ownerOf t s (recordsOf t count s))) (recordsOf t count s) ≡ true
   pub result : d .reply .result ≡ effectOf (s .kind) keep .result
-  pub table : d .table ≡ afterOf t count (isOne (recordsOf t count s)) (effectOf (s .kind) keep .state)
-      (storedName (effectOf (s .kind) keep .named) (s .server))
+  pub table : d .table ≡ afterOf t count (isOne (recordsOf t count s))
+      (settled (effectOf (s .kind) keep .state) (storedName (effectOf (s .kind) keep .named) (s .server)))
 
 module _ (t : List ℕ) (count : ℕ) (file : List ℕ) (keep : Bool) (s : Assignment) where
   abbrev fault : Option Reply

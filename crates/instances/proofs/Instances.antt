@@ -25,7 +25,7 @@ use Rattle.ndushavire.specs.Serve.{Served, trials, decision, serve}
 use Rattle.ndushavire.specs.Word.{word, callNumber, callValue, callWord, Reads, ReadsCheck}
 use Rattle.worked.proofs.Sample.{header, person, request, answer, s, z, opened}
 use Rattle.demands.specs.Call.{answerTo}
-use Rattle.demands.specs.Frame.{firstOwner, askedIn, subscriptionOf, alterable}
+use Rattle.demands.specs.Frame.{firstOwner, askedIn, subscriptionOf}
 use Rattle.demands.specs.Insertion.{message, requestOf, Foreign, Quiet, Inserted, ending, keep, put, FirstMarked, faultIn, Cut, Longer, firstMark, newer, Newer}
 use Rattle.demands.proofs.Demands.{promised, checked, demand-1, demand-1-number, demand-1-none, demand-1-block, demand-1-length, demand-1-fits}
 use Rattle.demands.proofs.Demands.{demand-1-within, demand-1-word, demand-1-kept}
@@ -96,7 +96,7 @@ loud = record { avp = headBytes 999 64 11 ++ (1 ∷ 2 ∷ 3 ∷ []); pad = 0xFF 
 -- all that the instances open
 all : ℕ
 unfolding opened table removed room base vendor head session application common own rest sar comes plain zeroVendor loud
-    message glue bytesOf avpsOf firstOwner askedIn subscriptionOf alterable anyHolds faultIn
+    message glue bytesOf avpsOf firstOwner askedIn subscriptionOf anyHolds faultIn
 all = 0
 
 -- the table is sound; the SAR is a success, which rewrites record 1 alone
@@ -180,7 +180,6 @@ met-2-header : blockOf (serve (asked (sar s 5)) .table) 0 ≡ blockOf table 0
 met-2-header = demand-2-header (asked (sar s 5)) 2 sound-table
 
 met-2-bytes : getD (blockOf (serve (asked (sar s 5)) .table) 1) 144 0 ≡ getD (blockOf table 1) 144 0
-unfolding alterable
 met-2-bytes = demand-2-bytes (asked (sar s 5)) 2 sound-table 1 144 (lit≤ tt) (lit< tt) refl
 
 met-2-bits : getD (blockOf (serve (asked (sar s 5)) .table) 1) 9 0 / 2 ≡ getD (blockOf table 1) 9 0 / 2

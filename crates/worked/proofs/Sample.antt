@@ -16,8 +16,8 @@ use Rattle.table.specs.Blocks.{blockOf, tableOf, publicAt, privateAt}
 use Rattle.table.specs.Check.{risesAt, soundAt, firstBad, checkRecords, checkTable}
 use Rattle.lookup.specs.Find.{firstFrom, publicIs, findPublic, privateIs, findPrivate, serverHere, servesAt, findServer}
 use Rattle.lookup.specs.Network.{networkIs, seek, networkNumber, roamsIn}
-use Rattle.rewrite.specs.Renew.{lacking, sealed, renewed, rewritten}
-use Rattle.rewrite.specs.Effect.{settled, settledAt, afterOf}
+use Rattle.rewrite.specs.Change.{changedAt, afterOf}
+use Rattle.rewrite.specs.Renew.{negated, sealed, renewed, settled}
 use Rattle.diameter.specs.Avp.{padded, headOf, vendorOf, valueOf, sound}
 use Rattle.diameter.specs.Walk.{walkFrom, walk}
 use Rattle.pen.specs.Bytes.{padding, vendorHead, copied, avpBytes, vendorBytes, numberBytes, vendorNumber, group, vendorGroup, ifThere}
@@ -99,7 +99,7 @@ unfolding host realm block header person request answer common assignment one tw
     allBelow orderOf alikeAt same be16At be24At be32At putBe24 putBe32 zeros zeroBetween putName over sumWords
     hostOf realmOf publicOf privateOf serverOf headerOf soundHeader networkOf usedPlace soundPlace sameByte otherPlace newPlace soundNetworks recordOf soundRecord
     blockOf tableOf publicAt privateAt risesAt soundAt firstBad checkRecords checkTable firstFrom publicIs findPublic privateIs findPrivate serverHere servesAt findServer
-    networkIs seek networkNumber roamsIn lacking sealed renewed rewritten settled settledAt afterOf padded headOf vendorOf valueOf sound walkFrom walk
+    networkIs seek networkNumber roamsIn negated sealed renewed settled changedAt afterOf padded headOf vendorOf valueOf sound walkFrom walk
     padding vendorHead copied avpBytes vendorBytes numberBytes vendorNumber group vendorGroup ifThere vendorApplication experimental failed vendorNumbers capabilities
     known kindFrom kindBy rowOf useIn isMember members numberFault contentFault nothing ruleBy rule judge
     headerFault headPart alone failedOf sample exampleOf failedBy missingFrom missing complete readWalk readIn identities served mandatoryOf optionalOf profileOf
