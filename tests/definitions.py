@@ -86,6 +86,7 @@ def opened():
 
 CASES = '''%s
 use mathlib.Core.Path.{_≡_}
+use Rattle.ndushavire.specs.Lent.{lent}
 use Rattle.ndushavire.specs.Word.{callIn}
 
 -- all that the cases open
@@ -106,7 +107,7 @@ pub record Case : Type 0 where
 
 abbrev pub Agrees : Case → Type 0
 Agrees c =
-    serve (c .request) (c .table) (c .profile) (replicate (c .room) 0)
+    serve (lent (c .request) (c .table) (c .profile) (replicate (c .room) 0))
     ≡ record { call = callIn (c .word); table = sets (c .table) (c .at) (c .changed); buffer = over (c .answer) (replicate (c .room) 0) }
 
 abbrev pub Agree : List Case → Type 0

@@ -37,10 +37,12 @@ use Rattle.decisions.specs.Assignment.{Assignment, identityFault, every, isOne,
 use Rattle.decisions.specs.Decide.{assignmentOf, decide}
 use Rattle.decisions.proofs.Ready.{public-within}
 use Rattle.assignment.proofs.OwnTurns.{no-zero}
-use Rattle.ndushavire.specs.Serve.{answered, serve}
+use Rattle.ndushavire.specs.Lent.{Lent}
+use Rattle.ndushavire.specs.Word.{checkValue}
+use Rattle.ndushavire.specs.Serve.{checkOf, answered, serve}
 use Rattle.demands.specs.Call.{turnedAway}
 use Rattle.demands.specs.Frame.{succeeds, ownerAt, firstOwner, askedIn, subscriptionOf, alterable}
-use Rattle.demands.proofs.Refusals.{refused-kept, answered-is, counted}
+use Rattle.demands.proofs.Refusals.{refused-kept, answered-is, taken}
 use Rattle.demands.proofs.Effects.{Assigned, decide-cases}
 
 -- a test of all the records holds of each; block 0 is none of them
@@ -199,61 +201,70 @@ module _ (req t : List ℕ) (count : ℕ) (file : List ℕ) (size : length t ≡
       (e .fit (asked .server) (server-least req (a .seen) (a .read) (a .command))))
 
 -- what holds of the table as it came, and of the table that an effect leaves, holds after every call
-module _ (req t file o : List ℕ) (count : ℕ) (sound : checkTable t (length file) ≡ Sound count) (P : List ℕ → Type 0) where
-  after-decision : P t → (Assigned req t count file → P (decide req t count file .table)) → P (decide req t count file .table)
-  after-decision p q = go (decide-cases req t count file)
-    where
-      go : (decide req t count file .table ≡ t) ⊎ Assigned req t count file → P (decide req t count file .table)
-      go (inl e) = rw e p
-      go (inr a) = q a
+module _ (x : Lent) (count : ℕ) (sound : checkOf x ≡ Sound count) where
+  abbrev req : List ℕ
+  req = x .request
 
-  after-call : P t → (Assigned req t count file → P (decide req t count file .table)) → P (serve req t file o .table)
-  unfolding answered
-  after-call p q = go (turnedAway req t file o) refl
-    where
-      go : (x : Bool) → turnedAway req t file o ≡ x → P (serve req t file o .table)
-      go true e = rw (refused-kept req t file o e .0) p
-      go false e = rw (answered-is req t file o count sound e) (after-decision p q)
+  abbrev t : List ℕ
+  t = x .table
 
-module _ (req t file o : List ℕ) (count : ℕ) (sound : checkTable t (length file) ≡ Sound count) where
+  abbrev file : List ℕ
+  file = x .profile
+
+  module _ (P : List ℕ → Type 0) where
+    after-decision : P t → (Assigned req t count file → P (decide req t count file .table)) → P (decide req t count file .table)
+    after-decision p q = go (decide-cases req t count file)
+      where
+        go : (decide req t count file .table ≡ t) ⊎ Assigned req t count file → P (decide req t count file .table)
+        go (inl e) = rw e p
+        go (inr a) = q a
+
+    after-call : P t → (Assigned req t count file → P (decide req t count file .table)) → P (serve x .table)
+    unfolding answered
+    after-call p q = go (turnedAway x) refl
+      where
+        go : (y : Bool) → turnedAway x ≡ y → P (serve x .table)
+        go true e = rw (refused-kept x e .0) p
+        go false e = rw (answered-is x count sound e) (after-decision p q)
+
   says : SoundTable t (length file) count
   says = sound-says t (length file) count sound
 
-  pub failure-kept : succeeds (decide req t count file .reply .result) ≡ false → serve req t file o .table ≡ t
+  pub failure-kept : succeeds (decide req t count file .reply .result) ≡ false → serve x .table ≡ t
   failure-kept e =
-      after-call req t file o count sound (λ (x : List ℕ). x ≡ t) refl
+      after-call (λ (y : List ℕ). y ≡ t) refl
       (λ a. absurd (true≢false (sym (assigned-good req t count file (says .size) a) ∙ e)))
 
-  pub others-kept : (k : ℕ) → k ≤ count → some (privateAt t k) ≢ subscriptionOf req t count → blockOf (serve req t file o .table) k ≡ blockOf t k
-  others-kept k h n = after-call req t file o count sound (λ (x : List ℕ). blockOf x k ≡ blockOf t k) refl (λ a. stays a (isOne (recordsOf t count (assignmentOf (a .seen) req)) k) refl)
+  pub others-kept : (k : ℕ) → k ≤ count → some (privateAt t k) ≢ subscriptionOf req t count → blockOf (serve x .table) k ≡ blockOf t k
+  others-kept k h n = after-call (λ (y : List ℕ). blockOf y k ≡ blockOf t k) refl (λ a. stays a (isOne (recordsOf t count (assignmentOf (a .seen) req)) k) refl)
     where
       stays : (a : Assigned req t count file) (x : Bool) → isOne (recordsOf t count (assignmentOf (a .seen) req)) k ≡ x → blockOf (decide req t count file .table) k ≡ blockOf t k
       stays a true e = absurd (n (assigned-owner req t count file (says .size) a k e))
       stays a false e = assigned-stays req t count file (says .size) a k h e
 
-  pub header-kept : blockOf (serve req t file o .table) 0 ≡ blockOf t 0
+  pub header-kept : blockOf (serve x .table) 0 ≡ blockOf t 0
   header-kept =
-      after-call req t file o count sound (λ (x : List ℕ). blockOf x 0 ≡ blockOf t 0) refl
+      after-call (λ (y : List ℕ). blockOf y 0 ≡ blockOf t 0) refl
       (λ a. assigned-stays req t count file (says .size) a 0 (omega arith) (records-later t count (assignmentOf (a .seen) req)))
 
-  pub bytes-kept : (k i : ℕ) → k ≤ count → i < 512 → alterable i ≡ false → getD (blockOf (serve req t file o .table) k) i 0 ≡ getD (blockOf t k) i 0
+  pub bytes-kept : (k i : ℕ) → k ≤ count → i < 512 → alterable i ≡ false → getD (blockOf (serve x .table) k) i 0 ≡ getD (blockOf t k) i 0
   bytes-kept k i h l e =
-      after-call req t file o count sound (λ (x : List ℕ). getD (blockOf x k) i 0 ≡ getD (blockOf t k) i 0) refl (λ a. assigned-bytes req t count file (says .size) a k i h l e)
+      after-call (λ (y : List ℕ). getD (blockOf y k) i 0 ≡ getD (blockOf t k) i 0) refl (λ a. assigned-bytes req t count file (says .size) a k i h l e)
 
-  pub bits-kept : (k : ℕ) → k ≤ count → getD (blockOf (serve req t file o .table) k) 9 0 / 2 ≡ getD (blockOf t k) 9 0 / 2
+  pub bits-kept : (k : ℕ) → k ≤ count → getD (blockOf (serve x .table) k) 9 0 / 2 ≡ getD (blockOf t k) 9 0 / 2
   bits-kept k h =
-      after-call req t file o count sound (λ (x : List ℕ). getD (blockOf x k) 9 0 / 2 ≡ getD (blockOf t k) 9 0 / 2) refl (λ a. assigned-bits req t count file (says .size) a k h)
+      after-call (λ (y : List ℕ). getD (blockOf y k) 9 0 / 2 ≡ getD (blockOf t k) 9 0 / 2) refl (λ a. assigned-bits req t count file (says .size) a k h)
 
-  pub size-kept : length (serve req t file o .table) ≡ length t
-  size-kept = after-call req t file o count sound (λ (x : List ℕ). length x ≡ length t) refl (λ a. assigned-length req t count file (says .size) a)
+  pub size-kept : length (serve x .table) ≡ length t
+  size-kept = after-call (λ (y : List ℕ). length y ≡ length t) refl (λ a. assigned-length req t count file (says .size) a)
 
-  pub sound-kept : checkTable (serve req t file o .table) (length file) ≡ Sound count
-  sound-kept = after-call req t file o count sound (λ (x : List ℕ). checkTable x (length file) ≡ Sound count) sound (λ a. assigned-sound req t count file (says .size) a says)
+  pub sound-kept : checkTable (serve x .table) (length file) ≡ Sound count
+  sound-kept = after-call (λ (y : List ℕ). checkTable y (length file) ≡ Sound count) sound (λ a. assigned-sound req t count file (says .size) a says)
 
 -- a question: no SAR, no effect
-pub question-kept : (req t file o : List ℕ) → commandOf req ≢ 301 → serve req t file o .table ≡ t
-question-kept req t file o n = go (turnedAway req t file o) refl
+pub question-kept : (x : Lent) → commandOf (x .request) ≢ 301 → serve x .table ≡ x .table
+question-kept x n = go (turnedAway x) refl
   where
-    go : (x : Bool) → turnedAway req t file o ≡ x → serve req t file o .table ≡ t
-    go true e = refused-kept req t file o e .0
-    go false e = counted req t file o e (λ count sound. after-call req t file o count sound (λ (x : List ℕ). x ≡ t) refl (λ a. absurd (n (a .command))))
+    go : (y : Bool) → turnedAway x ≡ y → serve x .table ≡ x .table
+    go true e = refused-kept x e .0
+    go false e = after-call x (checkValue (checkOf x)) (taken x e .table) (λ (y : List ℕ). y ≡ x .table) refl (λ a. absurd (n (a .command)))

@@ -24,10 +24,12 @@ use Rattle.failed.specs.Failing.{failedBy}
 use Rattle.failed.proofs.Fronts.{failed-piece, failed-whole}
 use Rattle.decisions.specs.Decide.{decideJudged, decide}
 use Rattle.reply.specs.Answer.{proxies}
-use Rattle.ndushavire.specs.Serve.{answered, noRequest, serve}
+use Rattle.ndushavire.specs.Lent.{Lent, asking}
+use Rattle.ndushavire.specs.Word.{checkValue}
+use Rattle.ndushavire.specs.Serve.{noRequest, checkOf, answered, decision, serve}
 use Rattle.demands.specs.Call.{turnedAway}
 use Rattle.demands.specs.Insertion.{message, requestOf, Foreign, isMarked, Quiet, Inserted, ending, keep, put, FirstMarked, isFault, faultIn, unsupported}
-use Rattle.demands.proofs.Refusals.{refused-kept, refused-alike, answered-is, counted}
+use Rattle.demands.proofs.Refusals.{refused-kept, refused-alike, answered-is, taken}
 use Rattle.demands.proofs.Moved.{putBefore, Moved, faults, same, moved-as, past-later, past-drop, failed-there, Row-moved, row-moved, ends-none, ends-same}
 use Rattle.demands.proofs.Messages.{message-length, message-flags, message-drop, message-read, readBody, Fit, size-right, length-right, Alike, served-same}
 
@@ -200,11 +202,11 @@ module _ (head : List ℕ) (twenty : length head ≡ 20) (q : Piece) (qs rs : Li
     both-named = rw (long-walk, short-walk) (foreign-identities (keep q i) (walk tail))
 
     both-served : {from : ℕ} {more : ℕ → ℕ} → Moved (message head long) (message head short) from more (readBody head (walk long)) (readBody head (walk short))
-        → (t file o : List ℕ) → serve (message head long) t file o ≡ serve (message head short) t file o
-    both-served e t file o = served-same head twenty long short both-alike e both-named t file o long-fit short-fit
+        → (x : Lent) → serve (asking x (message head long)) ≡ serve (asking x (message head short))
+    both-served e x = served-same head twenty long short both-alike e both-named x long-fit short-fit
 
-    turned-same : (t file o : List ℕ) → turnedAway (message head long) t file o ≡ turnedAway (message head short) t file o
-    turned-same t file o =
+    turned-same : (x : Lent) → turnedAway (asking x (message head long)) ≡ turnedAway (asking x (message head short))
+    turned-same x =
         rw (
           size-right head twenty long long-fit,
           size-right head twenty short short-fit,
@@ -214,12 +216,12 @@ module _ (head : List ℕ) (twenty : length head ≡ 20) (q : Piece) (qs rs : Li
           message-flags head twenty short,
         )
 
-    pub refused-same : (t file o : List ℕ) → turnedAway (message head short) t file o ≡ true → serve (message head long) t file o ≡ serve (message head short) t file o
-    refused-same t file o e =
+    pub refused-same : (x : Lent) → turnedAway (asking x (message head short)) ≡ true → serve (asking x (message head long)) ≡ serve (asking x (message head short))
+    refused-same x e =
         let size = size-right head twenty long long-fit ∙ sym (size-right head twenty short short-fit) in
         let lengths = length-right head twenty long long-fit ∙ sym (length-right head twenty short short-fit) in
         let flags : noRequest (message head long) ≡ noRequest (message head short) = rw (message-flags head twenty long, message-flags head twenty short) in
-        refused-alike (message head long) (message head short) t file o size lengths flags e
+        refused-alike x (message head long) (message head short) size lengths flags e
 
   -- the verdict of reading: the place of the AVP at fault moves by what was put in before it
   pub unmarked-moved : (j : Inserted Quiet qs rs) → Moved (message head long) (message head short) 0 (putBefore (keep q j) 20) (readBody head (walk long)) (readBody head (walk short))
@@ -232,7 +234,7 @@ module _ (head : List ℕ) (twenty : length head ≡ 20) (q : Piece) (qs rs : Li
       let m = row-moved (dialectOf cx head) l s tail tail w w ends (keep q j) whole 20 0 (omega arith) (message-drop head twenty long) (message-drop head twenty short) nothing in
       rw (long-walk (quiet-foreign j), short-walk) (walk-moved (none-before q j) head (avp (q .avp) (glue (avpsOf rs) w)) (avp (q .avp) (glue (avpsOf qs) w)) refl (moved-as (omega arith) (λ p h. zero-add (putBefore (keep q j) 20 p)) m))
 
-  pub unmarked-same : Inserted Quiet qs rs → (t file o : List ℕ) → serve (message head long) t file o ≡ serve (message head short) t file o
+  pub unmarked-same : Inserted Quiet qs rs → (x : Lent) → serve (asking x (message head long)) ≡ serve (asking x (message head short))
   unmarked-same j = both-served (quiet-foreign j) (unmarked-moved j)
 
 -- Some are marked: the row before the first marked one decides, or that one does.
@@ -329,7 +331,7 @@ module _ (head : List ℕ) (twenty : length head ≡ 20) (q : Piece) (qs rs : Li
   unfolding faultIn
   fault-moved e = rw (long-read, short-read) (fault-decides (none-before q (m .quiet)) head headed (frontOther q (m .front)) _ _ front-moved e)
 
-  pub fault-first : faultIn head (q ∷ m .front) ≡ true → (t file o : List ℕ) → serve longer t file o ≡ serve shorter t file o
+  pub fault-first : faultIn head (q ∷ m .front) ≡ true → (x : Lent) → serve (asking x longer) ≡ serve (asking x shorter)
   fault-first e = both-served head twenty q qs rs whole tail fours most i (fault-moved e)
 
   -- else the marked one does: its place is where it stands
@@ -355,25 +357,30 @@ module _ (head : List ℕ) (twenty : length head ≡ 20) (q : Piece) (qs rs : Li
   unfolding decide decideJudged
   mark-decides e t count file = rw (mark-read e, mark-failed)
 
-  pub mark-answered : faultIn head (q ∷ m .front) ≡ false → (t file o : List ℕ) → turnedAway shorter t file o ≡ false
-      → serve longer t file o ≡ answered longer t o (unsupported t (m .mark))
-  mark-answered e t file o away =
-      let f : turnedAway longer t file o ≡ false = turned-same head twenty q qs rs whole tail fours most i t file o ∙ away in
-      counted longer t file o f (λ count sound. answered-is longer t file o count sound f ∙ ap (answered longer t o) (mark-decides e t count file))
+  pub mark-answered : faultIn head (q ∷ m .front) ≡ false → (x : Lent) → turnedAway (asking x shorter) ≡ false
+      → serve (asking x longer) ≡ answered (asking x longer) (unsupported (x .table) (m .mark))
+  mark-answered e x away =
+      let f : turnedAway (asking x longer) ≡ false = turned-same head twenty q qs rs whole tail fours most i x ∙ away in
+      let count = checkValue (checkOf x) in
+      answered-is (asking x longer) count (taken (asking x longer) f .table) f ∙ ap (answered (asking x longer)) (mark-decides e (x .table) count (x .profile))
 
   long-decides : (t : List ℕ) (count : ℕ) (file : List ℕ) → decide longer t count file ≡ decideJudged longer t count file longRead
   unfolding decide
   long-decides t count file = rw (message-read head twenty (bytesOf (q ∷ rs) ++ tail), long-read)
 
-  pub marked-kept : (t file o : List ℕ) → serve longer t file o .table ≡ t
+  pub marked-kept : (x : Lent) → serve (asking x longer) .table ≡ x .table
   unfolding answered faultIn
-  marked-kept t file o = go (turnedAway longer t file o) refl (faultIn head (q ∷ m .front)) refl
+  marked-kept x = go (turnedAway (asking x longer)) refl (faultIn head (q ∷ m .front)) refl
     where
-      go : (x : Bool) → turnedAway longer t file o ≡ x → (y : Bool) → faultIn head (q ∷ m .front) ≡ y → serve longer t file o .table ≡ t
-      go true e y f = refused-kept longer t file o e .0
+      count : ℕ
+      count = checkValue (checkOf x)
+
+      answers : turnedAway (asking x longer) ≡ false → serve (asking x longer) ≡ answered (asking x longer) (decision (asking x longer) count)
+      answers e = answered-is (asking x longer) count (taken (asking x longer) e .table) e
+
+      go : (y : Bool) → turnedAway (asking x longer) ≡ y → (z : Bool) → faultIn head (q ∷ m .front) ≡ z → serve (asking x longer) .table ≡ x .table
+      go true e z f = refused-kept (asking x longer) e .0
       go false e true f =
-          counted longer t file o e
-          (λ count sound.
-          rw (answered-is longer t file o count sound e, long-decides t count file)
-          (fault-keeps (none-before q (m .quiet)) head headed (frontOther q (m .front)) (behind markPlace (m .mark ∷ m .after)) front-moved f longer t count file))
-      go false e false f = counted longer t file o e (λ count sound. rw (answered-is longer t file o count sound e, mark-decides f t count file))
+          rw (answers e, long-decides (x .table) count (x .profile))
+          (fault-keeps (none-before q (m .quiet)) head headed (frontOther q (m .front)) (behind markPlace (m .mark ∷ m .after)) front-moved f longer (x .table) count (x .profile))
+      go false e false f = rw (answers e, mark-decides f (x .table) count (x .profile))

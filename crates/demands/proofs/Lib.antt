@@ -9,3 +9,4 @@ pub mod Longer
 pub mod Messages
 pub mod Moved
 pub mod Refusals
+pub mod Trials

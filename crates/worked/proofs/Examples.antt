@@ -13,6 +13,7 @@ use Rattle.pen.specs.Bytes.{vendorHead, avpBytes, numberBytes}
 use Rattle.pen.specs.Groups.{experimental, failed}
 use Rattle.ndushavire.specs.declared.Call.{Call}
 use Rattle.ndushavire.specs.declared.Call.the-variants.{Answered, Refused}
+use Rattle.ndushavire.specs.Lent.{lent}
 use Rattle.ndushavire.specs.Serve.{serve}
 use Rattle.worked.proofs.Sample.{block, header, answer, assignment, one, two, s, z, opened}
 
@@ -25,7 +26,7 @@ data Case : Type 0 where
 
 abbrev Right : Case → Type 0
 Right (call req table room comes after bytes) =
-    serve req table [] (replicate room 0) ≡ record { call = comes; table = after; buffer = over bytes (replicate room 0) }
+    serve (lent req table [] (replicate room 0)) ≡ record { call = comes; table = after; buffer = over bytes (replicate room 0) }
 Right (check table answer) = checkTable table 0 ≡ answer
 Right (sum b n) = sumWords b 128 ≡ n
 
@@ -93,7 +94,7 @@ abbrev refusing : List ℕ → List ℕ → ℕ → ℕ → ℕ → Case
 refusing req table room number besides = call req table room (Refused number besides) table []
 
 abbrev answering : List ℕ → List ℕ → List ℕ → List ℕ → Case
-answering req table after bytes = call req table 36864 (Answered (length bytes)) after bytes
+answering req table after bytes = call req table 36864 (Answered (record { length = length bytes })) after bytes
 
 abbrev cases : List Case
 cases =

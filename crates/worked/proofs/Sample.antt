@@ -34,7 +34,8 @@ use Rattle.decisions.specs.Decide.{assignmentOf, decideRead, decideJudged, deci
 use Rattle.reading.specs.Found.{numberOf}
 use Rattle.failed.specs.Failing.{headPart, alone, failedOf, sample, exampleOf, failedBy}
 use Rattle.reply.specs.Answer.{resultBytes, proxies, frontBytes, originBytes, givenBytes, endBytes, bodyBytes, flagsOf, headerBytes, answerBytes}
-use Rattle.ndushavire.specs.Serve.{refused, answered, wrongLength, serveChecked, serve}
+use Rattle.ndushavire.specs.Trial.{tried}
+use Rattle.ndushavire.specs.Serve.{wrongLength, refused, answered, serve}
 
 -- `hss.isle` and `isle`
 unfoldable pub host : List ℕ
@@ -101,5 +102,5 @@ unfolding host realm block header person request answer common assignment one tw
     mayRoam authorizeRecord authorizeFound authorize locateRecord locateFound locate groupOf startOf effectOf
     identityFault every isOne findAll numbersOf ownedHere ownedUpTo recordsOf allKnown ownerOf ownAt storesAt fitsAt rightAt assigned storedName effected assignRecords assignKnown assign
     assignmentOf decideRead decideJudged decide numberOf resultBytes proxies frontBytes originBytes givenBytes endBytes bodyBytes flagsOf headerBytes answerBytes
-    refused answered serveChecked wrongLength serve
+    tried wrongLength refused answered serve
 opened = 0
