@@ -2,6 +2,7 @@
 
 pub mod group;
 pub mod kinds;
+pub mod plain;
 pub mod rules;
 
 ghost use mathlib.Core.Path.{_≡_};
@@ -73,6 +74,14 @@ pub struct Kind {
     pub uar: Use,
     pub sar: Use,
     pub lir: Use,
+}
+
+// A member of a group: its code and vendor (0: without V), its content, and whether it may come more than once.
+pub struct Member {
+    pub code: u32,
+    pub vendor: u32,
+    pub content: Content,
+    pub many: bool,
 }
 
 // What rules (c) to (h) say of one AVP: it is taken, it is skipped, or it is at fault with this base result.

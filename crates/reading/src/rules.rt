@@ -5,12 +5,13 @@ use crate::Ruled;
 use crate::Use;
 use crate::group;
 use crate::kinds;
+use crate::plain;
 use diameter::Avp;
 ghost use mathlib.Core.Path.{_≡_};
 ghost use Prim.Native.Nat.{_<_};
 ghost use Rattle.diameter.specs.Reader.{ownOf, Here};
 ghost use Rattle.reading.specs.Kinds.{kinds, kindOf};
-ghost use Rattle.reading.specs.Rules.{faultUnless, numberFault, contentFault, ofUnknown, ofContent, ofOnce, ruleBy, rule};
+ghost use Rattle.reading.specs.Rules.{contentFault, ofUnknown, ofContent, ofOnce, ruleBy, rule};
 ghost use Rattle.reading.specs.Found.{seenOf};
 
 // The faults that these rules find.
@@ -22,41 +23,17 @@ const BAD_CONTENT: u32 = 5004;
 
 const TOO_OFTEN: u32 = 5009;
 
-const WRONG_LENGTH: u32 = 5014;
-
-// A fault's number, or 0 where it is not there.
-fn fault_unless(good: bool, n: u32) -> u32
-    ensures { λ r. ⌜ r ≡ faultUnless good n ⌝ }
-{
-    if good { 0 } else { n }
-}
-
-// (g) "a 4-byte kind of another length", (h) or one whose number is not within the limits.
-fn number_fault(s: &[u8], a: Avp, least: u32, most: u32) -> u32
-    requires { ⌜ Here (now s) a ⌝ }
-    ensures { λ r. ⌜ r ≡ numberFault least most (ownOf (now (s .entry)) a) ⌝ }
-{
-    if a.len != a.head + 4 {
-        return WRONG_LENGTH;
-    }
-    let n = diameter::value_of(s, a);
-    fault_unless((least <= n) & (n <= most), BAD_CONTENT)
-}
-
 // (g), (h) The fault of what an AVP holds, 0 where there is none.
 pub fn content_fault(d: Dialect, c: Content, s: &[u8], a: Avp) -> u32
     requires { ⌜ Here (now s) a ⌝ }
     ensures { λ r. ⌜ r ≡ contentFault d c (ownOf (now (s .entry)) a) ⌝ }
 {
     match c {
-        Content::Free => 0,
-        Content::Number(least, most) => number_fault(s, a, least, most),
-        Content::Sized(least, most) => {
-            let n = a.len - a.head;
-            fault_unless((least <= n) & (n <= most), BAD_CONTENT)
-        }
-        Content::Application => fault_unless(
-            group::application_ok(d.application, diameter::data_part(s, a)),
+        Content::Free => plain::plain_fault(c, s, a),
+        Content::Number(_, _) => plain::plain_fault(c, s, a),
+        Content::Sized(_, _) => plain::plain_fault(c, s, a),
+        Content::Application => plain::fault_unless(
+            group::gathers(d, c, diameter::data_part(s, a)),
             BAD_CONTENT,
         ),
     }

@@ -22,7 +22,8 @@ use Rattle.reading.specs.declared.Use.{Use}
 use Rattle.reading.specs.declared.Use.the-variants.{Unknown, Unnamed, Needed, Optional, Repeated}
 use Rattle.reading.specs.declared.Verdict.{Verdict}
 use Rattle.reading.specs.Kinds.{kinds, known, unknown, kindOf, rowOf, useIn, useOf, isNeeded, sessionId, serverName}
-use Rattle.reading.specs.Rules.{faultUnless, contentFault, ofContent, ofUse, ruleBy, rule, Seen, nothing, Judged, bad, fine, onRule, judge}
+use Rattle.reading.specs.Contents.{faultUnless, plainFault}
+use Rattle.reading.specs.Rules.{contentFault, ofContent, ofUse, ruleBy, rule, Seen, nothing, Judged, bad, fine, onRule, judge}
 use Rattle.reading.specs.Request.{commandOf, dialectOf, cx, headerFault, firstOther, missingFrom, missing, complete, readWalk, readIn, readRequest, bodyOf, lacking, faultOf, given, dataIf, dataIn}
 
 -- every AVP that was taken holds what its kind must
@@ -164,7 +165,7 @@ no-fault false n e = absurd (omega arith)
 module _ (dialect : Dialect) (seen : Seen) (k : ℕ) (h : AllKept dialect seen) where
   -- the data of the AVP that was taken are of that length
   sized : (least most : ℕ) → rowOf k .content ≡ Sized least most → (a : List ℕ) → getD seen k none ≡ some a → (leb least (length (dataOf a)) && leb (length (dataOf a)) most) ≡ true
-  unfolding contentFault
+  unfolding contentFault plainFault
   sized least most e a d = no-fault _ 5003 (rw e at (h k a d))
 
   if-data : (o : Option (List ℕ)) (most : ℕ) → ((a : List ℕ) → o ≡ some a → length (dataOf a) ≤ most) → length (dataIf o) ≤ most
