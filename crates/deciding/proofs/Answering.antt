@@ -7,8 +7,10 @@ use lib.ListN.{length}
 use Rattle.octets.specs.Run.{Wrote}
 use Rattle.table.specs.Blocks.{blockOf}
 use Rattle.lookup.specs.SoundTable.{SoundTable}
-use Rattle.reading.specs.Rules.{Seen, bad, fine}
-use Rattle.reading.specs.Request.{bodyOf, readRequest, dataIn}
+use Rattle.reading.specs.Rules.{Seen}
+use Rattle.requests.specs.Judged.{bad, fine}
+use Rattle.diameter.specs.Message.{bodyOf}
+use Rattle.requests.specs.Request.{readRequest, dataSeen}
 use Rattle.reading.specs.declared.Verdict.{Verdict}
 use Rattle.requests.proofs.Kept.{server-most}
 use Rattle.decisions.specs.Reply.{Reply}
@@ -62,5 +64,5 @@ module _ (req t file : List ℕ) (count : ℕ) (g : Given) (is : replyOf req t f
       omega (arith, w .count, answer-most t file count s req (p .least) (p .most) (p .fours), ap (λ (x : Reply). length (answerBytes req (blockOf t 0) x)) is)
 
 -- A sound table is ready to be asked, and a Server-Name that was read has room in a record.
-pub read-fits : (req : List ℕ) (seen : Seen) → readRequest req ≡ fine seen → length (dataIn seen 10) ≤ 96
+pub read-fits : (req : List ℕ) (seen : Seen) → readRequest req ≡ fine seen → length (dataSeen seen 10) ≤ 96
 read-fits req seen e = server-most req seen e

@@ -10,7 +10,8 @@ use borrow.Author.Tests.{eq-eqb, ne-eqb}
 use Rattle.table.specs.Blocks.{blockOf}
 use Rattle.rewrite.specs.Effect.{afterOf}
 use Rattle.reading.specs.Rules.{Seen}
-use Rattle.reading.specs.Request.{commandOf, bodyOf, given, dataIn, valueIn, identities}
+use Rattle.diameter.specs.Message.{commandOf, bodyOf}
+use Rattle.requests.specs.Request.{given, dataSeen, valueSeen, identities}
 use Rattle.decisions.specs.Authorization.{authorize}
 use Rattle.decisions.specs.Location.{locate}
 use Rattle.decisions.specs.Gives.{Gives}
@@ -27,19 +28,19 @@ pub keep-read : (t : List ℕ) {h : List ℕ} → h ≡ blockOf t 0 → eqb (get
 keep-read t e = rw e
 
 module _ (req t : List ℕ) (count : ℕ) (seen : Seen) where
-  pub uar-planned : {user public network : List ℕ} {kind : ℕ} {g : Given} {p : Plan} → commandOf req ≡ 300 → user ≡ dataIn seen 7 → public ≡ dataIn seen 8 → network ≡ dataIn seen 9
-      → kind ≡ valueIn seen 13 → Gives t g (authorize t count user public network kind) → p ≡ only g → Plans req t count seen p
+  pub uar-planned : {user public network : List ℕ} {kind : ℕ} {g : Given} {p : Plan} → commandOf req ≡ 300 → user ≡ dataSeen seen 7 → public ≡ dataSeen seen 8 → network ≡ dataSeen seen 9
+      → kind ≡ valueSeen seen 13 → Gives t g (authorize t count user public network kind) → p ≡ only g → Plans req t count seen p
   unfolding decisionOf planned decideRead
   uar-planned c a b d e g p = record { decides = λ file. rw (p, g .reply req file, eq-eqb (commandOf req) 300 c, a, b, d, e) }
 
-  pub lir-planned : {public : List ℕ} {g : Given} {p : Plan} → (commandOf req ≡ 300 → ⊥) → (commandOf req ≡ 301 → ⊥) → public ≡ dataIn seen 8 → Gives t g (locate t count public)
+  pub lir-planned : {public : List ℕ} {g : Given} {p : Plan} → (commandOf req ≡ 300 → ⊥) → (commandOf req ≡ 301 → ⊥) → public ≡ dataSeen seen 8 → Gives t g (locate t count public)
       → p ≡ only g → Plans req t count seen p
   unfolding decisionOf planned decideRead
   lir-planned c d b g p = record { decides = λ file. rw (p, g .reply req file, ne-eqb (commandOf req) 300 c, ne-eqb (commandOf req) 301 d, b) }
 
-  pub sar-planned : {kind already : ℕ} {server user : List ℕ} {named keep : Bool} {p : Plan} → commandOf req ≡ 301 → kind ≡ valueIn seen 11 → server ≡ dataIn seen 10
-      → already ≡ valueIn seen 12
-      → named ≡ given seen 7 → user ≡ dataIn seen 7 → keep ≡ eqb (getD (blockOf t 0) 12 0) 1 → Assigns req t count (sarOf req kind server already named user) keep p
+  pub sar-planned : {kind already : ℕ} {server user : List ℕ} {named keep : Bool} {p : Plan} → commandOf req ≡ 301 → kind ≡ valueSeen seen 11 → server ≡ dataSeen seen 10
+      → already ≡ valueSeen seen 12
+      → named ≡ given seen 7 → user ≡ dataSeen seen 7 → keep ≡ eqb (getD (blockOf t 0) 12 0) 1 → Assigns req t count (sarOf req kind server already named user) keep p
       → Plans req t count seen p
   unfolding assignmentOf decideRead
   sar-planned {p = p} c a b d e f k h =
@@ -49,12 +50,12 @@ module _ (req t : List ℕ) (count : ℕ) (seen : Seen) where
 
 -- What is left of the table.
 module _ (t : List ℕ) (count : ℕ) (req : List ℕ) (seen : Seen) (p : Plan) where
-  pub carried-owned : {name server user y : List ℕ} → name ≡ dataIn seen 10 → server ≡ storedName (p .named) name → user ≡ dataIn seen 7 → p .write ≡ true → p .owned ≡ true
+  pub carried-owned : {name server user y : List ℕ} → name ≡ dataSeen seen 10 → server ≡ storedName (p .named) name → user ≡ dataSeen seen 7 → p .write ≡ true → p .owned ≡ true
       → y ≡ afterOf t count (isOne (ownedUpTo t user count)) (p .state) server → y ≡ planned t count (assignmentOf seen req) p
   unfolding planned plannedRecords assignmentOf
   carried-owned a b c d e f = rw (d, e) (f ∙ rw (b, a, c))
 
-  pub carried-named : {name server y : List ℕ} → name ≡ dataIn seen 10 → server ≡ storedName (p .named) name → p .write ≡ true → p .owned ≡ false
+  pub carried-named : {name server y : List ℕ} → name ≡ dataSeen seen 10 → server ≡ storedName (p .named) name → p .write ≡ true → p .owned ≡ false
       → y ≡ afterOf t count (isOne (numbersOf (findAll t count (identities (bodyOf req))))) (p .state) server → y ≡ planned t count (assignmentOf seen req) p
   unfolding planned plannedRecords assignmentOf
   carried-named a b d e f = rw (d, e) (f ∙ rw (b, a))
@@ -63,7 +64,7 @@ module _ (t : List ℕ) (count : ℕ) (req : List ℕ) (seen : Seen) (p : Plan) 
   unfolding planned
   carried-nothing d = rw d
 
-pub stored-fits : (seen : Seen) (name server : List ℕ) → name ≡ dataIn seen 10 → length server ≤ length name → length (dataIn seen 10) ≤ 96 → length server ≤ 96
+pub stored-fits : (seen : Seen) (name server : List ℕ) → name ≡ dataSeen seen 10 → length server ≤ length name → length (dataSeen seen 10) ≤ 96 → length server ≤ 96
 stored-fits seen name server a b c = omega (arith, ap length a)
 
 pub ready-whole : (t : List ℕ) (count : ℕ) → Ready t count → 512 ≤ length t

@@ -11,8 +11,10 @@ use borrow.Author.Tests.{eqb-true}
 use Rattle.record.specs.Fields.{profileOf}
 use Rattle.table.specs.Blocks.{blockOf, privateAt}
 use Rattle.rewrite.specs.Effect.{afterOf}
-use Rattle.reading.specs.Rules.{Seen, Judged, bad, fine}
-use Rattle.reading.specs.Request.{commandOf, readRequest}
+use Rattle.reading.specs.Rules.{Seen}
+use Rattle.requests.specs.Judged.{Judged, bad, fine}
+use Rattle.diameter.specs.Message.{commandOf}
+use Rattle.requests.specs.Request.{readRequest}
 use Rattle.reading.specs.declared.Outcome.the-variants.{Experimental}
 use Rattle.decisions.specs.Reply.{Reply, plain}
 use Rattle.decisions.specs.Types.{groupOf, isRemoval, effectOf}

@@ -1,9 +1,8 @@
 -- A request of a header and a body: what is read out of it, and that a call looks at the header and the walk over the body alone.
 use Prim.Native.Nat.{ℕ, _+_, _/_, _%_, _<_, _≤_}
 use mathlib.Core.List.{List}
-use mathlib.Core.Option.{none}
 use mathlib.Core.Bool.{false, cond}
-use mathlib.Core.Path.{_≡_, refl, sym, _∙_}
+use mathlib.Core.Path.{_≡_, refl, _∙_}
 use mathlib.Core.Logic.{_≢_}
 use native.Mathlib.Omega.{arith}
 use lib.ListN.{length, getD, set, take, drop, length-set, length-append, length-drop, List·getD-append}
@@ -15,8 +14,10 @@ use Rattle.octets.proofs.Numbers.{be24-alike, be32-alike, field-put}
 use Rattle.diameter.specs.Walk.{Walk, walk}
 use Rattle.table.specs.Blocks.{blockOf}
 use Rattle.reading.specs.declared.Dialect.{Dialect}
-use Rattle.reading.specs.Rules.{Judged, bad}
-use Rattle.reading.specs.Request.{commandOf, dialectOf, cx, headerFault, bodyOf, faultOf, readWalk, readIn, readRequest, identities, sessionOf}
+use Rattle.requests.specs.Judged.{Judged, bad}
+use Rattle.diameter.specs.Message.{commandOf, bodyOf}
+use Rattle.reading.specs.Verdicts.{faultOf}
+use Rattle.requests.specs.Request.{dialectOf, cx, headerFault, readWalk, readIn, readRequest, identities, sessionOf}
 use Rattle.decisions.specs.Reply.{Reply}
 use Rattle.decisions.specs.Assignment.{Decision}
 use Rattle.decisions.specs.Decide.{assignmentOf, decideRead, decideJudged, decide}

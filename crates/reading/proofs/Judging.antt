@@ -1,12 +1,12 @@
 -- Rules (c) to (h): from what the code finds of one AVP to what the rules say of it.
-use Prim.Native.Nat.{ℕ, zero, suc, _+_, _-_, _/_, _%_, _<_, _≤_}
+use Prim.Native.Nat.{ℕ, zero, suc, _+_, _-_, _/_, _%_, _<_}
 use native.Mathlib.Nat.{not-suc-le-zero, le-of-suc-le-suc}
-use mathlib.Core.Path.{_≡_, refl, sym, _∙_}
+use mathlib.Core.Path.{_≡_, refl, _∙_}
 use mathlib.Core.List.{List, [], _∷_, map}
 use mathlib.Core.Option.{none}
-use mathlib.Core.Bool.{Bool, true, false, not, _&&_}
+use mathlib.Core.Bool.{Bool, true, false, _&&_}
 use lib.ListN.{length, getD}
-use lib.Dec.{eqb, leb}
+use lib.Dec.{leb}
 use borrow.Author.Tests.{eq-eqb, ne-eqb}
 use Rattle.diameter.specs.Avp.{dataOf, valueOf}
 use Rattle.diameter.specs.Walk.{walk}
@@ -26,7 +26,7 @@ use Rattle.reading.specs.Kinds.{kindOf, rowOf, useIn}
 use Rattle.reading.specs.Contents.{faultUnless, numberFault, plainFault}
 use Rattle.reading.specs.Groups.{membersOf, gathers}
 use Rattle.reading.specs.Rules.{contentFault, ofUnknown, ofContent, ofOnce, ruleBy, rule}
-use Rattle.reading.specs.Found.{seenOf}
+use Rattle.reading.specs.Places.{seenOf}
 
 -- (g), (h), by what the kind must hold
 module _ (s : List ℕ) (a : Avp) (h : Here s a) where

@@ -12,7 +12,6 @@ use Rattle.diameter.specs.declared.Avp.{Avp}
 use Rattle.diameter.proofs.Reading.{own-flags}
 use Rattle.reading.specs.declared.Dialect.{Dialect}
 use Rattle.reading.specs.declared.Kind.{Kind}
-use Rattle.reading.specs.declared.Use.{Use}
 use Rattle.reading.specs.Kinds.{
   kinds,
   known,

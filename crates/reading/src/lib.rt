@@ -1,12 +1,13 @@
 // Reading a request: the kinds of AVPs, and rules (c) to (h) for one AVP.
 
+pub mod faults;
 pub mod group;
 pub mod kinds;
 pub mod plain;
 pub mod rules;
 
 ghost use mathlib.Core.Path.{_≡_};
-ghost use Rattle.reading.specs.Found.{numberOf};
+ghost use Rattle.reading.specs.Verdicts.{numberOf};
 
 // What a request is read by: the command that it asks for, and the application that is spoken.
 pub struct Dialect {
@@ -89,11 +90,4 @@ pub enum Ruled {
     Taken,
     Skipped,
     Fault(u32),
-}
-
-// What reading a request found: for each kind number the place of its last AVP (the message's length: none came), or the first fault.
-pub struct Walked {
-    pub ok: bool,
-    pub verdict: Verdict,
-    pub places: [usize; kinds::KINDS],
 }

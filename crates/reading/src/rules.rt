@@ -3,6 +3,7 @@ use crate::Content;
 use crate::Dialect;
 use crate::Ruled;
 use crate::Use;
+use crate::faults;
 use crate::group;
 use crate::kinds;
 use crate::plain;
@@ -12,16 +13,7 @@ ghost use Prim.Native.Nat.{_<_};
 ghost use Rattle.diameter.specs.Reader.{ownOf, Here};
 ghost use Rattle.reading.specs.Kinds.{kinds, kindOf};
 ghost use Rattle.reading.specs.Rules.{contentFault, ofUnknown, ofContent, ofOnce, ruleBy, rule};
-ghost use Rattle.reading.specs.Found.{seenOf};
-
-// The faults that these rules find.
-const RESERVED_FLAG: u32 = 3009;
-
-const UNSUPPORTED: u32 = 5001;
-
-const BAD_CONTENT: u32 = 5004;
-
-const TOO_OFTEN: u32 = 5009;
+ghost use Rattle.reading.specs.Places.{seenOf};
 
 // (g), (h) The fault of what an AVP holds, 0 where there is none.
 pub fn content_fault(d: Dialect, c: Content, s: &[u8], a: Avp) -> u32
@@ -34,7 +26,7 @@ pub fn content_fault(d: Dialect, c: Content, s: &[u8], a: Avp) -> u32
         Content::Sized(_, _) => plain::plain_fault(c, s, a),
         Content::Application => plain::fault_unless(
             group::gathers(d, c, diameter::data_part(s, a)),
-            BAD_CONTENT,
+            faults::INVALID_AVP_VALUE,
         ),
     }
 }
@@ -44,7 +36,7 @@ fn of_unknown(flags: u8) -> Ruled
     ensures { λ r. ⌜ r ≡ ofUnknown flags ⌝ }
 {
     if flags / diameter::M_FLAG % 2 == 1 {
-        return Ruled::Fault(UNSUPPORTED);
+        return Ruled::Fault(faults::AVP_UNSUPPORTED);
     }
     Ruled::Skipped
 }
@@ -64,7 +56,7 @@ fn of_once(earlier: bool, fault: u32) -> Ruled
     ensures { λ r. ⌜ r ≡ ofOnce earlier fault ⌝ }
 {
     if earlier {
-        return Ruled::Fault(TOO_OFTEN);
+        return Ruled::Fault(faults::AVP_OCCURS_TOO_MANY_TIMES);
     }
     of_content(fault)
 }
@@ -74,7 +66,7 @@ pub fn rule_by(u: Use, earlier: bool, flags: u8, fault: u32) -> Ruled
     ensures { λ r. ⌜ r ≡ ruleBy u earlier flags fault ⌝ }
 {
     if flags % diameter::P_FLAG != 0 {
-        return Ruled::Fault(RESERVED_FLAG);
+        return Ruled::Fault(faults::INVALID_AVP_BITS);
     }
     match u {
         Use::Unknown => of_unknown(flags),

@@ -23,8 +23,11 @@ use Rattle.reading.specs.declared.Use.the-variants.{Unknown, Unnamed, Needed, O
 use Rattle.reading.specs.declared.Verdict.{Verdict}
 use Rattle.reading.specs.Kinds.{kinds, known, unknown, kindOf, rowOf, useIn, useOf, isNeeded, sessionId, serverName}
 use Rattle.reading.specs.Contents.{faultUnless, plainFault}
-use Rattle.reading.specs.Rules.{contentFault, ofContent, ofUse, ruleBy, rule, Seen, nothing, Judged, bad, fine, onRule, judge}
-use Rattle.reading.specs.Request.{commandOf, dialectOf, cx, headerFault, firstOther, missingFrom, missing, complete, readWalk, readIn, readRequest, bodyOf, lacking, faultOf, given, dataIf, dataIn}
+use Rattle.reading.specs.Rules.{contentFault, ofContent, ofUse, ruleBy, rule, Seen}
+use Rattle.requests.specs.Judged.{nothing, Judged, bad, fine, onRule, judge}
+use Rattle.diameter.specs.Message.{commandOf, bodyOf}
+use Rattle.reading.specs.Verdicts.{lackOf, faultOf}
+use Rattle.requests.specs.Request.{dialectOf, cx, headerFault, firstOther, missingFrom, missing, complete, readWalk, readIn, readRequest, given, dataIf, dataSeen}
 
 -- every AVP that was taken holds what its kind must
 abbrev pub AllKept : Dialect → Seen → Type 0
@@ -99,7 +102,7 @@ unfolding complete
 complete-fine dialect (bad v) seen e = bad-fine v seen e
 complete-fine dialect (fine σ) seen e = go (eqb (missing dialect σ) 0) refl e
   where
-    go : (x : Bool) → eqb (missing dialect σ) 0 ≡ x → cond x (fine σ) (bad (lacking (missing dialect σ))) ≡ fine seen
+    go : (x : Bool) → eqb (missing dialect σ) 0 ≡ x → cond x (fine σ) (bad (lackOf (missing dialect σ))) ≡ fine seen
         → (fine σ ≡ fine seen) × (missing dialect seen ≡ 0)
     go true p d = let q : σ ≡ seen = cc in (d, rw (← q) (eqb-true _ _ p))
     go false p d = bad-fine _ _ d
@@ -108,7 +111,7 @@ walk-fine : (dialect : Dialect) (w : Walk) (seen : Seen) → readWalk dialect w 
 unfolding readWalk
 walk-fine dialect w seen e = go (firstOther w) e
   where
-    go : (x : Bool) → cond x (bad (lacking sessionId)) (complete dialect (judge dialect 20 w nothing)) ≡ fine seen
+    go : (x : Bool) → cond x (bad (lackOf sessionId)) (complete dialect (judge dialect 20 w nothing)) ≡ fine seen
         → (judge dialect 20 w nothing ≡ fine seen) × (missing dialect seen ≡ 0)
     go true d = bad-fine _ _ d
     go false d = complete-fine dialect (judge dialect 20 w nothing) seen d
@@ -172,22 +175,22 @@ module _ (dialect : Dialect) (seen : Seen) (k : ℕ) (h : AllKept dialect seen) 
   if-data none most f = omega arith
   if-data (some a) most f = f a refl
 
-  pub data-most : (least most : ℕ) → rowOf k .content ≡ Sized least most → length (dataIn seen k) ≤ most
+  pub data-most : (least most : ℕ) → rowOf k .content ≡ Sized least most → length (dataSeen seen k) ≤ most
   data-most least most e = if-data (getD seen k none) most (λ a d. leb-true _ _ (and-right (leb least (length (dataOf a))) _ (sized least most e a d)))
 
   if-given : (o : Option (List ℕ)) (least : ℕ) → present o ≡ true → ((a : List ℕ) → o ≡ some a → least ≤ length (dataOf a)) → least ≤ length (dataIf o)
   if-given none least t f = absurd (true≢false (sym t))
   if-given (some a) least t f = f a refl
 
-  pub data-least : (least most : ℕ) → rowOf k .content ≡ Sized least most → given seen k ≡ true → least ≤ length (dataIn seen k)
+  pub data-least : (least most : ℕ) → rowOf k .content ≡ Sized least most → given seen k ≡ true → least ≤ length (dataSeen seen k)
   data-least least most e t = if-given (getD seen k none) least t (λ a d. leb-true _ _ (and-left (leb least (length (dataOf a))) _ (sized least most e a d)))
 
 -- "Server-Name 602 (1 to 96 bytes)"
 module _ (req : List ℕ) (seen : Seen) (e : readRequest req ≡ fine seen) where
-  pub server-most : length (dataIn seen serverName) ≤ 96
+  pub server-most : length (dataSeen seen serverName) ≤ 96
   unfolding rowOf known
   server-most = data-most (dialectOf cx req) seen serverName (read-kept req seen e) 1 96 refl
 
-  pub server-least : commandOf req ≡ 301 → 1 ≤ length (dataIn seen serverName)
+  pub server-least : commandOf req ≡ 301 → 1 ≤ length (dataSeen seen serverName)
   unfolding rowOf known useIn
   server-least c = data-least (dialectOf cx req) seen serverName (read-kept req seen e) 1 96 refl (read-needed req seen serverName e (omega arith) (rw c))

@@ -25,15 +25,16 @@ use Rattle.pen.specs.Groups.{vendorApplication, experimental, failed, vendorNum
 use Rattle.reading.specs.Kinds.{known, kindFrom, kindBy, rowOf, useIn}
 use Rattle.reading.specs.Contents.{numberFault, plainFault}
 use Rattle.reading.specs.Groups.{applicationMembers, membersOf, isOf, fits, unlike, onlyOf, countOf, enough, enoughAt, gathers}
-use Rattle.reading.specs.Rules.{contentFault, nothing, ruleBy, rule, judge}
-use Rattle.reading.specs.Request.{headerFault, missingFrom, missing, complete, readWalk, readIn, identities}
+use Rattle.reading.specs.Rules.{contentFault, ruleBy, rule}
+use Rattle.requests.specs.Judged.{nothing, judge}
+use Rattle.requests.specs.Request.{headerFault, missingFrom, missing, complete, readWalk, readIn, identities}
 use Rattle.decisions.specs.Reply.{served}
 use Rattle.decisions.specs.Authorization.{mayRoam, authorizeRecord, authorizeFound, authorize}
 use Rattle.decisions.specs.Location.{locateRecord, locateFound, locate}
 use Rattle.decisions.specs.Types.{groupOf, startOf, effectOf}
 use Rattle.decisions.specs.Assignment.{identityFault, every, isOne, findAll, numbersOf, ownedHere, ownedUpTo, recordsOf, allKnown, ownerOf, ownAt, storesAt, fitsAt, rightAt, assigned, storedName, effected, assignRecords, assignKnown, assign}
 use Rattle.decisions.specs.Decide.{assignmentOf, decideRead, decideJudged, decide}
-use Rattle.reading.specs.Found.{numberOf}
+use Rattle.reading.specs.Verdicts.{numberOf}
 use Rattle.failed.specs.Failing.{headPart, alone, failedOf, sample, exampleOf, failedBy}
 use Rattle.reply.specs.Answer.{resultBytes, proxies, frontBytes, originBytes, givenBytes, endBytes, bodyBytes, flagsOf, headerBytes, answerBytes}
 use Rattle.ndushavire.specs.Trial.{tried}

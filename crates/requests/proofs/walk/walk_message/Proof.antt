@@ -4,8 +4,8 @@ use lib.ListN.{length, drop}
 use Rattle.diameter.specs.Walk.{walk}
 use Rattle.diameter.proofs.Reading.{read-here}
 use Rattle.reading.specs.Kinds.{kinds}
-use Rattle.reading.specs.Rules.{nothing, judge}
-use Rattle.reading.specs.Found.{seenOf}
+use Rattle.requests.specs.Judged.{nothing, judge}
+use Rattle.reading.specs.Places.{seenOf}
 use Rattle.reading.proofs.Walking.{read-less}
 use Rattle.requests.proofs.Turns.{nothing-seen, turn-end, turn-cut, turn-bad, turn-taken, turn-skipped}
 use borrow.Author.Needs.{needs}
