@@ -25,7 +25,8 @@ answer-within w n r f e q = rw q (f .within e)
 pub said-answer : (w : ℕ) (o : List ℕ) {r : ℕ} → numberIn w ≡ 0 → r ≡ valueIn w → Said w o o r
 said-answer w o e f = record { said = rw (eq-eqb (numberIn w) 0 e) (record { count = f; bytes = refl }) }
 
-pub said-refusal : (w : ℕ) {r : ℕ} {o o' : List ℕ} → (numberIn w ≡ 0 → ⊥) → Words (114 ∷ 101 ∷ 102 ∷ 117 ∷ 115 ∷ 101 ∷ 100 ∷ 32 ∷ []) (numberIn w) (10 ∷ []) o o' r → Said w o o' r
+pub said-refusal : (w : ℕ) {r : ℕ} {o o' : List ℕ} → (numberIn w ≡ 0 → ⊥)
+    → Words (114 ∷ 101 ∷ 102 ∷ 117 ∷ 115 ∷ 101 ∷ 100 ∷ 32 ∷ []) (numberIn w) (10 ∷ []) o o' r → Said w o o' r
 said-refusal w f h = record { said = rw (ne-eqb (numberIn w) 0 f) h }
 
 pub said-served : (x : Lent) (w : ℕ) {t' o' p : List ℕ} {r : ℕ} → DecidePromise x w t' o' → Said w o' p r → SaidTo x p r

@@ -1,21 +1,22 @@
 -- What is written and what is left, by what reading the request found.
 use Prim.Native.Nat.{ℕ, _≤_}
 use mathlib.Core.List.{List}
+use mathlib.Core.Bool.{true}
 use mathlib.Core.Path.{_≡_, ap, _∙_}
 use native.Mathlib.Omega.{arith}
 use lib.ListN.{length}
 use Rattle.octets.specs.Run.{Wrote}
 use Rattle.table.specs.Blocks.{blockOf}
 use Rattle.lookup.specs.SoundTable.{SoundTable}
+use Rattle.rewrite.specs.Renew.{Fitting}
 use Rattle.reading.specs.Rules.{Seen}
 use Rattle.requests.specs.Judged.{bad, fine}
 use Rattle.diameter.specs.Message.{bodyOf}
 use Rattle.requests.specs.Request.{readRequest, dataSeen}
 use Rattle.reading.specs.declared.Verdict.{Verdict}
-use Rattle.requests.proofs.Kept.{server-most}
 use Rattle.decisions.specs.Reply.{Reply}
 use Rattle.decisions.specs.Gives.{givenFault}
-use Rattle.decisions.specs.Assignment.{Decision}
+use Rattle.decisions.specs.Assignment.{Decision, storedName}
 use Rattle.decisions.specs.Decide.{assignmentOf, decideJudged, decide}
 use Rattle.decisions.specs.Planned.{replyOf, planned, decisionOf}
 use Rattle.decisions.specs.declared.Given.{Given}
@@ -50,9 +51,13 @@ module _ (req t file : List ℕ) (count : ℕ) (seen : Seen) (is : readRequest r
   unfolding decisionOf
   plan-table e = e ∙ ap (λ (d : Decision). d .table) planned-decides
 
+  pub plan-fits : p .write ≡ true → Fitting (p .state) (storedName (p .named) (dataSeen seen 10))
+  plan-fits = plans .fits
+
 -- The answer of a reply that is the decision's.
 module _ (req t file : List ℕ) (count : ℕ) (g : Given) (is : replyOf req t file g ≡ decide req t count file .reply) where
-  pub answers : (before after : List ℕ) (r : ℕ) → Wrote (answerBytes req (blockOf t 0) (replyOf req t file g)) before after r → Answers req t count file before after r
+  pub answers : (before after : List ℕ) (r : ℕ) → Wrote (answerBytes req (blockOf t 0) (replyOf req t file g)) before after r
+      → Answers req t count file before after r
   answers before after r w = rw is at w
 
   pub given-room : (o : List ℕ) → Passed req o → SoundTable t (length file) count → roomOf (bodyOf req) (replyOf req t file g) ≤ 36864
@@ -62,7 +67,3 @@ module _ (req t file : List ℕ) (count : ℕ) (g : Given) (is : replyOf req t f
       → Wrote (answerBytes req (blockOf t 0) (replyOf req t file g)) before after r → r ≤ 36864
   answers-most o p s before after r w =
       omega (arith, w .count, answer-most t file count s req (p .least) (p .most) (p .fours), ap (λ (x : Reply). length (answerBytes req (blockOf t 0) x)) is)
-
--- A sound table is ready to be asked, and a Server-Name that was read has room in a record.
-pub read-fits : (req : List ℕ) (seen : Seen) → readRequest req ≡ fine seen → length (dataSeen seen 10) ≤ 96
-read-fits req seen e = server-most req seen e

@@ -1,4 +1,5 @@
--- Every request whose length is right and whose first AVP passes (a) is a header, a row of whole AVPs and what is behind them: so demand 3 speaks of any such request.
+-- Every request whose length is right and whose first AVP passes (a) is a header, a row of whole AVPs and what is behind them: so demand 3 speaks of any such
+-- request.
 use Prim.Native.Nat.{ℕ, zero, suc, _+_, _-_, _/_, _%_, _<_, _≤_}
 use mathlib.Core.List.{List, [], _∷_, _++_, append-assoc}
 use mathlib.Core.Bool.{Bool, true, false, not, _||_, true≢false}
@@ -56,7 +57,12 @@ module _ (t : List ℕ) (s : sound t ≡ true) (fours : length t % 4 ≡ 0) wher
   front-sound : sound (take n t) ≡ true
   front-sound =
       let h = sound-says t s in
-      sound-of (take n t) (record { eight = rw front-head (h .eight); least = rw (front-head, front-len) (h .least); within = rw (front-len, front-length) (omega arith) })
+      sound-of (take n t) (record {
+        eight = rw front-head (h .eight);
+        least = rw (front-head, front-len) (h .least);
+        within = rw (front-len, front-length)
+            (omega arith);
+      })
 
   front-taken : take n t ++ take (p - n) (drop n t) ≡ take p t
   front-taken = let e : n + (p - n) ≡ p = omega (arith, padded-within .2) in sym (take-add n (p - n) t) ∙ rw e

@@ -14,6 +14,7 @@ use Rattle.table.specs.declared.Checked.the-variants.{Sound, Bad}
 use Rattle.diameter.specs.Avp.{sound}
 use Rattle.diameter.specs.Put.{Piece, Whole, All}
 use Rattle.diameter.specs.Message.{commandOf}
+use Rattle.rewrite.specs.Change.{alterable}
 use Rattle.ndushavire.specs.declared.Call.the-variants.{Answered, Refused}
 use Rattle.ndushavire.specs.Lent.{Lent, asking}
 use Rattle.ndushavire.specs.Serve.{wrongSize, wrongLength, checkOf, trials, answered, decision, serve}
@@ -23,7 +24,7 @@ use Rattle.demands.proofs.Firm.{check-said}
 use Rattle.reading.specs.declared.Dialect.{Dialect}
 use Rattle.requests.specs.Request.{dialectOf, cx}
 use Rattle.demands.specs.Call.{turnedAway, answerTo, Exactly}
-use Rattle.demands.specs.Frame.{succeeds, subscriptionOf, alterable}
+use Rattle.demands.specs.Frame.{succeeds, subscriptionOf}
 use Rattle.demands.specs.Insertion.{requestOf, Foreign, Quiet, Inserted, FirstMarked, faultIn, unsupported, Cut, Longer, Newer}
 use Rattle.demands.proofs.Refusals.{refusals, number-most, besides-none, besides-block, answer-long, answer-within, word-reads, refused-kept, answered-is, buffer-length, buffer-past}
 use Rattle.demands.proofs.Fitting.{fits}
@@ -32,7 +33,8 @@ use Rattle.demands.proofs.Insertions.{unmarked-same, marked-kept, mark-
 use Rattle.demands.proofs.Longer.{marked-or-not, longer-newer}
 use Rattle.demands.proofs.Cuts.{every-request}
 
--- THE CALL. What the exported call is promised to return and to leave is `serve`: the call that its word says, the table, the buffer. So each theorem below is one about it.
+-- THE CALL. What the exported call is promised to return and to leave is `serve`: the call that its word says, the table, the buffer. So each theorem below
+-- is one about it.
 pub promised : (x : Lent) {r : ℕ} {t' o' : List ℕ} → DecidePromise x r t' o' → serve x ≡ record { call = callIn r; table = t'; buffer = o' }
 promised x p = rw (p .word-is, p .table-is, p .buffer-is, word-reads x (fits x) .call)
 
@@ -60,7 +62,8 @@ module _ (x : Lent) where
   demand-1-length = answer-long x
 
   -- No answer is longer than the smallest buffer that is taken: it lies within the buffer.
-  pub demand-1-fits : wrongSize (x .request) ≡ false → wrongLength (x .request) ≡ false → (count : ℕ) → checkOf x ≡ Sound count → length (answerTo x count) ≤ 36864
+  pub demand-1-fits : wrongSize (x .request) ≡ false → wrongLength (x .request) ≡ false → (count : ℕ) → checkOf x ≡ Sound count
+      → length (answerTo x count) ≤ 36864
   demand-1-fits = fits x
 
   pub demand-1-within : callNumber (serve x .call) ≡ 0 → callValue (serve x .call) ≤ length (x .buffer)
@@ -74,7 +77,8 @@ module _ (x : Lent) where
   pub demand-1-kept : turnedAway x ≡ true → (serve x .table ≡ x .table) × (serve x .buffer ≡ x .buffer)
   demand-1-kept = refused-kept x
 
--- DEMAND 2. Over a sound table of `count` records a call that is not refused is document 01's decision: the call says the length of its answer, the table is the decision's,
+-- DEMAND 2. Over a sound table of `count` records a call that is not refused is document 01's decision: the call says the length of its answer, the table is
+-- the decision's,
 -- and the buffer is the answer's bytes over the buffer as it came.
 module _ (x : Lent) (count : ℕ) (sound : checkOf x ≡ Sound count) where
   pub demand-2 : turnedAway x ≡ false
@@ -89,7 +93,8 @@ module _ (x : Lent) (count : ℕ) (sound : checkOf x ≡ Sound count) where
   demand-2-failure = failure-kept x count sound
 
   -- A block whose private identity is not that of the subscription asked about is as it was, and so is the header.
-  pub demand-2-others : (k : ℕ) → k ≤ count → some (privateAt (x .table) k) ≢ subscriptionOf (x .request) (x .table) count → blockOf (serve x .table) k ≡ blockOf (x .table) k
+  pub demand-2-others : (k : ℕ) → k ≤ count → some (privateAt (x .table) k) ≢ subscriptionOf (x .request) (x .table) count
+      → blockOf (serve x .table) k ≡ blockOf (x .table) k
   demand-2-others = others-kept x count sound
 
   pub demand-2-header : blockOf (serve x .table) 0 ≡ blockOf (x .table) 0
@@ -121,9 +126,12 @@ module _ (x : Lent) where
   pub demand-2-past : drop (callValue (serve x .call)) (serve x .buffer) ≡ drop (callValue (serve x .call)) (x .buffer)
   demand-2-past = buffer-past x
 
--- DEMAND 3. Let `longer` be a request with AVPs of unknown kinds put in after its first, at one place or at several, so that it stays within 16,384 bytes. A call with `longer`
--- comes to what it comes to with the request, and leaves the same table and the same buffer; but if one of those put in is marked M, the table is as it was, and the answer is the
--- one of B5001 with the first such in Failed-AVP, unless the call is refused or the header or an AVP before that one breaks a reading rule. Before the first AVP there is
+-- DEMAND 3. Let `longer` be a request with AVPs of unknown kinds put in after its first, at one place or at several, so that it stays within 16,384 bytes. A
+-- call with `longer`
+-- comes to what it comes to with the request, and leaves the same table and the same buffer; but if one of those put in is marked M, the table is as it was,
+-- and the answer is the
+-- one of B5001 with the first such in Failed-AVP, unless the call is refused or the header or an AVP before that one breaks a reading rule. Before the first
+-- AVP there is
 -- no place, for (b) wants a Session-Id there; nor does this speak of AVPs with reserved flags, which (c) calls B3009.
 pub demand-3 : (x : Lent) (longer : List ℕ) (l : Longer (x .request) longer) → Newer x longer l
 demand-3 = longer-newer
@@ -145,14 +153,16 @@ module _ (head : List ℕ) (twenty : length head ≡ 20) (q : Piece) (qs rs : Li
   demand-3-marked m e = mark-answered head twenty q qs rs whole tail fours most m e x
 
   -- .. unless the header or an AVP before it breaks a reading rule, (a) to (h): then the call gives what it gives without them.
-  pub demand-3-fault : (m : FirstMarked (dialectOf cx head) qs rs) → faultIn head (q ∷ m .front) ≡ true → serve (asking x (requestOf head (q ∷ rs) tail)) ≡ serve (asking x (requestOf head (q ∷ qs) tail))
+  pub demand-3-fault : (m : FirstMarked (dialectOf cx head) qs rs) → faultIn head (q ∷ m .front) ≡ true
+      → serve (asking x (requestOf head (q ∷ rs) tail)) ≡ serve (asking x (requestOf head (q ∷ qs) tail))
   demand-3-fault m e = fault-first head twenty q qs rs whole tail fours most m e x
 
 -- These are all cases: of those put in none is marked, or one is the first that is.
 pub demand-3-cases : (d : Dialect) (qs rs : List Piece) → Inserted (Foreign d) qs rs → Inserted (Quiet d) qs rs ⊎ FirstMarked d qs rs
 demand-3-cases d qs rs = marked-or-not
 
--- And these are all requests of a right length whose first AVP passes (a): their bytes are such a header, row and rest, and the row is as long as it can be, so that
+-- And these are all requests of a right length whose first AVP passes (a): their bytes are such a header, row and rest, and the row is as long as it can be,
+-- so that
 -- every place before the first length fault is one of its places. Any other has no place: it has no AVP, or a length fault in its first.
 pub demand-3-any : (req : List ℕ) → ((i : ℕ) → getD req i 0 < 256) → wrongLength req ≡ false → sound (drop 20 req) ≡ true → Cut req
 demand-3-any = every-request

@@ -10,4 +10,5 @@ use Rattle.demands.specs.Call.{Fits}
 pub fits : (x : Lent) → Fits x
 fits x size right count sound =
     let req = x .request in
-    answer-most (x .table) (x .profile) count (sound-says (x .table) (length (x .profile)) count sound) req (size-least req size) (size-most req size) (length-even req refl right)
+    answer-most (x .table) (x .profile) count (sound-says (x .table) (length (x .profile)) count sound) req (size-least req size) (size-most req size)
+    (length-even req refl right)

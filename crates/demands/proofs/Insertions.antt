@@ -1,4 +1,5 @@
--- Demand 3: AVPs of unknown kinds put into a request after its first AVP. Without M nothing changes; the first with M is B5001, unless a fault before it decides.
+-- Demand 3: AVPs of unknown kinds put into a request after its first AVP. Without M nothing changes; the first with M is B5001, unless a fault before it
+-- decides.
 use Prim.Native.Nat.{ℕ, _+_, _%_, _≤_}
 use mathlib.Core.List.{List, [], _∷_, _++_, append-assoc}
 use mathlib.Core.Option.{some}
@@ -36,7 +37,8 @@ use Rattle.demands.proofs.Moved.{putBefore, Moved, faults, same, moved-
 use Rattle.demands.proofs.Messages.{message-length, message-flags, message-drop, message-read, readBody, Fit, size-right, length-right, Alike, served-same}
 
 -- what a fold that passes over those put in makes of the longer row
-inserted-same : {X : Type 0} {P : Piece → Type 0} (f : Walk → X) → ((a : List ℕ) (v w : Walk) → f v ≡ f w → f (avp a v) ≡ f (avp a w)) → ((u : Piece) (w : Walk) → P u → f (avp (u .avp) w) ≡ f w)
+inserted-same : {X : Type 0} {P : Piece → Type 0} (f : Walk → X) → ((a : List ℕ) (v w : Walk) → f v ≡ f w → f (avp a v) ≡ f (avp a w))
+    → ((u : Piece) (w : Walk) → P u → f (avp (u .avp) w) ≡ f w)
     → {qs rs : List Piece} → Inserted P qs rs → (w : Walk) → f (glue (avpsOf rs) w) ≡ f (glue (avpsOf qs) w)
 unfolding glue avpsOf
 inserted-same f goes skips ending w = refl
@@ -78,7 +80,8 @@ quiet-foreign = inserted-as (λ u p. p .foreign)
 
 -- What reading a request comes to, by the header's fault, by rule (b), by what the AVPs in front come to, and by those behind.
 readFrom : List ℕ → Bool → Bool → Judged → (Seen → Judged) → Judged
-readFrom head h f j next = cond h (cond f (bad (lackOf sessionId)) (complete (dialectOf cx head) (andThen j next))) (bad (faultOf (headerFault (dialectOf cx head) head)))
+readFrom head h f j next =
+    cond h (cond f (bad (lackOf sessionId)) (complete (dialectOf cx head) (andThen j next))) (bad (faultOf (headerFault (dialectOf cx head) head)))
 
 abbrev frontOther : Piece → List Piece → Bool
 frontOther q ps = firstOther (glue (avpsOf (q ∷ ps)) ended)
@@ -105,31 +108,37 @@ module _ {long short : List ℕ} {more : ℕ → ℕ} (none : more 0 ≡ 0) wher
   unfolding failedBy
   lacking-of k = faults (lackOf k) (lackOf k) (record { result = refl; lacks = refl; reached = omega arith; place = rw none; failed = refl })
 
-  complete-moved : (dialect : Dialect) {from : ℕ} {j k : Judged} → Moved long short from more j k → Moved long short 0 more (complete dialect j) (complete dialect k)
+  complete-moved : (dialect : Dialect) {from : ℕ} {j k : Judged} → Moved long short from more j k
+      → Moved long short 0 more (complete dialect j) (complete dialect k)
   unfolding complete
   complete-moved dialect (faults v w l) = moved-as (omega arith) (λ p h. refl) (faults v w l)
   complete-moved dialect (same seen) = go (eqb (missing dialect seen) 0)
     where
-      go : (x : Bool) → Moved long short 0 more (cond x (fine seen) (bad (lackOf (missing dialect seen)))) (cond x (fine seen) (bad (lackOf (missing dialect seen))))
+      go : (x : Bool)
+          → Moved long short 0 more (cond x (fine seen) (bad (lackOf (missing dialect seen)))) (cond x (fine seen) (bad (lackOf (missing dialect seen))))
       go true = same seen
       go false = lacking-of (missing dialect seen)
 
   -- the AVPs and what is behind them
   walk-moved : (head : List ℕ) (v w : Walk) → firstOther v ≡ firstOther w
-      → Moved long short 20 more (judge (dialectOf cx head) 20 v nothing) (judge (dialectOf cx head) 20 w nothing) → Moved long short 0 more (readBody head v) (readBody head w)
+      → Moved long short 20 more (judge (dialectOf cx head) 20 v nothing) (judge (dialectOf cx head) 20 w nothing)
+      → Moved long short 0 more (readBody head v) (readBody head w)
   unfolding readBody readWalk
   walk-moved head v w o m = rw o (go (eqb (headerFault (dialectOf cx head) head) 0) (firstOther w))
     where
       go : (h f : Bool)
           → Moved long short 0 more
-          (cond h (cond f (bad (lackOf sessionId)) (complete (dialectOf cx head) (judge (dialectOf cx head) 20 v nothing))) (bad (faultOf (headerFault (dialectOf cx head) head))))
-          (cond h (cond f (bad (lackOf sessionId)) (complete (dialectOf cx head) (judge (dialectOf cx head) 20 w nothing))) (bad (faultOf (headerFault (dialectOf cx head) head))))
+          (cond h (cond f (bad (lackOf sessionId)) (complete (dialectOf cx head) (judge (dialectOf cx head) 20 v nothing)))
+          (bad (faultOf (headerFault (dialectOf cx head) head))))
+          (cond h (cond f (bad (lackOf sessionId)) (complete (dialectOf cx head) (judge (dialectOf cx head) 20 w nothing)))
+          (bad (faultOf (headerFault (dialectOf cx head) head))))
       go false f = fault-of (headerFault (dialectOf cx head) head)
       go true true = lacking-of sessionId
       go true false = complete-moved (dialectOf cx head) m
 
   -- a fault in front decides, whatever is behind
-  fault-decides : (head : List ℕ) (h f : Bool) {from : ℕ} {i j : Judged} (k l : Seen → Judged) → Moved long short from more i j → (not h || f || isFault j) ≡ true
+  fault-decides : (head : List ℕ) (h f : Bool) {from : ℕ} {i j : Judged} (k l : Seen → Judged) → Moved long short from more i j
+      → (not h || f || isFault j) ≡ true
       → Moved long short 0 more (readFrom head h f i k) (readFrom head h f j l)
   unfolding readFrom andThen complete
   fault-decides head false f k l m e = fault-of (headerFault (dialectOf cx head) head)
@@ -145,7 +154,8 @@ module _ {long short : List ℕ} {more : ℕ → ℕ} (none : more 0 ≡ 0) wher
   fault-keeps head true false k (faults x y m) e req t count file = refl
   fault-keeps head true false k (same seen) e req t count file = absurd (true≢false (sym e))
 
-  none-decides : (head : List ℕ) (h f : Bool) {from : ℕ} {i j : Judged} (k : Seen → Judged) (v : Verdict) → Moved long short from more i j → (not h || f || isFault j) ≡ false
+  none-decides : (head : List ℕ) (h f : Bool) {from : ℕ} {i j : Judged} (k : Seen → Judged) (v : Verdict) → Moved long short from more i j
+      → (not h || f || isFault j) ≡ false
       → ((seen : Seen) → k seen ≡ bad v) → readFrom head h f i k ≡ bad v
   unfolding readFrom andThen complete
   none-decides head false f k v m e g = absurd (true≢false e)
@@ -153,7 +163,8 @@ module _ {long short : List ℕ} {more : ℕ → ℕ} (none : more 0 ≡ 0) wher
   none-decides head true false k v (faults x y m) e g = absurd (true≢false e)
   none-decides head true false k v (same seen) e g = rw (g seen)
 
-mark-judged : (dialect : Dialect) (at : ℕ) (m : Piece) (w : Walk) (seen : Seen) → Foreign dialect m → isMarked m ≡ true → judge dialect at (avp (m .avp) w) seen ≡ bad (faultAt 5001 at)
+mark-judged : (dialect : Dialect) (at : ℕ) (m : Piece) (w : Walk) (seen : Seen) → Foreign dialect m → isMarked m ≡ true
+    → judge dialect at (avp (m .avp) w) seen ≡ bad (faultAt 5001 at)
 mark-judged dialect at m w seen f e = judge-marked dialect at (m .avp) w seen (f .plain) (f .stranger) e
 
 -- before the first AVP nothing was put in
@@ -218,7 +229,8 @@ module _ (head : List ℕ) (twenty : length head ≡ 20) (q : Piece) (qs rs : Li
           message-flags head twenty short,
         )
 
-    pub refused-same : (x : Lent) → turnedAway (asking x (message head short)) ≡ true → serve (asking x (message head long)) ≡ serve (asking x (message head short))
+    pub refused-same : (x : Lent) → turnedAway (asking x (message head short)) ≡ true
+        → serve (asking x (message head long)) ≡ serve (asking x (message head short))
     refused-same x e =
         let size = size-right head twenty long long-fit ∙ sym (size-right head twenty short short-fit) in
         let lengths = length-right head twenty long long-fit ∙ sym (length-right head twenty short short-fit) in
@@ -226,15 +238,19 @@ module _ (head : List ℕ) (twenty : length head ≡ 20) (q : Piece) (qs rs : Li
         refused-alike x (message head long) (message head short) size lengths flags e
 
   -- the verdict of reading: the place of the AVP at fault moves by what was put in before it
-  pub unmarked-moved : (j : Inserted (Quiet (dialectOf cx head)) qs rs) → Moved (message head long) (message head short) 0 (putBefore (keep q j) 20) (readBody head (walk long)) (readBody head (walk short))
+  pub unmarked-moved : (j : Inserted (Quiet (dialectOf cx head)) qs rs)
+      → Moved (message head long) (message head short) 0 (putBefore (keep q j) 20) (readBody head (walk long)) (readBody head (walk short))
   unfolding Row-moved avpsOf glue
   unmarked-moved j =
       let s = message head short in
       let l = message head long in
       let w = walk tail in
       let ends = ends-same (dialectOf cx head) l s tail fours in
-      let m = row-moved (dialectOf cx head) l s tail tail w w ends (keep q j) whole 20 0 (omega arith) (message-drop head twenty long) (message-drop head twenty short) nothing in
-      rw (long-walk (quiet-foreign j), short-walk) (walk-moved (none-before q j) head (avp (q .avp) (glue (avpsOf rs) w)) (avp (q .avp) (glue (avpsOf qs) w)) refl (moved-as (omega arith) (λ p h. zero-add (putBefore (keep q j) 20 p)) m))
+      let m = row-moved (dialectOf cx head) l s tail tail w w ends (keep q j) whole 20 0 (omega arith) (message-drop head twenty long)
+      (message-drop head twenty short) nothing in
+      rw (long-walk (quiet-foreign j), short-walk)
+      (walk-moved (none-before q j) head (avp (q .avp) (glue (avpsOf rs) w)) (avp (q .avp) (glue (avpsOf qs) w)) refl
+      (moved-as (omega arith) (λ p h. zero-add (putBefore (keep q j) 20 p)) m))
 
   pub unmarked-same : Inserted (Quiet (dialectOf cx head)) qs rs → (x : Lent) → serve (asking x (message head long)) ≡ serve (asking x (message head short))
   unmarked-same j = both-served (quiet-foreign j) (unmarked-moved j)
@@ -272,7 +288,8 @@ module _ (head : List ℕ) (twenty : length head ≡ 20) (q : Piece) (qs rs : Li
 
   -- the bytes of both, with the row in front apart
   long-bytes : bytesOf (q ∷ rs) ++ tail ≡ bytesOf (q ∷ m .before) ++ (bytesOf (m .mark ∷ m .after) ++ tail)
-  long-bytes = rw (m .longer) (rw (bytes-joined (q ∷ m .before) (m .mark ∷ m .after)) (append-assoc (bytesOf (q ∷ m .before)) (bytesOf (m .mark ∷ m .after)) tail))
+  long-bytes =
+      rw (m .longer) (rw (bytes-joined (q ∷ m .before) (m .mark ∷ m .after)) (append-assoc (bytesOf (q ∷ m .before)) (bytesOf (m .mark ∷ m .after)) tail))
 
   short-bytes : bytesOf (q ∷ qs) ++ tail ≡ bytesOf (q ∷ m .front) ++ (bytesOf (m .back) ++ tail)
   short-bytes = rw (m .row) (rw (bytes-joined (q ∷ m .front) (m .back)) (append-assoc (bytesOf (q ∷ m .front)) (bytesOf (m .back)) tail))
@@ -294,8 +311,10 @@ module _ (head : List ℕ) (twenty : length head ≡ 20) (q : Piece) (qs rs : Li
   unfolding Row-moved
   front-moved =
       moved-as (omega arith) (λ p h. zero-add (putBefore frontal 20 p))
-      (row-moved (dialectOf cx head) longer shorter rest (bytesOf (m .back) ++ tail) ended ended (ends-none (dialectOf cx head) longer shorter rest (bytesOf (m .back) ++ tail)) frontal
-      front-whole 20 0 (omega arith) (message-drop head twenty (bytesOf (q ∷ rs) ++ tail) ∙ long-bytes) (message-drop head twenty (bytesOf (q ∷ qs) ++ tail) ∙ short-bytes) nothing)
+      (row-moved (dialectOf cx head) longer shorter rest (bytesOf (m .back) ++ tail) ended ended
+      (ends-none (dialectOf cx head) longer shorter rest (bytesOf (m .back) ++ tail)) frontal
+      front-whole 20 0 (omega arith) (message-drop head twenty (bytesOf (q ∷ rs) ++ tail) ∙ long-bytes)
+      (message-drop head twenty (bytesOf (q ∷ qs) ++ tail) ∙ short-bytes) nothing)
 
   other-same : frontOther q (m .before) ≡ frontOther q (m .front)
   unfolding avpsOf glue
@@ -342,7 +361,8 @@ module _ (head : List ℕ) (twenty : length head ≡ 20) (q : Piece) (qs rs : Li
   mark-read e =
       message-read head twenty (bytesOf (q ∷ rs) ++ tail)
       ∙ long-read
-      ∙ none-decides (none-before q (m .quiet)) head headed (frontOther q (m .front)) (behind markPlace (m .mark ∷ m .after)) (faultAt 5001 markPlace) front-moved e
+      ∙ none-decides (none-before q (m .quiet)) head headed (frontOther q (m .front)) (behind markPlace (m .mark ∷ m .after))
+      (faultAt 5001 markPlace) front-moved e
       (λ seen. mark-judged (dialectOf cx head) markPlace (m .mark) (glue (avpsOf (m .after)) (walk tail)) seen (m .foreign) (m .marking))
 
   pub mark-there : drop markPlace longer ≡ rest
@@ -352,7 +372,12 @@ module _ (head : List ℕ) (twenty : length head ≡ 20) (q : Piece) (qs rs : Li
   unfolding bytesOf
   mark-failed =
       failed-there longer 5001 markPlace (omega (arith, past-later 20 (avpsOf (q ∷ m .before))))
-      ∙ rw (mark-there, append-assoc (m .mark .avp ++ m .mark .pad) (bytesOf (m .after)) tail, failed-piece (m .mark) (bytesOf (m .after) ++ tail) 5001 (m .foreign .whole))
+      ∙ rw (
+        mark-there,
+        append-assoc (m .mark .avp ++ m .mark .pad) (bytesOf (m .after)) tail,
+        failed-piece (m .mark) (bytesOf (m .after) ++ tail) 5001
+            (m .foreign .whole),
+      )
       (ap some (failed-whole (m .mark) 5001 (m .foreign .whole) refl))
 
   mark-decides : faultIn head (q ∷ m .front) ≡ false → (t : List ℕ) (count : ℕ) (file : List ℕ) → decide longer t count file ≡ unsupported t (m .mark)
@@ -384,5 +409,6 @@ module _ (head : List ℕ) (twenty : length head ≡ 20) (q : Piece) (qs rs : Li
       go true e z f = refused-kept (asking x longer) e .0
       go false e true f =
           rw (answers e, long-decides (x .table) count (x .profile))
-          (fault-keeps (none-before q (m .quiet)) head headed (frontOther q (m .front)) (behind markPlace (m .mark ∷ m .after)) front-moved f longer (x .table) count (x .profile))
+          (fault-keeps (none-before q (m .quiet)) head headed (frontOther q (m .front)) (behind markPlace (m .mark ∷ m .after)) front-moved f longer (x .table)
+          count (x .profile))
       go false e false f = rw (answers e, mark-decides f (x .table) count (x .profile))

@@ -13,7 +13,8 @@ use Rattle.requests.specs.Request.{dialectOf, cx}
 use Rattle.ndushavire.specs.Lent.{Lent, asking}
 use Rattle.ndushavire.specs.Serve.{answered, serve}
 use Rattle.demands.specs.Call.{turnedAway}
-use Rattle.demands.specs.Insertion.{requestOf, Foreign, isMarked, Quiet, Inserted, ending, keep, put, FirstMarked, faultIn, unsupported, Longer, Mark, behind, firstMark, newer, Newer}
+use Rattle.demands.specs.Insertion.{requestOf, Foreign, isMarked, Quiet, Inserted, ending, keep, put, FirstMarked, faultIn, unsupported, Longer, Mark}
+use Rattle.demands.specs.Insertion.{behind, firstMark, newer, Newer}
 use Rattle.demands.proofs.Insertions.{unmarked-same, refused-same, marked-kept, mark-answered, fault-first}
 
 -- the mark that is found, with the rows around it
@@ -74,7 +75,8 @@ split-put : {dialect : Dialect} (u : Piece) (f : Foreign dialect u) {qs rs : Lis
 unfolding firstMark
 split-put u f {qs} {rs} i s true h =
     inr (record {
-      first = record { mark = u; front = []; back = qs; before = []; after = rs; row = refl; longer = refl; quiet = ending; foreign = f; marking = h; rest = i };
+      first =
+          record { mark = u; front = []; back = qs; before = []; after = rs; row = refl; longer = refl; quiet = ending; foreign = f; marking = h; rest = i };
       is = rw h;
     })
 split-put u f i s false h = split-quiet u f h i s
@@ -130,5 +132,7 @@ longer-newer x longer l =
           ∙ row-newer (c .head) (c .twenty) (c .first) (c .rest) (l .row) (c .whole) (c .tail) (c .fours) most x (l .inserted) (split (l .inserted))
           ∙ ap (λ (y : List ℕ). newer (asking x y) long (c .head) (c .first) m) (sym (c .joined))
           ∙ ap (λ (y : List ℕ). newer x y (c .head) (c .first) m) (sym (l .bytes));
-      table = λ n e. rw same (row-kept (c .head) (c .twenty) (c .first) (c .rest) (l .row) (c .whole) (c .tail) (c .fours) most x (l .inserted) (split (l .inserted)) n e);
+      table =
+          λ n e. rw same (row-kept (c .head) (c .twenty) (c .first) (c .rest) (l .row) (c .whole) (c .tail) (c .fours) most x (l .inserted)
+          (split (l .inserted)) n e);
     }

@@ -1,8 +1,9 @@
 -- A request of a header and a body: what is read out of it, and that a call looks at the header and the walk over the body alone.
 use Prim.Native.Nat.{ℕ, _+_, _/_, _%_, _<_, _≤_}
 use mathlib.Core.List.{List}
+use mathlib.Core.Option.{none}
 use mathlib.Core.Bool.{false, cond}
-use mathlib.Core.Path.{_≡_, refl, _∙_}
+use mathlib.Core.Path.{_≡_, refl, sym, _∙_}
 use mathlib.Core.Logic.{_≢_}
 use native.Mathlib.Omega.{arith}
 use lib.ListN.{length, getD, set, take, drop, length-set, length-append, length-drop, List·getD-append}
@@ -172,7 +173,8 @@ module _ (head : List ℕ) (twenty : length head ≡ 20) (b c : List ℕ) (alike
     unfolding serve refused
     served-same x f g =
         let k = checkValue (checkOf x) in
-        let answers : answered (asking x (message head b)) (decision (asking x (message head b)) k) ≡ answered (asking x (message head c)) (decision (asking x (message head c)) k) =
+        let answers : answered (asking x (message head b)) (decision (asking x (message head b)) k)
+        ≡ answered (asking x (message head c)) (decision (asking x (message head c)) k) =
         rw (decide-same (x .table) k (x .profile)) (answered-same x (decision (asking x (message head c)) k)) in
         rw (
           size-right head twenty b f,

@@ -70,7 +70,8 @@ whole-size q h = let s = sound-says (q .avp) (h .right) in omega (arith, s .eigh
 drop-piece : (s : List ℕ) (at : ℕ) (q : Piece) (t : List ℕ) → Whole q → drop at s ≡ q .avp ++ q .pad ++ t → drop (at + sizeOf q) s ≡ t
 drop-piece s at q t h e = sym (drop-drop (sizeOf q) at s) ∙ rw e (drop-at (q .avp ++ q .pad) t (sizeOf q) (h .filled))
 
-drop-row : (s : List ℕ) (at : ℕ) (q : Piece) (qs : List Piece) (t : List ℕ) → Whole q → drop at s ≡ bytesOf (q ∷ qs) ++ t → drop (at + sizeOf q) s ≡ bytesOf qs ++ t
+drop-row : (s : List ℕ) (at : ℕ) (q : Piece) (qs : List Piece) (t : List ℕ) → Whole q → drop at s ≡ bytesOf (q ∷ qs) ++ t
+    → drop (at + sizeOf q) s ≡ bytesOf qs ++ t
 unfolding bytesOf
 drop-row s at q qs t h e = drop-piece s at q (bytesOf qs ++ t) h (e ∙ append-assoc (q .avp ++ q .pad) (bytesOf qs) t)
 
@@ -153,7 +154,8 @@ module _ (dialect : Dialect) (long short : List ℕ) where
             rw (e, d, append-assoc (q .avp ++ q .pad) (bytesOf rs) t', append-assoc (q .avp ++ q .pad) (bytesOf qs) t)
             (failed-piece q (bytesOf rs ++ t') m (h .0) ∙ sym (failed-piece q (bytesOf qs ++ t) m (h .0)))
 
-        fault : (m : ℕ) → Later long short at (λ p. more + cond (ltb p (at + sizeOf q)) 0 (putBefore i (at + sizeOf q) p)) (faultAt m (at + more)) (faultAt m at)
+        fault : (m : ℕ)
+            → Later long short at (λ p. more + cond (ltb p (at + sizeOf q)) 0 (putBefore i (at + sizeOf q) p)) (faultAt m (at + more)) (faultAt m at)
         fault m =
             let l = fault-moved m at more k (alike m) in
             record { result = refl; lacks = refl; reached = omega arith; place = rw here; failed = l .failed }
@@ -201,7 +203,8 @@ module _ (dialect : Dialect) (long short : List ℕ) where
       let i = kept (r .row) in
       rw w
       (moved-as (omega arith) (λ p l. rw (kept-none (r .row) at p) (add-zero more))
-      (row-moved (r .tail) (r .tail) (walk (r .tail)) (walk (r .tail)) (ends-stopped (r .tail) (r .stops)) i (r .whole) at more h (e ∙ r .bytes) (d ∙ r .bytes) seen))
+      (row-moved (r .tail) (r .tail) (walk (r .tail)) (walk (r .tail)) (ends-stopped (r .tail) (r .stops)) i (r .whole) at more h (e ∙ r .bytes)
+      (d ∙ r .bytes) seen))
 
   pub ends-same : (t : List ℕ) → length t % 4 ≡ 0 → Ends t t (walk t) (walk t)
   ends-same t f = ends-row t (row-of (length t) t (omega arith) f)

@@ -42,9 +42,14 @@ module _ (x : Lent) where
   answer = answered x (decision x (checkValue (checkOf x)))
 
   -- What holds of every refusal and of the answer holds of the call.
-  call-by : (P : Bool → Served → Type 0) (Q : Trial → Type 0) → All Q (trials x) → ((r : Trial) → Q r → r .holds ≡ true → P true (refused x r)) → P false answer → P (turnedAway x) (serve x)
+  call-by : (P : Bool → Served → Type 0) (Q : Trial → Type 0) → All Q (trials x) → ((r : Trial) → Q r → r .holds ≡ true → P true (refused x r))
+      → P false answer → P (turnedAway x) (serve x)
   unfolding serve
   call-by P Q h f o = tried-by P Q (refused x) answer f o (trials x) h
+
+  -- What holds of any refusal at all, and of the answer, does.
+  any-call : (P : Bool → Served → Type 0) → ((r : Trial) → P true (refused x r)) → P false answer → P (turnedAway x) (serve x)
+  any-call P f o = call-by P (λ r. Unit) (tt, (tt, (tt, (tt, (tt, tt))))) (λ r q h. f r) o
 
   pub refusals : Exactly (trials x) (callNumber (serve x .call))
   unfolding serve refused answered
@@ -55,7 +60,8 @@ module _ (x : Lent) where
   pub number-most : callNumber (serve x .call) ≤ 5
   unfolding refused answered
   number-most =
-      call-by (λ b s. callNumber (s .call) ≤ 5) (λ r. r .number ≤ 5) (omega arith, (omega arith, (omega arith, (omega arith, (omega arith, tt))))) (λ r h e. h) (omega arith)
+      call-by (λ b s. callNumber (s .call) ≤ 5) (λ r. r .number ≤ 5) (omega arith, (omega arith, (omega arith, (omega arith, (omega arith, tt)))))
+      (λ r h e. h) (omega arith)
 
   -- Refusals 1 to 4 return 0 besides, refusal 5 the first bad block, an answer its length.
   record Besides (c : Call) : Type 0 where
@@ -73,15 +79,24 @@ module _ (x : Lent) where
   besides : Besides (serve x .call)
   unfolding refused answered isAnswer
   besides =
-      call-by (λ b s. Besides (s .call)) Right
-      (early _ 1 (omega arith), (early _ 2 (omega arith), (early _ 3 (omega arith), (early _ 4 (omega arith), (record { none = λ i. absurd (omega arith); block = λ h e. bad-block (checkOf x) h }, tt)))))
+      call-by (λ b s. Besides (s .call)) Right (
+        early _ 1 (omega arith),
+        (
+          early _ 2 (omega arith),
+          (early _ 3 (omega arith), (early _ 4 (omega arith), (record { none = λ i. absurd (omega arith); block = λ h e. bad-block (checkOf x) h }, tt))),
+        ),
+      )
       (λ r q h.
       record {
         none = λ n k e l. sym (ap callValue e) ∙ q .none (omega (arith, ap callNumber e, l));
         block = λ k e. q .block h (ap callNumber e) ∙ ap Bad (ap callValue e);
         long = λ n e. absurd (omega (arith, ap isAnswer e));
       })
-      (record { none = λ n k e l. absurd (omega (arith, ap isAnswer e)); block = λ k e. absurd (omega (arith, ap isAnswer e)); long = λ n e. sym (ap callValue e) })
+      (record {
+        none = λ n k e l. absurd (omega (arith, ap isAnswer e));
+        block = λ k e. absurd (omega (arith, ap isAnswer e));
+        long = λ n e. sym (ap callValue e);
+      })
 
   pub besides-none : (n k : ℕ) → serve x .call ≡ Refused n k → n ≤ 4 → k ≡ 0
   besides-none = besides .none
@@ -96,11 +111,10 @@ module _ (x : Lent) where
   pub refused-kept : turnedAway x ≡ true → (serve x .table ≡ x .table) × (serve x .buffer ≡ x .buffer)
   unfolding refused
   refused-kept =
-      call-by (λ b s. b ≡ true → (s .table ≡ x .table) × (s .buffer ≡ x .buffer)) (λ r. Unit) (tt, (tt, (tt, (tt, (tt, tt))))) (λ r q h e. (refl, refl))
-      (λ e. absurd (true≢false (sym e)))
+      any-call (λ b s. b ≡ true → (s .table ≡ x .table) × (s .buffer ≡ x .buffer)) (λ r e. (refl, refl)) (λ e. absurd (true≢false (sym e)))
 
   answer-is : turnedAway x ≡ false → serve x ≡ answer
-  answer-is = call-by (λ b s. b ≡ false → s ≡ answer) (λ r. Unit) (tt, (tt, (tt, (tt, (tt, tt))))) (λ r q h e. absurd (true≢false e)) (λ e. refl)
+  answer-is = any-call (λ b s. b ≡ false → s ≡ answer) (λ r e. absurd (true≢false e)) (λ e. refl)
 
   pub answered-is : (count : ℕ) → checkOf x ≡ Sound count → turnedAway x ≡ false → serve x ≡ answered x (decision x count)
   answered-is count s e = answer-is e ∙ ap (λ (c : Checked). answered x (decision x (checkValue c))) s
@@ -130,8 +144,13 @@ module _ (x : Lent) where
     pub word-reads : Reads (serve x .call) (callWord (serve x .call))
     unfolding refused answered
     word-reads =
-        call-by (λ b s. turnedAway x ≡ b → Reads (s .call) (callWord (s .call))) (λ r. (1 ≤ r .number) × (r .besides ≤ 4096))
-        ((omega arith, omega arith), ((omega arith, omega arith), ((omega arith, omega arith), ((omega arith, omega arith), ((omega arith, check-most (x .table) (length (x .profile))), tt)))))
+        call-by (λ b s. turnedAway x ≡ b → Reads (s .call) (callWord (s .call))) (λ r. (1 ≤ r .number) × (r .besides ≤ 4096)) (
+          (omega arith, omega arith),
+          (
+            (omega arith, omega arith),
+            ((omega arith, omega arith), ((omega arith, omega arith), ((omega arith, check-most (x .table) (length (x .profile))), tt))),
+          ),
+        )
         (λ r q h e. refusal-reads (r .number) (r .besides) (q .0) (omega (arith, q .1)))
         (λ e. answer-reads (length (answerTo x (checkValue (checkOf x)))) (omega (arith, short e))) refl
 
@@ -145,18 +164,20 @@ module _ (x : Lent) where
     pub buffer-length : length (serve x .buffer) ≡ length (x .buffer)
     unfolding refused answered
     buffer-length =
-        call-by (λ b s. turnedAway x ≡ b → length (s .buffer) ≡ length (x .buffer)) (λ r. Unit) (tt, (tt, (tt, (tt, (tt, tt))))) (λ r q h e. refl)
+        any-call (λ b s. turnedAway x ≡ b → length (s .buffer) ≡ length (x .buffer)) (λ r e. refl)
         (λ e. over-length (answerTo x (checkValue (checkOf x))) (x .buffer) (omega (arith, short e, taken e .room))) refl
 
   -- the buffer past the answer
   pub buffer-past : drop (callValue (serve x .call)) (serve x .buffer) ≡ drop (callValue (serve x .call)) (x .buffer)
   unfolding refused answered over
   buffer-past =
-      call-by (λ b s. drop (callValue (s .call)) (s .buffer) ≡ drop (callValue (s .call)) (x .buffer)) (λ r. Unit) (tt, (tt, (tt, (tt, (tt, tt))))) (λ r q h. refl)
-      (drop-at (answerTo x (checkValue (checkOf x))) (drop (length (answerTo x (checkValue (checkOf x)))) (x .buffer)) (length (answerTo x (checkValue (checkOf x)))) refl)
+      let bytes = answerTo x (checkValue (checkOf x)) in
+      any-call (λ b s. drop (callValue (s .call)) (s .buffer) ≡ drop (callValue (s .call)) (x .buffer)) (λ r. refl)
+      (drop-at bytes (drop (length bytes) (x .buffer)) (length bytes) refl)
 
 -- Two requests of which the trials say the same are refused alike.
 pub refused-alike : (x : Lent) (req other : List ℕ) → wrongSize req ≡ wrongSize other → wrongLength req ≡ wrongLength other → noRequest req ≡ noRequest other
     → turnedAway (asking x other) ≡ true → serve (asking x req) ≡ serve (asking x other)
 unfolding serve refused
-refused-alike x req other a b c e = rw (a, b, c) (tried-alike (refused (asking x other)) (answer (asking x req)) (answer (asking x other)) (trials (asking x other)) e)
+refused-alike x req other a b c e =
+    rw (a, b, c) (tried-alike (refused (asking x other)) (answer (asking x req)) (answer (asking x other)) (trials (asking x other)) e)

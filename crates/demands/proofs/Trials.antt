@@ -11,7 +11,8 @@ use Rattle.ndushavire.specs.Trial.{Trial, tried, anyHolds}
 use Rattle.demands.specs.Call.{Exactly}
 
 -- What holds of every one that may be given, and of what is otherwise, holds of what comes.
-pub tried-by : {X : Type 0} (P : Bool → X → Type 0) (Q : Trial → Type 0) (give : Trial → X) (otherwise : X) → ((r : Trial) → Q r → r .holds ≡ true → P true (give r)) → P false otherwise
+pub tried-by : {X : Type 0} (P : Bool → X → Type 0) (Q : Trial → Type 0) (give : Trial → X) (otherwise : X)
+    → ((r : Trial) → Q r → r .holds ≡ true → P true (give r)) → P false otherwise
     → (rs : List Trial) → All Q rs → P (anyHolds rs) (tried give otherwise rs)
 unfolding tried anyHolds
 tried-by P Q give otherwise f o [] h = o
@@ -27,7 +28,8 @@ unfolding tried anyHolds
 tried-alike give o p [] e = absurd (true≢false (sym e))
 tried-alike give o p (r ∷ rs) e = go (r .holds) e (tried-alike give o p rs)
   where
-    go : (x : Bool) → (x || anyHolds rs) ≡ true → (anyHolds rs ≡ true → tried give o rs ≡ tried give p rs) → cond x (give r) (tried give o rs) ≡ cond x (give r) (tried give p rs)
+    go : (x : Bool) → (x || anyHolds rs) ≡ true → (anyHolds rs ≡ true → tried give o rs ≡ tried give p rs)
+        → cond x (give r) (tried give o rs) ≡ cond x (give r) (tried give p rs)
     go true h next = refl
     go false h next = next h
 
@@ -55,7 +57,8 @@ module _ {X : Type 0} (give : Trial → X) (otherwise : X) (number : X → ℕ) 
       go false next = next
 
   -- A trial's number comes exactly when it holds and none earlier does.
-  given : (earlier later : List Trial) (r : Trial) → Numbered (earlier ++ (r ∷ later)) → eqb (comes (earlier ++ (r ∷ later))) (r .number) ≡ (not (anyHolds earlier) && r .holds)
+  given : (earlier later : List Trial) (r : Trial) → Numbered (earlier ++ (r ∷ later))
+      → eqb (comes (earlier ++ (r ∷ later))) (r .number) ≡ (not (anyHolds earlier) && r .holds)
   unfolding tried anyHolds
   given [] later r h = go (r .holds)
     where

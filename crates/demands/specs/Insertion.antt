@@ -70,7 +70,9 @@ isFault (bad v) = true
 isFault (fine seen) = false
 
 unfoldable pub faultIn : List ℕ → List Piece → Bool
-faultIn head qs = not (eqb (headerFault (dialectOf cx head) head) 0) || firstOther (glue (avpsOf qs) ended) || isFault (judge (dialectOf cx head) 20 (glue (avpsOf qs) ended) nothing)
+faultIn head qs =
+    not (eqb (headerFault (dialectOf cx head) head) 0) || firstOther (glue (avpsOf qs) ended) || isFault
+    (judge (dialectOf cx head) 20 (glue (avpsOf qs) ended) nothing)
 
 -- (d) "kind unknown: with M B5001": the AVP is in Failed-AVP, and the table is as it was
 abbrev pub unsupported : List ℕ → Piece → Decision
@@ -88,7 +90,8 @@ pub record Cut (req : List ℕ) : Type 0 where
   pub stops : sound tail ≡ false
   pub joined : req ≡ requestOf head (first ∷ rest) tail
 
--- `longer` is `req` with AVPs of unknown kinds put in after its first AVP, at any places before its first length fault; its length field is right, and it stays within the limit.
+-- `longer` is `req` with AVPs of unknown kinds put in after its first AVP, at any places before its first length fault; its length field is right, and it
+-- stays within the limit.
 pub record Longer (req longer : List ℕ) : Type 0 where
   pub cut : Cut req
   pub row : List Piece
@@ -110,7 +113,8 @@ firstMark ending = none
 firstMark (keep q i) = behind q (firstMark i)
 firstMark (put u f i) = cond (isMarked u) (some (record { front = []; mark = u })) (firstMark i)
 
--- what a call with them comes to: the same, but B5001 for the first marked one, unless the call is refused or the header or an AVP before that one breaks a reading rule
+-- what a call with them comes to: the same, but B5001 for the first marked one, unless the call is refused or the header or an AVP before that one breaks a
+-- reading rule
 unfoldable pub newer : (x : Lent) → List ℕ → List ℕ → Piece → Option Mark → Served
 newer x longer head q none = serve x
 newer x longer head q (some m) = cond (turnedAway x || faultIn head (q ∷ m .front)) (serve x) (answered (asking x longer) (unsupported (x .table) (m .mark)))

@@ -35,7 +35,8 @@ use Rattle.fitting.proofs.Tests.{either}
 use Rattle.fitting.proofs.Short.{AllShort, walk-within, holds-short, failed-short, identities-short}
 
 module _ (t : List ℕ) (count : ℕ) (file : List ℕ) (P : Reply → Type 0) (alone : (o : Outcome) → P (plain o))
-    (faulty : (o : Outcome) (f : Option (List ℕ)) → length (failedPart f) ≤ 16400 → P (failing o f)) (named : (o : Outcome) (k : ℕ) → P (serving o (serverOf (blockOf t k))))
+    (faulty : (o : Outcome) (f : Option (List ℕ)) → length (failedPart f) ≤ 16400 → P (failing o f))
+    (named : (o : Outcome) (k : ℕ) → P (serving o (serverOf (blockOf t k))))
     (able : (o : Outcome) (k : ℕ) → 1 ≤ k → P (capable o (blockOf t k))) (granted : (s : Assignment) (o : Outcome) (k : ℕ) → P (assigned t file s o k)) where
   of-served : (o : Outcome) (k : ℕ) → P (served o (serverOf (blockOf t k)))
   unfolding served
@@ -71,7 +72,8 @@ module _ (t : List ℕ) (count : ℕ) (file : List ℕ) (P : Reply → Type 0) (
       here k h =
           either P (ltb 0 (stateOf (blockOf t k))) (of-served (Base 2001) k)
           (either P (unregisteredServices (getD (blockOf t k) 9 0))
-          (of-found (findServer t count (privateOf (blockOf t k))) (Base 2001) (capable (Experimental 2003) (blockOf t k)) (able (Experimental 2003) k h)) (alone (Experimental 5003)))
+          (of-found (findServer t count (privateOf (blockOf t k))) (Base 2001) (capable (Experimental 2003) (blockOf t k)) (able (Experimental 2003) k h))
+          (alone (Experimental 5003)))
 
       go : (f : Found) → findPublic t count public ≡ f → P (locateFound t count f)
       go (At k) e = here k (first-stands (publicIs t public) count 1 k e .from)
@@ -97,11 +99,13 @@ module _ (t : List ℕ) (count : ℕ) (file : List ℕ) (P : Reply → Type 0) (
       where
         go : (x : Bool) (ks : List ℕ) → P (cond x (assignRecords t count file keep s ks) (unaltered t (plain (Experimental 5001))) .reply)
         go true ks =
-            of-records ks (not (every (ownAt t (ownerOf t s ks)) ks)) (eqb (s .kind) 0) (every (storesAt t (s .server)) ks) (not (every (fitsAt t (s .server)) ks))
+            of-records ks (not (every (ownAt t (ownerOf t s ks)) ks)) (eqb (s .kind) 0) (every (storesAt t (s .server)) ks)
+            (not (every (fitsAt t (s .server)) ks))
             (isEmpty ks || not (every (rightAt t (s .kind)) ks))
         go false ks = alone (Experimental 5001)
 
-  of-fault : (m : ℕ) → m ≤ 16384 → (removal given : Bool) (avps : List (List ℕ)) → AllShort m avps → (x : Reply) → identityFault removal given avps ≡ some x → P x
+  of-fault : (m : ℕ) → m ≤ 16384 → (removal given : Bool) (avps : List (List ℕ)) → AllShort m avps → (x : Reply) → identityFault removal given avps ≡ some x
+      → P x
   unfolding identityFault
   of-fault m h removal given [] i x e = go (removal && given) e
     where
@@ -109,7 +113,8 @@ module _ (t : List ℕ) (count : ℕ) (file : List ℕ) (P : Reply → Type 0) (
       go true q = absurd (Option·none-ne-some x q)
       go false q =
           let z : failing (Base 5005) (some (example publicIdentity)) ≡ x = cc in
-          rw (← z) (faulty (Base 5005) (some (example publicIdentity)) (holds-short 16384 (example publicIdentity) (omega arith) (omega (arith, example-length publicIdentity))))
+          rw (← z) (faulty (Base 5005) (some (example publicIdentity))
+          (holds-short 16384 (example publicIdentity) (omega arith) (omega (arith, example-length publicIdentity))))
   of-fault m h removal given (a ∷ []) i x e = absurd (Option·none-ne-some x e)
   of-fault m h removal given (a ∷ (b ∷ avps)) i x e = go removal e
     where
@@ -130,8 +135,10 @@ module _ (t : List ℕ) (count : ℕ) (file : List ℕ) (P : Reply → Type 0) (
           (of-fault (length (drop 20 req)) (omega (arith, length-drop 20 req)) (isRemoval (groupOf (s .kind))) (s .named) (s .identities) (rw e within))
 
       by : (x y : Bool) (seen : Seen)
-          → P (cond x (unaltered t (authorize t count (dataSeen seen userName) (dataSeen seen publicIdentity) (dataSeen seen visitedNetwork) (valueSeen seen authorizationType)))
-          (cond y (assign t count file (eqb (getD (blockOf t 0) 12 0) 1) (assignmentOf seen req)) (unaltered t (locate t count (dataSeen seen publicIdentity)))) .reply)
+          → P (cond x (unaltered t (authorize t count (dataSeen seen userName) (dataSeen seen publicIdentity) (dataSeen seen visitedNetwork)
+          (valueSeen seen authorizationType)))
+          (cond y (assign t count file (eqb (getD (blockOf t 0) 12 0) 1) (assignmentOf seen req))
+          (unaltered t (locate t count (dataSeen seen publicIdentity)))) .reply)
       by true y seen = of-uar (dataSeen seen userName) (dataSeen seen publicIdentity) (dataSeen seen visitedNetwork) (valueSeen seen authorizationType)
       by false true seen = sar (assignmentOf seen req) refl (eqb (getD (blockOf t 0) 12 0) 1)
       by false false seen = of-lir (dataSeen seen publicIdentity)

@@ -43,7 +43,8 @@ unfolding failedBy
 failed-short req v h =
     let n = numberOf (v .result) in
     let t = drop (v .place) req in
-    either (λ (f : Option (List ℕ)). length (failedPart f) ≤ 16400) (ltb 0 (v .lacks)) (holds-short 16384 (example (v .lacks)) (omega arith) (omega (arith, example-length (v .lacks))))
+    either (λ (f : Option (List ℕ)). length (failedPart f) ≤ 16400) (ltb 0 (v .lacks))
+    (holds-short 16384 (example (v .lacks)) (omega arith) (omega (arith, example-length (v .lacks))))
     (either (λ (f : Option (List ℕ)). length (failedPart f) ≤ 16400) (ltb 0 (v .place))
     (holds-short 16384 (failedOf n t) (omega arith) (omega (arith, fault-length n t, length-drop (v .place) req)))
     (omega arith))

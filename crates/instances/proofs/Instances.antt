@@ -25,11 +25,13 @@ use Rattle.ndushavire.specs.Serve.{Served, trials, decision, serve}
 use Rattle.ndushavire.specs.Word.{word, callNumber, callValue, callWord, Reads, ReadsCheck}
 use Rattle.worked.proofs.Sample.{header, person, request, answer, s, z, opened}
 use Rattle.demands.specs.Call.{answerTo}
-use Rattle.demands.specs.Frame.{firstOwner, askedIn, subscriptionOf, alterable}
+use Rattle.demands.specs.Frame.{firstOwner, askedIn, subscriptionOf}
 use Rattle.requests.specs.Request.{dialectOf, cx}
 use Rattle.demands.specs.Insertion.{message, requestOf, Foreign, Quiet, Inserted, ending, keep, put, FirstMarked, faultIn, Cut, Longer, firstMark, newer, Newer}
-use Rattle.demands.proofs.Demands.{promised, checked, demand-1, demand-1-number, demand-1-none, demand-1-block, demand-1-length, demand-1-fits, demand-1-within, demand-1-word, demand-1-kept}
-use Rattle.demands.proofs.Demands.{demand-2, demand-2-failure, demand-2-others, demand-2-header, demand-2-bytes, demand-2-bits, demand-2-size, demand-2-sound, demand-2-question, demand-2-room, demand-2-past}
+use Rattle.demands.proofs.Demands.{promised, checked, demand-1, demand-1-number, demand-1-none, demand-1-block, demand-1-length, demand-1-fits}
+use Rattle.demands.proofs.Demands.{demand-1-within, demand-1-word, demand-1-kept}
+use Rattle.demands.proofs.Demands.{demand-2, demand-2-failure, demand-2-others, demand-2-header, demand-2-bytes, demand-2-bits, demand-2-size}
+use Rattle.demands.proofs.Demands.{demand-2-sound, demand-2-question, demand-2-room, demand-2-past}
 use Rattle.demands.proofs.Demands.{demand-3, demand-3-unmarked, demand-3-table, demand-3-marked, demand-3-fault, demand-3-cases, demand-3-any}
 
 -- two subscriptions, each registered at the server `s`; two records of one public identity; the table after `a` was removed; a buffer of the least room
@@ -95,7 +97,7 @@ loud = record { avp = headBytes 999 64 11 ++ (1 ∷ 2 ∷ 3 ∷ []); pad = 0xFF 
 -- all that the instances open
 all : ℕ
 unfolding opened table removed room base vendor head session application common own rest sar comes plain zeroVendor loud
-    message glue bytesOf avpsOf firstOwner askedIn subscriptionOf alterable anyHolds faultIn
+    message glue bytesOf avpsOf firstOwner askedIn subscriptionOf anyHolds faultIn
 all = 0
 
 -- the table is sound; the SAR is a success, which rewrites record 1 alone
@@ -124,10 +126,13 @@ met-checked-bad : ReadsCheck (Bad 2) (word 5 2)
 unfolding all twice
 met-checked-bad = checked twice [] (record { answer = refl })
 
--- DEMAND 1: a request of 19 bytes is refusal 2, the second trial; the SAR is number 0 with the answer's length; two records of one public identity are refusal 5
+-- DEMAND 1: a request of 19 bytes is refusal 2, the second trial; the SAR is number 0 with the answer's length; two records of one public identity are
+-- refusal 5
 met-1 : eqb (callNumber (serve (asked (take 19 (sar s 5))) .call)) 2 ≡ true
 unfolding all
-met-1 = demand-1 (asked (take 19 (sar s 5))) .given (take 1 (trials (asked (take 19 (sar s 5))))) (drop 2 (trials (asked (take 19 (sar s 5))))) (record { holds = true; number = 2; besides = 0 }) refl
+met-1 =
+    demand-1 (asked (take 19 (sar s 5))) .given (take 1 (trials (asked (take 19 (sar s 5))))) (drop 2 (trials (asked (take 19 (sar s 5)))))
+    (record { holds = true; number = 2; besides = 0 }) refl
 
 met-1-within : 116 ≤ length room
 unfolding all
@@ -176,7 +181,6 @@ met-2-header : blockOf (serve (asked (sar s 5)) .table) 0 ≡ blockOf table 0
 met-2-header = demand-2-header (asked (sar s 5)) 2 sound-table
 
 met-2-bytes : getD (blockOf (serve (asked (sar s 5)) .table) 1) 144 0 ≡ getD (blockOf table 1) 144 0
-unfolding alterable
 met-2-bytes = demand-2-bytes (asked (sar s 5)) 2 sound-table 1 144 (lit≤ tt) (lit< tt) refl
 
 met-2-bits : getD (blockOf (serve (asked (sar s 5)) .table) 1) 9 0 / 2 ≡ getD (blockOf table 1) 9 0 / 2
@@ -218,7 +222,11 @@ is-whole : (q : Piece) → isWhole q ≡ true → Whole q
 unfolding isWhole
 is-whole q e =
     let r = and-right (sound (q .avp)) _ e in
-    record { right = and-left (sound (q .avp)) _ e; exact = eqb-true _ _ (and-left (eqb (avpLen (q .avp)) (length (q .avp))) _ r); filled = eqb-true _ _ (and-right (eqb (avpLen (q .avp)) (length (q .avp))) _ r) }
+    record {
+      right = and-left (sound (q .avp)) _ e;
+      exact = eqb-true _ _ (and-left (eqb (avpLen (q .avp)) (length (q .avp))) _ r);
+      filled = eqb-true _ _ (and-right (eqb (avpLen (q .avp)) (length (q .avp))) _ r);
+    }
 
 all-whole : (qs : List Piece) → allWhole qs ≡ true → All Whole qs
 unfolding allWhole
@@ -251,11 +259,14 @@ kept [] = ending
 kept (q ∷ qs) = keep q (kept qs)
 
 -- two unmarked ones between, and one at the end of the SAR that succeeds: the same answer and the same table
-met-3-unmarked : serve (asked (requestOf head (session ∷ application ∷ plain ∷ zeroVendor ∷ common ++ (own s 5 ++ (plain ∷ []))) [])) ≡ comes removed (answer (numberBytes 268 2001) [])
+met-3-unmarked : serve (asked (requestOf head (session ∷ application ∷ plain ∷ zeroVendor ∷ common ++ (own s 5 ++ (plain ∷ []))) []))
+    ≡ comes removed (answer (numberBytes 268 2001) [])
 unfolding all isWhole allWhole
 met-3-unmarked =
-    demand-3-unmarked head refl session (rest s 5) (application ∷ plain ∷ zeroVendor ∷ common ++ (own s 5 ++ (plain ∷ []))) (all-whole (session ∷ rest s 5) refl) [] refl (lit≤ tt) (asked [])
-    (keep _ (put plain quiet-plain (put zeroVendor quiet-zero (keep _ (keep _ (keep _ (keep _ (keep _ (keep _ (keep _ (keep _ (put plain quiet-plain ending))))))))))))
+    demand-3-unmarked head refl session (rest s 5) (application ∷ plain ∷ zeroVendor ∷ common ++ (own s 5 ++ (plain ∷ [])))
+    (all-whole (session ∷ rest s 5) refl) [] refl (lit≤ tt) (asked [])
+    (keep _ (put plain quiet-plain (put zeroVendor quiet-zero
+    (keep _ (keep _ (keep _ (keep _ (keep _ (keep _ (keep _ (keep _ (put plain quiet-plain ending))))))))))))
     ∙ removal
 
 -- the same before an AVP that says a length of 4, which is B5014
@@ -266,7 +277,8 @@ cut-answered : serve (asked (requestOf head (session ∷ rest s 5) cut)) ≡ com
 unfolding all cut
 cut-answered = refl
 
-met-3-tail : serve (asked (requestOf head (session ∷ application ∷ plain ∷ common ++ own s 5) cut)) ≡ comes table (answer (numberBytes 268 5014) (failed (headBytes 1 0 8)))
+met-3-tail : serve (asked (requestOf head (session ∷ application ∷ plain ∷ common ++ own s 5) cut))
+    ≡ comes table (answer (numberBytes 268 5014) (failed (headBytes 1 0 8)))
 unfolding all isWhole allWhole cut
 met-3-tail =
     demand-3-unmarked head refl session (rest s 5) (application ∷ plain ∷ common ++ own s 5) (all-whole (session ∷ rest s 5) refl) cut refl (lit≤ tt) (asked [])
@@ -302,14 +314,17 @@ unsupported-answer = comes table (answer (numberBytes 268 5001) (failed (loud .a
 met-3-marked : serve (asked (requestOf head (session ∷ application ∷ common ++ (loud ∷ own s 12)) [])) ≡ unsupported-answer
 unfolding all isWhole allWhole unsupported-answer markedAt
 met-3-marked =
-    demand-3-marked head refl session (rest s 12) (application ∷ common ++ (loud ∷ own s 12)) (all-whole (session ∷ rest s 12) refl) [] refl (lit≤ tt) (asked [])
+    demand-3-marked head refl session (rest s 12) (application ∷ common ++ (loud ∷ own s 12)) (all-whole (session ∷ rest s 12) refl) [] refl (lit≤ tt)
+    (asked [])
     (markedAt (application ∷ common) (own s 12)) refl refl
 
 -- the marked one behind it: the answer given without it
-met-3-fault : serve (asked (requestOf head (session ∷ rest s 12 ++ (loud ∷ [])) [])) ≡ comes table (answer (numberBytes 268 5004) (failed (vendorHead 614 16 ++ wordBytes 12)))
+met-3-fault : serve (asked (requestOf head (session ∷ rest s 12 ++ (loud ∷ [])) []))
+    ≡ comes table (answer (numberBytes 268 5004) (failed (vendorHead 614 16 ++ wordBytes 12)))
 unfolding all isWhole allWhole markedAt
 met-3-fault =
-    demand-3-fault head refl session (rest s 12) (rest s 12 ++ (loud ∷ [])) (all-whole (session ∷ rest s 12) refl) [] refl (lit≤ tt) (asked []) (markedAt (rest s 12) []) refl
+    demand-3-fault head refl session (rest s 12) (rest s 12 ++ (loud ∷ [])) (all-whole (session ∷ rest s 12) refl) [] refl (lit≤ tt) (asked [])
+    (markedAt (rest s 12) []) refl
 
 -- no 624, which after the walk is B5005; two identities in a SAR of type 1, which the decision calls B5009: the marked one goes before both
 lacking624 : List Piece
@@ -321,11 +336,13 @@ many = application ∷ common ++ (vendor 601 (0x62 ∷ []) ∷ own s 1)
 met-3-missing : serve (asked (requestOf head (session ∷ lacking624 ++ (loud ∷ [])) [])) ≡ unsupported-answer
 unfolding all isWhole allWhole unsupported-answer markedAt lacking624
 met-3-missing =
-    demand-3-marked head refl session lacking624 (lacking624 ++ (loud ∷ [])) (all-whole (session ∷ lacking624) refl) [] refl (lit≤ tt) (asked []) (markedAt lacking624 []) refl refl
+    demand-3-marked head refl session lacking624 (lacking624 ++ (loud ∷ [])) (all-whole (session ∷ lacking624) refl) [] refl (lit≤ tt) (asked [])
+    (markedAt lacking624 []) refl refl
 
 met-3-many : serve (asked (requestOf head (session ∷ many ++ (loud ∷ [])) [])) ≡ unsupported-answer
 unfolding all isWhole allWhole unsupported-answer markedAt many
-met-3-many = demand-3-marked head refl session many (many ++ (loud ∷ [])) (all-whole (session ∷ many) refl) [] refl (lit≤ tt) (asked []) (markedAt many []) refl refl
+met-3-many =
+    demand-3-marked head refl session many (many ++ (loud ∷ [])) (all-whole (session ∷ many) refl) [] refl (lit≤ tt) (asked []) (markedAt many []) refl refl
 
 met-3-table : serve (asked (requestOf head (session ∷ many ++ (loud ∷ [])) [])) .table ≡ table
 unfolding all isWhole allWhole many
@@ -349,7 +366,18 @@ met-3-any = demand-3-any (sar s 5) (are-bytes (sar s 5) refl) refl refl
 -- In one sentence: the SAR of type 5 with two unmarked ones put in, and with a marked one behind them.
 cut-sar : Cut (sar s 5)
 unfolding all isWhole allWhole
-cut-sar = record { head = head; first = session; rest = rest s 5; tail = []; twenty = refl; whole = all-whole (session ∷ rest s 5) refl; fours = refl; stops = refl; joined = refl }
+cut-sar =
+    record {
+      head = head;
+      first = session;
+      rest = rest s 5;
+      tail = [];
+      twenty = refl;
+      whole = all-whole (session ∷ rest s 5) refl;
+      fours = refl;
+      stops = refl;
+      joined = refl;
+    }
 
 quietly : List Piece
 quietly = application ∷ plain ∷ zeroVendor ∷ common ++ own s 5
@@ -360,12 +388,24 @@ loudly = application ∷ plain ∷ loud ∷ common ++ own s 5
 longer-quietly : Longer (sar s 5) (requestOf head (session ∷ quietly) [])
 unfolding all quietly cut-sar
 longer-quietly =
-    record { cut = cut-sar; row = quietly; inserted = keep _ (put plain foreign-plain (put zeroVendor foreign-zero (kept (common ++ own s 5)))); bytes = refl; most = lit≤ tt }
+    record {
+      cut = cut-sar;
+      row = quietly;
+      inserted = keep _ (put plain foreign-plain (put zeroVendor foreign-zero (kept (common ++ own s 5))));
+      bytes = refl;
+      most = lit≤ tt;
+    }
 
 longer-loudly : Longer (sar s 5) (requestOf head (session ∷ loudly) [])
 unfolding all loudly cut-sar
 longer-loudly =
-    record { cut = cut-sar; row = loudly; inserted = keep _ (put plain foreign-plain (put loud foreign-loud (kept (common ++ own s 5)))); bytes = refl; most = lit≤ tt }
+    record {
+      cut = cut-sar;
+      row = loudly;
+      inserted = keep _ (put plain foreign-plain (put loud foreign-loud (kept (common ++ own s 5))));
+      bytes = refl;
+      most = lit≤ tt;
+    }
 
 met-3-quietly : serve (asked (requestOf head (session ∷ quietly) [])) ≡ comes removed (answer (numberBytes 268 2001) [])
 unfolding all quietly longer-quietly cut-sar firstMark newer kept

@@ -84,7 +84,8 @@ module _ (req t file o : List ℕ) where
           let q = lt-ltb (getD req 4 0) 128 b in
           record { call-is = rw (h, fits, l, q); table-is = rw (h, fits, l, q); buffer-is = rw (h, fits, l, q) }
 
-      pub call-rest : w ≡ false → 128 ≤ getD req 4 0 → (c : Checked) → c ≡ checkTable t (length file) → {r : Call} {t' o' : List ℕ} → Leaves (serveChecked x c) r t' o'
+      pub call-rest : w ≡ false → 128 ≤ getD req 4 0 → (c : Checked) → c ≡ checkTable t (length file) → {r : Call} {t' o' : List ℕ}
+          → Leaves (serveChecked x c) r t' o'
           → Leaves (serve x) r t' o'
       unfolding serve tried serveChecked
       call-rest a b c d s =

@@ -90,7 +90,8 @@ fn wrong_length(req: &[u8]) -> bool
 // A request that the first four refusals let pass, over a table that was checked.
 fn call_checked(c: Checked, req: &[u8], t: &mut [u8], file: &[u8], out: &mut [u8]) -> Call
     requires { ⌜ Passed (now req) (now out) × (c ≡ checkTable (now t) (length (now file))) ⌝ }
-    ensures { λ r. ⌜ Leaves (serveChecked (lent (now (req .entry)) (now (t .entry)) (now (file .entry)) (now (out .entry))) c) r (now (t .exit)) (now (out .exit)) ⌝ }
+    ensures { λ r. ⌜ Leaves (serveChecked (lent (now (req .entry)) (now (t .entry)) (now (file .entry)) (now (out .entry))) c)
+        r (now (t .exit)) (now (out .exit)) ⌝ }
 {
     match c {
         Checked::Sound(count) => {
@@ -106,7 +107,8 @@ fn call_checked(c: Checked, req: &[u8], t: &mut [u8], file: &[u8], out: &mut [u8
 
 // "Five refusals of the call. Tried in this order."
 fn one_call(req: &[u8], t: &mut [u8], file: &[u8], out: &mut [u8]) -> Call
-    ensures { λ r. ⌜ Leaves (serve (lent (now (req .entry)) (now (t .entry)) (now (file .entry)) (now (out .entry)))) r (now (t .exit)) (now (out .exit)) ⌝ }
+    ensures { λ r. ⌜ Leaves (serve (lent (now (req .entry)) (now (t .entry)) (now (file .entry)) (now (out .entry))))
+        r (now (t .exit)) (now (out .exit)) ⌝ }
 {
     if out.len() < ROOM {
         return Call::Refused {
@@ -144,7 +146,8 @@ pub extern "C" fn ndushavire_decide(
     profile: &[u8],
     answer: &mut [u8],
 ) -> u64
-    ensures { λ r. ⌜ DecidePromise (lent (now (request .entry)) (now (table .entry)) (now (profile .entry)) (now (answer .entry))) r (now (table .exit)) (now (answer .exit)) ⌝ }
+    ensures { λ r. ⌜ DecidePromise (lent (now (request .entry)) (now (table .entry)) (now (profile .entry)) (now (answer .entry)))
+        r (now (table .exit)) (now (answer .exit)) ⌝ }
 {
     call_word(one_call(request, table, profile, answer))
 }

@@ -17,7 +17,8 @@ use Rattle.ndushavire.specs.Lent.{lent}
 use Rattle.ndushavire.specs.Serve.{serve}
 use Rattle.worked.proofs.Sample.{block, header, answer, assignment, one, two, s, z, opened}
 
--- A case: a call (a request, a table, no profile file, a buffer of zeros of so many bytes; what it comes to, the table afterwards, the answer), the check of a table with its
+-- A case: a call (a request, a table, no profile file, a buffer of zeros of so many bytes; what it comes to, the table afterwards, the answer), the check of
+-- a table with its
 -- answer, or a block with the sum of its words
 data Case : Type 0 where
   call : List ℕ → List ℕ → ℕ → Call → List ℕ → List ℕ → Case
@@ -48,7 +49,8 @@ exactly =
     ∷ 0x69 ∷ 0x73 ∷ 0x6C ∷ 0x65 ∷ 0x00 ∷ 0x00 ∷ 0x01 ∷ 0x17 ∷ 0x40 ∷ 0x00 ∷ 0x00 ∷ 0x10 ∷ 0x00 ∷ 0x00 ∷ 0x01 ∷ 0x07 ∷ 0x40 ∷ 0x00 ∷ 0x00 ∷ 0x08
     ∷ []
 
--- a SAR of type 1 for `a` with the name `z`, a table of one line `a` that is registered at `s`, and X5005, each byte by byte: no writer of the definitions made them
+-- a SAR of type 1 for `a` with the name `z`, a table of one line `a` that is registered at `s`, and X5005, each byte by byte: no writer of the definitions
+-- made them
 other : List ℕ
 other =
     0x01 ∷ 0x00 ∷ 0x00 ∷ 0xB0 ∷ 0xC0 ∷ 0x00 ∷ 0x01 ∷ 0x2D ∷ 0x01 ∷ 0x00 ∷ 0x00 ∷ 0x00 ∷ 0x00 ∷ 0x00 ∷ 0x00 ∷ 0x01 ∷ 0x00 ∷ 0x00 ∷ 0x00 ∷ 0x02
@@ -130,4 +132,5 @@ cases =
 
 examples : Holds cases
 unfolding opened worked exactly other registered elsewhere alone unkind
-examples = (refl, (refl, (refl, (refl, (refl, (refl, (refl, (refl, (refl, (refl, (refl, (refl, (refl, (refl, (refl, (refl, (refl, (refl, (refl, tt)))))))))))))))))))
+examples =
+    (refl, (refl, (refl, (refl, (refl, (refl, (refl, (refl, (refl, (refl, (refl, (refl, (refl, (refl, (refl, (refl, (refl, (refl, (refl, tt)))))))))))))))))))

@@ -57,7 +57,8 @@ question-served : serve question ≡ comes (one 0 1 s) (answer (numberBytes 268 
 unfolding opened room question
 question-served = refl
 
--- What the promise leaves of the removal: the word 116, state 0 in the record, and 2001, whose last byte is 209, in the answer; of the other 5012, whose last byte is 148.
+-- What the promise leaves of the removal: the word 116, state 0 in the record, and 2001, whose last byte is 209, in the answer; of the other 5012, whose last
+-- byte is 148.
 state : List ℕ → ℕ
 state t = getD t 520 0
 
@@ -108,7 +109,8 @@ unwriting-fails : (word : Lent → ℕ) (bytes : Lent → List ℕ) (n : ℕ) �
 unfolding unwriting removal state opened
 unwriting-fails word bytes n p = omega (arith, removal-state (unwriting word bytes) n p)
 
--- 4. "one that serves the first request of a run truly and only imitates later". It meets the promise at the first call; at each later one it does what the imitator does ..
+-- 4. "one that serves the first request of a run truly and only imitates later". It meets the promise at the first call; at each later one it does what the
+-- imitator does ..
 once : Server → Server
 once later zero x = truly zero x
 once later (suc n) x = later n x
