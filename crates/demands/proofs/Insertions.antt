@@ -33,8 +33,10 @@ use Rattle.ndushavire.specs.Serve.{noRequest, checkOf, answered, decision, serv
 use Rattle.demands.specs.Call.{turnedAway}
 use Rattle.demands.specs.Insertion.{message, requestOf, Foreign, isMarked, Quiet, Inserted, ending, keep, put, FirstMarked, isFault, faultIn, unsupported}
 use Rattle.demands.proofs.Refusals.{refused-kept, refused-alike, answered-is, taken}
-use Rattle.demands.proofs.Moved.{putBefore, Moved, faults, same, moved-as, past-later, past-drop, failed-there, Row-moved, row-moved, ends-none, ends-same}
-use Rattle.demands.proofs.Messages.{message-length, message-flags, message-drop, message-read, readBody, Fit, size-right, length-right, Alike, served-same}
+use Rattle.demands.proofs.Moved.{putBefore, Moved, faults, same, moved-as, past-later, past-drop, failed-there}
+use Rattle.demands.proofs.Moved.{Row-moved, row-moved, ends-none, ends-same}
+use Rattle.demands.proofs.Messages.{message-length, message-flags, message-drop, message-read}
+use Rattle.demands.proofs.Messages.{readBody, Fit, size-right, length-right, Alike, served-same}
 
 -- what a fold that passes over those put in makes of the longer row
 inserted-same : {X : Type 0} {P : Piece → Type 0} (f : Walk → X) → ((a : List ℕ) (v w : Walk) → f v ≡ f w → f (avp a v) ≡ f (avp a w))
@@ -67,11 +69,14 @@ inserted-joined (keep q i) j = keep q (inserted-joined i j)
 inserted-joined (put u p i) j = put u p (inserted-joined i j)
 
 -- the folds that pass over unknown kinds: the identities and the copies
-foreign-identities : {dialect : Dialect} {qs rs : List Piece} → Inserted (Foreign dialect) qs rs → (w : Walk) → identities (glue (avpsOf rs) w) ≡ identities (glue (avpsOf qs) w)
+foreign-identities : {dialect : Dialect} {qs rs : List Piece} → Inserted (Foreign dialect) qs rs → (w : Walk)
+    → identities (glue (avpsOf rs) w) ≡ identities (glue (avpsOf qs) w)
 unfolding identities
-foreign-identities {dialect} = inserted-same identities (λ a v w e. rw e) (λ u w p. rw (stranger-kind dialect (u .avp) publicIdentity (p .stranger) (identity-known dialect)))
+foreign-identities {dialect} =
+    inserted-same identities (λ a v w e. rw e) (λ u w p. rw (stranger-kind dialect (u .avp) publicIdentity (p .stranger) (identity-known dialect)))
 
-foreign-proxies : {dialect : Dialect} {qs rs : List Piece} → Inserted (Foreign dialect) qs rs → (w : Walk) → proxies (glue (avpsOf rs) w) ≡ proxies (glue (avpsOf qs) w)
+foreign-proxies : {dialect : Dialect} {qs rs : List Piece} → Inserted (Foreign dialect) qs rs → (w : Walk)
+    → proxies (glue (avpsOf rs) w) ≡ proxies (glue (avpsOf qs) w)
 unfolding proxies ifThere
 foreign-proxies {dialect} = inserted-same proxies (λ a v w e. rw e) (λ u w p. rw (stranger-kind dialect (u .avp) proxyInfo (p .stranger) (proxy-known dialect)))
 

@@ -48,7 +48,8 @@ split-keep q i (inr f) =
       is = ap (behind q) (f .is);
     })
 
-split-quiet : {dialect : Dialect} (u : Piece) (f : Foreign dialect u) (h : isMarked u ≡ false) {qs rs : List Piece} (i : Inserted (Foreign dialect) qs rs) → Split i → Split (put u f i)
+split-quiet : {dialect : Dialect} (u : Piece) (f : Foreign dialect u) (h : isMarked u ≡ false) {qs rs : List Piece} (i : Inserted (Foreign dialect) qs rs)
+    → Split i → Split (put u f i)
 unfolding firstMark
 split-quiet u f h i (inl (e, j)) = inl (rw h e, put u (record { foreign = f; unmarked = h }) j)
 split-quiet u f h i (inr g) =
@@ -71,7 +72,8 @@ split-quiet u f h i (inr g) =
       is = rw h (g .is);
     })
 
-split-put : {dialect : Dialect} (u : Piece) (f : Foreign dialect u) {qs rs : List Piece} (i : Inserted (Foreign dialect) qs rs) → Split i → (x : Bool) → isMarked u ≡ x → Split (put u f i)
+split-put : {dialect : Dialect} (u : Piece) (f : Foreign dialect u) {qs rs : List Piece} (i : Inserted (Foreign dialect) qs rs) → Split i → (x : Bool)
+    → isMarked u ≡ x → Split (put u f i)
 unfolding firstMark
 split-put u f {qs} {rs} i s true h =
     inr (record {

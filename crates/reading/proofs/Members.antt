@@ -104,7 +104,8 @@ module _ (s : List ℕ) (a : Avp) (h : Here s a) (code vendor c : ℕ) (ec : c �
   unfolding isOf
   of-vendor v l ev = rw (own-flags s a h, le-leb _ _ l, ← ec, ← ev) (and-assoc (eqb c code) (ltb 0 vendor) (eqb v vendor))
 
-pub fits-there : (s : List ℕ) (a : Avp) → Here s a → (m : Member) (x : Bool) (n : ℕ) → x ≡ isOf (m .code) (m .vendor) (ownOf s a) → n ≡ plainFault (m .content) (ownOf s a)
+pub fits-there : (s : List ℕ) (a : Avp) → Here s a → (m : Member) (x : Bool) (n : ℕ) → x ≡ isOf (m .code) (m .vendor) (ownOf s a)
+    → n ≡ plainFault (m .content) (ownOf s a)
     → (eqb (a .flags % 32) 0 && x && eqb n 0) ≡ fits m (ownOf s a)
 unfolding fits
 fits-there s a h m x n ex en = rw (own-flags s a h, ex, en)

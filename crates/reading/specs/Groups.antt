@@ -20,8 +20,8 @@ member code vendor content many = record { code = code; vendor = vendor; content
 abbrev pub nobody : Member
 nobody = member 0 0 Free false
 
--- "260 holds, in any order, one or more Vendor-Id 266, each 10415, and one Auth-Application-Id 258 of 16777216, all 4-byte AVPs passing (a) and (c), without V, and no
--- other": of the application that is spoken
+-- "260 holds, in any order, one or more Vendor-Id 266, each 10415, and one Auth-Application-Id 258 of 16777216, all 4-byte AVPs passing (a) and (c), without V,
+-- and no other": of the application that is spoken
 unfoldable pub applicationMembers : ℕ → List Member
 applicationMembers application = member 266 0 (Number 10415 10415) true ∷ member 258 0 (Number application application) false ∷ []
 

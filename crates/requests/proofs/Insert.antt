@@ -20,7 +20,8 @@ use Rattle.reading.specs.Verdicts.{faultAt}
 use Rattle.requests.specs.Judged.{Judged, bad, fine, onRule, judge}
 
 -- an AVP of a kind that the dialect does not know is none of a kind that it knows
-pub stranger-kind : (dialect : Dialect) (u : List ℕ) (k : ℕ) → useOf dialect u ≡ Unknown → isUnknown (useIn dialect (rowOf k)) ≡ false → eqb (kindOf u) k ≡ false
+pub stranger-kind : (dialect : Dialect) (u : List ℕ) (k : ℕ) → useOf dialect u ≡ Unknown → isUnknown (useIn dialect (rowOf k)) ≡ false
+    → eqb (kindOf u) k ≡ false
 stranger-kind dialect u k e f = go (eqb (kindOf u) k) refl
   where
     go : (x : Bool) → eqb (kindOf u) k ≡ x → eqb (kindOf u) k ≡ false
@@ -28,7 +29,8 @@ stranger-kind dialect u k e f = go (eqb (kindOf u) k) refl
     go false d = d
 
 -- Public-Identity and Proxy-Info are known to each command
-known-in : (dialect : Dialect) (k : Kind) → isUnknown (k .uar) ≡ false → isUnknown (k .sar) ≡ false → isUnknown (k .lir) ≡ false → isUnknown (useIn dialect k) ≡ false
+known-in : (dialect : Dialect) (k : Kind) → isUnknown (k .uar) ≡ false → isUnknown (k .sar) ≡ false → isUnknown (k .lir) ≡ false
+    → isUnknown (useIn dialect k) ≡ false
 unfolding useIn
 known-in dialect k a b c = go (eqb (dialect .command) 300) (eqb (dialect .command) 301)
   where

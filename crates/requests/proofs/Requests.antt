@@ -88,7 +88,8 @@ unfolding missing
 missing-all dialect seen = refl
 
 module _ (s places : List ℕ) (dialect : Dialect) (k whole : ℕ) (left : whole ≡ missingFrom dialect (seenOf s places) (drop k (unknown ∷ known)) k) where
-  module _ (low : k < kinds) (room : k < length places) (x : Bool) (e : x ≡ (isNeeded (useIn dialect (rowOf k)) && not (present (partAt s (getD places k 0))))) where
+  module _ (low : k < kinds) (room : k < length places) (x : Bool)
+      (e : x ≡ (isNeeded (useIn dialect (rowOf k)) && not (present (partAt s (getD places k 0))))) where
     pub missing-found : x ≡ true → k ≡ whole
     unfolding missingFrom known rowOf
     missing-found t = rw (left, drop-cons (unknown ∷ known) k unknown low, seen-at s places k room, ← e, t)

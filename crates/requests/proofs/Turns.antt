@@ -29,7 +29,8 @@ map-set f (y ∷ l) zero x = refl
 map-set f (y ∷ l) (suc i) x = ap (f y ∷_) (map-set f l i x)
 
 -- at first no kind has a place
-pub nothing-seen : (s : List ℕ) (dialect : Dialect) (at : ℕ) → judge dialect at (walk (drop at s)) (seenOf s (replicate kinds (length s))) ≡ judge dialect at (walk (drop at s)) nothing
+pub nothing-seen : (s : List ℕ) (dialect : Dialect) (at : ℕ)
+    → judge dialect at (walk (drop at s)) (seenOf s (replicate kinds (length s))) ≡ judge dialect at (walk (drop at s)) nothing
 unfolding nothing
 nothing-seen s dialect at = rw (none-past s (length s) (omega arith))
 
@@ -54,7 +55,8 @@ module _ (s places : List ℕ) (dialect : Dialect) (at : ℕ) (whole : Judged) (
       pub turn-bad : (n : ℕ) (w : Walked) → x ≡ ruled.Fault n → Refuses (faultAt n at) w → judgedOf s w ≡ whole
       turn-bad n w z f = refused-is s (faultAt n at) w f ∙ rw z at turned
 
-      pub turn-taken : (k : ℕ) → k ≡ kindOf (ownOf s a) → x ≡ ruled.Taken → judge dialect (a .next) (walk (drop (a .next) s)) (seenOf s (set places k at)) ≡ whole
+      pub turn-taken : (k : ℕ) → k ≡ kindOf (ownOf s a) → x ≡ ruled.Taken
+          → judge dialect (a .next) (walk (drop (a .next) s)) (seenOf s (set places k at)) ≡ whole
       turn-taken k ek z = rw (map-set (partAt s) places k at, says .part, ek) (rw z at turned)
 
       pub turn-skipped : x ≡ ruled.Skipped → judge dialect (a .next) (walk (drop (a .next) s)) (seenOf s places) ≡ whole
