@@ -18,7 +18,8 @@ use Rattle.rewrite.specs.Change.{alterable}
 use Rattle.ndushavire.specs.declared.Call.the-variants.{Answered, Refused}
 use Rattle.ndushavire.specs.Lent.{Lent, asking}
 use Rattle.ndushavire.specs.Serve.{wrongSize, wrongLength, checkOf, trials, answered, decision, serve}
-use Rattle.ndushavire.specs.Word.{callNumber, callValue, callWord, callIn, Reads, ReadsCheck}
+use Rattle.ndushavire.specs.Word.{callNumber, callValue, callWord}
+use Rattle.ndushavire.specs.Reads.{callIn, Reads, ReadsCheck}
 use Rattle.ndushavire.specs.Promise.{CheckPromise, DecidePromise}
 use Rattle.demands.proofs.Firm.{check-said}
 use Rattle.reading.specs.declared.Dialect.{Dialect}
@@ -77,9 +78,8 @@ module _ (x : Lent) where
   pub demand-1-kept : turnedAway x ≡ true → (serve x .table ≡ x .table) × (serve x .buffer ≡ x .buffer)
   demand-1-kept = refused-kept x
 
--- DEMAND 2. Over a sound table of `count` records a call that is not refused is document 01's decision: the call says the length of its answer, the table is
--- the decision's,
--- and the buffer is the answer's bytes over the buffer as it came.
+-- DEMAND 2. Over a sound table of `count` records a call that is not refused is document 01's decision: the call says the length of its answer, the table
+-- is the decision's, and the buffer is the answer's bytes over the buffer as it came.
 module _ (x : Lent) (count : ℕ) (sound : checkOf x ≡ Sound count) where
   pub demand-2 : turnedAway x ≡ false
       → (serve x .call ≡ Answered (record { length = length (answerTo x count) }))
@@ -126,13 +126,11 @@ module _ (x : Lent) where
   pub demand-2-past : drop (callValue (serve x .call)) (serve x .buffer) ≡ drop (callValue (serve x .call)) (x .buffer)
   demand-2-past = buffer-past x
 
--- DEMAND 3. Let `longer` be a request with AVPs of unknown kinds put in after its first, at one place or at several, so that it stays within 16,384 bytes. A
--- call with `longer`
--- comes to what it comes to with the request, and leaves the same table and the same buffer; but if one of those put in is marked M, the table is as it was,
--- and the answer is the
--- one of B5001 with the first such in Failed-AVP, unless the call is refused or the header or an AVP before that one breaks a reading rule. Before the first
--- AVP there is
--- no place, for (b) wants a Session-Id there; nor does this speak of AVPs with reserved flags, which (c) calls B3009.
+-- DEMAND 3. Let `longer` be a request with AVPs of unknown kinds put in after its first, at one place or at several, so that it stays within 16,384 bytes.
+-- A call with `longer` comes to what it comes to with the request, and leaves the same table and the same buffer; but if one of those put in is marked M,
+-- the table is as it was, and the answer is the one of B5001 with the first such in Failed-AVP, unless the call is refused or the header or an AVP before
+-- that one breaks a reading rule. Before the first AVP there is no place, for (b) wants a Session-Id there; nor does this speak of AVPs with reserved
+-- flags, which (c) calls B3009.
 pub demand-3 : (x : Lent) (longer : List ℕ) (l : Longer (x .request) longer) → Newer x longer l
 demand-3 = longer-newer
 
@@ -161,8 +159,7 @@ module _ (head : List ℕ) (twenty : length head ≡ 20) (q : Piece) (qs rs : Li
 pub demand-3-cases : (d : Dialect) (qs rs : List Piece) → Inserted (Foreign d) qs rs → Inserted (Quiet d) qs rs ⊎ FirstMarked d qs rs
 demand-3-cases d qs rs = marked-or-not
 
--- And these are all requests of a right length whose first AVP passes (a): their bytes are such a header, row and rest, and the row is as long as it can be,
--- so that
--- every place before the first length fault is one of its places. Any other has no place: it has no AVP, or a length fault in its first.
+-- And these are all requests of a right length whose first AVP passes (a): their bytes are such a header, row and rest, and the row is as long as it can
+-- be, so that every place before the first length fault is one of its places. Any other has no place: it has no AVP, or a length fault in its first.
 pub demand-3-any : (req : List ℕ) → ((i : ℕ) → getD req i 0 < 256) → wrongLength req ≡ false → sound (drop 20 req) ≡ true → Cut req
 demand-3-any = every-request

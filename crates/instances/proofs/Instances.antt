@@ -22,7 +22,8 @@ use Rattle.ndushavire.specs.declared.Call.the-variants.{Answered, Refused}
 use Rattle.ndushavire.specs.Lent.{Lent, lent}
 use Rattle.ndushavire.specs.Trial.{anyHolds}
 use Rattle.ndushavire.specs.Serve.{Served, trials, decision, serve}
-use Rattle.ndushavire.specs.Word.{word, callNumber, callValue, callWord, Reads, ReadsCheck}
+use Rattle.ndushavire.specs.Word.{word, callNumber, callValue, callWord}
+use Rattle.ndushavire.specs.Reads.{Reads, ReadsCheck}
 use Rattle.worked.proofs.Sample.{header, person, request, answer, s, z, opened}
 use Rattle.demands.specs.Call.{answerTo}
 use Rattle.demands.specs.Frame.{firstOwner, askedIn, subscriptionOf}

@@ -64,7 +64,9 @@ person k public private state server =
 -- a request of a command with a body; its header as in the worked case
 unfoldable pub request : ℕ → List ℕ → List ℕ
 request command body =
-    let head = 0x01 ∷ 0x00 ∷ 0x00 ∷ 0x00 ∷ 0xC0 ∷ 0x00 ∷ 0x00 ∷ 0x00 ∷ 0x01 ∷ 0x00 ∷ 0x00 ∷ 0x00 ∷ 0x00 ∷ 0x00 ∷ 0x00 ∷ 0x01 ∷ 0x00 ∷ 0x00 ∷ 0x00 ∷ 0x02 ∷ [] in
+    let head : List ℕ =
+    0x01 ∷ 0x00 ∷ 0x00 ∷ 0x00 ∷ 0xC0 ∷ 0x00 ∷ 0x00 ∷ 0x00 ∷ 0x01 ∷ 0x00 ∷ 0x00 ∷ 0x00 ∷ 0x00 ∷ 0x00 ∷ 0x00 ∷ 0x01
+    ∷ 0x00 ∷ 0x00 ∷ 0x00 ∷ 0x02 ∷ [] in
     putBe24 (putBe24 head 1 (20 + length body)) 5 command ++ body
 
 -- the answer to a SAR of the Session-Id `s`: its result, and what follows the realm
@@ -98,16 +100,16 @@ z = 0x7A ∷ []
 
 -- all that a case opens
 unfoldable pub opened : ℕ
-unfolding host realm block header person request answer common assignment one two s z
-    allBelow orderOf alikeAt same be16At be24At be32At putBe24 putBe32 zeros zeroBetween putName over sumWords
-    hostOf realmOf publicOf privateOf serverOf headerOf soundHeader networkOf usedPlace soundPlace sameByte otherPlace newPlace soundNetworks recordOf soundRecord
-    blockOf tableOf publicAt privateAt risesAt soundAt firstBad checkRecords checkTable firstFrom publicIs findPublic privateIs findPrivate serverHere servesAt findServer
-    networkIs seek networkNumber roamsIn negated sealed renewed settled changedAt afterOf padded headOf vendorOf valueOf sound walkFrom walk
-    padding vendorHead copied avpBytes vendorBytes numberBytes vendorNumber group vendorGroup ifThere vendorApplication experimental failed vendorNumbers capabilities
-    known kindFrom kindBy rowOf useIn numberFault plainFault applicationMembers membersOf isOf fits unlike onlyOf countOf enough enoughAt gathers contentFault nothing ruleBy rule judge
-    headerFault headPart alone failedOf sample exampleOf failedBy missingFrom missing complete readWalk readIn identities served mandatoryOf optionalOf profileOf
-    mayRoam authorizeRecord authorizeFound authorize locateRecord locateFound locate groupOf startOf effectOf
-    identityFault every isOne findAll numbersOf ownedHere ownedUpTo recordsOf allKnown ownerOf ownAt storesAt fitsAt rightAt assigned storedName effected assignRecords assignKnown assign
-    assignmentOf decideRead decideJudged decide numberOf resultBytes proxies frontBytes originBytes givenBytes endBytes bodyBytes flagsOf headerBytes answerBytes
-    tried wrongLength refused answered serve
+unfolding host realm block header person request answer common assignment one two s z allBelow orderOf alikeAt same be16At be24At be32At putBe24 putBe32
+    zeros zeroBetween putName over sumWords hostOf realmOf publicOf privateOf serverOf headerOf soundHeader networkOf usedPlace soundPlace sameByte
+    otherPlace newPlace soundNetworks recordOf soundRecord blockOf tableOf publicAt privateAt risesAt soundAt firstBad checkRecords checkTable
+    firstFrom publicIs findPublic privateIs findPrivate serverHere servesAt findServer networkIs seek networkNumber roamsIn negated sealed renewed
+    settled changedAt afterOf padded headOf vendorOf valueOf sound walkFrom walk padding vendorHead copied avpBytes vendorBytes numberBytes
+    vendorNumber group vendorGroup ifThere vendorApplication experimental failed vendorNumbers capabilities known kindFrom kindBy rowOf useIn numberFault
+    plainFault applicationMembers membersOf isOf fits unlike onlyOf countOf enough enoughAt gathers contentFault nothing ruleBy rule judge headerFault
+    headPart alone failedOf sample exampleOf failedBy missingFrom missing
+    complete readWalk readIn identities served mandatoryOf optionalOf profileOf mayRoam authorizeRecord authorizeFound authorize locateRecord
+    locateFound locate groupOf startOf effectOf identityFault every isOne findAll numbersOf ownedHere ownedUpTo recordsOf allKnown ownerOf ownAt
+    storesAt fitsAt rightAt assigned storedName effected assignRecords assignKnown assign assignmentOf decideRead decideJudged decide numberOf
+    resultBytes proxies frontBytes originBytes givenBytes endBytes bodyBytes flagsOf headerBytes answerBytes tried wrongLength refused answered serve
 opened = 0
