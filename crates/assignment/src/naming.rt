@@ -8,7 +8,7 @@ use requests::walk;
 ghost use mathlib.Core.Path.{_≡_};
 ghost use Prim.Native.Nat.{_≤_};
 ghost use lib.ListN.{length};
-ghost use Rattle.lookup.specs.SoundTable.{Ordered};
+ghost use Rattle.table.specs.SoundTable.{SoundTable};
 ghost use Rattle.rewrite.specs.Change.{afterOf};
 ghost use Rattle.rewrite.specs.Renew.{settled, Fitting};
 ghost use Rattle.reading.specs.Request.{bodyOf, identities};
@@ -48,7 +48,7 @@ pub fn survey_all(
     server: &[u8],
     kind: u32,
 ) -> Survey
-    requires { ⌜ (count ≤ 4096) × Ordered (now t) count ⌝ }
+    requires { ⌜ SoundTable (now t) count ⌝ }
     ensures { λ r. ⌜ r ≡ surveyOf (now (t .entry)) (now (owner .entry)) (now (server .entry)) kind (findAll (now (t .entry)) count (identities (bodyOf (now (req .entry))))) ⌝ }
 {
     let mut seen = Survey {
@@ -72,7 +72,7 @@ pub fn survey_all(
 
 // The effect on each record that is named.
 pub fn settle_named(t: &mut [u8], count: usize, req: &[u8], state: u8, server: &[u8])
-    requires { ⌜ (count ≤ 4096) × Ordered (now t) count × Fitting state (now server) ⌝ }
+    requires { ⌜ SoundTable (now t) count × Fitting state (now server) ⌝ }
     ensures { λ _. ⌜ now (t .exit) ≡ afterOf (now (t .entry)) count (isOne (numbersOf (findAll (now (t .entry)) count (identities (bodyOf (now (req .entry))))))) (settled state (now (server .entry))) ⌝ }
 {
     let mut at = walk::BODY;

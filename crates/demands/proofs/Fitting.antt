@@ -3,11 +3,10 @@ use Prim.Native.Nat.{ℕ}
 use mathlib.Core.List.{List}
 use mathlib.Core.Path.{refl}
 use lib.ListN.{length}
-use Rattle.lookup.proofs.Sound.{sound-says}
 use Rattle.ndushavire.proofs.Calls.{size-least, size-most, length-even}
 use Rattle.ndushavire.proofs.Room.{answer-most}
 use Rattle.demands.specs.Call.{Fits}
 
 pub fits : (req t file : List ℕ) → Fits req t file
 fits req t file size right count sound =
-    answer-most t file count (sound-says t (length file) count sound) req (size-least req size) (size-most req size) (length-even req refl right)
+    answer-most t file count (record { file = length file; checked = sound }) req (size-least req size) (size-most req size) (length-even req refl right)

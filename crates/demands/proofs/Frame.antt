@@ -15,12 +15,11 @@ use Rattle.record.specs.Fields.{keepOf}
 use Rattle.table.specs.Blocks.{blockOf, privateAt}
 use Rattle.table.specs.Check.{checkTable}
 use Rattle.table.specs.declared.Checked.the-variants.{Sound}
-use Rattle.table.proofs.Blocks.{block-length}
+use Rattle.table.specs.SoundTable.{SoundTable}
+use Rattle.table.proofs.Sound.{sound-size}
 use Rattle.lookup.specs.Find.{isAt, findPublic, findPrivate}
-use Rattle.lookup.specs.SoundTable.{SoundTable}
 use Rattle.lookup.specs.declared.Found.{Found}
 use Rattle.lookup.specs.declared.Found.the-variants.{At, Nothing}
-use Rattle.lookup.proofs.Sound.{sound-says}
 use Rattle.rewrite.specs.Change.{alterable, Kept, Keeps}
 use Rattle.rewrite.specs.Renew.{settled}
 use Rattle.rewrite.proofs.Settled.{settled-keeps}
@@ -37,7 +36,7 @@ use Rattle.decisions.specs.Reply.{Reply}
 use Rattle.decisions.specs.Types.{between, groupOf, isRemoval, effectOf}
 use Rattle.decisions.specs.Assignment.{Assignment, identityFault, every, isOne, isEmpty, firstOf, allKnown, findAll, numbersOf, ownedUpTo, recordsOf, ownerOf, ownAt, storedName}
 use Rattle.decisions.specs.Decide.{assignmentOf, decide}
-use Rattle.decisions.proofs.Ready.{public-within}
+use Rattle.decisions.proofs.Within.{public-within}
 use Rattle.decisions.proofs.Rows.{row-fits}
 use Rattle.assignment.proofs.OwnTurns.{no-zero}
 use Rattle.ndushavire.specs.Serve.{answered, serve}
@@ -163,24 +162,27 @@ module _ (req t file o : List ℕ) (count : ℕ) (sound : checkTable t (length f
       go false e = rw (answered-is req t file o count sound e) (after-decision p q)
 
 module _ (req t file o : List ℕ) (count : ℕ) (sound : checkTable t (length file) ≡ Sound count) where
-  says : SoundTable t (length file) count
-  says = sound-says t (length file) count sound
+  abbrev says : SoundTable t count
+  says = record { file = length file; checked = sound }
+
+  size : length t ≡ 512 * (count + 1)
+  size = sound-size t count says
 
   pub failure-kept : succeeds (decide req t count file .reply .result) ≡ false → serve req t file o .table ≡ t
   failure-kept e =
       after-call req t file o count sound (λ (x : List ℕ). x ≡ t) refl
-      (λ a. absurd (true≢false (sym (assigned-good req t count file (says .size) a) ∙ e)))
+      (λ a. absurd (true≢false (sym (assigned-good req t count file size a) ∙ e)))
 
   pub others-kept : (k : ℕ) → k ≤ count → some (privateAt t k) ≢ subscriptionOf req t count → blockOf (serve req t file o .table) k ≡ blockOf t k
   others-kept k h n = after-call req t file o count sound (λ (x : List ℕ). blockOf x k ≡ blockOf t k) refl (λ a. stays a (isOne (recordsOf t count (assignmentOf (a .seen) req)) k) refl)
     where
       stays : (a : Assigned req t count file) (x : Bool) → isOne (recordsOf t count (assignmentOf (a .seen) req)) k ≡ x → blockOf (decide req t count file .table) k ≡ blockOf t k
-      stays a true e = absurd (n (assigned-owner req t count file (says .size) a k e))
-      stays a false e = assigned-stays req t count file (says .size) a k h e
+      stays a true e = absurd (n (assigned-owner req t count file size a k e))
+      stays a false e = assigned-stays req t count file size a k h e
 
   -- what every effect keeps is kept by every call
   call-keeping : Keeping t (serve req t file o .table) count
-  call-keeping = after-call req t file o count sound (λ (x : List ℕ). Keeping t x count) (keeping-same t count) (λ a. assigned-keeping req t count file (says .size) a)
+  call-keeping = after-call req t file o count sound (λ (x : List ℕ). Keeping t x count) (keeping-same t count) (λ a. assigned-keeping req t count file size a)
 
   pub header-kept : blockOf (serve req t file o .table) 0 ≡ blockOf t 0
   header-kept = call-keeping .header
@@ -199,7 +201,7 @@ module _ (req t file o : List ℕ) (count : ℕ) (sound : checkTable t (length f
   size-kept = call-keeping .size
 
   pub sound-kept : checkTable (serve req t file o .table) (length file) ≡ Sound count
-  sound-kept = keeping-sound t (serve req t file o .table) count call-keeping (length file) says
+  sound-kept = keeping-sound t (serve req t file o .table) count call-keeping says
 
 -- a question: no SAR, no effect
 pub question-kept : (req t file o : List ℕ) → commandOf req ≢ 301 → serve req t file o .table ≡ t

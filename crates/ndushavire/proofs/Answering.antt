@@ -7,7 +7,7 @@ use native.Mathlib.Omega.{arith}
 use lib.ListN.{length}
 use Rattle.octets.specs.Run.{Wrote}
 use Rattle.table.specs.Blocks.{blockOf}
-use Rattle.lookup.specs.SoundTable.{SoundTable}
+use Rattle.table.specs.SoundTable.{SoundTable}
 use Rattle.rewrite.specs.Renew.{Fitting}
 use Rattle.reading.specs.Rules.{Seen, bad, fine}
 use Rattle.reading.specs.Request.{readRequest, dataIn}
@@ -58,7 +58,7 @@ module _ (req t file : List ℕ) (count : ℕ) (g : Given) (is : replyOf req t f
   pub answers : (before after : List ℕ) (r : ℕ) → Wrote (answerBytes req (blockOf t 0) (replyOf req t file g)) before after r → Answers req t count file before after r
   answers before after r w = rw is at w
 
-  pub answers-most : (o : List ℕ) → Passed req o → SoundTable t (length file) count → (before after : List ℕ) (r : ℕ)
+  pub answers-most : (o : List ℕ) → Passed req o → SoundTable t count → (before after : List ℕ) (r : ℕ)
       → Wrote (answerBytes req (blockOf t 0) (replyOf req t file g)) before after r → r ≤ 36864
   answers-most o p s before after r w =
       omega (arith, w .count, answer-most t file count s req (p .least) (p .most) (p .fours), ap (λ (x : Reply). length (answerBytes req (blockOf t 0) x)) is)

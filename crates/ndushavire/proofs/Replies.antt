@@ -8,7 +8,7 @@ use native.Mathlib.Omega.{arith}
 use lib.ListN.{length, drop, getD, length-drop}
 use lib.Dec.{eqb, ltb}
 use Rattle.octets.specs.Name.{same}
-use Rattle.record.specs.Fields.{privateOf, serverOf, stateOf, barred, unregisteredServices}
+use Rattle.record.specs.Fields.{privateOf, serverOf, stateOf, bitsOf, barred, unregisteredServices}
 use Rattle.table.specs.Blocks.{blockOf}
 use Rattle.lookup.specs.Find.{isAt, publicIs, findPublic, findPrivate, findServer}
 use Rattle.lookup.proofs.First.{first-stands}
@@ -49,7 +49,7 @@ module _ (t : List ℕ) (count : ℕ) (file : List ℕ) (P : Reply → Type 0) (
       here : (k : ℕ) → 1 ≤ k → P (authorizeRecord t count user network kind (blockOf t k))
       here k h =
           either P (not (same (privateOf (blockOf t k)) user)) (alone (Experimental 5002))
-          (either P (barred (getD (blockOf t k) 9 0)) (alone (Base 5003))
+          (either P (barred (bitsOf (blockOf t k))) (alone (Base 5003))
           (either P (not (eqb kind 1) && not (mayRoam (blockOf t 0) (blockOf t k) network)) (alone (Experimental 5004))
           (either P (eqb kind 2) (able (Base 2001) k h)
           (either P (ltb 0 (stateOf (blockOf t k))) (of-served (cond (eqb kind 0) (Experimental 2002) (Base 2001)) k)
@@ -67,7 +67,7 @@ module _ (t : List ℕ) (count : ℕ) (file : List ℕ) (P : Reply → Type 0) (
       here : (k : ℕ) → 1 ≤ k → P (locateRecord t count (blockOf t k))
       here k h =
           either P (ltb 0 (stateOf (blockOf t k))) (of-served (Base 2001) k)
-          (either P (unregisteredServices (getD (blockOf t k) 9 0))
+          (either P (unregisteredServices (bitsOf (blockOf t k)))
           (of-found (findServer t count (privateOf (blockOf t k))) (Base 2001) (capable (Experimental 2003) (blockOf t k)) (able (Experimental 2003) k h)) (alone (Experimental 5003)))
 
       go : (f : Found) → findPublic t count public ≡ f → P (locateFound t count f)

@@ -16,7 +16,7 @@ use Rattle.reading.specs.Found.{numberOf}
 use Rattle.reading.specs.Request.{bodyOf, sessionOf}
 use Rattle.reading.specs.declared.Outcome.{Outcome}
 use Rattle.reading.specs.declared.Outcome.the-variants.{Base, Experimental}
-use Rattle.parts.specs.SoundAlone.{profileAt}
+use Rattle.parts.specs.Profile.{profileAt}
 use Rattle.reply.specs.Answer.{resultBytes, namedBytes, vendorNamed, frontBytes, originBytes, flagsOf, headerBytes}
 use Rattle.reply.specs.Pieces.{startBytes, topBytes, nameBytes, dataBytes, givenOf}
 

@@ -1,21 +1,21 @@
 use Prim.Native.Nat.{_-_}
 use mathlib.Core.Path.{_≡_}
 use lib.ListN.{length}
-use Rattle.lookup.specs.SoundTable.{Ordered}
+use Rattle.table.specs.SoundTable.{SoundTable}
 use Rattle.lookup.proofs.Scans.{public-end}
 use Rattle.rewrite.specs.Change.{afterOf}
 use Rattle.rewrite.specs.Renew.{settled}
 use Rattle.reading.specs.Request.{bodyOf, identities}
 use Rattle.requests.proofs.Naming.{named-less}
 use Rattle.decisions.specs.Assignment.{isOne, findAll, numbersOf}
-use Rattle.assignment.proofs.NameTurns.{restOf, settle-start, settle-none, settle-turn, settle-ordered, settle-end}
+use Rattle.assignment.proofs.NameTurns.{restOf, settle-start, settle-none, settle-turn, settle-sound, settle-end}
 use borrow.Author.Needs.{needs}
 use Rattle.assignment.proofs.naming.settle_named.Statement.{statement}
 use Rattle.assignment.proofs.naming.settle_named.Tie as tie
 
 abbrev Inv-loop : tie.InvT-loop
 Inv-loop t₀ count req state server at₀ t at =
-    Ordered t count × (length t ≡ length t₀)
+    SoundTable t count × (length t ≡ length t₀)
     × (afterOf t count (isOne (numbersOf (findAll t count (restOf req at)))) (settled state server)
     ≡ afterOf t₀ count (isOne (numbersOf (findAll t₀ count (identities (bodyOf req))))) (settled state server))
 
@@ -38,6 +38,6 @@ settle-named-spec =
     (λ c κs. search needs)
     (λ c κs. search (needs, public-end))
     (λ c. search (needs, named-less))
-    (λ c. (search (needs, settle-ordered), search needs, search (needs, settle-turn)))
+    (λ c. (search (needs, settle-sound), search needs, search (needs, settle-turn)))
     (λ c. search needs)
     (λ c. search (needs, settle-end)))

@@ -5,13 +5,14 @@ use Rattle.rewrite.specs.Change.{afterOf}
 use Rattle.rewrite.specs.Renew.{settled}
 use Rattle.decisions.specs.Assignment.{isOne, ownedUpTo}
 use Rattle.assignment.proofs.OwnTurns.{ownedFrom, owned-start, owned-turn, owned-size, owned-end}
+use Rattle.table.proofs.Sound.{sound-few, sound-size}
 use borrow.Author.Needs.{needs}
 use Rattle.assignment.proofs.owned.settle_owned.Statement.{statement}
 use Rattle.assignment.proofs.owned.settle_owned.Tie as tie
 
 abbrev Inv-loop : tie.InvT-loop
 Inv-loop t₀ count user state server k₀ t k =
-    (1 ≤ k) × (k ≤ count + 1) × (length t ≡ 512 * (count + 1))
+    (count ≤ 4096) × (1 ≤ k) × (k ≤ count + 1) × (length t ≡ 512 * (count + 1))
     × (afterOf t count (ownedFrom t user k) (settled state server) ≡ afterOf t₀ count (isOne (ownedUpTo t₀ user count)) (settled state server))
 
 abbrev μ-loop : tie.MeasureT-loop
@@ -23,12 +24,12 @@ settle-owned-spec =
     (tie.spec
     Inv-loop
     μ-loop
-    (λ c. search (needs, owned-start))
+    (λ c. (search (needs, sound-few), search needs, search needs, search (needs, sound-size), search (needs, owned-start)))
     (λ c κs. search needs)
     (λ c κs. search needs)
     (λ c κs. search needs)
     (λ c. search needs)
     (λ c. search needs)
-    (λ c. (search needs, search needs, search (needs, owned-size), search (needs, owned-turn)))
+    (λ c. (search needs, search needs, search needs, search (needs, owned-size), search (needs, owned-turn)))
     (λ c. search needs)
     (λ c. search (needs, owned-end)))
