@@ -1,9 +1,9 @@
 //! A case and its outcomes, as a person reads them.
 
+use crate::block::BLOCK;
 use crate::cases::{Case, Change, Entry, Outcome, ALL_INTACT};
 use crate::gen::{Made, Stream};
 use crate::show::hex;
-use crate::table::BLOCK;
 
 const SLICES: [&str; 6] = [
     "the request was altered",

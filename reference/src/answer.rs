@@ -1,15 +1,13 @@
 //! Writing the answer.
 
-use crate::decide::{Code, Verdict};
 use crate::kinds::{
     Kind, APPLICATION, AUTH_APPLICATION_ID, EXPERIMENTAL_RESULT, EXPERIMENTAL_RESULT_CODE, FAILED_AVP,
     MANDATORY_CAPABILITY, OPTIONAL_CAPABILITY, RESULT_CODE, SERVER_CAPABILITIES, USER_DATA, VENDOR, VENDOR_ID,
 };
 use crate::message::{first_avp, padded, sound_avps, Avp, Message, E, M, P, V};
-use crate::read::Failed;
-use crate::serve::Why;
 use crate::slip::{Fault, Slip};
 use crate::table::{Header, Record};
+use crate::verdict::{Code, Failed, Verdict, Why};
 
 /// AVPs one after another, each with its padding.
 struct Avps {

@@ -5,6 +5,7 @@ use std::io::{self, Read, Write};
 use crate::serve;
 use crate::slip::Slip;
 use crate::table;
+use crate::verdict::Why;
 
 #[derive(Clone, Copy, PartialEq, Eq, Debug)]
 pub enum Entry {
@@ -93,14 +94,14 @@ impl Case {
         self.outcome_and_why(slip).0
     }
 
-    pub fn outcome_and_why(&self, slip: Slip) -> (Outcome, serve::Why) {
+    pub fn outcome_and_why(&self, slip: Slip) -> (Outcome, Why) {
         let mut outcome = Outcome { word: 0, intact: ALL_INTACT, table: Change::default(), buffer: Change::default() };
         let why;
         match self.entry {
             Entry::Check => {
                 let found = table::check_with(&self.table, self.profile.len(), slip);
                 outcome.word = serve::check_word(found);
-                why = serve::Why::Checked(found);
+                why = Why::Checked(found);
             }
             Entry::Decide => {
                 let before = self.buffer_before();

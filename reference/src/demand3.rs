@@ -7,17 +7,18 @@ use std::time::Instant;
 
 use crate::account;
 use crate::answer::answer;
+use crate::block::BLOCK;
 use crate::cases::{Case, Change, Outcome, ALL_INTACT};
 use crate::compare::Fed;
-use crate::decide::Verdict;
 use crate::gen::{self, Stream};
 use crate::kinds::Kind;
 use crate::message::{padded, sound_avps, Message, HEADER, M};
-use crate::read::{read_header, walk, Failed, Finding};
+use crate::read::{read_header, walk};
 use crate::rng::Rng;
-use crate::serve::{Why, MOST_REQUEST};
+use crate::serve::MOST_REQUEST;
 use crate::slip::Slip;
-use crate::table::{Table, BLOCK};
+use crate::table::Table;
+use crate::verdict::{Failed, Finding, Verdict, Why};
 
 /// How the second of two outcomes relates to the first.
 #[derive(Clone, PartialEq, Debug)]

@@ -1,20 +1,38 @@
 //! An independent program for document 01: it decides requests, checks tables, makes cases and compares.
+//! The modules stand in levels: each uses those of earlier levels alone.
+
+// Nothing is below these.
+pub mod block;
+pub mod kinds;
+pub mod rng;
+pub mod slip;
+
+// What is lent: the table, and a message.
+pub mod message;
+pub mod table;
+
+// What comes of a request, and how it does.
+pub mod verdict;
+
+pub mod read;
+
+pub mod answer;
+pub mod decide;
+
+pub mod serve;
+
+// A call as a stream carries it; the programs over files; what a person reads.
+pub mod cases;
+pub mod program;
+pub mod show;
+
+// Cases, and what is done with many of them.
+pub mod gen;
 
 pub mod account;
-pub mod answer;
-pub mod cases;
-pub mod compare;
-pub mod decide;
-pub mod demand3;
-pub mod gen;
-pub mod kinds;
-pub mod message;
 pub mod mutants;
-pub mod program;
-pub mod read;
-pub mod rng;
-pub mod serve;
-pub mod show;
-pub mod slip;
 pub mod stats;
-pub mod table;
+
+pub mod compare;
+
+pub mod demand3;

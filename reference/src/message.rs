@@ -1,7 +1,7 @@
 //! The Diameter header, and AVPs one after another.
 
+use crate::block::word_at;
 use crate::slip::{Fault, Slip};
-use crate::table::word_at;
 
 pub const HEADER: usize = 20;
 

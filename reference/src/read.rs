@@ -1,33 +1,11 @@
 //! Reading a request: the header, the rules (a) to (h) for each AVP in turn, and what is missing.
 
+use crate::block::word_at;
 use crate::kinds::{needed, Command, Kind, APPLICATION, AUTH_APPLICATION_ID, KINDS, VENDOR, VENDOR_ID};
 use crate::message::{first_avp, header_alone, sound_avps, Avp, LengthFault, Message, E};
-use crate::serve::Why;
 use crate::slip::{Fault, Slip};
-use crate::table::{word_at, LONGEST_SERVER_NAME};
-
-/// What Failed-AVP holds.
-#[derive(Clone, PartialEq, Debug)]
-pub enum Failed<'a> {
-    /// There is no Failed-AVP.
-    Absent,
-    /// There is one without data: the AVP's header is cut off.
-    Empty,
-    /// The AVP as received.
-    Whole(Avp<'a>),
-    /// An AVP's header alone.
-    Header(Vec<u8>),
-    /// An example of what is missing.
-    Example(Kind),
-}
-
-/// A request is not to be decided: a base result, and what it is about.
-#[derive(Clone, PartialEq, Debug)]
-pub struct Finding<'a> {
-    pub result: u32,
-    pub failed: Failed<'a>,
-    pub why: Why,
-}
+use crate::table::LONGEST_SERVER_NAME;
+use crate::verdict::{Failed, Finding, Why};
 
 /// A request without fault.
 pub struct Request<'a> {

@@ -1,29 +1,17 @@
 //! One call of the library: five refusals, then an answer.
 
 use crate::answer::answer;
-use crate::decide::{decide, Decision, Verdict};
-use crate::kinds::Kind;
+use crate::block::BLOCK;
+use crate::decide::decide;
 use crate::message::{Message, R};
 use crate::read::read;
 use crate::slip::{Fault, Slip};
-use crate::table::{check_with, rewrite, Table, BLOCK};
+use crate::table::{check_with, rewrite, Table};
+use crate::verdict::{Verdict, Why};
 
 pub const LEAST_BUFFER: usize = 36_864;
 pub const LEAST_REQUEST: usize = 20;
 pub const MOST_REQUEST: usize = 16_384;
-
-/// What decided an outcome.
-#[derive(Clone, PartialEq, Debug)]
-pub enum Why {
-    Checked(Result<u32, u32>),
-    Refused(u32),
-    /// A fault of the header, with its result.
-    Header(u32),
-    /// A rule for an AVP, and what it is about.
-    Rule(char, &'static str),
-    Missing(Kind),
-    Decided(Decision),
-}
 
 /// The return word of the table check: number 5 with the first bad block, or 0 with the record count.
 pub fn check_word(found: Result<u32, u32>) -> u64 {

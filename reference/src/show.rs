@@ -1,9 +1,9 @@
 //! An answer as a person reads it.
 
+use crate::block::word_at;
 use crate::kinds::{self, name_of, VENDOR};
 use crate::message::{first_avp, Avp, LengthFault, Message, E, HEADER, M, P, R, V};
 use crate::slip::Slip;
-use crate::table::word_at;
 
 /// Lines for an answer message, or for the text of a refusal.
 pub fn show(bytes: &[u8]) -> String {

@@ -3,8 +3,9 @@
 mod common;
 
 use common::*;
+use reference::block::BLOCK;
 use reference::gen::model::RecordModel;
-use reference::table::{check, BLOCK};
+use reference::table::check;
 
 fn alice(state: u8, server_name: &str) -> RecordModel {
     RecordModel { state, server_name: server_name.as_bytes().to_vec(), ..record("sip:alice@isle", "alice@isle") }

@@ -1,5 +1,6 @@
 //! What document 01 says of a sound table.
 
+use reference::block::{mend, sum, BLOCK};
 use reference::gen::model::{RecordModel, TableModel};
 use reference::slip::Slip;
 use reference::table::*;

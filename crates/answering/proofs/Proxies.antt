@@ -3,15 +3,16 @@ use Prim.Native.Nat.{ℕ, _+_, _-_, _≤_, _<_}
 use mathlib.Core.Path.{_≡_, refl, ap}
 use mathlib.Core.List.{List, _++_}
 use native.Mathlib.Omega.{arith}
-use lib.ListN.{length, take, drop, length-append, length-take, length-drop}
+use lib.ListN.{length, drop, length-append, length-take, length-drop}
 use borrow.Author.Tests.{eq-eqb, ne-eqb}
 use borrow.Rule.Slice.PartMut.{midOf, putMid}
 use Rattle.octets.specs.Run.{over, Wrote}
 use Rattle.octets.proofs.Writes.{Going, going-more, going-end}
 use Rattle.diameter.specs.Walk.{walk}
-use Rattle.diameter.specs.Reader.{readOf}
+use Rattle.diameter.specs.Reader.{readOf, ownOf}
+use Rattle.diameter.specs.declared.Avp.{Avp}
 use Rattle.diameter.specs.declared.Read.{Read}
-use Rattle.diameter.specs.declared.Read.the-variants.{Avp, Fault}
+use Rattle.diameter.specs.declared.Read.the-variants as read
 use Rattle.diameter.proofs.Reading.{read-says, read-fault-says, walk-past}
 use Rattle.pen.specs.Bytes.{copied, copiedSize, ifThere}
 use Rattle.pen.proofs.Sizes.{copied-length}
@@ -46,22 +47,22 @@ module _ (s : List ℕ) (at : ℕ) {b xs all : List ℕ} {n : ℕ} where
   proxies-end h g = going-end (rw (walk-past s at h) at g)
 
   module _ (r : Read) (e : r ≡ readOf at (drop at s)) where
-    pub proxies-fault : at < length s → r ≡ Fault → Going b xs n (proxies (walk (drop at s))) all → Wrote all b xs n
+    pub proxies-fault : at < length s → r ≡ read.Fault → Going b xs n (proxies (walk (drop at s))) all → Wrote all b xs n
     unfolding proxies
     proxies-fault h d g = going-end (rw (read-fault-says s at r e h d) at g)
 
-    module _ (len next head flags : ℕ) (d : r ≡ Avp len next head flags) (g : Going b xs n (proxies (walk (drop at s))) all) where
-      step : Going b xs n (proxy (take len (drop at s)) ++ proxies (walk (drop next s))) all
+    module _ (a : Avp) (d : r ≡ read.Avp a) (g : Going b xs n (proxies (walk (drop at s))) all) where
+      step : Going b xs n (proxy (ownOf s a) ++ proxies (walk (drop (a .next) s))) all
       unfolding proxies proxy
-      step = rw (read-says s at r e len next head flags d .walked) at g
+      step = rw (read-says s at r e a d .walked) at g
 
-      pub turn-room : length all ≤ length b → length xs ≡ length b → length (proxy (take len (drop at s))) ≤ length (midOf n (length xs - n) xs)
+      pub turn-room : length all ≤ length b → length xs ≡ length b → length (proxy (ownOf s a)) ≤ length (midOf n (length xs - n) xs)
       turn-room h k =
           let t = step in
-          let w : length (t .done ++ (proxy (take len (drop at s)) ++ proxies (walk (drop next s)))) ≡ length all = ap length (t .whole) in
+          let w : length (t .done ++ (proxy (ownOf s a) ++ proxies (walk (drop (a .next) s)))) ≡ length all = ap length (t .whole) in
           let c : n ≡ length (t .done) = t .wrote .count in
           simp (length-take, length-drop) (omega (arith, simp length-append at w))
 
-      pub turn-more : {ys : List ℕ} {k : ℕ} → Wrote (proxy (take len (drop at s))) (midOf n (length xs - n) xs) ys k
-          → Going b (putMid n (length xs - n) xs ys) (n + k) (proxies (walk (drop next s))) all
+      pub turn-more : {ys : List ℕ} {k : ℕ} → Wrote (proxy (ownOf s a)) (midOf n (length xs - n) xs) ys k
+          → Going b (putMid n (length xs - n) xs ys) (n + k) (proxies (walk (drop (a .next) s))) all
       turn-more w = going-more step w

@@ -1,14 +1,16 @@
 // How an answer ends: Failed-AVP, and every Proxy-Info before the first length fault.
+use diameter::Avp;
 use diameter::Read;
+use diameter::message;
 use reading::Verdict;
 use reading::kinds;
 use reply::given;
 ghost use mathlib.Core.List.{_++_};
 ghost use Prim.Native.Nat.{_+_, _≤_};
-ghost use lib.ListN.{length, take, drop};
+ghost use lib.ListN.{length};
 ghost use Rattle.octets.specs.Run.{Wrote};
 ghost use Rattle.table.specs.SoundTable.{SoundTable};
-ghost use Rattle.diameter.specs.Reader.{Here};
+ghost use Rattle.diameter.specs.Reader.{ownOf, Here};
 ghost use Rattle.pen.specs.Bytes.{copiedSize};
 ghost use Rattle.reading.specs.Request.{bodyOf};
 ghost use Rattle.reading.specs.Found.{failedBy};
@@ -33,13 +35,13 @@ fn put_failed(out: &mut [u8], req: &[u8], v: Verdict) -> usize
     0
 }
 
-// The AVP at a place, copied if it is a Proxy-Info.
-fn put_proxy(out: &mut [u8], req: &[u8], at: usize, len: usize, head: usize) -> usize
-    requires { ⌜ Here (now req) at len head × (length (proxy (take len (drop at (now req)))) ≤ length (now out)) ⌝ }
-    ensures { λ r. ⌜ (r ≤ length (now (out .entry))) × Wrote (proxy (take len (drop at (now (req .entry))))) (now (out .entry)) (now (out .exit)) r ⌝ }
+// An AVP, copied if it is a Proxy-Info.
+fn put_proxy(out: &mut [u8], req: &[u8], a: Avp) -> usize
+    requires { ⌜ Here (now req) a × (length (proxy (ownOf (now req) a)) ≤ length (now out)) ⌝ }
+    ensures { λ r. ⌜ (r ≤ length (now (out .entry))) × Wrote (proxy (ownOf (now (req .entry)) a)) (now (out .entry)) (now (out .exit)) r ⌝ }
 {
-    if kinds::kind_at(req, at, len, head) == kinds::PROXY_INFO {
-        return pen::put_copy(out, diameter::avp_part(req, at, len, head));
+    if kinds::kind_of(req, a) == kinds::PROXY_INFO {
+        return pen::put_copy(out, diameter::avp_part(req, a));
     }
     0
 }
@@ -49,20 +51,14 @@ fn put_proxies(out: &mut [u8], req: &[u8]) -> usize
     requires { ⌜ length (proxies (bodyOf (now req))) ≤ length (now out) ⌝ }
     ensures { λ r. ⌜ Wrote (proxies (bodyOf (now (req .entry)))) (now (out .entry)) (now (out .exit)) r ⌝ }
 {
-    let mut at = 20;
+    let mut at = message::BODY;
     let mut n = 0;
     while at < req.len() {
-        let Read::Avp {
-            len,
-            next,
-            head,
-            flags: _,
-        } = diameter::read_avp(req, at)
-        else {
+        let Read::Avp(a) = diameter::read_avp(req, at) else {
             return n;
         };
-        n += put_proxy(&mut out[n..], req, at, len, head);
-        at = next;
+        n += put_proxy(&mut out[n..], req, a);
+        at = a.next;
     }
     n
 }

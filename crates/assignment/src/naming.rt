@@ -2,9 +2,9 @@
 use crate::Named;
 use crate::Survey;
 use crate::looking;
+use diameter::message;
 use requests::identities;
 use requests::identities::Next;
-use requests::walk;
 ghost use mathlib.Core.Path.{_≡_};
 ghost use Prim.Native.Nat.{_≤_};
 ghost use lib.ListN.{length};
@@ -20,7 +20,7 @@ ghost use Rattle.assignment.specs.Identities.{Tells};
 pub fn identities_of(req: &[u8], removal: bool, named: bool) -> Named
     ensures { λ r. ⌜ Tells (now (req .entry)) removal named r ⌝ }
 {
-    let Next::At { place, past } = identities::next_identity(req, walk::BODY) else {
+    let Next::At { place, past } = identities::next_identity(req, message::BODY) else {
         if removal & named {
             return Named::Nobody;
         }
@@ -58,7 +58,7 @@ pub fn survey_all(
         fits: true,
         right: true,
     };
-    let mut at = walk::BODY;
+    let mut at = message::BODY;
     while at < req.len() {
         let Next::At { place, past } = identities::next_identity(req, at) else {
             return seen;
@@ -75,7 +75,7 @@ pub fn settle_named(t: &mut [u8], count: usize, req: &[u8], state: u8, server: &
     requires { ⌜ SoundTable (now t) count × Fitting state (now server) ⌝ }
     ensures { λ _. ⌜ now (t .exit) ≡ afterOf (now (t .entry)) count (isOne (numbersOf (findAll (now (t .entry)) count (identities (bodyOf (now (req .entry))))))) (settled state (now (server .entry))) ⌝ }
 {
-    let mut at = walk::BODY;
+    let mut at = message::BODY;
     while at < req.len() {
         let Next::At { place, past } = identities::next_identity(req, at) else {
             return;

@@ -12,9 +12,10 @@ use Rattle.octets.specs.Number.{be24At, be32At}
 use Rattle.octets.proofs.Numbers.{be24-drop, be32-take}
 use Rattle.diameter.specs.Avp.{padded, headOf, avpCode, avpFlags, avpHead, avpLen, vendorOf, sound}
 use Rattle.diameter.specs.Walk.{ended, faulty, avp, walk}
-use Rattle.diameter.specs.Reader.{readOf, avpOf, partAt, Here}
+use Rattle.diameter.specs.Reader.{avpHere, readOf, avpOf, partAt, ownOf, Here}
+use Rattle.diameter.specs.declared.Avp.{Avp}
 use Rattle.diameter.specs.declared.Read.{Read}
-use Rattle.diameter.specs.declared.Read.the-variants.{Avp, Fault}
+use Rattle.diameter.specs.declared.Read.the-variants as read
 use Rattle.diameter.proofs.Walks.{Sound, sound-says, sound-of, not-sound, walk-sound, walk-faulty, walk-nil, padded-least, head-least, head-most}
 
 -- the header at a place, by places of the whole
@@ -41,36 +42,25 @@ module _ (s : List ℕ) (at : ℕ) where
     within = rw (be24-drop s at 5, length-drop at s) (h .within);
   })
 
-  pub read-fault : (SoundAt s at → ⊥) → Fault ≡ readOf at (drop at s)
+  pub read-fault : (SoundAt s at → ⊥) → read.Fault ≡ readOf at (drop at s)
   unfolding readOf
   read-fault never = rw (not-sound (drop at s) (λ w. never (sound-at w)))
 
   pub read-whole : (len pad head flags : ℕ) → flags ≡ getD s (at + 4) 0 → head ≡ headOf flags → len ≡ be24At s (at + 5) → head ≤ len → len ≤ length s - at
       → pad ≡ padded len
-      → Avp len (at + pad) head flags ≡ readOf at (drop at s)
-  unfolding readOf
+      → read.Avp (record { at = at; len = len; next = at + pad; head = head; flags = flags }) ≡ readOf at (drop at s)
+  unfolding readOf avpHere
   read-whole len pad head flags ef eh el p q en =
       let w : SoundAt s at = record { eight = head-least _; least = subst (λ (f : ℕ). headOf f ≤ be24At s (at + 5)) ef (omega arith); within = omega arith } in
       rw (at-sound w, be24-drop s at 5, getD-drop at s 4 0, ← ef, ← eh, ← el, ← en)
 
--- all that a whole AVP's answer says
-pub record Says (s : List ℕ) (at len next head flags : ℕ) : Type 0 where
-  pub walked : walk (drop at s) ≡ avp (take len (drop at s)) (walk (drop next s))
-  pub part : partAt s at ≡ some (take len (drop at s))
-  pub flagged : flags ≡ avpFlags (take len (drop at s))
-  pub here : Here s at len head
-  pub sounds : sound (drop at s) ≡ true
-  pub lengthed : len ≡ avpLen (drop at s)
-  pub later : at < next
+avp-means : (b : Bool) (a x : Avp) → read.Avp a ≡ cond b (read.Avp x) read.Fault → (b ≡ true) × (a ≡ x)
+avp-means true a x e = (refl, cc)
+avp-means false a x e = let z : _≡_ {A = ℕ} 0 1 = cc in absurd (omega arith)
 
-avp-means : (b : Bool) (len next head flags n m h f : ℕ) → Avp len next head flags ≡ cond b (Avp n m h f) Fault
-    → (b ≡ true) × (len ≡ n) × (next ≡ m) × (head ≡ h) × (flags ≡ f)
-avp-means true len next head flags n m h f e = (refl, cc, cc, cc, cc)
-avp-means false len next head flags n m h f e = let z : _≡_ {A = ℕ} 0 1 = cc in absurd (omega arith)
-
-fault-means : (b : Bool) (n m h f : ℕ) → Fault ≡ cond b (Avp n m h f) Fault → b ≡ false
-fault-means true n m h f e = let z : _≡_ {A = ℕ} 0 1 = cc in absurd (omega arith)
-fault-means false n m h f e = refl
+fault-means : (b : Bool) (x : Avp) → read.Fault ≡ cond b (read.Avp x) read.Fault → b ≡ false
+fault-means true x e = let z : _≡_ {A = ℕ} 0 1 = cc in absurd (omega arith)
+fault-means false x e = refl
 
 -- an AVP's header is in its own bytes
 module _ (t : List ℕ) (n : ℕ) (h : avpHead t ≤ n) where
@@ -88,47 +78,70 @@ module _ (t : List ℕ) (n : ℕ) (h : avpHead t ≤ n) where
       go true p = be32-take t n 8 (omega arith)
       go false p = refl
 
-avp-says : (s : List ℕ) (at len next head flags : ℕ) → Avp len next head flags ≡ readOf at (drop at s) → Says s at len next head flags
-unfolding readOf avpOf
-avp-says s at len next head flags e =
-    let t = drop at s in
-    let m = avp-means (sound t) len next head flags (avpLen t) (at + padded (avpLen t)) (avpHead t) (avpFlags t) e in
-    let h = sound-says t (m .0) in
-    let w : avpLen t ≤ length s - at = rw length-drop at (h .within) in
-    let p : avpHead t ≤ len = rw (m .1) (h .least) in
-    record {
-      walked = walk-sound t (m .0) ∙ rw (m .1, m .2, drop-drop (padded (avpLen t)) at s);
-      part = rw (m .0, m .1);
-      flagged = rw (flags-take t len p) (m .4);
-      here = record {
-        headed = m .3;
-        eight = rw (m .3) (head-least _);
-        twelve = rw (m .3) (head-most _);
-        least = rw (m .3) p;
-        room = omega (arith, m .1, w, h .eight, h .least);
-      };
-      sounds = m .0;
-      lengthed = m .1;
-      later = rw (m .2) (omega (arith, padded-least (avpLen t), h .eight, h .least));
-    }
+-- an AVP that stands where it says: what its header has is in its own bytes
+module _ (s : List ℕ) (a : Avp) (h : Here s a) where
+  own-head : avpHead (drop (a .at) s) ≤ a .len
+  own-head = rw (← h .headed) (h .least)
+
+  pub own-flags : avpFlags (ownOf s a) ≡ a .flags
+  own-flags = flags-take (drop (a .at) s) (a .len) own-head ∙ sym (h .flagged)
+
+  pub own-avpHead : avpHead (ownOf s a) ≡ a .head
+  own-avpHead = rw (flags-take (drop (a .at) s) (a .len) own-head) (sym (h .headed))
+
+  pub own-code : avpCode (ownOf s a) ≡ avpCode (drop (a .at) s)
+  own-code = code-take (drop (a .at) s) (a .len) own-head
+
+  pub own-vendor : vendorOf (ownOf s a) ≡ vendorOf (drop (a .at) s)
+  own-vendor = vendor-take (drop (a .at) s) (a .len) own-head
+
+-- all that a whole AVP's answer says
+pub record Says (s : List ℕ) (at : ℕ) (a : Avp) : Type 0 where
+  pub placed : a .at ≡ at
+  pub stepped : a .next ≡ at + padded (a .len)
+  pub lengthed : a .len ≡ avpLen (drop at s)
+  pub sounds : sound (drop at s) ≡ true
+  pub here : Here s a
+  pub walked : walk (drop at s) ≡ avp (ownOf s a) (walk (drop (a .next) s))
+  pub part : partAt s at ≡ some (ownOf s a)
+  pub later : at < a .next
+
+module _ (s : List ℕ) (at : ℕ) (good : sound (drop at s) ≡ true) where
+  avp-says : Says s at (avpHere at (drop at s))
+  unfolding avpHere avpOf
+  avp-says =
+      let t = drop at s in
+      let h = sound-says t good in
+      let w : avpLen t ≤ length s - at = rw length-drop at (h .within) in
+      record {
+        placed = refl;
+        stepped = refl;
+        lengthed = refl;
+        sounds = good;
+        here = record { headed = refl; flagged = refl; eight = head-least _; twelve = head-most _; least = h .least; room = omega (arith, w, h .eight, h .least) };
+        walked = walk-sound t good ∙ rw (drop-drop (padded (avpLen t)) at s);
+        part = rw good;
+        later = omega (arith, padded-least (avpLen t), h .eight, h .least);
+      }
 
 module _ (s : List ℕ) (at : ℕ) (r : Read) (e : r ≡ readOf at (drop at s)) where
-  pub read-says : (len next head flags : ℕ) → r ≡ Avp len next head flags → Says s at len next head flags
-  read-says len next head flags d = avp-says s at len next head flags (sym d ∙ e)
-
-  pub read-here : (len next head flags : ℕ) → r ≡ Avp len next head flags → Here s at len head
-  read-here len next head flags d = read-says len next head flags d .here
-
-  pub read-unsound : r ≡ Fault → sound (drop at s) ≡ false
+  pub read-says : (a : Avp) → r ≡ read.Avp a → Says s at a
   unfolding readOf
-  read-unsound d =
-      let t = drop at s in
-      fault-means (sound t) (avpLen t) (at + padded (avpLen t)) (avpHead t) (avpFlags t) (sym d ∙ e)
+  read-says a d =
+      let m = avp-means (sound (drop at s)) a (avpHere at (drop at s)) (sym d ∙ e) in
+      rw (m .1) (avp-says s at (m .0))
 
-  pub read-fault-says : at < length s → r ≡ Fault → walk (drop at s) ≡ faulty (drop at s)
+  pub read-here : (a : Avp) → r ≡ read.Avp a → Here s a
+  read-here a d = read-says a d .here
+
+  pub read-unsound : r ≡ read.Fault → sound (drop at s) ≡ false
+  unfolding readOf
+  read-unsound d = fault-means (sound (drop at s)) (avpHere at (drop at s)) (sym d ∙ e)
+
+  pub read-fault-says : at < length s → r ≡ read.Fault → walk (drop at s) ≡ faulty (drop at s)
   read-fault-says h d = walk-faulty (drop at s) (read-unsound d) (rw length-drop (omega arith))
 
-  pub read-none : r ≡ Fault → partAt s at ≡ none
+  pub read-none : r ≡ read.Fault → partAt s at ≡ none
   unfolding avpOf
   read-none d = rw (read-unsound d)
 

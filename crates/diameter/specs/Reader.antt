@@ -6,11 +6,16 @@ use mathlib.Core.Option.{Option, none, some}
 use mathlib.Core.Bool.{Bool, true, false, cond}
 use lib.ListN.{length, take, drop}
 use Rattle.diameter.specs.Avp.{padded, avpFlags, avpHead, avpLen, dataOf, sound}
+use Rattle.diameter.specs.declared.Avp.{Avp}
 use Rattle.diameter.specs.declared.Read.{Read}
-use Rattle.diameter.specs.declared.Read.the-variants.{Avp, Fault}
+use Rattle.diameter.specs.declared.Read.the-variants as read
+
+-- the AVP at the front of t, which stands at a place of a message
+unfoldable pub avpHere : ℕ → List ℕ → Avp
+avpHere at t = record { at = at; len = avpLen t; next = at + padded (avpLen t); head = avpHead t; flags = avpFlags t }
 
 unfoldable pub readOf : ℕ → List ℕ → Read
-readOf at t = cond (sound t) (Avp (avpLen t) (at + padded (avpLen t)) (avpHead t) (avpFlags t)) Fault
+readOf at t = cond (sound t) (read.Avp (avpHere at t)) read.Fault
 
 -- the AVP at the front, if a whole one is there; the AVP at a place of a message, none at its end
 unfoldable pub avpOf : List ℕ → Option (List ℕ)
@@ -34,10 +39,15 @@ avpAt s p = orNone (partAt s p)
 abbrev pub dataAt : List ℕ → ℕ → List ℕ
 dataAt s p = dataOf (avpAt s p)
 
--- a whole AVP at a place, with its length and its header's
-pub record Here (s : List ℕ) (at len head : ℕ) : Type 0 where
-  pub headed : head ≡ avpHead (drop at s)
-  pub eight : 8 ≤ head
-  pub twelve : head ≤ 12
-  pub least : head ≤ len
-  pub room : at + len ≤ length s
+-- the bytes of an AVP that was read
+abbrev pub ownOf : List ℕ → Avp → List ℕ
+ownOf s a = take (a .len) (drop (a .at) s)
+
+-- a whole AVP stands where it says
+pub record Here (s : List ℕ) (a : Avp) : Type 0 where
+  pub headed : a .head ≡ avpHead (drop (a .at) s)
+  pub flagged : a .flags ≡ avpFlags (drop (a .at) s)
+  pub eight : 8 ≤ a .head
+  pub twelve : a .head ≤ 12
+  pub least : a .head ≤ a .len
+  pub room : a .at + a .len ≤ length s

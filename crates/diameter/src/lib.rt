@@ -1,19 +1,31 @@
-// RFC 3588's AVPs, read: any place of any bytes may be asked.
+// RFC 3588: AVPs read, at any place of any bytes; where a message's header has its fields.
+pub mod message;
+
 ghost use mathlib.Core.Path.{_≡_};
 ghost use Prim.Native.Nat.{_+_, _≤_, _<_};
-ghost use lib.ListN.{length, take, drop};
-ghost use Rattle.diameter.specs.Avp.{padded, headOf, avpCode, avpHead, vendorOf, dataOf, valueOf};
-ghost use Rattle.diameter.specs.Reader.{readOf, partAt, present, dataAt, Here};
+ghost use lib.ListN.{length, drop};
+ghost use Rattle.diameter.specs.Avp.{padded, headOf, avpCode, vendorOf, dataOf, valueOf};
+ghost use Rattle.diameter.specs.Reader.{readOf, partAt, present, dataAt, ownOf, Here};
 
-// What stands at a place: a whole AVP with its length, the place of the next one, its header's length and its flags; or none,
-// because its length is faulty or because the bytes are at an end.
+// The flags of an AVP; those under P are reserved.
+pub const V_FLAG: u8 = 128;
+
+pub const M_FLAG: u8 = 64;
+
+pub const P_FLAG: u8 = 32;
+
+// A whole AVP: the place where it begins, its length, the place of the next one, its header's length and its flags.
+pub struct Avp {
+    pub at: usize,
+    pub len: usize,
+    pub next: usize,
+    pub head: usize,
+    pub flags: u8,
+}
+
+// What stands at a place: a whole AVP; or none, because its length is faulty or because the bytes are at an end.
 pub enum Read {
-    Avp {
-        len: usize,
-        next: usize,
-        head: usize,
-        flags: u8,
-    },
+    Avp(Avp),
     Fault,
 }
 
@@ -21,7 +33,7 @@ pub enum Read {
 pub fn head_size(flags: u8) -> usize
     ensures { λ r. ⌜ (r ≡ headOf flags) × (8 ≤ r) × (r ≤ 12) ⌝ }
 {
-    if flags >= 128 { 12 } else { 8 }
+    if flags >= V_FLAG { 12 } else { 8 }
 }
 
 // A length with its padding.
@@ -56,87 +68,80 @@ pub fn read_avp(s: &[u8], at: usize) -> Read
         return Read::Fault;
     }
     let whole = pad(size);
-    Read::Avp {
+    Read::Avp(Avp {
+        at,
         len: size,
         next: at + whole,
         head,
         flags,
-    }
+    })
 }
 
 // Whether a whole AVP stands at a place.
 pub fn present_at(s: &[u8], at: usize) -> bool
     ensures { λ r. ⌜ r ≡ present (partAt (now (s .entry)) at) ⌝ }
 {
-    let Read::Avp {
-        len: _,
-        next: _,
-        head: _,
-        flags: _,
-    } = read_avp(s, at)
-    else {
+    let Read::Avp(_) = read_avp(s, at) else {
         return false;
     };
     true
 }
 
-// The code of the AVP at a place.
-pub fn code_at(s: &[u8], at: usize) -> u32
-    requires { ⌜ at + 4 ≤ length (now s) ⌝ }
-    ensures { λ r. ⌜ r ≡ avpCode (drop at (now (s .entry))) ⌝ }
+// An AVP's code.
+pub fn code_of(s: &[u8], a: Avp) -> u32
+    requires { ⌜ Here (now s) a ⌝ }
+    ensures { λ r. ⌜ r ≡ avpCode (ownOf (now (s .entry)) a) ⌝ }
 {
-    octets::number::be32(s, at)
+    octets::number::be32(s, a.at)
 }
 
-// The vendor of the AVP at a place, 0 without V.
-pub fn vendor_at(s: &[u8], at: usize, head: usize) -> u32
-    requires { ⌜ (head ≡ avpHead (drop at (now s))) × (at + head ≤ length (now s)) ⌝ }
-    ensures { λ r. ⌜ r ≡ vendorOf (drop at (now (s .entry))) ⌝ }
+// Its vendor, 0 without V.
+pub fn vendor_of(s: &[u8], a: Avp) -> u32
+    requires { ⌜ Here (now s) a ⌝ }
+    ensures { λ r. ⌜ r ≡ vendorOf (ownOf (now (s .entry)) a) ⌝ }
 {
-    if head == 12 {
-        return octets::number::be32(s, at + 8);
+    if a.head == 12 {
+        return octets::number::be32(s, a.at + 8);
     }
     0
 }
 
-// The number that a 4-byte AVP holds.
-pub fn value_at(s: &[u8], at: usize, len: usize, head: usize) -> u32
-    requires { ⌜ Here (now s) at len head ⌝ }
-    ensures { λ r. ⌜ r ≡ valueOf (take len (drop at (now (s .entry)))) ⌝ }
+// The number that it holds, 0 where it has not 4 bytes of data.
+pub fn value_of(s: &[u8], a: Avp) -> u32
+    requires { ⌜ Here (now s) a ⌝ }
+    ensures { λ r. ⌜ r ≡ valueOf (ownOf (now (s .entry)) a) ⌝ }
 {
-    if len == head + 4 {
-        return octets::number::be32(s, at + head);
+    if a.len == a.head + 4 {
+        return octets::number::be32(s, a.at + a.head);
     }
     0
 }
 
-// The AVP's own bytes, without its padding; its data.
-pub fn avp_part(s: &[u8], at: usize, len: usize, head: usize) -> &[u8]
-    requires { ⌜ Here (now s) at len head ⌝ }
-    ensures { λ r. ⌜ (now r ≡ take len (drop at (now (s .entry)))) × (length (now r) ≤ length (now (s .entry))) ⌝ }
+// Its own bytes, without its padding; its data.
+pub fn avp_part(s: &[u8], a: Avp) -> &[u8]
+    requires { ⌜ Here (now s) a ⌝ }
+    ensures { λ r. ⌜ (now r ≡ ownOf (now (s .entry)) a) × (length (now r) ≤ length (now (s .entry))) ⌝ }
 {
-    &s[at..at + len]
+    let at = a.at;
+    let end = at + a.len;
+    &s[at..end]
 }
 
-pub fn data_part(s: &[u8], at: usize, len: usize, head: usize) -> &[u8]
-    requires { ⌜ Here (now s) at len head ⌝ }
-    ensures { λ r. ⌜ (now r ≡ dataOf (take len (drop at (now (s .entry))))) × (length (now r) ≤ length (now (s .entry))) ⌝ }
+pub fn data_part(s: &[u8], a: Avp) -> &[u8]
+    requires { ⌜ Here (now s) a ⌝ }
+    ensures { λ r. ⌜ (now r ≡ dataOf (ownOf (now (s .entry)) a)) × (length (now r) ≤ length (now (s .entry))) ⌝ }
 {
-    &s[at + head..at + len]
+    let start = a.at + a.head;
+    let end = a.at + a.len;
+    &s[start..end]
 }
 
 // The data where nothing is known of the place: empty where no whole AVP stands.
 pub fn data_at(s: &[u8], at: usize) -> &[u8]
     ensures { λ r. ⌜ (now r ≡ dataAt (now (s .entry)) at) × (length (now r) ≤ length (now (s .entry))) ⌝ }
 {
-    let Read::Avp {
-        len,
-        next: _,
-        head,
-        flags: _,
-    } = read_avp(s, at)
-    else {
+    let Read::Avp(a) = read_avp(s, at) else {
         return &s[..0];
     };
-    data_part(s, at, len, head)
+    data_part(s, a)
 }

@@ -1,6 +1,7 @@
 // What the daemon calls.
 pub mod decide;
 
+use diameter::message;
 use table::Checked;
 ghost use mathlib.Core.Path.{_≡_};
 ghost use Prim.Native.Nat.{_≤_};
@@ -31,9 +32,6 @@ const ROOM: usize = 36864;
 const LEAST: usize = 20;
 
 const MOST: usize = 16384;
-
-// The flag R of a message.
-const R: u8 = 128;
 
 // What a call comes to: the answer's length, or a refusal's number with what it returns besides.
 pub enum Call {
@@ -81,7 +79,7 @@ fn wrong_length(req: &[u8]) -> bool
     requires { ⌜ 20 ≤ length (now req) ⌝ }
     ensures { λ r. ⌜ r ≡ wrongLength (now (req .entry)) ⌝ }
 {
-    (octets::number::be24(req, 1) != req.len()) | (req.len() % 4 != 0)
+    (octets::number::be24(req, message::LENGTH_AT) != req.len()) | (req.len() % 4 != 0)
 }
 
 // A request that the first four refusals let pass, over a table that was checked.
@@ -123,7 +121,7 @@ fn one_call(req: &[u8], t: &mut [u8], file: &[u8], out: &mut [u8]) -> Call
             besides: 0,
         };
     }
-    if req[4] < R {
+    if req[message::FLAGS_AT] < message::R_BIT {
         return Call::Refused {
             number: NO_REQUEST,
             besides: 0,

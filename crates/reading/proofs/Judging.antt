@@ -5,14 +5,15 @@ use mathlib.Core.Path.{_≡_, refl, sym, _∙_}
 use mathlib.Core.List.{List, [], _∷_, map}
 use mathlib.Core.Option.{none}
 use mathlib.Core.Bool.{Bool, true, false, not, _&&_}
-use lib.ListN.{length, getD, take, drop}
+use lib.ListN.{length, getD}
 use lib.Dec.{eqb, leb}
 use borrow.Author.Tests.{ne-eqb}
-use Rattle.diameter.specs.Avp.{avpHead, avpFlags, dataOf, valueOf}
+use Rattle.diameter.specs.Avp.{dataOf, valueOf}
 use Rattle.diameter.specs.Walk.{walk}
-use Rattle.diameter.specs.Reader.{partAt, present, Here}
+use Rattle.diameter.specs.Reader.{partAt, present, ownOf, Here}
+use Rattle.diameter.specs.declared.Avp.{Avp}
 use Rattle.diameter.proofs.Parts.{counted, data-length}
-use Rattle.diameter.proofs.Reading.{flags-take}
+use Rattle.diameter.proofs.Reading.{own-flags, own-avpHead}
 use Rattle.reading.specs.declared.Content.{Content}
 use Rattle.reading.specs.declared.Content.the-variants.{Free, Number, Sized, Application}
 use Rattle.reading.specs.declared.Ruled.{Ruled}
@@ -36,10 +37,10 @@ module _ (c : Content) (a : List ℕ) where
   unfolding goodContent
   content-application t r e d m = m ∙ rw (e, d)
 
-pub content-sized : (s : List ℕ) (at len head : ℕ) → Here s at len head → (c : Content) (least most : ℕ) → c ≡ Sized least most
-    → (leb least (len - head) && leb (len - head) most) ≡ goodContent c (take len (drop at s))
+pub content-sized : (s : List ℕ) (a : Avp) → Here s a → (c : Content) (least most : ℕ) → c ≡ Sized least most
+    → (leb least (a .len - a .head) && leb (a .len - a .head) most) ≡ goodContent c (ownOf s a)
 unfolding goodContent
-content-sized s at len head h c least most e = rw (e, data-length s at len head h)
+content-sized s a h c least most e = rw (e, data-length s a h)
 
 -- (d)
 pub unknown-marked : (flags : ℕ) → flags / 64 % 2 ≡ 1 → Fault 5001 ≡ strange flags
@@ -90,13 +91,9 @@ getD-within f (y ∷ l) (suc i) d e h = getD-within f l i d e (le-of-suc-le-suc 
 pub seen-at : (s places : List ℕ) (k : ℕ) → k < length places → getD (seenOf s places) k none ≡ partAt s (getD places k 0)
 seen-at s places k h = getD-within (partAt s) places k none 0 h
 
-pub rule-there : (s places : List ℕ) (command at len head flags k : ℕ) (earlier : Bool) (c : Content) (good : Bool) (r : Ruled) → Here s at len head
-    → flags ≡ avpFlags (take len (drop at s))
-    → k ≡ kindOf (take len (drop at s)) → k < length places → earlier ≡ present (partAt s (getD places k 0)) → c ≡ rowOf k .content → good ≡ goodContent c (take len (drop at s))
-    → r ≡ ruleBy command earlier k flags (eqb len (head + 4)) good → r ≡ rule command (seenOf s places) (take len (drop at s))
+pub rule-there : (s places : List ℕ) (command : ℕ) (a : Avp) (k : ℕ) (earlier : Bool) (c : Content) (good : Bool) (r : Ruled) → Here s a
+    → k ≡ kindOf (ownOf s a) → k < length places → earlier ≡ present (partAt s (getD places k 0)) → c ≡ rowOf k .content → good ≡ goodContent c (ownOf s a)
+    → r ≡ ruleBy command earlier k (a .flags) (eqb (a .len) (a .head + 4)) good → r ≡ rule command (seenOf s places) (ownOf s a)
 unfolding rule
-rule-there s places command at len head flags k earlier c good r h ef ek room eb ec eg e =
-    let t = drop at s in
-    let p : avpHead t ≤ len = rw (← h .headed) (h .least) in
-    let l : avpHead (take len t) ≡ head = rw (flags-take t len p) (sym (h .headed)) in
-    e ∙ rw (eg, ec, ← ek, l, counted s at len head h, ← ef, seen-at s places k room, ← eb)
+rule-there s places command a k earlier c good r h ek room eb ec eg e =
+    e ∙ rw (eg, ec, ← ek, own-avpHead s a h, counted s a h, own-flags s a h, seen-at s places k room, ← eb)

@@ -3,15 +3,15 @@ use Prim.Native.Nat.{ℕ, _+_, _<_, _≤_}
 use mathlib.Core.Path.{_≡_, refl, sym, _∙_}
 use mathlib.Core.List.{List, _∷_, map}
 use mathlib.Core.Bool.{Bool, true, false, _||_, and-false, true≢false}
-use lib.ListN.{getD, take, drop, List·getD-map}
-use lib.Seq.{getD-drop}
+use lib.ListN.{getD, List·getD-map}
 use lib.Dec.{eqb}
 use borrow.Author.Tests.{ne-eqb, le-leb, lt-leb}
 use Rattle.octets.specs.All.{allBelow}
 use Rattle.octets.proofs.All.{all-at}
-use Rattle.diameter.specs.Avp.{avpCode, avpHead, vendorOf}
-use Rattle.diameter.specs.Reader.{Here}
-use Rattle.diameter.proofs.Reading.{flags-take, code-take, vendor-take}
+use Rattle.diameter.specs.Avp.{avpCode, vendorOf}
+use Rattle.diameter.specs.Reader.{ownOf, Here}
+use Rattle.diameter.specs.declared.Avp.{Avp}
+use Rattle.diameter.proofs.Reading.{own-flags}
 use Rattle.reading.specs.declared.Content.{Content}
 use Rattle.reading.specs.declared.Content.the-variants.{Free, Number, Sized, Application}
 use Rattle.reading.specs.declared.Use.{Use}
@@ -80,11 +80,7 @@ pub kind-stranger : (flags vendor code : ℕ) → 128 ≤ flags → (vendor ≡ 
 unfolding kindBy kindFrom known
 kind-stranger flags vendor code h v = simp (le-leb _ _ h, ne-eqb _ _ v, and-false)
 
--- the kind of the AVP at a place
-pub kind-there : (s : List ℕ) (at len head : ℕ) → Here s at len head → (flags vendor code r : ℕ) → flags ≡ getD s (at + 4) 0 → vendor ≡ vendorOf (drop at s)
-    → code ≡ avpCode (drop at s)
-    → r ≡ kindBy flags vendor code → r ≡ kindOf (take len (drop at s))
-kind-there s at len head h flags vendor code r ef ev ec e =
-    let t = drop at s in
-    let p : avpHead t ≤ len = rw (← h .headed) (h .least) in
-    e ∙ rw (flags-take t len p, vendor-take t len p, code-take t len p, getD-drop at s 4 0, ← ef, ← ev, ← ec)
+-- the kind of an AVP
+pub kind-there : (s : List ℕ) (a : Avp) → Here s a → (vendor code r : ℕ) → vendor ≡ vendorOf (ownOf s a) → code ≡ avpCode (ownOf s a)
+    → r ≡ kindBy (a .flags) vendor code → r ≡ kindOf (ownOf s a)
+kind-there s a h vendor code r ev ec e = e ∙ rw (own-flags s a h, ← ev, ← ec)

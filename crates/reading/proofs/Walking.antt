@@ -3,19 +3,16 @@ use Prim.Native.Nat.{ℕ, _-_, _<_, _≤_}
 use mathlib.Core.Path.{_≡_}
 use mathlib.Core.List.{List}
 use native.Mathlib.Omega.{arith}
-use lib.ListN.{length, take, drop}
-use Rattle.diameter.specs.Avp.{avpFlags}
+use lib.ListN.{length, drop}
 use Rattle.diameter.specs.Reader.{readOf}
+use Rattle.diameter.specs.declared.Avp.{Avp}
 use Rattle.diameter.specs.declared.Read.{Read}
-use Rattle.diameter.specs.declared.Read.the-variants.{Avp}
+use Rattle.diameter.specs.declared.Read.the-variants as read
 use Rattle.diameter.proofs.Reading.{read-says}
 
-pub read-less : (s : List ℕ) (at : ℕ) (r : Read) → r ≡ readOf at (drop at s) → (len next head flags : ℕ) → r ≡ Avp len next head flags → at < length s
-    → length s - next < length s - at
-read-less s at r e len next head flags d h = omega (arith, read-says s at r e len next head flags d .later)
+module _ (s : List ℕ) (at : ℕ) (r : Read) (e : r ≡ readOf at (drop at s)) (a : Avp) (d : r ≡ read.Avp a) where
+  pub read-less : at < length s → length s - a .next < length s - at
+  read-less h = omega (arith, read-says s at r e a d .later)
 
-pub read-from : (n : ℕ) (s : List ℕ) (at : ℕ) (r : Read) → r ≡ readOf at (drop at s) → (len next head flags : ℕ) → r ≡ Avp len next head flags → n ≤ at → n ≤ next
-read-from n s at r e len next head flags d h = omega (arith, read-says s at r e len next head flags d .later)
-
-pub read-flagged : (s : List ℕ) (at : ℕ) (r : Read) → r ≡ readOf at (drop at s) → (len next head flags : ℕ) → r ≡ Avp len next head flags → flags ≡ avpFlags (take len (drop at s))
-read-flagged s at r e len next head flags d = read-says s at r e len next head flags d .flagged
+  pub read-from : (n : ℕ) → n ≤ at → n ≤ a .next
+  read-from n h = omega (arith, read-says s at r e a d .later)

@@ -1,10 +1,10 @@
 // The members of Vendor-Specific-Application-Id 260.
+use diameter::Avp;
 use diameter::Read;
 use octets::number;
 ghost use mathlib.Core.Path.{_≡_};
 ghost use mathlib.Core.Bool.{false};
-ghost use lib.ListN.{take, drop};
-ghost use Rattle.diameter.specs.Reader.{Here};
+ghost use Rattle.diameter.specs.Reader.{ownOf, Here};
 ghost use Rattle.diameter.specs.Walk.{walk};
 ghost use Rattle.reading.specs.Rules.{isMember, members};
 
@@ -13,19 +13,18 @@ const VENDOR_ID: u32 = 266;
 
 const AUTH_APPLICATION_ID: u32 = 258;
 
-// Whether the AVP at a place is a 4-byte member with such a code and value.
-fn is_member(s: &[u8], at: usize, len: usize, head: usize, code: u32, value: u32) -> bool
-    requires { ⌜ Here (now s) at len head ⌝ }
-    ensures { λ r. ⌜ r ≡ isMember (take len (drop at (now (s .entry)))) code value ⌝ }
+// Whether an AVP is a 4-byte member with such a code and value.
+fn is_member(s: &[u8], a: Avp, code: u32, value: u32) -> bool
+    requires { ⌜ Here (now s) a ⌝ }
+    ensures { λ r. ⌜ r ≡ isMember (ownOf (now (s .entry)) a) code value ⌝ }
 {
-    if len != 12 {
+    if a.len != 12 {
         return false;
     }
-    let flags = s[at + 4];
-    (flags % crate::P_FLAG == 0)
-        & (flags < crate::V_FLAG)
-        & (number::be32(s, at) == code)
-        & (number::be32(s, at + 8) == value)
+    (a.flags % diameter::P_FLAG == 0)
+        & (a.flags < diameter::V_FLAG)
+        & (diameter::code_of(s, a) == code)
+        & (number::be32(s, a.at + 8) == value)
 }
 
 // "one or more Vendor-Id 266, each 10415, and one Auth-Application-Id 258 of 16777216 .. and no other"
@@ -36,25 +35,19 @@ pub fn application_ok(s: &[u8]) -> bool
     let mut application = false;
     let mut at = 0;
     while at < s.len() {
-        let Read::Avp {
-            len,
-            next,
-            head,
-            flags: _,
-        } = diameter::read_avp(s, at)
-        else {
+        let Read::Avp(a) = diameter::read_avp(s, at) else {
             return false;
         };
-        if is_member(s, at, len, head, VENDOR_ID, crate::VENDOR) {
+        if is_member(s, a, VENDOR_ID, crate::VENDOR) {
             vendor = true;
         } else {
-            if is_member(s, at, len, head, AUTH_APPLICATION_ID, crate::CX) & !application {
+            if is_member(s, a, AUTH_APPLICATION_ID, crate::CX) & !application {
                 application = true;
             } else {
                 return false;
             }
         }
-        at = next;
+        at = a.next;
     }
     vendor & application
 }

@@ -1,10 +1,10 @@
 // The known kinds of AVPs. A kind's number is its place in the order in which a missing one is looked for; 0 is an unknown kind.
 use crate::Content;
 use crate::Use;
+use diameter::Avp;
 ghost use mathlib.Core.Path.{_≡_};
 ghost use Prim.Native.Nat.{_<_};
-ghost use lib.ListN.{take, drop};
-ghost use Rattle.diameter.specs.Reader.{Here};
+ghost use Rattle.diameter.specs.Reader.{ownOf, Here};
 ghost use Rattle.reading.specs.Kinds.{kindBy, kindOf, rowOf, useIn, isUnnamed, isNeeded, isRepeated};
 ghost use Rattle.reading.specs.Rules.{isFour};
 
@@ -148,7 +148,7 @@ fn vendor_kind(code: u32) -> usize
 pub fn kind_by(flags: u8, vendor: u32, code: u32) -> usize
     ensures { λ r. ⌜ (r ≡ kindBy flags vendor code) × (r < 17) ⌝ }
 {
-    if flags < crate::V_FLAG {
+    if flags < diameter::V_FLAG {
         return base_kind(code);
     }
     if vendor == crate::VENDOR {
@@ -157,17 +157,12 @@ pub fn kind_by(flags: u8, vendor: u32, code: u32) -> usize
     0
 }
 
-// The kind of the AVP at a place.
-pub fn kind_at(s: &[u8], at: usize, len: usize, head: usize) -> usize
-    requires { ⌜ Here (now s) at len head ⌝ }
-    ensures { λ r. ⌜ (r ≡ kindOf (take len (drop at (now (s .entry))))) × (r < 17) ⌝ }
+// The kind of an AVP.
+pub fn kind_of(s: &[u8], a: Avp) -> usize
+    requires { ⌜ Here (now s) a ⌝ }
+    ensures { λ r. ⌜ (r ≡ kindOf (ownOf (now (s .entry)) a)) × (r < 17) ⌝ }
 {
-    let flags = s[at + 4];
-    kind_by(
-        flags,
-        diameter::vendor_at(s, at, head),
-        diameter::code_at(s, at),
-    )
+    kind_by(a.flags, diameter::vendor_of(s, a), diameter::code_of(s, a))
 }
 
 // What a command makes of a kind.

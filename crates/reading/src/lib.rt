@@ -19,13 +19,6 @@ pub const CX: u32 = 16777216;
 // The vendor of the AVPs with V, and of an Experimental-Result.
 pub const VENDOR: u32 = 10415;
 
-// The flags of an AVP; those under P are reserved.
-pub const V_FLAG: u8 = 128;
-
-pub const M_FLAG: u8 = 64;
-
-pub const P_FLAG: u8 = 32;
-
 // "B is a base Result-Code, X an Experimental-Result of vendor 10415. They share numbers and never stand for one another."
 pub enum Outcome {
     Base(u32),

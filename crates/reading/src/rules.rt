@@ -3,31 +3,30 @@ use crate::Content;
 use crate::Ruled;
 use crate::group;
 use crate::kinds;
+use diameter::Avp;
 ghost use mathlib.Core.Path.{_≡_};
 ghost use Prim.Native.Nat.{_+_, _<_};
-ghost use lib.ListN.{take, drop};
-ghost use Rattle.diameter.specs.Avp.{avpFlags};
-ghost use Rattle.diameter.specs.Reader.{Here};
+ghost use Rattle.diameter.specs.Reader.{ownOf, Here};
 ghost use Rattle.reading.specs.Kinds.{kindOf};
 ghost use Rattle.reading.specs.Rules.{goodContent, strange, ruleBy, rule};
 ghost use Rattle.reading.specs.Found.{seenOf};
 
-// (h) Whether the AVP at a place holds what its kind must.
-pub fn good_content(c: Content, s: &[u8], at: usize, len: usize, head: usize) -> bool
-    requires { ⌜ Here (now s) at len head ⌝ }
-    ensures { λ r. ⌜ r ≡ goodContent c (take len (drop at (now (s .entry)))) ⌝ }
+// (h) Whether an AVP holds what its kind must.
+pub fn good_content(c: Content, s: &[u8], a: Avp) -> bool
+    requires { ⌜ Here (now s) a ⌝ }
+    ensures { λ r. ⌜ r ≡ goodContent c (ownOf (now (s .entry)) a) ⌝ }
 {
     match c {
         Content::Free => true,
         Content::Number(least, most) => {
-            let n = diameter::value_at(s, at, len, head);
+            let n = diameter::value_of(s, a);
             (least <= n) & (n <= most)
         }
         Content::Sized(least, most) => {
-            let n = len - head;
+            let n = a.len - a.head;
             (least <= n) & (n <= most)
         }
-        Content::Application => group::application_ok(diameter::data_part(s, at, len, head)),
+        Content::Application => group::application_ok(diameter::data_part(s, a)),
     }
 }
 
@@ -35,7 +34,7 @@ pub fn good_content(c: Content, s: &[u8], at: usize, len: usize, head: usize) ->
 fn unknown(flags: u8) -> Ruled
     ensures { λ r. ⌜ r ≡ strange flags ⌝ }
 {
-    if flags / crate::M_FLAG % 2 == 1 {
+    if flags / diameter::M_FLAG % 2 == 1 {
         return Ruled::Fault(5001);
     }
     Ruled::Skipped
@@ -46,7 +45,7 @@ pub fn rule_by(command: usize, earlier: bool, k: usize, flags: u8, four: bool, g
     requires { ⌜ k < 17 ⌝ }
     ensures { λ r. ⌜ r ≡ ruleBy command earlier k flags four good ⌝ }
 {
-    if flags % crate::P_FLAG != 0 {
+    if flags % diameter::P_FLAG != 0 {
         return Ruled::Fault(3009);
     }
     if k == 0 {
@@ -68,21 +67,12 @@ pub fn rule_by(command: usize, earlier: bool, k: usize, flags: u8, four: bool, g
     Ruled::Taken
 }
 
-// The same of the AVP at a place, after those at the places of the kinds.
-pub fn rule_at(
-    s: &[u8],
-    command: usize,
-    places: [usize; 17],
-    at: usize,
-    len: usize,
-    head: usize,
-    flags: u8,
-    k: usize,
-) -> Ruled
-    requires { ⌜ Here (now s) at len head × (flags ≡ avpFlags (take len (drop at (now s)))) × (k ≡ kindOf (take len (drop at (now s)))) × (k < 17) ⌝ }
-    ensures { λ r. ⌜ r ≡ rule command (seenOf (now (s .entry)) places) (take len (drop at (now (s .entry)))) ⌝ }
+// The same of an AVP of kind k, after those at the places of the kinds.
+pub fn rule_at(s: &[u8], command: usize, places: [usize; 17], a: Avp, k: usize) -> Ruled
+    requires { ⌜ Here (now s) a × (k ≡ kindOf (ownOf (now s) a)) × (k < 17) ⌝ }
+    ensures { λ r. ⌜ r ≡ rule command (seenOf (now (s .entry)) places) (ownOf (now (s .entry)) a) ⌝ }
 {
     let earlier = diameter::present_at(s, places[k]);
-    let good = good_content(kinds::content_of(k), s, at, len, head);
-    rule_by(command, earlier, k, flags, len == head + 4, good)
+    let good = good_content(kinds::content_of(k), s, a);
+    rule_by(command, earlier, k, a.flags, a.len == a.head + 4, good)
 }

@@ -10,6 +10,8 @@ use lib.Seq.{getD-take, take-take}
 use borrow.Author.Tests.{le-leb, lt-ltb}
 use Rattle.octets.proofs.Numbers.{be24-take}
 use Rattle.diameter.specs.Avp.{avpFlags, avpHead, avpLen, sound}
+use Rattle.diameter.specs.Reader.{ownOf}
+use Rattle.diameter.specs.declared.Avp.{Avp}
 use Rattle.diameter.proofs.Walks.{sound-says}
 use Rattle.diameter.proofs.Reading.{Says}
 use Rattle.reading.specs.declared.Outcome.the-variants.{Base}
@@ -31,8 +33,8 @@ failed-taken n t e =
     let u : take (avpLen t) (take (avpLen t) t) ≡ take (avpLen t) t = take-take (avpLen t) (avpLen t) t (omega arith) in
     rw (f, l, le-leb _ _ p, le-leb _ _ q, r, u)
 
-pub failed-there : (n : ℕ) (s : List ℕ) (at len next head flags : ℕ) → Says s at len next head flags → failedOf n (take len (drop at s)) ≡ failedOf n (drop at s)
-failed-there n s at len next head flags h = rw (h .lengthed) (failed-taken n (drop at s) (h .sounds))
+pub failed-there : (n : ℕ) (s : List ℕ) (at : ℕ) (a : Avp) → Says s at a → failedOf n (ownOf s a) ≡ failedOf n (drop at s)
+failed-there n s at a h = rw (h .placed, h .lengthed) (failed-taken n (drop at s) (h .sounds))
 
 -- a refusal at an AVP; for what is missing; without either
 module _ (s : List ℕ) (n : ℕ) (w : Walked) where

@@ -3,12 +3,13 @@ use Prim.Native.Nat.{ℕ, _-_, _≤_, _<_}
 use mathlib.Core.Path.{_≡_, refl, sym, _∙_}
 use mathlib.Core.List.{List, [], _∷_}
 use native.Mathlib.Omega.{arith}
-use lib.ListN.{length, take, drop}
+use lib.ListN.{length, drop}
 use borrow.Author.Tests.{ne-eqb}
 use Rattle.diameter.specs.Walk.{walk}
-use Rattle.diameter.specs.Reader.{readOf, avpOf, avpAt}
+use Rattle.diameter.specs.Reader.{readOf, avpOf, avpAt, ownOf}
+use Rattle.diameter.specs.declared.Avp.{Avp}
 use Rattle.diameter.specs.declared.Read.{Read}
-use Rattle.diameter.specs.declared.Read.the-variants.{Avp, Fault}
+use Rattle.diameter.specs.declared.Read.the-variants as read
 use Rattle.diameter.proofs.Reading.{read-says, read-unsound, walk-past}
 use Rattle.reading.specs.Kinds.{kindOf}
 use Rattle.reading.specs.Rules.{failedOf}
@@ -25,23 +26,23 @@ module _ (s : List ℕ) (from at : ℕ) (reached : from ≤ at) (left : identiti
   named-end h = record { rest = sym left ∙ rw (walk-past s at h); stands = tt }
 
   module _ (r : Read) (e : r ≡ readOf at (drop at s)) where
-    pub named-cut : r ≡ Fault → Named s from Nothing
+    pub named-cut : r ≡ read.Fault → Named s from Nothing
     unfolding identities namedBy
     named-cut d = record { rest = sym left ∙ sym (at-fault identities [] (drop at s) (read-unsound s at r e d) refl refl); stands = tt }
 
-    module _ (len next head flags k : ℕ) (d : r ≡ Avp len next head flags) (ek : k ≡ kindOf (take len (drop at s))) where
-      pub named-at : at < length s → k ≡ 8 → Named s from (At at next)
+    module _ (a : Avp) (k : ℕ) (d : r ≡ read.Avp a) (ek : k ≡ kindOf (ownOf s a)) where
+      pub named-at : at < length s → k ≡ 8 → Named s from (At at (a .next))
       unfolding identities namedBy
       named-at h z =
-          let says = read-says s at r e len next head flags d in
+          let says = read-says s at r e a d in
           record {
             rest = sym left ∙ rw (says .walked, ← ek, z, says .part);
             stands = record { sounds = says .sounds; reached = reached; inside = h; later = says .later };
           }
 
-      pub named-more : (k ≡ 8 → ⊥) → identities (walk (drop next s)) ≡ identities (walk (drop from s))
+      pub named-more : (k ≡ 8 → ⊥) → identities (walk (drop (a .next) s)) ≡ identities (walk (drop from s))
       unfolding identities
-      named-more z = rw (read-says s at r e len next head flags d .walked, ← ek, ne-eqb _ _ z) at left
+      named-more z = rw (read-says s at r e a d .walked, ← ek, ne-eqb _ _ z) at left
 
 -- What a caller may use of the answer: the first identity and the rest, or none; a loop over them ends; Failed-AVP holds the AVP whole.
 module _ (s : List ℕ) (from : ℕ) (r : Next) (n : Named s from r) where

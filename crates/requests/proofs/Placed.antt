@@ -4,12 +4,13 @@ use mathlib.Core.Path.{_≡_, refl, sym, _∙_}
 use mathlib.Core.List.{List}
 use mathlib.Core.Option.{Option, none, some}
 use mathlib.Core.Bool.{Bool}
-use lib.ListN.{length, getD, take, drop}
+use lib.ListN.{length, getD, drop}
 use lib.Seq.{drop-nil}
 use Rattle.diameter.specs.Avp.{headOf, dataOf, valueOf}
-use Rattle.diameter.specs.Reader.{readOf, partAt, present, orNone, dataAt}
+use Rattle.diameter.specs.Reader.{readOf, partAt, present, orNone, dataAt, ownOf}
+use Rattle.diameter.specs.declared.Avp.{Avp}
 use Rattle.diameter.specs.declared.Read.{Read}
-use Rattle.diameter.specs.declared.Read.the-variants.{Avp, Fault}
+use Rattle.diameter.specs.declared.Read.the-variants as read
 use Rattle.diameter.proofs.Reading.{read-says, read-none}
 use Rattle.reading.specs.Request.{given, dataIf, valueIf, dataIn, valueIn}
 use Rattle.reading.specs.Found.{seenOf}
@@ -40,8 +41,8 @@ module _ (s places : List ℕ) (k : ℕ) (room : k < length places) where
 
 -- the number at a place
 module _ (s : List ℕ) (at : ℕ) (r : Read) (e : r ≡ readOf at (drop at s)) where
-  pub place-empty : r ≡ Fault → 0 ≡ valueIf (partAt s at)
+  pub place-empty : r ≡ read.Fault → 0 ≡ valueIf (partAt s at)
   place-empty d = rw (read-none s at r e d)
 
-  pub place-value : (len next head flags v : ℕ) → r ≡ Avp len next head flags → v ≡ valueOf (take len (drop at s)) → v ≡ valueIf (partAt s at)
-  place-value len next head flags v d ev = rw (read-says s at r e len next head flags d .part) ev
+  pub place-value : (a : Avp) (v : ℕ) → r ≡ read.Avp a → v ≡ valueOf (ownOf s a) → v ≡ valueIf (partAt s at)
+  place-value a v d ev = rw (read-says s at r e a d .part) ev

@@ -5,18 +5,19 @@ use mathlib.Core.Path.{_≡_, refl, sym, _∙_}
 use mathlib.Core.List.{List, [], _∷_}
 use mathlib.Core.Bool.{Bool, true, false, not, _&&_, _||_}
 use native.Mathlib.Omega.{arith}
-use lib.ListN.{length, getD, take, drop, drop-of-length-le}
+use lib.ListN.{length, getD, drop, drop-of-length-le}
 use lib.Seq.{drop-cons}
 use lib.Dec.{eqb, ltb}
 use borrow.Author.Tests.{ne-eqb}
 use Rattle.octets.specs.Number.{be32At}
 use Rattle.diameter.specs.Avp.{sound}
 use Rattle.diameter.specs.Walk.{Walk, ended, faulty, walk}
-use Rattle.diameter.specs.Reader.{readOf, partAt, present}
+use Rattle.diameter.specs.Reader.{readOf, partAt, present, ownOf}
+use Rattle.diameter.specs.declared.Avp.{Avp}
 use Rattle.diameter.specs.declared.Read.{Read}
-use Rattle.diameter.specs.declared.Read.the-variants.{Avp, Fault}
+use Rattle.diameter.specs.declared.Read.the-variants as read
 use Rattle.diameter.proofs.Walks.{walk-nil, walk-faulty}
-use Rattle.diameter.proofs.Reading.{read-says, read-unsound}
+use Rattle.diameter.proofs.Reading.{own-flags, read-says, read-unsound}
 use Rattle.reading.specs.declared.Walked.{Walked}
 use Rattle.reading.specs.Kinds.{known, unknown, kindOf, rowOf, useIn, isNeeded}
 use Rattle.reading.specs.Rules.{Seen, nothing, Judged, bad, fine, judge}
@@ -57,25 +58,25 @@ at-fault f x (y ∷ t) e a b = rw (walk-faulty (y ∷ t) e (omega arith)) (sym b
 
 -- the first AVP
 module _ (s : List ℕ) (r : Read) (e : r ≡ readOf 20 (drop 20 s)) where
-  pub first-none : r ≡ Fault → false ≡ firstOther (bodyOf s)
+  pub first-none : r ≡ read.Fault → false ≡ firstOther (bodyOf s)
   first-none d = at-fault firstOther false (drop 20 s) (read-unsound s 20 r e d) refl refl
 
-  pub session-none : r ≡ Fault → [] ≡ sessionOf (bodyOf s)
+  pub session-none : r ≡ read.Fault → [] ≡ sessionOf (bodyOf s)
   session-none d = at-fault sessionOf [] (drop 20 s) (read-unsound s 20 r e d) refl refl
 
-  module _ (len next head flags k : ℕ) (d : r ≡ Avp len next head flags) (ek : k ≡ kindOf (take len (drop 20 s))) where
+  module _ (a : Avp) (k : ℕ) (d : r ≡ read.Avp a) (ek : k ≡ kindOf (ownOf s a)) where
     pub first-is : not (eqb k 1) ≡ firstOther (bodyOf s)
-    first-is = rw (read-says s 20 r e len next head flags d .walked, ← ek)
+    first-is = rw (read-says s 20 r e a d .walked, ← ek)
 
-    pub session-there : (b : List ℕ) → (eqb k 1 && eqb (flags % 32) 0) ≡ true → b ≡ take len (drop 20 s) → b ≡ sessionOf (bodyOf s)
+    pub session-there : (b : List ℕ) → (eqb k 1 && eqb (a .flags % 32) 0) ≡ true → b ≡ ownOf s a → b ≡ sessionOf (bodyOf s)
     session-there b t eb =
-        let says = read-says s 20 r e len next head flags d in
-        eb ∙ rw (says .walked, ← ek, ← says .flagged, t)
+        let says = read-says s 20 r e a d in
+        eb ∙ rw (says .walked, ← ek, own-flags s a (says .here), t)
 
-    pub session-other : (eqb k 1 && eqb (flags % 32) 0) ≡ false → [] ≡ sessionOf (bodyOf s)
+    pub session-other : (eqb k 1 && eqb (a .flags % 32) 0) ≡ false → [] ≡ sessionOf (bodyOf s)
     session-other t =
-        let says = read-says s 20 r e len next head flags d in
-        rw (says .walked, ← ek, ← says .flagged, t)
+        let says = read-says s 20 r e a d in
+        rw (says .walked, ← ek, own-flags s a (says .here), t)
 
 -- the first missing kind from a number on
 pub missing-all : (command : ℕ) (seen : Seen) → missing command seen ≡ missingFrom command seen (drop 1 (unknown ∷ known)) 1

@@ -3,11 +3,12 @@ use Prim.Native.Nat.{ℕ, zero, suc, _≤_, _<_}
 use mathlib.Core.Path.{_≡_, refl, ap, _∙_}
 use mathlib.Core.List.{List, [], _∷_, map}
 use native.Mathlib.Omega.{arith}
-use lib.ListN.{length, take, drop, set, replicate}
+use lib.ListN.{length, drop, set, replicate}
 use Rattle.diameter.specs.Walk.{walk}
-use Rattle.diameter.specs.Reader.{readOf, partAt}
+use Rattle.diameter.specs.Reader.{readOf, partAt, ownOf}
+use Rattle.diameter.specs.declared.Avp.{Avp}
 use Rattle.diameter.specs.declared.Read.{Read}
-use Rattle.diameter.specs.declared.Read.the-variants.{Avp, Fault}
+use Rattle.diameter.specs.declared.Read.the-variants as read
 use Rattle.diameter.proofs.Reading.{read-says, read-fault-says, walk-past, none-past}
 use Rattle.reading.specs.declared.Ruled.{Ruled}
 use Rattle.reading.specs.declared.Ruled.the-variants as ruled
@@ -33,23 +34,23 @@ module _ (s places : List ℕ) (command at : ℕ) (whole : Judged) (left : judge
   turn-end w h a = accepted-at s places w a ∙ rw (walk-past s at h) at left
 
   module _ (r : Read) (e : r ≡ readOf at (drop at s)) where
-    pub turn-cut : (w : Walked) → 20 ≤ at → at < length s → r ≡ Fault → Refused 5014 at 0 w → judgedOf s w ≡ whole
+    pub turn-cut : (w : Walked) → 20 ≤ at → at < length s → r ≡ read.Fault → Refused 5014 at 0 w → judgedOf s w ≡ whole
     unfolding judge
     turn-cut w l h d f = refused-at s 5014 w at (omega arith) f ∙ rw (read-fault-says s at r e h d) at left
 
-    module _ (len next head flags : ℕ) (x : Ruled) (d : r ≡ Avp len next head flags) (ex : x ≡ rule command (seenOf s places) (take len (drop at s))) where
+    module _ (a : Avp) (x : Ruled) (d : r ≡ read.Avp a) (ex : x ≡ rule command (seenOf s places) (ownOf s a)) where
       pub turn-bad : (n : ℕ) (w : Walked) → 20 ≤ at → x ≡ ruled.Fault n → Refused n at 0 w → judgedOf s w ≡ whole
       unfolding judge
       turn-bad n w l z f =
-          let says = read-says s at r e len next head flags d in
-          refused-at s n w at (omega arith) f ∙ rw (says .walked, ← ex, z, failed-there n s at len next head flags says) at left
+          let says = read-says s at r e a d in
+          refused-at s n w at (omega arith) f ∙ rw (says .walked, ← ex, z, failed-there n s at a says) at left
 
-      pub turn-taken : (k : ℕ) → k ≡ kindOf (take len (drop at s)) → x ≡ ruled.Taken → judge command (walk (drop next s)) (seenOf s (set places k at)) ≡ whole
+      pub turn-taken : (k : ℕ) → k ≡ kindOf (ownOf s a) → x ≡ ruled.Taken → judge command (walk (drop (a .next) s)) (seenOf s (set places k at)) ≡ whole
       unfolding judge
       turn-taken k ek z =
-          let says = read-says s at r e len next head flags d in
+          let says = read-says s at r e a d in
           rw (map-set (partAt s) places k at, says .part, ek) (rw (says .walked, ← ex, z) at left)
 
-      pub turn-skipped : x ≡ ruled.Skipped → judge command (walk (drop next s)) (seenOf s places) ≡ whole
+      pub turn-skipped : x ≡ ruled.Skipped → judge command (walk (drop (a .next) s)) (seenOf s places) ≡ whole
       unfolding judge
-      turn-skipped z = rw (read-says s at r e len next head flags d .walked, ← ex, z) at left
+      turn-skipped z = rw (read-says s at r e a d .walked, ← ex, z) at left

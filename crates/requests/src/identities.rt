@@ -15,22 +15,16 @@ pub fn next_identity(s: &[u8], from: usize) -> Next
 {
     let mut at = from;
     while at < s.len() {
-        let Read::Avp {
-            len,
-            next,
-            head,
-            flags: _,
-        } = diameter::read_avp(s, at)
-        else {
+        let Read::Avp(a) = diameter::read_avp(s, at) else {
             return Next::Nothing;
         };
-        if kinds::kind_at(s, at, len, head) == kinds::PUBLIC_IDENTITY {
+        if kinds::kind_of(s, a) == kinds::PUBLIC_IDENTITY {
             return Next::At {
                 place: at,
-                past: next,
+                past: a.next,
             };
         }
-        at = next;
+        at = a.next;
     }
     Next::Nothing
 }

@@ -4,6 +4,7 @@ pub mod places;
 pub mod walk;
 
 use diameter::Read;
+use diameter::message;
 use octets::number;
 use reading::Walked;
 use reading::kinds;
@@ -16,17 +17,12 @@ ghost use Rattle.reading.specs.Kinds.{isNeeded, useIn, rowOf};
 ghost use Rattle.reading.specs.Request.{commandOf, headerFault, firstOther, missing, complete, bodyOf, readRequest, sessionOf};
 ghost use Rattle.reading.specs.Found.{seenOf, judgedOf};
 
-// The header's flags that an answer may have.
-pub const P_BIT: u8 = 64;
-
-pub const E_BIT: u8 = 32;
-
 // The command of a request.
 pub fn command(req: &[u8]) -> usize
     requires { ⌜ 20 ≤ length (now req) ⌝ }
     ensures { λ r. ⌜ r ≡ commandOf (now (req .entry)) ⌝ }
 {
-    number::be24(req, 5)
+    number::be24(req, message::COMMAND_AT)
 }
 
 // The header's first fault, 0 where there is none.
@@ -34,17 +30,17 @@ pub fn header_fault(req: &[u8]) -> u32
     requires { ⌜ 20 ≤ length (now req) ⌝ }
     ensures { λ r. ⌜ r ≡ headerFault (now (req .entry)) ⌝ }
 {
-    if req[0] != 1 {
+    if req[message::VERSION_AT] != message::VERSION {
         return 5011;
     }
-    if req[4] / E_BIT % 2 == 1 {
+    if req[message::FLAGS_AT] / message::E_BIT % 2 == 1 {
         return 3008;
     }
     let n = command(req);
     if (n < reading::UAR) | (reading::LIR < n) {
         return 3001;
     }
-    if number::be32(req, 8) != reading::CX {
+    if number::be32(req, message::APPLICATION_AT) != reading::CX {
         return 3007;
     }
     0
@@ -54,16 +50,10 @@ pub fn header_fault(req: &[u8]) -> u32
 fn first_other(req: &[u8]) -> bool
     ensures { λ r. ⌜ r ≡ firstOther (bodyOf (now (req .entry))) ⌝ }
 {
-    let Read::Avp {
-        len,
-        next: _,
-        head,
-        flags: _,
-    } = diameter::read_avp(req, walk::BODY)
-    else {
+    let Read::Avp(a) = diameter::read_avp(req, message::BODY) else {
         return false;
     };
-    kinds::kind_at(req, walk::BODY, len, head) != kinds::SESSION_ID
+    kinds::kind_of(req, a) != kinds::SESSION_ID
 }
 
 // Whether a kind is needed and has no AVP at its place.
@@ -122,19 +112,11 @@ pub fn read_request(req: &[u8]) -> Walked
 pub fn session(req: &[u8]) -> &[u8]
     ensures { λ r. ⌜ (now r ≡ sessionOf (bodyOf (now (req .entry)))) × (length (now r) ≤ length (now (req .entry))) ⌝ }
 {
-    let Read::Avp {
-        len,
-        next: _,
-        head,
-        flags,
-    } = diameter::read_avp(req, walk::BODY)
-    else {
+    let Read::Avp(a) = diameter::read_avp(req, message::BODY) else {
         return &req[..0];
     };
-    if (kinds::kind_at(req, walk::BODY, len, head) == kinds::SESSION_ID)
-        & (flags % reading::P_FLAG == 0)
-    {
-        return diameter::avp_part(req, walk::BODY, len, head);
+    if (kinds::kind_of(req, a) == kinds::SESSION_ID) & (a.flags % diameter::P_FLAG == 0) {
+        return diameter::avp_part(req, a);
     }
     &req[..0]
 }

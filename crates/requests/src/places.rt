@@ -11,16 +11,10 @@ ghost use Rattle.reading.specs.Found.{seenOf};
 pub fn value_of_place(s: &[u8], place: usize) -> u32
     ensures { λ r. ⌜ r ≡ valueIf (partAt (now (s .entry)) place) ⌝ }
 {
-    let Read::Avp {
-        len,
-        next: _,
-        head,
-        flags: _,
-    } = diameter::read_avp(s, place)
-    else {
+    let Read::Avp(a) = diameter::read_avp(s, place) else {
         return 0;
     };
-    diameter::value_at(s, place, len, head)
+    diameter::value_of(s, a)
 }
 
 // Whether an AVP of kind k came.

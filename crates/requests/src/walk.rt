@@ -1,5 +1,6 @@
 // "Then AVPs by position; the first fault decides."
 use diameter::Read;
+use diameter::message;
 use reading::Outcome;
 use reading::Ruled;
 use reading::Verdict;
@@ -11,9 +12,6 @@ ghost use lib.ListN.{drop};
 ghost use Rattle.diameter.specs.Walk.{walk};
 ghost use Rattle.reading.specs.Rules.{nothing, judge};
 ghost use Rattle.reading.specs.Found.{judgedOf, Refused, Accepted};
-
-// Where a message's AVPs begin.
-pub const BODY: usize = 20;
 
 // A fault: its base result, the place of the AVP at fault (0: none is), the kind that is missing (0: none is).
 pub fn refuse(number: u32, place: usize, lacks: usize) -> Walked
@@ -51,24 +49,18 @@ pub fn walk_message(s: &[u8], command: usize) -> Walked
 {
     let absent = s.len();
     let mut places = [absent; 17];
-    let mut at = BODY;
+    let mut at = message::BODY;
     while at < s.len() {
-        let Read::Avp {
-            len,
-            next,
-            head,
-            flags,
-        } = diameter::read_avp(s, at)
-        else {
+        let Read::Avp(a) = diameter::read_avp(s, at) else {
             return refuse(5014, at, 0);
         };
-        let k = kinds::kind_at(s, at, len, head);
-        match rules::rule_at(s, command, places, at, len, head, flags, k) {
+        let k = kinds::kind_of(s, a);
+        match rules::rule_at(s, command, places, a, k) {
             Ruled::Taken => places[k] = at,
             Ruled::Skipped => {}
             Ruled::Fault(n) => return refuse(n, at, 0),
         }
-        at = next;
+        at = a.next;
     }
     accept(places)
 }

@@ -1,11 +1,12 @@
 //! SAR.
 
-use super::Code::{Base, Experimental};
-use super::{by_public, is_private_known, Code, Verdict};
+use super::lookup::{by_public, is_private_known};
 use crate::kinds::Kind;
-use crate::read::{Failed, Request};
+use crate::read::Request;
 use crate::slip::{Fault, Slip};
 use crate::table::{Record, Rewriting, Table, NOT_REGISTERED, PENDING, REGISTERED, UNREGISTERED};
+use crate::verdict::Code::{Base, Experimental};
+use crate::verdict::{Code, Failed, Verdict};
 
 /// Records with their block numbers.
 type Records<'a> = Vec<(usize, Record<'a>)>;

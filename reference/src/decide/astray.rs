@@ -2,11 +2,11 @@
 
 use std::cmp::Ordering;
 
-use super::Code::{Base, Experimental};
-use super::Verdict;
-use crate::read::{Failed, Request};
+use crate::read::Request;
 use crate::slip::{Fault, Slip};
 use crate::table::{Record, Table};
+use crate::verdict::Code::{Base, Experimental};
+use crate::verdict::{Failed, Verdict};
 
 /// Where a base result of the same number is sent for an experimental one.
 const BASE_FOR: [(Fault, u32); 10] = [

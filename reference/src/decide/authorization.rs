@@ -1,10 +1,11 @@
 //! UAR.
 
-use super::Code::{Base, Experimental};
-use super::{by_public, first_server_name, is_private_known, Verdict};
+use super::lookup::{by_public, first_server_name, is_private_known};
 use crate::read::Request;
 use crate::slip::{Fault, Slip};
 use crate::table::{Record, Table, BARRED, NOT_REGISTERED, UNREGISTERED};
+use crate::verdict::Code::{Base, Experimental};
+use crate::verdict::Verdict;
 
 pub fn user_authorization<'a>(request: &Request<'a>, table: Table<'a>, slip: Slip) -> Verdict<'a> {
     let asked_type = request.authorization_type;

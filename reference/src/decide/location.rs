@@ -1,10 +1,11 @@
 //! LIR.
 
-use super::Code::{Base, Experimental};
-use super::{by_public, first_server_name, Verdict};
+use super::lookup::{by_public, first_server_name};
 use crate::read::Request;
 use crate::slip::{Fault, Slip};
 use crate::table::{Table, BARRED, NOT_REGISTERED, UNREGISTERED, UNREGISTERED_SERVICES};
+use crate::verdict::Code::{Base, Experimental};
+use crate::verdict::Verdict;
 
 pub fn location_info<'a>(request: &Request<'a>, table: Table<'a>, slip: Slip) -> Verdict<'a> {
     let record = match by_public(table, request.identities[0].data, slip) {

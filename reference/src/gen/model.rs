@@ -1,6 +1,7 @@
 //! A table as its maker thinks of it, and its bytes.
 
-use crate::table::{self, header, mend, put_word, record, BLOCK, NETWORK_PLACE};
+use crate::block::{mend, put_word, BLOCK};
+use crate::table::{self, header, record, NETWORK_PLACE};
 
 #[derive(Clone, Debug)]
 pub struct TableModel {

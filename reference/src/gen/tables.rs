@@ -1,12 +1,9 @@
-//! Sound tables of every shape, and cases of the table check.
+//! Sound tables of every shape.
 
 use std::collections::BTreeSet;
 
-use super::damage;
 use super::model::{RecordModel, TableModel};
 use super::names;
-use super::Made;
-use crate::cases::{Case, Entry};
 use crate::rng::Rng;
 use crate::table::{
     BARRED, LONGEST_HOST, LONGEST_IDENTITY, LONGEST_PROFILE, LONGEST_SERVER_NAME, MOST_CAPABILITIES, MOST_NETWORKS,
@@ -21,39 +18,6 @@ pub struct Sound {
 
 /// Past what 16 bits can say.
 pub const FAR: usize = 65_536;
-
-/// A case of the table check: a sound table, or one damaged in one place, now and then in two.
-pub fn case(rng: &mut Rng) -> Made {
-    let size = match rng.below(2000) {
-        0 => MOST_RECORDS as usize,
-        1..=6 => many(rng),
-        _ => rng.below(13),
-    };
-    let mut notes = vec![];
-    let sound = sound(rng, size);
-    let mut subject = damage::Subject { bytes: sound.model.encode(), profile: sound.profile, model: sound.model };
-    let mut damaged = None;
-    if rng.below(8) == 0 {
-        notes.push("undamaged");
-    } else {
-        damaged = damage::damage(rng, &mut subject, &mut notes);
-        if rng.once_in(10) {
-            notes.push("a second damage");
-            // Which of the two is blamed depends on their places; the note is no longer of one block.
-            damage::damage(rng, &mut subject, &mut Vec::new());
-            damaged = None;
-        }
-    }
-    let case = Case {
-        entry: Entry::Check,
-        noise_from: rng.byte(),
-        request: vec![],
-        table: subject.bytes,
-        profile: subject.profile,
-        buffer_length: 0,
-    };
-    Made { case, notes, damaged }
-}
 
 /// A number of records from 13 to 4,096: each power of 2 as often as another, and as often as not the power itself or
 /// one beside it, where a look-up by halving would go wrong first.

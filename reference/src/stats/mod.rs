@@ -5,14 +5,14 @@ mod required;
 use std::collections::BTreeMap;
 use std::ops::Range;
 
+use crate::block::{word_at, BLOCK};
 use crate::cases::{Case, Outcome};
-use crate::decide::{Code, Decision};
 use crate::gen::{self, Made, Stream, FAR};
 use crate::kinds::{Command, Kind, EXPERIMENTAL_RESULT, FAILED_AVP, RESULT_CODE, SERVER_CAPABILITIES, USER_DATA};
 use crate::message::{sound_avps, Message};
-use crate::serve::Why;
 use crate::slip::Slip;
-use crate::table::{word_at, BLOCK, LONGEST_PROFILE};
+use crate::table::LONGEST_PROFILE;
+use crate::verdict::{Code, Decision, Why};
 
 #[derive(Default)]
 pub struct Histogram {

@@ -1,10 +1,11 @@
 //! The check: what document 01 says of a sound table.
 
-use super::{
-    header, record, sum, word_at, Header, Record, BARRED, BLOCK, CHECK_WORD, LONGEST_HOST, LONGEST_IDENTITY,
-    LONGEST_PROFILE, LONGEST_SERVER_NAME, MOST_CAPABILITIES, MOST_NETWORKS, MOST_RECORDS, NETWORK_PLACE,
-    NOT_REGISTERED, PENDING, UNREGISTERED, UNREGISTERED_SERVICES,
+use super::layout::{
+    header, record, Header, Record, BARRED, LONGEST_HOST, LONGEST_IDENTITY, LONGEST_PROFILE, LONGEST_SERVER_NAME,
+    MOST_CAPABILITIES, MOST_NETWORKS, MOST_RECORDS, NETWORK_PLACE, NOT_REGISTERED, PENDING, UNREGISTERED,
+    UNREGISTERED_SERVICES,
 };
+use crate::block::{sum, word_at, BLOCK, CHECK_WORD};
 use crate::slip::{Fault, Slip};
 
 /// The record count of a sound table, or the number of the first bad block.

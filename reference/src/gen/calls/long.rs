@@ -1,13 +1,13 @@
 //! What is long or many: identities, AVPs, records, profile parts.
 
-use super::{right, Call};
+use super::call::{right, Call};
 use crate::gen::asks;
+use crate::gen::made::Made;
 use crate::gen::model::TableModel;
 use crate::gen::names;
 use crate::gen::request::Piece;
 use crate::gen::tables::{self, FAR};
 use crate::gen::twists;
-use crate::gen::Made;
 use crate::kinds::{Command, Kind};
 use crate::message::{padded, M};
 use crate::rng::Rng;

@@ -1,13 +1,13 @@
 //! SARs of which several things are wrong at once, each of another identity or record: the order in which document 01
 //! asks decides.
 
-use super::Call;
+use super::call::Call;
 use crate::gen::asks::{self, assignment, unknown_private, unknown_public, REMOVALS};
+use crate::gen::made::Made;
 use crate::gen::model::{RecordModel, TableModel};
 use crate::gen::names;
 use crate::gen::request::Piece;
 use crate::gen::tables;
-use crate::gen::Made;
 use crate::kinds::Command;
 use crate::rng::Rng;
 use crate::table::{LONGEST_IDENTITY, LONGEST_SERVER_NAME, NOT_REGISTERED, PENDING};

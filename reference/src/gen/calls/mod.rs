@@ -1,27 +1,16 @@
 //! Cases of the decision: a request, right or twisted, over a table, sound or damaged.
 
+mod call;
 mod long;
 mod mixed;
 mod refused;
 
-use super::asks;
-use super::request::RequestModel;
-use super::tables::{self, Sound};
-use super::twists;
-use super::Made;
-use crate::cases::{Case, Entry};
-use crate::rng::Rng;
-use crate::serve::LEAST_BUFFER;
-
 pub use mixed::NOTES as MIXED;
 
-/// A case in the making.
-struct Call {
-    sound: Sound,
-    request: RequestModel,
-    buffer_length: usize,
-    notes: Vec<&'static str>,
-}
+use super::made::Made;
+use super::twists;
+use crate::rng::Rng;
+use call::right;
 
 pub fn case(rng: &mut Rng) -> Made {
     if rng.once_in(2000) {
@@ -57,50 +46,6 @@ fn plain(rng: &mut Rng) -> Made {
         call.notes.push(twists::twist_once(rng, &mut call.request));
     }
     call.finish(rng)
-}
-
-/// A right request over a table of few records, now and then of many or none.
-fn right(rng: &mut Rng) -> Call {
-    let size = match rng.below(1000) {
-        0..=9 => tables::many(rng),
-        10..=37 => 0,
-        _ => rng.between(1, 12),
-    };
-    right_over(rng, size)
-}
-
-fn right_over(rng: &mut Rng, records: usize) -> Call {
-    let mut sound = tables::sound(rng, records);
-    let request = asks::any(rng, &mut sound.model);
-    Call::new(sound, request)
-}
-
-impl Call {
-    fn new(sound: Sound, request: RequestModel) -> Call {
-        Call { sound, request, buffer_length: LEAST_BUFFER, notes: vec![] }
-    }
-
-    fn noted(mut self, note: &'static str) -> Call {
-        self.notes.push(note);
-        self
-    }
-
-    fn finish(self, rng: &mut Rng) -> Made {
-        let bytes = self.request.encode();
-        self.with_request(rng, bytes)
-    }
-
-    fn with_request(self, rng: &mut Rng, request: Vec<u8>) -> Made {
-        let case = Case {
-            entry: Entry::Decide,
-            noise_from: rng.byte(),
-            request,
-            table: self.sound.model.encode(),
-            profile: self.sound.profile,
-            buffer_length: self.buffer_length,
-        };
-        Made { case, notes: self.notes, damaged: None }
-    }
 }
 
 /// A sound header, and anything after it.

@@ -1,10 +1,10 @@
 //! Calls that are refused, or only just not.
 
-use super::{right, right_over, Call};
+use super::call::{right, right_over, Call};
 use crate::gen::damage;
+use crate::gen::made::Made;
 use crate::gen::tables::FAR;
 use crate::gen::twists;
-use crate::gen::Made;
 use crate::message::{HEADER, R};
 use crate::rng::Rng;
 use crate::serve::{LEAST_BUFFER, MOST_REQUEST};

@@ -1,7 +1,8 @@
 //! What is done to the fields of a block.
 
+use crate::block::{put_word, word_at};
 use crate::rng::Rng;
-use crate::table::{header, put_word, record, word_at, LONGEST_HOST, LONGEST_IDENTITY, LONGEST_SERVER_NAME};
+use crate::table::{header, record, LONGEST_HOST, LONGEST_IDENTITY, LONGEST_SERVER_NAME};
 
 /// Where a name stands in a block, where its length, and the most that this may be.
 #[derive(Clone, Copy)]

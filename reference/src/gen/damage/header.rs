@@ -3,9 +3,10 @@
 use super::fields::{
     other_byte, other_count, other_length, other_word, put_name, stray_byte, stray_tail, Name, HOST, REALM,
 };
-use super::{of_header, Damage, Subject};
+use super::shape::{of_header, Damage, Subject};
+use crate::block::{mend, put_word, word_at, BLOCK, CHECK_WORD};
 use crate::rng::Rng;
-use crate::table::{header, mend, put_word, word_at, BLOCK, CHECK_WORD, MOST_NETWORKS, NETWORK_PLACE};
+use crate::table::{header, MOST_NETWORKS, NETWORK_PLACE};
 
 pub const DAMAGES: &[Damage] = &[
     of_header("header: kind", |rng, s| other_byte(rng, s.block(0), 0, &[0, 2, 3])),

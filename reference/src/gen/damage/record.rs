@@ -4,9 +4,10 @@ use super::fields::{
     other_bit, other_byte, other_count, other_length, other_word, put_name, stray_byte, stray_tail, PRIVATE, PUBLIC,
     SERVER,
 };
-use super::{of_record, Damage, Subject};
+use super::shape::{of_record, Damage, Subject};
+use crate::block::{put_word, BLOCK, CHECK_WORD};
 use crate::gen::tables::{profile_part, FAR};
-use crate::table::{put_word, record, BLOCK, CHECK_WORD, LONGEST_PROFILE, MOST_CAPABILITIES, MOST_NETWORKS, PENDING};
+use crate::table::{record, LONGEST_PROFILE, MOST_CAPABILITIES, MOST_NETWORKS, PENDING};
 
 pub const DAMAGES: &[Damage] = &[
     of_record("record: kind", |rng, s, n| other_byte(rng, s.block(n), 0, &[0, 1, 3])),

@@ -1,9 +1,10 @@
 //! Damages of the whole: the order of the records, the table's length, the profile file; and of any byte.
 
 use super::fields::{put_name, PUBLIC};
-use super::{of_whole, Damage, Subject};
+use super::shape::{of_whole, Damage, Subject};
+use crate::block::{mend, put_word, word_at, BLOCK};
 use crate::rng::Rng;
-use crate::table::{header, mend, put_word, word_at, BLOCK, LONGEST_IDENTITY};
+use crate::table::{header, LONGEST_IDENTITY};
 
 pub const OVER_THE_MOST: &str = "length: over 4,096 records";
 

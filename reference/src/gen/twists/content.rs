@@ -1,7 +1,7 @@
 //! Twists of content: the kinds that are judged, 260 and its members, Proxy-Info.
 
 use super::kinds::proxy_info;
-use super::{always, if_it_fits, one_avp, Twist};
+use super::shape::{always, if_it_fits, one_avp, Twist};
 use crate::gen::request::{application, member, RequestModel};
 use crate::kinds::{Kind, APPLICATION, AUTH_APPLICATION_ID, KINDS, VENDOR, VENDOR_ID};
 use crate::message::{M, V};

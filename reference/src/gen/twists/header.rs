@@ -1,6 +1,6 @@
 //! Twists of the header.
 
-use super::{always, Twist};
+use super::shape::{always, Twist};
 use crate::message::{E, R};
 
 pub const TWISTS: &[Twist] = &[

@@ -1,6 +1,6 @@
 //! Twists of kinds and flags: unknown kinds, those that the command does not name, other vendors, reserved flags.
 
-use super::{always, if_it_fits, one_avp, some_avp, Twist};
+use super::shape::{always, if_it_fits, one_avp, some_avp, Twist};
 use crate::gen::request::Piece;
 use crate::kinds::{Command, Kind, KINDS, VENDOR};
 use crate::message::{M, V};

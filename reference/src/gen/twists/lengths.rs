@@ -1,6 +1,6 @@
 //! Twists of the AVPs' lengths, and headers that are cut off.
 
-use super::{always, one_avp, Twist};
+use super::shape::{always, one_avp, Twist};
 use crate::gen::request::Piece;
 use crate::kinds::{KINDS, VENDOR};
 use crate::message::V;

@@ -1,7 +1,7 @@
 //! Twists of which AVPs there are, how often and in which order.
 
 use super::kinds::{proxy_info, unknown};
-use super::{always, if_it_fits, one_avp, some_avp, Twist};
+use super::shape::{always, if_it_fits, one_avp, some_avp, Twist};
 use crate::kinds::Kind;
 
 pub const TWISTS: &[Twist] = &[

@@ -8,8 +8,6 @@ is-member-spec =
     tie.close
     (tie.spec
     (λ c. search (needs, member-short))
-    (λ c. search needs)
-    (λ c. search needs)
     (λ c κs. search needs)
     (λ c. search needs)
     (λ c κs. search needs)

@@ -5,7 +5,7 @@ use Rattle.diameter.specs.Walk.{walk}
 use Rattle.diameter.proofs.Reading.{read-here}
 use Rattle.reading.specs.Rules.{nothing, judge}
 use Rattle.reading.specs.Found.{seenOf}
-use Rattle.reading.proofs.Walking.{read-less, read-from, read-flagged}
+use Rattle.reading.proofs.Walking.{read-less, read-from}
 use Rattle.requests.proofs.Turns.{nothing-seen, turn-end, turn-cut, turn-bad, turn-taken, turn-skipped}
 use borrow.Author.Needs.{needs}
 use Rattle.requests.proofs.walk.walk_message.Statement.{statement}
@@ -30,7 +30,7 @@ walk-message-spec =
     (λ c κs. search needs)
     (λ c. search (needs, turn-cut))
     (λ c κs. search (needs, read-here))
-    (λ c κs. search (needs, read-here, read-flagged))
+    (λ c κs. search (needs, read-here))
     (λ c. search needs)
     (λ c. search needs)
     (λ c. search needs)

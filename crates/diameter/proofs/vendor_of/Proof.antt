@@ -1,10 +1,10 @@
 use Rattle.diameter.proofs.Parts.{vendor-there, vendor-none}
 use borrow.Author.Needs.{needs}
-use Rattle.diameter.proofs.vendor_at.Statement.{statement}
-use Rattle.diameter.proofs.vendor_at.Tie as tie
+use Rattle.diameter.proofs.vendor_of.Statement.{statement}
+use Rattle.diameter.proofs.vendor_of.Tie as tie
 
-pub vendor-at-spec : {M : Type 1} → statement M
-vendor-at-spec =
+pub vendor-of-spec : {M : Type 1} → statement M
+vendor-of-spec =
     tie.close
     (tie.spec
     (λ c. search needs)

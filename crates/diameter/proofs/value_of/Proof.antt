@@ -1,10 +1,10 @@
 use Rattle.diameter.proofs.Parts.{value-there, value-none}
 use borrow.Author.Needs.{needs}
-use Rattle.diameter.proofs.value_at.Statement.{statement}
-use Rattle.diameter.proofs.value_at.Tie as tie
+use Rattle.diameter.proofs.value_of.Statement.{statement}
+use Rattle.diameter.proofs.value_of.Tie as tie
 
-pub value-at-spec : {M : Type 1} → statement M
-value-at-spec =
+pub value-of-spec : {M : Type 1} → statement M
+value-of-spec =
     tie.close
     (tie.spec
     (λ c. search needs)

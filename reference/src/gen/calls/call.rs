@@ -1,0 +1,61 @@
+//! A call in the making, and right ones.
+
+use crate::cases::{Case, Entry};
+use crate::gen::asks;
+use crate::gen::made::Made;
+use crate::gen::request::RequestModel;
+use crate::gen::tables::{self, Sound};
+use crate::rng::Rng;
+use crate::serve::LEAST_BUFFER;
+
+/// A case in the making.
+pub struct Call {
+    pub sound: Sound,
+    pub request: RequestModel,
+    pub buffer_length: usize,
+    pub notes: Vec<&'static str>,
+}
+
+/// A right request over a table of few records, now and then of many or none.
+pub fn right(rng: &mut Rng) -> Call {
+    let size = match rng.below(1000) {
+        0..=9 => tables::many(rng),
+        10..=37 => 0,
+        _ => rng.between(1, 12),
+    };
+    right_over(rng, size)
+}
+
+pub fn right_over(rng: &mut Rng, records: usize) -> Call {
+    let mut sound = tables::sound(rng, records);
+    let request = asks::any(rng, &mut sound.model);
+    Call::new(sound, request)
+}
+
+impl Call {
+    pub fn new(sound: Sound, request: RequestModel) -> Call {
+        Call { sound, request, buffer_length: LEAST_BUFFER, notes: vec![] }
+    }
+
+    pub fn noted(mut self, note: &'static str) -> Call {
+        self.notes.push(note);
+        self
+    }
+
+    pub fn finish(self, rng: &mut Rng) -> Made {
+        let bytes = self.request.encode();
+        self.with_request(rng, bytes)
+    }
+
+    pub fn with_request(self, rng: &mut Rng, request: Vec<u8>) -> Made {
+        let case = Case {
+            entry: Entry::Decide,
+            noise_from: rng.byte(),
+            request,
+            table: self.sound.model.encode(),
+            profile: self.sound.profile,
+            buffer_length: self.buffer_length,
+        };
+        Made { case, notes: self.notes, damaged: None }
+    }
+}

@@ -1,0 +1,106 @@
+//! What comes of a request: the result, what the answer carries, what becomes of the records, and what decided it.
+//! Reading, decisions and the answer share it.
+
+use crate::kinds::{Command, Kind};
+use crate::message::Avp;
+use crate::table::{Record, Rewriting};
+
+/// Results of the two families; they share numbers and never stand for one another.
+#[derive(Clone, Copy, PartialEq, Eq, PartialOrd, Ord, Debug)]
+pub enum Code {
+    Base(u32),
+    Experimental(u32),
+}
+
+/// What Failed-AVP holds.
+#[derive(Clone, PartialEq, Debug)]
+pub enum Failed<'a> {
+    /// There is no Failed-AVP.
+    Absent,
+    /// There is one without data: the AVP's header is cut off.
+    Empty,
+    /// The AVP as received.
+    Whole(Avp<'a>),
+    /// An AVP's header alone.
+    Header(Vec<u8>),
+    /// An example of what is missing.
+    Example(Kind),
+}
+
+/// What decided an outcome.
+#[derive(Clone, PartialEq, Debug)]
+pub enum Why {
+    Checked(Result<u32, u32>),
+    Refused(u32),
+    /// A fault of the header, with its result.
+    Header(u32),
+    /// A rule for an AVP, and what it is about.
+    Rule(char, &'static str),
+    Missing(Kind),
+    Decided(Decision),
+}
+
+/// What a decision was about, for the histogram.
+#[derive(Clone, Copy, PartialEq, Debug, Default)]
+pub struct Decision {
+    pub command: Option<Command>,
+    /// User-Authorization-Type or Server-Assignment-Type.
+    pub asked_type: u32,
+    /// Of the first record that was asked for.
+    pub state: Option<u8>,
+    pub profile_start: usize,
+    pub keep: bool,
+    /// How many records were asked for.
+    pub records: usize,
+    pub result: Option<Code>,
+}
+
+/// A request is not to be decided: a base result, and what it is about.
+#[derive(Clone, PartialEq, Debug)]
+pub struct Finding<'a> {
+    pub result: u32,
+    pub failed: Failed<'a>,
+    pub why: Why,
+}
+
+/// A decision: the result, what the answer carries, and what becomes of the records.
+pub struct Verdict<'a> {
+    pub result: Code,
+    pub failed: Failed<'a>,
+    pub user_name: Option<&'a [u8]>,
+    pub server_name: Option<&'a [u8]>,
+    /// The record whose capabilities the answer carries.
+    pub capabilities: Option<Record<'a>>,
+    pub user_data: Option<&'a [u8]>,
+    /// By block number.
+    pub rewritings: Vec<(usize, Rewriting)>,
+    pub why: Why,
+}
+
+impl<'a> Verdict<'a> {
+    pub fn of(result: Code) -> Verdict<'a> {
+        Verdict {
+            result,
+            failed: Failed::Absent,
+            user_name: None,
+            server_name: None,
+            capabilities: None,
+            user_data: None,
+            rewritings: Vec::new(),
+            why: Why::Decided(Decision::default()),
+        }
+    }
+
+    pub fn with_server_name(self, name: &'a [u8]) -> Verdict<'a> {
+        Verdict { server_name: Some(name), ..self }
+    }
+
+    pub fn with_capabilities(self, of: Record<'a>) -> Verdict<'a> {
+        Verdict { capabilities: Some(of), ..self }
+    }
+
+    /// The verdict of a fault in reading.
+    pub fn of_finding(finding: Finding<'a>) -> Verdict<'a> {
+        Verdict { failed: finding.failed, why: finding.why, ..Verdict::of(Code::Base(finding.result)) }
+    }
+}
