@@ -11,14 +11,15 @@ use borrow.Author.Tests.{eqb-true, eqb-false, eq-eqb, lt-ltb}
 use Rattle.table.specs.Blocks.{blockOf}
 use Rattle.table.specs.SoundTable.{SoundTable}
 use Rattle.table.proofs.Blocks.{block-length}
-use Rattle.table.proofs.Sound.{sound-size, sound-block}
+use Rattle.table.proofs.Sound.{sound-size, sound-few, sound-block}
 use Rattle.lookup.specs.Find.{firstFrom, publicIs, findPublic}
 use Rattle.lookup.specs.declared.Found.{Found}
 use Rattle.lookup.specs.declared.Found.the-variants.{At, Nothing}
 use Rattle.lookup.proofs.First.{FirstAt, first-stands}
-use Rattle.rewrite.specs.Change.{changedAt, afterOf, changedIn, changedFound, Keeps}
+use Rattle.rewrite.specs.Change.{changedAt, afterOf, changedIn, changedFound, Keeps, differ, alteredUpTo}
 use Rattle.rewrite.specs.Renew.{settled, Fitting}
 use Rattle.rewrite.proofs.Blocks.{in-here, in-other}
+use Rattle.rewrite.proofs.Counts.{found-counts, sum-few}
 use Rattle.rewrite.proofs.Settled.{settled-keeps}
 use Rattle.rewrite.proofs.Sound.{keeping-says, keeping-found}
 use Rattle.rewrite.proofs.Tables.{after-same, after-none, at-same, at-twice, Keeping, found-keeping}
@@ -128,6 +129,10 @@ module _ (change : List ℕ → List ℕ) (keeps : Keeps change) (x : List ℕ) 
         turned-sound : SoundTable y count
         turned-sound = rw ey (keeping-says x (changedFound x f change) count keeping sound)
 
+        turned-counts : alteredUpTo x whole count ≡ differ x y + alteredUpTo y whole count
+        turned-counts =
+            rw (← turned, ey) (found-counts change keeps x count (sound-size x count sound) (publicIs x m) f stood (isOne (numbersOf (findAll (changedFound x f change) count (restOf s past)))))
+
 -- The same of settling, as the loop has it.
 module _ (x : List ℕ) (count : ℕ) (sound : SoundTable x count) (state : ℕ) (name : List ℕ) (fits : Fitting state name) (s : List ℕ) (at : ℕ) {whole : List ℕ}
     (left : afterOf x count (isOne (numbersOf (findAll x count (restOf s at)))) (settled state name) ≡ whole) where
@@ -148,6 +153,12 @@ module _ (x : List ℕ) (count : ℕ) (sound : SoundTable x count) (state : ℕ)
 
       pub settle-sound : SoundTable y count
       settle-sound = turned-sound (settled state name) keeps x count sound s at left r n place past d em ef ey
+
+      pub settle-counts : (c : ℕ) {e w : ℕ} → e ≡ differ x y → c + alteredUpTo x whole count ≡ w → c + e + alteredUpTo y whole count ≡ w
+      settle-counts c {e} h sum = omega (arith, h, sum, turned-counts (settled state name) keeps x count sound s at left r n place past d em ef ey)
+
+      pub settle-few : (c : ℕ) {e : ℕ} (t : List ℕ) → e ≡ differ x y → c + alteredUpTo x whole count ≡ alteredUpTo t whole count → c + e ≤ 4096
+      settle-few c {e} t h sum = sum-few t y whole count (c + e) (settle-counts c h sum) (sound-few x count sound)
 
 -- How many identities there are.
 module _ (s : List ℕ) (removal named : Bool) (r : Next) (n : Named s 20 r) where

@@ -38,11 +38,11 @@ module _ (t : List ℕ) (count : ℕ) where
   location-carried b = simp carried-cond
 
   module _ {g : Given} where
-    pub locate-by : (k : ℕ) {b p : List ℕ} {c : Choice} → b ≡ blockOf t k → c ≡ location (ltb 0 (stateOf b)) (unregisteredServices (bitsOf b)) → p ≡ privateOf b
+    pub locate-by : (k : ℕ) {b p : List ℕ} {x : Bool} {c : Choice} → b ≡ blockOf t k → x ≡ unregisteredServices (bitsOf b) → c ≡ location (ltb 0 (stateOf b)) x → p ≡ privateOf b
         → Gives t g (carried t count p (blockOf t k) c) → Gives t g (locateRecord t count (blockOf t k))
-    locate-by k block chooses owner s =
+    locate-by k block services chooses owner s =
         let e = location-carried (blockOf t k) in
-        rw (chooses, owner, block, e) at s
+        rw (chooses, services, owner, block, e) at s
 
     pub locate-known : (f : Found) (k : ℕ) → f ≡ At k → Gives t g (locateRecord t count (blockOf t k)) → Gives t g (locateFound t count f)
     unfolding locateFound
