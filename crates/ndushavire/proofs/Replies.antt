@@ -10,6 +10,7 @@ use lib.Dec.{eqb, ltb}
 use Rattle.octets.specs.Name.{same}
 use Rattle.record.specs.Fields.{privateOf, serverOf, stateOf, bitsOf, barred, unregisteredServices}
 use Rattle.table.specs.Blocks.{blockOf}
+use Rattle.lookup.specs.Network.{mayRoam}
 use Rattle.lookup.specs.Find.{isAt, publicIs, findPublic, findPrivate, findServer}
 use Rattle.lookup.proofs.First.{first-stands}
 use Rattle.lookup.specs.declared.Found.{Found}
@@ -22,7 +23,7 @@ use Rattle.reading.specs.declared.Outcome.{Outcome}
 use Rattle.reading.specs.declared.Outcome.the-variants.{Base, Experimental}
 use Rattle.decisions.specs.Types.{groupOf, isRemoval, effectOf}
 use Rattle.decisions.specs.Reply.{Reply, plain, failing, serving, served, capable, servedBy}
-use Rattle.decisions.specs.Authorization.{mayRoam, authorizeRecord, authorizeFound, authorize}
+use Rattle.decisions.specs.Authorization.{authorizeRecord, authorizeFound, authorize}
 use Rattle.decisions.specs.Location.{locateRecord, locateFound, locate}
 use Rattle.decisions.specs.Assignment.{Assignment, identityFault, every, isEmpty, firstOf, ownerOf, ownAt, storesAt, fitsAt, rightAt, recordsOf, allKnown, assigned, unaltered, effected, assignRecords, assignKnown, assign}
 use Rattle.decisions.specs.Decide.{assignmentOf, decideRead, decideJudged, decide}
