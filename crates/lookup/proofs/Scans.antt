@@ -21,7 +21,8 @@ pub private-here : (t name : List ℕ) (k : ℕ) {b n : List ℕ} {x : Bool} →
 unfolding privateIs privateAt
 private-here t name k e f g = rw (← e, ← f) g
 
-pub private-known : (t name : List ℕ) (count k : ℕ) {b n : List ℕ} {x : Bool} → b ≡ blockOf t k → n ≡ privateOf b → x ≡ same n name → x ≡ true → 1 ≤ k → k ≤ count
+pub private-known : (t name : List ℕ) (count k : ℕ) {b n : List ℕ} {x : Bool} → b ≡ blockOf t k → n ≡ privateOf b → x ≡ same n name → x ≡ true → 1 ≤ k
+    → k ≤ count
     → true ≡ isAt (findPrivate t count name)
 unfolding findPrivate
 private-known t name count k e f g h a b = first-some (privateIs t name) count k a b (sym (private-here t name k e f g) ∙ h)

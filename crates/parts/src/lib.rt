@@ -29,7 +29,7 @@ pub fn realm(t: &[u8], count: usize) -> &[u8]
 }
 
 // Whether a block number is a record's.
-fn is_record(count: usize, k: usize) -> bool
+fn has_record(count: usize, k: usize) -> bool
     ensures { λ r. ⌜ r ≡ (ltb 0 k && leb k count) ⌝ }
 {
     (0 < k) & (k <= count)
@@ -40,7 +40,7 @@ pub fn user(t: &[u8], count: usize, k: usize) -> &[u8]
     requires { ⌜ SoundTable (now t) count ⌝ }
     ensures { λ r. ⌜ (now r ≡ ofBlock privateOf (now (t .entry)) k) × (length (now r) ≤ 128) ⌝ }
 {
-    if is_record(count, k) {
+    if has_record(count, k) {
         return fields::private(table::block(t, k));
     }
     &t[..0]
@@ -50,7 +50,7 @@ pub fn server(t: &[u8], count: usize, k: usize) -> &[u8]
     requires { ⌜ SoundTable (now t) count ⌝ }
     ensures { λ r. ⌜ (now r ≡ ofBlock serverOf (now (t .entry)) k) × (length (now r) ≤ 96) ⌝ }
 {
-    if is_record(count, k) {
+    if has_record(count, k) {
         return fields::server(table::block(t, k));
     }
     &t[..0]
@@ -68,7 +68,7 @@ pub fn mandatory(t: &[u8], count: usize, k: usize) -> &[u8]
     requires { ⌜ SoundTable (now t) count ⌝ }
     ensures { λ r. ⌜ (now r ≡ ofBlock mandatoryOf (now (t .entry)) k) × (length (now r) ≤ 16) ⌝ }
 {
-    if is_record(count, k) {
+    if has_record(count, k) {
         let b = table::block(t, k);
         return words(
             b,
@@ -83,7 +83,7 @@ pub fn optional(t: &[u8], count: usize, k: usize) -> &[u8]
     requires { ⌜ SoundTable (now t) count ⌝ }
     ensures { λ r. ⌜ (now r ≡ ofBlock optionalOf (now (t .entry)) k) × (length (now r) ≤ 16) ⌝ }
 {
-    if is_record(count, k) {
+    if has_record(count, k) {
         let b = table::block(t, k);
         return words(
             b,
@@ -113,7 +113,7 @@ pub fn profile<'a>(t: &[u8], count: usize, file: &'a [u8], k: usize) -> &'a [u8]
     requires { ⌜ SoundTable (now t) count ⌝ }
     ensures { λ r. ⌜ (now r ≡ profileAt (now (t .entry)) (now (file .entry)) k) × (length (now r) ≤ 4096) ⌝ }
 {
-    if is_record(count, k) {
+    if has_record(count, k) {
         return profile_in(table::block(t, k), file);
     }
     &file[..0]

@@ -96,7 +96,8 @@ module _ (change : List ℕ → List ℕ) (keeps : Keeps change) (x : List ℕ) 
 
   pub if-counts : (u : Bool) (k : ℕ) → 1 ≤ k → k ≤ count → (chosen : ℕ → Bool)
       → alteredUpTo x (afterOf (cond u (changedIn x k change) x) count chosen change) count
-      ≡ differ x (cond u (changedIn x k change) x) + alteredUpTo (cond u (changedIn x k change) x) (afterOf (cond u (changedIn x k change) x) count chosen change) count
+      ≡ differ x (cond u (changedIn x k change) x)
+      + alteredUpTo (cond u (changedIn x k change) x) (afterOf (cond u (changedIn x k change) x) count chosen change) count
   if-counts true k a b chosen = in-counts k a b chosen
   if-counts false k a b chosen = rw (differ-same x) (none-more (alteredUpTo x (afterOf x count chosen change) count))
 

@@ -32,7 +32,8 @@ negated-from : (x c s w : ℕ) → x < 2 ^ 32 → w < 2 ^ 32 → s ≡ (x + c) %
 unfolding negated
 negated-from x c s w a b e f = omega arith
 
-pub seal-put : (b : List ℕ) {c s w : ℕ} {y : List ℕ} → c ≡ be32At b 508 → s ≡ sumWords b (4 * 32) → w < 2 ^ 32 → (w + s) % 2 ^ 32 ≡ c → y ≡ putBe32 b 508 w → y ≡ sealed b
+pub seal-put : (b : List ℕ) {c s w : ℕ} {y : List ℕ} → c ≡ be32At b 508 → s ≡ sumWords b (4 * 32) → w < 2 ^ 32 → (w + s) % 2 ^ 32 ≡ c → y ≡ putBe32 b 508 w
+    → y ≡ sealed b
 unfolding sealed sumWords
 seal-put b {c} {s} {w} e f h g k = rw (← negated-from (sumWords b 127) (be32At b 508) s w (sum-lt b 127) h f (g ∙ e)) k
 
@@ -55,7 +56,8 @@ module _ (b : List ℕ) (state bits : ℕ) (name : List ℕ) (whole : length b �
 pub fits-most : (state : ℕ) (name : List ℕ) → Fitting state name → length name ≤ 96
 fits-most state name f = f .most
 
-pub settle-block : (b : List ℕ) (state : ℕ) (name : List ℕ) {r : Record} {bits : ℕ} {y : List ℕ} → r ≡ recordOf b → bits ≡ cleared (r .bits) → y ≡ renewed b state bits name
+pub settle-block : (b : List ℕ) (state : ℕ) (name : List ℕ) {r : Record} {bits : ℕ} {y : List ℕ} → r ≡ recordOf b → bits ≡ cleared (r .bits)
+    → y ≡ renewed b state bits name
     → y ≡ settled state name b
 unfolding settled recordOf
 settle-block b state name d e f = f ∙ rw (e, d)
@@ -96,7 +98,9 @@ settle-put t k state name e = block-put (settled state name) t k e
 
 -- a table has other bytes exactly if the block that was lent has
 mid-put : (a n : ℕ) (t y : List ℕ) → a ≤ length t → length y ≡ n → midOf a n (putMid a n t y) ≡ y
-mid-put a n t y h l = rw (drop-at (take a t) (y ++ drop n (drop a t)) a (length-take-le a t h)) (ap (λ (m : ℕ). take m (y ++ drop n (drop a t))) (sym l) ∙ take-at y (drop n (drop a t)) (length y) refl)
+mid-put a n t y h l =
+    rw (drop-at (take a t) (y ++ drop n (drop a t)) a (length-take-le a t h))
+    (ap (λ (m : ℕ). take m (y ++ drop n (drop a t))) (sym l) ∙ take-at y (drop n (drop a t)) (length y) refl)
 
 lent-differs : (t y : List ℕ) (a n : ℕ) → a ≤ length t → length y ≡ n → differ (midOf a n t) y ≡ differ t (putMid a n t y)
 unfolding differ

@@ -117,7 +117,8 @@ module _ (t : List ℕ) (count : ℕ) (s : SoundTable t count) where
   unfolding soundAt risesAt
   sound-rises k a b =
       let g : risesAt t (suc k) ≡ true =
-      and-right (soundRecord (blockOf t (suc k)) (suc k) (headerOf (blockOf t 0) .networks) (s .file)) _ (sound-tests .each (suc k) (omega arith) (omega arith)) in
+      and-right (soundRecord (blockOf t (suc k)) (suc k) (headerOf (blockOf t 0) .networks) (s .file)) _
+      (sound-tests .each (suc k) (omega arith) (omega arith)) in
       let l : 1 < suc k = omega arith in
       let q : suc k - 1 ≡ k = omega arith in
       is-less _ (rw (lt-leb _ _ l, q) at g)

@@ -10,7 +10,9 @@ use Rattle.lookup.proofs.find_public.Statement.{statement}
 use Rattle.lookup.proofs.find_public.Tie as tie
 
 abbrev Inv-loop : tie.InvT-loop
-Inv-loop t count name low₀ high₀ low high = (count ≤ 4096) × (length t ≡ 512 * (count + 1)) × (1 ≤ low) × (high ≤ count + 1) × (findPublic t count name ≡ firstFrom (publicIs t name) (high - low) low)
+Inv-loop t count name low₀ high₀ low high =
+    (count ≤ 4096) × (length t ≡ 512 * (count + 1))
+    × (1 ≤ low) × (high ≤ count + 1) × (findPublic t count name ≡ firstFrom (publicIs t name) (high - low) low)
 
 abbrev μ-loop : tie.MeasureT-loop
 μ-loop t count name low₀ high₀ low high = high - low

@@ -10,7 +10,9 @@ use Rattle.lookup.proofs.first_server.Statement.{statement}
 use Rattle.lookup.proofs.first_server.Tie as tie
 
 abbrev Inv-loop : tie.InvT-loop
-Inv-loop t count name k₀ k = (count ≤ 4096) × (length t ≡ 512 * (count + 1)) × (1 ≤ k) × (k ≤ count + 1) × (findServer t count name ≡ firstFrom (servesAt t name) (count + 1 - k) k)
+Inv-loop t count name k₀ k =
+    (count ≤ 4096) × (length t ≡ 512 * (count + 1))
+    × (1 ≤ k) × (k ≤ count + 1) × (findServer t count name ≡ firstFrom (servesAt t name) (count + 1 - k) k)
 
 abbrev μ-loop : tie.MeasureT-loop
 μ-loop t count name k₀ k = count + 1 - k
