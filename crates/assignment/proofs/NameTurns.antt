@@ -27,12 +27,14 @@ use Rattle.diameter.specs.Avp.{dataOf}
 use Rattle.diameter.specs.Walk.{walk}
 use Rattle.diameter.specs.Reader.{avpAt, dataAt}
 use Rattle.diameter.proofs.Reading.{walk-past}
-use Rattle.reading.specs.Found.{failedBy, numberOf}
+use Rattle.reading.specs.Found.{numberOf}
+use Rattle.failed.specs.Failing.{failedBy}
+use Rattle.failed.proofs.Fronts.{failed-at}
 use Rattle.reading.specs.Request.{bodyOf, identities}
 use Rattle.requests.specs.Identity.{Named}
 use Rattle.requests.specs.declared.identities.Next.{Next}
 use Rattle.requests.specs.declared.identities.Next.the-variants as next
-use Rattle.requests.proofs.Naming.{named-none, named-first, named-stands, named-failed}
+use Rattle.requests.proofs.Naming.{named-none, named-first, named-stands}
 use Rattle.decisions.specs.Assignment.{isOne, findAll, numbersOf, identityFault}
 use Rattle.assignment.specs.Survey.{both, lookFound, surveyOf}
 use Rattle.assignment.specs.Identities.{Begins, Tells}
@@ -192,7 +194,7 @@ module _ (s : List ℕ) (removal named : Bool) (r : Next) (n : Named s 20 r) whe
       tells-second place2 past2 g e =
           let st = named-stands s past q m place2 past2 g in
           let z : 0 < place2 = omega (arith, st .reached, named-stands s 20 r n place past d .later) in
-          rw (named-first s 20 r n place past d, named-first s past q m place2 past2 g, e, lt-ltb 0 place2 z, named-failed s past q m place2 past2 g 5009 (λ b. omega arith))
+          rw (named-first s 20 r n place past d, named-first s past q m place2 past2 g, e, lt-ltb 0 place2 z, failed-at s place2 5009 (named-stands s past q m place2 past2 g .sounds) (λ b. omega arith))
 
 pub settle-start : (t : List ℕ) (count : ℕ) (s : List ℕ) (state : ℕ) (name : List ℕ)
     → afterOf t count (isOne (numbersOf (findAll t count (restOf s 20)))) (settled state name)

@@ -7,7 +7,7 @@ use Rattle.record.specs.Fields.{serverOf, mandatoryOf, optionalOf, profileOf}
 use Rattle.table.specs.Blocks.{blockOf, privateAt, ofBlock}
 use Rattle.rewrite.specs.Change.{afterOf}
 use Rattle.rewrite.specs.Renew.{settled}
-use Rattle.reading.specs.Found.{failedBy}
+use Rattle.failed.specs.Failing.{failedBy}
 use Rattle.decisions.specs.Reply.{Reply}
 use Rattle.decisions.specs.Assignment.{Decision, Assignment, isOne, findAll, numbersOf, ownedUpTo, storedName}
 use Rattle.decisions.specs.declared.Given.{Given}

@@ -1,12 +1,13 @@
 -- Every answer fits: no request within the limits has one that is longer than the smallest buffer.
-use Prim.Native.Nat.{ℕ}
-use mathlib.Core.List.{List}
 use mathlib.Core.Path.{refl}
 use lib.ListN.{length}
+use Rattle.ndushavire.specs.Lent.{Lent}
 use Rattle.ndushavire.proofs.Calls.{size-least, size-most, length-even}
-use Rattle.ndushavire.proofs.Room.{answer-most}
+use Rattle.fitting.proofs.Room.{answer-most}
 use Rattle.demands.specs.Call.{Fits}
 
-pub fits : (req t file : List ℕ) → Fits req t file
-fits req t file size right count sound =
-    answer-most t file count (record { file = length file; checked = sound }) req (size-least req size) (size-most req size) (length-even req refl right)
+pub fits : (x : Lent) → Fits x
+fits x size right count sound =
+    let req = x .request in
+    answer-most (x .table) (x .profile) count (record { file = length (x .profile); checked = sound }) req (size-least req size) (size-most req size)
+    (length-even req refl right)

@@ -34,15 +34,18 @@ use Rattle.requests.proofs.Kept.{server-most, server-least}
 use Rattle.decisions.specs.declared.Effect.{Effect}
 use Rattle.decisions.specs.Reply.{Reply}
 use Rattle.decisions.specs.Types.{between, groupOf, isRemoval, effectOf}
-use Rattle.decisions.specs.Assignment.{Assignment, identityFault, every, isOne, isEmpty, firstOf, allKnown, findAll, numbersOf, ownedUpTo, recordsOf, ownerOf, ownAt, storedName}
+use Rattle.decisions.specs.Assignment.{Assignment, identityFault, every, isOne, isEmpty, firstOf, allKnown, findAll, numbersOf, ownedUpTo, recordsOf}
+use Rattle.decisions.specs.Assignment.{ownerOf, ownAt, storedName}
 use Rattle.decisions.specs.Decide.{assignmentOf, decide}
 use Rattle.decisions.proofs.Within.{public-within}
 use Rattle.decisions.proofs.Rows.{row-fits}
 use Rattle.assignment.proofs.OwnTurns.{no-zero}
-use Rattle.ndushavire.specs.Serve.{answered, serve}
+use Rattle.ndushavire.specs.Lent.{Lent}
+use Rattle.ndushavire.specs.Word.{checkValue}
+use Rattle.ndushavire.specs.Serve.{checkOf, answered, serve}
 use Rattle.demands.specs.Call.{turnedAway}
 use Rattle.demands.specs.Frame.{succeeds, ownerAt, firstOwner, askedIn, subscriptionOf}
-use Rattle.demands.proofs.Refusals.{refused-kept, answered-is, counted}
+use Rattle.demands.proofs.Refusals.{refused-kept, answered-is, taken}
 use Rattle.demands.proofs.Effects.{Assigned, decide-cases}
 
 -- a test of all the records holds of each; block 0 is none of them
@@ -60,7 +63,8 @@ unfolding findAll numbersOf isOne
 named-later t count [] = refl
 named-later t count (a ∷ avps) = go (findPublic t count (dataOf a)) refl (named-later t count avps)
   where
-    go : (f : Found) → findPublic t count (dataOf a) ≡ f → isOne (numbersOf (findAll t count avps)) 0 ≡ false → isOne (numbersOf (f ∷ findAll t count avps)) 0 ≡ false
+    go : (f : Found) → findPublic t count (dataOf a) ≡ f → isOne (numbersOf (findAll t count avps)) 0 ≡ false
+        → isOne (numbersOf (f ∷ findAll t count avps)) 0 ≡ false
     go Nothing e next = next
     go (At k) e next = rw (ne-eqb 0 k (omega (arith, public-within t count (dataOf a) (sym e) .from k refl))) next
 
@@ -73,7 +77,8 @@ records-later t count s = go (isEmpty (s .identities))
     go false = named-later t count (s .identities)
 
 -- the owner that the decision asks for is the User-Name, or the owner of the first identity
-owner-is : (t : List ℕ) (count : ℕ) (s : Assignment) → identityFault (isRemoval (groupOf (s .kind))) (s .named) (s .identities) ≡ none → allKnown t count s ≡ true
+owner-is : (t : List ℕ) (count : ℕ) (s : Assignment) → identityFault (isRemoval (groupOf (s .kind))) (s .named) (s .identities) ≡ none
+    → allKnown t count s ≡ true
     → some (ownerOf t s (recordsOf t count s)) ≡ cond (s .named) (some (s .user)) (firstOwner t count (s .identities))
 unfolding identityFault allKnown ownerOf recordsOf findAll numbersOf every firstOwner
 owner-is t count s = go (isRemoval (groupOf (s .kind))) (s .named) (s .identities)
@@ -102,7 +107,8 @@ row-good kind keep = go (leb kind 2) (eqb kind 3) (between 6 kind 7) keep
     good : Effect → Type 0
     good e = succeeds (e .result) ≡ true
 
-    go : (a b c d : Bool) → good (cond a (record { state = 1; named = true; result = Base 2001 }) (cond b (record { state = 2; named = true; result = Base 2001 })
+    go : (a b c d : Bool)
+        → good (cond a (record { state = 1; named = true; result = Base 2001 }) (cond b (record { state = 2; named = true; result = Base 2001 })
         (cond c (cond d (record { state = 2; named = true; result = Base 2001 }) (record { state = 0; named = false; result = Experimental 2004 }))
         (record { state = 0; named = false; result = Base 2001 }))))
     go true b c d = refl
@@ -127,7 +133,8 @@ module _ (req t : List ℕ) (count : ℕ) (file : List ℕ) (size : length t ≡
 
   keeps : Keeps change
   unfolding assignmentOf
-  keeps = settled-keeps _ _ (row-fits (asked .server) (server-least req (a .seen) (a .read) (a .command)) (server-most req (a .seen) (a .read)) (asked .kind) keep)
+  keeps =
+      settled-keeps _ _ (row-fits (asked .server) (server-least req (a .seen) (a .read) (a .command)) (server-most req (a .seen) (a .read)) (asked .kind) keep)
 
   assigned-keeping : Keeping t (decide req t count file .table) count
   assigned-keeping = rw (a .altered .table) (after-keeping t count change size chosen keeps (records-later t count asked))
@@ -139,74 +146,85 @@ module _ (req t : List ℕ) (count : ℕ) (file : List ℕ) (size : length t ≡
   unfolding subscriptionOf askedIn assignmentOf ownAt
   assigned-owner k e =
       let own = one-holds (ownAt t (ownerOf t asked (recordsOf t count asked))) (recordsOf t count asked) k (a .altered .owned) e in
-      ap some (same-eq (privateAt t k) (ownerOf t asked (recordsOf t count asked)) own) ∙ owner-is t count asked (a .altered .identified) (a .altered .known) ∙ rw (a .read)
+      ap some (same-eq (privateAt t k) (ownerOf t asked (recordsOf t count asked)) own) ∙ owner-is t count asked (a .altered .identified) (a .altered .known)
+      ∙ rw (a .read)
 
   assigned-good : succeeds (decide req t count file .reply .result) ≡ true
   assigned-good = rw (a .altered .result) (row-good (asked .kind) keep)
 
 -- what holds of the table as it came, and of the table that an effect leaves, holds after every call
-module _ (req t file o : List ℕ) (count : ℕ) (sound : checkTable t (length file) ≡ Sound count) (P : List ℕ → Type 0) where
-  after-decision : P t → (Assigned req t count file → P (decide req t count file .table)) → P (decide req t count file .table)
-  after-decision p q = go (decide-cases req t count file)
-    where
-      go : (decide req t count file .table ≡ t) ⊎ Assigned req t count file → P (decide req t count file .table)
-      go (inl e) = rw e p
-      go (inr a) = q a
+module _ (x : Lent) (count : ℕ) (sound : checkOf x ≡ Sound count) where
+  abbrev req : List ℕ
+  req = x .request
 
-  after-call : P t → (Assigned req t count file → P (decide req t count file .table)) → P (serve req t file o .table)
-  unfolding answered
-  after-call p q = go (turnedAway req t file o) refl
-    where
-      go : (x : Bool) → turnedAway req t file o ≡ x → P (serve req t file o .table)
-      go true e = rw (refused-kept req t file o e .0) p
-      go false e = rw (answered-is req t file o count sound e) (after-decision p q)
+  abbrev t : List ℕ
+  t = x .table
 
-module _ (req t file o : List ℕ) (count : ℕ) (sound : checkTable t (length file) ≡ Sound count) where
+  abbrev file : List ℕ
+  file = x .profile
+
+  module _ (P : List ℕ → Type 0) where
+    after-decision : P t → (Assigned req t count file → P (decide req t count file .table)) → P (decide req t count file .table)
+    after-decision p q = go (decide-cases req t count file)
+      where
+        go : (decide req t count file .table ≡ t) ⊎ Assigned req t count file → P (decide req t count file .table)
+        go (inl e) = rw e p
+        go (inr a) = q a
+
+    after-call : P t → (Assigned req t count file → P (decide req t count file .table)) → P (serve x .table)
+    unfolding answered
+    after-call p q = go (turnedAway x) refl
+      where
+        go : (y : Bool) → turnedAway x ≡ y → P (serve x .table)
+        go true e = rw (refused-kept x e .0) p
+        go false e = rw (answered-is x count sound e) (after-decision p q)
+
   abbrev says : SoundTable t count
   says = record { file = length file; checked = sound }
 
   size : length t ≡ 512 * (count + 1)
   size = sound-size t count says
 
-  pub failure-kept : succeeds (decide req t count file .reply .result) ≡ false → serve req t file o .table ≡ t
+  pub failure-kept : succeeds (decide req t count file .reply .result) ≡ false → serve x .table ≡ t
   failure-kept e =
-      after-call req t file o count sound (λ (x : List ℕ). x ≡ t) refl
+      after-call (λ (y : List ℕ). y ≡ t) refl
       (λ a. absurd (true≢false (sym (assigned-good req t count file size a) ∙ e)))
 
-  pub others-kept : (k : ℕ) → k ≤ count → some (privateAt t k) ≢ subscriptionOf req t count → blockOf (serve req t file o .table) k ≡ blockOf t k
-  others-kept k h n = after-call req t file o count sound (λ (x : List ℕ). blockOf x k ≡ blockOf t k) refl (λ a. stays a (isOne (recordsOf t count (assignmentOf (a .seen) req)) k) refl)
+  pub others-kept : (k : ℕ) → k ≤ count → some (privateAt t k) ≢ subscriptionOf req t count → blockOf (serve x .table) k ≡ blockOf t k
+  others-kept k h n = after-call (λ (y : List ℕ). blockOf y k ≡ blockOf t k) refl (λ a. stays a (isOne (recordsOf t count (assignmentOf (a .seen) req)) k) refl)
     where
-      stays : (a : Assigned req t count file) (x : Bool) → isOne (recordsOf t count (assignmentOf (a .seen) req)) k ≡ x → blockOf (decide req t count file .table) k ≡ blockOf t k
+      stays : (a : Assigned req t count file) (x : Bool) → isOne (recordsOf t count (assignmentOf (a .seen) req)) k ≡ x
+          → blockOf (decide req t count file .table) k ≡ blockOf t k
       stays a true e = absurd (n (assigned-owner req t count file size a k e))
       stays a false e = assigned-stays req t count file size a k h e
 
   -- what every effect keeps is kept by every call
-  call-keeping : Keeping t (serve req t file o .table) count
-  call-keeping = after-call req t file o count sound (λ (x : List ℕ). Keeping t x count) (keeping-same t count) (λ a. assigned-keeping req t count file size a)
+  call-keeping : Keeping t (serve x .table) count
+  call-keeping = after-call (λ (y : List ℕ). Keeping t y count) (keeping-same t count) (λ a. assigned-keeping req t count file size a)
 
-  pub header-kept : blockOf (serve req t file o .table) 0 ≡ blockOf t 0
+  pub header-kept : blockOf (serve x .table) 0 ≡ blockOf t 0
   header-kept = call-keeping .header
 
-  block-kept : (k : ℕ) → k ≤ count → Kept (blockOf t k) (blockOf (serve req t file o .table) k)
+  block-kept : (k : ℕ) → k ≤ count → Kept (blockOf t k) (blockOf (serve x .table) k)
   block-kept zero h = kept-same _ _ header-kept
   block-kept (suc k) h = call-keeping .each (suc k) (omega arith) h
 
-  pub bytes-kept : (k i : ℕ) → k ≤ count → i < 512 → alterable i ≡ false → getD (blockOf (serve req t file o .table) k) i 0 ≡ getD (blockOf t k) i 0
+  pub bytes-kept : (k i : ℕ) → k ≤ count → i < 512 → alterable i ≡ false → getD (blockOf (serve x .table) k) i 0 ≡ getD (blockOf t k) i 0
   bytes-kept k i h l e = block-kept k h .others i l e
 
-  pub bits-kept : (k : ℕ) → k ≤ count → getD (blockOf (serve req t file o .table) k) 9 0 / 2 ≡ getD (blockOf t k) 9 0 / 2
+  pub bits-kept : (k : ℕ) → k ≤ count → getD (blockOf (serve x .table) k) 9 0 / 2 ≡ getD (blockOf t k) 9 0 / 2
   bits-kept k h = block-kept k h .bits
 
-  pub size-kept : length (serve req t file o .table) ≡ length t
+  pub size-kept : length (serve x .table) ≡ length t
   size-kept = call-keeping .size
 
-  pub sound-kept : checkTable (serve req t file o .table) (length file) ≡ Sound count
-  sound-kept = keeping-sound t (serve req t file o .table) count call-keeping says
+  pub sound-kept : checkTable (serve x .table) (length file) ≡ Sound count
+  sound-kept = keeping-sound t (serve x .table) count call-keeping says
 
 -- a question: no SAR, no effect
-pub question-kept : (req t file o : List ℕ) → commandOf req ≢ 301 → serve req t file o .table ≡ t
-question-kept req t file o n = go (turnedAway req t file o) refl
+pub question-kept : (x : Lent) → commandOf (x .request) ≢ 301 → serve x .table ≡ x .table
+question-kept x n = go (turnedAway x) refl
   where
-    go : (x : Bool) → turnedAway req t file o ≡ x → serve req t file o .table ≡ t
-    go true e = refused-kept req t file o e .0
-    go false e = counted req t file o e (λ count sound. after-call req t file o count sound (λ (x : List ℕ). x ≡ t) refl (λ a. absurd (n (a .command))))
+    go : (y : Bool) → turnedAway x ≡ y → serve x .table ≡ x .table
+    go true e = refused-kept x e .0
+    go false e = after-call x (checkValue (checkOf x)) (taken x e .table) (λ (y : List ℕ). y ≡ x .table) refl (λ a. absurd (n (a .command)))

@@ -1,8 +1,12 @@
 pub mod Cuts
 pub mod Demands
 pub mod Effects
+pub mod Firm
 pub mod Fitting
 pub mod Frame
 pub mod Insertions
+pub mod Longer
 pub mod Messages
+pub mod Moved
 pub mod Refusals
+pub mod Trials

@@ -30,7 +30,7 @@ firstOwner t count (a ∷ avps) = ownerAt t (findPublic t count (dataOf a))
 
 -- the subscription that a request asks about, by its private identity: the User-Name if given, else that of the first Public-Identity
 unfoldable pub askedIn : List ℕ → List ℕ → ℕ → Judged → Option (List ℕ)
-askedIn req t count (bad r f) = none
+askedIn req t count (bad v) = none
 askedIn req t count (fine seen) = cond (given seen userName) (some (dataIn seen userName)) (firstOwner t count (identities (bodyOf req)))
 
 unfoldable pub subscriptionOf : List ℕ → List ℕ → ℕ → Option (List ℕ)

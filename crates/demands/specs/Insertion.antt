@@ -1,8 +1,8 @@
 -- AVPs of unknown kinds put into a request.
-use Prim.Native.Nat.{ℕ, _+_, _%_}
+use Prim.Native.Nat.{ℕ, _+_, _%_, _≤_}
 use mathlib.Core.List.{List, [], _∷_, _++_}
-use mathlib.Core.Option.{some}
-use mathlib.Core.Bool.{Bool, true, false, not, _||_}
+use mathlib.Core.Option.{Option, none, some}
+use mathlib.Core.Bool.{Bool, true, false, cond, not, _||_}
 use mathlib.Core.Path.{_≡_}
 use lib.ListN.{length}
 use lib.Dec.{eqb}
@@ -12,10 +12,13 @@ use Rattle.diameter.specs.Walk.{ended}
 use Rattle.diameter.specs.Put.{Piece, Whole, All, bytesOf, avpsOf, glue}
 use Rattle.reading.specs.Kinds.{kindOf}
 use Rattle.reading.specs.Rules.{Judged, bad, fine, nothing, judge}
-use Rattle.reading.specs.Request.{commandOf, headerFault, firstOther}
+use Rattle.reading.specs.Request.{dialectOf, cx, headerFault, firstOther}
 use Rattle.reading.specs.declared.Outcome.the-variants.{Base}
 use Rattle.decisions.specs.Reply.{failing}
 use Rattle.decisions.specs.Assignment.{Decision, unaltered}
+use Rattle.ndushavire.specs.Lent.{Lent, asking}
+use Rattle.ndushavire.specs.Serve.{Served, answered, serve}
+use Rattle.demands.specs.Call.{turnedAway}
 
 -- a request of a header of 20 bytes and a body, its length field put right
 unfoldable pub message : List ℕ → List ℕ → List ℕ
@@ -61,11 +64,13 @@ pub record FirstMarked (qs rs : List Piece) : Type 0 where
 
 -- the header, or one of the AVPs in front, breaks a reading rule: (b) of the first, (a) and (c) to (h) of each
 abbrev pub isFault : Judged → Bool
-isFault (bad r f) = true
+isFault (bad v) = true
 isFault (fine seen) = false
 
 unfoldable pub faultIn : List ℕ → List Piece → Bool
-faultIn head qs = not (eqb (headerFault head) 0) || firstOther (glue (avpsOf qs) ended) || isFault (judge (commandOf head) (glue (avpsOf qs) ended) nothing)
+faultIn head qs =
+    not (eqb (headerFault (dialectOf cx head) head) 0) || firstOther (glue (avpsOf qs) ended) || isFault
+    (judge (dialectOf cx head) 20 (glue (avpsOf qs) ended) nothing)
 
 -- (d) "kind unknown: with M B5001": the AVP is in Failed-AVP, and the table is as it was
 abbrev pub unsupported : List ℕ → Piece → Decision
@@ -82,3 +87,37 @@ pub record Cut (req : List ℕ) : Type 0 where
   pub fours : length tail % 4 ≡ 0
   pub stops : sound tail ≡ false
   pub joined : req ≡ requestOf head (first ∷ rest) tail
+
+-- `longer` is `req` with AVPs of unknown kinds put in after its first AVP, at any places before its first length fault; its length field is right, and it
+-- stays within the limit.
+pub record Longer (req longer : List ℕ) : Type 0 where
+  pub cut : Cut req
+  pub row : List Piece
+  pub inserted : Inserted Foreign (cut .rest) row
+  pub bytes : longer ≡ requestOf (cut .head) (cut .first ∷ row) (cut .tail)
+  pub most : length longer ≤ 16384
+
+-- the first of those put in that is marked M, if one is, with the request's own AVPs before it
+pub record Mark : Type 0 where
+  pub front : List Piece
+  pub mark : Piece
+
+abbrev pub behind : Piece → Option Mark → Option Mark
+behind q none = none
+behind q (some m) = some (record { front = q ∷ m .front; mark = m .mark })
+
+unfoldable pub firstMark : {qs rs : List Piece} → Inserted Foreign qs rs → Option Mark
+firstMark ending = none
+firstMark (keep q i) = behind q (firstMark i)
+firstMark (put u f i) = cond (isMarked u) (some (record { front = []; mark = u })) (firstMark i)
+
+-- what a call with them comes to: the same, but B5001 for the first marked one, unless the call is refused or the header or an AVP before that one breaks a
+-- reading rule
+unfoldable pub newer : (x : Lent) → List ℕ → List ℕ → Piece → Option Mark → Served
+newer x longer head q none = serve x
+newer x longer head q (some m) = cond (turnedAway x || faultIn head (q ∷ m .front)) (serve x) (answered (asking x longer) (unsupported (x .table) (m .mark)))
+
+-- and if one is marked, the table is as it was
+pub record Newer (x : Lent) (longer : List ℕ) (l : Longer (x .request) longer) : Type 0 where
+  pub comes : serve (asking x longer) ≡ newer x longer (l .cut .head) (l .cut .first) (firstMark (l .inserted))
+  pub table : (m : Mark) → firstMark (l .inserted) ≡ some m → serve (asking x longer) .table ≡ x .table

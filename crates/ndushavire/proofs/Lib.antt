@@ -1,9 +1,2 @@
-pub mod Answering
 pub mod Calls
-pub mod Deciding
-pub mod Firm
-pub mod Replies
-pub mod Room
-pub mod Short
-pub mod Tests
 pub mod Words

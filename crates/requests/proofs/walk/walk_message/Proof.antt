@@ -3,19 +3,20 @@ use mathlib.Core.Path.{_≡_}
 use lib.ListN.{length, drop}
 use Rattle.diameter.specs.Walk.{walk}
 use Rattle.diameter.proofs.Reading.{read-here}
+use Rattle.reading.specs.Kinds.{kinds}
 use Rattle.reading.specs.Rules.{nothing, judge}
 use Rattle.reading.specs.Found.{seenOf}
-use Rattle.reading.proofs.Walking.{read-less, read-from}
+use Rattle.reading.proofs.Walking.{read-less}
 use Rattle.requests.proofs.Turns.{nothing-seen, turn-end, turn-cut, turn-bad, turn-taken, turn-skipped}
 use borrow.Author.Needs.{needs}
 use Rattle.requests.proofs.walk.walk_message.Statement.{statement}
 use Rattle.requests.proofs.walk.walk_message.Tie as tie
 
 abbrev Inv-loop : tie.InvT-loop
-Inv-loop s command absent places₀ at₀ places at = (length places ≡ 17) × (20 ≤ at) × (judge command (walk (drop at s)) (seenOf s places) ≡ judge command (walk (drop 20 s)) nothing)
+Inv-loop s dialect absent places₀ at₀ places at = (length places ≡ kinds) × (judge dialect at (walk (drop at s)) (seenOf s places) ≡ judge dialect 20 (walk (drop 20 s)) nothing)
 
 abbrev μ-loop : tie.MeasureT-loop
-μ-loop s command absent places₀ at₀ places at = length s - at
+μ-loop s dialect absent places₀ at₀ places at = length s - at
 
 pub walk-message-spec : {M : Type 1} → statement M
 walk-message-spec =
@@ -39,8 +40,8 @@ walk-message-spec =
     (λ c κs. search needs)
     (λ c. search (needs, turn-bad))
     (λ c. search (needs, read-less))
-    (λ c. search (needs, turn-taken, read-from))
+    (λ c. search (needs, turn-taken))
     (λ c. search (needs, read-less))
-    (λ c. search (needs, turn-skipped, read-from))
+    (λ c. search (needs, turn-skipped))
     (λ c κs. search needs)
     (λ c. search (needs, turn-end)))

@@ -1,0 +1,18 @@
+use Rattle.deciding.proofs.Deciding.{sar-planned}
+use Rattle.table.proofs.Sound.{sound-first}
+use borrow.Author.Needs.{needs}
+use Rattle.deciding.proofs.plan_sar.Statement.{statement}
+use Rattle.deciding.proofs.plan_sar.Tie as tie
+
+pub plan-sar-spec : {M : Type 1} → statement M
+plan-sar-spec =
+    tie.close
+    (tie.spec
+    (λ c κs. search needs)
+    (λ c κs. search needs)
+    (λ c κs. search needs)
+    (λ c κs. search needs)
+    (λ c κs. search needs)
+    (λ c κs. search (needs, sound-first))
+    (λ c κs. search needs)
+    (λ c. search (needs, sar-planned)))

@@ -1,0 +1,99 @@
+-- How firm the promise is: it leaves one return for each input, and the word returned decides the answer.
+use Prim.Native.Nat.{ℕ, zero, suc, _+_, _*_, _/_, _≤_, _<_}
+use mathlib.Core.Bool.{Bool, true, false, _&&_, cond}
+use mathlib.Core.Path.{_≡_, refl, sym, _∙_}
+use mathlib.Core.Logic.{_≢_}
+use mathlib.Core.List.{List}
+use native.Mathlib.Omega.{arith}
+use lib.ListN.{length}
+use lib.Dec.{leb, eqb}
+use borrow.Author.Tests.{eq-eqb, ne-eqb}
+use Rattle.record.specs.HeaderBlock.{headerOf, soundHeader}
+use Rattle.record.proofs.Sound.{header-count}
+use Rattle.table.specs.Blocks.{blockOf}
+use Rattle.table.specs.Check.{soundAt, firstBad, checkRecords, checkTable}
+use Rattle.table.specs.declared.Checked.{Checked}
+use Rattle.table.specs.declared.Checked.the-variants.{Sound, Bad}
+use Rattle.ndushavire.specs.declared.Call.the-variants.{Answered, Refused}
+use Rattle.ndushavire.specs.Lent.{Lent}
+use Rattle.ndushavire.specs.Word.{word, checkWord, checkValue, callWord}
+use Rattle.ndushavire.specs.Reads.{numberIn, placeIn, valueIn, Reads, ReadsCheck}
+use Rattle.ndushavire.specs.Promise.{CheckPromise, DecidePromise}
+
+-- Any two returns that meet the promise are equal.
+pub check-unique : (table profile : List ℕ) (r s : ℕ) → CheckPromise table profile r → CheckPromise table profile s → r ≡ s
+check-unique table profile r s p q = p .answer ∙ sym (q .answer)
+
+-- So are any two outcomes of a decision: the word, the table and the buffer.
+pub decide-unique : (x : Lent) (r s : ℕ) (t u o q : List ℕ) → DecidePromise x r t o → DecidePromise x s u q → (r ≡ s) × (t ≡ u) × (o ≡ q)
+decide-unique x r s t u o q a b = (a .word-is ∙ sym (b .word-is), a .table-is ∙ sym (b .table-is), a .buffer-is ∙ sym (b .buffer-is))
+
+-- What is put into a word is read out of it: the number, no place, the value.
+record Parts (number value : ℕ) : Type 0 where
+  number-is : numberIn (word number value) ≡ number
+  place-is : placeIn (word number value) ≡ 0
+  value-is : valueIn (word number value) ≡ value
+
+parts : (number value : ℕ) → value < 4294967296 → Parts number value
+parts number value h =
+    let q : word number value / 4294967296 ≡ number * 65536 = omega arith in
+    record { number-is = omega arith; place-is = rw q (omega arith); value-is = omega arith }
+
+-- So is a call read back out of its word.
+pub answer-reads : (n : ℕ) → n < 4294967296 → Reads (Answered (record { length = n })) (callWord (Answered (record { length = n })))
+answer-reads n h =
+    let p = parts 0 n h in
+    record { number = p .number-is; place = p .place-is; value = p .value-is; call = rw (eq-eqb (numberIn (word 0 n)) 0 (p .number-is), p .value-is) }
+
+pub refusal-reads : (number besides : ℕ) → 1 ≤ number → besides < 4294967296 → Reads (Refused number besides) (callWord (Refused number besides))
+refusal-reads number besides l h =
+    let p = parts number besides h in
+    let other : numberIn (word number besides) ≢ 0 = λ q. omega (arith, p .number-is, q) in
+    record {
+      number = p .number-is;
+      place = p .place-is;
+      value = p .value-is;
+      call = rw (ne-eqb (numberIn (word number besides)) 0 other, p .number-is, p .value-is);
+    }
+
+-- So is the check's answer, if what it carries stays below 2^32.
+check-reads : (c : Checked) → checkValue c < 4294967296 → ReadsCheck c (checkWord c)
+check-reads (Sound count) h =
+    let p = parts 0 count h in
+    record { number = p .number-is; place = p .place-is; value = p .value-is; answer = rw (eq-eqb (numberIn (word 0 count)) 0 (p .number-is), p .value-is) }
+check-reads (Bad block) h =
+    let p = parts 5 block h in
+    let other : numberIn (word 5 block) ≢ 0 = λ q. omega (arith, p .number-is, q) in
+    record { number = p .number-is; place = p .place-is; value = p .value-is; answer = rw (ne-eqb (numberIn (word 5 block)) 0 other, p .value-is) }
+
+-- It does: no table has more than 4,096 records.
+first-most : (good : ℕ → Bool) (count n k most : ℕ) → count ≤ most → k + n ≤ most + 1 → checkValue (firstBad good count n k) ≤ most
+unfolding firstBad
+first-most good count zero k most h l = h
+first-most good count (suc n) k most h l = go (good k) (first-most good count n (suc k) most h (omega arith))
+  where
+    go : (x : Bool) → checkValue (firstBad good count n (suc k)) ≤ most → checkValue (cond x (firstBad good count n (suc k)) (Bad k)) ≤ most
+    go true r = r
+    go false r = omega arith
+
+pub check-most : (t : List ℕ) (file : ℕ) → checkValue (checkTable t file) ≤ 4096
+unfolding checkTable checkRecords
+check-most t file = go (leb 512 (length t)) (soundHeader (blockOf t 0)) (eqb (length t) (512 * (headerOf (blockOf t 0) .count + 1))) refl
+  where
+    go : (x y z : Bool) → soundHeader (blockOf t 0) ≡ y
+        → checkValue (cond (x && y && z) (checkRecords t (headerOf (blockOf t 0) .count) (headerOf (blockOf t 0) .networks) file) (Bad 0)) ≤ 4096
+    go true true true e =
+        let n : headerOf (blockOf t 0) .count ≤ 4096 = header-count (blockOf t 0) (headerOf (blockOf t 0)) refl refl e in
+        first-most (soundAt t (headerOf (blockOf t 0) .networks) file) (headerOf (blockOf t 0) .count) (headerOf (blockOf t 0) .count) 1 4096 n (omega arith)
+    go true true false e = omega arith
+    go true false z e = omega arith
+    go false y z e = omega arith
+
+-- What the check is promised to return is read back, and so decides its answer.
+pub check-said : (table profile : List ℕ) {r : ℕ} → CheckPromise table profile r → ReadsCheck (checkTable table (length profile)) r
+check-said table profile p = rw (p .answer) (check-reads (checkTable table (length profile)) (omega (arith, check-most table (length profile))))
+
+pub check-decides : (t u : List ℕ) (file other : ℕ) → checkWord (checkTable t file) ≡ checkWord (checkTable u other) → checkTable t file ≡ checkTable u other
+check-decides t u file other e =
+    sym (check-reads (checkTable t file) (omega (arith, check-most t file)) .answer)
+    ∙ rw e (check-reads (checkTable u other) (omega (arith, check-most u other)) .answer)

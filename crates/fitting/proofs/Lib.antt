@@ -1,0 +1,4 @@
+pub mod Replies
+pub mod Room
+pub mod Short
+pub mod Tests

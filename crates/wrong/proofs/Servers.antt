@@ -1,0 +1,156 @@
+-- "Try these against it": document 01's five wrong servers. Each is a function here, and at an input that is computed its outcome does not meet the promise.
+use Prim.Native.Nat.{ℕ, zero, suc, _≤_}
+use mathlib.Core.Path.{_≡_, refl, ap, _∙_}
+use mathlib.Core.Logic.{_≢_}
+use mathlib.Core.List.{List, []}
+use native.Mathlib.Omega.{arith}
+use lib.ListN.{getD, replicate}
+use Rattle.octets.specs.Run.{over}
+use Rattle.pen.specs.Bytes.{numberBytes}
+use Rattle.ndushavire.specs.Lent.{Lent, lent}
+use Rattle.ndushavire.specs.Serve.{Served, serve}
+use Rattle.ndushavire.specs.declared.Call.the-variants.{Answered}
+use Rattle.ndushavire.specs.Word.{word, callWord}
+use Rattle.ndushavire.specs.Promise.{CheckPromise, DecidePromise}
+use Rattle.worked.proofs.Sample.{answer, assignment, one, two, s, z, opened}
+
+-- what a call leaves
+record Outcome : Type 0 where
+  word : ℕ
+  table : List ℕ
+  buffer : List ℕ
+
+-- A server may count its calls: it is a function of the number of the call in its run, 0 for the first, and of what is lent.
+abbrev Server : Type 0
+Server = ℕ → Lent → Outcome
+
+-- Call n of a run meets the promise, given x.
+abbrev Meets : Server → ℕ → Lent → Type 0
+Meets f n x = DecidePromise x (f n x .word) (f n x .table) (f n x .buffer)
+
+-- The true server, which shows that the inputs below are no trap.
+truly : Server
+truly n x = record { word = callWord (serve x .call); table = serve x .table; buffer = serve x .buffer }
+
+truly-meets : (n : ℕ) (x : Lent) → Meets truly n x
+unfolding truly
+truly-meets n x = record { word-is = refl; table-is = refl; buffer-is = refl }
+
+-- Two inputs over one registered line: a removal, B2001, which rewrites the record; and type 0 with another name, B5012. The word is 116 for both.
+room : List ℕ
+room = replicate 36864 0
+
+removal : Lent
+removal = lent (assignment 5 s) (one 0 1 s) [] room
+
+question : Lent
+question = lent (assignment 0 z) (one 0 1 s) [] room
+
+abbrev comes : List ℕ → List ℕ → Served
+comes after bytes = record { call = Answered (record { length = 116 }); table = after; buffer = over bytes room }
+
+removal-served : serve removal ≡ comes (one 0 0 []) (answer (numberBytes 268 2001) [])
+unfolding opened room removal
+removal-served = refl
+
+question-served : serve question ≡ comes (one 0 1 s) (answer (numberBytes 268 5012) [])
+unfolding opened room question
+question-served = refl
+
+-- What the promise leaves of the removal: the word 116, state 0 in the record, and 2001, whose last byte is 209, in the answer; of the other 5012, whose last
+-- byte is 148.
+state : List ℕ → ℕ
+state t = getD t 520 0
+
+result : List ℕ → ℕ
+result o = getD o 75 0
+
+module _ (f : Server) (n : ℕ) where
+  removal-word : Meets f n removal → f n removal .word ≡ 116
+  removal-word p = p .word-is ∙ ap (λ (y : Served). callWord (y .call)) removal-served
+
+  removal-state : Meets f n removal → state (f n removal .table) ≡ 0
+  unfolding state opened
+  removal-state p = ap state (p .table-is ∙ ap (λ (y : Served). y .table) removal-served)
+
+  removal-result : Meets f n removal → result (f n removal .buffer) ≡ 209
+  unfolding result opened room
+  removal-result p = ap result (p .buffer-is ∙ ap (λ (y : Served). y .buffer) removal-served)
+
+  question-result : Meets f n question → result (f n question .buffer) ≡ 148
+  unfolding result opened room
+  question-result p = ap result (p .buffer-is ∙ ap (λ (y : Served). y .buffer) question-served)
+
+-- Two answers whose results end alike cannot both be right, whatever else they take from the request.
+alike-fails : (f : Server) (n : ℕ) → result (f n removal .buffer) ≡ result (f n question .buffer) → Meets f n removal → Meets f n question → ⊥
+alike-fails f n e p q = omega (arith, e, removal-result f n p, question-result f n q)
+
+-- 1. "a server that refuses everything", with any number and anything besides, and leaves all as it came
+refusing : (Lent → ℕ) → (Lent → ℕ) → Server
+refusing number besides n x = record { word = word (number x) (besides x); table = x .table; buffer = x .buffer }
+
+refusing-fails : (number besides : Lent → ℕ) → 1 ≤ number removal → (n : ℕ) → Meets (refusing number besides) n removal → ⊥
+unfolding refusing
+refusing-fails number besides h n p = omega (arith, removal-word (refusing number besides) n p)
+
+-- 2. "one with a fixed answer": any word and any bytes, whatever is asked, and any table
+fixed : ℕ → List ℕ → (Lent → List ℕ) → Server
+fixed w bytes after n x = record { word = w; table = after x; buffer = over bytes (x .buffer) }
+
+fixed-fails : (w : ℕ) (bytes : List ℕ) (after : Lent → List ℕ) (n : ℕ) → Meets (fixed w bytes after) n removal → Meets (fixed w bytes after) n question → ⊥
+unfolding fixed removal question
+fixed-fails w bytes after n = alike-fails (fixed w bytes after) n refl
+
+-- 3. "one that writes no record": any word and any buffer, and the table as it came
+unwriting : (Lent → ℕ) → (Lent → List ℕ) → Server
+unwriting word bytes n x = record { word = word x; table = x .table; buffer = bytes x }
+
+unwriting-fails : (word : Lent → ℕ) (bytes : Lent → List ℕ) (n : ℕ) → Meets (unwriting word bytes) n removal → ⊥
+unfolding unwriting removal state opened
+unwriting-fails word bytes n p = omega (arith, removal-state (unwriting word bytes) n p)
+
+-- 4. "one that serves the first request of a run truly and only imitates later". It meets the promise at the first call; at each later one it does what the
+-- imitator does ..
+once : Server → Server
+once later zero x = truly zero x
+once later (suc n) x = later n x
+
+once-first : (later : Server) (x : Lent) → Meets (once later) 0 x
+unfolding once
+once-first later x = truly-meets 0 x
+
+once-later : (later : Server) (n : ℕ) (x : Lent) → Meets (once later) (suc n) x → Meets later n x
+unfolding once
+once-later later n x p = p
+
+-- .. which fails, be it one of the others or one that gives any outcome that it has seen or made up, by the number of the call and not by what is asked
+imitating : (ℕ → Outcome) → Server
+imitating outcome n x = outcome n
+
+once-fails : (outcome : ℕ → Outcome) (n : ℕ) → Meets (once (imitating outcome)) (suc n) removal → Meets (once (imitating outcome)) (suc n) question → ⊥
+unfolding imitating
+once-fails outcome n p q =
+    alike-fails (imitating outcome) n refl (once-later (imitating outcome) n removal p) (once-later (imitating outcome) n question q)
+
+once-unwriting-fails : (word : Lent → ℕ) (bytes : Lent → List ℕ) (n : ℕ) → Meets (once (unwriting word bytes)) (suc n) removal → ⊥
+once-unwriting-fails word bytes n p = unwriting-fails word bytes n (once-later (unwriting word bytes) n removal p)
+
+-- 5. "one that invents the answer's length": any other word, beside the true table and the true answer ..
+inventing : (Lent → ℕ) → Server
+inventing word n x = record { word = word x; table = truly n x .table; buffer = truly n x .buffer }
+
+inventing-fails : (word : Lent → ℕ) → word removal ≢ 116 → (n : ℕ) → Meets (inventing word) n removal → ⊥
+unfolding inventing
+inventing-fails word h n p = h (removal-word (inventing word) n p)
+
+-- .. "or the record count": of the second entry, any word but the count of a sound table, and any but the first bad block of another
+abbrev Checker : Type 0
+Checker = List ℕ → List ℕ → ℕ
+
+count-fails : (f : Checker) → f (one 0 1 s) [] ≢ word 0 1 → CheckPromise (one 0 1 s) [] (f (one 0 1 s) []) → ⊥
+unfolding opened
+count-fails f h p = h (p .answer)
+
+block-fails : (f : Checker) → f two [] ≢ word 5 2 → CheckPromise two [] (f two []) → ⊥
+unfolding opened
+block-fails f h p = h (p .answer)
