@@ -99,7 +99,6 @@ module _ (s : List ℕ) (a : Avp) (h : Here s a) where
 pub record Says (s : List ℕ) (at : ℕ) (a : Avp) : Type 0 where
   pub placed : a .at ≡ at
   pub stepped : a .next ≡ at + padded (a .len)
-  pub lengthed : a .len ≡ avpLen (drop at s)
   pub sounds : sound (drop at s) ≡ true
   pub here : Here s a
   pub walked : walk (drop at s) ≡ avp (ownOf s a) (walk (drop (a .next) s))
@@ -116,7 +115,6 @@ module _ (s : List ℕ) (at : ℕ) (good : sound (drop at s) ≡ true) where
       record {
         placed = refl;
         stepped = refl;
-        lengthed = refl;
         sounds = good;
         here =
             record {

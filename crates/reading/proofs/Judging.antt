@@ -88,9 +88,6 @@ content-bad fault h = rw (ne-eqb _ _ h)
 pub content-good : (fault : ℕ) → fault ≡ 0 → Taken ≡ ofContent fault
 content-good fault e = rw e
 
-pub once-more : (earlier : Bool) (fault : ℕ) → earlier ≡ true → Fault 5009 ≡ ofOnce earlier fault
-once-more earlier fault e = rw e
-
 pub once-first : (earlier : Bool) (fault : ℕ) (r : Ruled) → earlier ≡ false → r ≡ ofContent fault → r ≡ ofOnce earlier fault
 once-first earlier fault r e d = d ∙ rw e
 
