@@ -35,7 +35,7 @@ fn keep(t: &[u8]) -> bool
     h[Header::KEEP_AT] == 1
 }
 
-fn plan_uar(req: &[u8], t: &[u8], count: usize, found: [usize; 17]) -> Plan
+fn plan_uar(req: &[u8], t: &[u8], count: usize, found: [usize; kinds::KINDS]) -> Plan
     requires { ⌜ Ready (now t) count × (commandOf (now req) ≡ 300) ⌝ }
     ensures { λ r. ⌜ Plans (now (req .entry)) (now (t .entry)) count (seenOf (now (req .entry)) found) r ⌝ }
 {
@@ -49,7 +49,7 @@ fn plan_uar(req: &[u8], t: &[u8], count: usize, found: [usize; 17]) -> Plan
     ))
 }
 
-fn plan_sar(req: &[u8], t: &[u8], count: usize, found: [usize; 17]) -> Plan
+fn plan_sar(req: &[u8], t: &[u8], count: usize, found: [usize; kinds::KINDS]) -> Plan
     requires { ⌜ Ready (now t) count × (commandOf (now req) ≡ 301) ⌝ }
     ensures { λ r. ⌜ Plans (now (req .entry)) (now (t .entry)) count (seenOf (now (req .entry)) found) r ⌝ }
 {
@@ -66,7 +66,7 @@ fn plan_sar(req: &[u8], t: &[u8], count: usize, found: [usize; 17]) -> Plan
     )
 }
 
-fn plan_lir(req: &[u8], t: &[u8], count: usize, found: [usize; 17]) -> Plan
+fn plan_lir(req: &[u8], t: &[u8], count: usize, found: [usize; kinds::KINDS]) -> Plan
     requires { ⌜ Ready (now t) count × (commandOf (now req) ≡ 300 → ⊥) × (commandOf (now req) ≡ 301 → ⊥) ⌝ }
     ensures { λ r. ⌜ Plans (now (req .entry)) (now (t .entry)) count (seenOf (now (req .entry)) found) r ⌝ }
 {
@@ -78,7 +78,7 @@ fn plan_lir(req: &[u8], t: &[u8], count: usize, found: [usize; 17]) -> Plan
 }
 
 // The plan of a request that was read, by its command.
-fn plan_read(req: &[u8], t: &[u8], count: usize, found: [usize; 17]) -> Plan
+fn plan_read(req: &[u8], t: &[u8], count: usize, found: [usize; kinds::KINDS]) -> Plan
     requires { ⌜ Ready (now t) count × (20 ≤ length (now req)) ⌝ }
     ensures { λ r. ⌜ Plans (now (req .entry)) (now (t .entry)) count (seenOf (now (req .entry)) found) r ⌝ }
 {
@@ -100,7 +100,7 @@ fn stored(named: bool, server: &[u8]) -> &[u8]
 }
 
 // The effect that is planned, if there is one.
-fn carry_out(t: &mut [u8], count: usize, req: &[u8], found: [usize; 17], p: Plan)
+fn carry_out(t: &mut [u8], count: usize, req: &[u8], found: [usize; kinds::KINDS], p: Plan)
     requires { ⌜ Ready (now t) count × (length (dataIn (seenOf (now req) found) 10) ≤ 96) ⌝ }
     ensures { λ _. ⌜ now (t .exit) ≡ planned (now (t .entry)) count (assignmentOf (seenOf (now (req .entry)) found) (now (req .entry))) p ⌝ }
 {
@@ -138,7 +138,7 @@ fn answer_read(
     t: &mut [u8],
     file: &[u8],
     count: usize,
-    found: [usize; 17],
+    found: [usize; kinds::KINDS],
 ) -> usize
     requires { ⌜ Passed (now req) (now out) × SoundTable (now t) (length (now file)) count × (readRequest (now req) ≡ fine (seenOf (now req) found)) ⌝ }
     ensures { λ r. ⌜ (r ≤ 36864) × Answers (now (req .entry)) (now (t .entry)) count (now (file .entry)) (now (out .entry)) (now (out .exit)) r

@@ -11,11 +11,12 @@ use Rattle.pen.specs.Bytes.{ifThere}
 use Rattle.diameter.specs.Walk.{Walk, ended, avp, walk}
 use Rattle.diameter.specs.Put.{glue, Piece, bytesOf, avpsOf, Whole, All}
 use Rattle.diameter.proofs.Pieces.{walk-pieces, row-even, avps-joined, glue-glue}
+use Rattle.reading.specs.declared.Dialect.{Dialect}
 use Rattle.reading.specs.declared.Outcome.the-variants.{Base}
 use Rattle.reading.specs.Kinds.{sessionId}
 use Rattle.reading.specs.Rules.{Seen, Judged, bad, fine, nothing, rule, onRule, judge}
-use Rattle.reading.specs.Request.{commandOf, headerFault, firstOther, complete, readWalk, example, identities}
-use Rattle.requests.proofs.Insert.{judge-unmarked, judge-marked, andThen, judge-glue, put-failed}
+use Rattle.reading.specs.Request.{dialectOf, cx, headerFault, firstOther, complete, readWalk, example, identities}
+use Rattle.requests.proofs.Insert.{unknown-use, judge-unmarked, judge-marked, andThen, judge-glue, put-failed}
 use Rattle.decisions.specs.Decide.{decideJudged, decide}
 use Rattle.reply.specs.Answer.{proxies}
 use Rattle.ndushavire.specs.Serve.{answered, noRequest, serve}
@@ -54,15 +55,15 @@ inserted-joined (keep q i) j = keep q (inserted-joined i j)
 inserted-joined (put u p i) j = put u p (inserted-joined i j)
 
 -- the folds that pass over unknown kinds: the judgement those without M, the identities and the copies all of them
-judge-goes : (command : ℕ) (a : List ℕ) (v w : Walk) → judge command v ≡ judge command w → judge command (avp a v) ≡ judge command (avp a w)
+judge-goes : (dialect : Dialect) (a : List ℕ) (v w : Walk) → judge dialect v ≡ judge dialect w → judge dialect (avp a v) ≡ judge dialect (avp a w)
 unfolding judge
-judge-goes command a v w e = fun-ext (λ seen. ap (onRule (rule command seen a) seen a) e)
+judge-goes dialect a v w e = fun-ext (λ seen. ap (onRule (rule dialect seen a) seen a) e)
 
-judge-skips : (command : ℕ) (u : Piece) (w : Walk) → Quiet u → judge command (avp (u .avp) w) ≡ judge command w
-judge-skips command u w p = judge-unmarked command (u .avp) w (p .foreign .plain) (p .foreign .stranger) (p .unmarked)
+judge-skips : (dialect : Dialect) (u : Piece) (w : Walk) → Quiet u → judge dialect (avp (u .avp) w) ≡ judge dialect w
+judge-skips dialect u w p = judge-unmarked dialect (u .avp) w (p .foreign .plain) (unknown-use dialect (u .avp) (p .foreign .stranger)) (p .unmarked)
 
-quiet-judge : (command : ℕ) {qs rs : List Piece} → Inserted Quiet qs rs → (w : Walk) → judge command (glue (avpsOf rs) w) ≡ judge command (glue (avpsOf qs) w)
-quiet-judge command = inserted-same (judge command) (judge-goes command) (judge-skips command)
+quiet-judge : (dialect : Dialect) {qs rs : List Piece} → Inserted Quiet qs rs → (w : Walk) → judge dialect (glue (avpsOf rs) w) ≡ judge dialect (glue (avpsOf qs) w)
+quiet-judge dialect = inserted-same (judge dialect) (judge-goes dialect) (judge-skips dialect)
 
 foreign-identities : {qs rs : List Piece} → Inserted Foreign qs rs → (w : Walk) → identities (glue (avpsOf rs) w) ≡ identities (glue (avpsOf qs) w)
 unfolding identities
@@ -79,25 +80,25 @@ quiet-read : (head : List ℕ) (a : List ℕ) {qs rs : List Piece} → Inserted 
     → readBody head (avp a (glue (avpsOf rs) w)) ≡ readBody head (avp a (glue (avpsOf qs) w))
 unfolding readBody readWalk
 quiet-read head a {qs} {rs} i w =
-    let c = commandOf head in
+    let c = dialectOf cx head in
     let e : judge c (avp a (glue (avpsOf rs) w)) nothing ≡ judge c (avp a (glue (avpsOf qs) w)) nothing =
     ap (λ (f : Seen → Judged). f nothing) (judge-goes c a (glue (avpsOf rs) w) (glue (avpsOf qs) w) (quiet-judge c i w)) in
     rw e
 
 -- What reading a request comes to, by the header's fault, by rule (b), by what the AVPs in front come to, and by those behind.
 readFrom : List ℕ → Bool → Bool → Judged → (Seen → Judged) → Judged
-readFrom head h f j next = cond h (cond f (bad (Base 5005) (some (example sessionId))) (complete (commandOf head) (andThen j next))) (bad (Base (headerFault head)) none)
+readFrom head h f j next = cond h (cond f (bad (Base 5005) (some (example sessionId))) (complete (dialectOf cx head) (andThen j next))) (bad (Base (headerFault (dialectOf cx head) head)) none)
 
 abbrev frontOther : Piece → List Piece → Bool
 frontOther q ps = firstOther (glue (avpsOf (q ∷ ps)) ended)
 
 abbrev frontJudged : List ℕ → Piece → List Piece → Judged
-frontJudged head q ps = judge (commandOf head) (glue (avpsOf (q ∷ ps)) ended) nothing
+frontJudged head q ps = judge (dialectOf cx head) (glue (avpsOf (q ∷ ps)) ended) nothing
 
 read-behind : (head : List ℕ) (q : Piece) (ps : List Piece) (w : Walk)
-    → readBody head (glue (avpsOf (q ∷ ps)) w) ≡ readFrom head (eqb (headerFault head) 0) (frontOther q ps) (frontJudged head q ps) (judge (commandOf head) w)
+    → readBody head (glue (avpsOf (q ∷ ps)) w) ≡ readFrom head (eqb (headerFault (dialectOf cx head) head) 0) (frontOther q ps) (frontJudged head q ps) (judge (dialectOf cx head) w)
 unfolding readFrom readBody readWalk avpsOf glue
-read-behind head q ps w = rw (judge-glue (commandOf head) (avpsOf (q ∷ ps)) w nothing)
+read-behind head q ps w = rw (judge-glue (dialectOf cx head) (avpsOf (q ∷ ps)) w nothing)
 
 fault-decides : (head : List ℕ) (h f : Bool) (j : Judged) (k l : Seen → Judged) → (not h || f || isFault j) ≡ true → readFrom head h f j k ≡ readFrom head h f j l
 unfolding readFrom andThen
@@ -122,8 +123,8 @@ none-decides head true true j k a e g = absurd (true≢false e)
 none-decides head true false (bad r x) k a e g = absurd (true≢false e)
 none-decides head true false (fine seen) k a e g = rw (g seen)
 
-mark-judged : (command : ℕ) (m : Piece) (w : Walk) (seen : Seen) → Foreign m → isMarked m ≡ true → judge command (avp (m .avp) w) seen ≡ bad (Base 5001) (some (m .avp))
-mark-judged command m w seen f e = judge-marked command (m .avp) w (f .plain) (f .stranger) seen e ∙ rw (put-failed m 5001 (f .whole) refl)
+mark-judged : (dialect : Dialect) (m : Piece) (w : Walk) (seen : Seen) → Foreign m → isMarked m ≡ true → judge dialect (avp (m .avp) w) seen ≡ bad (Base 5001) (some (m .avp))
+mark-judged dialect m w seen f e = judge-marked dialect (m .avp) w (f .plain) (unknown-use dialect (m .avp) (f .stranger)) seen e ∙ rw (put-failed m 5001 (f .whole) refl)
 
 -- A request, the row of its AVPs after the first, the longer row, and what is behind it.
 module _ (head : List ℕ) (twenty : length head ≡ 20) (q : Piece) (qs rs : List Piece) (whole : All Whole (q ∷ qs)) (tail : List ℕ) (fours : length tail % 4 ≡ 0)
@@ -210,17 +211,17 @@ module _ (head : List ℕ) (twenty : length head ≡ 20) (q : Piece) (qs rs : Li
   shorter = requestOf head (q ∷ qs) tail
 
   abbrev headed : Bool
-  headed = eqb (headerFault head) 0
+  headed = eqb (headerFault (dialectOf cx head) head) 0
 
   abbrev behind : List Piece → Seen → Judged
-  behind ps = judge (commandOf head) (glue (avpsOf ps) (walk tail))
+  behind ps = judge (dialectOf cx head) (glue (avpsOf ps) (walk tail))
 
   -- what reading comes to, by those behind the front row
   reading : (Seen → Judged) → Judged
   reading = readFrom head headed (frontOther q (m .front)) (frontJudged head q (m .front))
 
   front-same : frontJudged head q (m .before) ≡ frontJudged head q (m .front)
-  front-same = ap (λ (f : Seen → Judged). f nothing) (quiet-judge (commandOf head) (keep q (m .quiet)) ended)
+  front-same = ap (λ (f : Seen → Judged). f nothing) (quiet-judge (dialectOf cx head) (keep q (m .quiet)) ended)
 
   other-same : frontOther q (m .before) ≡ frontOther q (m .front)
   unfolding avpsOf glue
@@ -258,7 +259,7 @@ module _ (head : List ℕ) (twenty : length head ≡ 20) (q : Piece) (qs rs : Li
   mark-decides e t count file =
       long-decides t count file
       ∙ rw (none-decides head headed (frontOther q (m .front)) (frontJudged head q (m .front)) (behind (m .mark ∷ m .after)) (m .mark .avp) e
-      (λ seen. mark-judged (commandOf head) (m .mark) (glue (avpsOf (m .after)) (walk tail)) seen (m .foreign) (m .marking)))
+      (λ seen. mark-judged (dialectOf cx head) (m .mark) (glue (avpsOf (m .after)) (walk tail)) seen (m .foreign) (m .marking)))
 
   pub mark-answered : faultIn head (q ∷ m .front) ≡ false → (t file o : List ℕ) → turnedAway shorter t file o ≡ false
       → serve longer t file o ≡ answered longer t o (unsupported t (m .mark))

@@ -17,9 +17,10 @@ use Rattle.table.specs.Blocks.{blockOf}
 use Rattle.table.specs.Check.{checkTable}
 use Rattle.table.specs.declared.Checked.{Checked}
 use Rattle.table.specs.declared.Checked.the-variants.{Sound, Bad}
+use Rattle.reading.specs.declared.Dialect.{Dialect}
 use Rattle.reading.specs.declared.Outcome.the-variants.{Base}
 use Rattle.reading.specs.Rules.{Judged, bad, fine}
-use Rattle.reading.specs.Request.{commandOf, headerFault, bodyOf, readWalk, readRequest, identities, sessionOf}
+use Rattle.reading.specs.Request.{commandOf, dialectOf, cx, headerFault, bodyOf, readWalk, readIn, readRequest, identities, sessionOf}
 use Rattle.decisions.specs.Reply.{Reply}
 use Rattle.decisions.specs.Assignment.{Decision}
 use Rattle.decisions.specs.Decide.{assignmentOf, decideRead, decideJudged, decide}
@@ -75,13 +76,15 @@ module _ (head : List ℕ) (twenty : length head ≡ 20) (body : List ℕ) where
   pub message-command : commandOf (message head body) ≡ commandOf head
   message-command = be24-alike (message head body) head 5 5 (λ j l. message-at (5 + j) (omega arith) (omega arith) (omega arith) (omega arith))
 
-  pub message-fault : headerFault (message head body) ≡ headerFault head
+  pub message-dialect : dialectOf cx (message head body) ≡ dialectOf cx head
+  message-dialect = rw message-command
+
+  pub message-fault : (dialect : Dialect) → headerFault dialect (message head body) ≡ headerFault dialect head
   unfolding headerFault
-  message-fault =
+  message-fault dialect =
       rw (
         message-at 0 (omega arith) (omega arith) (omega arith) (omega arith),
         message-flags,
-        message-command,
         be32-alike (message head body) head 8 8 (λ j l. message-at (8 + j) (omega arith) (omega arith) (omega arith) (omega arith)),
       )
 
@@ -100,11 +103,11 @@ module _ (head : List ℕ) (twenty : length head ≡ 20) (body : List ℕ) where
 
 -- reading a message: its header's fault, else its walk
 unfoldable pub readBody : List ℕ → Walk → Judged
-readBody head w = cond (eqb (headerFault head) 0) (readWalk (commandOf head) w) (bad (Base (headerFault head)) none)
+readBody head w = cond (eqb (headerFault (dialectOf cx head) head) 0) (readWalk (dialectOf cx head) w) (bad (Base (headerFault (dialectOf cx head) head)) none)
 
 pub message-read : (head : List ℕ) → length head ≡ 20 → (body : List ℕ) → readRequest (message head body) ≡ readBody head (walk body)
-unfolding readRequest readBody
-message-read head twenty body = rw (message-fault head twenty body, message-command head twenty body, message-body head twenty body)
+unfolding readIn readBody
+message-read head twenty body = rw (message-dialect head twenty body, message-fault head twenty body (dialectOf cx head), message-body head twenty body)
 
 -- a body within the limits; no message of such a body is refused by its length
 pub record Fit (body : List ℕ) : Type 0 where

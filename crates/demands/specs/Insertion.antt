@@ -12,7 +12,7 @@ use Rattle.diameter.specs.Walk.{ended}
 use Rattle.diameter.specs.Put.{Piece, Whole, All, bytesOf, avpsOf, glue}
 use Rattle.reading.specs.Kinds.{kindOf}
 use Rattle.reading.specs.Rules.{Judged, bad, fine, nothing, judge}
-use Rattle.reading.specs.Request.{commandOf, headerFault, firstOther}
+use Rattle.reading.specs.Request.{dialectOf, cx, headerFault, firstOther}
 use Rattle.reading.specs.declared.Outcome.the-variants.{Base}
 use Rattle.decisions.specs.Reply.{failing}
 use Rattle.decisions.specs.Assignment.{Decision, unaltered}
@@ -67,7 +67,7 @@ isFault (bad r f) = true
 isFault (fine seen) = false
 
 unfoldable pub faultIn : List ℕ → List Piece → Bool
-faultIn head qs = not (eqb (headerFault head) 0) || firstOther (glue (avpsOf qs) ended) || isFault (judge (commandOf head) (glue (avpsOf qs) ended) nothing)
+faultIn head qs = not (eqb (headerFault (dialectOf cx head) head) 0) || firstOther (glue (avpsOf qs) ended) || isFault (judge (dialectOf cx head) (glue (avpsOf qs) ended) nothing)
 
 -- (d) "kind unknown: with M B5001": the AVP is in Failed-AVP, and the table is as it was
 abbrev pub unsupported : List ℕ → Piece → Decision

@@ -4,17 +4,17 @@ use mathlib.Core.Path.{_≡_, refl, sym, ap, _∙_}
 use mathlib.Core.Bool.{Bool}
 use mathlib.Core.List.{List, [], _∷_}
 use native.Mathlib.Omega.{arith}
-use lib.ListN.{length, take, replicate, length-replicate, List·getD-eq-default}
+use lib.ListN.{length, take, replicate, length-replicate}
 use borrow.Author.Tests.{eq-eqb, ne-eqb}
 use Rattle.octets.specs.Run.{Wrote}
 use Rattle.octets.proofs.Writes.{named, front}
 use Rattle.pen.specs.Bytes.{avpBytes, avpSize, vendorBytes, vendorSize}
 use Rattle.pen.specs.Groups.{failed, failedSize}
 use Rattle.pen.proofs.Groups.{failed-length}
-use Rattle.reading.specs.Kinds.{unknown, known, rowOf}
+use Rattle.reading.specs.Kinds.{rowOf}
 use Rattle.reading.specs.Rules.{isFour}
 use Rattle.reading.specs.Request.{exampleOf, example}
-use Rattle.reading.specs.declared.Content.{Content}
+use Rattle.reading.specs.declared.Kind.{Kind}
 use Rattle.failed.specs.Failing.{sizeOf, sample}
 
 abbrev zeros : List ℕ
@@ -59,20 +59,15 @@ module _ (n : ℕ) (few : n ≤ 4) where
     unfolding sample
     wrote-vendors h w = rw (ne-eqb vendor 0 h) (named (rw (data-is four en)) refl w)
 
--- A number past the last kind's has the row of an unknown kind.
-pub row-past : (k : ℕ) → 17 ≤ k → rowOf 0 ≡ rowOf k
-unfolding rowOf known
-row-past k h = sym (List·getD-eq-default (unknown ∷ known) unknown h)
-
 -- what was written is as long as the writer says
 pub counted : {w b xs : List ℕ} {n : ℕ} → Wrote w b xs n → n ≡ length (take n xs)
 counted p = p .count ∙ sym (ap length (front p))
 
-module _ (k row code vendor : ℕ) (content : Content) (four : Bool) (er : rowOf row ≡ rowOf k) (ec : content ≡ rowOf row .content) (ef : four ≡ isFour content)
-    (eo : code ≡ rowOf row .code) (ev : vendor ≡ rowOf row .vendor) {b xs : List ℕ} {n : ℕ} (p : Wrote (sample code vendor four) b xs n) where
+module _ (k : ℕ) (row : Kind) (four : Bool) (er : row ≡ rowOf k) (ef : four ≡ isFour (row .content)) {b xs : List ℕ} {n : ℕ}
+    (p : Wrote (sample (row .code) (row .vendor) four) b xs n) where
   is-example : take n xs ≡ example k
   unfolding sample example exampleOf
-  is-example = front p ∙ rw (ef, ec, eo, ev, er)
+  is-example = front p ∙ rw (ef, er)
 
   pub example-room : {m : ℕ} → length (failed (example k)) ≤ m → failedSize (length (take n xs)) ≤ m
   example-room r = rw is-example (rw failed-length at r)

@@ -10,7 +10,6 @@ ghost use lib.ListN.{length, take, drop};
 ghost use Rattle.octets.specs.Run.{Wrote};
 ghost use Rattle.diameter.specs.Avp.{avpLen};
 ghost use Rattle.pen.specs.Groups.{failed, failedSize};
-ghost use Rattle.reading.specs.Kinds.{rowOf};
 ghost use Rattle.reading.specs.Request.{example};
 ghost use Rattle.reading.specs.Rules.{failedOf};
 ghost use Rattle.failed.specs.Failing.{headPart, alone, sizeOf, sample};
@@ -95,21 +94,15 @@ fn put_sample(out: &mut [u8], code: u32, vendor: u32, four: bool) -> usize
     pen::put_vendor_avp(out, code, &zeros[..n])
 }
 
-// A kind's number, or that of an unknown kind where there is no such one.
-fn known(k: usize) -> usize
-    ensures { λ r. ⌜ (rowOf r ≡ rowOf k) × (r < 17) ⌝ }
-{
-    if k < 17 { k } else { 0 }
-}
-
 // Failed-AVP with an example of a kind that is missing.
 pub fn put_example(out: &mut [u8], k: usize) -> usize
     requires { ⌜ length (failed (example k)) ≤ length (now out) ⌝ }
     ensures { λ r. ⌜ Wrote (failed (example k)) (now (out .entry)) (now (out .exit)) r ⌝ }
 {
-    let row = known(k);
-    let four = kinds::is_four(kinds::content_of(row));
+    let row = kinds::row_of(k);
+    let content = row.content;
+    let four = kinds::is_four(content);
     let mut bytes = [0u8; 16];
-    let n = put_sample(&mut bytes, kinds::code_of(row), kinds::vendor_of(row), four);
+    let n = put_sample(&mut bytes, row.code, row.vendor, four);
     group::put_failed(out, &bytes[..n])
 }

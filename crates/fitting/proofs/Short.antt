@@ -11,7 +11,8 @@ use Rattle.diameter.specs.Walk.{Walk, ended, faulty, avp, onSound, walkFrom, wa
 use Rattle.pen.proofs.Groups as groups
 use Rattle.reading.specs.Kinds.{kindOf, sessionId, publicIdentity}
 use Rattle.reading.specs.Rules.{Seen, Judged, bad, fine, rule, onRule, judge, failedOf, nothing}
-use Rattle.reading.specs.Request.{commandOf, bodyOf, headerFault, firstOther, missing, complete, readWalk, readRequest, identities}
+use Rattle.reading.specs.Request.{dialectOf, cx, bodyOf, headerFault, firstOther, missing, complete, readWalk, readIn, readRequest, identities}
+use Rattle.reading.specs.declared.Dialect.{Dialect}
 use Rattle.reading.specs.declared.Ruled.{Ruled}
 use Rattle.reading.specs.declared.Ruled.the-variants.{Taken, Skipped, Fault}
 use Rattle.reply.specs.Answer.{failedPart}
@@ -42,29 +43,29 @@ abbrev pub ShortFault : Judged → Type 0
 ShortFault (bad r f) = length (failedPart f) ≤ 16400
 ShortFault (fine seen) = Unit
 
-judge-short : (m : ℕ) → m ≤ 16364 → (command : ℕ) (w : Walk) → Within m w → (seen : Seen) → ShortFault (judge command w seen)
+judge-short : (m : ℕ) → m ≤ 16364 → (dialect : Dialect) (w : Walk) → Within m w → (seen : Seen) → ShortFault (judge dialect w seen)
 unfolding judge
-judge-short m h command ended i seen = tt
-judge-short m h command (faulty t) i seen = holds-short m (failedOf 5014 t) h (omega (arith, fault-length 5014 t))
-judge-short m h command (avp a w) i seen = go (rule command seen a) (judge-short m h command w (i .1))
+judge-short m h dialect ended i seen = tt
+judge-short m h dialect (faulty t) i seen = holds-short m (failedOf 5014 t) h (omega (arith, fault-length 5014 t))
+judge-short m h dialect (avp a w) i seen = go (rule dialect seen a) (judge-short m h dialect w (i .1))
   where
-    go : (x : Ruled) → ((s : Seen) → ShortFault (judge command w s)) → ShortFault (onRule x seen a (judge command w))
+    go : (x : Ruled) → ((s : Seen) → ShortFault (judge dialect w s)) → ShortFault (onRule x seen a (judge dialect w))
     go Taken r = r (set seen (kindOf a) (some a))
     go Skipped r = r seen
     go (Fault n) r = holds-short m (failedOf n a) h (omega (arith, fault-length n a, i .0))
 
 pub read-short : (req : List ℕ) → 20 ≤ length req → length req ≤ 16384 → ShortFault (readRequest req)
-unfolding readRequest readWalk complete walk
+unfolding readIn readWalk complete walk
 read-short req h k =
-    either ShortFault (eqb (headerFault req) 0)
+    either ShortFault (eqb (headerFault (dialectOf cx req) req) 0)
     (either ShortFault (firstOther (bodyOf req)) (omega (arith, example-length sessionId))
-    (go (judge (commandOf req) (bodyOf req) nothing)
-    (judge-short (length (drop 20 req)) (omega (arith, length-drop 20 req)) (commandOf req) (bodyOf req) (walk-within (length (drop 20 req)) 0 (drop 20 req) (omega arith)) nothing)))
+    (go (judge (dialectOf cx req) (bodyOf req) nothing)
+    (judge-short (length (drop 20 req)) (omega (arith, length-drop 20 req)) (dialectOf cx req) (bodyOf req) (walk-within (length (drop 20 req)) 0 (drop 20 req) (omega arith)) nothing)))
     (omega arith)
   where
-    go : (j : Judged) → ShortFault j → ShortFault (complete (commandOf req) j)
+    go : (j : Judged) → ShortFault j → ShortFault (complete (dialectOf cx req) j)
     go (bad r f) s = s
-    go (fine seen) s = either ShortFault (eqb (missing (commandOf req) seen) 0) tt (omega (arith, example-length (missing (commandOf req) seen)))
+    go (fine seen) s = either ShortFault (eqb (missing (dialectOf cx req) seen) 0) tt (omega (arith, example-length (missing (dialectOf cx req) seen)))
 
 -- So are a SAR's identities.
 abbrev pub AllShort : ℕ → List (List ℕ) → Type 0

@@ -1,60 +1,76 @@
 -- The table of kinds read by its columns, and a kind's number by its vendor and code.
-use Prim.Native.Nat.{ℕ, _+_, _<_, _≤_}
-use mathlib.Core.Path.{_≡_, refl, sym, _∙_}
-use mathlib.Core.List.{List, _∷_, map}
-use mathlib.Core.Bool.{Bool, true, false, _||_, and-false, true≢false}
-use lib.ListN.{getD, List·getD-map}
-use lib.Dec.{eqb}
+use Prim.Native.Nat.{ℕ, zero, suc, _<_, _≤_}
+use native.Mathlib.Omega.{arith}
+use mathlib.Core.Path.{_≡_, sym, _∙_}
+use mathlib.Core.List.{List, _∷_}
+use mathlib.Core.Bool.{and-false}
+use lib.ListN.{List·getD-eq-default}
 use borrow.Author.Tests.{ne-eqb, le-leb, lt-leb}
-use Rattle.octets.specs.All.{allBelow}
-use Rattle.octets.proofs.All.{all-at}
 use Rattle.diameter.specs.Avp.{avpCode, vendorOf}
 use Rattle.diameter.specs.Reader.{ownOf, Here}
 use Rattle.diameter.specs.declared.Avp.{Avp}
 use Rattle.diameter.proofs.Reading.{own-flags}
-use Rattle.reading.specs.declared.Content.{Content}
-use Rattle.reading.specs.declared.Content.the-variants.{Free, Number, Sized, Application}
+use Rattle.reading.specs.declared.Dialect.{Dialect}
+use Rattle.reading.specs.declared.Kind.{Kind}
 use Rattle.reading.specs.declared.Use.{Use}
-use Rattle.reading.specs.Kinds.{Kind, known, unknown, kindFrom, kindBy, kindOf, rowOf, useIn}
+use Rattle.reading.specs.Kinds.{
+  kinds,
+  known,
+  unknown,
+  rowOf,
+  kindFrom,
+  kindBy,
+  kindOf,
+  useIn,
+  sessionId,
+  application,
+  sessionState,
+  originHost,
+  originRealm,
+  destinationRealm,
+  userName,
+  publicIdentity,
+  visitedNetwork,
+  serverName,
+  assignmentType,
+  dataAvailable,
+  authorizationType,
+  destinationHost,
+  proxyInfo,
+  routeRecord,
+}
 
--- a column of the table, read at a kind's number
-pub column : {Y : Type 0} (f : Kind → Y) (k : ℕ) → getD (map f (unknown ∷ known)) k (f unknown) ≡ f (rowOf k)
-unfolding rowOf
-column f k = List·getD-map f (unknown ∷ known) k unknown
-
-module _ (command k : ℕ) {u : Use} where
-  pub in-uar : command ≡ 300 → u ≡ rowOf k .uar → u ≡ useIn command (rowOf k)
+-- the columns of the table
+module _ (d : Dialect) (k : Kind) where
+  pub in-uar : d .command ≡ 300 → k .uar ≡ useIn d k
   unfolding useIn
-  in-uar e d = rw e d
+  in-uar e = rw e
 
-  pub in-sar : (command ≡ 300 → ⊥) → command ≡ 301 → u ≡ rowOf k .sar → u ≡ useIn command (rowOf k)
+  pub in-sar : (d .command ≡ 300 → ⊥) → d .command ≡ 301 → k .sar ≡ useIn d k
   unfolding useIn
-  in-sar h e d = rw e d
+  in-sar h e = rw e
 
-  pub in-lir : (command ≡ 300 → ⊥) → (command ≡ 301 → ⊥) → u ≡ rowOf k .lir → u ≡ useIn command (rowOf k)
+  pub in-lir : (d .command ≡ 300 → ⊥) → (d .command ≡ 301 → ⊥) → k .lir ≡ useIn d k
   unfolding useIn
-  in-lir h g d = rw (ne-eqb _ _ h, ne-eqb _ _ g) d
+  in-lir h g = rw (ne-eqb _ _ h, ne-eqb _ _ g)
 
--- the kinds whose content is judged; that of every other is free
-abbrev isFree : Content → Bool
-isFree Free = true
-isFree (Number a b) = false
-isFree (Sized a b) = false
-isFree Application = false
+-- the row of a number, and of a number that is no known kind's
+pub row-is : (n k : ℕ) {r : Kind} → k ≡ n → r ≡ rowOf n → r ≡ rowOf k
+row-is n k e d = d ∙ rw e
 
-free-is : (c : Content) → isFree c ≡ true → Free ≡ c
-free-is Free e = refl
-free-is (Number a b) e = absurd (true≢false (sym e))
-free-is (Sized a b) e = absurd (true≢false (sym e))
-free-is Application e = absurd (true≢false (sym e))
+above : (n k : ℕ) → n ≤ k → (k ≡ n → ⊥) → suc n ≤ k
+above n k h e = omega arith
 
-freeBut : ℕ → Bool
-freeBut k = eqb k 2 || (eqb k 3 || (eqb k 10 || (eqb k 11 || (eqb k 12 || (eqb k 13 || isFree (rowOf k .content))))))
-
-pub free-others : (k : ℕ) → k < 17 → (k ≡ 2 → ⊥) → (k ≡ 3 → ⊥) → (k ≡ 10 → ⊥) → (k ≡ 11 → ⊥) → (k ≡ 12 → ⊥) → (k ≡ 13 → ⊥) → Free ≡ rowOf k .content
-unfolding freeBut rowOf known allBelow
-free-others k h a b c d e f =
-    free-is (rowOf k .content) (rw (ne-eqb k 2 a, ne-eqb k 3 b, ne-eqb k 10 c, ne-eqb k 11 d, ne-eqb k 12 e, ne-eqb k 13 f) at (all-at freeBut 17 refl k h))
+pub row-past : (k : ℕ) {r : Kind} → r ≡ unknown → (k ≡ sessionId → ⊥) → (k ≡ application → ⊥) → (k ≡ sessionState → ⊥) → (k ≡ originHost → ⊥) → (k ≡ originRealm → ⊥)
+    → (k ≡ destinationRealm → ⊥) → (k ≡ userName → ⊥) → (k ≡ publicIdentity → ⊥) → (k ≡ visitedNetwork → ⊥) → (k ≡ serverName → ⊥) → (k ≡ assignmentType → ⊥)
+    → (k ≡ dataAvailable → ⊥) → (k ≡ authorizationType → ⊥) → (k ≡ destinationHost → ⊥) → (k ≡ proxyInfo → ⊥) → (k ≡ routeRecord → ⊥) → r ≡ rowOf k
+unfolding rowOf known
+row-past zero e a b c d f g h i j k' l m n o p q = e
+row-past (suc k) e a b c d f g h i j k' l m n o p q =
+    let low : suc destinationRealm ≤ suc k = above destinationRealm (suc k) (above originRealm (suc k) (above originHost (suc k) (above sessionState (suc k) (above application (suc k) (above sessionId (suc k) (omega arith) a) b) c) d) f) g in
+    let middle : suc assignmentType ≤ suc k = above assignmentType (suc k) (above serverName (suc k) (above visitedNetwork (suc k) (above publicIdentity (suc k) (above userName (suc k) low h) i) j) k') l in
+    let past : kinds ≤ suc k = above routeRecord (suc k) (above proxyInfo (suc k) (above destinationHost (suc k) (above authorizationType (suc k) (above dataAvailable (suc k) middle m) n) o) p) q in
+    e ∙ sym (List·getD-eq-default (unknown ∷ known) unknown past)
 
 -- a code that is none of them
 pub base-none : (code : ℕ) → (code ≡ 263 → ⊥) → (code ≡ 260 → ⊥) → (code ≡ 277 → ⊥) → (code ≡ 264 → ⊥) → (code ≡ 296 → ⊥) → (code ≡ 283 → ⊥) → (code ≡ 1 → ⊥)

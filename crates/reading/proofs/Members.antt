@@ -32,14 +32,15 @@ module _ (s : List ℕ) (a : Avp) (h : Here s a) (code value : ℕ) where
       rw (own-flags s a h, counted s a h, eq-eqb _ _ e, ← ec, b, and-true)
 
 -- the members from a place on are judged as the whole is
-module _ (s : List ℕ) (at : ℕ) (r : Read) (e : r ≡ readOf at (drop at s)) (vendor app whole : Bool) (left : members (walk (drop at s)) vendor app ≡ whole) where
+module _ (s : List ℕ) (at : ℕ) (r : Read) (e : r ≡ readOf at (drop at s)) (application : ℕ) (vendor app whole : Bool)
+    (left : members application (walk (drop at s)) vendor app ≡ whole) where
   module _ (a : Avp) (d : r ≡ read.Avp a) {x : Bool} (m : x ≡ isMember (ownOf s a) 266 10415) where
-    pub members-vendor : x ≡ true → members (walk (drop (a .next) s)) true app ≡ whole
+    pub members-vendor : x ≡ true → members application (walk (drop (a .next) s)) true app ≡ whole
     unfolding members
     members-vendor t = rw (read-says s at r e a d .walked, ← m, t) at left
 
-    module _ (f : x ≡ false) {y : Bool} (n : y ≡ isMember (ownOf s a) 258 16777216) where
-      pub members-application : (y && not app) ≡ true → members (walk (drop (a .next) s)) vendor true ≡ whole
+    module _ (f : x ≡ false) {y : Bool} (n : y ≡ isMember (ownOf s a) 258 application) where
+      pub members-application : (y && not app) ≡ true → members application (walk (drop (a .next) s)) vendor true ≡ whole
       unfolding members
       members-application t = rw (read-says s at r e a d .walked, ← m, f, ← n, t) at left
 
@@ -51,6 +52,6 @@ module _ (s : List ℕ) (at : ℕ) (r : Read) (e : r ≡ readOf at (drop at s)) 
   unfolding members
   members-cut h d = rw (read-fault-says s at r e h d) at left
 
-pub members-end : (s : List ℕ) (at : ℕ) (vendor app whole : Bool) → members (walk (drop at s)) vendor app ≡ whole → length s ≤ at → (vendor && app) ≡ whole
+pub members-end : (s : List ℕ) (at application : ℕ) (vendor app whole : Bool) → members application (walk (drop at s)) vendor app ≡ whole → length s ≤ at → (vendor && app) ≡ whole
 unfolding members
-members-end s at vendor app whole left h = rw (walk-past s at h) at left
+members-end s at application vendor app whole left h = rw (walk-past s at h) at left

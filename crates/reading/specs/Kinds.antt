@@ -1,4 +1,4 @@
--- "Known, vendor 0 without V: .. With V and 10415: .." and "Needed everywhere: ..": one table.
+-- "Known, vendor 0 without V: .. With V and 10415: .." and "Needed everywhere: ..": one table, with a column for each command.
 use Prim.Native.Nat.{ℕ, suc}
 use mathlib.Core.Bool.{Bool, true, false, cond, _&&_}
 use mathlib.Core.List.{List, [], _∷_}
@@ -7,16 +7,10 @@ use lib.Dec.{eqb, leb, ltb}
 use Rattle.diameter.specs.Avp.{avpFlags, avpCode, vendorOf}
 use Rattle.reading.specs.declared.Content.{Content}
 use Rattle.reading.specs.declared.Content.the-variants.{Free, Number, Sized, Application}
+use Rattle.reading.specs.declared.Dialect.{Dialect}
+use Rattle.reading.specs.declared.Kind.{Kind}
 use Rattle.reading.specs.declared.Use.{Use}
-use Rattle.reading.specs.declared.Use.the-variants.{Unnamed, Needed, Optional, Repeated}
-
-pub record Kind : Type 0 where
-  pub code : ℕ
-  pub vendor : ℕ
-  pub content : Content
-  pub uar : Use
-  pub sar : Use
-  pub lir : Use
+use Rattle.reading.specs.declared.Use.the-variants.{Unknown, Unnamed, Needed, Optional, Repeated}
 
 abbrev pub row : ℕ → ℕ → Content → Use → Use → Use → Kind
 row code vendor content uar sar lir = record { code = code; vendor = vendor; content = content; uar = uar; sar = sar; lir = lir }
@@ -42,9 +36,36 @@ known =
     ∷ row 282 0 Free Repeated Repeated Repeated
     ∷ []
 
--- the numbers of kinds that the decisions and the answer name
+-- Number 0 is the unknown kind's, which is so in every command.
+abbrev pub unknown : Kind
+unknown = row 0 0 Free Unknown Unknown Unknown
+
+-- how many kinds there are, the unknown one among them
+abbrev pub kinds : ℕ
+kinds = 17
+
+-- the row of a kind's number; that of a number past the last one's is the unknown kind's
+unfoldable pub rowOf : ℕ → Kind
+rowOf n = getD (unknown ∷ known) n unknown
+
+-- the kinds' numbers
 abbrev pub sessionId : ℕ
 sessionId = 1
+
+abbrev pub application : ℕ
+application = 2
+
+abbrev pub sessionState : ℕ
+sessionState = 3
+
+abbrev pub originHost : ℕ
+originHost = 4
+
+abbrev pub originRealm : ℕ
+originRealm = 5
+
+abbrev pub destinationRealm : ℕ
+destinationRealm = 6
 
 abbrev pub userName : ℕ
 userName = 7
@@ -67,8 +88,14 @@ dataAvailable = 12
 abbrev pub authorizationType : ℕ
 authorizationType = 13
 
+abbrev pub destinationHost : ℕ
+destinationHost = 14
+
 abbrev pub proxyInfo : ℕ
 proxyInfo = 15
+
+abbrev pub routeRecord : ℕ
+routeRecord = 16
 
 -- "kind (vendor, code)": vendor 0 is without V, and "V with vendor 0 is an unknown kind"
 abbrev pub isKind : Kind → ℕ → ℕ → ℕ → Bool
@@ -85,31 +112,16 @@ kindBy flags vendor code = kindFrom known 1 flags vendor code
 abbrev pub kindOf : List ℕ → ℕ
 kindOf a = kindBy (avpFlags a) (vendorOf a) (avpCode a)
 
--- the row of a kind number; that of an unknown kind is empty
-abbrev pub unknown : Kind
-unknown = row 0 0 Free Unnamed Unnamed Unnamed
+-- what a dialect makes of a kind, by its command: UAR 300, SAR 301, LIR 302; and of an AVP
+unfoldable pub useIn : Dialect → Kind → Use
+useIn d k = cond (eqb (d .command) 300) (k .uar) (cond (eqb (d .command) 301) (k .sar) (k .lir))
 
-unfoldable pub rowOf : ℕ → Kind
-rowOf n = getD (unknown ∷ known) n unknown
-
--- what a command makes of a kind: UAR 300, SAR 301, LIR 302
-unfoldable pub useIn : ℕ → Kind → Use
-useIn command k = cond (eqb command 300) (k .uar) (cond (eqb command 301) (k .sar) (k .lir))
-
-abbrev pub isUnnamed : Use → Bool
-isUnnamed Unnamed = true
-isUnnamed Needed = false
-isUnnamed Optional = false
-isUnnamed Repeated = false
+abbrev pub useOf : Dialect → List ℕ → Use
+useOf d a = useIn d (rowOf (kindOf a))
 
 abbrev pub isNeeded : Use → Bool
+isNeeded Unknown = false
 isNeeded Unnamed = false
 isNeeded Needed = true
 isNeeded Optional = false
 isNeeded Repeated = false
-
-abbrev pub isRepeated : Use → Bool
-isRepeated Unnamed = false
-isRepeated Needed = false
-isRepeated Optional = false
-isRepeated Repeated = true

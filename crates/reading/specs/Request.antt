@@ -2,28 +2,44 @@
 use Prim.Native.Nat.{ℕ, suc, _/_, _%_}
 use mathlib.Core.List.{List, [], _∷_}
 use mathlib.Core.Option.{Option, none, some}
-use mathlib.Core.Bool.{Bool, false, cond, not, _&&_, _||_}
+use mathlib.Core.Bool.{Bool, false, cond, not, _&&_}
 use lib.ListN.{getD, drop, replicate}
-use lib.Dec.{eqb, ltb}
+use lib.Dec.{eqb, leb}
 use Rattle.octets.specs.Number.{be24At, be32At}
 use Rattle.diameter.specs.Avp.{dataOf, valueOf, avpFlags, reserved}
 use Rattle.diameter.specs.Walk.{Walk, ended, faulty, avp, walk}
 use Rattle.diameter.specs.Reader.{present}
 use Rattle.pen.specs.Bytes.{avpBytes, vendorBytes}
+use Rattle.reading.specs.declared.Dialect.{Dialect}
+use Rattle.reading.specs.declared.Kind.{Kind}
 use Rattle.reading.specs.declared.Outcome.the-variants.{Base}
-use Rattle.reading.specs.Kinds.{Kind, known, kindOf, rowOf, useIn, isNeeded, sessionId, publicIdentity}
+use Rattle.reading.specs.Kinds.{known, kindOf, rowOf, useIn, isNeeded, sessionId, publicIdentity}
 use Rattle.reading.specs.Rules.{Seen, Judged, bad, fine, isFour, nothing, judge}
 
 abbrev pub commandOf : List ℕ → ℕ
 commandOf req = be24At req 5
 
+abbrev pub applicationOf : List ℕ → ℕ
+applicationOf req = be32At req 8
+
+-- the dialect of a request to the server of an application; the application Cx
+abbrev pub dialectOf : ℕ → List ℕ → Dialect
+dialectOf application req = record { command = commandOf req; application = application }
+
+abbrev pub cx : ℕ
+cx = 16777216
+
+-- whether the application has the command: 300 to 302 are Cx's
+abbrev pub spoken : Dialect → Bool
+spoken d = eqb (d .application) cx && leb 300 (d .command) && leb (d .command) 302
+
 -- "Header, in order: version not 1, B5011; E bit set, B3008; command not 300 to 302, B3001; application not 16777216, B3007." 0: no fault
-unfoldable pub headerFault : List ℕ → ℕ
-headerFault req =
+unfoldable pub headerFault : Dialect → List ℕ → ℕ
+headerFault d req =
     cond (not (eqb (getD req 0 0) 1)) 5011
     (cond (eqb (getD req 4 0 / 32 % 2) 1) 3008
-    (cond (ltb (commandOf req) 300 || ltb 302 (commandOf req)) 3001
-    (cond (not (eqb (be32At req 8) 16777216)) 3007
+    (cond (not (spoken d)) 3001
+    (cond (not (eqb (applicationOf req) (d .application))) 3007
     0)))
 
 -- "for B5005 an example with zero data, 4 bytes for 4-byte kinds, else none"
@@ -42,30 +58,34 @@ firstOther ended = false
 firstOther (faulty t) = false
 firstOther (avp a w) = not (eqb (kindOf a) sessionId)
 
--- the first kind that the command needs and that did not come, 0 where all came
-unfoldable pub missingFrom : ℕ → Seen → List Kind → ℕ → ℕ
-missingFrom command seen [] n = 0
-missingFrom command seen (k ∷ ks) n =
-    cond (isNeeded (useIn command k) && not (present (getD seen n none))) n
-    (missingFrom command seen ks (suc n))
+-- the first kind that the dialect needs and that did not come, 0 where all came
+unfoldable pub missingFrom : Dialect → Seen → List Kind → ℕ → ℕ
+missingFrom d seen [] n = 0
+missingFrom d seen (k ∷ ks) n =
+    cond (isNeeded (useIn d k) && not (present (getD seen n none))) n
+    (missingFrom d seen ks (suc n))
 
-unfoldable pub missing : ℕ → Seen → ℕ
-missing command seen = missingFrom command seen known 1
+unfoldable pub missing : Dialect → Seen → ℕ
+missing d seen = missingFrom d seen known 1
 
 -- "After the walk, the first missing AVP in the order below: B5005. With no AVPs, Session-Id is missing."
-unfoldable pub complete : ℕ → Judged → Judged
-complete command (bad r f) = bad r f
-complete command (fine seen) = cond (eqb (missing command seen) 0) (fine seen) (bad (Base 5005) (some (example (missing command seen))))
+unfoldable pub complete : Dialect → Judged → Judged
+complete d (bad r f) = bad r f
+complete d (fine seen) = cond (eqb (missing d seen) 0) (fine seen) (bad (Base 5005) (some (example (missing d seen))))
 
-unfoldable pub readWalk : ℕ → Walk → Judged
-readWalk command w = cond (firstOther w) (bad (Base 5005) (some (example sessionId))) (complete command (judge command w nothing))
+unfoldable pub readWalk : Dialect → Walk → Judged
+readWalk d w = cond (firstOther w) (bad (Base 5005) (some (example sessionId))) (complete d (judge d w nothing))
 
 -- the body's AVPs
 abbrev pub bodyOf : List ℕ → Walk
 bodyOf req = walk (drop 20 req)
 
-unfoldable pub readRequest : List ℕ → Judged
-readRequest req = cond (eqb (headerFault req) 0) (readWalk (commandOf req) (bodyOf req)) (bad (Base (headerFault req)) none)
+-- a request read in a dialect; a request to the Cx server
+unfoldable pub readIn : Dialect → List ℕ → Judged
+readIn d req = cond (eqb (headerFault d req) 0) (readWalk d (bodyOf req)) (bad (Base (headerFault d req)) none)
+
+abbrev pub readRequest : List ℕ → Judged
+readRequest req = readIn (dialectOf cx req) req
 
 -- What a read request says: whether an AVP of a kind came, its data, its number
 abbrev pub given : Seen → ℕ → Bool

@@ -11,11 +11,14 @@ use Rattle.diameter.specs.Walk.{Walk, ended, faulty, avp, walk}
 use Rattle.diameter.specs.Reader.{present}
 use Rattle.reading.specs.declared.Content.{Content}
 use Rattle.reading.specs.declared.Content.the-variants.{Free, Number, Sized, Application}
+use Rattle.reading.specs.declared.Dialect.{Dialect}
 use Rattle.reading.specs.declared.Outcome.{Outcome}
 use Rattle.reading.specs.declared.Outcome.the-variants.{Base}
 use Rattle.reading.specs.declared.Ruled.{Ruled}
 use Rattle.reading.specs.declared.Ruled.the-variants.{Taken, Skipped, Fault}
-use Rattle.reading.specs.Kinds.{kindOf, rowOf, useIn, isUnnamed, isRepeated}
+use Rattle.reading.specs.declared.Use.{Use}
+use Rattle.reading.specs.declared.Use.the-variants.{Unknown, Unnamed, Needed, Optional, Repeated}
+use Rattle.reading.specs.Kinds.{kinds, kindOf, rowOf, useOf}
 
 -- "260 holds, in any order, one or more Vendor-Id 266, each 10415, and one Auth-Application-Id 258 of 16777216, all 4-byte AVPs passing (a) and (c),
 -- without V, and no other"
@@ -23,52 +26,66 @@ unfoldable pub isMember : List ℕ → ℕ → ℕ → Bool
 isMember m code value = eqb (reserved (avpFlags m)) 0 && ltb (avpFlags m) 128 && eqb (length m) 12 && eqb (avpCode m) code && eqb (be32At m 8) value
 
 -- the members still to come, when a vendor and the application were seen or not
-unfoldable pub members : Walk → Bool → Bool → Bool
-members ended vendor app = vendor && app
-members (faulty t) vendor app = false
-members (avp m w) vendor app =
-    cond (isMember m 266 10415) (members w true app)
-    (cond (isMember m 258 16777216 && not app) (members w vendor true)
+unfoldable pub members : ℕ → Walk → Bool → Bool → Bool
+members application ended vendor app = vendor && app
+members application (faulty t) vendor app = false
+members application (avp m w) vendor app =
+    cond (isMember m 266 10415) (members application w true app)
+    (cond (isMember m 258 application && not app) (members application w vendor true)
     false)
 
--- (g) "a 4-byte kind of another length"; (h) "bad content"
+-- The fault of what an AVP holds, 0 where there is none: (g) "a 4-byte kind of another length: B5014", (h) "bad content: B5004"
 abbrev pub isFour : Content → Bool
 isFour Free = false
 isFour (Number least most) = true
 isFour (Sized least most) = false
 isFour Application = false
 
-unfoldable pub goodContent : Content → List ℕ → Bool
-goodContent Free a = true
-goodContent (Number least most) a = leb least (valueOf a) && leb (valueOf a) most
-goodContent (Sized least most) a = leb least (length (dataOf a)) && leb (length (dataOf a)) most
-goodContent Application a = members (walk (dataOf a)) false false
+abbrev pub faultUnless : Bool → ℕ → ℕ
+faultUnless good n = cond good 0 n
+
+unfoldable pub numberFault : ℕ → ℕ → List ℕ → ℕ
+numberFault least most a =
+    cond (not (eqb (length a) (avpHead a + 4))) 5014
+    (faultUnless (leb least (valueOf a) && leb (valueOf a) most) 5004)
+
+unfoldable pub contentFault : Dialect → Content → List ℕ → ℕ
+contentFault d Free a = 0
+contentFault d (Number least most) a = numberFault least most a
+contentFault d (Sized least most) a = faultUnless (leb least (length (dataOf a)) && leb (length (dataOf a)) most) 5004
+contentFault d Application a = faultUnless (members (d .application) (walk (dataOf a)) false false) 5004
 
 -- The state of the walk: for each kind number, the last AVP of it that was taken
 abbrev pub Seen : Type 0
 Seen = List (Option (List ℕ))
 
 unfoldable pub nothing : Seen
-nothing = replicate 17 none
+nothing = replicate kinds none
 
--- (d) "kind (vendor, code) unknown: with M B5001, else skipped"
-abbrev pub strange : ℕ → Ruled
-strange flags = cond (marked flags) (Fault 5001) Skipped
+-- (d) "kind (vendor, code) unknown: with M B5001, else skipped"; (f) "too often: B5009"; (g) and (h)
+abbrev pub ofUnknown : ℕ → Ruled
+ofUnknown flags = cond (marked flags) (Fault 5001) Skipped
 
--- What (c) to (h) say of one AVP of kind k
-unfoldable pub ruleBy : ℕ → Bool → ℕ → ℕ → Bool → Bool → Ruled
-ruleBy command earlier k flags four good =
-    cond (not (eqb (reserved flags) 0)) (Fault 3009)
-    (cond (eqb k 0) (strange flags)
-    (cond (isUnnamed (useIn command (rowOf k))) Skipped
-    (cond (earlier && not (isRepeated (useIn command (rowOf k)))) (Fault 5009)
-    (cond (isFour (rowOf k .content) && not four) (Fault 5014)
-    (cond (not good) (Fault 5004)
-    Taken)))))
+abbrev pub ofContent : ℕ → Ruled
+ofContent fault = cond (eqb fault 0) Taken (Fault fault)
 
-unfoldable pub rule : ℕ → Seen → List ℕ → Ruled
-rule command seen a =
-    ruleBy command (present (getD seen (kindOf a) none)) (kindOf a) (avpFlags a) (eqb (length a) (avpHead a + 4)) (goodContent (rowOf (kindOf a) .content) a)
+abbrev pub ofOnce : Bool → ℕ → Ruled
+ofOnce earlier fault = cond earlier (Fault 5009) (ofContent fault)
+
+-- "M is ignored on known kinds"; (e) "known but not named in this command: skipped"
+abbrev pub ofUse : Use → Bool → ℕ → ℕ → Ruled
+ofUse Unknown earlier flags fault = ofUnknown flags
+ofUse Unnamed earlier flags fault = Skipped
+ofUse Needed earlier flags fault = ofOnce earlier fault
+ofUse Optional earlier flags fault = ofOnce earlier fault
+ofUse Repeated earlier flags fault = ofContent fault
+
+-- What (c) to (h) say of one AVP, by its kind's use, by whether one of its kind came earlier, by its flags and by the fault of what it holds
+unfoldable pub ruleBy : Use → Bool → ℕ → ℕ → Ruled
+ruleBy u earlier flags fault = cond (not (eqb (reserved flags) 0)) (Fault 3009) (ofUse u earlier flags fault)
+
+unfoldable pub rule : Dialect → Seen → List ℕ → Ruled
+rule d seen a = ruleBy (useOf d a) (present (getD seen (kindOf a) none)) (avpFlags a) (contentFault d (rowOf (kindOf a) .content) a)
 
 -- "Failed-AVP holds the faulty top-level AVP; for B5014 its header alone with the length set to 8 or 12, and a 279 without data if that header is cut off"
 unfoldable pub failedOf : ℕ → List ℕ → List ℕ
@@ -87,7 +104,7 @@ onRule Taken seen a next = next (set seen (kindOf a) (some a))
 onRule Skipped seen a next = next seen
 onRule (Fault n) seen a next = bad (Base n) (some (failedOf n a))
 
-unfoldable pub judge : ℕ → Walk → Seen → Judged
-judge command ended seen = fine seen
-judge command (faulty t) seen = bad (Base 5014) (some (failedOf 5014 t))
-judge command (avp a w) seen = onRule (rule command seen a) seen a (judge command w)
+unfoldable pub judge : Dialect → Walk → Seen → Judged
+judge d ended seen = fine seen
+judge d (faulty t) seen = bad (Base 5014) (some (failedOf 5014 t))
+judge d (avp a w) seen = onRule (rule d seen a) seen a (judge d w)

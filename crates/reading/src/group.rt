@@ -28,11 +28,11 @@ fn is_member(s: &[u8], a: Avp, code: u32, value: u32) -> bool
 }
 
 // "one or more Vendor-Id 266, each 10415, and one Auth-Application-Id 258 of 16777216 .. and no other"
-pub fn application_ok(s: &[u8]) -> bool
-    ensures { λ r. ⌜ r ≡ members (walk (now (s .entry))) false false ⌝ }
+pub fn application_ok(application: u32, s: &[u8]) -> bool
+    ensures { λ r. ⌜ r ≡ members application (walk (now (s .entry))) false false ⌝ }
 {
     let mut vendor = false;
-    let mut application = false;
+    let mut named = false;
     let mut at = 0;
     while at < s.len() {
         let Read::Avp(a) = diameter::read_avp(s, at) else {
@@ -41,13 +41,13 @@ pub fn application_ok(s: &[u8]) -> bool
         if is_member(s, a, VENDOR_ID, crate::VENDOR) {
             vendor = true;
         } else {
-            if is_member(s, a, AUTH_APPLICATION_ID, crate::CX) & !application {
-                application = true;
+            if is_member(s, a, AUTH_APPLICATION_ID, application) & !named {
+                named = true;
             } else {
                 return false;
             }
         }
         at = a.next;
     }
-    vendor & application
+    vendor & named
 }

@@ -1,11 +1,13 @@
 // The known kinds of AVPs. A kind's number is its place in the order in which a missing one is looked for; 0 is an unknown kind.
 use crate::Content;
+use crate::Dialect;
+use crate::Kind;
 use crate::Use;
 use diameter::Avp;
 ghost use mathlib.Core.Path.{_≡_};
 ghost use Prim.Native.Nat.{_<_};
 ghost use Rattle.diameter.specs.Reader.{ownOf, Here};
-ghost use Rattle.reading.specs.Kinds.{kindBy, kindOf, rowOf, useIn, isUnnamed, isNeeded, isRepeated};
+ghost use Rattle.reading.specs.Kinds.{kinds, row, kindBy, kindOf, rowOf, useIn, isNeeded};
 ghost use Rattle.reading.specs.Rules.{isFour};
 
 pub const SESSION_ID: usize = 1;
@@ -40,7 +42,12 @@ pub const PROXY_INFO: usize = 15;
 
 pub const ROUTE_RECORD: usize = 16;
 
-// "Needed everywhere: .. UAR then .. SAR .. LIR ..": what each command makes of the kinds, by their numbers.
+// How many kinds there are, the unknown one among them.
+pub const KINDS: usize = 17;
+
+// The uses, as the table's columns have them.
+const X: Use = Use::Unknown;
+
 const U: Use = Use::Unnamed;
 
 const N: Use = Use::Needed;
@@ -49,70 +56,51 @@ const O: Use = Use::Optional;
 
 const R: Use = Use::Repeated;
 
-const IN_UAR: [Use; 17] = [U, N, N, N, N, N, N, N, N, N, U, U, U, O, O, R, R];
+// The limits of a Server-Name: those of a record's.
+const SERVER: Content = Content::Sized(1, 96);
 
-const IN_SAR: [Use; 17] = [U, N, N, N, N, N, N, O, R, U, N, N, N, U, O, R, R];
-
-const IN_LIR: [Use; 17] = [U, N, N, N, N, N, N, U, N, U, U, U, U, U, O, R, R];
-
-// The kinds' codes and vendors.
-const CODES: [u32; 17] = [
-    0,
-    263,
-    260,
-    277,
-    264,
-    296,
-    283,
-    1,
-    601,
-    600,
-    602,
-    614,
-    624,
-    623,
-    293,
-    284,
-    282,
-];
-
-const VENDORS: [u32; 17] = [
-    0,
-    0,
-    0,
-    0,
-    0,
-    0,
-    0,
-    0,
-    10415,
-    10415,
-    10415,
-    10415,
-    10415,
-    10415,
-    0,
-    0,
-    0,
-];
-
-pub fn code_of(k: usize) -> u32
-    requires { ⌜ k < 17 ⌝ }
-    ensures { λ r. ⌜ r ≡ rowOf k .code ⌝ }
+// A row of the table: code, vendor, content, and the use in a UAR, in a SAR and in a LIR.
+fn row(code: u32, vendor: u32, content: Content, uar: Use, sar: Use, lir: Use) -> Kind
+    ensures { λ r. ⌜ r ≡ row code vendor content uar sar lir ⌝ }
 {
-    CODES[k]
+    Kind {
+        code,
+        vendor,
+        content,
+        uar,
+        sar,
+        lir,
+    }
 }
 
-pub fn vendor_of(k: usize) -> u32
-    requires { ⌜ k < 17 ⌝ }
-    ensures { λ r. ⌜ r ≡ rowOf k .vendor ⌝ }
+// "Known, vendor 0 without V: .. With V and 10415: .." and "Needed everywhere: .. UAR then .. SAR .. LIR ..": the row of a kind.
+pub fn row_of(k: usize) -> Kind
+    ensures { λ r. ⌜ r ≡ rowOf k ⌝ }
 {
-    VENDORS[k]
+    match k {
+        SESSION_ID => row(263, 0, Content::Free, N, N, N),
+        APPLICATION => row(260, 0, Content::Application, N, N, N),
+        SESSION_STATE => row(277, 0, Content::Number(1, 1), N, N, N),
+        ORIGIN_HOST => row(264, 0, Content::Free, N, N, N),
+        ORIGIN_REALM => row(296, 0, Content::Free, N, N, N),
+        DESTINATION_REALM => row(283, 0, Content::Free, N, N, N),
+        USER_NAME => row(1, 0, Content::Free, N, O, U),
+        PUBLIC_IDENTITY => row(601, crate::VENDOR, Content::Free, N, R, N),
+        VISITED_NETWORK => row(600, crate::VENDOR, Content::Free, N, U, U),
+        SERVER_NAME => row(602, crate::VENDOR, SERVER, U, N, U),
+        ASSIGNMENT_TYPE => row(614, crate::VENDOR, Content::Number(0, 11), U, N, U),
+        DATA_AVAILABLE => row(624, crate::VENDOR, Content::Number(0, 1), U, N, U),
+        AUTHORIZATION_TYPE => row(623, crate::VENDOR, Content::Number(0, 2), O, U, U),
+        DESTINATION_HOST => row(293, 0, Content::Free, O, O, O),
+        PROXY_INFO => row(284, 0, Content::Free, R, R, R),
+        ROUTE_RECORD => row(282, 0, Content::Free, R, R, R),
+        _ => row(0, 0, Content::Free, X, X, X),
+    }
 }
 
 // "Known, vendor 0 without V"
 fn base_kind(code: u32) -> usize
-    ensures { λ r. ⌜ (r ≡ kindBy 0 0 code) × (r < 17) ⌝ }
+    ensures { λ r. ⌜ (r ≡ kindBy 0 0 code) × (r < kinds) ⌝ }
 {
     match code {
         263 => SESSION_ID,
@@ -131,7 +119,7 @@ fn base_kind(code: u32) -> usize
 
 // "With V and 10415"
 fn vendor_kind(code: u32) -> usize
-    ensures { λ r. ⌜ (r ≡ kindBy 128 10415 code) × (r < 17) ⌝ }
+    ensures { λ r. ⌜ (r ≡ kindBy 128 10415 code) × (r < kinds) ⌝ }
 {
     match code {
         601 => PUBLIC_IDENTITY,
@@ -146,7 +134,7 @@ fn vendor_kind(code: u32) -> usize
 
 // The number of a kind. "V with vendor 0 is an unknown kind."
 pub fn kind_by(flags: u8, vendor: u32, code: u32) -> usize
-    ensures { λ r. ⌜ (r ≡ kindBy flags vendor code) × (r < 17) ⌝ }
+    ensures { λ r. ⌜ (r ≡ kindBy flags vendor code) × (r < kinds) ⌝ }
 {
     if flags < diameter::V_FLAG {
         return base_kind(code);
@@ -160,71 +148,33 @@ pub fn kind_by(flags: u8, vendor: u32, code: u32) -> usize
 // The kind of an AVP.
 pub fn kind_of(s: &[u8], a: Avp) -> usize
     requires { ⌜ Here (now s) a ⌝ }
-    ensures { λ r. ⌜ (r ≡ kindOf (ownOf (now (s .entry)) a)) × (r < 17) ⌝ }
+    ensures { λ r. ⌜ (r ≡ kindOf (ownOf (now (s .entry)) a)) × (r < kinds) ⌝ }
 {
     kind_by(a.flags, diameter::vendor_of(s, a), diameter::code_of(s, a))
 }
 
-// What a command makes of a kind.
-pub fn use_in(command: usize, k: usize) -> Use
-    requires { ⌜ k < 17 ⌝ }
-    ensures { λ r. ⌜ r ≡ useIn command (rowOf k) ⌝ }
+// What a dialect makes of a kind.
+pub fn use_in(d: Dialect, k: Kind) -> Use
+    ensures { λ r. ⌜ r ≡ useIn d k ⌝ }
 {
-    if command == crate::UAR {
-        return IN_UAR[k];
+    if d.command == crate::UAR {
+        return k.uar;
     }
-    if command == crate::SAR {
-        return IN_SAR[k];
+    if d.command == crate::SAR {
+        return k.sar;
     }
-    IN_LIR[k]
-}
-
-pub fn unnamed(u: Use) -> bool
-    ensures { λ r. ⌜ r ≡ isUnnamed u ⌝ }
-{
-    match u {
-        Use::Unnamed => true,
-        Use::Needed => false,
-        Use::Optional => false,
-        Use::Repeated => false,
-    }
+    k.lir
 }
 
 pub fn needed(u: Use) -> bool
     ensures { λ r. ⌜ r ≡ isNeeded u ⌝ }
 {
     match u {
+        Use::Unknown => false,
         Use::Unnamed => false,
         Use::Needed => true,
         Use::Optional => false,
         Use::Repeated => false,
-    }
-}
-
-pub fn repeated(u: Use) -> bool
-    ensures { λ r. ⌜ r ≡ isRepeated u ⌝ }
-{
-    match u {
-        Use::Unnamed => false,
-        Use::Needed => false,
-        Use::Optional => false,
-        Use::Repeated => true,
-    }
-}
-
-// What the data of a kind must be.
-pub fn content_of(k: usize) -> Content
-    requires { ⌜ k < 17 ⌝ }
-    ensures { λ r. ⌜ r ≡ rowOf k .content ⌝ }
-{
-    match k {
-        APPLICATION => Content::Application,
-        SESSION_STATE => Content::Number(1, 1),
-        SERVER_NAME => Content::Sized(1, 96),
-        ASSIGNMENT_TYPE => Content::Number(0, 11),
-        DATA_AVAILABLE => Content::Number(0, 1),
-        AUTHORIZATION_TYPE => Content::Number(0, 2),
-        _ => Content::Free,
     }
 }
 

@@ -7,6 +7,12 @@ pub mod rules;
 ghost use mathlib.Core.Path.{_≡_};
 ghost use Rattle.reading.specs.Found.{numberOf};
 
+// What a request is read by: the command that it asks for, and the application that is spoken.
+pub struct Dialect {
+    pub command: usize,
+    pub application: u32,
+}
+
 // The commands, and their application.
 pub const UAR: usize = 300;
 
@@ -50,12 +56,23 @@ pub enum Content {
     Application,
 }
 
-// What a command makes of a kind of AVP.
+// What a dialect makes of a kind of AVP.
 pub enum Use {
+    Unknown,
     Unnamed,
     Needed,
     Optional,
     Repeated,
+}
+
+// A kind of AVP: its code and vendor, its content, and what each command makes of it.
+pub struct Kind {
+    pub code: u32,
+    pub vendor: u32,
+    pub content: Content,
+    pub uar: Use,
+    pub sar: Use,
+    pub lir: Use,
 }
 
 // What rules (c) to (h) say of one AVP: it is taken, it is skipped, or it is at fault with this base result.
@@ -69,5 +86,5 @@ pub enum Ruled {
 pub struct Walked {
     pub ok: bool,
     pub verdict: Verdict,
-    pub places: [usize; 17],
+    pub places: [usize; kinds::KINDS],
 }

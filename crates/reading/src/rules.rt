@@ -1,78 +1,121 @@
 // Rules (c) to (h) for one AVP.
 use crate::Content;
+use crate::Dialect;
 use crate::Ruled;
+use crate::Use;
 use crate::group;
 use crate::kinds;
 use diameter::Avp;
 ghost use mathlib.Core.Path.{_≡_};
-ghost use Prim.Native.Nat.{_+_, _<_};
+ghost use Prim.Native.Nat.{_<_};
 ghost use Rattle.diameter.specs.Reader.{ownOf, Here};
-ghost use Rattle.reading.specs.Kinds.{kindOf};
-ghost use Rattle.reading.specs.Rules.{goodContent, strange, ruleBy, rule};
+ghost use Rattle.reading.specs.Kinds.{kinds, kindOf};
+ghost use Rattle.reading.specs.Rules.{faultUnless, numberFault, contentFault, ofUnknown, ofContent, ofOnce, ruleBy, rule};
 ghost use Rattle.reading.specs.Found.{seenOf};
 
-// (h) Whether an AVP holds what its kind must.
-pub fn good_content(c: Content, s: &[u8], a: Avp) -> bool
+// The faults that these rules find.
+const RESERVED_FLAG: u32 = 3009;
+
+const UNSUPPORTED: u32 = 5001;
+
+const BAD_CONTENT: u32 = 5004;
+
+const TOO_OFTEN: u32 = 5009;
+
+const WRONG_LENGTH: u32 = 5014;
+
+// A fault's number, or 0 where it is not there.
+fn fault_unless(good: bool, n: u32) -> u32
+    ensures { λ r. ⌜ r ≡ faultUnless good n ⌝ }
+{
+    if good { 0 } else { n }
+}
+
+// (g) "a 4-byte kind of another length", (h) or one whose number is not within the limits.
+fn number_fault(s: &[u8], a: Avp, least: u32, most: u32) -> u32
     requires { ⌜ Here (now s) a ⌝ }
-    ensures { λ r. ⌜ r ≡ goodContent c (ownOf (now (s .entry)) a) ⌝ }
+    ensures { λ r. ⌜ r ≡ numberFault least most (ownOf (now (s .entry)) a) ⌝ }
+{
+    if a.len != a.head + 4 {
+        return WRONG_LENGTH;
+    }
+    let n = diameter::value_of(s, a);
+    fault_unless((least <= n) & (n <= most), BAD_CONTENT)
+}
+
+// (g), (h) The fault of what an AVP holds, 0 where there is none.
+pub fn content_fault(d: Dialect, c: Content, s: &[u8], a: Avp) -> u32
+    requires { ⌜ Here (now s) a ⌝ }
+    ensures { λ r. ⌜ r ≡ contentFault d c (ownOf (now (s .entry)) a) ⌝ }
 {
     match c {
-        Content::Free => true,
-        Content::Number(least, most) => {
-            let n = diameter::value_of(s, a);
-            (least <= n) & (n <= most)
-        }
+        Content::Free => 0,
+        Content::Number(least, most) => number_fault(s, a, least, most),
         Content::Sized(least, most) => {
             let n = a.len - a.head;
-            (least <= n) & (n <= most)
+            fault_unless((least <= n) & (n <= most), BAD_CONTENT)
         }
-        Content::Application => group::application_ok(diameter::data_part(s, a)),
+        Content::Application => fault_unless(
+            group::application_ok(d.application, diameter::data_part(s, a)),
+            BAD_CONTENT,
+        ),
     }
 }
 
 // (d) "kind (vendor, code) unknown: with M B5001, else skipped"
-fn unknown(flags: u8) -> Ruled
-    ensures { λ r. ⌜ r ≡ strange flags ⌝ }
+fn of_unknown(flags: u8) -> Ruled
+    ensures { λ r. ⌜ r ≡ ofUnknown flags ⌝ }
 {
     if flags / diameter::M_FLAG % 2 == 1 {
-        return Ruled::Fault(5001);
+        return Ruled::Fault(UNSUPPORTED);
     }
     Ruled::Skipped
 }
 
-// What the rules say of an AVP of kind k.
-pub fn rule_by(command: usize, earlier: bool, k: usize, flags: u8, four: bool, good: bool) -> Ruled
-    requires { ⌜ k < 17 ⌝ }
-    ensures { λ r. ⌜ r ≡ ruleBy command earlier k flags four good ⌝ }
+// (g), (h)
+fn of_content(fault: u32) -> Ruled
+    ensures { λ r. ⌜ r ≡ ofContent fault ⌝ }
 {
-    if flags % diameter::P_FLAG != 0 {
-        return Ruled::Fault(3009);
-    }
-    if k == 0 {
-        return unknown(flags);
-    }
-    let u = kinds::use_in(command, k);
-    if kinds::unnamed(u) {
-        return Ruled::Skipped;
-    }
-    if earlier & !kinds::repeated(u) {
-        return Ruled::Fault(5009);
-    }
-    if kinds::is_four(kinds::content_of(k)) & !four {
-        return Ruled::Fault(5014);
-    }
-    if !good {
-        return Ruled::Fault(5004);
+    if fault != 0 {
+        return Ruled::Fault(fault);
     }
     Ruled::Taken
 }
 
+// (f) "too often: B5009"
+fn of_once(earlier: bool, fault: u32) -> Ruled
+    ensures { λ r. ⌜ r ≡ ofOnce earlier fault ⌝ }
+{
+    if earlier {
+        return Ruled::Fault(TOO_OFTEN);
+    }
+    of_content(fault)
+}
+
+// What the rules say of an AVP, by its kind's use, by whether one of its kind came earlier, by its flags and by the fault of what it holds.
+pub fn rule_by(u: Use, earlier: bool, flags: u8, fault: u32) -> Ruled
+    ensures { λ r. ⌜ r ≡ ruleBy u earlier flags fault ⌝ }
+{
+    if flags % diameter::P_FLAG != 0 {
+        return Ruled::Fault(RESERVED_FLAG);
+    }
+    match u {
+        Use::Unknown => of_unknown(flags),
+        Use::Unnamed => Ruled::Skipped,
+        Use::Needed => of_once(earlier, fault),
+        Use::Optional => of_once(earlier, fault),
+        Use::Repeated => of_content(fault),
+    }
+}
+
 // The same of an AVP of kind k, after those at the places of the kinds.
-pub fn rule_at(s: &[u8], command: usize, places: [usize; 17], a: Avp, k: usize) -> Ruled
-    requires { ⌜ Here (now s) a × (k ≡ kindOf (ownOf (now s) a)) × (k < 17) ⌝ }
-    ensures { λ r. ⌜ r ≡ rule command (seenOf (now (s .entry)) places) (ownOf (now (s .entry)) a) ⌝ }
+pub fn rule_at(s: &[u8], d: Dialect, places: [usize; kinds::KINDS], a: Avp, k: usize) -> Ruled
+    requires { ⌜ Here (now s) a × (k ≡ kindOf (ownOf (now s) a)) × (k < kinds) ⌝ }
+    ensures { λ r. ⌜ r ≡ rule d (seenOf (now (s .entry)) places) (ownOf (now (s .entry)) a) ⌝ }
 {
     let earlier = diameter::present_at(s, places[k]);
-    let good = good_content(kinds::content_of(k), s, a);
-    rule_by(command, earlier, k, a.flags, a.len == a.head + 4, good)
+    let row = kinds::row_of(k);
+    let content = row.content;
+    let fault = content_fault(d, content, s, a);
+    rule_by(kinds::use_in(d, row), earlier, a.flags, fault)
 }

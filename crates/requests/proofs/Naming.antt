@@ -11,7 +11,7 @@ use Rattle.diameter.specs.declared.Avp.{Avp}
 use Rattle.diameter.specs.declared.Read.{Read}
 use Rattle.diameter.specs.declared.Read.the-variants as read
 use Rattle.diameter.proofs.Reading.{read-says, read-unsound, walk-past}
-use Rattle.reading.specs.Kinds.{kindOf}
+use Rattle.reading.specs.Kinds.{kindOf, publicIdentity}
 use Rattle.reading.specs.Rules.{failedOf}
 use Rattle.reading.specs.Request.{identities}
 use Rattle.requests.specs.Identity.{namedBy, Stands, Named}
@@ -31,7 +31,7 @@ module _ (s : List ℕ) (from at : ℕ) (reached : from ≤ at) (left : identiti
     named-cut d = record { rest = sym left ∙ sym (at-fault identities [] (drop at s) (read-unsound s at r e d) refl refl); stands = tt }
 
     module _ (a : Avp) (k : ℕ) (d : r ≡ read.Avp a) (ek : k ≡ kindOf (ownOf s a)) where
-      pub named-at : at < length s → k ≡ 8 → Named s from (At at (a .next))
+      pub named-at : at < length s → k ≡ publicIdentity → Named s from (At at (a .next))
       unfolding identities namedBy
       named-at h z =
           let says = read-says s at r e a d in
@@ -40,7 +40,7 @@ module _ (s : List ℕ) (from at : ℕ) (reached : from ≤ at) (left : identiti
             stands = record { sounds = says .sounds; reached = reached; inside = h; later = says .later };
           }
 
-      pub named-more : (k ≡ 8 → ⊥) → identities (walk (drop (a .next) s)) ≡ identities (walk (drop from s))
+      pub named-more : (k ≡ publicIdentity → ⊥) → identities (walk (drop (a .next) s)) ≡ identities (walk (drop from s))
       unfolding identities
       named-more z = rw (read-says s at r e a d .walked, ← ek, ne-eqb _ _ z) at left
 

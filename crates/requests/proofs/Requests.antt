@@ -3,13 +3,12 @@ use Prim.Native.Nat.{ℕ, _+_, _/_, _%_, _≤_, _<_}
 use native.Mathlib.Numerals.{add-one}
 use mathlib.Core.Path.{_≡_, refl, sym, _∙_}
 use mathlib.Core.List.{List, [], _∷_}
-use mathlib.Core.Bool.{Bool, true, false, not, _&&_, _||_}
+use mathlib.Core.Bool.{Bool, true, false, not, _&&_}
 use native.Mathlib.Omega.{arith}
 use lib.ListN.{length, getD, drop, drop-of-length-le}
 use lib.Seq.{drop-cons}
-use lib.Dec.{eqb, ltb}
-use borrow.Author.Tests.{ne-eqb}
-use Rattle.octets.specs.Number.{be32At}
+use lib.Dec.{eqb}
+use borrow.Author.Tests.{eq-eqb, ne-eqb}
 use Rattle.diameter.specs.Avp.{sound}
 use Rattle.diameter.specs.Walk.{Walk, ended, faulty, walk}
 use Rattle.diameter.specs.Reader.{readOf, partAt, present, ownOf}
@@ -18,38 +17,39 @@ use Rattle.diameter.specs.declared.Read.{Read}
 use Rattle.diameter.specs.declared.Read.the-variants as read
 use Rattle.diameter.proofs.Walks.{walk-nil, walk-faulty}
 use Rattle.diameter.proofs.Reading.{own-flags, read-says, read-unsound}
+use Rattle.reading.specs.declared.Dialect.{Dialect}
 use Rattle.reading.specs.declared.Walked.{Walked}
-use Rattle.reading.specs.Kinds.{known, unknown, kindOf, rowOf, useIn, isNeeded}
+use Rattle.reading.specs.Kinds.{kinds, known, unknown, sessionId, kindOf, rowOf, useIn, isNeeded}
 use Rattle.reading.specs.Rules.{Seen, nothing, Judged, bad, fine, judge}
-use Rattle.reading.specs.Request.{commandOf, headerFault, firstOther, missingFrom, missing, complete, readWalk, bodyOf, readRequest, sessionOf}
+use Rattle.reading.specs.Request.{commandOf, applicationOf, cx, spoken, headerFault, firstOther, missingFrom, missing, complete, readWalk, bodyOf, readIn, readRequest, sessionOf}
 use Rattle.reading.specs.Found.{seenOf, failedBy, judgedOf, Refused}
 use Rattle.reading.proofs.Judging.{seen-at}
 use Rattle.requests.proofs.Failing.{refused-lacking, refused-alone}
 
 -- "Header, in order"
-module _ (req : List ℕ) where
-  pub header-version : (getD req 0 0 ≡ 1 → ⊥) → 5011 ≡ headerFault req
+module _ (req : List ℕ) (dialect : Dialect) where
+  pub header-version : (getD req 0 0 ≡ 1 → ⊥) → 5011 ≡ headerFault dialect req
   unfolding headerFault
   header-version h = rw (ne-eqb _ _ h)
 
   module _ (first : getD req 0 0 ≡ 1) where
-    pub header-error : getD req 4 0 / 32 % 2 ≡ 1 → 3008 ≡ headerFault req
+    pub header-error : getD req 4 0 / 32 % 2 ≡ 1 → 3008 ≡ headerFault dialect req
     unfolding headerFault
     header-error e = rw (first, e)
 
-    module _ (asked : getD req 4 0 / 32 % 2 ≡ 1 → ⊥) (n : ℕ) (en : n ≡ commandOf req) where
-      pub header-command : (ltb n 300 || ltb 302 n) ≡ true → 3001 ≡ headerFault req
+    module _ (asked : getD req 4 0 / 32 % 2 ≡ 1 → ⊥) (x : Bool) (ex : x ≡ spoken dialect) where
+      pub header-command : not x ≡ true → 3001 ≡ headerFault dialect req
       unfolding headerFault
-      header-command t = rw (first, ne-eqb _ _ asked, ← en, t)
+      header-command t = rw (first, ne-eqb _ _ asked, ← ex, t)
 
-      module _ (named : (ltb n 300 || ltb 302 n) ≡ false) (a : ℕ) (ea : a ≡ be32At req 8) where
-        pub header-application : (a ≡ 16777216 → ⊥) → 3007 ≡ headerFault req
+      module _ (known : not x ≡ false) (a : ℕ) (ea : a ≡ applicationOf req) where
+        pub header-application : (a ≡ dialect .application → ⊥) → 3007 ≡ headerFault dialect req
         unfolding headerFault
-        header-application h = rw (first, ne-eqb _ _ asked, ← en, named, ← ea, ne-eqb _ _ h)
+        header-application h = rw (first, ne-eqb _ _ asked, ← ex, known, ← ea, ne-eqb _ _ h)
 
-        pub header-sound : a ≡ 16777216 → 0 ≡ headerFault req
+        pub header-sound : a ≡ dialect .application → 0 ≡ headerFault dialect req
         unfolding headerFault
-        header-sound e = rw (first, ne-eqb _ _ asked, ← en, named, ← ea, e)
+        header-sound e = rw (first, ne-eqb _ _ asked, ← ex, known, ← ea, eq-eqb _ _ e)
 
 -- where no whole AVP stands, the walk is at its end or at a length fault
 pub at-fault : {X : Type 0} (f : Walk → X) (x : X) (t : List ℕ) → sound t ≡ false → f ended ≡ x → f (faulty t) ≡ x → x ≡ f (walk t)
@@ -65,70 +65,75 @@ module _ (s : List ℕ) (r : Read) (e : r ≡ readOf 20 (drop 20 s)) where
   session-none d = at-fault sessionOf [] (drop 20 s) (read-unsound s 20 r e d) refl refl
 
   module _ (a : Avp) (k : ℕ) (d : r ≡ read.Avp a) (ek : k ≡ kindOf (ownOf s a)) where
-    pub first-is : not (eqb k 1) ≡ firstOther (bodyOf s)
+    pub first-is : not (eqb k sessionId) ≡ firstOther (bodyOf s)
     first-is = rw (read-says s 20 r e a d .walked, ← ek)
 
-    pub session-there : (b : List ℕ) → (eqb k 1 && eqb (a .flags % 32) 0) ≡ true → b ≡ ownOf s a → b ≡ sessionOf (bodyOf s)
+    pub session-there : (b : List ℕ) → (eqb k sessionId && eqb (a .flags % 32) 0) ≡ true → b ≡ ownOf s a → b ≡ sessionOf (bodyOf s)
     session-there b t eb =
         let says = read-says s 20 r e a d in
         eb ∙ rw (says .walked, ← ek, own-flags s a (says .here), t)
 
-    pub session-other : (eqb k 1 && eqb (a .flags % 32) 0) ≡ false → [] ≡ sessionOf (bodyOf s)
+    pub session-other : (eqb k sessionId && eqb (a .flags % 32) 0) ≡ false → [] ≡ sessionOf (bodyOf s)
     session-other t =
         let says = read-says s 20 r e a d in
         rw (says .walked, ← ek, own-flags s a (says .here), t)
 
 -- the first missing kind from a number on
-pub missing-all : (command : ℕ) (seen : Seen) → missing command seen ≡ missingFrom command seen (drop 1 (unknown ∷ known)) 1
+pub missing-all : (dialect : Dialect) (seen : Seen) → missing dialect seen ≡ missingFrom dialect seen (drop 1 (unknown ∷ known)) 1
 unfolding missing
-missing-all command seen = refl
+missing-all dialect seen = refl
 
-module _ (s places : List ℕ) (command k whole : ℕ) (left : whole ≡ missingFrom command (seenOf s places) (drop k (unknown ∷ known)) k) where
-  module _ (low : k < 17) (room : k < length places) (x : Bool) (e : x ≡ (isNeeded (useIn command (rowOf k)) && not (present (partAt s (getD places k 0))))) where
+module _ (s places : List ℕ) (dialect : Dialect) (k whole : ℕ) (left : whole ≡ missingFrom dialect (seenOf s places) (drop k (unknown ∷ known)) k) where
+  module _ (low : k < kinds) (room : k < length places) (x : Bool) (e : x ≡ (isNeeded (useIn dialect (rowOf k)) && not (present (partAt s (getD places k 0))))) where
     pub missing-found : x ≡ true → k ≡ whole
     unfolding missingFrom known rowOf
     missing-found t = rw (left, drop-cons (unknown ∷ known) k unknown low, seen-at s places k room, ← e, t)
 
-    pub missing-more : x ≡ false → whole ≡ missingFrom command (seenOf s places) (drop (k + 1) (unknown ∷ known)) (k + 1)
+    pub missing-more : x ≡ false → whole ≡ missingFrom dialect (seenOf s places) (drop (k + 1) (unknown ∷ known)) (k + 1)
     unfolding missingFrom known rowOf
     missing-more f = left ∙ rw (add-one k, drop-cons (unknown ∷ known) k unknown low, seen-at s places k room, ← e, f)
 
-  pub missing-none : 17 ≤ k → 0 ≡ whole
+  pub missing-none : kinds ≤ k → 0 ≡ whole
   unfolding missingFrom known
   missing-none h = rw (left, drop-of-length-le (unknown ∷ known) {i = k} h)
 
 -- "After the walk, the first missing AVP in the order below: B5005"
-module _ (s : List ℕ) (command : ℕ) (w : Walked) where
-  pub complete-bad : w .ok ≡ false → judgedOf s w ≡ complete command (judgedOf s w)
+module _ (s : List ℕ) (dialect : Dialect) (w : Walked) where
+  pub complete-bad : w .ok ≡ false → judgedOf s w ≡ complete dialect (judgedOf s w)
   unfolding judgedOf complete
   complete-bad f = rw f
 
-  module _ (t : w .ok ≡ true) (k : ℕ) (e : k ≡ missing command (seenOf s (w .places))) where
-    pub complete-whole : k ≡ 0 → judgedOf s w ≡ complete command (judgedOf s w)
+  module _ (t : w .ok ≡ true) (k : ℕ) (e : k ≡ missing dialect (seenOf s (w .places))) where
+    pub complete-whole : k ≡ 0 → judgedOf s w ≡ complete dialect (judgedOf s w)
     unfolding judgedOf complete
     complete-whole z = rw (t, ← e, z)
 
-    pub complete-lacking : (r : Walked) → (k ≡ 0 → ⊥) → Refused 5005 0 k r → judgedOf s r ≡ complete command (judgedOf s w)
+    pub complete-lacking : (r : Walked) → (k ≡ 0 → ⊥) → Refused 5005 0 k r → judgedOf s r ≡ complete dialect (judgedOf s w)
     unfolding judgedOf complete
     complete-lacking r h f =
         let p : 0 < k = omega arith in
         refused-lacking s 5005 r k p f ∙ rw (t, ← e, ne-eqb _ _ h)
 
 -- header, first AVP, walk, what is missing
-module _ (req : List ℕ) (r : Walked) (n : ℕ) (en : n ≡ headerFault req) where
-  pub request-header : (n ≡ 0 → ⊥) → Refused n 0 0 r → judgedOf req r ≡ readRequest req
-  unfolding readRequest
+module _ (req : List ℕ) (dialect : Dialect) (r : Walked) (n : ℕ) (en : n ≡ headerFault dialect req) where
+  pub request-header : (n ≡ 0 → ⊥) → Refused n 0 0 r → judgedOf req r ≡ readIn dialect req
+  unfolding readIn
   request-header h f = refused-alone req n r f ∙ rw (← en, ne-eqb _ _ h)
 
   module _ (z : n ≡ 0) (x : Bool) (ex : x ≡ firstOther (bodyOf req)) where
-    pub request-first : x ≡ true → Refused 5005 0 1 r → judgedOf req r ≡ readRequest req
-    unfolding readRequest readWalk
-    request-first t f = refused-lacking req 5005 r 1 (omega arith) f ∙ rw (← en, z, ← ex, t)
+    pub request-first : x ≡ true → Refused 5005 0 sessionId r → judgedOf req r ≡ readIn dialect req
+    unfolding readIn readWalk
+    request-first t f = refused-lacking req 5005 r sessionId (omega arith) f ∙ rw (← en, z, ← ex, t)
 
-    pub request-walked : (c : ℕ) (w : Walked) → x ≡ false → c ≡ commandOf req → judgedOf req w ≡ judge c (bodyOf req) nothing → judgedOf req r ≡ complete c (judgedOf req w)
-        → judgedOf req r ≡ readRequest req
-    unfolding readRequest readWalk
-    request-walked c w f ec ew e = e ∙ rw (ew, ec, ← en, z, ← ex, f)
+    pub request-walked : (w : Walked) → x ≡ false → judgedOf req w ≡ judge dialect (bodyOf req) nothing → judgedOf req r ≡ complete dialect (judgedOf req w)
+        → judgedOf req r ≡ readIn dialect req
+    unfolding readIn readWalk
+    request-walked w f ew e = e ∙ rw (ew, ← en, z, ← ex, f)
+
+-- in the dialect of its command
+pub request-asked : (req : List ℕ) (c : ℕ) (r : Walked) → c ≡ commandOf req → judgedOf req r ≡ readIn (record { command = c; application = cx }) req
+    → judgedOf req r ≡ readRequest req
+request-asked req c r e d = d ∙ rw e
 
 -- What a caller may use of a request that was read: the AVPs at its places, or its fault.
 module _ (s : List ℕ) (w : Walked) (j : Judged) (e : judgedOf s w ≡ j) where

@@ -6,6 +6,7 @@ pub mod walk;
 use diameter::Read;
 use diameter::message;
 use octets::number;
+use reading::Dialect;
 use reading::Walked;
 use reading::kinds;
 ghost use mathlib.Core.Path.{_≡_};
@@ -14,7 +15,7 @@ ghost use mathlib.Core.Bool.{_&&_, not};
 ghost use lib.ListN.{length};
 ghost use Rattle.diameter.specs.Reader.{partAt, present};
 ghost use Rattle.reading.specs.Kinds.{isNeeded, useIn, rowOf};
-ghost use Rattle.reading.specs.Request.{commandOf, headerFault, firstOther, missing, complete, bodyOf, readRequest, sessionOf};
+ghost use Rattle.reading.specs.Request.{commandOf, spoken, headerFault, firstOther, missing, complete, bodyOf, readIn, readRequest, sessionOf};
 ghost use Rattle.reading.specs.Found.{seenOf, judgedOf};
 
 // The command of a request.
@@ -25,10 +26,17 @@ pub fn command(req: &[u8]) -> usize
     number::be24(req, message::COMMAND_AT)
 }
 
+// Whether the application has the command.
+fn spoken(d: Dialect) -> bool
+    ensures { λ r. ⌜ r ≡ spoken d ⌝ }
+{
+    (d.application == reading::CX) & (reading::UAR <= d.command) & (d.command <= reading::LIR)
+}
+
 // The header's first fault, 0 where there is none.
-pub fn header_fault(req: &[u8]) -> u32
+fn header_fault(req: &[u8], d: Dialect) -> u32
     requires { ⌜ 20 ≤ length (now req) ⌝ }
-    ensures { λ r. ⌜ r ≡ headerFault (now (req .entry)) ⌝ }
+    ensures { λ r. ⌜ r ≡ headerFault d (now (req .entry)) ⌝ }
 {
     if req[message::VERSION_AT] != message::VERSION {
         return 5011;
@@ -36,11 +44,10 @@ pub fn header_fault(req: &[u8]) -> u32
     if req[message::FLAGS_AT] / message::E_BIT % 2 == 1 {
         return 3008;
     }
-    let n = command(req);
-    if (n < reading::UAR) | (reading::LIR < n) {
+    if !spoken(d) {
         return 3001;
     }
-    if number::be32(req, message::APPLICATION_AT) != reading::CX {
+    if number::be32(req, message::APPLICATION_AT) != d.application {
         return 3007;
     }
     0
@@ -57,20 +64,19 @@ fn first_other(req: &[u8]) -> bool
 }
 
 // Whether a kind is needed and has no AVP at its place.
-fn lacks(s: &[u8], command: usize, k: usize, place: usize) -> bool
-    requires { ⌜ k < 17 ⌝ }
-    ensures { λ r. ⌜ r ≡ (isNeeded (useIn command (rowOf k)) && not (present (partAt (now (s .entry)) place))) ⌝ }
+fn lacks(s: &[u8], d: Dialect, k: usize, place: usize) -> bool
+    ensures { λ r. ⌜ r ≡ (isNeeded (useIn d (rowOf k)) && not (present (partAt (now (s .entry)) place))) ⌝ }
 {
-    kinds::needed(kinds::use_in(command, k)) & !diameter::present_at(s, place)
+    kinds::needed(kinds::use_in(d, kinds::row_of(k))) & !diameter::present_at(s, place)
 }
 
-// The first kind that the command needs and that did not come, 0 where all came.
-fn missing(s: &[u8], command: usize, places: [usize; 17]) -> usize
-    ensures { λ r. ⌜ r ≡ missing command (seenOf (now (s .entry)) places) ⌝ }
+// The first kind that the dialect needs and that did not come, 0 where all came.
+fn missing(s: &[u8], d: Dialect, places: [usize; kinds::KINDS]) -> usize
+    ensures { λ r. ⌜ r ≡ missing d (seenOf (now (s .entry)) places) ⌝ }
 {
     let mut k = 1;
-    while k < 17 {
-        if lacks(s, command, k, places[k]) {
+    while k < kinds::KINDS {
+        if lacks(s, d, k, places[k]) {
             return k;
         }
         k += 1;
@@ -79,12 +85,12 @@ fn missing(s: &[u8], command: usize, places: [usize; 17]) -> usize
 }
 
 // "After the walk, the first missing AVP"
-fn complete(s: &[u8], command: usize, w: Walked) -> Walked
-    ensures { λ r. ⌜ judgedOf (now (s .entry)) r ≡ complete command (judgedOf (now (s .entry)) w) ⌝ }
+fn complete(s: &[u8], d: Dialect, w: Walked) -> Walked
+    ensures { λ r. ⌜ judgedOf (now (s .entry)) r ≡ complete d (judgedOf (now (s .entry)) w) ⌝ }
 {
     if w.ok {
         let places = w.places;
-        let k = missing(s, command, places);
+        let k = missing(s, d, places);
         if k != 0 {
             return walk::refuse(5005, 0, k);
         }
@@ -92,20 +98,31 @@ fn complete(s: &[u8], command: usize, w: Walked) -> Walked
     w
 }
 
-// The request read: the first fault, or the places of its AVPs.
-pub fn read_request(req: &[u8]) -> Walked
+// The request read in a dialect: the first fault, or the places of its AVPs.
+pub fn read_in(req: &[u8], d: Dialect) -> Walked
     requires { ⌜ 20 ≤ length (now req) ⌝ }
-    ensures { λ r. ⌜ judgedOf (now (req .entry)) r ≡ readRequest (now (req .entry)) ⌝ }
+    ensures { λ r. ⌜ judgedOf (now (req .entry)) r ≡ readIn d (now (req .entry)) ⌝ }
 {
-    let n = header_fault(req);
+    let n = header_fault(req, d);
     if n != 0 {
         return walk::refuse(n, 0, 0);
     }
     if first_other(req) {
         return walk::refuse(5005, 0, kinds::SESSION_ID);
     }
-    let c = command(req);
-    complete(req, c, walk::walk_message(req, c))
+    complete(req, d, walk::walk_message(req, d))
+}
+
+// A request to the Cx server.
+pub fn read_request(req: &[u8]) -> Walked
+    requires { ⌜ 20 ≤ length (now req) ⌝ }
+    ensures { λ r. ⌜ judgedOf (now (req .entry)) r ≡ readRequest (now (req .entry)) ⌝ }
+{
+    let d = Dialect {
+        command: command(req),
+        application: reading::CX,
+    };
+    read_in(req, d)
 }
 
 // Session-Id for the answer: "if it is the first AVP and passes (a) to (c)", else nothing.

@@ -1,9 +1,11 @@
 // What stands at the places that reading a request found.
 use diameter::Read;
+use reading::kinds;
 ghost use mathlib.Core.Path.{_≡_};
 ghost use Prim.Native.Nat.{_≤_, _<_};
 ghost use lib.ListN.{length};
 ghost use Rattle.diameter.specs.Reader.{partAt};
+ghost use Rattle.reading.specs.Kinds.{kinds};
 ghost use Rattle.reading.specs.Request.{given, valueIf, dataIn, valueIn};
 ghost use Rattle.reading.specs.Found.{seenOf};
 
@@ -18,24 +20,24 @@ pub fn value_of_place(s: &[u8], place: usize) -> u32
 }
 
 // Whether an AVP of kind k came.
-pub fn given(req: &[u8], places: [usize; 17], k: usize) -> bool
-    requires { ⌜ k < 17 ⌝ }
+pub fn given(req: &[u8], places: [usize; kinds::KINDS], k: usize) -> bool
+    requires { ⌜ k < kinds ⌝ }
     ensures { λ r. ⌜ r ≡ given (seenOf (now (req .entry)) places) k ⌝ }
 {
     diameter::present_at(req, places[k])
 }
 
 // Its data, nothing where none came.
-pub fn data_of(req: &[u8], places: [usize; 17], k: usize) -> &[u8]
-    requires { ⌜ k < 17 ⌝ }
+pub fn data_of(req: &[u8], places: [usize; kinds::KINDS], k: usize) -> &[u8]
+    requires { ⌜ k < kinds ⌝ }
     ensures { λ r. ⌜ (now r ≡ dataIn (seenOf (now (req .entry)) places) k) × (length (now r) ≤ length (now (req .entry))) ⌝ }
 {
     diameter::data_at(req, places[k])
 }
 
 // Its number, 0 where none came.
-pub fn value_of(req: &[u8], places: [usize; 17], k: usize) -> u32
-    requires { ⌜ k < 17 ⌝ }
+pub fn value_of(req: &[u8], places: [usize; kinds::KINDS], k: usize) -> u32
+    requires { ⌜ k < kinds ⌝ }
     ensures { λ r. ⌜ r ≡ valueIn (seenOf (now (req .entry)) places) k ⌝ }
 {
     value_of_place(req, places[k])

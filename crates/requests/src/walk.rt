@@ -1,6 +1,7 @@
 // "Then AVPs by position; the first fault decides."
 use diameter::Read;
 use diameter::message;
+use reading::Dialect;
 use reading::Outcome;
 use reading::Ruled;
 use reading::Verdict;
@@ -24,12 +25,12 @@ pub fn refuse(number: u32, place: usize, lacks: usize) -> Walked
             place,
             lacks,
         },
-        places: [0; 17],
+        places: [0; kinds::KINDS],
     }
 }
 
 // No fault, and the places of the kinds.
-pub fn accept(places: [usize; 17]) -> Walked
+pub fn accept(places: [usize; kinds::KINDS]) -> Walked
     ensures { λ r. ⌜ Accepted places r ⌝ }
 {
     Walked {
@@ -44,18 +45,18 @@ pub fn accept(places: [usize; 17]) -> Walked
 }
 
 // The walk over the AVPs, up to the first fault.
-pub fn walk_message(s: &[u8], command: usize) -> Walked
-    ensures { λ r. ⌜ judgedOf (now (s .entry)) r ≡ judge command (walk (drop 20 (now (s .entry)))) nothing ⌝ }
+pub fn walk_message(s: &[u8], d: Dialect) -> Walked
+    ensures { λ r. ⌜ judgedOf (now (s .entry)) r ≡ judge d (walk (drop 20 (now (s .entry)))) nothing ⌝ }
 {
     let absent = s.len();
-    let mut places = [absent; 17];
+    let mut places = [absent; kinds::KINDS];
     let mut at = message::BODY;
     while at < s.len() {
         let Read::Avp(a) = diameter::read_avp(s, at) else {
             return refuse(5014, at, 0);
         };
         let k = kinds::kind_of(s, a);
-        match rules::rule_at(s, command, places, a, k) {
+        match rules::rule_at(s, d, places, a, k) {
             Ruled::Taken => places[k] = at,
             Ruled::Skipped => {}
             Ruled::Fault(n) => return refuse(n, at, 0),

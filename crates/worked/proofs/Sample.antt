@@ -23,8 +23,8 @@ use Rattle.diameter.specs.Walk.{walkFrom, walk}
 use Rattle.pen.specs.Bytes.{padding, vendorHead, copied, avpBytes, vendorBytes, numberBytes, vendorNumber, group, vendorGroup, ifThere}
 use Rattle.pen.specs.Groups.{vendorApplication, experimental, failed, vendorNumbers, capabilities}
 use Rattle.reading.specs.Kinds.{known, kindFrom, kindBy, rowOf, useIn}
-use Rattle.reading.specs.Rules.{isMember, members, goodContent, nothing, ruleBy, rule, failedOf, judge}
-use Rattle.reading.specs.Request.{headerFault, exampleOf, example, missingFrom, missing, complete, readWalk, readRequest, identities}
+use Rattle.reading.specs.Rules.{isMember, members, numberFault, contentFault, nothing, ruleBy, rule, failedOf, judge}
+use Rattle.reading.specs.Request.{headerFault, exampleOf, example, missingFrom, missing, complete, readWalk, readIn, identities}
 use Rattle.decisions.specs.Reply.{served}
 use Rattle.decisions.specs.Authorization.{mayRoam, authorizeRecord, authorizeFound, authorize}
 use Rattle.decisions.specs.Location.{locateRecord, locateFound, locate}
@@ -95,8 +95,8 @@ unfolding host realm block header person request answer common assignment one tw
     blockOf tableOf publicAt privateAt risesAt soundAt firstBad checkRecords checkTable firstFrom publicIs findPublic privateIs findPrivate serverHere servesAt findServer
     networkIs seek networkNumber roamsIn lacking sealed renewed rewritten settled settledAt afterOf padded headOf vendorOf valueOf sound walkFrom walk
     padding vendorHead copied avpBytes vendorBytes numberBytes vendorNumber group vendorGroup ifThere vendorApplication experimental failed vendorNumbers capabilities
-    known kindFrom kindBy rowOf useIn isMember members goodContent nothing ruleBy rule failedOf judge
-    headerFault exampleOf example missingFrom missing complete readWalk readRequest identities served mandatoryOf optionalOf profileOf
+    known kindFrom kindBy rowOf useIn isMember members numberFault contentFault nothing ruleBy rule failedOf judge
+    headerFault exampleOf example missingFrom missing complete readWalk readIn identities served mandatoryOf optionalOf profileOf
     mayRoam authorizeRecord authorizeFound authorize locateRecord locateFound locate groupOf startOf effectOf
     identityFault every isOne findAll numbersOf ownedHere ownedUpTo recordsOf allKnown ownerOf ownAt storesAt fitsAt rightAt assigned storedName effected assignRecords assignKnown assign
     assignmentOf decideRead decideJudged decide numberOf resultBytes proxies frontBytes originBytes givenBytes endBytes bodyBytes flagsOf headerBytes answerBytes

@@ -2,7 +2,7 @@ use Prim.Native.Nat.{_-_, _≤_}
 use mathlib.Core.Path.{_≡_}
 use mathlib.Core.List.{_∷_}
 use lib.ListN.{drop}
-use Rattle.reading.specs.Kinds.{known, unknown}
+use Rattle.reading.specs.Kinds.{kinds, known, unknown}
 use Rattle.reading.specs.Request.{missingFrom, missing}
 use Rattle.reading.specs.Found.{seenOf}
 use Rattle.requests.proofs.Requests.{missing-all, missing-found, missing-more, missing-none}
@@ -11,10 +11,10 @@ use Rattle.requests.proofs.missing.Statement.{statement}
 use Rattle.requests.proofs.missing.Tie as tie
 
 abbrev Inv-loop : tie.InvT-loop
-Inv-loop s command places k₀ k = (k ≤ 17) × (missing command (seenOf s places) ≡ missingFrom command (seenOf s places) (drop k (unknown ∷ known)) k)
+Inv-loop s dialect places k₀ k = (k ≤ kinds) × (missing dialect (seenOf s places) ≡ missingFrom dialect (seenOf s places) (drop k (unknown ∷ known)) k)
 
 abbrev μ-loop : tie.MeasureT-loop
-μ-loop s command places k₀ k = 17 - k
+μ-loop s dialect places k₀ k = kinds - k
 
 pub missing-spec : {M : Type 1} → statement M
 missing-spec =

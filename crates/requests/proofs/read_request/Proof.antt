@@ -1,4 +1,4 @@
-use Rattle.requests.proofs.Requests.{request-header, request-first, request-walked}
+use Rattle.requests.proofs.Requests.{request-asked}
 use borrow.Author.Needs.{needs}
 use Rattle.requests.proofs.read_request.Statement.{statement}
 use Rattle.requests.proofs.read_request.Tie as tie
@@ -9,11 +9,4 @@ read-request-spec =
     (tie.spec
     (λ c κs. search needs)
     (λ c κs. search needs)
-    (λ c. search (needs, request-header))
-    (λ c κs. search needs)
-    (λ c κs. search needs)
-    (λ c. search (needs, request-first))
-    (λ c κs. search needs)
-    (λ c κs. search needs)
-    (λ c κs. search needs)
-    (λ c. search (needs, request-walked)))
+    (λ c. search (needs, request-asked)))

@@ -12,10 +12,10 @@ use Rattle.reading.proofs.group.application_ok.Statement.{statement}
 use Rattle.reading.proofs.group.application_ok.Tie as tie
 
 abbrev Inv-loop : tie.InvT-loop
-Inv-loop s vendor₀ application₀ at₀ vendor application at = members (walk (drop at s)) vendor application ≡ members (walk s) false false
+Inv-loop application s vendor₀ named₀ at₀ vendor named at = members application (walk (drop at s)) vendor named ≡ members application (walk s) false false
 
 abbrev μ-loop : tie.MeasureT-loop
-μ-loop s vendor₀ application₀ at₀ vendor application at = length s - at
+μ-loop application s vendor₀ named₀ at₀ vendor named at = length s - at
 
 pub application-ok-spec : {M : Type 1} → statement M
 application-ok-spec =

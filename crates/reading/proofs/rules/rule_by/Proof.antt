@@ -1,4 +1,4 @@
-use Rattle.reading.proofs.Judging.{rule-reserved, rule-unknown, rule-unnamed, rule-often, rule-four, rule-good, rule-bad}
+use Rattle.reading.proofs.Judging.{rule-reserved, rule-unknown, rule-unnamed, rule-needed, rule-optional, rule-repeated}
 use borrow.Author.Needs.{needs}
 use Rattle.reading.proofs.rules.rule_by.Statement.{statement}
 use Rattle.reading.proofs.rules.rule_by.Tie as tie
@@ -8,15 +8,17 @@ rule-by-spec =
     tie.close
     (tie.spec
     (λ c. search (needs, rule-reserved))
+    (λ c. search needs)
+    (λ c κs. search needs)
+    (λ c. search needs)
+    (λ c. search needs)
+    (λ c κs. search needs)
+    (λ c. search needs)
+    (λ c κs. search needs)
+    (λ c. search needs)
     (λ c κs. search needs)
     (λ c. search (needs, rule-unknown))
-    (λ c κs. search needs)
-    (λ c κs. search needs)
     (λ c. search (needs, rule-unnamed))
-    (λ c κs. search needs)
-    (λ c. search (needs, rule-often))
-    (λ c κs. search needs)
-    (λ c κs. search needs)
-    (λ c. search (needs, rule-four))
-    (λ c. search (needs, rule-bad))
-    (λ c. search (needs, rule-good)))
+    (λ c. search (needs, rule-needed))
+    (λ c. search (needs, rule-optional))
+    (λ c. search (needs, rule-repeated)))

@@ -3,6 +3,7 @@ use mathlib.Core.Path.{_≡_}
 use lib.ListN.{length, drop}
 use Rattle.diameter.specs.Walk.{walk}
 use Rattle.diameter.proofs.Reading.{read-here}
+use Rattle.reading.specs.Kinds.{kinds}
 use Rattle.reading.specs.Rules.{nothing, judge}
 use Rattle.reading.specs.Found.{seenOf}
 use Rattle.reading.proofs.Walking.{read-less, read-from}
@@ -12,10 +13,10 @@ use Rattle.requests.proofs.walk.walk_message.Statement.{statement}
 use Rattle.requests.proofs.walk.walk_message.Tie as tie
 
 abbrev Inv-loop : tie.InvT-loop
-Inv-loop s command absent places₀ at₀ places at = (length places ≡ 17) × (20 ≤ at) × (judge command (walk (drop at s)) (seenOf s places) ≡ judge command (walk (drop 20 s)) nothing)
+Inv-loop s dialect absent places₀ at₀ places at = (length places ≡ kinds) × (20 ≤ at) × (judge dialect (walk (drop at s)) (seenOf s places) ≡ judge dialect (walk (drop 20 s)) nothing)
 
 abbrev μ-loop : tie.MeasureT-loop
-μ-loop s command absent places₀ at₀ places at = length s - at
+μ-loop s dialect absent places₀ at₀ places at = length s - at
 
 pub walk-message-spec : {M : Type 1} → statement M
 walk-message-spec =

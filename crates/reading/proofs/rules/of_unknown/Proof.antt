@@ -1,10 +1,10 @@
 use Rattle.reading.proofs.Judging.{unknown-marked, unknown-plain}
 use borrow.Author.Needs.{needs}
-use Rattle.reading.proofs.rules.unknown.Statement.{statement}
-use Rattle.reading.proofs.rules.unknown.Tie as tie
+use Rattle.reading.proofs.rules.of_unknown.Statement.{statement}
+use Rattle.reading.proofs.rules.of_unknown.Tie as tie
 
-pub unknown-spec : {M : Type 1} → statement M
-unknown-spec =
+pub of-unknown-spec : {M : Type 1} → statement M
+of-unknown-spec =
     tie.close
     (tie.spec
     (λ c. search (needs, unknown-marked))

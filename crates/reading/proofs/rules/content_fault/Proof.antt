@@ -1,10 +1,10 @@
 use Rattle.reading.proofs.Judging.{content-free, content-number, content-sized, content-application}
 use borrow.Author.Needs.{needs}
-use Rattle.reading.proofs.rules.good_content.Statement.{statement}
-use Rattle.reading.proofs.rules.good_content.Tie as tie
+use Rattle.reading.proofs.rules.content_fault.Statement.{statement}
+use Rattle.reading.proofs.rules.content_fault.Tie as tie
 
-pub good-content-spec : {M : Type 1} → statement M
-good-content-spec =
+pub content-fault-spec : {M : Type 1} → statement M
+content-fault-spec =
     tie.close
     (tie.spec
     (λ c. search needs)
@@ -12,7 +12,9 @@ good-content-spec =
     (λ c κs. search needs)
     (λ c. search needs)
     (λ c. search needs)
+    (λ c κs. search needs)
     (λ c. search needs)
+    (λ c κs. search needs)
     (λ c κs. search needs)
     (λ c κs. search needs)
     (λ c. search (needs, content-free))

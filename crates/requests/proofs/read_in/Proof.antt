@@ -1,0 +1,18 @@
+use Rattle.requests.proofs.Requests.{request-header, request-first, request-walked}
+use borrow.Author.Needs.{needs}
+use Rattle.requests.proofs.read_in.Statement.{statement}
+use Rattle.requests.proofs.read_in.Tie as tie
+
+pub read-in-spec : {M : Type 1} → statement M
+read-in-spec =
+    tie.close
+    (tie.spec
+    (λ c κs. search needs)
+    (λ c κs. search needs)
+    (λ c. search (needs, request-header))
+    (λ c κs. search needs)
+    (λ c κs. search needs)
+    (λ c. search (needs, request-first))
+    (λ c κs. search needs)
+    (λ c κs. search needs)
+    (λ c. search (needs, request-walked)))
