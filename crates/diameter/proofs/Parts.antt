@@ -11,12 +11,12 @@ use lib.Dec.{leb}
 use borrow.Author.Tests.{eq-eqb, ne-eqb}
 use Rattle.octets.specs.Number.{be32At}
 use Rattle.octets.proofs.Numbers.{be32-drop, be32-take}
-use Rattle.diameter.specs.Avp.{headOf, avpCode, avpFlags, avpHead, vendorOf, dataOf, valueOf}
+use Rattle.diameter.specs.Avp.{padded, headOf, avpCode, avpFlags, avpHead, vendorOf, dataOf, valueOf}
 use Rattle.diameter.specs.Reader.{readOf, partAt, present, dataAt, ownOf, Here}
 use Rattle.diameter.specs.declared.Avp.{Avp}
 use Rattle.diameter.specs.declared.Read.{Read}
 use Rattle.diameter.specs.declared.Read.the-variants as read
-use Rattle.diameter.proofs.Reading.{own-avpHead, own-code, own-vendor, read-says, read-none}
+use Rattle.diameter.proofs.Reading.{Says, own-avpHead, own-code, own-vendor, read-says, read-none}
 
 drop-take : (k m : ℕ) (l : List ℕ) → drop k (take (k + m) l) ≡ take m (drop k l)
 drop-take zero m l = simp zero-add
@@ -74,6 +74,10 @@ module _ (s : List ℕ) (a : Avp) (h : Here s a) where
 
   pub data-there : (given ≡ dataOf (ownOf s a)) × (length given ≤ length s)
   data-there = (data-is, rw (data-is, data-length) (omega (arith, h .room)))
+
+-- the place of the next AVP, by the bytes of this one
+pub says-next : (s : List ℕ) (at : ℕ) (a : Avp) → Says s at a → at + padded (length (ownOf s a)) ≡ a .next
+says-next s at a says = rw (counted s a (says .here)) (sym (says .stepped))
 
 -- the reader's answer, and what is then at the place
 module _ (s : List ℕ) (at : ℕ) (r : Read) (e : r ≡ readOf at (drop at s)) where

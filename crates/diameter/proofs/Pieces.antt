@@ -17,14 +17,14 @@ module _ (a y : List ℕ) (big : 8 ≤ length a) where
   same-at : (i : ℕ) → i < 8 → getD (a ++ y) i 0 ≡ getD a i 0
   same-at i h = List·getD-append a y 0 i (omega arith)
 
-  same-len : avpLen (a ++ y) ≡ avpLen a
+  pub same-len : avpLen (a ++ y) ≡ avpLen a
   unfolding be24At
   same-len = rw (same-at 5 (omega arith), same-at 6 (omega arith), same-at 7 (omega arith))
 
-  same-head : avpHead (a ++ y) ≡ avpHead a
+  pub same-head : avpHead (a ++ y) ≡ avpHead a
   same-head = rw (same-at 4 (omega arith))
 
-sound-big : (a : List ℕ) → sound a ≡ true → 8 ≤ length a
+pub sound-big : (a : List ℕ) → sound a ≡ true → 8 ≤ length a
 sound-big a e = let h = sound-says a e in omega (arith, h .eight, h .least, h .within)
 
 pub sound-front : (a y : List ℕ) → sound a ≡ true → sound (a ++ y) ≡ true

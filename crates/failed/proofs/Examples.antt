@@ -12,10 +12,8 @@ use Rattle.pen.specs.Bytes.{avpBytes, avpSize, vendorBytes, vendorSize}
 use Rattle.pen.specs.Groups.{failed, failedSize}
 use Rattle.pen.proofs.Groups.{failed-length}
 use Rattle.reading.specs.Kinds.{rowOf}
-use Rattle.reading.specs.Rules.{isFour}
-use Rattle.reading.specs.Request.{exampleOf, example}
 use Rattle.reading.specs.declared.Kind.{Kind}
-use Rattle.failed.specs.Failing.{sizeOf, sample}
+use Rattle.failed.specs.Failing.{isFour, exampleSize, sample, exampleOf, example}
 
 abbrev zeros : List ℕ
 zeros = 0 ∷ 0 ∷ 0 ∷ 0 ∷ []
@@ -47,10 +45,10 @@ module _ (n : ℕ) (few : n ≤ 4) where
   pub vendor-most : {r : ℕ} → r ≡ vendorSize (length (take n zeros)) → r ≤ 16
   vendor-most e = rw (e, size) (omega arith)
 
-  data-is : (four : Bool) → n ≡ sizeOf four → take n zeros ≡ replicate (sizeOf four) 0
+  data-is : (four : Bool) → n ≡ exampleSize four → take n zeros ≡ replicate (exampleSize four) 0
   data-is four en = taken n few ∙ rw en
 
-  module _ (code vendor : ℕ) (four : Bool) {b xs : List ℕ} {r : ℕ} (en : n ≡ sizeOf four) where
+  module _ (code vendor : ℕ) (four : Bool) {b xs : List ℕ} {r : ℕ} (en : n ≡ exampleSize four) where
     pub wrote-base : vendor ≡ 0 → Wrote (avpBytes code (take n zeros)) b xs r → Wrote (sample code vendor four) b xs r
     unfolding sample
     wrote-base h w = rw (eq-eqb vendor 0 h) (named (rw (data-is four en)) refl w)
@@ -66,7 +64,7 @@ counted p = p .count ∙ sym (ap length (front p))
 module _ (k : ℕ) (row : Kind) (four : Bool) (er : row ≡ rowOf k) (ef : four ≡ isFour (row .content)) {b xs : List ℕ} {n : ℕ}
     (p : Wrote (sample (row .code) (row .vendor) four) b xs n) where
   is-example : take n xs ≡ example k
-  unfolding sample example exampleOf
+  unfolding sample exampleOf
   is-example = front p ∙ rw (ef, er)
 
   pub example-room : {m : ℕ} → length (failed (example k)) ≤ m → failedSize (length (take n xs)) ≤ m

@@ -16,8 +16,7 @@ use Rattle.octets.proofs.Parts.{part-cut}
 use Rattle.diameter.specs.Avp.{headOf, avpHead, avpLen}
 use Rattle.pen.specs.Groups.{failed, failedSize}
 use Rattle.pen.proofs.Groups.{failed-length}
-use Rattle.reading.specs.Rules.{failedOf}
-use Rattle.failed.specs.Failing.{headPart, alone}
+use Rattle.failed.specs.Failing.{headPart, alone, failedOf}
 
 -- The length in a header, byte by byte.
 pub length-read : (s : List ℕ) (at x y z a b c : ℕ) → x ≡ getD s (at + 5) 0 → a ≡ x → y ≡ getD s (at + 6) 0 → b ≡ y → z ≡ getD s (at + 7) 0 → c ≡ z
@@ -93,14 +92,8 @@ module _ (h y : List ℕ) (n : ℕ) {z x : List ℕ} (copy : Wrote h z x (length
 -- For B5014 the header alone; else the AVP.
 module _ (n : ℕ) (t h : List ℕ) (is : n ≡ 5014) (eh : h ≡ headPart t) where
   faulty-head : failedOf n t ≡ alone h
-  unfolding failedOf headPart alone
-  faulty-head = rw (eq-eqb n 5014 is, eh) (go (leb (avpHead t) (length t)) refl)
-    where
-      go : (x : Bool) → leb (avpHead t) (length t) ≡ x
-          → cond x (set (set (set (take (avpHead t) t) 5 0) 6 0) 7 (avpHead t)) []
-          ≡ set (set (set (cond x (take (avpHead t) t) []) 5 0) 6 0) 7 (length (cond x (take (avpHead t) t) []))
-      go true e = rw (length-take-le (avpHead t) t (leb-true _ _ e))
-      go false e = refl
+  unfolding failedOf
+  faulty-head = rw (eq-eqb n 5014 is, eh)
 
   pub head-room : {m : ℕ} → length (failed (failedOf n t)) ≤ m → failedSize (length h) ≤ m
   head-room r = let e : length (failed (failedOf n t)) ≡ failedSize (length h) = failed-length (failedOf n t) ∙ rw (faulty-head, alone-length h) in rw e at r

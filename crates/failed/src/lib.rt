@@ -3,6 +3,7 @@ use octets::name;
 use octets::number;
 use octets::run;
 use pen::group;
+use reading::Content;
 use reading::kinds;
 ghost use mathlib.Core.Path.{_≡_};
 ghost use Prim.Native.Nat.{_+_, _*_, _≤_, _<_};
@@ -10,9 +11,7 @@ ghost use lib.ListN.{length, take, drop};
 ghost use Rattle.octets.specs.Run.{Wrote};
 ghost use Rattle.diameter.specs.Avp.{avpLen};
 ghost use Rattle.pen.specs.Groups.{failed, failedSize};
-ghost use Rattle.reading.specs.Request.{example};
-ghost use Rattle.reading.specs.Rules.{failedOf};
-ghost use Rattle.failed.specs.Failing.{headPart, alone, sizeOf, sample};
+ghost use Rattle.failed.specs.Failing.{headPart, alone, failedOf, isFour, exampleSize, sample, example};
 
 // The length in the header of the AVP at a place, bytes past the end taken as 0.
 fn length_at(s: &[u8], at: usize) -> usize
@@ -74,9 +73,21 @@ pub fn put_faulty(out: &mut [u8], req: &[u8], at: usize, n: u32) -> usize
     group::put_failed(out, whole(req, at))
 }
 
+// "277, 623, 614 and 624 are the 4-byte kinds."
+fn is_four(c: Content) -> bool
+    ensures { λ r. ⌜ r ≡ isFour c ⌝ }
+{
+    match c {
+        Content::Free => false,
+        Content::Number(_, _) => true,
+        Content::Sized(_, _) => false,
+        Content::Application => false,
+    }
+}
+
 // How many bytes of data an example has.
-fn size_of(four: bool) -> usize
-    ensures { λ r. ⌜ (r ≡ sizeOf four) × (r ≤ 4) ⌝ }
+fn example_size(four: bool) -> usize
+    ensures { λ r. ⌜ (r ≡ exampleSize four) × (r ≤ 4) ⌝ }
 {
     if four { 4 } else { 0 }
 }
@@ -87,7 +98,7 @@ fn put_sample(out: &mut [u8], code: u32, vendor: u32, four: bool) -> usize
     ensures { λ r. ⌜ (r ≤ 16) × Wrote (sample code vendor four) (now (out .entry)) (now (out .exit)) r ⌝ }
 {
     let zeros = [0u8; 4];
-    let n = size_of(four);
+    let n = example_size(four);
     if vendor == 0 {
         return pen::put_avp(out, code, &zeros[..n]);
     }
@@ -101,7 +112,7 @@ pub fn put_example(out: &mut [u8], k: usize) -> usize
 {
     let row = kinds::row_of(k);
     let content = row.content;
-    let four = kinds::is_four(content);
+    let four = is_four(content);
     let mut bytes = [0u8; 16];
     let n = put_sample(&mut bytes, row.code, row.vendor, four);
     group::put_failed(out, &bytes[..n])

@@ -3,18 +3,18 @@ use Prim.Native.Nat.{ℕ, suc, _/_, _%_}
 use mathlib.Core.List.{List, [], _∷_}
 use mathlib.Core.Option.{Option, none, some}
 use mathlib.Core.Bool.{Bool, false, cond, not, _&&_}
-use lib.ListN.{getD, drop, replicate}
+use lib.ListN.{getD, drop}
 use lib.Dec.{eqb, leb}
 use Rattle.octets.specs.Number.{be24At, be32At}
 use Rattle.diameter.specs.Avp.{dataOf, valueOf, avpFlags, reserved}
 use Rattle.diameter.specs.Walk.{Walk, ended, faulty, avp, walk}
 use Rattle.diameter.specs.Reader.{present}
-use Rattle.pen.specs.Bytes.{avpBytes, vendorBytes}
 use Rattle.reading.specs.declared.Dialect.{Dialect}
 use Rattle.reading.specs.declared.Kind.{Kind}
 use Rattle.reading.specs.declared.Outcome.the-variants.{Base}
-use Rattle.reading.specs.Kinds.{known, kindOf, rowOf, useIn, isNeeded, sessionId, publicIdentity}
-use Rattle.reading.specs.Rules.{Seen, Judged, bad, fine, isFour, nothing, judge}
+use Rattle.reading.specs.declared.Verdict.{Verdict}
+use Rattle.reading.specs.Kinds.{known, kindOf, useIn, isNeeded, sessionId, publicIdentity}
+use Rattle.reading.specs.Rules.{Seen, Judged, bad, fine, nothing, judge}
 
 abbrev pub commandOf : List ℕ → ℕ
 commandOf req = be24At req 5
@@ -42,16 +42,6 @@ headerFault d req =
     (cond (not (eqb (applicationOf req) (d .application))) 3007
     0)))
 
--- "for B5005 an example with zero data, 4 bytes for 4-byte kinds, else none"
-unfoldable pub exampleOf : Kind → List ℕ
-exampleOf k =
-    cond (eqb (k .vendor) 0)
-    (avpBytes (k .code) (replicate (cond (isFour (k .content)) 4 0) 0))
-    (vendorBytes (k .code) (replicate (cond (isFour (k .content)) 4 0) 0))
-
-unfoldable pub example : ℕ → List ℕ
-example n = exampleOf (rowOf n)
-
 -- (b) "the first AVP is no Session-Id: B5005 for Session-Id"
 abbrev pub firstOther : Walk → Bool
 firstOther ended = false
@@ -68,21 +58,28 @@ missingFrom d seen (k ∷ ks) n =
 unfoldable pub missing : Dialect → Seen → ℕ
 missing d seen = missingFrom d seen known 1
 
+-- a kind that is missing; a fault of the header
+abbrev pub lacking : ℕ → Verdict
+lacking k = record { result = Base 5005; place = 0; lacks = k }
+
+abbrev pub faultOf : ℕ → Verdict
+faultOf n = record { result = Base n; place = 0; lacks = 0 }
+
 -- "After the walk, the first missing AVP in the order below: B5005. With no AVPs, Session-Id is missing."
 unfoldable pub complete : Dialect → Judged → Judged
-complete d (bad r f) = bad r f
-complete d (fine seen) = cond (eqb (missing d seen) 0) (fine seen) (bad (Base 5005) (some (example (missing d seen))))
+complete d (bad v) = bad v
+complete d (fine seen) = cond (eqb (missing d seen) 0) (fine seen) (bad (lacking (missing d seen)))
 
+-- the AVPs begin behind the header's 20 bytes
 unfoldable pub readWalk : Dialect → Walk → Judged
-readWalk d w = cond (firstOther w) (bad (Base 5005) (some (example sessionId))) (complete d (judge d w nothing))
+readWalk d w = cond (firstOther w) (bad (lacking sessionId)) (complete d (judge d 20 w nothing))
 
--- the body's AVPs
 abbrev pub bodyOf : List ℕ → Walk
 bodyOf req = walk (drop 20 req)
 
 -- a request read in a dialect; a request to the Cx server
 unfoldable pub readIn : Dialect → List ℕ → Judged
-readIn d req = cond (eqb (headerFault d req) 0) (readWalk d (bodyOf req)) (bad (Base (headerFault d req)) none)
+readIn d req = cond (eqb (headerFault d req) 0) (readWalk d (bodyOf req)) (bad (faultOf (headerFault d req)))
 
 abbrev pub readRequest : List ℕ → Judged
 readRequest req = readIn (dialectOf cx req) req

@@ -1,23 +1,23 @@
 -- "Then AVPs by position; the first fault decides": rules (c) to (h), and what a row of AVPs comes to. Rule (a) is the walk's, (b) the first AVP's.
 use Prim.Native.Nat.{ℕ, _+_}
-use mathlib.Core.List.{List, []}
+use mathlib.Core.List.{List}
 use mathlib.Core.Option.{Option, none, some}
 use mathlib.Core.Bool.{Bool, true, false, cond, not, _&&_}
-use lib.ListN.{length, getD, take, set, replicate}
+use lib.ListN.{length, getD, set, replicate}
 use lib.Dec.{leb, ltb, eqb}
 use Rattle.octets.specs.Number.{be32At}
-use Rattle.diameter.specs.Avp.{avpCode, avpFlags, avpHead, avpLen, dataOf, valueOf, reserved, marked}
+use Rattle.diameter.specs.Avp.{padded, avpCode, avpFlags, avpHead, dataOf, valueOf, reserved, marked}
 use Rattle.diameter.specs.Walk.{Walk, ended, faulty, avp, walk}
 use Rattle.diameter.specs.Reader.{present}
 use Rattle.reading.specs.declared.Content.{Content}
 use Rattle.reading.specs.declared.Content.the-variants.{Free, Number, Sized, Application}
 use Rattle.reading.specs.declared.Dialect.{Dialect}
-use Rattle.reading.specs.declared.Outcome.{Outcome}
 use Rattle.reading.specs.declared.Outcome.the-variants.{Base}
 use Rattle.reading.specs.declared.Ruled.{Ruled}
 use Rattle.reading.specs.declared.Ruled.the-variants.{Taken, Skipped, Fault}
 use Rattle.reading.specs.declared.Use.{Use}
 use Rattle.reading.specs.declared.Use.the-variants.{Unknown, Unnamed, Needed, Optional, Repeated}
+use Rattle.reading.specs.declared.Verdict.{Verdict}
 use Rattle.reading.specs.Kinds.{kinds, kindOf, rowOf, useOf}
 
 -- "260 holds, in any order, one or more Vendor-Id 266, each 10415, and one Auth-Application-Id 258 of 16777216, all 4-byte AVPs passing (a) and (c),
@@ -35,12 +35,6 @@ members application (avp m w) vendor app =
     false)
 
 -- The fault of what an AVP holds, 0 where there is none: (g) "a 4-byte kind of another length: B5014", (h) "bad content: B5004"
-abbrev pub isFour : Content → Bool
-isFour Free = false
-isFour (Number least most) = true
-isFour (Sized least most) = false
-isFour Application = false
-
 abbrev pub faultUnless : Bool → ℕ → ℕ
 faultUnless good n = cond good 0 n
 
@@ -87,24 +81,22 @@ ruleBy u earlier flags fault = cond (not (eqb (reserved flags) 0)) (Fault 3009) 
 unfoldable pub rule : Dialect → Seen → List ℕ → Ruled
 rule d seen a = ruleBy (useOf d a) (present (getD seen (kindOf a) none)) (avpFlags a) (contentFault d (rowOf (kindOf a) .content) a)
 
--- "Failed-AVP holds the faulty top-level AVP; for B5014 its header alone with the length set to 8 or 12, and a 279 without data if that header is cut off"
-unfoldable pub failedOf : ℕ → List ℕ → List ℕ
-failedOf n t =
-    cond (eqb n 5014)
-    (cond (leb (avpHead t) (length t)) (set (set (set (take (avpHead t) t) 5 0) 6 0) 7 (avpHead t)) [])
-    (take (avpLen t) t)
-
--- A request read: the first fault's result with what Failed-AVP holds, if it has one; or what the command names
+-- A request read: the first fault, or what the command names
 pub data Judged : Type 0 where
-  bad : Outcome → Option (List ℕ) → Judged
+  bad : Verdict → Judged
   fine : Seen → Judged
 
-abbrev pub onRule : Ruled → Seen → List ℕ → (Seen → Judged) → Judged
-onRule Taken seen a next = next (set seen (kindOf a) (some a))
-onRule Skipped seen a next = next seen
-onRule (Fault n) seen a next = bad (Base n) (some (failedOf n a))
+-- the fault of an AVP that begins at a place
+abbrev pub faultAt : ℕ → ℕ → Verdict
+faultAt n at = record { result = Base n; place = at; lacks = 0 }
 
-unfoldable pub judge : Dialect → Walk → Seen → Judged
-judge d ended seen = fine seen
-judge d (faulty t) seen = bad (Base 5014) (some (failedOf 5014 t))
-judge d (avp a w) seen = onRule (rule d seen a) seen a (judge d w)
+abbrev pub onRule : Ruled → Seen → List ℕ → ℕ → (Seen → Judged) → Judged
+onRule Taken seen a at next = next (set seen (kindOf a) (some a))
+onRule Skipped seen a at next = next seen
+onRule (Fault n) seen a at next = bad (faultAt n at)
+
+-- the walk from a place on: the next AVP begins behind this one's padding
+unfoldable pub judge : Dialect → ℕ → Walk → Seen → Judged
+judge d at ended seen = fine seen
+judge d at (faulty t) seen = bad (faultAt 5014 at)
+judge d at (avp a w) seen = onRule (rule d seen a) seen a at (judge d (at + padded (length a)) w)

@@ -8,7 +8,6 @@ ghost use mathlib.Core.Path.{_≡_};
 ghost use Prim.Native.Nat.{_<_};
 ghost use Rattle.diameter.specs.Reader.{ownOf, Here};
 ghost use Rattle.reading.specs.Kinds.{kinds, row, kindBy, kindOf, rowOf, useIn, isNeeded};
-ghost use Rattle.reading.specs.Rules.{isFour};
 
 pub const SESSION_ID: usize = 1;
 
@@ -175,17 +174,5 @@ pub fn needed(u: Use) -> bool
         Use::Needed => true,
         Use::Optional => false,
         Use::Repeated => false,
-    }
-}
-
-// "277, 623, 614 and 624 are the 4-byte kinds."
-pub fn is_four(c: Content) -> bool
-    ensures { λ r. ⌜ r ≡ isFour c ⌝ }
-{
-    match c {
-        Content::Free => false,
-        Content::Number(_, _) => true,
-        Content::Sized(_, _) => false,
-        Content::Application => false,
     }
 }

@@ -1,23 +1,19 @@
 -- Demand 3 over walks: an unknown kind without M is passed over; one with M is B5001, unless an AVP in front of it is at fault.
-use Prim.Native.Nat.{ℕ}
+use Prim.Native.Nat.{ℕ, _+_}
 use mathlib.Core.Path.{_≡_, refl, ap, _∙_, fun-ext}
 use mathlib.Core.List.{List, [], _∷_}
-use mathlib.Core.Option.{some}
 use mathlib.Core.Bool.{Bool, true, false, cond}
 use lib.ListN.{length}
-use lib.Seq.{take-all}
 use lib.Dec.{eqb}
-use native.Mathlib.Omega.{arith}
-use Rattle.diameter.specs.Avp.{avpFlags, reserved, marked}
+use Rattle.diameter.specs.Avp.{padded, avpFlags, reserved, marked}
 use Rattle.diameter.specs.Walk.{Walk, ended, avp}
-use Rattle.diameter.specs.Put.{glue, Piece, Whole}
+use Rattle.diameter.specs.Put.{glue}
 use Rattle.reading.specs.declared.Dialect.{Dialect}
-use Rattle.reading.specs.declared.Outcome.the-variants.{Base}
 use Rattle.reading.specs.declared.Ruled.{Ruled}
 use Rattle.reading.specs.declared.Ruled.the-variants.{Taken, Skipped, Fault}
 use Rattle.reading.specs.declared.Use.the-variants.{Unknown}
 use Rattle.reading.specs.Kinds.{kindOf, rowOf, useIn, useOf}
-use Rattle.reading.specs.Rules.{ruleBy, rule, Seen, failedOf, Judged, bad, fine, onRule, judge}
+use Rattle.reading.specs.Rules.{ruleBy, rule, Seen, Judged, bad, fine, faultAt, onRule, judge}
 
 -- a kind that is unknown everywhere
 pub unknown-use : (dialect : Dialect) (u : List ℕ) → kindOf u ≡ 0 → useOf dialect u ≡ Unknown
@@ -30,34 +26,36 @@ unknown-use dialect u e = rw e (go (eqb (dialect .command) 300) (eqb (dialect .c
     go false false = refl
 
 -- an AVP of a kind that the dialect does not know, without a reserved flag
-module _ (dialect : Dialect) (u : List ℕ) (w : Walk) (plain : reserved (avpFlags u) ≡ 0) (stranger : useOf dialect u ≡ Unknown) where
-  pub judge-unmarked : marked (avpFlags u) ≡ false → judge dialect (avp u w) ≡ judge dialect w
+module _ (dialect : Dialect) (at : ℕ) (u : List ℕ) (w : Walk) (seen : Seen) (plain : reserved (avpFlags u) ≡ 0) (stranger : useOf dialect u ≡ Unknown) where
+  pub judge-unmarked : marked (avpFlags u) ≡ false → judge dialect at (avp u w) seen ≡ judge dialect (at + padded (length u)) w seen
   unfolding judge rule ruleBy
-  judge-unmarked m = fun-ext (λ seen. rw (plain, stranger, m))
+  judge-unmarked m = rw (plain, stranger, m)
 
-  pub judge-marked : (seen : Seen) → marked (avpFlags u) ≡ true → judge dialect (avp u w) seen ≡ bad (Base 5001) (some (failedOf 5001 u))
+  pub judge-marked : marked (avpFlags u) ≡ true → judge dialect at (avp u w) seen ≡ bad (faultAt 5001 at)
   unfolding judge rule ruleBy
-  judge-marked seen m = rw (plain, stranger, m)
+  judge-marked m = rw (plain, stranger, m)
 
 -- a row of AVPs is judged, and then what is behind it, if the row has no fault
 unfoldable pub andThen : Judged → (Seen → Judged) → Judged
-andThen (bad r f) next = bad r f
+andThen (bad v) next = bad v
 andThen (fine seen) next = next seen
 
-rule-then : (x : Ruled) (seen : Seen) (a : List ℕ) (k l : Seen → Judged) → onRule x seen a (λ τ. andThen (k τ) l) ≡ andThen (onRule x seen a k) l
+rule-then : (x : Ruled) (seen : Seen) (a : List ℕ) (at : ℕ) (k l : Seen → Judged) → onRule x seen a at (λ τ. andThen (k τ) l) ≡ andThen (onRule x seen a at k) l
 unfolding andThen
-rule-then Taken seen a k l = refl
-rule-then Skipped seen a k l = refl
-rule-then (Fault n) seen a k l = refl
+rule-then Taken seen a at k l = refl
+rule-then Skipped seen a at k l = refl
+rule-then (Fault n) seen a at k l = refl
 
-pub judge-glue : (dialect : Dialect) (avs : List (List ℕ)) (w : Walk) (seen : Seen) → judge dialect (glue avs w) seen ≡ andThen (judge dialect (glue avs ended) seen) (judge dialect w)
-unfolding judge glue andThen
-judge-glue dialect [] w seen = refl
-judge-glue dialect (a ∷ avs) w seen =
-    ap (onRule (rule dialect seen a) seen a) (fun-ext (λ τ. judge-glue dialect avs w τ))
-    ∙ rule-then (rule dialect seen a) seen a (judge dialect (glue avs ended)) (judge dialect w)
+-- the place behind a row of AVPs
+unfoldable pub past : ℕ → List (List ℕ) → ℕ
+past at [] = at
+past at (a ∷ avs) = past (at + padded (length a)) avs
 
--- Failed-AVP holds it whole
-pub put-failed : (q : Piece) (n : ℕ) → Whole q → eqb n 5014 ≡ false → failedOf n (q .avp) ≡ q .avp
-unfolding failedOf
-put-failed q n h e = rw (e, h .exact) (take-all (length (q .avp)) (q .avp) (omega arith))
+pub judge-glue : (dialect : Dialect) (at : ℕ) (avs : List (List ℕ)) (w : Walk) (seen : Seen)
+    → judge dialect at (glue avs w) seen ≡ andThen (judge dialect at (glue avs ended) seen) (judge dialect (past at avs) w)
+unfolding judge glue andThen past
+judge-glue dialect at [] w seen = refl
+judge-glue dialect at (a ∷ avs) w seen =
+    let n = at + padded (length a) in
+    ap (onRule (rule dialect seen a) seen a at) (fun-ext (λ τ. judge-glue dialect n avs w τ))
+    ∙ rule-then (rule dialect seen a) seen a at (judge dialect n (glue avs ended)) (judge dialect (past n avs) w)

@@ -10,28 +10,27 @@ use lib.ListN.{length, getD, set, replicate}
 use lib.Dec.{eqb, leb}
 use borrow.Author.Tests.{eqb-true, leb-true}
 use Rattle.octets.proofs.All.{and-left, and-right}
-use Rattle.diameter.specs.Avp.{avpFlags, avpHead, dataOf, reserved, marked}
+use Rattle.diameter.specs.Avp.{padded, avpFlags, dataOf, reserved, marked}
 use Rattle.diameter.specs.Walk.{Walk, ended, faulty, avp}
 use Rattle.diameter.specs.Reader.{present}
 use Rattle.reading.specs.declared.Content.the-variants.{Sized}
 use Rattle.reading.specs.declared.Dialect.{Dialect}
 use Rattle.reading.specs.declared.Kind.{Kind}
-use Rattle.reading.specs.declared.Outcome.{Outcome}
-use Rattle.reading.specs.declared.Outcome.the-variants.{Base}
 use Rattle.reading.specs.declared.Ruled.{Ruled}
 use Rattle.reading.specs.declared.Ruled.the-variants.{Taken, Skipped, Fault}
 use Rattle.reading.specs.declared.Use.{Use}
 use Rattle.reading.specs.declared.Use.the-variants.{Unknown, Unnamed, Needed, Optional, Repeated}
+use Rattle.reading.specs.declared.Verdict.{Verdict}
 use Rattle.reading.specs.Kinds.{kinds, known, unknown, kindOf, rowOf, useIn, useOf, isNeeded, sessionId, serverName}
 use Rattle.reading.specs.Rules.{faultUnless, contentFault, ofContent, ofUse, ruleBy, rule, Seen, nothing, Judged, bad, fine, onRule, judge}
-use Rattle.reading.specs.Request.{commandOf, dialectOf, cx, headerFault, firstOther, missingFrom, missing, complete, readWalk, readIn, readRequest, bodyOf, example, given, dataIf, dataIn}
+use Rattle.reading.specs.Request.{commandOf, dialectOf, cx, headerFault, firstOther, missingFrom, missing, complete, readWalk, readIn, readRequest, bodyOf, lacking, faultOf, given, dataIf, dataIn}
 
 -- every AVP that was taken holds what its kind must
 abbrev pub AllKept : Dialect → Seen → Type 0
 AllKept dialect seen = (k : ℕ) (a : List ℕ) → getD seen k none ≡ some a → contentFault dialect (rowOf k .content) a ≡ 0
 
-bad-fine : {A : Type 0} (r : Outcome) (f : Option (List ℕ)) (seen : Seen) → bad r f ≡ fine seen → A
-bad-fine r f seen e = let z : _≡_ {A = ℕ} 0 1 = cc in absurd (omega arith)
+bad-fine : {A : Type 0} (v : Verdict) (seen : Seen) → bad v ≡ fine seen → A
+bad-fine v seen e = let z : _≡_ {A = ℕ} 0 1 = cc in absurd (omega arith)
 
 -- an AVP with bad content is not taken
 data TakenIf (fault : ℕ) : Ruled → Type 0 where
@@ -72,17 +71,17 @@ set-cases (y ∷ l) (suc i) (suc k) x b e p q = set-cases l i k x b e (λ z. p (
 taken-kept : (dialect : Dialect) (seen : Seen) (a : List ℕ) → AllKept dialect seen → contentFault dialect (rowOf (kindOf a) .content) a ≡ 0 → AllKept dialect (set seen (kindOf a) (some a))
 taken-kept dialect seen a h g k b e = set-cases seen (kindOf a) k (some a) b e (λ i j. let ab : a ≡ b = cc in rw (i, ← ab) g) (h k b)
 
-judge-kept : (dialect : Dialect) (w : Walk) (seen out : Seen) → AllKept dialect seen → judge dialect w seen ≡ fine out → AllKept dialect out
+judge-kept : (dialect : Dialect) (at : ℕ) (w : Walk) (seen out : Seen) → AllKept dialect seen → judge dialect at w seen ≡ fine out → AllKept dialect out
 unfolding judge
-judge-kept dialect ended seen out h e = let d : seen ≡ out = cc in rw d at h
-judge-kept dialect (faulty t) seen out h e = bad-fine _ _ _ e
-judge-kept dialect (avp a w) seen out h e = go (rule dialect seen a) (rule-taken dialect seen a) e (judge-kept dialect w)
+judge-kept dialect at ended seen out h e = let d : seen ≡ out = cc in rw d at h
+judge-kept dialect at (faulty t) seen out h e = bad-fine _ _ e
+judge-kept dialect at (avp a w) seen out h e = go (rule dialect seen a) (rule-taken dialect seen a) e (judge-kept dialect (at + padded (length a)) w)
   where
-    go : (x : Ruled) → TakenIf (contentFault dialect (rowOf (kindOf a) .content) a) x → onRule x seen a (judge dialect w) ≡ fine out
-        → ((σ τ : Seen) → AllKept dialect σ → judge dialect w σ ≡ fine τ → AllKept dialect τ) → AllKept dialect out
+    go : (x : Ruled) → TakenIf (contentFault dialect (rowOf (kindOf a) .content) a) x → onRule x seen a at (judge dialect (at + padded (length a)) w) ≡ fine out
+        → ((σ τ : Seen) → AllKept dialect σ → judge dialect (at + padded (length a)) w σ ≡ fine τ → AllKept dialect τ) → AllKept dialect out
     go Taken (taken g) d next = next (set seen (kindOf a) (some a)) out (taken-kept dialect seen a h g) d
     go Skipped skipped d next = next seen out h d
-    go (Fault n) (faulted m) d next = bad-fine _ _ _ d
+    go (Fault n) (faulted m) d next = bad-fine _ _ d
 
 nothing-kept : (dialect : Dialect) → AllKept dialect nothing
 unfolding nothing
@@ -96,34 +95,34 @@ nothing-kept dialect k a e = absurd (Option·none-ne-some a (sym (none-there kin
 -- a request without fault: its walk, and nothing is missing
 complete-fine : (dialect : Dialect) (j : Judged) (seen : Seen) → complete dialect j ≡ fine seen → (j ≡ fine seen) × (missing dialect seen ≡ 0)
 unfolding complete
-complete-fine dialect (bad r f) seen e = bad-fine r f seen e
+complete-fine dialect (bad v) seen e = bad-fine v seen e
 complete-fine dialect (fine σ) seen e = go (eqb (missing dialect σ) 0) refl e
   where
-    go : (x : Bool) → eqb (missing dialect σ) 0 ≡ x → cond x (fine σ) (bad (Base 5005) (some (example (missing dialect σ)))) ≡ fine seen
+    go : (x : Bool) → eqb (missing dialect σ) 0 ≡ x → cond x (fine σ) (bad (lacking (missing dialect σ))) ≡ fine seen
         → (fine σ ≡ fine seen) × (missing dialect seen ≡ 0)
     go true p d = let q : σ ≡ seen = cc in (d, rw (← q) (eqb-true _ _ p))
-    go false p d = bad-fine _ _ _ d
+    go false p d = bad-fine _ _ d
 
-walk-fine : (dialect : Dialect) (w : Walk) (seen : Seen) → readWalk dialect w ≡ fine seen → (judge dialect w nothing ≡ fine seen) × (missing dialect seen ≡ 0)
+walk-fine : (dialect : Dialect) (w : Walk) (seen : Seen) → readWalk dialect w ≡ fine seen → (judge dialect 20 w nothing ≡ fine seen) × (missing dialect seen ≡ 0)
 unfolding readWalk
 walk-fine dialect w seen e = go (firstOther w) e
   where
-    go : (x : Bool) → cond x (bad (Base 5005) (some (example sessionId))) (complete dialect (judge dialect w nothing)) ≡ fine seen
-        → (judge dialect w nothing ≡ fine seen) × (missing dialect seen ≡ 0)
-    go true d = bad-fine _ _ _ d
-    go false d = complete-fine dialect (judge dialect w nothing) seen d
+    go : (x : Bool) → cond x (bad (lacking sessionId)) (complete dialect (judge dialect 20 w nothing)) ≡ fine seen
+        → (judge dialect 20 w nothing ≡ fine seen) × (missing dialect seen ≡ 0)
+    go true d = bad-fine _ _ d
+    go false d = complete-fine dialect (judge dialect 20 w nothing) seen d
 
-request-fine : (req : List ℕ) (seen : Seen) → readRequest req ≡ fine seen → (judge (dialectOf cx req) (bodyOf req) nothing ≡ fine seen) × (missing (dialectOf cx req) seen ≡ 0)
+request-fine : (req : List ℕ) (seen : Seen) → readRequest req ≡ fine seen → (judge (dialectOf cx req) 20 (bodyOf req) nothing ≡ fine seen) × (missing (dialectOf cx req) seen ≡ 0)
 unfolding readIn
 request-fine req seen e = go (eqb (headerFault (dialectOf cx req) req) 0) e
   where
-    go : (x : Bool) → cond x (readWalk (dialectOf cx req) (bodyOf req)) (bad (Base (headerFault (dialectOf cx req) req)) none) ≡ fine seen
-        → (judge (dialectOf cx req) (bodyOf req) nothing ≡ fine seen) × (missing (dialectOf cx req) seen ≡ 0)
+    go : (x : Bool) → cond x (readWalk (dialectOf cx req) (bodyOf req)) (bad (faultOf (headerFault (dialectOf cx req) req))) ≡ fine seen
+        → (judge (dialectOf cx req) 20 (bodyOf req) nothing ≡ fine seen) × (missing (dialectOf cx req) seen ≡ 0)
     go true d = walk-fine (dialectOf cx req) (bodyOf req) seen d
-    go false d = bad-fine _ _ _ d
+    go false d = bad-fine _ _ d
 
 pub read-kept : (req : List ℕ) (seen : Seen) → readRequest req ≡ fine seen → AllKept (dialectOf cx req) seen
-read-kept req seen e = judge-kept (dialectOf cx req) (bodyOf req) nothing seen (nothing-kept (dialectOf cx req)) (request-fine req seen e .0)
+read-kept req seen e = judge-kept (dialectOf cx req) 20 (bodyOf req) nothing seen (nothing-kept (dialectOf cx req)) (request-fine req seen e .0)
 
 -- what is needed came
 missing-zero : (dialect : Dialect) (seen : Seen) (ks : List Kind) (n : ℕ) → 0 < n → missingFrom dialect seen ks n ≡ 0 → (i : ℕ) → i < length ks

@@ -1,7 +1,7 @@
-pub mod Failing
 pub mod Insert
 pub mod Kept
 pub mod Naming
 pub mod Placed
+pub mod Refusing
 pub mod Requests
 pub mod Turns

@@ -6,13 +6,12 @@ use native.Mathlib.Omega.{arith}
 use lib.ListN.{length, drop}
 use borrow.Author.Tests.{ne-eqb}
 use Rattle.diameter.specs.Walk.{walk}
-use Rattle.diameter.specs.Reader.{readOf, avpOf, avpAt, ownOf}
+use Rattle.diameter.specs.Reader.{readOf, avpAt, ownOf}
 use Rattle.diameter.specs.declared.Avp.{Avp}
 use Rattle.diameter.specs.declared.Read.{Read}
 use Rattle.diameter.specs.declared.Read.the-variants as read
 use Rattle.diameter.proofs.Reading.{read-says, read-unsound, walk-past}
 use Rattle.reading.specs.Kinds.{kindOf, publicIdentity}
-use Rattle.reading.specs.Rules.{failedOf}
 use Rattle.reading.specs.Request.{identities}
 use Rattle.requests.specs.Identity.{namedBy, Stands, Named}
 use Rattle.requests.specs.declared.identities.Next.{Next}
@@ -44,7 +43,7 @@ module _ (s : List ℕ) (from at : ℕ) (reached : from ≤ at) (left : identiti
       unfolding identities
       named-more z = rw (read-says s at r e a d .walked, ← ek, ne-eqb _ _ z) at left
 
--- What a caller may use of the answer: the first identity and the rest, or none; a loop over them ends; Failed-AVP holds the AVP whole.
+-- What a caller may use of the answer: the first identity and the rest, or none; a loop over them ends.
 module _ (s : List ℕ) (from : ℕ) (r : Next) (n : Named s from r) where
   pub named-none : r ≡ Nothing → identities (walk (drop from s)) ≡ []
   unfolding namedBy
@@ -60,7 +59,3 @@ module _ (s : List ℕ) (from : ℕ) (r : Next) (n : Named s from r) where
 
     pub named-less : length s - past < length s - from
     named-less = let h = named-stands in omega (arith, h .reached, h .inside, h .later)
-
-    pub named-failed : (number : ℕ) → (number ≡ 5014 → ⊥) → failedOf number (drop place s) ≡ avpAt s place
-    unfolding failedOf avpOf
-    named-failed number h = rw (ne-eqb _ _ h, named-stands .sounds)

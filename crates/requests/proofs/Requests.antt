@@ -21,10 +21,10 @@ use Rattle.reading.specs.declared.Dialect.{Dialect}
 use Rattle.reading.specs.declared.Walked.{Walked}
 use Rattle.reading.specs.Kinds.{kinds, known, unknown, sessionId, kindOf, rowOf, useIn, isNeeded}
 use Rattle.reading.specs.Rules.{Seen, nothing, Judged, bad, fine, judge}
-use Rattle.reading.specs.Request.{commandOf, applicationOf, cx, spoken, headerFault, firstOther, missingFrom, missing, complete, readWalk, bodyOf, readIn, readRequest, sessionOf}
-use Rattle.reading.specs.Found.{seenOf, failedBy, judgedOf, Refused}
+use Rattle.reading.specs.Request.{commandOf, applicationOf, cx, spoken, headerFault, firstOther, missingFrom, missing, lacking, faultOf, complete, readWalk, bodyOf, readIn, readRequest, sessionOf}
+use Rattle.reading.specs.Found.{seenOf, judgedOf, Refused}
 use Rattle.reading.proofs.Judging.{seen-at}
-use Rattle.requests.proofs.Failing.{refused-lacking, refused-alone}
+use Rattle.requests.proofs.Refusing.{refused-is}
 
 -- "Header, in order"
 module _ (req : List ℕ) (dialect : Dialect) where
@@ -108,24 +108,23 @@ module _ (s : List ℕ) (dialect : Dialect) (w : Walked) where
     unfolding judgedOf complete
     complete-whole z = rw (t, ← e, z)
 
-    pub complete-lacking : (r : Walked) → (k ≡ 0 → ⊥) → Refused 5005 0 k r → judgedOf s r ≡ complete dialect (judgedOf s w)
+    pub complete-lacking : (r : Walked) → (k ≡ 0 → ⊥) → Refused (lacking k) r → judgedOf s r ≡ complete dialect (judgedOf s w)
     unfolding judgedOf complete
     complete-lacking r h f =
-        let p : 0 < k = omega arith in
-        refused-lacking s 5005 r k p f ∙ rw (t, ← e, ne-eqb _ _ h)
+        refused-is s (lacking k) r f ∙ rw (t, ← e, ne-eqb _ _ h)
 
 -- header, first AVP, walk, what is missing
 module _ (req : List ℕ) (dialect : Dialect) (r : Walked) (n : ℕ) (en : n ≡ headerFault dialect req) where
-  pub request-header : (n ≡ 0 → ⊥) → Refused n 0 0 r → judgedOf req r ≡ readIn dialect req
+  pub request-header : (n ≡ 0 → ⊥) → Refused (faultOf n) r → judgedOf req r ≡ readIn dialect req
   unfolding readIn
-  request-header h f = refused-alone req n r f ∙ rw (← en, ne-eqb _ _ h)
+  request-header h f = refused-is req (faultOf n) r f ∙ rw (← en, ne-eqb _ _ h)
 
   module _ (z : n ≡ 0) (x : Bool) (ex : x ≡ firstOther (bodyOf req)) where
-    pub request-first : x ≡ true → Refused 5005 0 sessionId r → judgedOf req r ≡ readIn dialect req
+    pub request-first : x ≡ true → Refused (lacking sessionId) r → judgedOf req r ≡ readIn dialect req
     unfolding readIn readWalk
-    request-first t f = refused-lacking req 5005 r sessionId (omega arith) f ∙ rw (← en, z, ← ex, t)
+    request-first t f = refused-is req (lacking sessionId) r f ∙ rw (← en, z, ← ex, t)
 
-    pub request-walked : (w : Walked) → x ≡ false → judgedOf req w ≡ judge dialect (bodyOf req) nothing → judgedOf req r ≡ complete dialect (judgedOf req w)
+    pub request-walked : (w : Walked) → x ≡ false → judgedOf req w ≡ judge dialect 20 (bodyOf req) nothing → judgedOf req r ≡ complete dialect (judgedOf req w)
         → judgedOf req r ≡ readIn dialect req
     unfolding readIn readWalk
     request-walked w f ew e = e ∙ rw (ew, ← en, z, ← ex, f)
@@ -141,6 +140,6 @@ module _ (s : List ℕ) (w : Walked) (j : Judged) (e : judgedOf s w ≡ j) where
   unfolding judgedOf
   judged-fine t = sym e ∙ rw t
 
-  pub judged-bad : w .ok ≡ false → j ≡ bad (w .verdict .result) (failedBy s (w .verdict))
+  pub judged-bad : w .ok ≡ false → j ≡ bad (w .verdict)
   unfolding judgedOf
   judged-bad f = sym e ∙ rw f

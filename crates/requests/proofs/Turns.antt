@@ -9,15 +9,16 @@ use Rattle.diameter.specs.Reader.{readOf, partAt, ownOf}
 use Rattle.diameter.specs.declared.Avp.{Avp}
 use Rattle.diameter.specs.declared.Read.{Read}
 use Rattle.diameter.specs.declared.Read.the-variants as read
-use Rattle.diameter.proofs.Reading.{read-says, read-fault-says, walk-past, none-past}
+use Rattle.diameter.proofs.Reading.{Says, read-says, read-fault-says, walk-past, none-past}
+use Rattle.diameter.proofs.Parts.{says-next}
 use Rattle.reading.specs.declared.Ruled.{Ruled}
 use Rattle.reading.specs.declared.Ruled.the-variants as ruled
 use Rattle.reading.specs.declared.Dialect.{Dialect}
 use Rattle.reading.specs.declared.Walked.{Walked}
 use Rattle.reading.specs.Kinds.{kinds, kindOf}
-use Rattle.reading.specs.Rules.{nothing, Judged, rule, judge}
+use Rattle.reading.specs.Rules.{nothing, Judged, faultAt, onRule, rule, judge}
 use Rattle.reading.specs.Found.{seenOf, judgedOf, Refused, Accepted}
-use Rattle.requests.proofs.Failing.{failed-there, refused-at, accepted-at}
+use Rattle.requests.proofs.Refusing.{refused-is, accepted-is}
 
 map-set : {X Y : Type 0} (f : X → Y) (l : List X) (i : ℕ) (x : X) → map f (set l i x) ≡ set (map f l) i (f x)
 map-set f [] i x = refl
@@ -25,33 +26,33 @@ map-set f (y ∷ l) zero x = refl
 map-set f (y ∷ l) (suc i) x = ap (f y ∷_) (map-set f l i x)
 
 -- at first no kind has a place
-pub nothing-seen : (s : List ℕ) (dialect : Dialect) (at : ℕ) → judge dialect (walk (drop at s)) (seenOf s (replicate kinds (length s))) ≡ judge dialect (walk (drop at s)) nothing
+pub nothing-seen : (s : List ℕ) (dialect : Dialect) (at : ℕ) → judge dialect at (walk (drop at s)) (seenOf s (replicate kinds (length s))) ≡ judge dialect at (walk (drop at s)) nothing
 unfolding nothing
 nothing-seen s dialect at = rw (none-past s (length s) (omega arith))
 
-module _ (s places : List ℕ) (dialect : Dialect) (at : ℕ) (whole : Judged) (left : judge dialect (walk (drop at s)) (seenOf s places) ≡ whole) where
+module _ (s places : List ℕ) (dialect : Dialect) (at : ℕ) (whole : Judged) (left : judge dialect at (walk (drop at s)) (seenOf s places) ≡ whole) where
   pub turn-end : (w : Walked) → length s ≤ at → Accepted places w → judgedOf s w ≡ whole
   unfolding judge
-  turn-end w h a = accepted-at s places w a ∙ rw (walk-past s at h) at left
+  turn-end w h a = accepted-is s places w a ∙ rw (walk-past s at h) at left
 
   module _ (r : Read) (e : r ≡ readOf at (drop at s)) where
-    pub turn-cut : (w : Walked) → 20 ≤ at → at < length s → r ≡ read.Fault → Refused 5014 at 0 w → judgedOf s w ≡ whole
+    pub turn-cut : (w : Walked) → at < length s → r ≡ read.Fault → Refused (faultAt 5014 at) w → judgedOf s w ≡ whole
     unfolding judge
-    turn-cut w l h d f = refused-at s 5014 w at (omega arith) f ∙ rw (read-fault-says s at r e h d) at left
+    turn-cut w h d f = refused-is s (faultAt 5014 at) w f ∙ rw (read-fault-says s at r e h d) at left
 
     module _ (a : Avp) (x : Ruled) (d : r ≡ read.Avp a) (ex : x ≡ rule dialect (seenOf s places) (ownOf s a)) where
-      pub turn-bad : (n : ℕ) (w : Walked) → 20 ≤ at → x ≡ ruled.Fault n → Refused n at 0 w → judgedOf s w ≡ whole
-      unfolding judge
-      turn-bad n w l z f =
-          let says = read-says s at r e a d in
-          refused-at s n w at (omega arith) f ∙ rw (says .walked, ← ex, z, failed-there n s at a says) at left
+      abbrev says : Says s at a
+      says = read-says s at r e a d
 
-      pub turn-taken : (k : ℕ) → k ≡ kindOf (ownOf s a) → x ≡ ruled.Taken → judge dialect (walk (drop (a .next) s)) (seenOf s (set places k at)) ≡ whole
+      turned : onRule x (seenOf s places) (ownOf s a) at (judge dialect (a .next) (walk (drop (a .next) s))) ≡ whole
       unfolding judge
-      turn-taken k ek z =
-          let says = read-says s at r e a d in
-          rw (map-set (partAt s) places k at, says .part, ek) (rw (says .walked, ← ex, z) at left)
+      turned = rw (says .walked, says-next s at a says, ← ex) at left
 
-      pub turn-skipped : x ≡ ruled.Skipped → judge dialect (walk (drop (a .next) s)) (seenOf s places) ≡ whole
-      unfolding judge
-      turn-skipped z = rw (read-says s at r e a d .walked, ← ex, z) at left
+      pub turn-bad : (n : ℕ) (w : Walked) → x ≡ ruled.Fault n → Refused (faultAt n at) w → judgedOf s w ≡ whole
+      turn-bad n w z f = refused-is s (faultAt n at) w f ∙ rw z at turned
+
+      pub turn-taken : (k : ℕ) → k ≡ kindOf (ownOf s a) → x ≡ ruled.Taken → judge dialect (a .next) (walk (drop (a .next) s)) (seenOf s (set places k at)) ≡ whole
+      turn-taken k ek z = rw (map-set (partAt s) places k at, says .part, ek) (rw z at turned)
+
+      pub turn-skipped : x ≡ ruled.Skipped → judge dialect (a .next) (walk (drop (a .next) s)) (seenOf s places) ≡ whole
+      turn-skipped z = rw z at turned

@@ -11,12 +11,13 @@ use reading::rules;
 ghost use mathlib.Core.Path.{_≡_};
 ghost use lib.ListN.{drop};
 ghost use Rattle.diameter.specs.Walk.{walk};
+ghost use Rattle.reading.specs.declared.Outcome.the-variants.{Base};
 ghost use Rattle.reading.specs.Rules.{nothing, judge};
 ghost use Rattle.reading.specs.Found.{judgedOf, Refused, Accepted};
 
 // A fault: its base result, the place of the AVP at fault (0: none is), the kind that is missing (0: none is).
 pub fn refuse(number: u32, place: usize, lacks: usize) -> Walked
-    ensures { λ r. ⌜ Refused number place lacks r ⌝ }
+    ensures { λ r. ⌜ Refused (record { result = Base number; place = place; lacks = lacks }) r ⌝ }
 {
     Walked {
         ok: false,
@@ -46,7 +47,7 @@ pub fn accept(places: [usize; kinds::KINDS]) -> Walked
 
 // The walk over the AVPs, up to the first fault.
 pub fn walk_message(s: &[u8], d: Dialect) -> Walked
-    ensures { λ r. ⌜ judgedOf (now (s .entry)) r ≡ judge d (walk (drop 20 (now (s .entry)))) nothing ⌝ }
+    ensures { λ r. ⌜ judgedOf (now (s .entry)) r ≡ judge d 20 (walk (drop 20 (now (s .entry)))) nothing ⌝ }
 {
     let absent = s.len();
     let mut places = [absent; kinds::KINDS];

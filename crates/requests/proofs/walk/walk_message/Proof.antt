@@ -6,14 +6,14 @@ use Rattle.diameter.proofs.Reading.{read-here}
 use Rattle.reading.specs.Kinds.{kinds}
 use Rattle.reading.specs.Rules.{nothing, judge}
 use Rattle.reading.specs.Found.{seenOf}
-use Rattle.reading.proofs.Walking.{read-less, read-from}
+use Rattle.reading.proofs.Walking.{read-less}
 use Rattle.requests.proofs.Turns.{nothing-seen, turn-end, turn-cut, turn-bad, turn-taken, turn-skipped}
 use borrow.Author.Needs.{needs}
 use Rattle.requests.proofs.walk.walk_message.Statement.{statement}
 use Rattle.requests.proofs.walk.walk_message.Tie as tie
 
 abbrev Inv-loop : tie.InvT-loop
-Inv-loop s dialect absent places₀ at₀ places at = (length places ≡ kinds) × (20 ≤ at) × (judge dialect (walk (drop at s)) (seenOf s places) ≡ judge dialect (walk (drop 20 s)) nothing)
+Inv-loop s dialect absent places₀ at₀ places at = (length places ≡ kinds) × (judge dialect at (walk (drop at s)) (seenOf s places) ≡ judge dialect 20 (walk (drop 20 s)) nothing)
 
 abbrev μ-loop : tie.MeasureT-loop
 μ-loop s dialect absent places₀ at₀ places at = length s - at
@@ -40,8 +40,8 @@ walk-message-spec =
     (λ c κs. search needs)
     (λ c. search (needs, turn-bad))
     (λ c. search (needs, read-less))
-    (λ c. search (needs, turn-taken, read-from))
+    (λ c. search (needs, turn-taken))
     (λ c. search (needs, read-less))
-    (λ c. search (needs, turn-skipped, read-from))
+    (λ c. search (needs, turn-skipped))
     (λ c κs. search needs)
     (λ c. search (needs, turn-end)))
