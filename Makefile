@@ -1,13 +1,14 @@
 # What stands around the proved crates: the C examples, the tests, the benchmarks, the installation. All that is made
 # lies under target/ (and reference/target/). The library's archive is x86-64 code on every machine; where the machine
 # is another, C is cross-compiled against it and run by the kit's emulator.
+# A line that begins with `#:` is what `make help` says of the target below it.
 SHELL := /bin/bash
 .SHELLFLAGS := -euo pipefail -c
 .DELETE_ON_ERROR:
 .NOTPARALLEL:
 export PYTHONDONTWRITEBYTECODE := 1
-.PHONY: run test clean fmt examples tables stores reference installs bench stack install uninstall
-.PHONY: differential noticed soak mutants stats definitions-check vectors
+.PHONY: help run test clean fmt kit pages header examples tables texts aims stores programs reference installs cited bench stack installable install uninstall
+.PHONY: differential noticed soak mutants stats definitions-check cases
 
 MACHINE := $(shell uname -m)
 ifeq ($(MACHINE),x86_64)
@@ -16,7 +17,8 @@ X86_CXX := g++
 RUN :=
 else
 X86_CC := x86_64-linux-gnu-gcc -static
-X86_CXX := x86_64-linux-gnu-g++ -static
+# gcc compiles C++ too, and unlike g++ asks for no static libm, of which Debian's script for the linker names a wrong folder.
+X86_CXX := $(X86_CC)
 RUN = $(KIT)/on/$(MACHINE)/toolchain/bin/qemu-x86_64
 endif
 # Asked for only where a recipe needs it: `make clean` works without rt.
@@ -28,14 +30,19 @@ HEADER := include/ndushavire.h
 BINARY := reference/target/release/reference
 PROVED := crates.txt $(shell find crates -name '*.rt' -o -name '*.antt' -o -type d)
 # x86-64 code as well, and nothing of theirs is static: installed on x86-64 alone.
-PROGRAMS := $(if $(filter x86_64,$(MACHINE)),target/bin/answer target/bin/tablecheck)
+PROGRAMS := $(if $(filter x86_64,$(MACHINE)),target/bin/answer target/bin/tablecheck target/c99/check)
 REFERENCE := $(shell find reference -path reference/target -prune -o -name '*.rs' -print -o -name 'Cargo.*' -print)
+
+#: help               this list
+help:
+	@sed -n 's/^#: //p' $(firstword $(MAKEFILE_LIST))
 
 # The sample, and three answers of the program answer over it in a form to read: to a header alone, to the question where
 # bob is, and to an assignment of erin's line. A program of the kit runs with the kit's own loader and C library, on either
 # machine.
 PROGRAM = $(RUN) $(KIT)/toolchain/lib/ld-linux-x86-64.so.2 --library-path $(KIT)/toolchain/lib
 SHOWN := examples/no-avps tests/captured/icscf-20-lir tests/captured/scscf-12-sar
+#: run                the sample table, checked, and three answers from it in a form to read
 run: target/c/maketable target/c99/check target/bin/answer $(BINARY)
 	@mkdir -p target/run
 	target/c/maketable table examples/households.txt >target/run/table
@@ -51,25 +58,59 @@ target/bin/%: $(PROVED)
 	rt check $*
 	touch $@
 
-test: fmt examples tables stores reference installs noticed differential
+#: test               every test from fmt to differential below, some 3 minutes once the library is proved
+test: fmt kit pages header examples tables texts aims stores programs reference installs cited noticed differential
 
+#: fmt                whether crates/ is in the kit's layout
 fmt:
 	rt fmt --check
 
+#: kit                whether .ci/run refuses another kit than the one that is pinned in KIT-ID
+kit:
+	tests/kit.sh target/test/kit
+
+#: pages              the worked table of docs/TABLE.md, and what README.md and the other pages say of commands and versions
+pages: target/c/maketable target/c/showtable
+	tests/worked-table.sh target/test/worked-table target/c/maketable target/c/showtable
+	tests/pages.sh
+
+#: header             the C header by itself, in C and in C++
+header: target/c/header target/c++/header
+	for header in $^; do $$header; done
+
+#: examples           the C examples: worked answers, refusals, requests that real software sent
 examples: $(foreach mode,c99 cxx,$(addprefix target/$(mode)/,check decide)) target/c/maketable $(BINARY)
 	RUN='$(RUN)' tests/decide.sh target/test/decide target/c/maketable target/c99/decide target/cxx/decide
 	RUN='$(RUN)' tests/captured.sh target/test/captured target/c/maketable $(BINARY) target/c99/decide target/cxx/decide
 
-tables: examples
-	RUN='$(RUN)' tests/tables.sh target/test/tables target/c/maketable target/c99/check target/cxx/check
+#: tables             tables made from text, damaged ones, and the switch to a new one as tablecheck(1) has it
+tables: examples target/c/showtable
+	RUN='$(RUN)' tests/tables.sh target/test/tables target/c/maketable target/c/showtable target/c99/check target/cxx/check
+	RUN='$(RUN)' tests/switch.sh target/test/switch target/c/maketable target/c99/check
 
-stores: target/c/store target/c++/store
-	for store in $^; do rm -rf target/test/store; mkdir -p target/test/store; $$store target/test/store; done
+COUNT_texts := 2000
+#: texts              from a table to text and back, over 2,000 random tables; half a minute
+texts: target/c/maketable target/c/showtable target/c/texts
+	tests/texts.sh target/test/texts target/c/maketable target/c/showtable target/c/texts $(SEED) $(COUNT_texts)
 
+#: aims               whether make bench marks a missed aim
+aims: target/c/aims
+	tests/aims.sh target/test/aims target/c/aims
+
+#: stores             store.h by itself, and the daemon that ndushavire(3) shows, on a disk that fails
+stores: target/c/store target/c++/store target/c/maketable $(ARCHIVE)
+	for store in target/c/store target/c++/store; do rm -rf target/test/store; mkdir -p target/test/store; $$store target/test/store; done
+	RUN='$(RUN)' tests/daemon.sh target/test/daemon target/c/maketable $(ARCHIVE) $(X86_CC)
+
+#: programs           arguments of the programs answer and tablecheck
+programs: target/bin/answer target/bin/tablecheck target/c/maketable
+	tests/programs.sh target/test/programs target/c/maketable target/bin $(PROGRAM)
+
+#: reference          the independent program's own tests
 reference:
 	cd reference && cargo test --offline --quiet
 
-# Installs into a folder of its own and builds an example from there, as a new user would.
+#: installs           an installation into a folder of its own, and an example built from there as a new user would
 installs: $(ARCHIVE) $(PROGRAMS) target/c/maketable
 	RUN='$(RUN)' tests/installs.sh target/test/installs target/c/maketable $(X86_CC)
 
@@ -83,18 +124,25 @@ COUNT_tables := 200000
 COUNT_calls := 100000
 COUNT_demand3 := 20000
 
+#: cited              whether what README and manual pages of an installation cite is installed, and its trial works
+cited: $(ARCHIVE) $(PROGRAMS)
+	RUN='$(RUN)' tests/cited.sh target/test/cited $(X86_CC)
+
+#: differential       the library beside the independent program on 320,000 new cases; SEED=N runs a seed again
 differential: target/c99/driver $(BINARY)
 	@for of in $(foreach kind,$(KINDS),$(kind):$(COUNT_$(kind))); do \
 	    echo "differential run: seed $(SEED), $${of#*:} $${of%:*}"; \
 	    $(BINARY) compare --kind $${of%:*} --seed $(SEED) --count $${of#*:} -- $(DRIVER); \
 	done
 
-noticed: $(BINARY)
-	tests/noticed.sh $(BINARY)
+#: noticed            whether such a comparison would fail
+noticed: target/c99/overstep $(BINARY)
+	tests/noticed.sh $(BINARY) $(RUN) target/c99/overstep
 
 # 5,000,000 tables and as many calls. Each round has the next seed: with SEED=N ROUNDS=M a run that was stopped goes on.
 ROUNDS := 50
 COUNT_round := 100000
+#: soak               5,000,000 tables and as many calls compared, 8 minutes; SEED=N ROUNDS=M goes on where it was stopped
 soak: target/c99/driver $(BINARY)
 	@for ((round = 0; round < $(ROUNDS); round++)); do \
 	    echo "soak: SEED=$$(($(SEED) + round)) ROUNDS=$$(($(ROUNDS) - round))"; \
@@ -105,10 +153,12 @@ soak: target/c99/driver $(BINARY)
 
 # After how many cases each deliberate fault of the independent program shows; what the cases are made of.
 COUNT_mutants := 100000
+#: mutants            whether 259 deliberate faults would be noticed, and after how many cases
 mutants: $(BINARY)
 	@echo "mutants: seed $(SEED)"
 	$(BINARY) mutants --seed $(SEED) --count $(COUNT_mutants)
 
+#: stats              what the compared cases are made of
 stats: $(BINARY)
 	@echo "stats: seed $(SEED)"
 	$(BINARY) stats --kind tables --seed $(SEED) --count $(COUNT_tables)
@@ -116,13 +166,15 @@ stats: $(BINARY)
 
 # The definitions beside the independent program: antt computes each case, which takes seconds; 24 make a quick trial.
 COUNT_DEFINITIONS := 300
+#: definitions-check  300 calls computed from the definitions and compared, a quarter of an hour; COUNT_DEFINITIONS=24 is a trial
 definitions-check: $(BINARY)
 	RT_JOBS=2 tests/definitions.py $(BINARY) $(SEED) $(COUNT_DEFINITIONS)
 
-# Writes crates/vectors/stdin and stdout anew: the cases that the program vectors runs in the gate, and what the
-# independent program says of them.
-vectors: $(BINARY)
-	tests/vectors.py $(BINARY) crates/vectors
+# Writes crates/cases/stdin and stdout anew: what the gate's program `cases` runs, and what the independent program says
+# of it.
+#: cases              chooses anew the cases that the gate runs, a minute
+cases: $(BINARY)
+	tests/cases.py $(BINARY) crates/cases
 
 $(ARCHIVE): $(PROVED)
 	rt staticlib ndushavire
@@ -131,7 +183,23 @@ $(BINARY): $(REFERENCE)
 	cd reference && cargo build --offline --release --quiet
 	touch $@
 
-target/c/maketable: examples/maketable.c examples/load.h
+target/c/%: examples/%.c examples/load.h
+	mkdir -p $(@D)
+	$(CC) -std=c99 $(STRICT) -o $@ $<
+
+target/c/header: tests/header.c $(HEADER)
+	mkdir -p $(@D)
+	$(CC) -std=c99 $(STRICT) -o $@ $<
+
+target/c++/header: tests/header.c $(HEADER)
+	mkdir -p $(@D)
+	$(CXX) $(STRICT) -o $@ -x c++ $<
+
+target/c/aims: tests/aims.c bench/aims.h
+	mkdir -p $(@D)
+	$(CC) -std=c99 $(STRICT) -o $@ $<
+
+target/c/texts: tests/texts.c examples/load.h
 	mkdir -p $(@D)
 	$(CC) -std=c99 $(STRICT) -o $@ $<
 
@@ -146,6 +214,10 @@ target/c++/store: tests/store.c examples/store.h examples/load.h
 target/c99/driver: tests/driver.c $(HEADER) $(ARCHIVE)
 	mkdir -p $(@D)
 	$(X86_CC) -std=c99 $(STRICT) -o $@ $< $(ARCHIVE)
+
+target/c99/overstep: tests/overstep.c tests/driver.c $(HEADER) $(ARCHIVE)
+	mkdir -p $(@D)
+	$(X86_CC) -std=c99 $(STRICT) -Wl,--wrap=ndushavire_check -o $@ tests/overstep.c tests/driver.c $(ARCHIVE)
 
 target/c99/%: examples/%.c examples/load.h $(HEADER) $(ARCHIVE)
 	mkdir -p $(@D)
@@ -168,25 +240,27 @@ DECIDED := 1-short 16-short 300-short 4096-short 1-tiny 16-tiny 300-tiny 4096-ti
 # A program's arguments: each table, its profile file and how its names are.
 samples = $(foreach size,$(1),target/bench/$(size).table target/bench/$(size).profile $(word 2,$(subst -, ,$(size))))
 
+#: bench              times beside the aims, a minute once its parts are made; a missed aim is marked
 bench: $(addprefix target/bench/,check decide) $(patsubst %,target/bench/%.table,$(sort $(CHECKED) $(DECIDED)))
-	$(CC) --version | head -n 1
-	target/bench/check $(call samples,$(CHECKED))
-	target/bench/decide $(call samples,$(DECIDED))
+	@{ $(CC) --version | head -n 1; \
+	   target/bench/check $(call samples,$(CHECKED)); \
+	   target/bench/decide $(call samples,$(DECIDED)); } | tee target/bench/report
+	@bench/summary.sh target/bench/report
 
-# How much stack the calls of the archive take.
+#: stack              how much stack a call takes
 stack: target/c99/stack $(DECIDED:%=target/bench/%.table)
 	$(RUN) target/c99/stack $(call samples,16-short 4096-short 4096-tiny)
 
 target/native/libndushavire.a: bench/native-lib $(PROVED)
 	bench/native-lib ndushavire
 
-target/bench/check: bench/check.c bench/sum.c bench/samples.h bench/timing.h examples/load.h $(HEADER) $(TIMED) target/bench/libreference_c.a
+target/bench/check: bench/check.c bench/aims.h bench/sum.c bench/samples.h bench/timing.h examples/load.h $(HEADER) $(TIMED) target/bench/libreference_c.a
 	$(CC) -O3 -DSUM=sum_plain -c -o target/bench/sum-plain.o bench/sum.c
 	$(CC) -O3 $(TUNE) -DSUM=sum_native -c -o target/bench/sum-native.o bench/sum.c
 	$(CC) -std=c99 $(STRICT) -o $@ bench/check.c target/bench/sum-plain.o target/bench/sum-native.o $(TIMED) \
 	    target/bench/libreference_c.a -lpthread -ldl -lm
 
-target/bench/decide: bench/decide.c bench/requests.h bench/samples.h bench/timing.h examples/load.h $(HEADER) $(TIMED) target/bench/libreference_c.a
+target/bench/decide: bench/decide.c bench/aims.h bench/requests.h bench/samples.h bench/timing.h examples/load.h $(HEADER) $(TIMED) target/bench/libreference_c.a
 	$(CC) -std=c99 $(STRICT) -o $@ bench/decide.c $(TIMED) target/bench/libreference_c.a -lpthread -ldl -lm
 
 target/c99/stack: bench/stack.c bench/requests.h bench/samples.h examples/load.h $(HEADER) $(ARCHIVE)
@@ -204,35 +278,21 @@ target/bench/%.table: bench/households.sh target/c/maketable
 	target/c/maketable profile target/bench/$*.txt >target/bench/$*.profile
 	target/c/maketable table target/bench/$*.txt >$@
 
-# ---- the installation, under PREFIX and below DESTDIR if that is set
-VERSION := $(shell sed -n 's/^\#define NDUSHAVIRE_VERSION "\(.*\)"$$/\1/p' $(HEADER))
+# ---- the installation: what goes where, and how it is taken away again, is packaging/install.sh's
 PREFIX ?= /usr/local
-DESTDIR ?=
-override PREFIX := $(if $(filter /%,$(PREFIX)),$(PREFIX),$(CURDIR)/$(PREFIX))
-ROOT = $(DESTDIR)$(PREFIX)
-DOC = $(ROOT)/share/doc/ndushavire
-PAGES := man1/answer.1 man1/tablecheck.1 man3/ndushavire.3
+export PREFIX DESTDIR BINDIR LIBDIR INCLUDEDIR MANDIR DOCDIR
+#: installable        whether make install could, without doing it
+installable:
+	packaging/install.sh try
 
-install: $(ARCHIVE) $(PROGRAMS)
-	install -d '$(ROOT)/lib/pkgconfig' '$(ROOT)/include' '$(DOC)/examples' '$(ROOT)/share/man/man1' '$(ROOT)/share/man/man3'
-	install -m 644 $(ARCHIVE) '$(ROOT)/lib/'
-	install -m 644 $(HEADER) '$(ROOT)/include/'
-	sed 's|@PREFIX@|$(PREFIX)|; s|@VERSION@|$(VERSION)|' packaging/ndushavire.pc.in >'$(ROOT)/lib/pkgconfig/ndushavire.pc'
-	chmod 644 '$(ROOT)/lib/pkgconfig/ndushavire.pc'
-	for page in $(PAGES); do install -m 644 "man/$${page#*/}" "$(ROOT)/share/man/$$page"; done
-	for name in check decide; do ln -sf ndushavire.3 "$(ROOT)/share/man/man3/ndushavire_$$name.3"; done
-	install -m 644 README.md docs/*.md '$(DOC)/'
-	install -m 644 $(addprefix examples/,check.c decide.c maketable.c load.h store.h households.txt) '$(DOC)/examples/'
-ifneq ($(PROGRAMS),)
-	install -d '$(ROOT)/bin'
-	install -m 755 $(PROGRAMS) '$(ROOT)/bin/'
-endif
+#: install            archive, header, programs, manual pages, examples under PREFIX (/usr/local), below DESTDIR if that is set
+install: installable $(ARCHIVE) $(PROGRAMS)
+	packaging/install.sh install $(ARCHIVE) $(PROGRAMS)
 
+#: uninstall          takes all that away again
 uninstall:
-	rm -f '$(ROOT)/lib/libndushavire.a' '$(ROOT)/include/ndushavire.h' '$(ROOT)/lib/pkgconfig/ndushavire.pc'
-	rm -f '$(ROOT)/bin/answer' '$(ROOT)/bin/tablecheck'
-	rm -f $(PAGES:%='$(ROOT)/share/man/%') '$(ROOT)/share/man/man3/ndushavire_check.3' '$(ROOT)/share/man/man3/ndushavire_decide.3'
-	rm -rf '$(DOC)'
+	packaging/install.sh uninstall
 
+#: clean              removes target/ and reference/target/
 clean:
 	rm -rf target reference/target

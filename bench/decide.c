@@ -2,15 +2,14 @@
  * reference's decision in Rust. Over a table with tiny names, of which a request can hold 1,000, removals
  * are timed. Every request leaves the table as the first call made it, so that each call does the same work. */
 #define _POSIX_C_SOURCE 199309L
+#include "aims.h"
 #include "requests.h"
 #include "samples.h"
 #include "timing.h"
 
 /* The aims, where there is one: UAR, LIR and SAR type 1 at the most records, against the check alone; from 16 records
  * on, against Rust; 1,000 identities at the most records, against 1. */
-#define CHECK_AIM "<= 1.1"
-#define RUST_AIM "< 1.0"
-#define REMOVAL_AIM "<= 3.0"
+static const Aim NONE = {"", 0}, CHECK_AIM = {"<= 1.1", 110}, RUST_AIM = {"< 1.0", 99}, REMOVAL_AIM = {"<= 3.0", 300};
 
 uint64_t reference_serve(const uint8_t *request, size_t request_len, uint8_t *table, size_t table_len,
                          const uint8_t *profile, size_t profile_len, uint8_t *answer, size_t answer_len);
@@ -69,9 +68,10 @@ static double measure(const Sample *s, const Request *request, const char *what,
     }
     double t[SUBJECTS];
     medians(subject, SUBJECTS, &call, t);
-    printf("%7lu  %-14s %9.2f %9.2f %9.2f %8.2f  %-6s %7.2f  %s\n", (unsigned long)s->records, what, t[DECIDE], t[CHECK],
-           t[RUST], t[DECIDE] / t[CHECK], against_check && s->records == NDUSHAVIRE_RECORDS_MAX ? CHECK_AIM : "",
-           t[DECIDE] / t[RUST], s->records >= 16 ? RUST_AIM : "");
+    printf("%7lu  %-14s %9.2f %9.2f %9.2f %8.2f  %-13s %7.2f  %s\n", (unsigned long)s->records, what, t[DECIDE], t[CHECK],
+           t[RUST], t[DECIDE] / t[CHECK],
+           judged(against_check && s->records == NDUSHAVIRE_RECORDS_MAX ? CHECK_AIM : NONE, t[DECIDE] / t[CHECK]),
+           t[DECIDE] / t[RUST], judged(s->records >= 16 ? RUST_AIM : NONE, t[DECIDE] / t[RUST]));
     return t[DECIDE];
 }
 
@@ -81,7 +81,7 @@ static void measure_removals(const Sample *s, Request *request, const uint8_t *r
     ask_assignment(request, s->table, s->records, registered, 6, 1000);
     const double many = measure(s, request, "removal, 1000", 0);
     printf("%7lu  1000 against 1 %9.2f  %s\n", (unsigned long)s->records, many / one,
-           s->records == NDUSHAVIRE_RECORDS_MAX ? REMOVAL_AIM : "");
+           judged(s->records == NDUSHAVIRE_RECORDS_MAX ? REMOVAL_AIM : NONE, many / one));
 }
 
 /* Reading is linear: some 1,350 AVPs take twice the time of half as many. */
@@ -113,6 +113,6 @@ static int measure_all(const Sample *s) {
 int main(int argc, char **argv) {
     return each_sample(argc, argv,
                        "decide: microseconds, medians; then decide as a multiple of each other\n"
-                       "records  request           decide     check      Rust   /check  aim      /Rust  aim\n",
+                       "records  request           decide     check      Rust   /check  aim             /Rust  aim\n",
                        measure_all);
 }

@@ -3,7 +3,7 @@
  * The files stay as they are. A daemon stores the whole table before it sends the answer, as store.h does: in a new
  * file, flushed, renamed over the old one, and the folder flushed. Blocks written in place are not enough, since a
  * removal that is half on disk is a sound table.
- * Exit status: 0 answered, 1 refused, 2 a file cannot be read. */
+ * Exit status: 0 answered, 1 refused, 2 a file cannot be read, standard output cannot be written, or the arguments are others. */
 #include <ctype.h>
 
 #include <ndushavire.h>
@@ -74,5 +74,6 @@ int main(int argc, char **argv) {
     free(before);
     free(profile);
     free(request);
+    if (!printed()) return 2;
     return ndushavire_answered(word) ? 0 : 1;
 }

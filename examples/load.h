@@ -1,4 +1,4 @@
-/* load.h: a whole file in memory, as the library's callers need it. */
+/* load.h: a whole file in memory, as the library's callers need it, and what they print seen to its end. */
 #ifndef LOAD_H
 #define LOAD_H
 
@@ -29,6 +29,13 @@ static uint8_t *load(const char *path, size_t *length) {
     fclose(file);
     *length = used;
     return bytes;
+}
+
+/* Ends standard output, and says whether all that was printed got there; reports on standard error if it did not. */
+static inline int printed(void) {
+    if (!ferror(stdout) && fclose(stdout) == 0) return 1;
+    fprintf(stderr, "standard output: %s\n", strerror(errno));
+    return 0;
 }
 
 #endif

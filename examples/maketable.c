@@ -2,24 +2,11 @@
  * It writes no file. Never send its output over a table in use, as with `> table`: the shell empties that file before
  * this program has read a line. Send both into a new folder, check them there and switch; tablecheck(1) shows how.
  *
- * The text is paragraphs of words, apart by empty lines. A word is `key=value` or a key alone; a value holds no
- * blank, or stands in quotes, where \" \\ \n and \xHH (two hexadecimal digits) mean a quote, a backslash, a line's
- * end and any byte. A word that begins with # and the rest of its line are a comment.
+ * TABLE.md among the documents says how the text is written ("As text") and what stands in the blocks; households.txt is an
+ * example. showtable goes the other way.
  *
- * The first paragraph is the header:
- *   host=NAME realm=NAME        1 to 64 bytes each
- *   keep=N                      1: a line whose registration timed out keeps its server; 0: it does not
- *   network=NAME                a visited network, 1 to 31 bytes; up to eight, none twice
- * Each other one is a record, in any order:
- *   public=NAME private=NAME    1 to 128 bytes each; no public identity twice
- *   state=STATE                 not-registered (as if left out), registered or unregistered
- *   pending barred unregistered-services
- *   roaming=NAME                a network of the header; a word for each network that is allowed
- *   mandatory=N,N optional=N,N  capabilities, up to four of each, 32 bits
- *   server=NAME                 1 to 96 bytes; wanted where registered, unregistered or pending, and nowhere else
- *   profile=TEXT                up to 4,096 bytes
- *
- * A text that no sound table can be made from is refused with its line: status 1, and nothing is written.
+ * Exit status: 0 written; 1 the text is refused with its line, since no sound table can be made from it; 2 wrong use, a
+ * file that cannot be read, or no memory, or standard output fails. Nothing is written of a text that is refused.
  * This program stands apart from the library and reads the table's rules for itself, so that each tests the other. */
 #include <ctype.h>
 #include <stdarg.h>
@@ -27,6 +14,8 @@
 #include "load.h"
 
 enum { BLOCK = 512, RECORDS = 4096, NETWORKS = 8, CAPABILITIES = 4 };
+static const uint64_t PLACE_MOST = 1000000000000000; /* a place in the profile file; a record's has 32 bits */
+static const uint64_t LEFT_MOST = 4096 * 4096;       /* bytes that nobody names: no more records can have been taken out */
 
 typedef struct {
     const uint8_t *bytes;
@@ -38,9 +27,18 @@ typedef struct {
     unsigned count;
 } Capabilities;
 
+/* A part of the profile file. */
 typedef struct {
     size_t line;
-    Name public_identity, private_identity, server, profile;
+    Name bytes;
+    int placed; /* whether the text says where */
+    uint64_t start;
+} Part;
+
+typedef struct {
+    size_t line;
+    Name public_identity, private_identity, server;
+    Part profile;
     unsigned state, pending, barred, services, roaming;
     Capabilities mandatory, optional;
 } Record;
@@ -52,6 +50,8 @@ static struct {
 
 static Record records[RECORDS];
 static size_t count;
+static Part *unused;
+static size_t unused_count;
 static const char *text_name;
 
 static void refuse(size_t line, const char *form, ...) {
@@ -64,11 +64,18 @@ static void refuse(size_t line, const char *form, ...) {
     exit(1);
 }
 
+static void *got(void *memory) {
+    if (memory != NULL) return memory;
+    fprintf(stderr, "maketable: no memory\n");
+    exit(2);
+}
+
 /* ---- the text's words */
 
 typedef enum {
     HOST, REALM, KEEP, NETWORK,
     PUBLIC, PRIVATE, STATE, PENDING, BARRED, SERVICES, ROAMING, MANDATORY, OPTIONAL, SERVER, PROFILE,
+    PROFILE_AT, UNUSED,
     KEYS
 } Key;
 
@@ -92,6 +99,8 @@ static const struct {
     [OPTIONAL] = {"optional", 0, 0, 0, 4096},
     [SERVER] = {"server", 0, 0, 1, 96},
     [PROFILE] = {"profile", 0, 0, 0, 4096},
+    [PROFILE_AT] = {"profile-at", 0, 0, 0, 4096},
+    [UNUSED] = {"unused", 0, 0, 1, 4096},
 };
 
 typedef struct {
@@ -204,13 +213,27 @@ static unsigned find_network(Name name) {
     return i;
 }
 
+/* The digits at `at` as a number, which stops growing past `most`. */
+static uint64_t digits(const uint8_t **at, const uint8_t *end, uint64_t most) {
+    uint64_t number = 0;
+    for (; *at < end && isdigit(**at) && number <= most; ++*at) number = number * 10 + (uint64_t)(**at - '0');
+    return number;
+}
+
+static uint64_t place(const Word *word) {
+    const uint8_t *at = word->value.bytes, *end = at + word->value.length;
+    const uint64_t number = digits(&at, end, PLACE_MOST);
+    if (at == word->value.bytes || at < end || number > PLACE_MOST)
+        refuse(word->line, "%s is a place in the profile file", keys[word->key].name);
+    return number;
+}
+
 static Capabilities capabilities(const Word *word) {
     Capabilities found = {{0}, 0};
     const uint8_t *at = word->value.bytes, *end = at + word->value.length;
     for (;; at++) {
         const uint8_t *start = at;
-        uint64_t number = 0;
-        for (; at < end && isdigit(*at) && number <= UINT32_MAX; at++) number = number * 10 + (uint64_t)(*at - '0');
+        const uint64_t number = digits(&at, end, UINT32_MAX);
         if (number > UINT32_MAX) refuse(word->line, "a number of %s is over 32 bits", keys[word->key].name);
         if (at == start || (at < end && *at != ',')) refuse(word->line, "%s is numbers with commas between", keys[word->key].name);
         if (found.count == CAPABILITIES) refuse(word->line, "%s has more than %d numbers", keys[word->key].name, CAPABILITIES);
@@ -250,7 +273,11 @@ static void record_word(Record *record, const Word *word) {
     case MANDATORY: record->mandatory = capabilities(word); break;
     case OPTIONAL: record->optional = capabilities(word); break;
     case SERVER: record->server = word->value; break;
-    case PROFILE: record->profile = word->value; break;
+    case PROFILE: record->profile.bytes = word->value; break;
+    case PROFILE_AT:
+        record->profile.placed = 1;
+        record->profile.start = place(word);
+        break;
     default: refuse(word->line, "%s is no word of a record", keys[word->key].name);
     }
 }
@@ -265,10 +292,9 @@ static void want(unsigned seen, Key key, size_t line) {
     if (!(seen >> key & 1u)) refuse(line, "%s is missing", keys[key].name);
 }
 
-static void read_text(Text *text) {
-    Word word = next_word(text);
-    if (word.kind == GAP) word = next_word(text);
-    size_t line = word.line;
+/* Each of these begins at a paragraph's first word and gives what follows its last one. */
+static Word read_header(Text *text, Word word) {
+    const size_t line = word.line;
     unsigned seen = 0;
     for (; word.kind == WORD; word = next_word(text)) {
         note(&seen, &word);
@@ -277,24 +303,53 @@ static void read_text(Text *text) {
     want(seen, HOST, line);
     want(seen, REALM, line);
     want(seen, KEEP, line);
+    return word;
+}
+
+static Word read_record(Text *text, Word word) {
+    if (count == RECORDS) refuse(word.line, "there are more than %d records", RECORDS);
+    Record *record = &records[count++];
+    record->line = record->profile.line = word.line;
+    unsigned seen = 0;
+    for (; word.kind == WORD; word = next_word(text)) {
+        note(&seen, &word);
+        record_word(record, &word);
+    }
+    want(seen, PUBLIC, record->line);
+    want(seen, PRIVATE, record->line);
+    const int named = record->state != 0 || record->pending;
+    if (named) want(seen, SERVER, record->line);
+    if (!named && record->server.length > 0) refuse(record->line, "a line that is not registered and not pending has no server");
+    return word;
+}
+
+static Word read_unused(Text *text, Word word) {
+    const size_t line = word.line;
+    Part part = {line, {NULL, 0}, 1, 0};
+    unsigned seen = 0;
+    for (; word.kind == WORD; word = next_word(text)) {
+        note(&seen, &word);
+        if (word.key == UNUSED) part.bytes = word.value;
+        else if (word.key == PROFILE_AT) part.start = place(&word);
+        else refuse(word.line, "%s is no word beside unused", keys[word.key].name);
+    }
+    want(seen, PROFILE_AT, line);
+    unused = (Part *)got(realloc(unused, (unused_count + 1) * sizeof *unused));
+    unused[unused_count++] = part;
+    return word;
+}
+
+static void read_text(Text *text) {
+    Word word = next_word(text);
+    if (word.kind == GAP) word = next_word(text);
+    word = read_header(text, word);
     while (word.kind == GAP) {
-        if (count == RECORDS) refuse(word.line, "there are more than %d records", RECORDS);
-        Record *record = &records[count++];
-        record->line = word.line;
-        seen = 0;
-        for (word = next_word(text); word.kind == WORD; word = next_word(text)) {
-            note(&seen, &word);
-            record_word(record, &word);
-        }
-        want(seen, PUBLIC, record->line);
-        want(seen, PRIVATE, record->line);
-        const int named = record->state != 0 || record->pending;
-        if (named) want(seen, SERVER, record->line);
-        if (!named && record->server.length > 0) refuse(record->line, "a line that is not registered and not pending has no server");
+        word = next_word(text);
+        word = word.key == UNUSED ? read_unused(text, word) : read_record(text, word);
     }
 }
 
-/* ---- the table */
+/* ---- the order of the records */
 
 /* Bytewise, a prefix first. */
 static int by_public_identity(const void *left, const void *right) {
@@ -311,6 +366,63 @@ static void sort_records(void) {
             refuse(a < b ? b : a, "its public identity stands at line %lu already", (unsigned long)(a < b ? a : b));
         }
 }
+
+/* ---- the profile file */
+
+static size_t part_count(void) { return count + unused_count; }
+
+/* The parts of the records, and then those that are unused. */
+static const Part *part(size_t i) { return i < count ? &records[i].profile : &unused[i - count]; }
+
+static uint64_t part_end(const Part *p) { return p->start + p->bytes.length; }
+
+/* Says where each part begins that the text leaves open, and gives the file's length. */
+static size_t lay_out(void) {
+    uint64_t end = 0, named = 0;
+    for (size_t i = 0; i < part_count(); i++) {
+        named += part(i)->bytes.length;
+        if (part(i)->placed && part_end(part(i)) > end) end = part_end(part(i));
+    }
+    for (size_t i = 0; i < part_count(); i++) {
+        const Part *p = part(i);
+        if (i < count && p->placed && p->start > UINT32_MAX) refuse(p->line, "profile-at is over 32 bits");
+        if (p->placed && part_end(p) > named + LEFT_MOST) refuse(p->line, "profile-at leaves over 16 MiB to nobody");
+    }
+    for (size_t i = 0; i < count; i++) {
+        Part *p = &records[i].profile;
+        if (p->placed) continue;
+        p->start = end;
+        end = part_end(p);
+        if (p->start > UINT32_MAX) refuse(p->line, "the profile file is too long for one part more");
+    }
+    return (size_t)end;
+}
+
+static void refuse_part(const Part *late, uint64_t place) {
+    for (size_t i = 0; i < part_count(); i++) {
+        const Part *p = part(i);
+        if (p != late && place >= p->start && place < part_end(p))
+            refuse(late->line, "byte %llu of the profile file is another one at line %lu; without profile-at it is another place",
+                   (unsigned long long)place, (unsigned long)p->line);
+    }
+}
+
+/* Parts may share bytes, if they are the same in each. */
+static void put_profile(uint8_t *profile, size_t length) {
+    uint8_t *taken = (uint8_t *)got(calloc(length + 1, 1));
+    for (size_t i = 0; i < part_count(); i++) {
+        const Part *p = part(i);
+        for (size_t j = 0; j < p->bytes.length; j++) {
+            const size_t at = (size_t)p->start + j;
+            if (taken[at] && profile[at] != p->bytes.bytes[j]) refuse_part(p, at);
+            taken[at] = 1;
+            profile[at] = p->bytes.bytes[j];
+        }
+    }
+    free(taken);
+}
+
+/* ---- the table's blocks */
 
 static void put_name(uint8_t *to, Name name) {
     if (name.length > 0) memcpy(to, name.bytes, name.length);
@@ -345,7 +457,7 @@ static void put_header(uint8_t *block) {
     seal(block);
 }
 
-static void put_record(uint8_t *block, const Record *record, uint32_t number, uint32_t profile_start) {
+static void put_record(uint8_t *block, const Record *record, uint32_t number) {
     block[0] = 2;
     block[1] = 1;
     put_word(block + 4, number);
@@ -364,9 +476,9 @@ static void put_record(uint8_t *block, const Record *record, uint32_t number, ui
         put_word(block + 368 + 4 * i, record->mandatory.value[i]);
         put_word(block + 384 + 4 * i, record->optional.value[i]);
     }
-    put_word(block + 400, profile_start);
-    block[404] = (uint8_t)(record->profile.length >> 8);
-    block[405] = (uint8_t)record->profile.length;
+    put_word(block + 400, (uint32_t)record->profile.start);
+    block[404] = (uint8_t)(record->profile.bytes.length >> 8);
+    block[405] = (uint8_t)record->profile.bytes.length;
     seal(block);
 }
 
@@ -388,23 +500,15 @@ int main(int argc, char **argv) {
     read_text(&text);
     sort_records();
 
-    size_t profile_length = 0;
-    for (size_t i = 0; i < count; i++) profile_length += records[i].profile.length;
-    uint8_t *table = (uint8_t *)calloc(count + 1, BLOCK), *profile = (uint8_t *)malloc(profile_length + 1);
-    if (table == NULL || profile == NULL) {
-        fprintf(stderr, "maketable: no memory\n");
-        return 1;
-    }
+    const size_t profile_length = lay_out();
+    uint8_t *table = (uint8_t *)got(calloc(count + 1, BLOCK)), *profile = (uint8_t *)got(calloc(profile_length + 1, 1));
     put_header(table);
-    size_t start = 0;
-    for (size_t i = 0; i < count; i++) {
-        put_record(table + BLOCK * (i + 1), &records[i], (uint32_t)(i + 1), (uint32_t)start);
-        put_name(profile + start, records[i].profile);
-        start += records[i].profile.length;
-    }
+    for (size_t i = 0; i < count; i++) put_record(table + BLOCK * (i + 1), &records[i], (uint32_t)(i + 1));
+    put_profile(profile, profile_length);
     const int printed = profile_wanted ? print(profile, profile_length) : print(table, BLOCK * (count + 1));
     free(table);
     free(profile);
+    free(unused);
     free(bytes);
-    return printed ? 0 : 1;
+    return printed ? 0 : 2;
 }

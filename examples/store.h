@@ -1,5 +1,6 @@
-/* store.h: how a daemon stores its table. Whatever fails, the file of that name is a whole one, the old or the new. The
- * daemon calls store after a decision that rewrote the table, and sends the answer only when it is STORED.
+/* store.h: how a daemon stores its table, and how it knows at its start that the table is stored. Whatever fails, the file
+ * of that name is a whole one, the old or the new. The daemon asks settled before it answers anything, calls store after a
+ * decision that rewrote the table, and sends the answer only when it is STORED.
  * POSIX.1-2008: under -std=c99 define _POSIX_C_SOURCE as 200809L before anything is included. */
 #ifndef STORE_H
 #define STORE_H
@@ -8,6 +9,7 @@
 #include <fcntl.h>
 #include <stdint.h>
 #include <stdio.h>
+#include <sys/stat.h>
 #include <unistd.h>
 
 typedef enum {
@@ -35,6 +37,38 @@ static int flushed(int file) {
     return !failed;
 }
 
+/* Whether the file of that name is on disk, and its name in the folder: both are flushed. What a start reads may stand in
+ * memory alone, since a daemon can be killed between rename and flush, and may not be answered from before that. A link is
+ * not followed, since its file lies in another folder; neither it nor a fifo is ever settled. If not, errno says why. */
+static int settled(int folder, const char *name) {
+    const int file = openat(folder, name, O_RDONLY | O_NOFOLLOW | O_NONBLOCK | O_CLOEXEC);
+    if (file < 0) return 0;
+    const int done = flushed(file) && flushed(folder);
+    const int why = errno;
+    close(file);
+    errno = why;
+    return done;
+}
+
+/* A new file at the name FRESH, or -1. It has the mode of the file NAME that it is to replace, or 0640 less the umask where
+ * there is none; owner and group are those of any new file. What an earlier store left there is removed and never opened, be
+ * it a link or a fifo. */
+static int make_fresh(int folder, const char *name, const char *fresh) {
+    struct stat old;
+    const int found = fstatat(folder, name, &old, AT_SYMLINK_NOFOLLOW) == 0;
+    if (!found && errno != ENOENT) return -1;
+    const int kept = found && S_ISREG(old.st_mode);
+    const mode_t mode = kept ? old.st_mode & 0777 : 0640;
+    if (unlinkat(folder, fresh, 0) != 0 && errno != ENOENT) return -1;
+    const int file = openat(folder, fresh, O_WRONLY | O_CREAT | O_EXCL | O_NOFOLLOW | O_CLOEXEC, mode);
+    if (file < 0 || !kept || fchmod(file, mode) == 0) return file;
+    const int why = errno;
+    close(file);
+    unlinkat(folder, fresh, 0);
+    errno = why;
+    return -1;
+}
+
 /* Writes NAME.new, flushes it, renames it to NAME and flushes the folder. The folder is open, and is the one that table
  * and profile were read from: a link that was switched since then does not matter. One call at a time for one name. */
 static Stored store(int folder, const char *name, const uint8_t *bytes, size_t length) {
@@ -44,7 +78,7 @@ static Stored store(int folder, const char *name, const uint8_t *bytes, size_t l
         errno = ENAMETOOLONG;
         return NOT_STORED;
     }
-    const int file = openat(folder, fresh, O_WRONLY | O_CREAT | O_TRUNC | O_CLOEXEC, 0640);
+    const int file = make_fresh(folder, name, fresh);
     if (file < 0) return NOT_STORED;
     int done = write_all(file, bytes, length) && flushed(file);
     int why = errno;

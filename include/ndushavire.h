@@ -10,7 +10,18 @@
  * share one profile. While ndushavire_decide runs, no one else may read or write its table or its answer. Checks of
  * one table may run beside each other.
  *
- * Stack. A call takes under 48 KiB (some 37 KiB measured). */
+ * The profile file is what call servers are sent of each line: bytes without a structure of their own, into which the
+ * table's records point. Table and profile file are a pair, made, checked and kept together.
+ *
+ * Stack. A call takes under 48 KiB (some 37 KiB measured). The archive has no unwind tables: a debugger's backtrace
+ * ends at the call.
+ *
+ * What comes here. User-Authorization, Server-Assignment and Location-Info requests. The base protocol's own
+ * (Capabilities-Exchange, Device-Watchdog, Disconnect-Peer) are the daemon's: a call would answer each with B3001.
+ *
+ * Versions. Before 1.0.0 a new minor version may add parameters, functions and numbers: compile the daemon anew with
+ * the header that came with the archive, since the linker cannot tell one from another. A new patch version changes
+ * none of these. A number keeps its meaning, and a word its parts, in all versions. */
 #ifndef NDUSHAVIRE_H
 #define NDUSHAVIRE_H
 
@@ -22,16 +33,18 @@ extern "C" {
 #endif
 
 #define NDUSHAVIRE_VERSION "0.1.0"
+#define NDUSHAVIRE_VERSION_NUMBER 100 /* the same to compare: major x 10,000 + minor x 100 + patch */
 
 #define NDUSHAVIRE_ANSWER_ROOM 36864 /* the least answer buffer, in bytes: no answer is longer */
 #define NDUSHAVIRE_REQUEST_MIN 20    /* the shortest request, a Diameter header alone */
 #define NDUSHAVIRE_REQUEST_MAX 16384 /* the longest request */
 #define NDUSHAVIRE_BLOCK 512         /* a table is a header block and a block for each record */
 #define NDUSHAVIRE_RECORDS_MAX 4096  /* the most records of a table */
+#define NDUSHAVIRE_TABLE_MAX 2097664 /* the longest table, in bytes: the header and the most records */
 
 /* Both functions return a word. Keep it in a uint64_t: an int loses the number, and a refusal then looks like a short
  * answer. Its number is 0, or why the call was refused; a refused call has written nothing. Later versions add
- * numbers: every one but 0 is a refusal. */
+ * numbers: every one but 0, known or not, is a refusal. */
 #define NDUSHAVIRE_DONE 0           /* answered; of ndushavire_check, sound */
 #define NDUSHAVIRE_ANSWER_SHORT 1   /* the answer buffer is under NDUSHAVIRE_ANSWER_ROOM */
 #define NDUSHAVIRE_REQUEST_SIZE 2   /* the request is under or over its limits */

@@ -1,7 +1,7 @@
 #!/usr/bin/env bash
 # captured.sh ROOM MAKETABLE REFERENCE DECIDE..: each request in captured/, as real software sent it, gets from each DECIDE
 # what the independent program answers, with the result that its head names, and rewrites the block that it should and no
-# other. RUN, if set, is the emulator that runs a DECIDE.
+# other. An address in a request has a word in its head. RUN, if set, is the emulator that runs a DECIDE.
 set -euo pipefail
 room=$1 maketable=$2 reference=$(cd "$(dirname "$3")" && pwd)/${3##*/}
 shift 3
@@ -40,6 +40,9 @@ for request in "$(dirname "$0")"/captured/*.hex; do
     result=$(sed -n 's/^# .* answered: \([BX][0-9]*\).*/\1/p' "$request")
     [ -n "$result" ] || fail "$name names no result"
     printf %b "$(grep -v '^#' "$request" | tr -d ' \n' | sed 's/../\\x&/g')" >"$room/request"
+    for address in $(grep -a -o -E '([0-9]{1,3}\.){3}[0-9]{1,3}' "$room/request" || true); do
+        grep '^#' "$request" | grep -q -F "$address" || fail "$name: the head has no word on $address"
+    done
     (cd "$room" && "$reference" answer <request) >"$room/answer" || fail "$name: the independent program fails"
     "$reference" show <"$room/answer" | grep -q -w "$result" || fail "$name: the independent program does not say $result"
     {

@@ -45,6 +45,13 @@ echo 01000015 C000012E 01000000 00000001 00000002 00 | refused 3 'a length that 
 echo 01000014 4000012E 01000000 00000001 00000002 | refused 4 'an answer'
 echo 01000014 C000012E 01000000 00000001 0000000G | unread 'no hexadecimal digit'
 echo 01000014 C000012E 01000000 00000001 0000000 | unread 'half a byte'
+for decide in "${decides[@]}"; do
+    status=0
+    "${run[@]}" "$decide" "$table" "$profile" "$examples/no-avps.hex" >/dev/full 2>"$room/errors" || status=$?
+    [ "$status" = 2 ] && grep -q '^standard output: ' "$room/errors" ||
+        { echo "decide.sh: $decide with nowhere to write ends with status $status" >&2; exit 1; }
+    tried=$((tried + 1))
+done
 truncate -s -512 "$table"
 echo 01000014 4000012E 01000000 00000001 00000002 | refused 4 'an answer, and a table cut short'
 refused '5, block 0 is bad' 'a table cut short' <"$examples/no-avps.hex"

@@ -25,7 +25,9 @@ Case = collections.namedtuple('Case', 'request table profile room word at change
 
 def read(made, told):
     for case, outcome in zip(streams.cases(made), streams.outcomes(told)):
-        yield Case(*streams.slices(case), case.room, outcome.word, *outcome.table, streams.answer(case, outcome))
+        held, changes = streams.slices(case), streams.changes(case, outcome)
+        yield Case(held['request'], held['table'], held['profile'], len(held['buffer']), outcome.word, *changes['table'],
+                   streams.answer(case, outcome))
 
 
 def small(case):
@@ -86,6 +88,7 @@ def opened():
 
 CASES = '''%s
 use mathlib.Core.Path.{_≡_}
+use Rattle.ndushavire.specs.Lent.{lent}
 use Rattle.ndushavire.specs.Word.{callIn}
 
 -- all that the cases open
@@ -106,7 +109,7 @@ pub record Case : Type 0 where
 
 abbrev pub Agrees : Case → Type 0
 Agrees c =
-    serve (c .request) (c .table) (c .profile) (replicate (c .room) 0)
+    serve (lent (c .request) (c .table) (c .profile) (replicate (c .room) 0))
     ≡ record { call = callIn (c .word); table = sets (c .table) (c .at) (c .changed); buffer = over (c .answer) (replicate (c .room) 0) }
 
 abbrev pub Agree : List Case → Type 0
@@ -116,7 +119,7 @@ Agree (c ∷ cs) = Agrees c × Agree cs
 PART = '''use mathlib.Core.Path.{refl}
 use mathlib.Core.List.{List, [], _∷_, _++_}
 use lib.ListN.{replicate}
-use Rattle.cases.proofs.Cases.{Case, Agrees, opened}
+use Rattle.computed.proofs.Cases.{Case, Agrees, opened}
 '''
 # A declaration for each case, since antt counts the steps of each.
 CASE = '''
@@ -128,7 +131,7 @@ unfolding opened
 agrees%(n)d = refl
 '''
 ALL = '''use mathlib.Core.List.{List, [], _∷_}
-use Rattle.cases.proofs.Cases.{Case, Agree}
+use Rattle.computed.proofs.Cases.{Case, Agree}
 %(uses)s
 
 abbrev cases : List Case
@@ -147,7 +150,7 @@ def modules(cases):
     for part in range(0, len(cases), IN_A_PART):
         some = numbers[part:part + IN_A_PART]
         yield 'Part%d' % part, PART + ''.join(CASE % {'n': n, 'record': record(cases[n])} for n in some)
-        uses.append('use Rattle.cases.proofs.Part%d.{%s}' % (part, ', '.join('case%d, agrees%d' % (n, n) for n in some)))
+        uses.append('use Rattle.computed.proofs.Part%d.{%s}' % (part, ', '.join('case%d, agrees%d' % (n, n) for n in some)))
     yield 'All', ALL % {'uses': '\n'.join(uses), 'cases': ''.join('case%d ∷ ' % n for n in numbers),
                         'proof': ''.join('(agrees%d, ' % n for n in numbers), 'end': ')' * len(cases)}
 
@@ -163,14 +166,14 @@ def write(folder, cases):
 
 
 def copy(folder):
-    """What crates/worked stands on, as far as it is proved, and `cases` in the place of `worked`."""
+    """What crates/worked stands on, as far as it is proved, and `computed` in the place of `worked`."""
     lines = dict(re.findall(r'^(\w+):(.*)', open('crates.txt').read(), re.MULTILINE))
     below = set(lines['worked'].split())
     while more := {dep for name in below for dep in lines[name].split()} - below:
         below |= more
     with open(folder + '/crates.txt', 'w') as text:
         text.writelines('%s:%s\n' % (name, lines[name]) for name in below)
-        text.write('cases:%s\n' % lines['worked'])
+        text.write('computed:%s\n' % lines['worked'])
     for part in ['crates/' + name for name in below] + ['target/rlib', 'target/stamp']:
         if os.path.isdir(part):
             shutil.copytree(part, '%s/%s' % (folder, part), symlinks=True)
@@ -188,8 +191,8 @@ def main():
         sys.exit('definitions.py: this seed has %d cases, and none of: %s' % (len(cases), ', '.join(sorted(missing))))
     with tempfile.TemporaryDirectory() as folder:
         copy(folder)
-        write(folder + '/crates/cases', cases)
-        status = subprocess.run(['rt', 'check', 'cases'], cwd=folder).returncode
+        write(folder + '/crates/computed', cases)
+        status = subprocess.run(['rt', 'check', 'computed'], cwd=folder).returncode
         if status == 3:
             sys.exit('definitions.py: antt could not tell; nothing is known to differ')
         if status != 0:

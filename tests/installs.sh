@@ -1,15 +1,17 @@
 #!/usr/bin/env bash
-# installs.sh ROOM MAKETABLE CC..: installs under three prefixes in ROOM (staged, absolute, relative), compares what is there
-# with what should be, builds an example with what pkg-config says and nothing else, checks the sample with it, and sees
-# that uninstalling leaves no file. RUN, if set, is the emulator.
+# installs.sh ROOM MAKETABLE CC..: installs into folders of ROOM as users and packagers do, compares what is there with what should be,
+# builds an example with what pkg-config says and nothing else, checks the sample with it, and sees that uninstalling takes away what
+# was installed and nothing more. What must not be a prefix is refused, and the tree stays as it is. RUN, if set, is the emulator.
 set -euo pipefail
 room=$1 maketable=$2
 shift 2
+compiler=("$@")
 top=$(cd "$(dirname "$0")/.." && pwd)
 rm -rf "$room"
 mkdir -p "$room/new"
 room=$(cd "$room" && pwd)
-maketable=$(cd "$(dirname "$maketable")" && pwd)/${maketable##*/}
+maketable=$(realpath "$maketable")
+tried=0
 
 fail() {
     echo "installs.sh: $*" >&2
@@ -17,51 +19,152 @@ fail() {
 }
 command -v pkg-config >/dev/null || fail 'pkg-config is missing (Debian: pkg-config)'
 case $(uname -m) in
-x86_64) programs=(bin/answer bin/tablecheck) ;;
+x86_64) programs=(bin/answer bin/ndushavire-check bin/tablecheck) ;;
 *) programs=() ;;
 esac
+version=$(sed -n 's/^#define NDUSHAVIRE_VERSION "\(.*\)"$/\1/p' "$top/include/ndushavire.h")
+quiet() { make -s -C "$top" "$@"; }
 
-# What should be there; of the documents whatever docs/ has.
+# What should be there under a prefix; of documents, pages and examples whatever the tree has.
 {
     printf '%s\n' "${programs[@]}" include/ndushavire.h lib/libndushavire.a lib/pkgconfig/ndushavire.pc \
-        share/man/man1/{answer,tablecheck}.1 share/man/man3/ndushavire{,_check,_decide}.3 share/doc/ndushavire/README.md \
-        share/doc/ndushavire/examples/{check.c,decide.c,households.txt,load.h,maketable.c,store.h}
+        share/man/man3/ndushavire_{check,decide}.3 share/doc/ndushavire/{README.md,installed}
     (cd "$top" && printf 'share/doc/ndushavire/%s\n' docs/*.md | sed 's|/docs/|/|')
+    (cd "$top" && printf 'share/doc/ndushavire/%s\n' examples/* examples/{icscf-20-lir,scscf-12-sar}.hex)
+    (cd "$top" && printf '%s\n' man/* | sed 's|^man/\(.*\)\.\(.\)$|share/man/man\2/\1.\2|')
 } | sed '/^$/d' | sort >"$room/expected"
+for name in share/man/man1/{answer,tablecheck,ndushavire-check}.1 share/man/man3/ndushavire.3 share/doc/ndushavire/examples/store.h; do
+    grep -q -x -F "$name" "$room/expected" || fail "the tree has no $name"
+done
+files_in() { (cd "$1" && find . ! -type d | sed 's|^\./||' | LC_ALL=C sort); }
+LC_ALL=C sort -o "$room/expected" "$room/expected"
 
-installed() { # PREFIX DESTDIR
-    make -s -C "$top" install PREFIX="$1" DESTDIR="$2"
-    local absolute=$1
-    [ "${1#/}" != "$1" ] || absolute=$top/$1
-    (cd "$2$absolute" && find . ! -type d | sed 's|^\./||' | sort) >"$room/found"
-    diff "$room/expected" "$room/found" >&2 || fail "other files than expected under $2$absolute"
-    grep -q -x -F "prefix=$absolute" "$2$absolute/lib/pkgconfig/ndushavire.pc" || fail "the pkg-config file does not say $absolute"
+# Installs, and finds the expected files under ROOT; the pkg-config file says these folders.
+installed() { # ROOT PREFIX LIBDIR INCLUDEDIR VARIABLE=..
+    quiet install "PREFIX=$2" "${@:5}"
+    files_in "$1" >"$room/found"
+    diff "$room/expected" "$room/found" >&2 || fail "other files than expected under $1"
+    local of
+    for of in "prefix=$2" "libdir=$3" "includedir=$4"; do
+        [ "$(PKG_CONFIG_PATH=$1/lib/pkgconfig pkg-config --variable="${of%%=*}" ndushavire)" = "${of#*=}" ] || fail "pkg-config does not say $of"
+    done
+    [ "$(PKG_CONFIG_PATH=$1/lib/pkgconfig pkg-config --modversion ndushavire)" = "$version" ] || fail "pkg-config does not say version '$version'"
+    [ -z "$(find "$1" -type f ! -perm -444)" ] && [ -z "$(find "$1" -type d ! -perm 755)" ] || fail "not for all to read: $(find "$1" ! -perm -444)"
+    tried=$((tried + 1))
 }
-installed /opt/ndushavire "$room/staged"
-installed "${room#"$top"/}/relative" ''
-installed "$room/prefix" ''
+# Uninstalls, and nothing is left of ROOT.
+uninstalled() { # ROOT VARIABLE=..
+    quiet uninstall "${@:2}"
+    [ ! -e "$1" ] || fail "left behind: $(find "$1")"
+    tried=$((tried + 1))
+}
 
-export PKG_CONFIG_PATH=$room/prefix/lib/pkgconfig
-version=$(sed -n 's/^#define NDUSHAVIRE_VERSION "\(.*\)"$/\1/p' "$room/prefix/include/ndushavire.h")
-[ "$(pkg-config --modversion ndushavire)" = "$version" ] || fail "pkg-config does not say version '$version'"
-flags=$(pkg-config --cflags --libs ndushavire)
-cd "$room/new"
-cp "$room/prefix/share/doc/ndushavire/examples/"* .
-"$@" -std=c99 -o check check.c $flags
-"$maketable" table households.txt >table
-"$maketable" profile households.txt >profile
+umask 077
+installed "$room/prefix" "$room/prefix" "$room/prefix/lib" "$room/prefix/include" DESTDIR=
+umask 022
+installed "$room/staged/opt/ndushavire" /opt/ndushavire /opt/ndushavire/lib /opt/ndushavire/include "DESTDIR=$room/staged"
+uninstalled "$room/staged/opt" PREFIX=/opt/ndushavire "DESTDIR=$room/staged"
+# An empty prefix is /, and both mean the same.
+installed "$room/root" '' /lib /include "DESTDIR=$room/root"
+quiet uninstall PREFIX=/ "DESTDIR=$room/root"
+quiet install PREFIX=/ "DESTDIR=$room/root"
+files_in "$room/root" | diff "$room/expected" - >&2 || fail 'PREFIX=/ has other files than PREFIX='
+quiet uninstall PREFIX= "DESTDIR=$room/root"
+[ -z "$(find "$room/root" -mindepth 1)" ] || fail "left behind: $(find "$room/root")"
+odd="$room/a & b|c, d"
+installed "$odd" "$odd" "$odd/lib" "$odd/include" DESTDIR=
+installed "$odd" "$odd" "$odd/lib" "$odd/include" DESTDIR= # and once more over itself
+
+# A packager's folders.
+quiet install PREFIX=/usr LIBDIR=/usr/lib/x86_64-linux-gnu/ MANDIR=/man INCLUDEDIR=/usr/include/island DOCDIR=/usr/share/doc/n \
+    "DESTDIR=$room/package"
+for name in usr/lib/x86_64-linux-gnu/{libndushavire.a,pkgconfig/ndushavire.pc} man/man3/ndushavire_check.3 man/man1/answer.1 \
+    usr/include/island/ndushavire.h usr/share/doc/n/{installed,README.md,examples/check.c}; do
+    [ -e "$room/package/$name" ] || fail "there is no $name of a package"
+done
+grep -q -x -F 'libdir=${prefix}/lib/x86_64-linux-gnu' "$room/package/usr/lib/x86_64-linux-gnu/pkgconfig/ndushavire.pc" ||
+    fail 'the pkg-config file has another libdir'
+[ "$(files_in "$room/package" | wc -l)" = "$(wc -l <"$room/expected")" ] || fail 'a package has other files'
+uninstalled "$room/package/usr" PREFIX=/usr DOCDIR=/usr/share/doc/n "DESTDIR=$room/package"
+uninstalled "$room/package/man" "PREFIX=$odd" DESTDIR=
+[ ! -e "$odd" ] || fail "left behind: $(find "$odd")"
+
+# The programs have their names and may be run, on whichever machine.
+mkdir "$room/made"
+touch "$room/made/check" "$room/made/answer"
+PREFIX=$room/named DESTDIR='' "$top/packaging/install.sh" install "$top/target/staticlib/libndushavire.a" "$room/made/check" "$room/made/answer"
+[ -x "$room/named/bin/ndushavire-check" ] && [ -x "$room/named/bin/answer" ] && [ "$(find "$room/named/bin" -type f | wc -l)" = 2 ] ||
+    fail 'other programs than the two given'
+uninstalled "$room/named" "PREFIX=$room/named" DESTDIR=
+
+# What is refused alters nothing: neither the tree nor what is installed.
+tree() { (cd "$top" && find . \( -path ./target -o -path ./reference/target -o -path ./.git \) -prune -o -type f -exec cksum {} + | sort); }
+tree >"$room/tree"
+files_in "$room/prefix" >"$room/before"
+refused() { # VARIABLE=..
+    local what
+    for what in install uninstall; do
+        ! quiet "$what" "$@" 2>"$room/errors" || fail "make $what $*: not refused"
+        grep -q "^packaging/install.sh: " "$room/errors" || fail "make $what $*: says '$(cat "$room/errors")'"
+        tree | diff "$room/tree" - >&2 || fail "make $what $*: alters the tree"
+        files_in "$room/prefix" | diff "$room/before" - >&2 || fail "make $what $*: alters another installation"
+        tried=$((tried + 1))
+    done
+}
+refused PREFIX=. DESTDIR=
+refused PREFIX=target/test/installs/relative DESTDIR=
+refused 'PREFIX=here /usr' DESTDIR=
+refused "PREFIX=$room/prefix/../other" DESTDIR=
+refused "PREFIX=$room/a\"b" DESTDIR=
+refused "PREFIX=$room/a#b" DESTDIR=
+refused "PREFIX=$room/other" LIBDIR=lib64 DESTDIR=
+refused "PREFIX=$room/other" MANDIR=man DESTDIR=
+refused "PREFIX=$top" DESTDIR=
+refused PREFIX= "DESTDIR=$top"
+[ ! -e "$top/relative" ] && [ ! -e "$room/other" ] || fail 'something was made for a refused prefix'
+! quiet uninstall PREFIX= DESTDIR= 2>/dev/null || fail 'uninstalling where nothing is installed is not refused'
+tree | diff "$room/tree" - >&2 || fail 'make uninstall PREFIX= alters the tree'
+
+# An example, from what is installed and nothing else; the flags are for a shell to read.
+built() { # PREFIX
+    local flags
+    flags=$(PKG_CONFIG_PATH=$1/lib/pkgconfig pkg-config --cflags --libs ndushavire)
+    cp "$1/share/doc/ndushavire/examples/"* "$room/new/"
+    (cd "$room/new" && eval "\"\${compiler[@]}\" -std=c99 -o check check.c $flags")
+    tried=$((tried + 1))
+}
 says() { # PROGRAM ARGUMENT..
     local said
     said=$("$@") || fail "$1 fails"
     [ "$said" = 'sound, 9 records' ] || fail "$1 says '$said'"
+    tried=$((tried + 1))
 }
+built "$room/prefix"
+cd "$room/new"
+"$maketable" table households.txt >table
+"$maketable" profile households.txt >profile
 says ${RUN:+"$RUN"} ./check table profile
 if [ ${#programs[@]} -gt 0 ]; then
     says "$room/prefix/bin/tablecheck"
+    says "$room/prefix/bin/ndushavire-check" table profile
     refused=$(head -c 19 /dev/zero | "$room/prefix/bin/answer")
     [ "$refused" = 'refused 2' ] || fail "answer says '$refused' of 19 bytes"
 fi
+quiet install "PREFIX=$odd" DESTDIR=
+built "$odd"
+says ${RUN:+"$RUN"} ./check table profile
+uninstalled "$odd" "PREFIX=$odd" DESTDIR=
 
-make -s -C "$top" uninstall PREFIX="$room/prefix" DESTDIR=
-[ -z "$(find "$room/prefix" ! -type d)" ] || fail 'files are left behind'
-echo "installs.sh: $(wc -l <"$room/expected") files installed, an example built from them, and removed again"
+# Where others have files too, or had the folder first, these stay.
+mkdir -p "$room/prefix/sbin" "$room/shared/include"
+echo mine >"$room/prefix/lib/other.a"
+echo mine >"$room/prefix/share/doc/ndushavire/notes"
+quiet uninstall "PREFIX=$room/prefix" DESTDIR=
+(cd "$room/prefix" && find . | LC_ALL=C sort) >"$room/found"
+printf '%s\n' . ./lib ./lib/other.a ./sbin ./share ./share/doc ./share/doc/ndushavire ./share/doc/ndushavire/notes | diff - "$room/found" >&2 ||
+    fail 'uninstalling took more or less than what was installed'
+quiet install "PREFIX=$room/shared" DESTDIR=
+quiet uninstall "PREFIX=$room/shared" DESTDIR=
+[ "$(cd "$room/shared" && find . | LC_ALL=C sort | tr '\n' ' ')" = '. ./include ' ] ||
+    fail "of folders that were there these are left: $(find "$room/shared")"
+echo "installs.sh: $(wc -l <"$room/expected") files installed, $tried trials of installing and uninstalling, an example built from them"

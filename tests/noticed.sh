@@ -1,8 +1,10 @@
 #!/usr/bin/env bash
-# noticed.sh REFERENCE: would a comparison fail? The independent program beside itself agrees; beside itself with a
-# deliberate fault, or beside a driver that says nothing, it must end with status 1.
+# noticed.sh REFERENCE DRIVER..: would a comparison fail? The independent program beside itself agrees; beside itself with
+# a deliberate fault, or beside a driver that says nothing, it must end with status 1, and so beside DRIVER, where the
+# library oversteps (overstep.c).
 set -euo pipefail
 reference=$1
+driver=("${@:2}")
 tried=0
 
 ends() { # STATUS KIND DRIVER..
@@ -19,5 +21,9 @@ done
 for of in tables:EqualIdentitiesTaken tables:PrefixTaken calls:PendingStays calls:RestOfBufferCleared calls:BaseForUserUnknown \
     demand3:MarkIgnored demand3:ReservedFlagsOfUnknownIgnored; do
     ends 1 "${of%:*}" "$reference" outcomes --fault "${of#*:}"
+done
+OVERSTEP=nowhere ends 0 tables "${driver[@]}"
+for which in before behind inside; do
+    OVERSTEP=$which ends 1 tables "${driver[@]}"
 done
 echo "noticed.sh: $tried comparisons, each ended as it should"

@@ -1,5 +1,6 @@
 /* store FOLDER: tries examples/store.h in an empty folder. A store that fails leaves the old file as it was and nothing
- * beside it; one that succeeds replaces it whole. Writes that are interrupted or cut short are gone on with. */
+ * beside it; one that succeeds replaces it whole, keeps its mode, and opens nothing that stands at the new name. Writes that
+ * are interrupted or cut short are gone on with. What is not on disk, or may lie elsewhere, is not settled. */
 #ifndef _GNU_SOURCE
 #define _GNU_SOURCE /* O_PATH: a folder that can be written to and not flushed */
 #endif
@@ -78,6 +79,61 @@ static int writes_through(void) {
     return waitpid(reader, &status, 0) == reader && wrote && status == 0;
 }
 
+static mode_t mode_of(const char *name) {
+    struct stat about;
+    return lstat(name, &about) == 0 ? about.st_mode : 0;
+}
+
+/* The mode is the old file's, whatever the umask, and a first file's is narrowed by it. */
+static void try_modes(int folder, const uint8_t *bytes) {
+    static const mode_t modes[] = {0600, 0640, 0604, 0400, 0666};
+    const mode_t before = umask(027);
+    expect(store(folder, "first", bytes, LENGTH) == STORED && mode_of("first") == (S_IFREG | 0640), "a first file");
+    expect(unlink("first") == 0, "the first file removed");
+    umask(077);
+    expect(store(folder, "first", bytes, LENGTH) == STORED && mode_of("first") == (S_IFREG | 0600), "a first file under a narrow umask");
+    for (size_t i = 0; i < sizeof modes / sizeof modes[0]; i++) {
+        expect(chmod("first", modes[i]) == 0, "a mode set");
+        expect(store(folder, "first", bytes, LENGTH) == STORED && mode_of("first") == (S_IFREG | modes[i]), "a mode kept");
+    }
+    expect(unlink("first") == 0, "the first file removed again");
+    umask(before);
+}
+
+/* What stands at the new name is removed and not opened: a link's file stays as it is, and a fifo holds nothing up. */
+static void try_new_name(int folder, const uint8_t *old, const uint8_t *fresh) {
+    const int files = count();
+    expect(store(folder, "elsewhere", old, LENGTH) == STORED, "a file elsewhere");
+    expect(symlink("elsewhere", "table.new") == 0, "a link at the new name");
+    expect(store(folder, "table", fresh, LENGTH) == STORED && has("table", fresh, LENGTH) && has("elsewhere", old, LENGTH), "a link not followed");
+    expect(S_ISREG(mode_of("table")) && count() == files + 1, "the link removed");
+    expect(symlink("nowhere", "table.new") == 0, "a link to nothing at the new name");
+    expect(store(folder, "table", old, LENGTH) == STORED && has("table", old, LENGTH) && count() == files + 1, "a link to nothing");
+    expect(mkfifo("table.new", 0600) == 0, "a fifo at the new name");
+    expect(store(folder, "table", fresh, LENGTH) == STORED && S_ISREG(mode_of("table")) && count() == files + 1, "a fifo not waited for");
+    expect(mkdir("table.new", 0700) == 0, "a folder at the new name");
+    expect(fails(folder, "table", old, EISDIR, fresh, files + 2), "a folder at the new name, in the way");
+    expect(rmdir("table.new") == 0, "the folder removed");
+    expect(unlink("table") == 0 && symlink("elsewhere", "table") == 0, "a link at the name");
+    expect(store(folder, "table", fresh, LENGTH) == STORED && S_ISREG(mode_of("table")) && has("elsewhere", old, LENGTH), "a link replaced");
+    expect(mode_of("table") == (S_IFREG | (0640 & ~umask(umask(0)))), "a link's mode not kept");
+    expect(unlink("elsewhere") == 0 && count() == files, "the file elsewhere removed");
+}
+
+/* Whether a file is not settled, for the reason. */
+static int unsettled(int folder, const char *name, int reason) {
+    errno = 0;
+    return !settled(folder, name) && errno == reason;
+}
+
+static void try_settled(int folder, int unflushable) {
+    expect(settled(folder, "table"), "a settled file");
+    expect(unsettled(folder, "none", ENOENT), "no file");
+    expect(unsettled(unflushable, "table", EBADF), "a settled file in a folder that cannot be flushed");
+    expect(symlink("table", "link") == 0 && unsettled(folder, "link", ELOOP) && unlink("link") == 0, "a link");
+    expect(mkfifo("fifo", 0600) == 0 && unsettled(folder, "fifo", EINVAL) && unlink("fifo") == 0, "a fifo");
+}
+
 int main(int argc, char **argv) {
     static uint8_t old[LENGTH], fresh[LENGTH];
     static char long_name[300];
@@ -113,6 +169,11 @@ int main(int argc, char **argv) {
     FILE *left = fopen("table.new", "wb"); /* as a power cut leaves it */
     expect(left != NULL && fwrite(old, 1, LENGTH, left) == LENGTH && fclose(left) == 0, "a file left behind");
     expect(store(folder, "table", fresh, SHORTER) == STORED && has("table", fresh, SHORTER) && count() == 2, "a shorter table");
+    alarm(60); /* nothing waits for a fifo */
+    try_modes(folder, old);
+    try_new_name(folder, old, fresh);
+    try_settled(folder, unflushable);
+    alarm(0);
     expect(writes_through(), "interrupted writes");
     printf("store: %d steps, each as it should be\n", tried);
     return 0;

@@ -1,12 +1,14 @@
-"""The independent program's streams of cases and outcomes, in the form that reference/README.md gives them, and AVPs."""
+"""The streams of cases and outcomes, in the form that reference/README.md gives them under "Streams", and AVPs."""
 import collections, struct, subprocess
 
-HEAD = struct.Struct('<BBHIIII')
-# What a buffer holds before the call, from any of its first 256 bytes on.
-NOISE = bytes(((n * 2654435761) & 0xFFFFFFFF) >> 24 for n in range(256 + 36864))
+# The slices that each entry takes, with a star behind those that it may write to.
+ENTRIES = {1: 'table profile'.split(), 2: 'request table* profile buffer*'.split()}
+WRITTEN, NOISY = 1 << 31, 1 << 30  # beside a slice's length
+# What a slice of noise holds before the call, from any of its first 256 bytes on.
+NOISE = bytes(((n * 2654435761) & 0xFFFFFFFF) >> 24 for n in range(256 + 65536))
 
-Case = collections.namedtuple('Case', 'whole entry fill room sizes')  # its own bytes; sizes of request, table, profile
-Outcome = collections.namedtuple('Outcome', 'whole word table buffer')  # of table and buffer: first changed byte, bytes from it
+Case = collections.namedtuple('Case', 'whole entry fill words numbers')  # its own bytes; a word for each slice
+Outcome = collections.namedtuple('Outcome', 'whole word changes')  # of each change the first changed byte, and the bytes from it
 
 
 def run(reference, *words, given=b''):
@@ -17,37 +19,63 @@ def made(reference, kind, seed, count):
     return run(reference, 'gen', '--kind', kind, '--seed', str(seed), '--count', str(count))
 
 
+def carried(word):
+    """How many bytes of a slice a case carries."""
+    return 0 if word & NOISY else word % NOISY
+
+
 def cases(stream):
     at = 0
     while at < len(stream):
-        entry, fill, _, *sizes, room = HEAD.unpack_from(stream, at)
-        start, at = at, at + HEAD.size + sum(sizes)
-        yield Case(stream[start:at], entry, fill, room, sizes)
+        entry, fill, slices, numbers = stream[at:at + 4]
+        words = struct.unpack_from('>%dI' % (slices + numbers), stream, at + 4)
+        start, at = at, at + 4 + 4 * len(words) + sum(map(carried, words[:slices]))
+        yield Case(stream[start:at], entry, fill, words[:slices], words[slices:])
 
 
 def outcomes(stream):
     at = 0
     while at < len(stream):
-        start, word, changes = at, struct.unpack_from('<Q', stream, at)[0], []
-        at += 12
-        for _ in range(2):
-            first, count = struct.unpack_from('<II', stream, at)
-            at += 8 + count
-            changes.append((first, stream[at - count:at]))
-        yield Outcome(stream[start:at], word, *changes)
+        start, (word, _, count), changes = at, struct.unpack_from('>QIB', stream, at), []
+        at += 13
+        for _ in range(count):
+            first, length = struct.unpack_from('>II', stream, at)
+            at += 8 + length
+            changes.append((first, stream[at - length:at]))
+        yield Outcome(stream[start:at], word, changes)
+
+
+def case(entry, fill, *slices, numbers=()):
+    """The bytes of a case: of a slice its bytes, or how many of noise it holds."""
+    words = [(slice | NOISY if isinstance(slice, int) else len(slice)) | (WRITTEN if '*' in name else 0)
+             for name, slice in zip(ENTRIES[entry], slices)]
+    head = struct.pack('>BBBB%dI' % (len(words) + len(numbers)), entry, fill, len(words), len(numbers), *words, *numbers)
+    return head + b''.join(slice for slice in slices if not isinstance(slice, int))
+
+
+def sizes(case):
+    """The lengths of its slices by name."""
+    return {name.strip('*'): word % NOISY for name, word in zip(ENTRIES[case.entry], case.words)}
 
 
 def slices(case):
-    """Request, table and profile."""
-    at = HEAD.size
-    for size in case.sizes:
-        yield case.whole[at:at + size]
-        at += size
+    """What its slices hold before the call, by name."""
+    held, at = {}, len(case.whole) - sum(map(carried, case.words))
+    for name, word in zip(ENTRIES[case.entry], case.words):
+        size = word % NOISY
+        held[name.strip('*')] = NOISE[case.fill:case.fill + size] if word & NOISY else case.whole[at:at + size]
+        at += carried(word)
+    return held
+
+
+def changes(case, outcome):
+    """What changed in the slices that its entry may write to, by name."""
+    return dict(zip([name.strip('*') for name in ENTRIES[case.entry] if '*' in name], outcome.changes))
 
 
 def answer(case, outcome):
     """The answer of a decision; nothing if it was refused."""
-    first, written = outcome.buffer
+    first, written = changes(case, outcome)['buffer']
     said = bytearray(NOISE[case.fill:case.fill + (0 if outcome.word >> 48 else outcome.word)])
     said[first:first + len(written)] = written
     return bytes(said)

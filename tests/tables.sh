@@ -1,10 +1,10 @@
 #!/usr/bin/env bash
-# tables.sh ROOM MAKETABLE CHECK..: what maketable makes is sound to each CHECK, what it cannot make sound it refuses,
-# and of each damaged table the first bad block is named. RUN, if set, is the emulator that runs a CHECK.
+# tables.sh ROOM MAKETABLE SHOWTABLE CHECK..: what maketable makes is sound to each CHECK, what it cannot make sound it refuses,
+# and of each damaged table the first bad block is named; showtable says the same. RUN, if set, is the emulator that runs a CHECK.
 set -euo pipefail
 shopt -s lastpipe
-room=$1 maketable=$2
-shift 2
+room=$1 maketable=$2 showtable=$3
+shift 3
 checks=("$@")
 run=(${RUN:+"$RUN"})
 rm -rf "$room"
@@ -27,6 +27,10 @@ says() { # EXPECTED ABOUT
         [ "$said" = "$1" ] || fail "$2: $check says '$said' and should say '$1'"
         [ "$status" = "$due" ] || fail "$2: $check ends with status $status and should end with $due"
     done
+    status=0
+    said=$("$showtable" "$table" "$profile" 2>&1 >"$room/shown") || status=$?
+    [ "$status" = "$due" ] || fail "$2: showtable ends with status $status and should end with $due"
+    [ "$due" = 0 ] || { [ "$said" = "showtable: $table: $1" ] && [ ! -s "$room/shown" ]; } || fail "$2: showtable says '$said' and should say '$1'"
     tried=$((tried + 1))
 }
 
@@ -190,13 +194,23 @@ ends() { # STATUS COMMAND..
     [ "$status" = "$1" ] && [ ! -s "$room/said" ] && [ -s "$room/errors" ] || fail "${*:2}: not reported, or status $status instead of $1"
     tried=$((tried + 1))
 }
+version=$(sed -n 's/^#define NDUSHAVIRE_VERSION "\(.*\)"$/\1/p' "$(dirname "$0")/../include/ndushavire.h")
 for check in "${checks[@]}"; do
     ends 2 "${run[@]}" "$check" "$table" "$room/none"
+    ends 2 "${run[@]}" "$check" "$room" "$profile"
+    ends 2 "${run[@]}" "$check"
     ends 2 "${run[@]}" "$check" "$table"
+    ends 2 "${run[@]}" "$check" "$table" "$profile" "$profile"
+    ends 2 "${run[@]}" "$check" --version "$profile"
+    ends 2 bash -c '"$@" >/dev/full' - "${run[@]}" "$check" "$table" "$profile"
+    ends 2 bash -c '"$@" >&-' - "${run[@]}" "$check" "$table" "$profile"
+    ends 2 bash -c '"$@" >/dev/full' - "${run[@]}" "$check" --help
+    [ "$("${run[@]}" "$check" --version)" = "ndushavire-check $version" ] || fail "$check --version does not say $version"
+    [[ $("${run[@]}" "$check" --help) == 'usage: ndushavire-check '* ]] || fail "$check --help says nothing of its use"
 done
 ends 2 "$maketable"
 ends 2 "$maketable" record "$text"
 ends 2 "$maketable" table "$room/none"
-ends 1 bash -c '"$0" table "$1" >/dev/full' "$maketable" "$(dirname "$0")/../examples/households.txt"
+ends 2 bash -c '"$0" table "$1" >/dev/full' "$maketable" "$(dirname "$0")/../examples/households.txt"
 
 echo "tables.sh: $tried tables and texts, each as it should be"

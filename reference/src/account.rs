@@ -1,18 +1,9 @@
 //! A case and its outcomes, as a person reads them.
 
 use crate::block::BLOCK;
-use crate::cases::{Case, Change, Entry, Outcome, ALL_INTACT};
+use crate::cases::{altered_bits, Case, Change, Entry, Outcome, Slice};
 use crate::gen::{Made, Stream};
 use crate::show::hex;
-
-const SLICES: [&str; 6] = [
-    "the request was altered",
-    "the profile was altered",
-    "bytes around the request were altered",
-    "bytes around the table were altered",
-    "bytes around the profile were altered",
-    "bytes around the buffer were altered",
-];
 
 /// Lines of 32 bytes.
 pub fn lines(bytes: &[u8]) -> String {
@@ -35,14 +26,14 @@ pub fn case(stream: Stream, seed: u64, number: u64, made: &Made) {
     let case = &made.case;
     println!("case {number} of seed {seed} (gen --kind {} --seed {seed} --from {number} --count 1)", stream.name());
     println!("  made by: {}", made.notes.join(", "));
-    println!(
-        "  table {} bytes, profile {} bytes, buffer {} bytes",
-        case.table.len(),
-        case.profile.len(),
-        case.buffer_length
-    );
-    if case.entry == Entry::Decide {
-        println!("  request of {} bytes:\n{}", case.request.len(), lines(&case.request));
+    for (lent, held) in case.entry.lent().iter().zip(&case.slices) {
+        println!("  {} of {} bytes", lent.slice().name(), held.length());
+        if lent.slice() == Slice::Request {
+            println!("{}", lines(&case.held(Slice::Request)));
+        }
+    }
+    for number in &case.numbers {
+        println!("  number {number}");
     }
 }
 
@@ -52,24 +43,25 @@ pub fn difference(stream: Stream, seed: u64, number: u64, made: &Made, own: &Out
     case(stream, seed, number, made);
     println!("  this program: {}", word(made.case.entry, own));
     println!("  the driver:   {}", word(made.case.entry, given));
-    for (bit, what) in SLICES.iter().enumerate() {
-        if given.intact & ALL_INTACT & 1 << bit == 0 {
-            println!("  {what}");
+    let case = &made.case;
+    for (place, lent) in case.entry.lent().iter().enumerate() {
+        let (slice, (around, itself)) = (lent.slice(), altered_bits(place));
+        if given.altered & around != 0 {
+            println!("  bytes around the {} were altered", slice.name());
+        }
+        if given.altered & itself != 0 {
+            println!("  the {} was altered", slice.name());
+        }
+        match (case.entry.change(own, slice), case.entry.change(given, slice)) {
+            (Some(own), Some(given)) if own != given => changed(&slice.name(), &case.held(slice), own, given),
+            _ => {}
         }
     }
-    let case = &made.case;
-    slice("table", &case.table, &own.table, &given.table);
-    slice("buffer", &case.buffer_before(), &own.buffer, &given.buffer);
-    if case.entry == Entry::Decide {
-        answer("this program", case, own);
-        answer("the driver", case, given);
-    }
+    answer("this program", case, own);
+    answer("the driver", case, given);
 }
 
-fn slice(name: &str, before: &[u8], own: &Change, given: &Change) {
-    if own == given {
-        return;
-    }
+fn changed(name: &str, before: &[u8], own: &Change, given: &Change) {
     if !given.fits(before.len()) {
         println!("  {name}: the driver tells of a change outside of it");
         return;
@@ -93,10 +85,7 @@ fn slice(name: &str, before: &[u8], own: &Change, given: &Change) {
 
 pub fn answer(whose: &str, case: &Case, outcome: &Outcome) {
     let (number, _, value) = outcome.parts();
-    if number != 0 || !outcome.buffer.fits(case.buffer_length) {
-        return;
+    if let (0, Some(buffer)) = (number, case.after(outcome, Slice::Buffer)) {
+        println!("  the answer of {whose}:\n{}", lines(&buffer[..(value as usize).min(buffer.len())]));
     }
-    let mut buffer = case.buffer_before();
-    outcome.buffer.apply(&mut buffer);
-    println!("  the answer of {whose}:\n{}", lines(&buffer[..(value as usize).min(buffer.len())]));
 }

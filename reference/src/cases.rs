@@ -1,28 +1,58 @@
-//! Cases and outcomes as byte streams (little-endian; README.md has the format).
+//! Calls of the entries: what each entry takes, what this program does with a call, and what was changed by it.
 
-use std::io::{self, Read, Write};
+use std::borrow::Cow;
 
+use self::Lent::{Read, Written};
+use self::Slice::{Buffer, Profile, Request, Table};
 use crate::serve;
 use crate::slip::Slip;
 use crate::table;
 use crate::verdict::Why;
 
+/// An entry, under its number in the streams.
 #[derive(Clone, Copy, PartialEq, Eq, Debug)]
 pub enum Entry {
     Check = 1,
     Decide = 2,
 }
 
-/// One call of an entry. For `Check`, request and buffer are empty.
+#[derive(Clone, Copy, PartialEq, Eq, Debug)]
+pub enum Slice {
+    Request,
+    Table,
+    Profile,
+    Buffer,
+}
+
+/// A slice that an entry takes: to read it, or to write to it too.
+#[derive(Clone, Copy, PartialEq, Eq, Debug)]
+pub enum Lent {
+    Read(Slice),
+    Written(Slice),
+}
+
+/// Each entry, the slices that it takes, and how many numbers come behind them.
+const ENTRIES: [(Entry, &[Lent], usize); 2] = [
+    (Entry::Check, &[Read(Table), Read(Profile)], 0),
+    (Entry::Decide, &[Read(Request), Written(Table), Read(Profile), Written(Buffer)], 0),
+];
+
+/// What a slice holds before the call.
+#[derive(Clone, PartialEq, Debug)]
+pub enum Held {
+    Bytes(Vec<u8>),
+    /// So many bytes of the noise, from the case's `fill` on.
+    Noise(usize),
+}
+
+/// One call of an entry: what it lends and gives, in the entry's order.
 #[derive(Clone, PartialEq, Debug)]
 pub struct Case {
     pub entry: Entry,
-    /// Where in the noise the buffer begins, so that it holds other bytes in other calls.
-    pub noise_from: u8,
-    pub request: Vec<u8>,
-    pub table: Vec<u8>,
-    pub profile: Vec<u8>,
-    pub buffer_length: usize,
+    /// Where in the noise a slice of it begins, so that it holds other bytes in other calls.
+    pub fill: u8,
+    pub slices: Vec<Held>,
+    pub numbers: Vec<u32>,
 }
 
 /// What a call changed in a slice: from the first changed byte to the last.
@@ -32,23 +62,89 @@ pub struct Change {
     pub bytes: Vec<u8>,
 }
 
-/// All that was lent to be read is unaltered, and so are the bytes around every slice.
-pub const ALL_INTACT: u32 = 0x3F;
-
 #[derive(Clone, PartialEq, Debug)]
 pub struct Outcome {
     pub word: u64,
-    pub intact: u32,
-    pub table: Change,
-    pub buffer: Change,
+    /// What was altered and may not be, a bit for each slice as README.md has them; 0 if nothing was.
+    pub altered: u32,
+    /// One for each slice that may be written to.
+    pub changes: Vec<Change>,
 }
 
-/// The longest slice a case may carry; more is a broken stream.
-const LONGEST: usize = 1 << 26;
+/// The bit of `altered` for the bytes around slice number `place`, and the one for a slice that is lent to be read.
+pub fn altered_bits(place: usize) -> (u32, u32) {
+    (1 << place, 1 << (16 + place))
+}
 
-/// Byte `n` of the noise that a buffer holds before the call.
+/// Byte `n` of the noise.
 fn noise(n: usize) -> u8 {
     ((n as u32).wrapping_mul(2_654_435_761) >> 24) as u8
+}
+
+impl Slice {
+    pub fn name(self) -> String {
+        format!("{self:?}").to_lowercase()
+    }
+}
+
+impl Lent {
+    pub fn slice(self) -> Slice {
+        match self {
+            Read(slice) | Written(slice) => slice,
+        }
+    }
+
+    pub fn written(self) -> bool {
+        matches!(self, Written(_))
+    }
+}
+
+impl Entry {
+    pub fn of_number(number: u8) -> Option<Entry> {
+        ENTRIES.iter().map(|(entry, ..)| *entry).find(|entry| *entry as u8 == number)
+    }
+
+    fn row(self) -> (&'static [Lent], usize) {
+        let (_, lent, numbers) = ENTRIES[self as usize - 1];
+        (lent, numbers)
+    }
+
+    /// The slices that it takes.
+    pub fn lent(self) -> &'static [Lent] {
+        self.row().0
+    }
+
+    /// How many numbers it takes.
+    pub fn numbers(self) -> usize {
+        self.row().1
+    }
+
+    /// What an outcome says of a slice: nothing if the entry does not write to it.
+    pub fn change(self, outcome: &Outcome, slice: Slice) -> Option<&Change> {
+        let place = self.lent().iter().filter(|lent| lent.written()).position(|lent| lent.slice() == slice)?;
+        outcome.changes.get(place)
+    }
+
+    /// Whether an outcome says that the table was rewritten.
+    pub fn rewrote(self, outcome: &Outcome) -> bool {
+        self.change(outcome, Table).map_or(false, |change| !change.bytes.is_empty())
+    }
+}
+
+impl Held {
+    pub fn length(&self) -> usize {
+        match self {
+            Held::Bytes(bytes) => bytes.len(),
+            Held::Noise(length) => *length,
+        }
+    }
+
+    fn bytes(&self, fill: u8) -> Cow<'_, [u8]> {
+        match self {
+            Held::Bytes(bytes) => Cow::Borrowed(bytes),
+            Held::Noise(length) => (0..*length).map(|n| noise(n + usize::from(fill))).collect(),
+        }
+    }
 }
 
 impl Change {
@@ -84,9 +180,38 @@ impl Change {
 }
 
 impl Case {
-    pub fn buffer_before(&self) -> Vec<u8> {
-        let from = usize::from(self.noise_from);
-        (from..from + self.buffer_length).map(noise).collect()
+    pub fn check(fill: u8, table: Vec<u8>, profile: Vec<u8>) -> Case {
+        Case { entry: Entry::Check, fill, slices: vec![Held::Bytes(table), Held::Bytes(profile)], numbers: vec![] }
+    }
+
+    pub fn decide(fill: u8, request: Vec<u8>, table: Vec<u8>, profile: Vec<u8>, buffer: usize) -> Case {
+        let slices = vec![Held::Bytes(request), Held::Bytes(table), Held::Bytes(profile), Held::Noise(buffer)];
+        Case { entry: Entry::Decide, fill, slices, numbers: vec![] }
+    }
+
+    fn place(&self, slice: Slice) -> Option<usize> {
+        self.entry.lent().iter().position(|lent| lent.slice() == slice)
+    }
+
+    /// The bytes of a slice before the call; none if the entry does not take it.
+    pub fn held(&self, slice: Slice) -> Cow<'_, [u8]> {
+        self.place(slice).map_or(Cow::Borrowed(&[]), |place| self.slices[place].bytes(self.fill))
+    }
+
+    /// The same case with other bytes in a slice.
+    pub fn with(mut self, slice: Slice, bytes: Vec<u8>) -> Case {
+        if let Some(place) = self.place(slice) {
+            self.slices[place] = Held::Bytes(bytes);
+        }
+        self
+    }
+
+    /// The bytes of a slice after the call, if the outcome's change lies within it.
+    pub fn after(&self, outcome: &Outcome, slice: Slice) -> Option<Vec<u8>> {
+        let mut bytes = self.held(slice).into_owned();
+        let change = self.entry.change(outcome, slice).filter(|change| change.fits(bytes.len()))?;
+        change.apply(&mut bytes);
+        Some(bytes)
     }
 
     /// What this program does with the case.
@@ -95,64 +220,22 @@ impl Case {
     }
 
     pub fn outcome_and_why(&self, slip: Slip) -> (Outcome, Why) {
-        let mut outcome = Outcome { word: 0, intact: ALL_INTACT, table: Change::default(), buffer: Change::default() };
-        let why;
-        match self.entry {
-            Entry::Check => {
-                let found = table::check_with(&self.table, self.profile.len(), slip);
-                outcome.word = serve::check_word(found);
-                why = Why::Checked(found);
+        let before: Vec<Cow<[u8]>> = self.slices.iter().map(|held| held.bytes(self.fill)).collect();
+        let mut lent: Vec<Cow<[u8]>> = before.iter().map(|bytes| Cow::Borrowed(&bytes[..])).collect();
+        let (word, why) = match (self.entry, &mut lent[..]) {
+            (Entry::Check, [table, profile]) => {
+                let found = table::check_with(table, profile.len(), slip);
+                (serve::check_word(found), Why::Checked(found))
             }
-            Entry::Decide => {
-                let before = self.buffer_before();
-                let mut lent = self.table.clone();
-                let mut buffer = before.clone();
-                (outcome.word, why) = serve::serve(&self.request, &mut lent, &self.profile, &mut buffer, slip);
-                outcome.table = Change::between(&self.table, &lent);
-                outcome.buffer = Change::between(&before, &buffer);
+            (Entry::Decide, [request, table, profile, buffer]) => {
+                serve::serve(request, table.to_mut(), profile, buffer.to_mut(), slip)
             }
-        }
-        (outcome, why)
-    }
-
-    pub fn write(&self, to: &mut impl Write) -> io::Result<()> {
-        to.write_all(&[self.entry as u8, self.noise_from, 0, 0])?;
-        for length in [self.request.len(), self.table.len(), self.profile.len(), self.buffer_length] {
-            to.write_all(&(length as u32).to_le_bytes())?;
-        }
-        to.write_all(&self.request)?;
-        to.write_all(&self.table)?;
-        to.write_all(&self.profile)
-    }
-
-    /// The next case, or none at the stream's end.
-    pub fn read(from: &mut impl Read) -> io::Result<Option<Case>> {
-        let mut first = [0];
-        if from.read(&mut first)? == 0 {
-            return Ok(None);
-        }
-        let mut head = [0; 3];
-        from.read_exact(&mut head)?;
-        let entry = match first[0] {
-            1 => Entry::Check,
-            2 => Entry::Decide,
-            _ => return Err(broken("a case is neither check nor decide")),
+            _ => unreachable!("a case has the slices that its entry takes"),
         };
-        let mut lengths = [0; 4];
-        for length in &mut lengths {
-            *length = read_u32(from)? as usize;
-            if *length > LONGEST {
-                return Err(broken("a slice is too long"));
-            }
-        }
-        Ok(Some(Case {
-            entry,
-            noise_from: head[0],
-            request: read_bytes(from, lengths[0])?,
-            table: read_bytes(from, lengths[1])?,
-            profile: read_bytes(from, lengths[2])?,
-            buffer_length: lengths[3],
-        }))
+        let slices = self.entry.lent().iter().zip(before.iter().zip(&lent));
+        let written = slices.filter(|(lent, _)| lent.written());
+        let changes = written.map(|(_, (before, after))| Change::between(before, after)).collect();
+        (Outcome { word, altered: 0, changes }, why)
     }
 }
 
@@ -161,53 +244,6 @@ impl Outcome {
     pub fn parts(&self) -> (u64, u64, u64) {
         (self.word >> 48, self.word >> 32 & 0xFFFF, self.word & 0xFFFF_FFFF)
     }
-
-    pub fn write(&self, to: &mut impl Write) -> io::Result<()> {
-        to.write_all(&self.word.to_le_bytes())?;
-        to.write_all(&self.intact.to_le_bytes())?;
-        for change in [&self.table, &self.buffer] {
-            to.write_all(&change.first.to_le_bytes())?;
-            to.write_all(&(change.bytes.len() as u32).to_le_bytes())?;
-            to.write_all(&change.bytes)?;
-        }
-        Ok(())
-    }
-
-    pub fn read(from: &mut impl Read) -> io::Result<Outcome> {
-        let mut word = [0; 8];
-        from.read_exact(&mut word)?;
-        Ok(Outcome {
-            word: u64::from_le_bytes(word),
-            intact: read_u32(from)?,
-            table: read_change(from)?,
-            buffer: read_change(from)?,
-        })
-    }
-}
-
-fn read_change(from: &mut impl Read) -> io::Result<Change> {
-    let first = read_u32(from)?;
-    let count = read_u32(from)? as usize;
-    if count > LONGEST {
-        return Err(broken("a change is too long"));
-    }
-    Ok(Change { first, bytes: read_bytes(from, count)? })
-}
-
-fn read_u32(from: &mut impl Read) -> io::Result<u32> {
-    let mut bytes = [0; 4];
-    from.read_exact(&mut bytes)?;
-    Ok(u32::from_le_bytes(bytes))
-}
-
-fn read_bytes(from: &mut impl Read, count: usize) -> io::Result<Vec<u8>> {
-    let mut bytes = vec![0; count];
-    from.read_exact(&mut bytes)?;
-    Ok(bytes)
-}
-
-pub fn broken(what: &str) -> io::Error {
-    io::Error::new(io::ErrorKind::InvalidData, what)
 }
 
 #[cfg(test)]
@@ -215,31 +251,12 @@ mod tests {
     use super::*;
 
     #[test]
-    fn cases_and_outcomes_come_back_as_written() {
-        let case = Case {
-            entry: Entry::Decide,
-            noise_from: 9,
-            request: vec![1, 2, 3],
-            table: vec![4; 512],
-            profile: vec![],
-            buffer_length: 36_864,
-        };
-        let mut stream = Vec::new();
-        case.write(&mut stream).unwrap();
-        let mut from = &stream[..];
-        assert_eq!(Case::read(&mut from).unwrap(), Some(case));
-        assert_eq!(Case::read(&mut from).unwrap(), None);
-
-        let outcome = Outcome {
-            word: 5 << 48 | 3,
-            intact: ALL_INTACT,
-            table: Change { first: 7, bytes: vec![1, 2] },
-            buffer: Change::default(),
-        };
-        let mut stream = Vec::new();
-        outcome.write(&mut stream).unwrap();
-        assert_eq!(Outcome::read(&mut &stream[..]).unwrap(), outcome);
-        assert_eq!(outcome.parts(), (5, 0, 3));
+    fn the_entries_stand_in_the_order_of_their_numbers() {
+        for (place, (entry, ..)) in ENTRIES.iter().enumerate() {
+            assert_eq!(*entry as usize, place + 1);
+            assert_eq!(Entry::of_number(place as u8 + 1), Some(*entry));
+        }
+        assert_eq!(Entry::of_number(0), None);
     }
 
     #[test]

@@ -1,5 +1,6 @@
 //! Runs a driver over a stream of cases and compares its outcomes with this program's.
 
+use std::collections::BTreeMap;
 use std::io::{self, BufReader, BufWriter, Write};
 use std::ops::Range;
 use std::process::{Child, ChildStdout, Command, Stdio};
@@ -8,9 +9,10 @@ use std::thread::{self, JoinHandle};
 use std::time::Instant;
 
 use crate::account;
-use crate::cases::{broken, Case, Entry, Outcome};
+use crate::cases::{Case, Entry, Outcome, Slice};
 use crate::gen::{self, Stream};
 use crate::slip::Slip;
+use crate::streams::broken;
 
 /// How many cases are tried one by one to find the one that a driver died of.
 const RETRIED: usize = 20_000;
@@ -93,36 +95,33 @@ impl<T: Send + 'static> Fed<T> {
 #[derive(Default)]
 struct Figures {
     cases: u64,
-    sound: u64,
-    answered: u64,
+    done: u64,
     rewritten: u64,
-    refused: [u64; 6],
+    /// By the refusal's number.
+    refused: BTreeMap<u64, u64>,
     table_bytes: u64,
 }
 
 impl Figures {
-    fn count(&mut self, entry: Entry, table: usize, outcome: &Outcome) {
+    fn count(&mut self, expected: &Expected) {
         self.cases += 1;
-        self.table_bytes += table as u64;
-        match (outcome.parts().0, entry) {
-            (0, Entry::Check) => self.sound += 1,
-            (0, Entry::Decide) => self.answered += 1,
-            (number, _) => self.refused[(number as usize).min(5)] += 1,
+        self.table_bytes += expected.table as u64;
+        match expected.outcome.parts().0 {
+            0 => self.done += 1,
+            number => *self.refused.entry(number).or_insert(0) += 1,
         }
-        if !outcome.table.bytes.is_empty() {
+        if expected.entry.rewrote(&expected.outcome) {
             self.rewritten += 1;
         }
     }
 
     fn print(&self, began: Instant) {
         println!(
-            "{} cases agree: {} tables sound, {} requests answered ({} with a table rewritten), refused {:?}; \
-             {} MiB of tables; {:.1} s",
+            "{} cases agree: {} sound or answered ({} with a table rewritten), refused {:?}; {} MiB of tables; {:.1} s",
             self.cases,
-            self.sound,
-            self.answered,
+            self.done,
             self.rewritten,
-            &self.refused[1..],
+            self.refused,
             self.table_bytes >> 20,
             began.elapsed().as_secs_f64()
         );
@@ -135,14 +134,15 @@ pub fn compare(stream: Stream, seed: u64, numbers: Range<u64>, command: &[String
     let mut figures = Figures::default();
     let mut fed = start(stream, seed, numbers.clone(), command)?;
     for number in numbers.clone() {
-        let (entry, table, own) = match fed.told.recv() {
+        let expected = match fed.told.recv() {
             Ok(expected) => expected,
             Err(_) => break,
         };
         match fed.outcome() {
-            Ok(given) if given == own => figures.count(entry, table, &own),
+            Ok(given) if given == expected.outcome => figures.count(&expected),
             Ok(given) => {
-                account::difference(stream, seed, number, &gen::make(stream, seed, number), &own, &given);
+                let made = gen::make(stream, seed, number);
+                account::difference(stream, seed, number, &made, &expected.outcome, &given);
                 fed.abandon();
                 return Ok(false);
             }
@@ -161,14 +161,18 @@ pub fn compare(stream: Stream, seed: u64, numbers: Range<u64>, command: &[String
     Ok(true)
 }
 
-/// The entry of each case, its table's length and this program's outcome.
-type Expected = (Entry, usize, Outcome);
+/// What is kept of each case: its entry, its table's length and this program's outcome.
+struct Expected {
+    entry: Entry,
+    table: usize,
+    outcome: Outcome,
+}
 
 fn start(stream: Stream, seed: u64, numbers: Range<u64>, command: &[String]) -> io::Result<Fed<Expected>> {
     Fed::start(command, numbers, move |number| {
         let case = gen::make(stream, seed, number).case;
-        let own = case.outcome(Slip::NONE);
-        let expected = (case.entry, case.table.len(), own);
+        let (entry, table) = (case.entry, case.held(Slice::Table).len());
+        let expected = Expected { entry, table, outcome: case.outcome(Slip::NONE) };
         (vec![case], expected)
     })
 }

@@ -8,7 +8,7 @@ use std::time::Instant;
 use crate::account;
 use crate::answer::answer;
 use crate::block::BLOCK;
-use crate::cases::{Case, Change, Outcome, ALL_INTACT};
+use crate::cases::{Case, Change, Entry, Outcome, Slice};
 use crate::compare::Fed;
 use crate::gen::{self, Stream};
 use crate::kinds::Kind;
@@ -77,7 +77,7 @@ pub fn compare(seed: u64, numbers: Range<u64>, command: &[String]) -> io::Result
             Relation::FaultBefore => before += 1,
             Relation::Marked(_) => marked += 1,
         }
-        rewritten += !without.table.bytes.is_empty() as u64;
+        rewritten += Entry::Decide.rewrote(&without) as u64;
     }
     if !fed.end()? || unmarked + before + marked != count {
         return Ok(false);
@@ -91,7 +91,7 @@ pub fn compare(seed: u64, numbers: Range<u64>, command: &[String]) -> io::Result
 }
 
 fn relates(seed: u64, number: u64, relation: &Relation, without: &Outcome, with: &Outcome) -> Result<(), String> {
-    if without.intact != ALL_INTACT || with.intact != ALL_INTACT {
+    if without.altered != 0 || with.altered != 0 {
         return Err("what was lent to be read was altered".to_string());
     }
     if without.parts().0 != 0 {
@@ -104,16 +104,17 @@ fn relates(seed: u64, number: u64, relation: &Relation, without: &Outcome, with:
             }
         }
         Relation::Marked(expected) => {
-            if !with.table.bytes.is_empty() {
+            if Entry::Decide.rewrote(with) {
                 return Err("the table was changed".to_string());
             }
             if with.word != expected.len() as u64 {
                 return Err(format!("the answer should have {} bytes", expected.len()));
             }
-            let before = pair(seed, number).with.buffer_before();
-            let mut after = before.clone();
+            let case = pair(seed, number).with;
+            let before = case.held(Slice::Buffer);
+            let mut after = before.to_vec();
             after[..expected.len()].copy_from_slice(expected);
-            if with.buffer != Change::between(&before, &after) {
+            if Entry::Decide.change(with, Slice::Buffer) != Some(&Change::between(&before, &after)) {
                 return Err("the answer is not the one of B5001".to_string());
             }
         }
@@ -122,8 +123,8 @@ fn relates(seed: u64, number: u64, relation: &Relation, without: &Outcome, with:
 }
 
 fn tell(pair: &Pair, without: &Outcome, with: &Outcome) {
-    println!("  request:\n{}", account::lines(&pair.without.request));
-    println!("  with AVPs put in ({:?}):\n{}", pair.relation, account::lines(&pair.with.request));
+    println!("  request:\n{}", account::lines(&pair.without.held(Slice::Request)));
+    println!("  with AVPs put in ({:?}):\n{}", pair.relation, account::lines(&pair.with.held(Slice::Request)));
     for (which, case, outcome) in [("without", &pair.without, without), ("with", &pair.with, with)] {
         println!("  {which}: {}", account::word(case.entry, outcome));
         account::answer(which, case, outcome);
@@ -146,19 +147,21 @@ fn sound_starts(case: &Case) -> Option<Vec<usize>> {
     if case.outcome(Slip::NONE).parts().0 != 0 {
         return None;
     }
+    let request = case.held(Slice::Request);
     let mut starts = vec![HEADER];
-    for avp in sound_avps(Message(&case.request).avps(), Slip::NONE) {
+    for avp in sound_avps(Message(&request).avps(), Slip::NONE) {
         starts.push(starts[starts.len() - 1] + padded(avp.whole.len()));
     }
-    (starts.len() > 1 && starts[starts.len() - 1] == case.request.len()).then_some(starts)
+    (starts.len() > 1 && starts[starts.len() - 1] == request.len()).then_some(starts)
 }
 
 /// The second case of the pair, or none if the request would be too long.
 fn put_in(rng: &mut Rng, without: Case, starts: &[usize]) -> Option<Pair> {
+    let bare = without.held(Slice::Request);
     let own = starts.len() - 1;
     let marks = rng.coin();
     let mut inserted: Vec<Inserted> = Vec::new();
-    let room = MOST_REQUEST - without.request.len();
+    let room = MOST_REQUEST - bare.len();
     let many = if rng.once_in(10) { 40 } else { 4 };
     for _ in 0..rng.between(1, many) {
         let mut piece = gen::twists::unknown(rng);
@@ -178,7 +181,7 @@ fn put_in(rng: &mut Rng, without: Case, starts: &[usize]) -> Option<Pair> {
         return None;
     }
 
-    let mut request = without.request[..starts[1]].to_vec();
+    let mut request = bare[..starts[1]].to_vec();
     let mut first_marked = None;
     for place in 1..=own {
         for avp in inserted.iter().filter(|avp| avp.place == place) {
@@ -188,12 +191,12 @@ fn put_in(rng: &mut Rng, without: Case, starts: &[usize]) -> Option<Pair> {
             request.extend(&avp.bytes);
         }
         if place < own {
-            request.extend(&without.request[starts[place]..starts[place + 1]]);
+            request.extend(&bare[starts[place]..starts[place + 1]]);
         }
     }
     let length = request.len() as u32;
     request[1..4].copy_from_slice(&length.to_be_bytes()[1..]);
-    let with = Case { request, ..without.clone() };
+    let with = without.clone().with(Slice::Request, request);
     let relation = relation(&with, first_marked);
     Some(Pair { without, with, relation })
 }
@@ -203,14 +206,16 @@ fn relation(with: &Case, first_marked: Option<usize>) -> Relation {
         Some(at) => at,
         None => return Relation::Unmarked,
     };
-    let message = Message(&with.request);
-    let before = &with.request[HEADER..at];
+    let request = with.held(Slice::Request);
+    let message = Message(&request);
+    let before = &request[HEADER..at];
     if read_header(message, Slip::NONE).and_then(|command| walk(before, command, Slip::NONE)).is_err() {
         return Relation::FaultBefore;
     }
-    let avp = sound_avps(&with.request[at..], Slip::NONE)[0];
+    let avp = sound_avps(&request[at..], Slip::NONE)[0];
     debug_assert!(Kind::of(avp.vendor, avp.code).is_none());
     let finding = Finding { result: 5001, failed: Failed::Whole(avp), why: Why::Rule('d', "") };
-    let header = Table(&with.table[..BLOCK]).header();
+    let table = with.held(Slice::Table);
+    let header = Table(&table[..BLOCK]).header();
     Relation::Marked(answer(message, header, &Verdict::of_finding(finding), Slip::NONE))
 }

@@ -21,13 +21,14 @@ pub mod decide;
 
 pub mod serve;
 
-// A call as a stream carries it; the programs over files; what a person reads.
+// A call of an entry; the programs over files; what a person reads.
 pub mod cases;
 pub mod program;
 pub mod show;
 
-// Cases, and what is done with many of them.
+// Cases as streams; their makers, and what is done with many of them.
 pub mod gen;
+pub mod streams;
 
 pub mod account;
 pub mod mutants;

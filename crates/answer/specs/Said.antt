@@ -5,7 +5,9 @@ use mathlib.Core.List.{List, [], _∷_}
 use mathlib.Core.Path.{_≡_}
 use lib.Dec.{eqb}
 use Rattle.lines.specs.Words.{Words}
-use Rattle.ndushavire.specs.Word.{numberIn, valueIn}
+use Rattle.ndushavire.specs.Lent.{Lent}
+use Rattle.ndushavire.specs.Serve.{serve}
+use Rattle.ndushavire.specs.Word.{callWord, numberIn, valueIn}
 
 -- the answer of a word that says one lies within a buffer of n bytes
 pub record Fits (w n : ℕ) : Type 0 where
@@ -23,3 +25,7 @@ SaidIf false w before after r = Words (114 ∷ 101 ∷ 102 ∷ 117 ∷ 115 ∷ 1
 -- the first r bytes of the buffer afterwards are written: number 0 is an answer, any other a refusal
 pub record Said (w : ℕ) (before after : List ℕ) (r : ℕ) : Type 0 where
   pub said : SaidIf (eqb (numberIn w) 0) w before after r
+
+-- what is said to a request: of the word and the buffer that the call leaves
+abbrev pub SaidTo : Lent → List ℕ → ℕ → Type 0
+SaidTo x after r = Said (callWord (serve x .call)) (serve x .buffer) after r

@@ -31,10 +31,19 @@ fn take_profile(t: &mut [u8]) {
     take_request(t, &space[..n]);
 }
 
-fn main() {
+fn take_table() {
     let mut space = [0u8; 65537];
     let Got::Bytes(n) = files::load_whole(b"table", &mut space) else {
         return;
     };
     take_profile(&mut space[..n]);
+}
+
+fn main() {
+    if !arguments::given(
+        b"answer",
+        b"usage: answer <REQUEST\nAnswers one Diameter request from the files table and profile of this folder. See answer(1).\n",
+    ) {
+        take_table();
+    }
 }

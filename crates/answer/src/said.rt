@@ -1,9 +1,8 @@
 // What is written of a call: the answer alone, or the refusal.
 ghost use Prim.Native.Nat.{_≤_};
 ghost use lib.ListN.{length};
-ghost use Rattle.ndushavire.specs.Serve.{serve};
-ghost use Rattle.ndushavire.specs.Word.{callWord};
-ghost use Rattle.answer.specs.Said.{Fits, Said};
+ghost use Rattle.ndushavire.specs.Lent.{lent};
+ghost use Rattle.answer.specs.Said.{Fits, Said, SaidTo};
 
 // What the number of a returned word counts, 2^48, and what its value stays below, 2^32.
 const NUMBER: u64 = 281474976710656;
@@ -25,8 +24,8 @@ fn put_said(out: &mut [u8], w: u64) -> usize
 // What is said to a request, at the front of out.
 pub fn answer_to(out: &mut [u8], req: &[u8], t: &mut [u8], file: &[u8]) -> usize
     requires { ⌜ 30 ≤ length (now out) ⌝ }
-    ensures { λ r. ⌜ (r ≤ length (now (out .exit))) × Said (callWord (serve (now (req .entry)) (now (t .entry)) (now (file .entry)) (now (out .entry)) .call))
-        (serve (now (req .entry)) (now (t .entry)) (now (file .entry)) (now (out .entry)) .buffer) (now (out .exit)) r ⌝ }
+    ensures { λ r. ⌜ (r ≤ length (now (out .exit)))
+        × SaidTo (lent (now (req .entry)) (now (t .entry)) (now (file .entry)) (now (out .entry))) (now (out .exit)) r ⌝ }
 {
     let w = ndushavire::ndushavire_decide(req, t, file, out);
     put_said(out, w)

@@ -8,9 +8,9 @@ use borrow.Rule.Slice.PartMut.{midOf, putMid}
 use Rattle.octets.specs.Run.{over, Wrote}
 use Rattle.octets.proofs.Writes.{then, named}
 use Rattle.pen.specs.Groups.{failed}
-use Rattle.reading.specs.Found.{numberOf, failedBy}
-use Rattle.reading.specs.Request.{example, bodyOf}
-use Rattle.reading.specs.Rules.{failedOf}
+use Rattle.reading.specs.Found.{numberOf}
+use Rattle.reading.specs.Request.{bodyOf}
+use Rattle.failed.specs.Failing.{failedOf, example, failedBy}
 use Rattle.reading.specs.declared.Verdict.{Verdict}
 use Rattle.reply.specs.Answer.{failedPart, proxies}
 use Rattle.reply.specs.Pieces.{givenOf, restBytes}

@@ -10,7 +10,7 @@ use Rattle.octets.proofs.Writes.{then, named, then-front, front}
 use Rattle.table.specs.Blocks.{blockOf, privateAt}
 use Rattle.diameter.specs.Walk.{Walk}
 use Rattle.reading.specs.Request.{bodyOf, sessionOf}
-use Rattle.reading.specs.Found.{failedBy}
+use Rattle.failed.specs.Failing.{failedBy}
 use Rattle.reading.specs.declared.Verdict.{Verdict}
 use Rattle.decisions.specs.Reply.{Reply}
 use Rattle.decisions.specs.Planned.{replyOf}

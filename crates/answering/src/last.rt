@@ -13,7 +13,7 @@ ghost use Rattle.lookup.specs.SoundTable.{SoundTable};
 ghost use Rattle.diameter.specs.Reader.{ownOf, Here};
 ghost use Rattle.pen.specs.Bytes.{copiedSize};
 ghost use Rattle.reading.specs.Request.{bodyOf};
-ghost use Rattle.reading.specs.Found.{failedBy};
+ghost use Rattle.failed.specs.Failing.{failedBy};
 ghost use Rattle.parts.specs.SoundAlone.{profileAt};
 ghost use Rattle.reply.specs.Answer.{failedPart, proxies};
 ghost use Rattle.reply.specs.Pieces.{proxy, restBytes};

@@ -14,21 +14,25 @@ use Rattle.lookup.specs.Find.{firstFrom, publicIs, findPublic}
 use Rattle.lookup.specs.SoundTable.{Ordered}
 use Rattle.lookup.specs.declared.Found.{Found}
 use Rattle.lookup.specs.declared.Found.the-variants.{At, Nothing}
-use Rattle.lookup.proofs.First.{Stands, first-stands}
-use Rattle.rewrite.specs.Effect.{settledAt, settledIn, settledFound, afterOf}
-use Rattle.rewrite.proofs.Effects.{in-here, in-other, found-kept, found-ordered}
-use Rattle.rewrite.proofs.Settled.{Kept, kept-found}
-use Rattle.rewrite.proofs.Tables.{after-same, after-none, at-same, at-twice}
+use Rattle.lookup.proofs.First.{FirstAt, first-stands}
+use Rattle.rewrite.specs.Change.{changedAt, afterOf, changedIn, changedFound, Keeps}
+use Rattle.rewrite.specs.Renew.{settled, Fitting}
+use Rattle.rewrite.proofs.Blocks.{in-here, in-other}
+use Rattle.rewrite.proofs.Settled.{settled-keeps}
+use Rattle.rewrite.proofs.Sound.{keeping-ordered, keeping-found}
+use Rattle.rewrite.proofs.Tables.{after-same, after-none, at-same, at-twice, Keeping, found-keeping}
 use Rattle.diameter.specs.Avp.{dataOf}
 use Rattle.diameter.specs.Walk.{walk}
 use Rattle.diameter.specs.Reader.{avpAt, dataAt}
 use Rattle.diameter.proofs.Reading.{walk-past}
-use Rattle.reading.specs.Found.{failedBy, numberOf}
+use Rattle.reading.specs.Found.{numberOf}
+use Rattle.failed.specs.Failing.{failedBy}
+use Rattle.failed.proofs.Fronts.{failed-at}
 use Rattle.reading.specs.Request.{bodyOf, identities}
 use Rattle.requests.specs.Identity.{Named}
 use Rattle.requests.specs.declared.identities.Next.{Next}
 use Rattle.requests.specs.declared.identities.Next.the-variants as next
-use Rattle.requests.proofs.Naming.{named-none, named-first, named-stands, named-failed}
+use Rattle.requests.proofs.Naming.{named-none, named-first, named-stands}
 use Rattle.decisions.specs.Assignment.{isOne, findAll, numbersOf, identityFault}
 use Rattle.assignment.specs.Survey.{both, lookFound, surveyOf}
 use Rattle.assignment.specs.Identities.{Begins, Tells}
@@ -70,61 +74,81 @@ module _ (t owner server : List ℕ) (kind count : ℕ) (s : List ℕ) where
           ∙ ap (both seen) (sym (survey-cons t owner server kind (findPublic t count (dataAt s place)) (findAll t count (restOf s past))))
           ∙ (rw (named-first s at r n place past d) at left))
 
--- What is found in a table with a found record settled is what was found.
-find-kept : (x y : List ℕ) (count : ℕ) → ((j : ℕ) → 1 ≤ j → j ≤ count → Kept (blockOf y j) (blockOf x j)) → (avps : List (List ℕ)) → findAll y count avps ≡ findAll x count avps
+-- What is found in a table with a found record changed is what was found.
+find-kept : (x y : List ℕ) (count : ℕ) → Ordered x count → Keeping x y count → (avps : List (List ℕ)) → findAll y count avps ≡ findAll x count avps
 unfolding findAll
-find-kept x y count kept [] = refl
-find-kept x y count kept (a ∷ avps) = let e : findPublic y count (dataOf a) ≡ findPublic x count (dataOf a) = kept-found x y count (dataOf a) kept in rw (e, find-kept x y count kept avps)
+find-kept x y count ordered keeping [] = refl
+find-kept x y count ordered keeping (a ∷ avps) = rw (keeping-found x y count keeping ordered (dataOf a), find-kept x y count ordered keeping avps)
 
--- The effect of what is left, on the table as it is now, is the effect of all on the table as it came: the record of the next identity is settled.
-module _ (x : List ℕ) (count : ℕ) (ordered : Ordered x count) (state : ℕ) (name : List ℕ) where
-  one-turn : (k : ℕ) → 1 ≤ k → k ≤ count → (ks : List ℕ) → afterOf (settledIn x k state name) count (isOne ks) state name ≡ afterOf x count (isOne (k ∷ ks)) state name
+-- The effect of what is left, on the table as it is now, is the effect of all on the table as it came: the record of the next identity is changed.
+module _ (change : List ℕ → List ℕ) (keeps : Keeps change) (x : List ℕ) (count : ℕ) (ordered : Ordered x count) where
+  one-turn : (k : ℕ) → 1 ≤ k → k ≤ count → (ks : List ℕ) → afterOf (changedIn x k change) count (isOne ks) change ≡ afterOf x count (isOne (k ∷ ks)) change
   unfolding isOne
-  one-turn k a b ks = after-same (settledIn x k state name) x count (isOne ks) (isOne (k ∷ ks)) state name (λ j l. go j l (eqb j k) refl)
+  one-turn k a b ks = after-same (changedIn x k change) x count (isOne ks) (isOne (k ∷ ks)) change (λ j l. go j l (eqb j k) refl)
     where
-      long : length x ≡ 512 * (count + 1)
-      long = ordered .size
+      fits : 512 * k + 512 ≤ length x
+      fits = omega (arith, ordered .size)
 
-      go : (j : ℕ) → j ≤ count → (u : Bool) → eqb j k ≡ u → settledAt (settledIn x k state name) (isOne ks) state name j ≡ settledAt x (isOne (k ∷ ks)) state name j
+      go : (j : ℕ) → j ≤ count → (u : Bool) → eqb j k ≡ u → changedAt (changedIn x k change) (isOne ks) change j ≡ changedAt x (isOne (k ∷ ks)) change j
       go j l true e =
           let q : j ≡ k = eqb-true j k e in
-          rw q
-          (at-twice (settledIn x k state name) x (isOne ks) (isOne (k ∷ ks)) state name k (in-here x k state name (omega (arith, long))) (rw (eq-eqb k k refl))
-          (block-length x k (omega (arith, long))))
-      go j l false e =
-          at-same (settledIn x k state name) x (isOne ks) (isOne (k ∷ ks)) state name j
-          (in-other x k state name (omega (arith, long)) j (eqb-false j k e) (omega (arith, long))) (rw e)
+          rw q (at-twice (changedIn x k change) x (isOne ks) (isOne (k ∷ ks)) change k keeps (in-here x k change keeps fits) (rw (eq-eqb k k refl)) (block-length x k fits))
+      go j l false e = at-same (changedIn x k change) x (isOne ks) (isOne (k ∷ ks)) change j (in-other x k change keeps fits j (eqb-false j k e)) (rw e)
 
   found-turn : (p : ℕ → Bool) (f : Found) → firstFrom p count 1 ≡ f → (fs : List Found)
-      → afterOf (settledFound x f state name) count (isOne (numbersOf fs)) state name ≡ afterOf x count (isOne (numbersOf (f ∷ fs))) state name
-  unfolding settledFound numbersOf
-  found-turn p (At k) e fs = let s : Stands p count 1 k = first-stands p count 1 k e in one-turn k (s .from) (omega (arith, s .to)) (numbersOf fs)
+      → afterOf (changedFound x f change) count (isOne (numbersOf fs)) change ≡ afterOf x count (isOne (numbersOf (f ∷ fs))) change
+  unfolding changedFound numbersOf
+  found-turn p (At k) e fs = let s : FirstAt p count 1 k = first-stands p count 1 k e in one-turn k (s .from) (omega (arith, s .to)) (numbersOf fs)
   found-turn p Nothing e fs = refl
 
-  module _ (s : List ℕ) (at : ℕ) {whole : List ℕ} (left : afterOf x count (isOne (numbersOf (findAll x count (restOf s at)))) state name ≡ whole) where
-    pub settle-end : length s ≤ at → x ≡ whole
+  module _ (s : List ℕ) (at : ℕ) {whole : List ℕ} (left : afterOf x count (isOne (numbersOf (findAll x count (restOf s at)))) change ≡ whole) where
+    ended : length s ≤ at → x ≡ whole
     unfolding findAll numbersOf isOne
-    settle-end h = after-none x count (isOne []) state name (ordered .size) (λ j l. refl) ∙ rw (rest-past s at h) at left
+    ended h = after-none x count change (ordered .size) (isOne []) (λ j l. refl) ∙ rw (rest-past s at h) at left
 
     module _ (r : Next) (n : Named s at r) where
-      pub settle-none : r ≡ next.Nothing → x ≡ whole
+      none-left : r ≡ next.Nothing → x ≡ whole
       unfolding findAll numbersOf isOne restOf
-      settle-none d = after-none x count (isOne []) state name (ordered .size) (λ j l. refl) ∙ rw (named-none s at r n d) at left
+      none-left d = after-none x count change (ordered .size) (isOne []) (λ j l. refl) ∙ rw (named-none s at r n d) at left
 
       module _ (place past : ℕ) {m : List ℕ} {f : Found} {y : List ℕ} (d : r ≡ next.At place past) (em : m ≡ dataAt s place) (ef : f ≡ findPublic x count m)
-          (ey : y ≡ settledFound x f state name) where
+          (ey : y ≡ changedFound x f change) where
         stood : firstFrom (publicIs x m) count 1 ≡ f
         unfolding findPublic
         stood = sym ef
 
-        pub settle-turn : afterOf y count (isOne (numbersOf (findAll y count (restOf s past)))) state name ≡ whole
+        keeping : Keeping x (changedFound x f change) count
+        keeping = found-keeping x count change (ordered .size) keeps (publicIs x m) f stood
+
+        turned : afterOf y count (isOne (numbersOf (findAll y count (restOf s past)))) change ≡ whole
         unfolding findAll restOf
-        settle-turn =
-            rw (ey, find-kept x (settledFound x f state name) count (found-kept x count ordered state name (publicIs x m) f stood) (restOf s past))
+        turned =
+            rw (ey, find-kept x (changedFound x f change) count ordered keeping (restOf s past))
             (found-turn (publicIs x m) f stood (findAll x count (restOf s past)) ∙ rw (ef, em) ((rw (named-first s at r n place past d) at left)))
 
-        pub settle-ordered : Ordered y count
-        settle-ordered = rw ey (found-ordered x count ordered state name (publicIs x m) f stood)
+        turned-ordered : Ordered y count
+        turned-ordered = rw ey (keeping-ordered x (changedFound x f change) count keeping ordered)
+
+-- The same of settling, as the loop has it.
+module _ (x : List ℕ) (count : ℕ) (ordered : Ordered x count) (state : ℕ) (name : List ℕ) (fits : Fitting state name) (s : List ℕ) (at : ℕ) {whole : List ℕ}
+    (left : afterOf x count (isOne (numbersOf (findAll x count (restOf s at)))) (settled state name) ≡ whole) where
+  keeps : Keeps (settled state name)
+  keeps = settled-keeps state name fits
+
+  pub settle-end : length s ≤ at → x ≡ whole
+  settle-end = ended (settled state name) keeps x count ordered s at left
+
+  module _ (r : Next) (n : Named s at r) where
+    pub settle-none : r ≡ next.Nothing → x ≡ whole
+    settle-none = none-left (settled state name) keeps x count ordered s at left r n
+
+    module _ (place past : ℕ) {m : List ℕ} {f : Found} {y : List ℕ} (d : r ≡ next.At place past) (em : m ≡ dataAt s place) (ef : f ≡ findPublic x count m)
+        (ey : y ≡ changedFound x f (settled state name)) where
+      pub settle-turn : afterOf y count (isOne (numbersOf (findAll y count (restOf s past)))) (settled state name) ≡ whole
+      settle-turn = turned (settled state name) keeps x count ordered s at left r n place past d em ef ey
+
+      pub settle-ordered : Ordered y count
+      settle-ordered = turned-ordered (settled state name) keeps x count ordered s at left r n place past d em ef ey
 
 -- How many identities there are.
 module _ (s : List ℕ) (removal named : Bool) (r : Next) (n : Named s 20 r) where
@@ -158,9 +182,10 @@ module _ (s : List ℕ) (removal named : Bool) (r : Next) (n : Named s 20 r) whe
       tells-second place2 past2 g e =
           let st = named-stands s past q m place2 past2 g in
           let z : 0 < place2 = omega (arith, st .reached, named-stands s 20 r n place past d .later) in
-          rw (named-first s 20 r n place past d, named-first s past q m place2 past2 g, e, lt-ltb 0 place2 z, named-failed s past q m place2 past2 g 5009 (λ b. omega arith))
+          rw (named-first s 20 r n place past d, named-first s past q m place2 past2 g, e, lt-ltb 0 place2 z, failed-at s place2 5009 (named-stands s past q m place2 past2 g .sounds) (λ b. omega arith))
 
 pub settle-start : (t : List ℕ) (count : ℕ) (s : List ℕ) (state : ℕ) (name : List ℕ)
-    → afterOf t count (isOne (numbersOf (findAll t count (restOf s 20)))) state name ≡ afterOf t count (isOne (numbersOf (findAll t count (identities (bodyOf s))))) state name
+    → afterOf t count (isOne (numbersOf (findAll t count (restOf s 20)))) (settled state name)
+    ≡ afterOf t count (isOne (numbersOf (findAll t count (identities (bodyOf s))))) (settled state name)
 unfolding restOf
 settle-start t count s state name = refl

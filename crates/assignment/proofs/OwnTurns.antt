@@ -10,8 +10,10 @@ use lib.ListN.{length}
 use lib.Dec.{eqb, leb, ltb}
 use borrow.Author.Tests.{eqb-true, eqb-false, ltb-true, ltb-false, le-leb, lt-leb, ne-eqb}
 use Rattle.table.specs.Blocks.{blockOf}
-use Rattle.rewrite.specs.Effect.{settled, settledAt, settledIn, afterOf}
-use Rattle.rewrite.proofs.Effects.{in-length, in-here, in-other}
+use Rattle.rewrite.specs.Change.{changedAt, changedIn, afterOf, Keeps}
+use Rattle.rewrite.specs.Renew.{settled, Fitting}
+use Rattle.rewrite.proofs.Blocks.{in-length, in-here, in-other}
+use Rattle.rewrite.proofs.Settled.{settled-keeps}
 use Rattle.rewrite.proofs.Tables.{after-same, after-none, at-same}
 use Rattle.decisions.specs.Assignment.{isOne, ownedHere, ownedUpTo}
 
@@ -59,56 +61,65 @@ no-zero t user (suc n) = one-append (ownedUpTo t user n) (cond (ownedHere (block
     go false = refl
 
 pub owned-start : (t : List ℕ) (count : ℕ) (user : List ℕ) (state : ℕ) (name : List ℕ)
-    → afterOf t count (ownedFrom t user 1) state name ≡ afterOf t count (isOne (ownedUpTo t user count)) state name
+    → afterOf t count (ownedFrom t user 1) (settled state name) ≡ afterOf t count (isOne (ownedUpTo t user count)) (settled state name)
 unfolding ownedFrom
 owned-start t count user state name =
-    after-same t t count (ownedFrom t user 1) (isOne (ownedUpTo t user count)) state name (λ j l. at-same t t (ownedFrom t user 1) (isOne (ownedUpTo t user count)) state name j refl (each j l))
+    after-same t t count (ownedFrom t user 1) (isOne (ownedUpTo t user count)) (settled state name)
+    (λ j l. at-same t t (ownedFrom t user 1) (isOne (ownedUpTo t user count)) (settled state name) j refl (each j l))
   where
     each : (j : ℕ) → j ≤ count → ownedFrom t user 1 j ≡ isOne (ownedUpTo t user count) j
     each zero l = rw (no-zero t user count)
     each (suc j) l = rw (owned-one t user count (suc j) (omega arith), le-leb (suc j) count l, le-leb 1 (suc j) (omega arith))
 
--- Block k is looked at.
-module _ (x : List ℕ) (count : ℕ) (user : List ℕ) (state : ℕ) (name : List ℕ) (k : ℕ) (size : length x ≡ 512 * (count + 1)) (last : k ≤ count) where
-  later : (j : ℕ) → j ≢ k → leb (k + 1) j ≡ leb k j
-  later j h = go (ltb j k) refl
-    where
-      go : (u : Bool) → ltb j k ≡ u → leb (k + 1) j ≡ leb k j
-      go true e = let l : j < k = ltb-true j k e in rw (lt-leb (k + 1) j (omega arith), lt-leb k j l)
-      go false e = let l : k ≤ j = ltb-false j k e in rw (le-leb (k + 1) j (omega arith), le-leb k j l)
+later : (k j : ℕ) → j ≢ k → leb (k + 1) j ≡ leb k j
+later k j h = go (ltb j k) refl
+  where
+    go : (u : Bool) → ltb j k ≡ u → leb (k + 1) j ≡ leb k j
+    go true e = let l : j < k = ltb-true j k e in rw (lt-leb (k + 1) j (omega arith), lt-leb k j l)
+    go false e = let l : k ≤ j = ltb-false j k e in rw (le-leb (k + 1) j (omega arith), le-leb k j l)
 
-  turn : (u : Bool) → ownedHere (blockOf x k) user ≡ u → (y : List ℕ) → y ≡ cond u (settledIn x k state name) x → (j : ℕ) → j ≤ count
-      → settledAt y (ownedFrom y user (k + 1)) state name j ≡ settledAt x (ownedFrom x user k) state name j
-  unfolding settledAt ownedFrom
-  turn u e y f j l = go (eqb j k) refl
+-- Block k is looked at, and changed if it is one of them.
+module _ (change : List ℕ → List ℕ) (keeps : Keeps change) (x : List ℕ) (count : ℕ) (user : List ℕ) (k : ℕ) (size : length x ≡ 512 * (count + 1)) (last : k ≤ count)
+    (u : Bool) (is : ownedHere (blockOf x k) user ≡ u) (y : List ℕ) (put : y ≡ cond u (changedIn x k change) x) where
+  turn : (j : ℕ) → j ≤ count → changedAt y (ownedFrom y user (k + 1)) change j ≡ changedAt x (ownedFrom x user k) change j
+  unfolding changedAt ownedFrom
+  turn j l = go (eqb j k) refl
     where
-      here : (v : Bool) → u ≡ v → blockOf y k ≡ cond v (settled (blockOf x k) state name) (blockOf x k)
-      here true g = rw (f, g) (in-here x k state name (omega arith))
-      here false g = rw (f, g)
+      here : (v : Bool) → u ≡ v → blockOf y k ≡ cond v (change (blockOf x k)) (blockOf x k)
+      here true g = rw (put, g) (in-here x k change keeps (omega arith))
+      here false g = rw (put, g)
 
       there : (v : Bool) → u ≡ v → j ≢ k → blockOf y j ≡ blockOf x j
-      there true g n = rw (f, g) (in-other x k state name (omega arith) j n (omega arith))
-      there false g n = rw (f, g)
+      there true g n = rw (put, g) (in-other x k change keeps (omega arith) j n)
+      there false g n = rw (put, g)
 
-      go : (v : Bool) → eqb j k ≡ v → settledAt y (ownedFrom y user (k + 1)) state name j ≡ settledAt x (ownedFrom x user k) state name j
-      go true g = let q : j ≡ k = eqb-true j k g in rw (q, lt-leb (k + 1) k (omega arith), le-leb k k (omega arith), e) (here u refl)
-      go false g = let n : j ≢ k = eqb-false j k g in rw (there u refl n, later j n)
+      go : (v : Bool) → eqb j k ≡ v → changedAt y (ownedFrom y user (k + 1)) change j ≡ changedAt x (ownedFrom x user k) change j
+      go true g = let q : j ≡ k = eqb-true j k g in rw (q, lt-leb (k + 1) k (omega arith), le-leb k k (omega arith), is) (here u refl)
+      go false g = let n : j ≢ k = eqb-false j k g in rw (there u refl n, later k j n)
 
-  module _ {b y whole : List ℕ} {u : Bool} (left : afterOf x count (ownedFrom x user k) state name ≡ whole) (at : b ≡ blockOf x k) (is : u ≡ ownedHere b user)
-      (put : y ≡ cond u (settledIn x k state name) x) where
-    pub owned-turn : afterOf y count (ownedFrom y user (k + 1)) state name ≡ whole
-    owned-turn =
-        let e : ownedHere (blockOf x k) user ≡ u = cc in
-        after-same y x count (ownedFrom y user (k + 1)) (ownedFrom x user k) state name (turn u e y put) ∙ left
+  turned : afterOf y count (ownedFrom y user (k + 1)) change ≡ afterOf x count (ownedFrom x user k) change
+  turned = after-same y x count (ownedFrom y user (k + 1)) (ownedFrom x user k) change turn
+
+  turned-size : length y ≡ 512 * (count + 1)
+  turned-size = go u refl
+    where
+      go : (v : Bool) → u ≡ v → length y ≡ 512 * (count + 1)
+      go true g = rw (put, g) (in-length x k change keeps (omega arith) ∙ size)
+      go false g = rw (put, g) size
+
+-- The same of settling, as the loop has it.
+module _ (x : List ℕ) (count : ℕ) (user : List ℕ) (state : ℕ) (name : List ℕ) (k : ℕ) (size : length x ≡ 512 * (count + 1)) where
+  module _ (fits : Fitting state name) (last : k ≤ count) {b y : List ℕ} {u : Bool} (at : b ≡ blockOf x k) (is : u ≡ ownedHere b user)
+      (put : y ≡ cond u (changedIn x k (settled state name)) x) where
+    here : ownedHere (blockOf x k) user ≡ u
+    here = cc
+
+    pub owned-turn : {whole : List ℕ} → afterOf x count (ownedFrom x user k) (settled state name) ≡ whole → afterOf y count (ownedFrom y user (k + 1)) (settled state name) ≡ whole
+    owned-turn left = turned (settled state name) (settled-keeps state name fits) x count user k size last u here y put ∙ left
 
     pub owned-size : length y ≡ 512 * (count + 1)
-    owned-size = go u refl
-      where
-        go : (v : Bool) → u ≡ v → length y ≡ 512 * (count + 1)
-        go true g = rw (put, g) (in-length x k state name (omega arith) ∙ size)
-        go false g = rw (put, g) size
+    owned-size = turned-size (settled state name) (settled-keeps state name fits) x count user k size last u here y put
 
-pub owned-end : (x : List ℕ) (count : ℕ) (user : List ℕ) (state : ℕ) (name : List ℕ) (k : ℕ) {whole : List ℕ} → length x ≡ 512 * (count + 1) → count < k
-    → afterOf x count (ownedFrom x user k) state name ≡ whole → x ≡ whole
-unfolding ownedFrom
-owned-end x count user state name k size h e = after-none x count (ownedFrom x user k) state name size (λ j l. rw (lt-leb k j (omega arith))) ∙ e
+  pub owned-end : {whole : List ℕ} → count < k → afterOf x count (ownedFrom x user k) (settled state name) ≡ whole → x ≡ whole
+  unfolding ownedFrom
+  owned-end h e = after-none x count (settled state name) size (ownedFrom x user k) (λ j l. rw (lt-leb k j (omega arith))) ∙ e

@@ -1,22 +1,26 @@
 -- A plan made of a right survey decides as document 01 does.
 use Prim.Native.Nat.{ℕ, _≤_}
 use mathlib.Core.List.{List}
-use mathlib.Core.Bool.{Bool, true, false, not, cond, _&&_, _||_}
-use mathlib.Core.Path.{_≡_, refl, _∙_}
+use mathlib.Core.Bool.{Bool, true, false, not, cond, _&&_, _||_, true≢false}
+use mathlib.Core.Path.{_≡_, refl, sym, _∙_}
 use native.Mathlib.Omega.{arith}
 use lib.Dec.{eqb, leb}
+use lib.ListN.{length}
 use borrow.Author.Tests.{ne-eqb}
-use Rattle.reading.specs.Found.{failedBy}
+use Rattle.rewrite.specs.Renew.{Fitting}
+use Rattle.failed.specs.Failing.{failedBy}
 use Rattle.reading.specs.declared.Outcome.{Outcome}
 use Rattle.reading.specs.declared.Outcome.the-variants.{Base, Experimental}
 use Rattle.decisions.specs.Types.{effectOf}
 use Rattle.decisions.specs.Reply.{plain}
-use Rattle.decisions.specs.Assignment.{Assignment, every, isEmpty, numbersOf, findAll, ownedUpTo, allKnown, firstOf, ownerOf, ownAt, storesAt, fitsAt, rightAt, assigned, unaltered, effected, assignRecords}
+use Rattle.decisions.specs.Assignment.{Assignment, every, isEmpty, numbersOf, findAll, ownedUpTo, allKnown, firstOf, ownerOf, ownAt, storesAt, fitsAt, rightAt, assigned, storedName, unaltered, effected, assignRecords}
 use Rattle.decisions.specs.Planned.{replyOf, plannedRecords, planned, decisionOf}
+use Rattle.decisions.proofs.Rows.{row-fits}
 use Rattle.assignment.specs.Survey.{findingOf}
 use Rattle.decisions.specs.Gives.{givenPlain}
 use Rattle.assignment.specs.Plans.{grant, only, writing, planOf}
 use Rattle.assignment.specs.declared.Survey.{Survey}
+use Rattle.assignment.specs.declared.Finding.{Finding}
 use Rattle.assignment.specs.declared.Finding.the-variants.{Unknown, Foreign, Held, NotHeld, Taken, WrongState, Fine}
 
 -- What each plan decides.
@@ -130,3 +134,16 @@ module _ (req t file : List ℕ) (count : ℕ) (s : Assignment) (records : List 
           ∙ stored (not (every (ownAt t (ownerOf t s records)) records)) (eqb (s .kind) 0) (not (every (fitsAt t (s .server)) records))
           (isEmpty records || not (every (rightAt t (s .kind)) records)) (w .stores e))
       go false e = rw (finding-unknown v (s .kind) (w .known ∙ e)) (plan-plain req t file count s (Experimental 5001))
+
+-- What a plan writes fits.
+module _ (server : List ℕ) (least : 1 ≤ length server) (most : length server ≤ 96) where
+  pub plan-fits : (f : Finding) (kind : ℕ) (keep : Bool) (already first : ℕ) (owned : Bool) → planOf f kind keep already first owned .write ≡ true
+      → Fitting (planOf f kind keep already first owned .state) (storedName (planOf f kind keep already first owned .named) server)
+  unfolding planOf
+  plan-fits Unknown kind keep already first owned w = absurd (true≢false (sym w))
+  plan-fits Foreign kind keep already first owned w = absurd (true≢false (sym w))
+  plan-fits Held kind keep already first owned w = absurd (true≢false (sym w))
+  plan-fits NotHeld kind keep already first owned w = absurd (true≢false (sym w))
+  plan-fits Taken kind keep already first owned w = absurd (true≢false (sym w))
+  plan-fits WrongState kind keep already first owned w = absurd (true≢false (sym w))
+  plan-fits Fine kind keep already first owned w = row-fits server least most kind keep

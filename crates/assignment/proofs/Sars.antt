@@ -15,7 +15,7 @@ use Rattle.lookup.specs.declared.Found.{Found}
 use Rattle.lookup.specs.declared.Found.the-variants.{At, Nothing}
 use Rattle.lookup.proofs.First.{first-stands}
 use Rattle.diameter.specs.Reader.{dataAt}
-use Rattle.reading.specs.Found.{failedBy}
+use Rattle.failed.specs.Failing.{failedBy}
 use Rattle.reading.specs.Request.{bodyOf, identities}
 use Rattle.reading.specs.declared.Outcome.the-variants.{Base, Experimental}
 use Rattle.decisions.specs.Types.{groupOf, isRemoval, startOf, between}
@@ -37,7 +37,7 @@ use Rattle.assignment.specs.declared.Sight.{Sight}
 use Rattle.assignment.specs.declared.Finding.{Finding}
 use Rattle.assignment.specs.declared.Named.{Named}
 use Rattle.assignment.specs.declared.Named.the-variants.{Lacking, Second, Nobody, First}
-use Rattle.assignment.proofs.Planning.{Right, FirstIs, plan-right}
+use Rattle.assignment.proofs.Planning.{Right, FirstIs, plan-right, plan-fits}
 use Rattle.assignment.proofs.Surveys.{owned-own, owned-right}
 
 -- What the functions' callees say, joined.
@@ -66,24 +66,26 @@ module _ (t : List ℕ) (f : Found) (named : Bool) (user server : List ℕ) (kin
 
 -- A plan promises what is decided where the identities are not at fault.
 promise : (req t : List ℕ) (count : ℕ) (s : Assignment) (keep : Bool) (p : Plan) → identityFault (isRemoval (groupOf (s .kind))) (s .named) (s .identities) ≡ none
+    → (f : Finding) (already first : ℕ) (owned : Bool) → p ≡ planOf f (s .kind) keep already first owned
     → ((file : List ℕ) → decisionOf req t count file s p ≡ cond (allKnown t count s) (assignRecords t count file keep s (recordsOf t count s)) (unaltered t (plain (Experimental 5001))))
     → Assigns req t count s keep p
 unfolding assign assignKnown
-promise req t count s keep p e h = record { decides = λ file. h file ∙ rw e }
+promise req t count s keep p e f already first owned ep h =
+    record { decides = λ file. h file ∙ rw e; fits = λ least most w. rw ep (plan-fits (s .server) least most f (s .kind) keep already first owned (rw ep at w)) }
 
 -- The two faults on identities.
 pub fault-lacking : (req t : List ℕ) (count : ℕ) (s : Assignment) (keep : Bool) {g : Given} {p : Plan}
     → identityFault (isRemoval (groupOf (s .kind))) (s .named) (s .identities) ≡ some (failing (Base 5005) (failedBy req lacking)) → g ≡ givenFault lacking → p ≡ only g
     → Assigns req t count s keep p
 unfolding assign assignKnown decisionOf replyOf planned
-fault-lacking req t count s keep e a b = record { decides = λ file. rw (b, a, e) }
+fault-lacking req t count s keep e a b = record { decides = λ file. rw (b, a, e); fits = λ least most w. absurd (true≢false (sym (rw b at w))) }
 
 pub fault-second : (req t : List ℕ) (count : ℕ) (s : Assignment) (keep : Bool) (place : ℕ) {g : Given} {p : Plan}
     → identityFault (isRemoval (groupOf (s .kind))) (s .named) (s .identities) ≡ some (failing (Base 5009) (failedBy req (second place)))
     → g ≡ givenFault (second place) → p ≡ only g
     → Assigns req t count s keep p
 unfolding assign assignKnown decisionOf replyOf planned
-fault-second req t count s keep place e a b = record { decides = λ file. rw (b, a, e) }
+fault-second req t count s keep place e a b = record { decides = λ file. rw (b, a, e); fits = λ least most w. absurd (true≢false (sym (rw b at w))) }
 
 -- A removal is none of the types 0 to 3.
 removal-least : (kind : ℕ) → isRemoval (groupOf kind) ≡ true → 4 ≤ kind
@@ -115,7 +117,7 @@ module _ (req t : List ℕ) (count kind : ℕ) (server : List ℕ) (already : �
       → Assigns req t count (sarOf req kind server already named user) keep p
   unfolding allKnown recordsOf ownerOf findAll every sightOf
   owned-promise {s} {known} {f} {p} none-named e es ek ef ep =
-      promise req t count sar keep p e
+      promise req t count sar keep p e f already 0 true ep
       (λ file. rw (ep, ef)
       (plan-right req t file count sar (ownedUpTo t user count) (record { known = known; own = true; stores = true; fits = s .fits; right = not (s .empty) }) 0 keep true right first refl
       ∙ rw none-named))
@@ -196,7 +198,7 @@ module _ (req t : List ℕ) (count place kind : ℕ) (server : List ℕ) (alread
       → Assigns req t count (sarOf req kind server already named user) keep p
   unfolding findAll findPublic
   first-promise {name} {f} {v} {w} {u} {x} {k} {p} ep ek ex ew eu ev ef en e b =
-      promise req t count sar keep p e
+      promise req t count sar keep p e x already k false ep
       (λ file. rw (ep, ex, ew, eu, ek)
       (plan-right req t file count sar (numbersOf (f ∷ others)) (alsoKnown v (userKnown t count named user)) (numberOf f) keep false
       (survey-right t count sar f others list v (ev ∙ rw list)) (first-is t count sar f others list (publicIs t name) (sym ef))

@@ -9,7 +9,7 @@ use Rattle.reading.specs.Kinds.{publicIdentity}
 use Rattle.reading.specs.Request.{bodyOf, identities}
 use Rattle.reading.specs.declared.Outcome.the-variants.{Base}
 use Rattle.reading.specs.declared.Verdict.{Verdict}
-use Rattle.reading.specs.Found.{failedBy}
+use Rattle.failed.specs.Failing.{failedBy}
 use Rattle.decisions.specs.Reply.{failing}
 use Rattle.decisions.specs.Assignment.{identityFault}
 use Rattle.assignment.specs.declared.Named.{Named}

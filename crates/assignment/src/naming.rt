@@ -9,7 +9,8 @@ ghost use mathlib.Core.Path.{_≡_};
 ghost use Prim.Native.Nat.{_≤_};
 ghost use lib.ListN.{length};
 ghost use Rattle.lookup.specs.SoundTable.{Ordered};
-ghost use Rattle.rewrite.specs.Effect.{afterOf};
+ghost use Rattle.rewrite.specs.Change.{afterOf};
+ghost use Rattle.rewrite.specs.Renew.{settled, Fitting};
 ghost use Rattle.reading.specs.Request.{bodyOf, identities};
 ghost use Rattle.decisions.specs.Assignment.{isOne, findAll, numbersOf};
 ghost use Rattle.assignment.specs.Survey.{surveyOf};
@@ -71,8 +72,8 @@ pub fn survey_all(
 
 // The effect on each record that is named.
 pub fn settle_named(t: &mut [u8], count: usize, req: &[u8], state: u8, server: &[u8])
-    requires { ⌜ (count ≤ 4096) × Ordered (now t) count × (length (now server) ≤ 96) ⌝ }
-    ensures { λ _. ⌜ now (t .exit) ≡ afterOf (now (t .entry)) count (isOne (numbersOf (findAll (now (t .entry)) count (identities (bodyOf (now (req .entry))))))) state (now (server .entry)) ⌝ }
+    requires { ⌜ (count ≤ 4096) × Ordered (now t) count × Fitting state (now server) ⌝ }
+    ensures { λ _. ⌜ now (t .exit) ≡ afterOf (now (t .entry)) count (isOne (numbersOf (findAll (now (t .entry)) count (identities (bodyOf (now (req .entry))))))) (settled state (now (server .entry))) ⌝ }
 {
     let mut at = message::BODY;
     while at < req.len() {

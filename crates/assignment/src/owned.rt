@@ -6,7 +6,8 @@ use record::subscriber::Record;
 ghost use mathlib.Core.Path.{_≡_};
 ghost use Prim.Native.Nat.{_+_, _*_, _≤_};
 ghost use lib.ListN.{length};
-ghost use Rattle.rewrite.specs.Effect.{afterOf};
+ghost use Rattle.rewrite.specs.Change.{afterOf};
+ghost use Rattle.rewrite.specs.Renew.{settled, Fitting};
 ghost use Rattle.decisions.specs.Assignment.{isOne, ownedHere, ownedUpTo};
 ghost use Rattle.assignment.specs.Survey.{sightOf, glimpsed};
 
@@ -48,8 +49,8 @@ pub fn sight_of(t: &[u8], count: usize, user: &[u8], server: &[u8]) -> Sight
 
 // The effect on each of them.
 pub fn settle_owned(t: &mut [u8], count: usize, user: &[u8], state: u8, server: &[u8])
-    requires { ⌜ (count ≤ 4096) × (length (now t) ≡ 512 * (count + 1)) × (length (now server) ≤ 96) ⌝ }
-    ensures { λ _. ⌜ now (t .exit) ≡ afterOf (now (t .entry)) count (isOne (ownedUpTo (now (t .entry)) (now (user .entry)) count)) state (now (server .entry)) ⌝ }
+    requires { ⌜ (count ≤ 4096) × (length (now t) ≡ 512 * (count + 1)) × Fitting state (now server) ⌝ }
+    ensures { λ _. ⌜ now (t .exit) ≡ afterOf (now (t .entry)) count (isOne (ownedUpTo (now (t .entry)) (now (user .entry)) count)) (settled state (now (server .entry))) ⌝ }
 {
     let mut k = 1;
     while k <= count {

@@ -1,20 +1,20 @@
 -- What is written and what is left, by what reading the request found.
 use Prim.Native.Nat.{ℕ, _≤_}
 use mathlib.Core.List.{List}
+use mathlib.Core.Bool.{true}
 use mathlib.Core.Path.{_≡_, ap, _∙_}
 use native.Mathlib.Omega.{arith}
 use lib.ListN.{length}
 use Rattle.octets.specs.Run.{Wrote}
 use Rattle.table.specs.Blocks.{blockOf}
 use Rattle.lookup.specs.SoundTable.{SoundTable}
+use Rattle.rewrite.specs.Renew.{Fitting}
 use Rattle.reading.specs.Rules.{Seen, bad, fine}
 use Rattle.reading.specs.Request.{bodyOf, readRequest, dataIn}
-use Rattle.reading.specs.Found.{failedBy}
 use Rattle.reading.specs.declared.Verdict.{Verdict}
-use Rattle.requests.proofs.Kept.{server-most}
 use Rattle.decisions.specs.Reply.{Reply}
 use Rattle.decisions.specs.Gives.{givenFault}
-use Rattle.decisions.specs.Assignment.{Decision}
+use Rattle.decisions.specs.Assignment.{Decision, storedName}
 use Rattle.decisions.specs.Decide.{assignmentOf, decideJudged, decide}
 use Rattle.decisions.specs.Planned.{replyOf, planned, decisionOf}
 use Rattle.decisions.specs.declared.Given.{Given}
@@ -26,7 +26,7 @@ use Rattle.deciding.specs.Plans.{Plans, Answers}
 use Rattle.fitting.proofs.Room.{decide-room, answer-most}
 
 -- A fault: the reply is the verdict's, and the table stays.
-module _ (req t file : List ℕ) (count : ℕ) (v : Verdict) (is : readRequest req ≡ bad (v .result) (failedBy req v)) where
+module _ (req t file : List ℕ) (count : ℕ) (v : Verdict) (is : readRequest req ≡ bad v) where
   pub fault-reply : (g : Given) → g ≡ givenFault v → replyOf req t file g ≡ decide req t count file .reply
   unfolding decide decideJudged
   fault-reply g e = reply-fault req t file v e ∙ rw is
@@ -49,9 +49,13 @@ module _ (req t file : List ℕ) (count : ℕ) (seen : Seen) (is : readRequest r
   unfolding decisionOf
   plan-table e = e ∙ ap (λ (d : Decision). d .table) planned-decides
 
+  pub plan-fits : p .write ≡ true → Fitting (p .state) (storedName (p .named) (dataIn seen 10))
+  plan-fits = plans .fits
+
 -- The answer of a reply that is the decision's.
 module _ (req t file : List ℕ) (count : ℕ) (g : Given) (is : replyOf req t file g ≡ decide req t count file .reply) where
-  pub answers : (before after : List ℕ) (r : ℕ) → Wrote (answerBytes req (blockOf t 0) (replyOf req t file g)) before after r → Answers req t count file before after r
+  pub answers : (before after : List ℕ) (r : ℕ) → Wrote (answerBytes req (blockOf t 0) (replyOf req t file g)) before after r
+      → Answers req t count file before after r
   answers before after r w = rw is at w
 
   pub given-room : (o : List ℕ) → Passed req o → SoundTable t (length file) count → roomOf (bodyOf req) (replyOf req t file g) ≤ 36864
@@ -61,7 +65,3 @@ module _ (req t file : List ℕ) (count : ℕ) (g : Given) (is : replyOf req t f
       → Wrote (answerBytes req (blockOf t 0) (replyOf req t file g)) before after r → r ≤ 36864
   answers-most o p s before after r w =
       omega (arith, w .count, answer-most t file count s req (p .least) (p .most) (p .fours), ap (λ (x : Reply). length (answerBytes req (blockOf t 0) x)) is)
-
--- A sound table is ready to be asked, and a Server-Name that was read has room in a record.
-pub read-fits : (req : List ℕ) (seen : Seen) → readRequest req ≡ fine seen → length (dataIn seen 10) ≤ 96
-read-fits req seen e = server-most req seen e

@@ -12,14 +12,16 @@ use reading::kinds;
 use record::header::Header;
 use requests::places;
 ghost use mathlib.Core.Path.{_≡_};
+ghost use mathlib.Core.Bool.{true};
 ghost use Prim.Native.Nat.{_≤_};
 ghost use lib.ListN.{length, getD};
 ghost use lib.Dec.{eqb};
 ghost use Rattle.table.specs.Blocks.{blockOf};
 ghost use Rattle.lookup.specs.SoundTable.{SoundTable};
+ghost use Rattle.rewrite.specs.Renew.{Fitting};
 ghost use Rattle.reading.specs.Rules.{bad, fine};
 ghost use Rattle.reading.specs.Request.{commandOf, readRequest, dataIn};
-ghost use Rattle.reading.specs.Found.{seenOf, failedBy};
+ghost use Rattle.reading.specs.Found.{seenOf};
 ghost use Rattle.decisions.specs.Assignment.{storedName};
 ghost use Rattle.decisions.specs.Decide.{assignmentOf, decide};
 ghost use Rattle.decisions.specs.Planned.{Ready, planned};
@@ -50,7 +52,7 @@ fn plan_uar(req: &[u8], t: &[u8], count: usize, found: [usize; kinds::KINDS]) ->
 }
 
 fn plan_sar(req: &[u8], t: &[u8], count: usize, found: [usize; kinds::KINDS]) -> Plan
-    requires { ⌜ Ready (now t) count × (commandOf (now req) ≡ 301) ⌝ }
+    requires { ⌜ Ready (now t) count × (readRequest (now req) ≡ fine (seenOf (now req) found)) × (commandOf (now req) ≡ 301) ⌝ }
     ensures { λ r. ⌜ Plans (now (req .entry)) (now (t .entry)) count (seenOf (now (req .entry)) found) r ⌝ }
 {
     assigning::plan_sar(
@@ -79,7 +81,7 @@ fn plan_lir(req: &[u8], t: &[u8], count: usize, found: [usize; kinds::KINDS]) ->
 
 // The plan of a request that was read, by its command.
 fn plan_read(req: &[u8], t: &[u8], count: usize, found: [usize; kinds::KINDS]) -> Plan
-    requires { ⌜ Ready (now t) count × (20 ≤ length (now req)) ⌝ }
+    requires { ⌜ Ready (now t) count × (readRequest (now req) ≡ fine (seenOf (now req) found)) × (20 ≤ length (now req)) ⌝ }
     ensures { λ r. ⌜ Plans (now (req .entry)) (now (t .entry)) count (seenOf (now (req .entry)) found) r ⌝ }
 {
     let command = requests::command(req);
@@ -94,14 +96,14 @@ fn plan_read(req: &[u8], t: &[u8], count: usize, found: [usize; kinds::KINDS]) -
 
 // The server name that a record gets.
 fn stored(named: bool, server: &[u8]) -> &[u8]
-    ensures { λ r. ⌜ (now r ≡ storedName named (now (server .entry))) × (length (now r) ≤ length (now (server .entry))) ⌝ }
+    ensures { λ r. ⌜ now r ≡ storedName named (now (server .entry)) ⌝ }
 {
     if named { server } else { &server[..0] }
 }
 
 // The effect that is planned, if there is one.
 fn carry_out(t: &mut [u8], count: usize, req: &[u8], found: [usize; kinds::KINDS], p: Plan)
-    requires { ⌜ Ready (now t) count × (length (dataIn (seenOf (now req) found) 10) ≤ 96) ⌝ }
+    requires { ⌜ Ready (now t) count × (p .write ≡ true → Fitting (p .state) (storedName (p .named) (dataIn (seenOf (now req) found) 10))) ⌝ }
     ensures { λ _. ⌜ now (t .exit) ≡ planned (now (t .entry)) count (assignmentOf (seenOf (now (req .entry)) found) (now (req .entry))) p ⌝ }
 {
     let server = stored(p.named, places::data_of(req, found, kinds::SERVER_NAME));
@@ -125,7 +127,7 @@ fn answer_fault(
     count: usize,
     v: Verdict,
 ) -> usize
-    requires { ⌜ Passed (now req) (now out) × SoundTable (now t) (length (now file)) count × (readRequest (now req) ≡ bad (v .result) (failedBy (now req) v)) ⌝ }
+    requires { ⌜ Passed (now req) (now out) × SoundTable (now t) (length (now file)) count × (readRequest (now req) ≡ bad v) ⌝ }
     ensures { λ r. ⌜ (r ≤ 36864) × Answers (now (req .entry)) (now (t .entry)) count (now (file .entry)) (now (out .entry)) (now (out .exit)) r ⌝ }
 {
     answering::answer(out, req, t, file, count, giving::faulty(v))

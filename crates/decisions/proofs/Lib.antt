@@ -3,3 +3,4 @@ pub mod Locating
 pub mod Ranges
 pub mod Ready
 pub mod Replies
+pub mod Rows

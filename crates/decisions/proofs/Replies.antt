@@ -12,7 +12,7 @@ use Rattle.table.specs.Blocks.{blockOf}
 use Rattle.lookup.specs.Find.{findServer}
 use Rattle.lookup.specs.declared.Found.{Found}
 use Rattle.lookup.specs.declared.Found.the-variants.{At, Nothing}
-use Rattle.reading.specs.Found.{failedBy}
+use Rattle.failed.specs.Failing.{failedBy}
 use Rattle.reading.specs.declared.Outcome.{Outcome}
 use Rattle.reading.specs.declared.Outcome.the-variants.{Base}
 use Rattle.reading.specs.declared.Verdict.{Verdict}

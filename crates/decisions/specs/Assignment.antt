@@ -11,10 +11,11 @@ use Rattle.table.specs.Blocks.{blockOf, privateAt}
 use Rattle.lookup.specs.Find.{isAt, findPublic, findPrivate}
 use Rattle.lookup.specs.declared.Found.{Found}
 use Rattle.lookup.specs.declared.Found.the-variants.{At, Nothing}
-use Rattle.rewrite.specs.Effect.{afterOf}
+use Rattle.rewrite.specs.Change.{afterOf}
+use Rattle.rewrite.specs.Renew.{settled}
 use Rattle.diameter.specs.Avp.{dataOf}
 use Rattle.reading.specs.Kinds.{publicIdentity}
-use Rattle.reading.specs.Request.{example}
+use Rattle.failed.specs.Failing.{example}
 use Rattle.reading.specs.declared.Outcome.{Outcome}
 use Rattle.reading.specs.declared.Outcome.the-variants.{Base, Experimental}
 use Rattle.decisions.specs.Reply.{Reply, plain, failing}
@@ -126,7 +127,7 @@ unfoldable pub effected : List ℕ → ℕ → List ℕ → Bool → Assignment 
 effected t count file keep s records =
     record {
       reply = assigned t file s (effectOf (s .kind) keep .result) (firstOf records);
-      table = afterOf t count (isOne records) (effectOf (s .kind) keep .state) (storedName (effectOf (s .kind) keep .named) (s .server));
+      table = afterOf t count (isOne records) (settled (effectOf (s .kind) keep .state) (storedName (effectOf (s .kind) keep .named) (s .server)));
     }
 
 -- "All in one subscription, .. else X5002. Type 0: stored name equal to the request's, B2001, else B5012. A stored name .. that differs ..: X5005. Wrong state: X5007"

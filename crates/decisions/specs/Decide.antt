@@ -8,6 +8,7 @@ use Rattle.table.specs.Blocks.{blockOf}
 use Rattle.reading.specs.Kinds.{userName, publicIdentity, visitedNetwork, serverName, assignmentType, dataAvailable, authorizationType}
 use Rattle.reading.specs.Rules.{Seen, Judged, bad, fine}
 use Rattle.reading.specs.Request.{commandOf, bodyOf, readRequest, given, dataIn, valueIn, identities}
+use Rattle.failed.specs.Failing.{failedBy}
 use Rattle.decisions.specs.Reply.{failing}
 use Rattle.decisions.specs.Authorization.{authorize}
 use Rattle.decisions.specs.Location.{locate}
@@ -34,7 +35,7 @@ decideRead req t count file seen =
     (unaltered t (locate t count (dataIn seen publicIdentity))))
 
 unfoldable pub decideJudged : List ℕ → List ℕ → ℕ → List ℕ → Judged → Decision
-decideJudged req t count file (bad r f) = unaltered t (failing r f)
+decideJudged req t count file (bad v) = unaltered t (failing (v .result) (failedBy req v))
 decideJudged req t count file (fine seen) = decideRead req t count file seen
 
 unfoldable pub decide : List ℕ → List ℕ → ℕ → List ℕ → Decision

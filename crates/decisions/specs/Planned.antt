@@ -8,8 +8,9 @@ use Rattle.record.specs.Fields.{serverOf, mandatoryOf, optionalOf, profileOf}
 use Rattle.table.specs.Blocks.{blockOf, privateAt, ofBlock}
 use Rattle.lookup.specs.Network.{Short}
 use Rattle.lookup.specs.SoundTable.{Ordered}
-use Rattle.rewrite.specs.Effect.{afterOf}
-use Rattle.reading.specs.Found.{failedBy}
+use Rattle.rewrite.specs.Change.{afterOf}
+use Rattle.rewrite.specs.Renew.{settled}
+use Rattle.failed.specs.Failing.{failedBy}
 use Rattle.decisions.specs.Reply.{Reply}
 use Rattle.decisions.specs.Assignment.{Decision, Assignment, isOne, findAll, numbersOf, ownedUpTo, storedName}
 use Rattle.decisions.specs.declared.Given.{Given}
@@ -33,7 +34,7 @@ plannedRecords t count s p = cond (p .owned) (ownedUpTo t (s .user) count) (numb
 
 -- the table after a plan
 unfoldable pub planned : List ℕ → ℕ → Assignment → Plan → List ℕ
-planned t count s p = cond (p .write) (afterOf t count (isOne (plannedRecords t count s p)) (p .state) (storedName (p .named) (s .server))) t
+planned t count s p = cond (p .write) (afterOf t count (isOne (plannedRecords t count s p)) (settled (p .state) (storedName (p .named) (s .server)))) t
 
 unfoldable pub decisionOf : List ℕ → List ℕ → ℕ → List ℕ → Assignment → Plan → Decision
 decisionOf req t count file s p = record { reply = replyOf req t file (p .given); table = planned t count s p }

@@ -1,4 +1,5 @@
--- Every request whose length is right and whose first AVP passes (a) is a header, a row of whole AVPs and what is behind them: so demand 3 speaks of any such request.
+-- Every request whose length is right and whose first AVP passes (a) is a header, a row of whole AVPs and what is behind them: so demand 3 speaks of any such
+-- request.
 use Prim.Native.Nat.{ℕ, zero, suc, _+_, _-_, _/_, _%_, _<_, _≤_}
 use mathlib.Core.List.{List, [], _∷_, _++_, append-assoc}
 use mathlib.Core.Bool.{Bool, true, false, not, _||_, true≢false}
@@ -18,13 +19,13 @@ use Rattle.ndushavire.specs.Serve.{wrongLength}
 use Rattle.demands.specs.Insertion.{message, Cut}
 
 -- bytes cut into a row of whole AVPs and what is behind it
-record Row (t : List ℕ) : Type 0 where
-  row : List Piece
-  tail : List ℕ
-  whole : All Whole row
-  fours : length tail % 4 ≡ 0
-  stops : sound tail ≡ false
-  bytes : t ≡ bytesOf row ++ tail
+pub record Row (t : List ℕ) : Type 0 where
+  pub row : List Piece
+  pub tail : List ℕ
+  pub whole : All Whole row
+  pub fours : length tail % 4 ≡ 0
+  pub stops : sound tail ≡ false
+  pub bytes : t ≡ bytesOf row ++ tail
 
 -- the AVP at the front, with its padding
 module _ (t : List ℕ) (s : sound t ≡ true) (fours : length t % 4 ≡ 0) where
@@ -56,7 +57,12 @@ module _ (t : List ℕ) (s : sound t ≡ true) (fours : length t % 4 ≡ 0) wher
   front-sound : sound (take n t) ≡ true
   front-sound =
       let h = sound-says t s in
-      sound-of (take n t) (record { eight = rw front-head (h .eight); least = rw (front-head, front-len) (h .least); within = rw (front-len, front-length) (omega arith) })
+      sound-of (take n t) (record {
+        eight = rw front-head (h .eight);
+        least = rw (front-head, front-len) (h .least);
+        within = rw (front-len, front-length)
+            (omega arith);
+      })
 
   front-taken : take n t ++ take (p - n) (drop n t) ≡ take p t
   front-taken = let e : n + (p - n) ≡ p = omega (arith, padded-within .2) in sym (take-add n (p - n) t) ∙ rw e
@@ -79,7 +85,7 @@ module _ (t : List ℕ) (s : sound t ≡ true) (fours : length t % 4 ≡ 0) wher
   rest-shorter : length (drop p t) < length t
   rest-shorter = let h = sound-says t s in rw length-drop (omega (arith, h .eight, h .least, within, padded-within .0, padded-within .2))
 
-abbrev Rows : ℕ → Type 0
+abbrev pub Rows : ℕ → Type 0
 Rows k = (t : List ℕ) → length t ≤ k → length t % 4 ≡ 0 → Row t
 
 row-none : (t : List ℕ) → length t % 4 ≡ 0 → sound t ≡ false → Row t
@@ -107,7 +113,7 @@ unfolding sound
 row-start [] h f = row-none [] f refl
 row-start (x ∷ t) h f = absurd (omega arith)
 
-row-of : (k : ℕ) → Rows k
+pub row-of : (k : ℕ) → Rows k
 row-of zero = row-start
 row-of (suc k) = row-step k (row-of k)
 

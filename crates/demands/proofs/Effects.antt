@@ -10,13 +10,15 @@ use lib.Dec.{eqb, leb}
 use borrow.Author.Tests.{eqb-true}
 use Rattle.record.specs.Fields.{profileOf}
 use Rattle.table.specs.Blocks.{blockOf, privateAt}
-use Rattle.rewrite.specs.Effect.{afterOf}
+use Rattle.rewrite.specs.Change.{afterOf}
+use Rattle.rewrite.specs.Renew.{settled}
 use Rattle.reading.specs.Rules.{Seen, Judged, bad, fine}
 use Rattle.reading.specs.Request.{commandOf, readRequest}
 use Rattle.reading.specs.declared.Outcome.the-variants.{Experimental}
 use Rattle.decisions.specs.Reply.{Reply, plain}
 use Rattle.decisions.specs.Types.{groupOf, isRemoval, effectOf}
-use Rattle.decisions.specs.Assignment.{Decision, Assignment, identityFault, every, isOne, isEmpty, recordsOf, allKnown, firstOf, ownerOf, ownAt, fitsAt, rightAt, assigned, storedName, unaltered, effected, assignRecords, assignKnown, assign}
+use Rattle.decisions.specs.Assignment.{Decision, Assignment, identityFault, every, isOne, isEmpty, recordsOf, allKnown, firstOf, ownerOf, ownAt, fitsAt}
+use Rattle.decisions.specs.Assignment.{rightAt, assigned, storedName, unaltered, effected, assignRecords, assignKnown, assign}
 use Rattle.decisions.specs.Decide.{assignmentOf, decideRead, decideJudged, decide}
 
 -- the effect of a SAR's type on its records, all of one subscription
@@ -25,7 +27,8 @@ pub record Altered (t : List ℕ) (count : ℕ) (keep : Bool) (s : Assignment) (
   pub known : allKnown t count s ≡ true
   pub owned : every (ownAt t (ownerOf t s (recordsOf t count s))) (recordsOf t count s) ≡ true
   pub result : d .reply .result ≡ effectOf (s .kind) keep .result
-  pub table : d .table ≡ afterOf t count (isOne (recordsOf t count s)) (effectOf (s .kind) keep .state) (storedName (effectOf (s .kind) keep .named) (s .server))
+  pub table : d .table ≡ afterOf t count (isOne (recordsOf t count s))
+      (settled (effectOf (s .kind) keep .state) (storedName (effectOf (s .kind) keep .named) (s .server)))
 
 module _ (t : List ℕ) (count : ℕ) (file : List ℕ) (keep : Bool) (s : Assignment) where
   abbrev fault : Option Reply
@@ -52,26 +55,30 @@ module _ (t : List ℕ) (count : ℕ) (file : List ℕ) (keep : Bool) (s : Assig
 
   chain-cases : fault ≡ none → allKnown t count s ≡ true → (own query other wrong : Bool) (x y z w : Reply)
       → every (ownAt t (ownerOf t s (recordsOf t count s))) (recordsOf t count s) ≡ own
-      → Cases (cond (not own) (unaltered t x) (cond query (unaltered t y) (cond other (unaltered t z) (cond wrong (unaltered t w) (effected t count file keep s (recordsOf t count s))))))
+      → Cases (cond (not own) (unaltered t x) (cond query (unaltered t y)
+      (cond other (unaltered t z) (cond wrong (unaltered t w) (effected t count file keep s (recordsOf t count s))))))
   unfolding effected
   chain-cases i a false query other wrong x y z w e = inl refl
   chain-cases i a true true other wrong x y z w e = inl refl
   chain-cases i a true false true wrong x y z w e = inl refl
   chain-cases i a true false false true x y z w e = inl refl
-  chain-cases i a true false false false x y z w e = inr (record { identified = i; known = a; owned = e; result = result-is (firstOf (recordsOf t count s)); table = refl })
+  chain-cases i a true false false false x y z w e =
+      inr (record { identified = i; known = a; owned = e; result = result-is (firstOf (recordsOf t count s)); table = refl })
 
   records-cases : fault ≡ none → allKnown t count s ≡ true → Cases (assignRecords t count file keep s (recordsOf t count s))
   unfolding assignRecords
   records-cases i a =
       let ks = recordsOf t count s in
-      chain-cases i a (every (ownAt t (ownerOf t s ks)) ks) (eqb (s .kind) 0) (not (every (fitsAt t (s .server)) ks)) (isEmpty ks || not (every (rightAt t (s .kind)) ks)) _ _ _ _ refl
+      chain-cases i a (every (ownAt t (ownerOf t s ks)) ks) (eqb (s .kind) 0) (not (every (fitsAt t (s .server)) ks))
+      (isEmpty ks || not (every (rightAt t (s .kind)) ks)) _ _ _ _ refl
 
   known-cases : (f : Option Reply) → fault ≡ f → Cases (assignKnown t count file keep s f)
   unfolding assignKnown
   known-cases (some r) i = inl refl
   known-cases none i = go (allKnown t count s) refl
     where
-      go : (b : Bool) → allKnown t count s ≡ b → Cases (cond b (assignRecords t count file keep s (recordsOf t count s)) (unaltered t (plain (Experimental 5001))))
+      go : (b : Bool) → allKnown t count s ≡ b
+          → Cases (cond b (assignRecords t count file keep s (recordsOf t count s)) (unaltered t (plain (Experimental 5001))))
       go true a = records-cases i a
       go false a = inl refl
 
@@ -94,11 +101,13 @@ module _ (req t : List ℕ) (count : ℕ) (file : List ℕ) where
     abbrev sar : Decision
     sar = assign t count file (eqb (getD (blockOf t 0) 12 0) 1) (assignmentOf seen req)
 
-    sar-cases : commandOf req ≡ 301 → decide req t count file ≡ sar → (sar .table ≡ t) ⊎ Altered t count (eqb (getD (blockOf t 0) 12 0) 1) (assignmentOf seen req) sar → Result
+    sar-cases : commandOf req ≡ 301 → decide req t count file ≡ sar
+        → (sar .table ≡ t) ⊎ Altered t count (eqb (getD (blockOf t 0) 12 0) 1) (assignmentOf seen req) sar → Result
     sar-cases c d (inl u) = inl (rw d u)
     sar-cases c d (inr a) = inr (record { seen = seen; read = e; command = c; altered = rw d a })
 
-    command-cases : (x y : Bool) (uar lir : Reply) → eqb (commandOf req) 301 ≡ y → decide req t count file ≡ cond x (unaltered t uar) (cond y sar (unaltered t lir)) → Result
+    command-cases : (x y : Bool) (uar lir : Reply) → eqb (commandOf req) 301 ≡ y
+        → decide req t count file ≡ cond x (unaltered t uar) (cond y sar (unaltered t lir)) → Result
     command-cases true y uar lir p q = inl (rw q)
     command-cases false false uar lir p q = inl (rw q)
     command-cases false true uar lir p q = sar-cases (eqb-true _ _ p) q (assign-cases t count file (eqb (getD (blockOf t 0) 12 0) 1) (assignmentOf seen req))
@@ -109,7 +118,7 @@ module _ (req t : List ℕ) (count : ℕ) (file : List ℕ) where
 
   judged-cases : (j : Judged) → readRequest req ≡ j → Result
   unfolding decide decideJudged
-  judged-cases (bad r f) e = inl (rw e)
+  judged-cases (bad v) e = inl (rw e)
   judged-cases (fine seen) e = read-cases seen e (rw e)
 
   pub decide-cases : (decide req t count file .table ≡ t) ⊎ Assigned req t count file

@@ -15,6 +15,7 @@ use Rattle.table.specs.Check.{soundAt, firstBad, checkRecords, checkTable}
 use Rattle.table.specs.declared.Checked.{Checked}
 use Rattle.table.specs.declared.Checked.the-variants.{Sound, Bad}
 use Rattle.ndushavire.specs.declared.Call.the-variants.{Answered, Refused}
+use Rattle.ndushavire.specs.Lent.{Lent}
 use Rattle.ndushavire.specs.Word.{word, checkWord, checkValue, callWord, numberIn, placeIn, valueIn, Reads, ReadsCheck}
 use Rattle.ndushavire.specs.Promise.{CheckPromise, DecidePromise}
 
@@ -23,9 +24,8 @@ pub check-unique : (table profile : List ℕ) (r s : ℕ) → CheckPromise table
 check-unique table profile r s p q = p .answer ∙ sym (q .answer)
 
 -- So are any two outcomes of a decision: the word, the table and the buffer.
-pub decide-unique : (req table profile buffer : List ℕ) (r s : ℕ) (t u o q : List ℕ) → DecidePromise req table profile buffer r t o → DecidePromise req table profile buffer s u q
-    → (r ≡ s) × (t ≡ u) × (o ≡ q)
-decide-unique req table profile buffer r s t u o q a b = (a .word-is ∙ sym (b .word-is), a .table-is ∙ sym (b .table-is), a .buffer-is ∙ sym (b .buffer-is))
+pub decide-unique : (x : Lent) (r s : ℕ) (t u o q : List ℕ) → DecidePromise x r t o → DecidePromise x s u q → (r ≡ s) × (t ≡ u) × (o ≡ q)
+decide-unique x r s t u o q a b = (a .word-is ∙ sym (b .word-is), a .table-is ∙ sym (b .table-is), a .buffer-is ∙ sym (b .buffer-is))
 
 -- What is put into a word is read out of it: the number, no place, the value.
 record Parts (number value : ℕ) : Type 0 where
@@ -39,7 +39,7 @@ parts number value h =
     record { number-is = omega arith; place-is = rw q (omega arith); value-is = omega arith }
 
 -- So is a call read back out of its word.
-pub answer-reads : (n : ℕ) → n < 4294967296 → Reads (Answered n) (callWord (Answered n))
+pub answer-reads : (n : ℕ) → n < 4294967296 → Reads (Answered (record { length = n })) (callWord (Answered (record { length = n })))
 answer-reads n h =
     let p = parts 0 n h in
     record { number = p .number-is; place = p .place-is; value = p .value-is; call = rw (eq-eqb (numberIn (word 0 n)) 0 (p .number-is), p .value-is) }

@@ -1,13 +1,14 @@
 -- Every answer fits: no request within the limits has one that is longer than the smallest buffer.
-use Prim.Native.Nat.{ℕ}
-use mathlib.Core.List.{List}
 use mathlib.Core.Path.{refl}
 use lib.ListN.{length}
 use Rattle.lookup.proofs.Sound.{sound-says}
+use Rattle.ndushavire.specs.Lent.{Lent}
 use Rattle.ndushavire.proofs.Calls.{size-least, size-most, length-even}
 use Rattle.fitting.proofs.Room.{answer-most}
 use Rattle.demands.specs.Call.{Fits}
 
-pub fits : (req t file : List ℕ) → Fits req t file
-fits req t file size right count sound =
-    answer-most t file count (sound-says t (length file) count sound) req (size-least req size) (size-most req size) (length-even req refl right)
+pub fits : (x : Lent) → Fits x
+fits x size right count sound =
+    let req = x .request in
+    answer-most (x .table) (x .profile) count (sound-says (x .table) (length (x .profile)) count sound) req (size-least req size) (size-most req size)
+    (length-even req refl right)

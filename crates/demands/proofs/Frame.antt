@@ -1,5 +1,5 @@
 -- Demand 2: what a call leaves alone, and that a sound table stays sound.
-use Prim.Native.Nat.{ℕ, _+_, _*_, _/_, _≤_, _<_}
+use Prim.Native.Nat.{ℕ, zero, suc, _+_, _*_, _/_, _≤_, _<_}
 use mathlib.Core.List.{List, [], _∷_}
 use mathlib.Core.Option.{none, some, Option·some-ne-none}
 use mathlib.Core.Bool.{Bool, true, false, cond, not, _&&_, _||_, true≢false}
@@ -11,6 +11,7 @@ use lib.Dec.{eqb, leb, ltb}
 use borrow.Author.Tests.{eqb-true, eqb-false, ne-eqb, ltb-false, leb-false}
 use Rattle.octets.proofs.All.{and-left, and-right}
 use Rattle.octets.proofs.Names.{same-eq}
+use Rattle.record.specs.Fields.{keepOf}
 use Rattle.table.specs.Blocks.{blockOf, privateAt}
 use Rattle.table.specs.Check.{checkTable}
 use Rattle.table.specs.declared.Checked.the-variants.{Sound}
@@ -20,10 +21,11 @@ use Rattle.lookup.specs.SoundTable.{SoundTable}
 use Rattle.lookup.specs.declared.Found.{Found}
 use Rattle.lookup.specs.declared.Found.the-variants.{At, Nothing}
 use Rattle.lookup.proofs.Sound.{sound-says}
-use Rattle.rewrite.specs.Effect.{settled, afterOf, fitting}
-use Rattle.rewrite.proofs.Settled.{settled-low, settled-high, settled-bits}
-use Rattle.rewrite.proofs.Tables.{after-length, after-frame, after-chosen}
-use Rattle.rewrite.proofs.Sound.{fitting-named, after-sound}
+use Rattle.rewrite.specs.Change.{alterable, Kept, Keeps}
+use Rattle.rewrite.specs.Renew.{settled}
+use Rattle.rewrite.proofs.Settled.{settled-keeps}
+use Rattle.rewrite.proofs.Sound.{keeping-sound}
+use Rattle.rewrite.proofs.Tables.{Keeping, keeping-same, kept-same, after-frame, after-keeping}
 use Rattle.diameter.specs.Avp.{dataOf}
 use Rattle.reading.specs.declared.Outcome.{Outcome}
 use Rattle.reading.specs.declared.Outcome.the-variants.{Base, Experimental}
@@ -33,14 +35,18 @@ use Rattle.requests.proofs.Kept.{server-most, server-least}
 use Rattle.decisions.specs.declared.Effect.{Effect}
 use Rattle.decisions.specs.Reply.{Reply}
 use Rattle.decisions.specs.Types.{between, groupOf, isRemoval, effectOf}
-use Rattle.decisions.specs.Assignment.{Assignment, identityFault, every, isOne, isEmpty, firstOf, allKnown, findAll, numbersOf, ownedUpTo, recordsOf, ownerOf, ownAt, storedName}
+use Rattle.decisions.specs.Assignment.{Assignment, identityFault, every, isOne, isEmpty, firstOf, allKnown, findAll, numbersOf, ownedUpTo, recordsOf}
+use Rattle.decisions.specs.Assignment.{ownerOf, ownAt, storedName}
 use Rattle.decisions.specs.Decide.{assignmentOf, decide}
 use Rattle.decisions.proofs.Ready.{public-within}
+use Rattle.decisions.proofs.Rows.{row-fits}
 use Rattle.assignment.proofs.OwnTurns.{no-zero}
-use Rattle.ndushavire.specs.Serve.{answered, serve}
+use Rattle.ndushavire.specs.Lent.{Lent}
+use Rattle.ndushavire.specs.Word.{checkValue}
+use Rattle.ndushavire.specs.Serve.{checkOf, answered, serve}
 use Rattle.demands.specs.Call.{turnedAway}
-use Rattle.demands.specs.Frame.{succeeds, ownerAt, firstOwner, askedIn, subscriptionOf, alterable}
-use Rattle.demands.proofs.Refusals.{refused-kept, answered-is, counted}
+use Rattle.demands.specs.Frame.{succeeds, ownerAt, firstOwner, askedIn, subscriptionOf}
+use Rattle.demands.proofs.Refusals.{refused-kept, answered-is, taken}
 use Rattle.demands.proofs.Effects.{Assigned, decide-cases}
 
 -- a test of all the records holds of each; block 0 is none of them
@@ -58,7 +64,8 @@ unfolding findAll numbersOf isOne
 named-later t count [] = refl
 named-later t count (a ∷ avps) = go (findPublic t count (dataOf a)) refl (named-later t count avps)
   where
-    go : (f : Found) → findPublic t count (dataOf a) ≡ f → isOne (numbersOf (findAll t count avps)) 0 ≡ false → isOne (numbersOf (f ∷ findAll t count avps)) 0 ≡ false
+    go : (f : Found) → findPublic t count (dataOf a) ≡ f → isOne (numbersOf (findAll t count avps)) 0 ≡ false
+        → isOne (numbersOf (f ∷ findAll t count avps)) 0 ≡ false
     go Nothing e next = next
     go (At k) e next = rw (ne-eqb 0 k (omega (arith, public-within t count (dataOf a) (sym e) .from k refl))) next
 
@@ -71,7 +78,8 @@ records-later t count s = go (isEmpty (s .identities))
     go false = named-later t count (s .identities)
 
 -- the owner that the decision asks for is the User-Name, or the owner of the first identity
-owner-is : (t : List ℕ) (count : ℕ) (s : Assignment) → identityFault (isRemoval (groupOf (s .kind))) (s .named) (s .identities) ≡ none → allKnown t count s ≡ true
+owner-is : (t : List ℕ) (count : ℕ) (s : Assignment) → identityFault (isRemoval (groupOf (s .kind))) (s .named) (s .identities) ≡ none
+    → allKnown t count s ≡ true
     → some (ownerOf t s (recordsOf t count s)) ≡ cond (s .named) (some (s .user)) (firstOwner t count (s .identities))
 unfolding identityFault allKnown ownerOf recordsOf findAll numbersOf every firstOwner
 owner-is t count s = go (isRemoval (groupOf (s .kind))) (s .named) (s .identities)
@@ -92,37 +100,23 @@ owner-is t count s = go (isRemoval (groupOf (s .kind))) (s .named) (s .identitie
     go removal false [] i a = absurd (none-given removal _ i)
     go removal false (x ∷ ids) i a = known (findPublic t count (dataOf x)) (findAll t count ids) true a
 
--- the rows of the effects: each is a success, and has a server name exactly in state 1 or 2
-record Row (e : Effect) : Type 0 where
-  two : e .state ≤ 2
-  good : succeeds (e .result) ≡ true
-  fit : (server : List ℕ) → 1 ≤ length server → fitting (e .state) (storedName (e .named) server) ≡ true
-
-row-named : (state : ℕ) (r : Outcome) → 1 ≤ state → state ≤ 2 → succeeds r ≡ true → Row (record { state = state; named = true; result = r })
-unfolding storedName
-row-named state r a b e = record { two = b; good = e; fit = λ server l. fitting-named state server a l }
-
-row-none : (r : Outcome) → succeeds r ≡ true → Row (record { state = 0; named = false; result = r })
-unfolding storedName
-row-none r e = record { two = omega arith; good = e; fit = λ server l. refl }
-
-row : (kind : ℕ) (keep : Bool) → Row (effectOf kind keep)
+-- each row of the effects is a success
+row-good : (kind : ℕ) (keep : Bool) → succeeds (effectOf kind keep .result) ≡ true
 unfolding effectOf numberOf
-row kind keep = go (leb kind 2) (eqb kind 3) (between 6 kind 7) keep
+row-good kind keep = go (leb kind 2) (eqb kind 3) (between 6 kind 7) keep
   where
-    go : (a b c d : Bool) → Row (cond a (record { state = 1; named = true; result = Base 2001 }) (cond b (record { state = 2; named = true; result = Base 2001 })
+    good : Effect → Type 0
+    good e = succeeds (e .result) ≡ true
+
+    go : (a b c d : Bool)
+        → good (cond a (record { state = 1; named = true; result = Base 2001 }) (cond b (record { state = 2; named = true; result = Base 2001 })
         (cond c (cond d (record { state = 2; named = true; result = Base 2001 }) (record { state = 0; named = false; result = Experimental 2004 }))
         (record { state = 0; named = false; result = Base 2001 }))))
-    go true b c d = row-named 1 (Base 2001) (omega arith) (omega arith) refl
-    go false true c d = row-named 2 (Base 2001) (omega arith) (omega arith) refl
-    go false false true true = row-named 2 (Base 2001) (omega arith) (omega arith) refl
-    go false false true false = row-none (Experimental 2004) refl
-    go false false false d = row-none (Base 2001) refl
-
-stored-most : (named : Bool) (server : List ℕ) → length server ≤ 96 → length (storedName named server) ≤ 96
-unfolding storedName
-stored-most true server h = h
-stored-most false server h = omega arith
+    go true b c d = refl
+    go false true c d = refl
+    go false false true true = refl
+    go false false true false = refl
+    go false false false d = refl
 
 -- the blocks of the table after a decision
 module _ (req t : List ℕ) (count : ℕ) (file : List ℕ) (size : length t ≡ 512 * (count + 1)) (a : Assigned req t count file) where
@@ -130,130 +124,105 @@ module _ (req t : List ℕ) (count : ℕ) (file : List ℕ) (size : length t ≡
   asked = assignmentOf (a .seen) req
 
   abbrev keep : Bool
-  keep = eqb (getD (blockOf t 0) 12 0) 1
+  keep = eqb (keepOf (blockOf t 0)) 1
 
   abbrev chosen : ℕ → Bool
   chosen = isOne (recordsOf t count asked)
 
-  abbrev effect : Effect
-  effect = effectOf (asked .kind) keep
+  abbrev change : List ℕ → List ℕ
+  change = settled (effectOf (asked .kind) keep .state) (storedName (effectOf (asked .kind) keep .named) (asked .server))
 
-  abbrev name : List ℕ
-  name = storedName (effect .named) (asked .server)
+  keeps : Keeps change
+  unfolding assignmentOf
+  keeps =
+      settled-keeps _ _ (row-fits (asked .server) (server-least req (a .seen) (a .read) (a .command)) (server-most req (a .seen) (a .read)) (asked .kind) keep)
 
-  after-is : decide req t count file .table ≡ afterOf t count chosen (effect .state) name
-  after-is = a .altered .table
-
-  assigned-length : length (decide req t count file .table) ≡ length t
-  assigned-length = rw after-is (after-length t count chosen (effect .state) name size)
+  assigned-keeping : Keeping t (decide req t count file .table) count
+  assigned-keeping = rw (a .altered .table) (after-keeping t count change size chosen keeps (records-later t count asked))
 
   assigned-stays : (k : ℕ) → k ≤ count → chosen k ≡ false → blockOf (decide req t count file .table) k ≡ blockOf t k
-  assigned-stays k h e = rw after-is (after-frame t count chosen (effect .state) name size k h e)
-
-  assigned-settled : (k : ℕ) → k ≤ count → chosen k ≡ true → blockOf (decide req t count file .table) k ≡ settled (blockOf t k) (effect .state) name
-  assigned-settled k h e = rw after-is (after-chosen t count chosen (effect .state) name size k h e)
+  assigned-stays k h e = rw (a .altered .table) (after-frame t count change size chosen keeps k h e)
 
   assigned-owner : (k : ℕ) → chosen k ≡ true → some (privateAt t k) ≡ subscriptionOf req t count
   unfolding subscriptionOf askedIn assignmentOf ownAt
   assigned-owner k e =
       let own = one-holds (ownAt t (ownerOf t asked (recordsOf t count asked))) (recordsOf t count asked) k (a .altered .owned) e in
-      ap some (same-eq (privateAt t k) (ownerOf t asked (recordsOf t count asked)) own) ∙ owner-is t count asked (a .altered .identified) (a .altered .known) ∙ rw (a .read)
+      ap some (same-eq (privateAt t k) (ownerOf t asked (recordsOf t count asked)) own) ∙ owner-is t count asked (a .altered .identified) (a .altered .known)
+      ∙ rw (a .read)
 
   assigned-good : succeeds (decide req t count file .reply .result) ≡ true
-  assigned-good = rw (a .altered .result) (row (asked .kind) keep .good)
-
-  assigned-bytes : (k i : ℕ) → k ≤ count → i < 512 → alterable i ≡ false → getD (blockOf (decide req t count file .table) k) i 0 ≡ getD (blockOf t k) i 0
-  unfolding alterable
-  assigned-bytes k i h l e = go (chosen k) refl
-    where
-      kept : (x y z u v w : Bool) → eqb i 8 ≡ x → eqb i 9 ≡ y → eqb i 15 ≡ z → leb 272 i ≡ u → ltb i 368 ≡ v → leb 508 i ≡ w → (x || y || z || u && v || w) ≡ false
-          → getD (settled (blockOf t k) (effect .state) name) i 0 ≡ getD (blockOf t k) i 0
-      kept false false false false v false ex ey ez eu ev ew f =
-          settled-low (blockOf t k) (effect .state) name i (leb-false 272 i eu) (eqb-false i 8 ex) (eqb-false i 9 ey) (eqb-false i 15 ez)
-      kept false false false true false false ex ey ez eu ev ew f = settled-high (blockOf t k) (effect .state) name i (ltb-false i 368 ev) (leb-false 508 i ew)
-      kept true y z u v w ex ey ez eu ev ew f = absurd (true≢false f)
-      kept false true z u v w ex ey ez eu ev ew f = absurd (true≢false f)
-      kept false false true u v w ex ey ez eu ev ew f = absurd (true≢false f)
-      kept false false false true true w ex ey ez eu ev ew f = absurd (true≢false f)
-      kept false false false false v true ex ey ez eu ev ew f = absurd (true≢false f)
-      kept false false false true false true ex ey ez eu ev ew f = absurd (true≢false f)
-
-      go : (x : Bool) → chosen k ≡ x → getD (blockOf (decide req t count file .table) k) i 0 ≡ getD (blockOf t k) i 0
-      go true c = rw (assigned-settled k h c) (kept (eqb i 8) (eqb i 9) (eqb i 15) (leb 272 i) (ltb i 368) (leb 508 i) refl refl refl refl refl refl e)
-      go false c = rw (assigned-stays k h c)
-
-  assigned-bits : (k : ℕ) → k ≤ count → getD (blockOf (decide req t count file .table) k) 9 0 / 2 ≡ getD (blockOf t k) 9 0 / 2
-  assigned-bits k h = go (chosen k) refl
-    where
-      go : (x : Bool) → chosen k ≡ x → getD (blockOf (decide req t count file .table) k) 9 0 / 2 ≡ getD (blockOf t k) 9 0 / 2
-      go true c = rw (assigned-settled k h c, settled-bits (blockOf t k) (effect .state) name (block-length t k (omega (arith, size)))) (omega arith)
-      go false c = rw (assigned-stays k h c)
-
-  assigned-sound : SoundTable t (length file) count → checkTable (decide req t count file .table) (length file) ≡ Sound count
-  unfolding assignmentOf
-  assigned-sound sound =
-      let e = row (asked .kind) keep in
-      rw after-is
-      (after-sound t (length file) count sound chosen (records-later t count asked) (effect .state) name (e .two)
-      (stored-most (effect .named) (asked .server) (server-most req (a .seen) (a .read)))
-      (e .fit (asked .server) (server-least req (a .seen) (a .read) (a .command))))
+  assigned-good = rw (a .altered .result) (row-good (asked .kind) keep)
 
 -- what holds of the table as it came, and of the table that an effect leaves, holds after every call
-module _ (req t file o : List ℕ) (count : ℕ) (sound : checkTable t (length file) ≡ Sound count) (P : List ℕ → Type 0) where
-  after-decision : P t → (Assigned req t count file → P (decide req t count file .table)) → P (decide req t count file .table)
-  after-decision p q = go (decide-cases req t count file)
-    where
-      go : (decide req t count file .table ≡ t) ⊎ Assigned req t count file → P (decide req t count file .table)
-      go (inl e) = rw e p
-      go (inr a) = q a
+module _ (x : Lent) (count : ℕ) (sound : checkOf x ≡ Sound count) where
+  abbrev req : List ℕ
+  req = x .request
 
-  after-call : P t → (Assigned req t count file → P (decide req t count file .table)) → P (serve req t file o .table)
-  unfolding answered
-  after-call p q = go (turnedAway req t file o) refl
-    where
-      go : (x : Bool) → turnedAway req t file o ≡ x → P (serve req t file o .table)
-      go true e = rw (refused-kept req t file o e .0) p
-      go false e = rw (answered-is req t file o count sound e) (after-decision p q)
+  abbrev t : List ℕ
+  t = x .table
 
-module _ (req t file o : List ℕ) (count : ℕ) (sound : checkTable t (length file) ≡ Sound count) where
+  abbrev file : List ℕ
+  file = x .profile
+
+  module _ (P : List ℕ → Type 0) where
+    after-decision : P t → (Assigned req t count file → P (decide req t count file .table)) → P (decide req t count file .table)
+    after-decision p q = go (decide-cases req t count file)
+      where
+        go : (decide req t count file .table ≡ t) ⊎ Assigned req t count file → P (decide req t count file .table)
+        go (inl e) = rw e p
+        go (inr a) = q a
+
+    after-call : P t → (Assigned req t count file → P (decide req t count file .table)) → P (serve x .table)
+    unfolding answered
+    after-call p q = go (turnedAway x) refl
+      where
+        go : (y : Bool) → turnedAway x ≡ y → P (serve x .table)
+        go true e = rw (refused-kept x e .0) p
+        go false e = rw (answered-is x count sound e) (after-decision p q)
+
   says : SoundTable t (length file) count
   says = sound-says t (length file) count sound
 
-  pub failure-kept : succeeds (decide req t count file .reply .result) ≡ false → serve req t file o .table ≡ t
+  pub failure-kept : succeeds (decide req t count file .reply .result) ≡ false → serve x .table ≡ t
   failure-kept e =
-      after-call req t file o count sound (λ (x : List ℕ). x ≡ t) refl
+      after-call (λ (y : List ℕ). y ≡ t) refl
       (λ a. absurd (true≢false (sym (assigned-good req t count file (says .size) a) ∙ e)))
 
-  pub others-kept : (k : ℕ) → k ≤ count → some (privateAt t k) ≢ subscriptionOf req t count → blockOf (serve req t file o .table) k ≡ blockOf t k
-  others-kept k h n = after-call req t file o count sound (λ (x : List ℕ). blockOf x k ≡ blockOf t k) refl (λ a. stays a (isOne (recordsOf t count (assignmentOf (a .seen) req)) k) refl)
+  pub others-kept : (k : ℕ) → k ≤ count → some (privateAt t k) ≢ subscriptionOf req t count → blockOf (serve x .table) k ≡ blockOf t k
+  others-kept k h n = after-call (λ (y : List ℕ). blockOf y k ≡ blockOf t k) refl (λ a. stays a (isOne (recordsOf t count (assignmentOf (a .seen) req)) k) refl)
     where
-      stays : (a : Assigned req t count file) (x : Bool) → isOne (recordsOf t count (assignmentOf (a .seen) req)) k ≡ x → blockOf (decide req t count file .table) k ≡ blockOf t k
+      stays : (a : Assigned req t count file) (x : Bool) → isOne (recordsOf t count (assignmentOf (a .seen) req)) k ≡ x
+          → blockOf (decide req t count file .table) k ≡ blockOf t k
       stays a true e = absurd (n (assigned-owner req t count file (says .size) a k e))
       stays a false e = assigned-stays req t count file (says .size) a k h e
 
-  pub header-kept : blockOf (serve req t file o .table) 0 ≡ blockOf t 0
-  header-kept =
-      after-call req t file o count sound (λ (x : List ℕ). blockOf x 0 ≡ blockOf t 0) refl
-      (λ a. assigned-stays req t count file (says .size) a 0 (omega arith) (records-later t count (assignmentOf (a .seen) req)))
+  -- what every effect keeps is kept by every call
+  call-keeping : Keeping t (serve x .table) count
+  call-keeping = after-call (λ (y : List ℕ). Keeping t y count) (keeping-same t count) (λ a. assigned-keeping req t count file (says .size) a)
 
-  pub bytes-kept : (k i : ℕ) → k ≤ count → i < 512 → alterable i ≡ false → getD (blockOf (serve req t file o .table) k) i 0 ≡ getD (blockOf t k) i 0
-  bytes-kept k i h l e =
-      after-call req t file o count sound (λ (x : List ℕ). getD (blockOf x k) i 0 ≡ getD (blockOf t k) i 0) refl (λ a. assigned-bytes req t count file (says .size) a k i h l e)
+  pub header-kept : blockOf (serve x .table) 0 ≡ blockOf t 0
+  header-kept = call-keeping .header
 
-  pub bits-kept : (k : ℕ) → k ≤ count → getD (blockOf (serve req t file o .table) k) 9 0 / 2 ≡ getD (blockOf t k) 9 0 / 2
-  bits-kept k h =
-      after-call req t file o count sound (λ (x : List ℕ). getD (blockOf x k) 9 0 / 2 ≡ getD (blockOf t k) 9 0 / 2) refl (λ a. assigned-bits req t count file (says .size) a k h)
+  block-kept : (k : ℕ) → k ≤ count → Kept (blockOf t k) (blockOf (serve x .table) k)
+  block-kept zero h = kept-same _ _ header-kept
+  block-kept (suc k) h = call-keeping .each (suc k) (omega arith) h
 
-  pub size-kept : length (serve req t file o .table) ≡ length t
-  size-kept = after-call req t file o count sound (λ (x : List ℕ). length x ≡ length t) refl (λ a. assigned-length req t count file (says .size) a)
+  pub bytes-kept : (k i : ℕ) → k ≤ count → i < 512 → alterable i ≡ false → getD (blockOf (serve x .table) k) i 0 ≡ getD (blockOf t k) i 0
+  bytes-kept k i h l e = block-kept k h .others i l e
 
-  pub sound-kept : checkTable (serve req t file o .table) (length file) ≡ Sound count
-  sound-kept = after-call req t file o count sound (λ (x : List ℕ). checkTable x (length file) ≡ Sound count) sound (λ a. assigned-sound req t count file (says .size) a says)
+  pub bits-kept : (k : ℕ) → k ≤ count → getD (blockOf (serve x .table) k) 9 0 / 2 ≡ getD (blockOf t k) 9 0 / 2
+  bits-kept k h = block-kept k h .bits
+
+  pub size-kept : length (serve x .table) ≡ length t
+  size-kept = call-keeping .size
+
+  pub sound-kept : checkTable (serve x .table) (length file) ≡ Sound count
+  sound-kept = keeping-sound t (serve x .table) count call-keeping (length file) says
 
 -- a question: no SAR, no effect
-pub question-kept : (req t file o : List ℕ) → commandOf req ≢ 301 → serve req t file o .table ≡ t
-question-kept req t file o n = go (turnedAway req t file o) refl
+pub question-kept : (x : Lent) → commandOf (x .request) ≢ 301 → serve x .table ≡ x .table
+question-kept x n = go (turnedAway x) refl
   where
-    go : (x : Bool) → turnedAway req t file o ≡ x → serve req t file o .table ≡ t
-    go true e = refused-kept req t file o e .0
-    go false e = counted req t file o e (λ count sound. after-call req t file o count sound (λ (x : List ℕ). x ≡ t) refl (λ a. absurd (n (a .command))))
+    go : (y : Bool) → turnedAway x ≡ y → serve x .table ≡ x .table
+    go true e = refused-kept x e .0
+    go false e = after-call x (checkValue (checkOf x)) (taken x e .table) (λ (y : List ℕ). y ≡ x .table) refl (λ a. absurd (n (a .command)))

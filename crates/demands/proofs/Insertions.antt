@@ -1,32 +1,44 @@
--- Demand 3: AVPs of unknown kinds put into a request after its first AVP. Without M nothing changes; the first with M is B5001, unless a fault before it decides.
+-- Demand 3: AVPs of unknown kinds put into a request after its first AVP. Without M nothing changes; the first with M is B5001, unless a fault before it
+-- decides.
 use Prim.Native.Nat.{ℕ, _+_, _%_, _≤_}
-use mathlib.Core.List.{List, [], _∷_, _++_}
-use mathlib.Core.Option.{none, some}
+use mathlib.Core.List.{List, [], _∷_, _++_, append-assoc}
+use mathlib.Core.Option.{some}
 use mathlib.Core.Bool.{Bool, true, false, not, cond, _||_, true≢false}
-use mathlib.Core.Path.{_≡_, refl, sym, ap, _∙_, fun-ext}
+use mathlib.Core.Path.{_≡_, refl, sym, ap, _∙_}
 use native.Mathlib.Omega.{arith}
-use lib.ListN.{length, length-append}
+use native.Mathlib.Nat.{zero-add}
+use lib.ListN.{length, drop, length-append}
 use lib.Dec.{eqb}
+use borrow.Author.Tests.{lt-ltb}
 use Rattle.pen.specs.Bytes.{ifThere}
+use Rattle.diameter.specs.Avp.{padded}
 use Rattle.diameter.specs.Walk.{Walk, ended, avp, walk}
 use Rattle.diameter.specs.Put.{glue, Piece, bytesOf, avpsOf, Whole, All}
 use Rattle.diameter.proofs.Pieces.{walk-pieces, row-even, avps-joined, glue-glue}
 use Rattle.reading.specs.declared.Dialect.{Dialect}
-use Rattle.reading.specs.declared.Outcome.the-variants.{Base}
+use Rattle.reading.specs.declared.Verdict.{Verdict}
 use Rattle.reading.specs.Kinds.{sessionId}
-use Rattle.reading.specs.Rules.{Seen, Judged, bad, fine, nothing, rule, onRule, judge}
-use Rattle.reading.specs.Request.{dialectOf, cx, headerFault, firstOther, complete, readWalk, example, identities}
-use Rattle.requests.proofs.Insert.{unknown-use, judge-unmarked, judge-marked, andThen, judge-glue, put-failed}
+use Rattle.reading.specs.Rules.{Seen, Judged, bad, fine, faultAt, nothing, judge}
+use Rattle.reading.specs.Request.{dialectOf, cx, headerFault, firstOther, missing, lacking, faultOf, complete, readWalk, readRequest, identities}
+use Rattle.requests.proofs.Insert.{unknown-use, judge-marked, andThen, judge-glue, past}
+use Rattle.failed.specs.Failing.{failedBy}
+use Rattle.failed.proofs.Fronts.{failed-piece, failed-whole}
 use Rattle.decisions.specs.Decide.{decideJudged, decide}
 use Rattle.reply.specs.Answer.{proxies}
-use Rattle.ndushavire.specs.Serve.{answered, noRequest, serve}
+use Rattle.ndushavire.specs.Lent.{Lent, asking}
+use Rattle.ndushavire.specs.Word.{checkValue}
+use Rattle.ndushavire.specs.Serve.{noRequest, checkOf, answered, decision, serve}
 use Rattle.demands.specs.Call.{turnedAway}
 use Rattle.demands.specs.Insertion.{message, requestOf, Foreign, isMarked, Quiet, Inserted, ending, keep, put, FirstMarked, isFault, faultIn, unsupported}
-use Rattle.demands.proofs.Refusals.{refused-kept, refused-alike, answered-is, counted}
-use Rattle.demands.proofs.Messages.{message-length, message-flags, message-read, readBody, Fit, size-right, length-right, Alike, served-same}
+use Rattle.demands.proofs.Refusals.{refused-kept, refused-alike, answered-is, taken}
+use Rattle.demands.proofs.Moved.{putBefore, Moved, faults, same, moved-as, past-later, past-drop, failed-there, Row-moved, row-moved, ends-none}
+use Rattle.demands.proofs.Moved.{ends-same}
+use Rattle.demands.proofs.Messages.{message-length, message-flags, message-drop, message-read, readBody, Fit, size-right, length-right, Alike}
+use Rattle.demands.proofs.Messages.{served-same}
 
 -- what a fold that passes over those put in makes of the longer row
-inserted-same : {X : Type 0} {P : Piece → Type 0} (f : Walk → X) → ((a : List ℕ) (v w : Walk) → f v ≡ f w → f (avp a v) ≡ f (avp a w)) → ((u : Piece) (w : Walk) → P u → f (avp (u .avp) w) ≡ f w)
+inserted-same : {X : Type 0} {P : Piece → Type 0} (f : Walk → X) → ((a : List ℕ) (v w : Walk) → f v ≡ f w → f (avp a v) ≡ f (avp a w))
+    → ((u : Piece) (w : Walk) → P u → f (avp (u .avp) w) ≡ f w)
     → {qs rs : List Piece} → Inserted P qs rs → (w : Walk) → f (glue (avpsOf rs) w) ≡ f (glue (avpsOf qs) w)
 unfolding glue avpsOf
 inserted-same f goes skips ending w = refl
@@ -54,17 +66,7 @@ inserted-joined ending j = j
 inserted-joined (keep q i) j = keep q (inserted-joined i j)
 inserted-joined (put u p i) j = put u p (inserted-joined i j)
 
--- the folds that pass over unknown kinds: the judgement those without M, the identities and the copies all of them
-judge-goes : (dialect : Dialect) (a : List ℕ) (v w : Walk) → judge dialect v ≡ judge dialect w → judge dialect (avp a v) ≡ judge dialect (avp a w)
-unfolding judge
-judge-goes dialect a v w e = fun-ext (λ seen. ap (onRule (rule dialect seen a) seen a) e)
-
-judge-skips : (dialect : Dialect) (u : Piece) (w : Walk) → Quiet u → judge dialect (avp (u .avp) w) ≡ judge dialect w
-judge-skips dialect u w p = judge-unmarked dialect (u .avp) w (p .foreign .plain) (unknown-use dialect (u .avp) (p .foreign .stranger)) (p .unmarked)
-
-quiet-judge : (dialect : Dialect) {qs rs : List Piece} → Inserted Quiet qs rs → (w : Walk) → judge dialect (glue (avpsOf rs) w) ≡ judge dialect (glue (avpsOf qs) w)
-quiet-judge dialect = inserted-same (judge dialect) (judge-goes dialect) (judge-skips dialect)
-
+-- the folds that pass over unknown kinds: the identities and the copies
 foreign-identities : {qs rs : List Piece} → Inserted Foreign qs rs → (w : Walk) → identities (glue (avpsOf rs) w) ≡ identities (glue (avpsOf qs) w)
 unfolding identities
 foreign-identities = inserted-same identities (λ a v w e. rw e) (λ u w p. rw (p .stranger))
@@ -76,55 +78,99 @@ foreign-proxies = inserted-same proxies (λ a v w e. rw e) (λ u w p. rw (p .str
 pub quiet-foreign : {qs rs : List Piece} → Inserted Quiet qs rs → Inserted Foreign qs rs
 quiet-foreign = inserted-as (λ u p. p .foreign)
 
-quiet-read : (head : List ℕ) (a : List ℕ) {qs rs : List Piece} → Inserted Quiet qs rs → (w : Walk)
-    → readBody head (avp a (glue (avpsOf rs) w)) ≡ readBody head (avp a (glue (avpsOf qs) w))
-unfolding readBody readWalk
-quiet-read head a {qs} {rs} i w =
-    let c = dialectOf cx head in
-    let e : judge c (avp a (glue (avpsOf rs) w)) nothing ≡ judge c (avp a (glue (avpsOf qs) w)) nothing =
-    ap (λ (f : Seen → Judged). f nothing) (judge-goes c a (glue (avpsOf rs) w) (glue (avpsOf qs) w) (quiet-judge c i w)) in
-    rw e
-
 -- What reading a request comes to, by the header's fault, by rule (b), by what the AVPs in front come to, and by those behind.
 readFrom : List ℕ → Bool → Bool → Judged → (Seen → Judged) → Judged
-readFrom head h f j next = cond h (cond f (bad (Base 5005) (some (example sessionId))) (complete (dialectOf cx head) (andThen j next))) (bad (Base (headerFault (dialectOf cx head) head)) none)
+readFrom head h f j next =
+    cond h (cond f (bad (lacking sessionId)) (complete (dialectOf cx head) (andThen j next))) (bad (faultOf (headerFault (dialectOf cx head) head)))
 
 abbrev frontOther : Piece → List Piece → Bool
 frontOther q ps = firstOther (glue (avpsOf (q ∷ ps)) ended)
 
 abbrev frontJudged : List ℕ → Piece → List Piece → Judged
-frontJudged head q ps = judge (dialectOf cx head) (glue (avpsOf (q ∷ ps)) ended) nothing
+frontJudged head q ps = judge (dialectOf cx head) 20 (glue (avpsOf (q ∷ ps)) ended) nothing
+
+abbrev placeBehind : Piece → List Piece → ℕ
+placeBehind q ps = past 20 (avpsOf (q ∷ ps))
 
 read-behind : (head : List ℕ) (q : Piece) (ps : List Piece) (w : Walk)
-    → readBody head (glue (avpsOf (q ∷ ps)) w) ≡ readFrom head (eqb (headerFault (dialectOf cx head) head) 0) (frontOther q ps) (frontJudged head q ps) (judge (dialectOf cx head) w)
+    → readBody head (glue (avpsOf (q ∷ ps)) w)
+    ≡ readFrom head (eqb (headerFault (dialectOf cx head) head) 0) (frontOther q ps) (frontJudged head q ps) (judge (dialectOf cx head) (placeBehind q ps) w)
 unfolding readFrom readBody readWalk avpsOf glue
-read-behind head q ps w = rw (judge-glue (dialectOf cx head) (avpsOf (q ∷ ps)) w nothing)
+read-behind head q ps w = rw (judge-glue (dialectOf cx head) 20 (avpsOf (q ∷ ps)) w nothing)
 
-fault-decides : (head : List ℕ) (h f : Bool) (j : Judged) (k l : Seen → Judged) → (not h || f || isFault j) ≡ true → readFrom head h f j k ≡ readFrom head h f j l
-unfolding readFrom andThen
-fault-decides head false f j k l e = refl
-fault-decides head true true j k l e = refl
-fault-decides head true false (bad r g) k l e = refl
-fault-decides head true false (fine seen) k l e = absurd (true≢false (sym e))
+-- no place is blamed, and no AVP of the request is in Failed-AVP
+module _ {long short : List ℕ} {more : ℕ → ℕ} (none : more 0 ≡ 0) where
+  fault-of : (n : ℕ) → Moved long short 0 more (bad (faultOf n)) (bad (faultOf n))
+  unfolding failedBy
+  fault-of n = faults (faultOf n) (faultOf n) (record { result = refl; lacks = refl; reached = omega arith; place = rw none; failed = refl })
 
-fault-keeps : (head : List ℕ) (h f : Bool) (j : Judged) (k : Seen → Judged) → (not h || f || isFault j) ≡ true → (req t : List ℕ) (count : ℕ) (file : List ℕ)
-    → decideJudged req t count file (readFrom head h f j k) .table ≡ t
-unfolding readFrom andThen complete decideJudged
-fault-keeps head false f j k e req t count file = refl
-fault-keeps head true true j k e req t count file = refl
-fault-keeps head true false (bad r g) k e req t count file = refl
-fault-keeps head true false (fine seen) k e req t count file = absurd (true≢false (sym e))
+  lacking-of : (k : ℕ) → Moved long short 0 more (bad (lacking k)) (bad (lacking k))
+  unfolding failedBy
+  lacking-of k = faults (lacking k) (lacking k) (record { result = refl; lacks = refl; reached = omega arith; place = rw none; failed = refl })
 
-none-decides : (head : List ℕ) (h f : Bool) (j : Judged) (k : Seen → Judged) (a : List ℕ) → (not h || f || isFault j) ≡ false → ((seen : Seen) → k seen ≡ bad (Base 5001) (some a))
-    → readFrom head h f j k ≡ bad (Base 5001) (some a)
-unfolding readFrom andThen complete
-none-decides head false f j k a e g = absurd (true≢false e)
-none-decides head true true j k a e g = absurd (true≢false e)
-none-decides head true false (bad r x) k a e g = absurd (true≢false e)
-none-decides head true false (fine seen) k a e g = rw (g seen)
+  complete-moved : (dialect : Dialect) {from : ℕ} {j k : Judged} → Moved long short from more j k
+      → Moved long short 0 more (complete dialect j) (complete dialect k)
+  unfolding complete
+  complete-moved dialect (faults v w l) = moved-as (omega arith) (λ p h. refl) (faults v w l)
+  complete-moved dialect (same seen) = go (eqb (missing dialect seen) 0)
+    where
+      go : (x : Bool)
+          → Moved long short 0 more (cond x (fine seen) (bad (lacking (missing dialect seen)))) (cond x (fine seen) (bad (lacking (missing dialect seen))))
+      go true = same seen
+      go false = lacking-of (missing dialect seen)
 
-mark-judged : (dialect : Dialect) (m : Piece) (w : Walk) (seen : Seen) → Foreign m → isMarked m ≡ true → judge dialect (avp (m .avp) w) seen ≡ bad (Base 5001) (some (m .avp))
-mark-judged dialect m w seen f e = judge-marked dialect (m .avp) w (f .plain) (unknown-use dialect (m .avp) (f .stranger)) seen e ∙ rw (put-failed m 5001 (f .whole) refl)
+  -- the AVPs and what is behind them
+  walk-moved : (head : List ℕ) (v w : Walk) → firstOther v ≡ firstOther w
+      → Moved long short 20 more (judge (dialectOf cx head) 20 v nothing) (judge (dialectOf cx head) 20 w nothing)
+      → Moved long short 0 more (readBody head v) (readBody head w)
+  unfolding readBody readWalk
+  walk-moved head v w o m = rw o (go (eqb (headerFault (dialectOf cx head) head) 0) (firstOther w))
+    where
+      go : (h f : Bool)
+          → Moved long short 0 more
+          (cond h (cond f (bad (lacking sessionId)) (complete (dialectOf cx head) (judge (dialectOf cx head) 20 v nothing)))
+          (bad (faultOf (headerFault (dialectOf cx head) head))))
+          (cond h (cond f (bad (lacking sessionId)) (complete (dialectOf cx head) (judge (dialectOf cx head) 20 w nothing)))
+          (bad (faultOf (headerFault (dialectOf cx head) head))))
+      go false f = fault-of (headerFault (dialectOf cx head) head)
+      go true true = lacking-of sessionId
+      go true false = complete-moved (dialectOf cx head) m
+
+  -- a fault in front decides, whatever is behind
+  fault-decides : (head : List ℕ) (h f : Bool) {from : ℕ} {i j : Judged} (k l : Seen → Judged) → Moved long short from more i j
+      → (not h || f || isFault j) ≡ true
+      → Moved long short 0 more (readFrom head h f i k) (readFrom head h f j l)
+  unfolding readFrom andThen complete
+  fault-decides head false f k l m e = fault-of (headerFault (dialectOf cx head) head)
+  fault-decides head true true k l m e = lacking-of sessionId
+  fault-decides head true false k l (faults x y m) e = moved-as (omega arith) (λ p h. refl) (faults x y m)
+  fault-decides head true false k l (same seen) e = absurd (true≢false (sym e))
+
+  fault-keeps : (head : List ℕ) (h f : Bool) {from : ℕ} {i j : Judged} (k : Seen → Judged) → Moved long short from more i j → (not h || f || isFault j) ≡ true
+      → (req t : List ℕ) (count : ℕ) (file : List ℕ) → decideJudged req t count file (readFrom head h f i k) .table ≡ t
+  unfolding readFrom andThen complete decideJudged
+  fault-keeps head false f k m e req t count file = refl
+  fault-keeps head true true k m e req t count file = refl
+  fault-keeps head true false k (faults x y m) e req t count file = refl
+  fault-keeps head true false k (same seen) e req t count file = absurd (true≢false (sym e))
+
+  none-decides : (head : List ℕ) (h f : Bool) {from : ℕ} {i j : Judged} (k : Seen → Judged) (v : Verdict) → Moved long short from more i j
+      → (not h || f || isFault j) ≡ false
+      → ((seen : Seen) → k seen ≡ bad v) → readFrom head h f i k ≡ bad v
+  unfolding readFrom andThen complete
+  none-decides head false f k v m e g = absurd (true≢false e)
+  none-decides head true true k v m e g = absurd (true≢false e)
+  none-decides head true false k v (faults x y m) e g = absurd (true≢false e)
+  none-decides head true false k v (same seen) e g = rw (g seen)
+
+mark-judged : (dialect : Dialect) (at : ℕ) (m : Piece) (w : Walk) (seen : Seen) → Foreign m → isMarked m ≡ true
+    → judge dialect at (avp (m .avp) w) seen ≡ bad (faultAt 5001 at)
+mark-judged dialect at m w seen f e = judge-marked dialect at (m .avp) w seen (f .plain) (unknown-use dialect (m .avp) (f .stranger)) e
+
+-- before the first AVP nothing was put in
+none-before : (q : Piece) {qs rs : List Piece} (i : Inserted Quiet qs rs) → putBefore (keep q i) 20 0 ≡ 0
+unfolding putBefore
+none-before q i = rw (lt-ltb 0 (20 + padded (length (q .avp))) (omega arith))
 
 -- A request, the row of its AVPs after the first, the longer row, and what is behind it.
 module _ (head : List ℕ) (twenty : length head ≡ 20) (q : Piece) (qs rs : List Piece) (whole : All Whole (q ∷ qs)) (tail : List ℕ) (fours : length tail % 4 ≡ 0)
@@ -168,11 +214,12 @@ module _ (head : List ℕ) (twenty : length head ≡ 20) (q : Piece) (qs rs : Li
     unfolding avpsOf glue
     both-named = rw (long-walk, short-walk) (foreign-identities (keep q i) (walk tail))
 
-    both-served : readBody head (walk long) ≡ readBody head (walk short) → (t file o : List ℕ) → serve (message head long) t file o ≡ serve (message head short) t file o
-    both-served e t file o = served-same head twenty long short both-alike e both-named t file o long-fit short-fit
+    both-served : {from : ℕ} {more : ℕ → ℕ} → Moved (message head long) (message head short) from more (readBody head (walk long)) (readBody head (walk short))
+        → (x : Lent) → serve (asking x (message head long)) ≡ serve (asking x (message head short))
+    both-served e x = served-same head twenty long short both-alike e both-named x long-fit short-fit
 
-    turned-same : (t file o : List ℕ) → turnedAway (message head long) t file o ≡ turnedAway (message head short) t file o
-    turned-same t file o =
+    turned-same : (x : Lent) → turnedAway (asking x (message head long)) ≡ turnedAway (asking x (message head short))
+    turned-same x =
         rw (
           size-right head twenty long long-fit,
           size-right head twenty short short-fit,
@@ -182,19 +229,45 @@ module _ (head : List ℕ) (twenty : length head ≡ 20) (q : Piece) (qs rs : Li
           message-flags head twenty short,
         )
 
-    pub refused-same : (t file o : List ℕ) → turnedAway (message head short) t file o ≡ true → serve (message head long) t file o ≡ serve (message head short) t file o
-    refused-same t file o e =
+    pub refused-same : (x : Lent) → turnedAway (asking x (message head short)) ≡ true
+        → serve (asking x (message head long)) ≡ serve (asking x (message head short))
+    refused-same x e =
         let size = size-right head twenty long long-fit ∙ sym (size-right head twenty short short-fit) in
         let lengths = length-right head twenty long long-fit ∙ sym (length-right head twenty short short-fit) in
         let flags : noRequest (message head long) ≡ noRequest (message head short) = rw (message-flags head twenty long, message-flags head twenty short) in
-        refused-alike (message head long) (message head short) t file o size lengths flags e
+        refused-alike x (message head long) (message head short) size lengths flags e
 
-  pub unmarked-same : Inserted Quiet qs rs → (t file o : List ℕ) → serve (message head long) t file o ≡ serve (message head short) t file o
-  unmarked-same j = let i = quiet-foreign j in both-served i (rw (long-walk i, short-walk) (quiet-read head (q .avp) j (walk tail)))
+  -- the verdict of reading: the place of the AVP at fault moves by what was put in before it
+  pub unmarked-moved : (j : Inserted Quiet qs rs)
+      → Moved (message head long) (message head short) 0 (putBefore (keep q j) 20) (readBody head (walk long)) (readBody head (walk short))
+  unfolding Row-moved avpsOf glue
+  unmarked-moved j =
+      let s = message head short in
+      let l = message head long in
+      let w = walk tail in
+      let ends = ends-same (dialectOf cx head) l s tail fours in
+      let m = row-moved (dialectOf cx head) l s tail tail w w ends (keep q j) whole 20 0 (omega arith) (message-drop head twenty long)
+      (message-drop head twenty short) nothing in
+      rw (long-walk (quiet-foreign j), short-walk)
+      (walk-moved (none-before q j) head (avp (q .avp) (glue (avpsOf rs) w)) (avp (q .avp) (glue (avpsOf qs) w)) refl
+      (moved-as (omega arith) (λ p h. zero-add (putBefore (keep q j) 20 p)) m))
+
+  pub unmarked-same : Inserted Quiet qs rs → (x : Lent) → serve (asking x (message head long)) ≡ serve (asking x (message head short))
+  unmarked-same j = both-served (quiet-foreign j) (unmarked-moved j)
 
 -- Some are marked: the row before the first marked one decides, or that one does.
 marked-inserted : {qs rs : List Piece} → FirstMarked qs rs → Inserted Foreign qs rs
 marked-inserted m = rw (m .row, m .longer) (inserted-joined (quiet-foreign (m .quiet)) (put (m .mark) (m .foreign) (m .rest)))
+
+-- rows joined
+bytes-joined : (qs ps : List Piece) → bytesOf (qs ++ ps) ≡ bytesOf qs ++ bytesOf ps
+unfolding bytesOf
+bytes-joined [] ps = refl
+bytes-joined (q ∷ qs) ps = rw (bytes-joined qs ps) (sym (append-assoc (q .avp ++ q .pad) (bytesOf qs) (bytesOf ps)))
+
+whole-front : (qs ps : List Piece) → All Whole (qs ++ ps) → All Whole qs
+whole-front [] ps h = tt
+whole-front (q ∷ qs) ps h = (h .0, whole-front qs ps (h .1))
 
 row-joined : (q : Piece) (ps ss : List Piece) (w : Walk) → glue (avpsOf (q ∷ ps ++ ss)) w ≡ glue (avpsOf (q ∷ ps)) (glue (avpsOf ss) w)
 row-joined q ps ss w = rw (avps-joined (q ∷ ps) ss) (glue-glue (avpsOf (q ∷ ps)) (avpsOf ss) w)
@@ -213,69 +286,129 @@ module _ (head : List ℕ) (twenty : length head ≡ 20) (q : Piece) (qs rs : Li
   abbrev headed : Bool
   headed = eqb (headerFault (dialectOf cx head) head) 0
 
-  abbrev behind : List Piece → Seen → Judged
-  behind ps = judge (dialectOf cx head) (glue (avpsOf ps) (walk tail))
+  -- the bytes of both, with the row in front apart
+  long-bytes : bytesOf (q ∷ rs) ++ tail ≡ bytesOf (q ∷ m .before) ++ (bytesOf (m .mark ∷ m .after) ++ tail)
+  long-bytes =
+      rw (m .longer) (rw (bytes-joined (q ∷ m .before) (m .mark ∷ m .after)) (append-assoc (bytesOf (q ∷ m .before)) (bytesOf (m .mark ∷ m .after)) tail))
 
-  -- what reading comes to, by those behind the front row
-  reading : (Seen → Judged) → Judged
-  reading = readFrom head headed (frontOther q (m .front)) (frontJudged head q (m .front))
+  short-bytes : bytesOf (q ∷ qs) ++ tail ≡ bytesOf (q ∷ m .front) ++ (bytesOf (m .back) ++ tail)
+  short-bytes = rw (m .row) (rw (bytes-joined (q ∷ m .front) (m .back)) (append-assoc (bytesOf (q ∷ m .front)) (bytesOf (m .back)) tail))
 
-  front-same : frontJudged head q (m .before) ≡ frontJudged head q (m .front)
-  front-same = ap (λ (f : Seen → Judged). f nothing) (quiet-judge (dialectOf cx head) (keep q (m .quiet)) ended)
+  front-whole : All Whole (q ∷ m .front)
+  front-whole = whole-front (q ∷ m .front) (m .back) (rw (m .row) at whole)
+
+  before-whole : All Whole (q ∷ m .before)
+  before-whole = (whole .0, inserted-whole (λ u p. p .foreign .whole) (m .quiet) (front-whole .1))
+
+  abbrev rest : List ℕ
+  rest = bytesOf (m .mark ∷ m .after) ++ tail
+
+  abbrev frontal : Inserted Quiet (q ∷ m .front) (q ∷ m .before)
+  frontal = keep q (m .quiet)
+
+  -- those in front, in both messages
+  front-moved : Moved longer shorter 20 (putBefore frontal 20) (frontJudged head q (m .before)) (frontJudged head q (m .front))
+  unfolding Row-moved
+  front-moved =
+      moved-as (omega arith) (λ p h. zero-add (putBefore frontal 20 p))
+      (row-moved (dialectOf cx head) longer shorter rest (bytesOf (m .back) ++ tail) ended ended
+      (ends-none (dialectOf cx head) longer shorter rest (bytesOf (m .back) ++ tail)) frontal
+      front-whole 20 0 (omega arith) (message-drop head twenty (bytesOf (q ∷ rs) ++ tail) ∙ long-bytes)
+      (message-drop head twenty (bytesOf (q ∷ qs) ++ tail) ∙ short-bytes) nothing)
 
   other-same : frontOther q (m .before) ≡ frontOther q (m .front)
   unfolding avpsOf glue
   other-same = refl
 
-  long-read : readBody head (walk (bytesOf (q ∷ rs) ++ tail)) ≡ reading (behind (m .mark ∷ m .after))
-  unfolding reading
+  -- the place of the first that is marked
+  abbrev markPlace : ℕ
+  markPlace = placeBehind q (m .before)
+
+  abbrev behind : ℕ → List Piece → Seen → Judged
+  behind at ps = judge (dialectOf cx head) at (glue (avpsOf ps) (walk tail))
+
+  abbrev longRead : Judged
+  longRead = readFrom head headed (frontOther q (m .front)) (frontJudged head q (m .before)) (behind markPlace (m .mark ∷ m .after))
+
+  long-read : readBody head (walk (bytesOf (q ∷ rs) ++ tail)) ≡ longRead
   long-read =
       ap (readBody head)
       (walk-pieces (q ∷ rs) tail (long-whole head twenty q qs rs whole tail fours most i)
       ∙ ap (λ (l : List Piece). glue (avpsOf (q ∷ l)) (walk tail)) (m .longer)
       ∙ row-joined q (m .before) (m .mark ∷ m .after) (walk tail))
       ∙ read-behind head q (m .before) (glue (avpsOf (m .mark ∷ m .after)) (walk tail))
-      ∙ rw (front-same, other-same)
+      ∙ rw other-same
 
-  short-read : readBody head (walk (bytesOf (q ∷ qs) ++ tail)) ≡ reading (behind (m .back))
-  unfolding reading
+  short-read : readBody head (walk (bytesOf (q ∷ qs) ++ tail))
+      ≡ readFrom head headed (frontOther q (m .front)) (frontJudged head q (m .front)) (behind (placeBehind q (m .front)) (m .back))
   short-read =
       ap (readBody head)
       (walk-pieces (q ∷ qs) tail whole ∙ ap (λ (l : List Piece). glue (avpsOf (q ∷ l)) (walk tail)) (m .row) ∙ row-joined q (m .front) (m .back) (walk tail))
       ∙ read-behind head q (m .front) (glue (avpsOf (m .back)) (walk tail))
 
-  pub fault-first : faultIn head (q ∷ m .front) ≡ true → (t file o : List ℕ) → serve longer t file o ≡ serve shorter t file o
-  unfolding faultIn reading
-  fault-first e =
-      both-served head twenty q qs rs whole tail fours most i
-      (long-read ∙ fault-decides head headed (frontOther q (m .front)) (frontJudged head q (m .front)) (behind (m .mark ∷ m .after)) (behind (m .back)) e ∙ sym short-read)
+  -- a fault before the first marked one decides: the same verdict, its place moved by what was put in before it
+  pub fault-moved : faultIn head (q ∷ m .front) ≡ true
+      → Moved longer shorter 0 (putBefore frontal 20) (readBody head (walk (bytesOf (q ∷ rs) ++ tail))) (readBody head (walk (bytesOf (q ∷ qs) ++ tail)))
+  unfolding faultIn
+  fault-moved e = rw (long-read, short-read) (fault-decides (none-before q (m .quiet)) head headed (frontOther q (m .front)) _ _ front-moved e)
 
-  long-decides : (t : List ℕ) (count : ℕ) (file : List ℕ) → decide longer t count file ≡ decideJudged longer t count file (reading (behind (m .mark ∷ m .after)))
+  pub fault-first : faultIn head (q ∷ m .front) ≡ true → (x : Lent) → serve (asking x longer) ≡ serve (asking x shorter)
+  fault-first e = both-served head twenty q qs rs whole tail fours most i (fault-moved e)
+
+  -- else the marked one does: its place is where it stands
+  pub mark-read : faultIn head (q ∷ m .front) ≡ false → readRequest longer ≡ bad (faultAt 5001 markPlace)
+  unfolding faultIn avpsOf glue
+  mark-read e =
+      message-read head twenty (bytesOf (q ∷ rs) ++ tail)
+      ∙ long-read
+      ∙ none-decides (none-before q (m .quiet)) head headed (frontOther q (m .front)) (behind markPlace (m .mark ∷ m .after))
+      (faultAt 5001 markPlace) front-moved e
+      (λ seen. mark-judged (dialectOf cx head) markPlace (m .mark) (glue (avpsOf (m .after)) (walk tail)) seen (m .foreign) (m .marking))
+
+  pub mark-there : drop markPlace longer ≡ rest
+  mark-there = past-drop longer 20 (q ∷ m .before) rest before-whole (message-drop head twenty (bytesOf (q ∷ rs) ++ tail) ∙ long-bytes)
+
+  mark-failed : failedBy longer (faultAt 5001 markPlace) ≡ some (m .mark .avp)
+  unfolding bytesOf
+  mark-failed =
+      failed-there longer 5001 markPlace (omega (arith, past-later 20 (avpsOf (q ∷ m .before))))
+      ∙ rw (
+        mark-there,
+        append-assoc (m .mark .avp ++ m .mark .pad) (bytesOf (m .after)) tail,
+        failed-piece (m .mark) (bytesOf (m .after) ++ tail) 5001
+            (m .foreign .whole),
+      )
+      (ap some (failed-whole (m .mark) 5001 (m .foreign .whole) refl))
+
+  mark-decides : faultIn head (q ∷ m .front) ≡ false → (t : List ℕ) (count : ℕ) (file : List ℕ) → decide longer t count file ≡ unsupported t (m .mark)
+  unfolding decide decideJudged
+  mark-decides e t count file = rw (mark-read e, mark-failed)
+
+  pub mark-answered : faultIn head (q ∷ m .front) ≡ false → (x : Lent) → turnedAway (asking x shorter) ≡ false
+      → serve (asking x longer) ≡ answered (asking x longer) (unsupported (x .table) (m .mark))
+  mark-answered e x away =
+      let f : turnedAway (asking x longer) ≡ false = turned-same head twenty q qs rs whole tail fours most i x ∙ away in
+      let count = checkValue (checkOf x) in
+      answered-is (asking x longer) count (taken (asking x longer) f .table) f ∙ ap (answered (asking x longer)) (mark-decides e (x .table) count (x .profile))
+
+  long-decides : (t : List ℕ) (count : ℕ) (file : List ℕ) → decide longer t count file ≡ decideJudged longer t count file longRead
   unfolding decide
   long-decides t count file = rw (message-read head twenty (bytesOf (q ∷ rs) ++ tail), long-read)
 
-  mark-decides : faultIn head (q ∷ m .front) ≡ false → (t : List ℕ) (count : ℕ) (file : List ℕ) → decide longer t count file ≡ unsupported t (m .mark)
-  unfolding faultIn decideJudged avpsOf glue reading
-  mark-decides e t count file =
-      long-decides t count file
-      ∙ rw (none-decides head headed (frontOther q (m .front)) (frontJudged head q (m .front)) (behind (m .mark ∷ m .after)) (m .mark .avp) e
-      (λ seen. mark-judged (dialectOf cx head) (m .mark) (glue (avpsOf (m .after)) (walk tail)) seen (m .foreign) (m .marking)))
-
-  pub mark-answered : faultIn head (q ∷ m .front) ≡ false → (t file o : List ℕ) → turnedAway shorter t file o ≡ false
-      → serve longer t file o ≡ answered longer t o (unsupported t (m .mark))
-  mark-answered e t file o away =
-      let f : turnedAway longer t file o ≡ false = turned-same head twenty q qs rs whole tail fours most i t file o ∙ away in
-      counted longer t file o f (λ count sound. answered-is longer t file o count sound f ∙ ap (answered longer t o) (mark-decides e t count file))
-
-  pub marked-kept : (t file o : List ℕ) → serve longer t file o .table ≡ t
-  unfolding answered faultIn reading
-  marked-kept t file o = go (turnedAway longer t file o) refl (faultIn head (q ∷ m .front)) refl
+  pub marked-kept : (x : Lent) → serve (asking x longer) .table ≡ x .table
+  unfolding answered faultIn
+  marked-kept x = go (turnedAway (asking x longer)) refl (faultIn head (q ∷ m .front)) refl
     where
-      go : (x : Bool) → turnedAway longer t file o ≡ x → (y : Bool) → faultIn head (q ∷ m .front) ≡ y → serve longer t file o .table ≡ t
-      go true e y f = refused-kept longer t file o e .0
+      count : ℕ
+      count = checkValue (checkOf x)
+
+      answers : turnedAway (asking x longer) ≡ false → serve (asking x longer) ≡ answered (asking x longer) (decision (asking x longer) count)
+      answers e = answered-is (asking x longer) count (taken (asking x longer) e .table) e
+
+      go : (y : Bool) → turnedAway (asking x longer) ≡ y → (z : Bool) → faultIn head (q ∷ m .front) ≡ z → serve (asking x longer) .table ≡ x .table
+      go true e z f = refused-kept (asking x longer) e .0
       go false e true f =
-          counted longer t file o e
-          (λ count sound.
-          rw (answered-is longer t file o count sound e, long-decides t count file)
-          (fault-keeps head headed (frontOther q (m .front)) (frontJudged head q (m .front)) (behind (m .mark ∷ m .after)) f longer t count file))
-      go false e false f = counted longer t file o e (λ count sound. rw (answered-is longer t file o count sound e, mark-decides f t count file))
+          rw (answers e, long-decides (x .table) count (x .profile))
+          (fault-keeps (none-before q (m .quiet)) head headed (frontOther q (m .front)) (behind markPlace (m .mark ∷ m .after)) front-moved f longer (x .table)
+          count (x .profile))
+      go false e false f = rw (answers e, mark-decides f (x .table) count (x .profile))

@@ -7,4 +7,6 @@ pub mod Frame
 pub mod Insertions
 pub mod Longer
 pub mod Messages
+pub mod Moved
 pub mod Refusals
+pub mod Trials

@@ -8,9 +8,11 @@ use mathlib.Core.Logic.{_⊎_, inl, inr}
 use native.Mathlib.Omega.{arith}
 use lib.ListN.{length}
 use Rattle.diameter.specs.Put.{Piece, Whole, All}
-use Rattle.ndushavire.specs.Serve.{Served, answered, serve}
+use Rattle.ndushavire.specs.Lent.{Lent, asking}
+use Rattle.ndushavire.specs.Serve.{answered, serve}
 use Rattle.demands.specs.Call.{turnedAway}
-use Rattle.demands.specs.Insertion.{requestOf, Foreign, isMarked, Quiet, Inserted, ending, keep, put, FirstMarked, faultIn, unsupported, Longer, Mark, behind, firstMark, newer, Newer}
+use Rattle.demands.specs.Insertion.{requestOf, Foreign, isMarked, Quiet, Inserted, ending, keep, put, FirstMarked, faultIn, unsupported, Longer, Mark}
+use Rattle.demands.specs.Insertion.{behind, firstMark, newer, Newer}
 use Rattle.demands.proofs.Insertions.{unmarked-same, refused-same, marked-kept, mark-answered, fault-first}
 
 -- the mark that is found, with the rows around it
@@ -71,7 +73,8 @@ split-put : (u : Piece) (f : Foreign u) {qs rs : List Piece} (i : Inserted Forei
 unfolding firstMark
 split-put u f {qs} {rs} i s true h =
     inr (record {
-      first = record { mark = u; front = []; back = qs; before = []; after = rs; row = refl; longer = refl; quiet = ending; foreign = f; marking = h; rest = i };
+      first =
+          record { mark = u; front = []; back = qs; before = []; after = rs; row = refl; longer = refl; quiet = ending; foreign = f; marking = h; rest = i };
       is = rw h;
     })
 split-put u f i s false h = split-quiet u f h i s
@@ -91,42 +94,43 @@ marked-or-not {qs} {rs} i = go (split i)
 
 -- A request, its AVPs after the first, the longer row, and what is behind it.
 module _ (head : List ℕ) (twenty : length head ≡ 20) (q : Piece) (qs rs : List Piece) (whole : All Whole (q ∷ qs)) (tail : List ℕ) (fours : length tail % 4 ≡ 0)
-    (most : length (requestOf head (q ∷ rs) tail) ≤ 16384) (t file o : List ℕ) (i : Inserted Foreign qs rs) where
-  abbrev short : List ℕ
-  short = requestOf head (q ∷ qs) tail
+    (most : length (requestOf head (q ∷ rs) tail) ≤ 16384) (x : Lent) (i : Inserted Foreign qs rs) where
+  abbrev short : Lent
+  short = asking x (requestOf head (q ∷ qs) tail)
 
-  abbrev long : List ℕ
-  long = requestOf head (q ∷ rs) tail
+  abbrev long : Lent
+  long = asking x (requestOf head (q ∷ rs) tail)
 
-  marked-newer : (m : FirstMarked qs rs) (x y : Bool) → turnedAway short t file o ≡ x → faultIn head (q ∷ m .front) ≡ y
-      → serve long t file o ≡ cond (x || y) (serve short t file o) (answered long t o (unsupported t (m .mark)))
-  marked-newer m true y a b = refused-same head twenty q qs rs whole tail fours most i t file o a
-  marked-newer m false true a b = fault-first head twenty q qs rs whole tail fours most m b t file o
-  marked-newer m false false a b = mark-answered head twenty q qs rs whole tail fours most m b t file o a
+  marked-newer : (m : FirstMarked qs rs) (y z : Bool) → turnedAway short ≡ y → faultIn head (q ∷ m .front) ≡ z
+      → serve long ≡ cond (y || z) (serve short) (answered long (unsupported (x .table) (m .mark)))
+  marked-newer m true z a b = refused-same head twenty q qs rs whole tail fours most i x a
+  marked-newer m false true a b = fault-first head twenty q qs rs whole tail fours most m b x
+  marked-newer m false false a b = mark-answered head twenty q qs rs whole tail fours most m b x a
 
-  row-newer : Split i → serve long t file o ≡ newer short long t file o head q (firstMark i)
+  row-newer : Split i → serve long ≡ newer short (long .request) head q (firstMark i)
   unfolding newer
-  row-newer (inl (e, j)) = rw e (unmarked-same head twenty q qs rs whole tail fours most j t file o)
-  row-newer (inr f) = rw (f .is) (marked-newer (f .first) (turnedAway short t file o) (faultIn head (q ∷ f .first .front)) refl refl)
+  row-newer (inl (e, j)) = rw e (unmarked-same head twenty q qs rs whole tail fours most j x)
+  row-newer (inr f) = rw (f .is) (marked-newer (f .first) (turnedAway short) (faultIn head (q ∷ f .first .front)) refl refl)
 
-  row-kept : Split i → (m : Mark) → firstMark i ≡ some m → serve long t file o .table ≡ t
+  row-kept : Split i → (m : Mark) → firstMark i ≡ some m → serve long .table ≡ x .table
   row-kept (inl (e, j)) m g = absurd (Option·none-ne-some m (sym e ∙ g))
-  row-kept (inr f) m g = marked-kept head twenty q qs rs whole tail fours most (f .first) t file o
+  row-kept (inr f) m g = marked-kept head twenty q qs rs whole tail fours most (f .first) x
 
 -- The same of the bytes.
-pub longer-newer : (req longer t file o : List ℕ) (l : Longer req longer) → Newer req longer t file o l
-longer-newer req longer t file o l =
+pub longer-newer : (x : Lent) (longer : List ℕ) (l : Longer (x .request) longer) → Newer x longer l
+longer-newer x longer l =
     let c = l .cut in
-    let short = requestOf (c .head) (c .first ∷ c .rest) (c .tail) in
     let long = requestOf (c .head) (c .first ∷ l .row) (c .tail) in
     let most : length long ≤ 16384 = omega (arith, l .most, ap length (l .bytes)) in
-    let same : serve longer t file o ≡ serve long t file o = ap (λ (x : List ℕ). serve x t file o) (l .bytes) in
+    let same : serve (asking x longer) ≡ serve (asking x long) = ap (λ (y : List ℕ). serve (asking x y)) (l .bytes) in
     let m = firstMark (l .inserted) in
     record {
       comes =
           same
-          ∙ row-newer (c .head) (c .twenty) (c .first) (c .rest) (l .row) (c .whole) (c .tail) (c .fours) most t file o (l .inserted) (split (l .inserted))
-          ∙ ap (λ (x : List ℕ). newer x long t file o (c .head) (c .first) m) (sym (c .joined))
-          ∙ ap (λ (x : List ℕ). newer req x t file o (c .head) (c .first) m) (sym (l .bytes));
-      table = λ n e. rw same (row-kept (c .head) (c .twenty) (c .first) (c .rest) (l .row) (c .whole) (c .tail) (c .fours) most t file o (l .inserted) (split (l .inserted)) n e);
+          ∙ row-newer (c .head) (c .twenty) (c .first) (c .rest) (l .row) (c .whole) (c .tail) (c .fours) most x (l .inserted) (split (l .inserted))
+          ∙ ap (λ (y : List ℕ). newer (asking x y) long (c .head) (c .first) m) (sym (c .joined))
+          ∙ ap (λ (y : List ℕ). newer x y (c .head) (c .first) m) (sym (l .bytes));
+      table =
+          λ n e. rw same (row-kept (c .head) (c .twenty) (c .first) (c .rest) (l .row) (c .whole) (c .tail) (c .fours) most x (l .inserted)
+          (split (l .inserted)) n e);
     }

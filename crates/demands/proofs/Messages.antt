@@ -14,19 +14,18 @@ use Rattle.octets.specs.Number.{be24At, putBe24}
 use Rattle.octets.proofs.Numbers.{be24-alike, be32-alike, field-put}
 use Rattle.diameter.specs.Walk.{Walk, walk}
 use Rattle.table.specs.Blocks.{blockOf}
-use Rattle.table.specs.Check.{checkTable}
-use Rattle.table.specs.declared.Checked.{Checked}
-use Rattle.table.specs.declared.Checked.the-variants.{Sound, Bad}
 use Rattle.reading.specs.declared.Dialect.{Dialect}
-use Rattle.reading.specs.declared.Outcome.the-variants.{Base}
-use Rattle.reading.specs.Rules.{Judged, bad, fine}
-use Rattle.reading.specs.Request.{commandOf, dialectOf, cx, headerFault, bodyOf, readWalk, readIn, readRequest, identities, sessionOf}
+use Rattle.reading.specs.Rules.{Judged, bad}
+use Rattle.reading.specs.Request.{commandOf, dialectOf, cx, headerFault, bodyOf, faultOf, readWalk, readIn, readRequest, identities, sessionOf}
 use Rattle.decisions.specs.Reply.{Reply}
 use Rattle.decisions.specs.Assignment.{Decision}
 use Rattle.decisions.specs.Decide.{assignmentOf, decideRead, decideJudged, decide}
 use Rattle.reply.specs.Answer.{proxies, endBytes, bodyBytes, headerBytes, answerBytes}
-use Rattle.ndushavire.specs.Serve.{refused, answered, smallBuffer, wrongSize, wrongLength, noRequest, serveChecked, serve}
+use Rattle.ndushavire.specs.Lent.{Lent, asking}
+use Rattle.ndushavire.specs.Word.{checkValue}
+use Rattle.ndushavire.specs.Serve.{wrongSize, wrongLength, checkOf, refused, answered, decision, serve}
 use Rattle.demands.specs.Insertion.{message}
+use Rattle.demands.proofs.Moved.{Moved, faults, same}
 
 -- a header with another length field
 module _ (head : List ℕ) (n : ℕ) where
@@ -94,16 +93,19 @@ module _ (head : List ℕ) (twenty : length head ≡ 20) (body : List ℕ) where
       let l : 15 ≤ length (drop 5 (putBe24 head 1 n)) = rw (length-drop, front) (omega arith) in
       rw (drop-append-le 5 (putBe24 head 1 n) body (omega (arith, front)), take-append-le 15 (drop 5 (putBe24 head 1 n)) body l, put-past head n)
 
-  pub message-body : bodyOf (message head body) ≡ walk body
+  pub message-drop : drop 20 (message head body) ≡ body
   unfolding message
-  message-body = rw (drop-at (putBe24 head 1 n) body 20 front)
+  message-drop = drop-at (putBe24 head 1 n) body 20 front
+
+  pub message-body : bodyOf (message head body) ≡ walk body
+  message-body = rw message-drop
 
   pub message-field : n < 16777216 → be24At (message head body) 1 ≡ n
   message-field h = be24-alike (message head body) (putBe24 head 1 n) 1 1 (λ j l. message-put (1 + j) (omega arith)) ∙ field-put head 1 n (omega arith) h
 
 -- reading a message: its header's fault, else its walk
 unfoldable pub readBody : List ℕ → Walk → Judged
-readBody head w = cond (eqb (headerFault (dialectOf cx head) head) 0) (readWalk (dialectOf cx head) w) (bad (Base (headerFault (dialectOf cx head) head)) none)
+readBody head w = cond (eqb (headerFault (dialectOf cx head) head) 0) (readWalk (dialectOf cx head) w) (bad (faultOf (headerFault (dialectOf cx head) head)))
 
 pub message-read : (head : List ℕ) → length head ≡ 20 → (body : List ℕ) → readRequest (message head body) ≡ readBody head (walk body)
 unfolding readIn readBody
@@ -128,52 +130,56 @@ module _ (head : List ℕ) (twenty : length head ≡ 20) (body : List ℕ) (fit 
         eq-eqb ((20 + length body) % 4) 0 (omega (arith, fit .fours)),
       )
 
-  pub message-served : (t file o : List ℕ) → serve (message head body) t file o
-      ≡ cond (smallBuffer o) (refused 1 0 t o) (cond (noRequest head) (refused 4 0 t o) (serveChecked (message head body) t file o (checkTable t (length file))))
-  unfolding serve
-  message-served t file o = rw (size-right, length-right, message-flags head twenty body)
-
 -- two bodies of which the answer copies the same
 pub record Alike (v w : Walk) : Type 0 where
   pub session : sessionOf v ≡ sessionOf w
   pub copies : proxies v ≡ proxies w
 
-module _ (head : List ℕ) (twenty : length head ≡ 20) (x y : List ℕ) (alike : Alike (walk x) (walk y)) where
-  answer-same : (h : List ℕ) (r : Reply) → answerBytes (message head x) h r ≡ answerBytes (message head y) h r
+module _ (head : List ℕ) (twenty : length head ≡ 20) (b c : List ℕ) (alike : Alike (walk b) (walk c)) where
+  answer-same : (h : List ℕ) (r : Reply) → answerBytes (message head b) h r ≡ answerBytes (message head c) h r
   unfolding answerBytes headerBytes bodyBytes endBytes
   answer-same h r =
       rw (
-        message-flags head twenty x,
-        message-flags head twenty y,
-        message-rest head twenty x,
-        message-rest head twenty y,
-        message-body head twenty x,
-        message-body head twenty y,
+        message-flags head twenty b,
+        message-flags head twenty c,
+        message-rest head twenty b,
+        message-rest head twenty c,
+        message-body head twenty b,
+        message-body head twenty c,
         alike .session,
         alike .copies,
       )
 
-  pub answered-same : (t o : List ℕ) (d : Decision) → answered (message head x) t o d ≡ answered (message head y) t o d
+  pub answered-same : (x : Lent) (d : Decision) → answered (asking x (message head b)) d ≡ answered (asking x (message head c)) d
   unfolding answered
-  answered-same t o d = rw (answer-same (blockOf t 0) (d .reply))
+  answered-same x d = rw (answer-same (blockOf (x .table) 0) (d .reply))
 
-  module _ (read : readBody head (walk x) ≡ readBody head (walk y)) (named : identities (walk x) ≡ identities (walk y)) where
-    judged-same : (t : List ℕ) (count : ℕ) (file : List ℕ) (j : Judged) → decideJudged (message head x) t count file j ≡ decideJudged (message head y) t count file j
+  module _ {from : ℕ} {more : ℕ → ℕ} (read : Moved (message head b) (message head c) from more (readBody head (walk b)) (readBody head (walk c)))
+      (named : identities (walk b) ≡ identities (walk c)) where
+    judged-same : (t : List ℕ) (count : ℕ) (file : List ℕ) {j k : Judged} → Moved (message head b) (message head c) from more j k
+        → decideJudged (message head b) t count file j ≡ decideJudged (message head c) t count file k
     unfolding decideJudged decideRead assignmentOf
-    judged-same t count file (bad r f) = refl
-    judged-same t count file (fine seen) =
-        rw (message-command head twenty x, message-command head twenty y, message-body head twenty x, message-body head twenty y, named)
+    judged-same t count file (faults v w l) = rw (l .failed, l .result)
+    judged-same t count file (same seen) =
+        rw (message-command head twenty b, message-command head twenty c, message-body head twenty b, message-body head twenty c, named)
 
-    decide-same : (t : List ℕ) (count : ℕ) (file : List ℕ) → decide (message head x) t count file ≡ decide (message head y) t count file
+    decide-same : (t : List ℕ) (count : ℕ) (file : List ℕ) → decide (message head b) t count file ≡ decide (message head c) t count file
     unfolding decide
-    decide-same t count file = rw (message-read head twenty x, message-read head twenty y, read) (judged-same t count file (readBody head (walk y)))
+    decide-same t count file = rw (message-read head twenty b, message-read head twenty c) (judged-same t count file read)
 
-    checked-same : (t file o : List ℕ) (c : Checked) → serveChecked (message head x) t file o c ≡ serveChecked (message head y) t file o c
-    unfolding serveChecked
-    checked-same t file o (Sound count) = rw (decide-same t count file) (answered-same t o (decide (message head y) t count file))
-    checked-same t file o (Bad k) = refl
-
-    pub served-same : (t file o : List ℕ) → Fit x → Fit y → serve (message head x) t file o ≡ serve (message head y) t file o
-    served-same t file o a b =
-        message-served head twenty x a t file o
-        ∙ rw (checked-same t file o (checkTable t (length file))) (sym (message-served head twenty y b t file o))
+    pub served-same : (x : Lent) → Fit b → Fit c → serve (asking x (message head b)) ≡ serve (asking x (message head c))
+    unfolding serve refused
+    served-same x f g =
+        let k = checkValue (checkOf x) in
+        let answers : answered (asking x (message head b)) (decision (asking x (message head b)) k)
+        ≡ answered (asking x (message head c)) (decision (asking x (message head c)) k) =
+        rw (decide-same (x .table) k (x .profile)) (answered-same x (decision (asking x (message head c)) k)) in
+        rw (
+          size-right head twenty b f,
+          size-right head twenty c g,
+          length-right head twenty b f,
+          length-right head twenty c g,
+          message-flags head twenty b,
+          message-flags head twenty c,
+          answers,
+        )

@@ -2,8 +2,8 @@
 use Prim.Native.Nat.{ℕ, _/_}
 use mathlib.Core.List.{List, [], _∷_}
 use mathlib.Core.Option.{Option, none, some}
-use mathlib.Core.Bool.{Bool, cond, _&&_, _||_}
-use lib.Dec.{eqb, leb, ltb}
+use mathlib.Core.Bool.{Bool, cond}
+use lib.Dec.{eqb}
 use Rattle.table.specs.Blocks.{privateAt}
 use Rattle.lookup.specs.Find.{findPublic}
 use Rattle.lookup.specs.declared.Found.{Found}
@@ -30,12 +30,8 @@ firstOwner t count (a ∷ avps) = ownerAt t (findPublic t count (dataOf a))
 
 -- the subscription that a request asks about, by its private identity: the User-Name if given, else that of the first Public-Identity
 unfoldable pub askedIn : List ℕ → List ℕ → ℕ → Judged → Option (List ℕ)
-askedIn req t count (bad r f) = none
+askedIn req t count (bad v) = none
 askedIn req t count (fine seen) = cond (given seen userName) (some (dataIn seen userName)) (firstOwner t count (identities (bodyOf req)))
 
 unfoldable pub subscriptionOf : List ℕ → List ℕ → ℕ → Option (List ℕ)
 subscriptionOf req t count = askedIn req t count (readRequest req)
-
--- the bytes of a record that an effect may write: state, bits, the server name with its length, the check word
-unfoldable pub alterable : ℕ → Bool
-alterable i = eqb i 8 || eqb i 9 || eqb i 15 || leb 272 i && ltb i 368 || leb 508 i

@@ -16,6 +16,7 @@ use Rattle.reading.specs.Request.{dialectOf, cx, headerFault, firstOther}
 use Rattle.reading.specs.declared.Outcome.the-variants.{Base}
 use Rattle.decisions.specs.Reply.{failing}
 use Rattle.decisions.specs.Assignment.{Decision, unaltered}
+use Rattle.ndushavire.specs.Lent.{Lent, asking}
 use Rattle.ndushavire.specs.Serve.{Served, answered, serve}
 use Rattle.demands.specs.Call.{turnedAway}
 
@@ -63,11 +64,13 @@ pub record FirstMarked (qs rs : List Piece) : Type 0 where
 
 -- the header, or one of the AVPs in front, breaks a reading rule: (b) of the first, (a) and (c) to (h) of each
 abbrev pub isFault : Judged → Bool
-isFault (bad r f) = true
+isFault (bad v) = true
 isFault (fine seen) = false
 
 unfoldable pub faultIn : List ℕ → List Piece → Bool
-faultIn head qs = not (eqb (headerFault (dialectOf cx head) head) 0) || firstOther (glue (avpsOf qs) ended) || isFault (judge (dialectOf cx head) (glue (avpsOf qs) ended) nothing)
+faultIn head qs =
+    not (eqb (headerFault (dialectOf cx head) head) 0) || firstOther (glue (avpsOf qs) ended) || isFault
+    (judge (dialectOf cx head) 20 (glue (avpsOf qs) ended) nothing)
 
 -- (d) "kind unknown: with M B5001": the AVP is in Failed-AVP, and the table is as it was
 abbrev pub unsupported : List ℕ → Piece → Decision
@@ -85,7 +88,8 @@ pub record Cut (req : List ℕ) : Type 0 where
   pub stops : sound tail ≡ false
   pub joined : req ≡ requestOf head (first ∷ rest) tail
 
--- `longer` is `req` with AVPs of unknown kinds put in after its first AVP, at any places before its first length fault; its length field is right, and it stays within the limit.
+-- `longer` is `req` with AVPs of unknown kinds put in after its first AVP, at any places before its first length fault; its length field is right, and it
+-- stays within the limit.
 pub record Longer (req longer : List ℕ) : Type 0 where
   pub cut : Cut req
   pub row : List Piece
@@ -107,12 +111,13 @@ firstMark ending = none
 firstMark (keep q i) = behind q (firstMark i)
 firstMark (put u f i) = cond (isMarked u) (some (record { front = []; mark = u })) (firstMark i)
 
--- what a call with them comes to: the same, but B5001 for the first marked one, unless the call is refused or the header or an AVP before that one breaks a reading rule
-unfoldable pub newer : (req longer t file o head : List ℕ) → Piece → Option Mark → Served
-newer req longer t file o head q none = serve req t file o
-newer req longer t file o head q (some m) = cond (turnedAway req t file o || faultIn head (q ∷ m .front)) (serve req t file o) (answered longer t o (unsupported t (m .mark)))
+-- what a call with them comes to: the same, but B5001 for the first marked one, unless the call is refused or the header or an AVP before that one breaks a
+-- reading rule
+unfoldable pub newer : (x : Lent) → List ℕ → List ℕ → Piece → Option Mark → Served
+newer x longer head q none = serve x
+newer x longer head q (some m) = cond (turnedAway x || faultIn head (q ∷ m .front)) (serve x) (answered (asking x longer) (unsupported (x .table) (m .mark)))
 
 -- and if one is marked, the table is as it was
-pub record Newer (req longer t file o : List ℕ) (l : Longer req longer) : Type 0 where
-  pub comes : serve longer t file o ≡ newer req longer t file o (l .cut .head) (l .cut .first) (firstMark (l .inserted))
-  pub table : (m : Mark) → firstMark (l .inserted) ≡ some m → serve longer t file o .table ≡ t
+pub record Newer (x : Lent) (longer : List ℕ) (l : Longer (x .request) longer) : Type 0 where
+  pub comes : serve (asking x longer) ≡ newer x longer (l .cut .head) (l .cut .first) (firstMark (l .inserted))
+  pub table : (m : Mark) → firstMark (l .inserted) ≡ some m → serve (asking x longer) .table ≡ x .table

@@ -1,3 +1,4 @@
 pub mod Examples
 pub mod Faulty
 pub mod Fronts
+pub mod Short

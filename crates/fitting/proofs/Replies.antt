@@ -17,22 +17,25 @@ use Rattle.lookup.specs.declared.Found.the-variants.{At, Nothing}
 use Rattle.diameter.specs.Walk.{walk}
 use Rattle.reading.specs.Kinds.{userName, publicIdentity, visitedNetwork, authorizationType}
 use Rattle.reading.specs.Rules.{Seen, Judged, bad, fine}
-use Rattle.reading.specs.Request.{commandOf, bodyOf, example, readRequest, dataIn, valueIn, identities}
+use Rattle.reading.specs.Request.{commandOf, bodyOf, readRequest, dataIn, valueIn, identities}
 use Rattle.reading.specs.declared.Outcome.{Outcome}
 use Rattle.reading.specs.declared.Outcome.the-variants.{Base, Experimental}
 use Rattle.decisions.specs.Types.{groupOf, isRemoval, effectOf}
 use Rattle.decisions.specs.Reply.{Reply, plain, failing, serving, served, capable, servedBy}
 use Rattle.decisions.specs.Authorization.{mayRoam, authorizeRecord, authorizeFound, authorize}
 use Rattle.decisions.specs.Location.{locateRecord, locateFound, locate}
-use Rattle.decisions.specs.Assignment.{Assignment, identityFault, every, isEmpty, firstOf, ownerOf, ownAt, storesAt, fitsAt, rightAt, recordsOf, allKnown, assigned, unaltered, effected, assignRecords, assignKnown, assign}
+use Rattle.decisions.specs.Assignment.{Assignment, identityFault, every, isEmpty, firstOf, ownerOf, ownAt, storesAt, fitsAt, rightAt, recordsOf, allKnown}
+use Rattle.decisions.specs.Assignment.{assigned, unaltered, effected, assignRecords, assignKnown, assign}
 use Rattle.decisions.specs.Decide.{assignmentOf, decideRead, decideJudged, decide}
 use Rattle.reply.specs.Answer.{failedPart}
-use Rattle.reply.proofs.Copies.{example-length}
+use Rattle.failed.specs.Failing.{example, failedBy}
+use Rattle.failed.proofs.Short.{example-length}
 use Rattle.fitting.proofs.Tests.{either}
-use Rattle.fitting.proofs.Short.{AllShort, ShortFault, walk-within, holds-short, read-short, identities-short}
+use Rattle.fitting.proofs.Short.{AllShort, walk-within, holds-short, failed-short, identities-short}
 
 module _ (t : List ℕ) (count : ℕ) (file : List ℕ) (P : Reply → Type 0) (alone : (o : Outcome) → P (plain o))
-    (faulty : (o : Outcome) (f : Option (List ℕ)) → length (failedPart f) ≤ 16400 → P (failing o f)) (named : (o : Outcome) (k : ℕ) → P (serving o (serverOf (blockOf t k))))
+    (faulty : (o : Outcome) (f : Option (List ℕ)) → length (failedPart f) ≤ 16400 → P (failing o f))
+    (named : (o : Outcome) (k : ℕ) → P (serving o (serverOf (blockOf t k))))
     (able : (o : Outcome) (k : ℕ) → 1 ≤ k → P (capable o (blockOf t k))) (granted : (s : Assignment) (o : Outcome) (k : ℕ) → P (assigned t file s o k)) where
   of-served : (o : Outcome) (k : ℕ) → P (served o (serverOf (blockOf t k)))
   unfolding served
@@ -68,7 +71,8 @@ module _ (t : List ℕ) (count : ℕ) (file : List ℕ) (P : Reply → Type 0) (
       here k h =
           either P (ltb 0 (stateOf (blockOf t k))) (of-served (Base 2001) k)
           (either P (unregisteredServices (getD (blockOf t k) 9 0))
-          (of-found (findServer t count (privateOf (blockOf t k))) (Base 2001) (capable (Experimental 2003) (blockOf t k)) (able (Experimental 2003) k h)) (alone (Experimental 5003)))
+          (of-found (findServer t count (privateOf (blockOf t k))) (Base 2001) (capable (Experimental 2003) (blockOf t k)) (able (Experimental 2003) k h))
+          (alone (Experimental 5003)))
 
       go : (f : Found) → findPublic t count public ≡ f → P (locateFound t count f)
       go (At k) e = here k (first-stands (publicIs t public) count 1 k e .from)
@@ -94,11 +98,13 @@ module _ (t : List ℕ) (count : ℕ) (file : List ℕ) (P : Reply → Type 0) (
       where
         go : (x : Bool) (ks : List ℕ) → P (cond x (assignRecords t count file keep s ks) (unaltered t (plain (Experimental 5001))) .reply)
         go true ks =
-            of-records ks (not (every (ownAt t (ownerOf t s ks)) ks)) (eqb (s .kind) 0) (every (storesAt t (s .server)) ks) (not (every (fitsAt t (s .server)) ks))
+            of-records ks (not (every (ownAt t (ownerOf t s ks)) ks)) (eqb (s .kind) 0) (every (storesAt t (s .server)) ks)
+            (not (every (fitsAt t (s .server)) ks))
             (isEmpty ks || not (every (rightAt t (s .kind)) ks))
         go false ks = alone (Experimental 5001)
 
-  of-fault : (m : ℕ) → m ≤ 16364 → (removal given : Bool) (avps : List (List ℕ)) → AllShort m avps → (x : Reply) → identityFault removal given avps ≡ some x → P x
+  of-fault : (m : ℕ) → m ≤ 16384 → (removal given : Bool) (avps : List (List ℕ)) → AllShort m avps → (x : Reply) → identityFault removal given avps ≡ some x
+      → P x
   unfolding identityFault
   of-fault m h removal given [] i x e = go (removal && given) e
     where
@@ -106,7 +112,8 @@ module _ (t : List ℕ) (count : ℕ) (file : List ℕ) (P : Reply → Type 0) (
       go true q = absurd (Option·none-ne-some x q)
       go false q =
           let z : failing (Base 5005) (some (example publicIdentity)) ≡ x = cc in
-          rw (← z) (faulty (Base 5005) (some (example publicIdentity)) (omega (arith, example-length publicIdentity)))
+          rw (← z) (faulty (Base 5005) (some (example publicIdentity))
+          (holds-short 16384 (example publicIdentity) (omega arith) (omega (arith, example-length publicIdentity))))
   of-fault m h removal given (a ∷ []) i x e = absurd (Option·none-ne-some x e)
   of-fault m h removal given (a ∷ (b ∷ avps)) i x e = go removal e
     where
@@ -116,7 +123,7 @@ module _ (t : List ℕ) (count : ℕ) (file : List ℕ) (P : Reply → Type 0) (
 
   pub of-decide : (req : List ℕ) → 20 ≤ length req → length req ≤ 16384 → P (decide req t count file .reply)
   unfolding decide decideJudged decideRead assignmentOf walk assign
-  of-decide req h k = go (readRequest req) (read-short req h k)
+  of-decide req h k = go (readRequest req)
     where
       within : AllShort (length (drop 20 req)) (identities (bodyOf req))
       within = identities-short (length (drop 20 req)) (bodyOf req) (walk-within (length (drop 20 req)) 0 (drop 20 req) (omega arith))
@@ -127,12 +134,14 @@ module _ (t : List ℕ) (count : ℕ) (file : List ℕ) (P : Reply → Type 0) (
           (of-fault (length (drop 20 req)) (omega (arith, length-drop 20 req)) (isRemoval (groupOf (s .kind))) (s .named) (s .identities) (rw e within))
 
       by : (x y : Bool) (seen : Seen)
-          → P (cond x (unaltered t (authorize t count (dataIn seen userName) (dataIn seen publicIdentity) (dataIn seen visitedNetwork) (valueIn seen authorizationType)))
-          (cond y (assign t count file (eqb (getD (blockOf t 0) 12 0) 1) (assignmentOf seen req)) (unaltered t (locate t count (dataIn seen publicIdentity)))) .reply)
+          → P (cond x (unaltered t (authorize t count (dataIn seen userName) (dataIn seen publicIdentity) (dataIn seen visitedNetwork)
+          (valueIn seen authorizationType)))
+          (cond y (assign t count file (eqb (getD (blockOf t 0) 12 0) 1) (assignmentOf seen req))
+          (unaltered t (locate t count (dataIn seen publicIdentity)))) .reply)
       by true y seen = of-uar (dataIn seen userName) (dataIn seen publicIdentity) (dataIn seen visitedNetwork) (valueIn seen authorizationType)
       by false true seen = sar (assignmentOf seen req) refl (eqb (getD (blockOf t 0) 12 0) 1)
       by false false seen = of-lir (dataIn seen publicIdentity)
 
-      go : (j : Judged) → ShortFault j → P (decideJudged req t count file j .reply)
-      go (bad r f) s = faulty r f s
-      go (fine seen) s = by (eqb (commandOf req) 300) (eqb (commandOf req) 301) seen
+      go : (j : Judged) → P (decideJudged req t count file j .reply)
+      go (bad v) = faulty (v .result) (failedBy req v) (failed-short req v k)
+      go (fine seen) = by (eqb (commandOf req) 300) (eqb (commandOf req) 301) seen

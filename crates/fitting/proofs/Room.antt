@@ -10,13 +10,9 @@ use lib.ListN.{length, drop, getD, length-take}
 use lib.Dec.{eqb, leb}
 use borrow.Author.Tests.{ne-eqb}
 use Rattle.octets.specs.Number.{be16At, be32At}
-use Rattle.octets.specs.Run.{zeroBetween}
-use Rattle.octets.specs.Sum.{sumWords}
-use Rattle.octets.proofs.Chains.{chain-says}
 use Rattle.octets.proofs.Runs.{zero-at}
-use Rattle.record.specs.HeaderBlock.{headerOf, soundCounts, soundNumbers, soundRest, soundHeader}
-use Rattle.record.specs.Networks.{soundNetworks}
-use Rattle.record.specs.Fields.{privateOf, serverOf, mandatoryOf, optionalOf, profileOf, soundHead}
+use Rattle.record.specs.HeaderBlock.{headerOf}
+use Rattle.record.specs.Fields.{privateOf, serverOf, mandatoryOf, optionalOf, profileOf}
 use Rattle.table.specs.Blocks.{blockOf, privateAt}
 use Rattle.lookup.proofs.Sound.{sound-header}
 use Rattle.lookup.specs.SoundTable.{SoundTable}
@@ -35,13 +31,10 @@ use Rattle.fitting.proofs.Replies.{of-decide}
 module _ (t file : List ℕ) (count : ℕ) (s : SoundTable t (length file) count) where
   -- of block 0, which is no record, there is no user data either: its bytes 404 and 405 are zero
   header-empty : be16At (blockOf t 0) 404 ≡ 0
-  unfolding soundHeader be16At
+  unfolding be16At
   header-empty =
-      let b : List ℕ = blockOf t 0 in
-      let two = chain-says (soundCounts (headerOf b)) (_ ∷ []) (s .header) in
-      let q = chain-says (eqb (sumWords b 128) 0) (soundHead b 1 0 ∷ soundNumbers (headerOf b) ∷ soundRest b (headerOf b) ∷ soundNetworks b (headerOf b .networks) ∷ []) (two 1) in
-      let r = chain-says (zeroBetween b (16 + headerOf b .host) 80) (_ ∷ _ ∷ []) (q 3) in
-      omega (arith, zero-at b 400 508 (r 2) 404 (omega arith) (omega arith), zero-at b 400 508 (r 2) 405 (omega arith) (omega arith))
+      let z = sound-header t (length file) count s .last in
+      omega (arith, zero-at (blockOf t 0) 400 508 z 404 (omega arith) (omega arith), zero-at (blockOf t 0) 400 508 z 405 (omega arith) (omega arith))
 
   later : (k : ℕ) → eqb (suc k) 0 ≡ false
   later k = ne-eqb (suc k) 0 (λ q. omega arith)
@@ -95,7 +88,8 @@ module _ (t file : List ℕ) (count : ℕ) (s : SoundTable t (length file) count
       of-decide t count file Modest (λ o. none-said o)
       (λ o f i. within (failing o f) (omega arith) (omega arith) (omega arith) (omega arith) (omega arith) i (inl refl))
       (λ o n. within (serving o (serverOf (blockOf t n))) (omega arith) (server-most n) (omega arith) (omega arith) (omega arith) (omega arith) (inl refl))
-      (λ o n i. within (capable o (blockOf t n)) (omega arith) (omega arith) (able-most mandatoryOf (mandatory-field t count (alone t (length file) count s)) n i)
+      (λ o n i. within (capable o (blockOf t n)) (omega arith) (omega arith)
+      (able-most mandatoryOf (mandatory-field t count (alone t (length file) count s)) n i)
       (able-most optionalOf (optional-field t count (alone t (length file) count s)) n i) (omega arith) (omega arith) (inl refl))
       (λ a o n. go a o n (leb (a .kind) 3) (eqb (a .already) 0)) req h k
     where
@@ -103,7 +97,16 @@ module _ (t file : List ℕ) (count : ℕ) (s : SoundTable t (length file) count
       none-said o = within (plain o) (omega arith) (omega arith) (omega arith) (omega arith) (omega arith) (omega arith) (inl refl)
 
       go : (a : Assignment) (o : Outcome) (n : ℕ) (x y : Bool)
-          → Modest (cond x (record { result = o; user = privateAt t n; server = []; mandatory = []; optional = []; profile = cond y (profileOf (blockOf t n) file) []; failed = none }) (plain o))
+          → Modest (cond x (record {
+            result = o;
+            user = privateAt t n;
+            server = [];
+            mandatory = [];
+            optional = [];
+            profile = cond y
+                (profileOf (blockOf t n) file) [];
+            failed = none;
+          }) (plain o))
       go a o n true true = within _ (user-most n) (omega arith) (omega arith) (omega arith) (profile-most n) (omega arith) (inr refl)
       go a o n true false = within _ (user-most n) (omega arith) (omega arith) (omega arith) (omega arith) (omega arith) (inr refl)
       go a o n false y = none-said o

@@ -1,22 +1,21 @@
 -- What Failed-AVP holds of a request is short: no more than the request itself, or an example.
 use Prim.Native.Nat.{ℕ, zero, suc, pred, _≤_}
 use mathlib.Core.List.{List, [], _∷_}
-use mathlib.Core.Option.{some}
+use mathlib.Core.Option.{Option, some}
 use mathlib.Core.Bool.{Bool, true, false, cond}
 use native.Mathlib.Omega.{arith}
-use lib.ListN.{length, drop, set, length-take, length-drop}
-use lib.Dec.{eqb}
+use lib.ListN.{length, drop, length-take, length-drop}
+use lib.Dec.{eqb, ltb}
 use Rattle.diameter.specs.Avp.{padded, avpLen, sound}
 use Rattle.diameter.specs.Walk.{Walk, ended, faulty, avp, onSound, walkFrom, walk}
 use Rattle.pen.proofs.Groups as groups
-use Rattle.reading.specs.Kinds.{kindOf, sessionId, publicIdentity}
-use Rattle.reading.specs.Rules.{Seen, Judged, bad, fine, rule, onRule, judge, failedOf, nothing}
-use Rattle.reading.specs.Request.{dialectOf, cx, bodyOf, headerFault, firstOther, missing, complete, readWalk, readIn, readRequest, identities}
-use Rattle.reading.specs.declared.Dialect.{Dialect}
-use Rattle.reading.specs.declared.Ruled.{Ruled}
-use Rattle.reading.specs.declared.Ruled.the-variants.{Taken, Skipped, Fault}
+use Rattle.reading.specs.Kinds.{kindOf, publicIdentity}
+use Rattle.reading.specs.Request.{identities}
+use Rattle.reading.specs.Found.{numberOf}
+use Rattle.reading.specs.declared.Verdict.{Verdict}
+use Rattle.failed.specs.Failing.{failedOf, example, failedBy}
+use Rattle.failed.proofs.Short.{fault-length, example-length}
 use Rattle.reply.specs.Answer.{failedPart}
-use Rattle.reply.proofs.Copies.{fault-length, example-length}
 use Rattle.fitting.proofs.Tests.{either}
 
 -- The AVPs of a walk are no longer than its bytes.
@@ -36,36 +35,19 @@ walk-within m zero (x ∷ t) h = go (sound (x ∷ t)) (walk-within m (pred (padd
     go false r = h
 
 -- What Failed-AVP holds of them is short.
-pub holds-short : (m : ℕ) (a : List ℕ) → m ≤ 16364 → length a ≤ m → length (failedPart (some a)) ≤ 16400
+pub holds-short : (m : ℕ) (a : List ℕ) → m ≤ 16384 → length a ≤ m → length (failedPart (some a)) ≤ 16400
 holds-short m a h k = omega (arith, groups.failed-length a)
 
-abbrev pub ShortFault : Judged → Type 0
-ShortFault (bad r f) = length (failedPart f) ≤ 16400
-ShortFault (fine seen) = Unit
-
-judge-short : (m : ℕ) → m ≤ 16364 → (dialect : Dialect) (w : Walk) → Within m w → (seen : Seen) → ShortFault (judge dialect w seen)
-unfolding judge
-judge-short m h dialect ended i seen = tt
-judge-short m h dialect (faulty t) i seen = holds-short m (failedOf 5014 t) h (omega (arith, fault-length 5014 t))
-judge-short m h dialect (avp a w) i seen = go (rule dialect seen a) (judge-short m h dialect w (i .1))
-  where
-    go : (x : Ruled) → ((s : Seen) → ShortFault (judge dialect w s)) → ShortFault (onRule x seen a (judge dialect w))
-    go Taken r = r (set seen (kindOf a) (some a))
-    go Skipped r = r seen
-    go (Fault n) r = holds-short m (failedOf n a) h (omega (arith, fault-length n a, i .0))
-
-pub read-short : (req : List ℕ) → 20 ≤ length req → length req ≤ 16384 → ShortFault (readRequest req)
-unfolding readIn readWalk complete walk
-read-short req h k =
-    either ShortFault (eqb (headerFault (dialectOf cx req) req) 0)
-    (either ShortFault (firstOther (bodyOf req)) (omega (arith, example-length sessionId))
-    (go (judge (dialectOf cx req) (bodyOf req) nothing)
-    (judge-short (length (drop 20 req)) (omega (arith, length-drop 20 req)) (dialectOf cx req) (bodyOf req) (walk-within (length (drop 20 req)) 0 (drop 20 req) (omega arith)) nothing)))
-    (omega arith)
-  where
-    go : (j : Judged) → ShortFault j → ShortFault (complete (dialectOf cx req) j)
-    go (bad r f) s = s
-    go (fine seen) s = either ShortFault (eqb (missing (dialectOf cx req) seen) 0) tt (omega (arith, example-length (missing (dialectOf cx req) seen)))
+pub failed-short : (req : List ℕ) (v : Verdict) → length req ≤ 16384 → length (failedPart (failedBy req v)) ≤ 16400
+unfolding failedBy
+failed-short req v h =
+    let n = numberOf (v .result) in
+    let t = drop (v .place) req in
+    either (λ (f : Option (List ℕ)). length (failedPart f) ≤ 16400) (ltb 0 (v .lacks))
+    (holds-short 16384 (example (v .lacks)) (omega arith) (omega (arith, example-length (v .lacks))))
+    (either (λ (f : Option (List ℕ)). length (failedPart f) ≤ 16400) (ltb 0 (v .place))
+    (holds-short 16384 (failedOf n t) (omega arith) (omega (arith, fault-length n t, length-drop (v .place) req)))
+    (omega arith))
 
 -- So are a SAR's identities.
 abbrev pub AllShort : ℕ → List (List ℕ) → Type 0

@@ -18,16 +18,19 @@ use Rattle.diameter.specs.Avp.{padded, avpLen, sound}
 use Rattle.diameter.specs.Put.{Piece, Whole, All, glue, bytesOf, avpsOf}
 use Rattle.pen.specs.Bytes.{wordBytes, headBytes, padding, vendorHead, numberBytes}
 use Rattle.pen.specs.Groups.{failed}
-use Rattle.decisions.specs.Decide.{decide}
 use Rattle.ndushavire.specs.declared.Call.the-variants.{Answered, Refused}
-use Rattle.ndushavire.specs.Serve.{Served, smallBuffer, wrongSize, wrongLength, noRequest, serve}
+use Rattle.ndushavire.specs.Lent.{Lent, lent}
+use Rattle.ndushavire.specs.Trial.{anyHolds}
+use Rattle.ndushavire.specs.Serve.{Served, trials, decision, serve}
 use Rattle.ndushavire.specs.Word.{word, callNumber, callValue, callWord, Reads, ReadsCheck}
 use Rattle.worked.proofs.Sample.{header, person, request, answer, s, z, opened}
-use Rattle.demands.specs.Call.{Tried, unsound, answerTo}
-use Rattle.demands.specs.Frame.{firstOwner, askedIn, subscriptionOf, alterable}
+use Rattle.demands.specs.Call.{answerTo}
+use Rattle.demands.specs.Frame.{firstOwner, askedIn, subscriptionOf}
 use Rattle.demands.specs.Insertion.{message, requestOf, Foreign, Quiet, Inserted, ending, keep, put, FirstMarked, faultIn, Cut, Longer, firstMark, newer, Newer}
-use Rattle.demands.proofs.Demands.{promised, checked, demand-1, demand-1-number, demand-1-none, demand-1-block, demand-1-length, demand-1-fits, demand-1-word, demand-1-kept}
-use Rattle.demands.proofs.Demands.{demand-2, demand-2-failure, demand-2-others, demand-2-header, demand-2-bytes, demand-2-bits, demand-2-size, demand-2-sound, demand-2-question, demand-2-room, demand-2-past}
+use Rattle.demands.proofs.Demands.{promised, checked, demand-1, demand-1-number, demand-1-none, demand-1-block, demand-1-length, demand-1-fits}
+use Rattle.demands.proofs.Demands.{demand-1-within, demand-1-word, demand-1-kept}
+use Rattle.demands.proofs.Demands.{demand-2, demand-2-failure, demand-2-others, demand-2-header, demand-2-bytes, demand-2-bits, demand-2-size}
+use Rattle.demands.proofs.Demands.{demand-2-sound, demand-2-question, demand-2-room, demand-2-past}
 use Rattle.demands.proofs.Demands.{demand-3, demand-3-unmarked, demand-3-table, demand-3-marked, demand-3-fault, demand-3-cases, demand-3-any}
 
 -- two subscriptions, each registered at the server `s`; two records of one public identity; the table after `a` was removed; a buffer of the least room
@@ -72,9 +75,13 @@ rest server kind = application ∷ common ++ own server kind
 sar : List ℕ → ℕ → List ℕ
 sar server kind = requestOf head (session ∷ rest server kind) []
 
+-- what is lent with a request: the table, no profile file, the buffer
+abbrev asked : List ℕ → Lent
+asked req = lent req table [] room
+
 -- a call that is answered by these bytes
 comes : List ℕ → List ℕ → Served
-comes after bytes = record { call = Answered (length bytes); table = after; buffer = over bytes room }
+comes after bytes = record { call = Answered (record { length = length bytes }); table = after; buffer = over bytes room }
 
 -- "601 without V is unknown"; "V with vendor 0 is an unknown kind"; one with M. Their padding is no zeros
 plain : Piece
@@ -89,7 +96,7 @@ loud = record { avp = headBytes 999 64 11 ++ (1 ∷ 2 ∷ 3 ∷ []); pad = 0xFF 
 -- all that the instances open
 all : ℕ
 unfolding opened table removed room base vendor head session application common own rest sar comes plain zeroVendor loud
-    message glue bytesOf avpsOf firstOwner askedIn subscriptionOf alterable faultIn
+    message glue bytesOf avpsOf firstOwner askedIn subscriptionOf anyHolds faultIn
 all = 0
 
 -- the table is sound; the SAR is a success, which rewrites record 1 alone
@@ -97,17 +104,17 @@ sound-table : checkTable table 0 ≡ Sound 2
 unfolding all
 sound-table = refl
 
-removal : serve (sar s 5) table [] room ≡ comes removed (answer (numberBytes 268 2001) [])
+removal : serve (asked (sar s 5)) ≡ comes removed (answer (numberBytes 268 2001) [])
 unfolding all
 removal = refl
 
 -- it says 116 bytes; the word that is promised says the same
-removal-call : serve (sar s 5) table [] room .call ≡ Answered 116
+removal-call : serve (asked (sar s 5)) .call ≡ Answered (record { length = 116 })
 unfolding all
 removal-call = ap (λ (x : Served). x .call) removal
 
-met-promised : serve (sar s 5) table [] room .call ≡ Answered 116
-met-promised = ap (λ (x : Served). x .call) (promised (sar s 5) table [] room {r = 116} (record { word-is = rw removal-call; table-is = refl; buffer-is = refl }))
+met-promised : serve (asked (sar s 5)) .call ≡ Answered (record { length = 116 })
+met-promised = ap (λ (x : Served). x .call) (promised (asked (sar s 5)) {r = 116} (record { word-is = rw removal-call; table-is = refl; buffer-is = refl }))
 
 -- of the second entry: 2 records, and block 2 where two have one public identity
 met-checked : ReadsCheck (Sound 2) 2
@@ -118,82 +125,89 @@ met-checked-bad : ReadsCheck (Bad 2) (word 5 2)
 unfolding all twice
 met-checked-bad = checked twice [] (record { answer = refl })
 
--- DEMAND 1: it is number 0 with the answer's length; a request of 19 bytes is refusal 2; two records of one public identity are refusal 5
-met-1 : Tried (callNumber (serve (sar s 5) table [] room .call)) (smallBuffer room) (wrongSize (sar s 5)) (wrongLength (sar s 5)) (noRequest (sar s 5)) (unsound table [])
-met-1 = demand-1 (sar s 5) table [] room
-
-met-1-number : callNumber (serve (sar s 5) table [] room .call) ≤ 5
-met-1-number = demand-1-number (sar s 5) table [] room
-
-met-1-length : 116 ≡ length (answerTo (sar s 5) table [] 2)
-met-1-length = demand-1-length (sar s 5) table [] room 116 removal-call 2 sound-table
-
-met-1-fits : length (answerTo (sar s 5) table [] 2) ≤ 36864
+-- DEMAND 1: a request of 19 bytes is refusal 2, the second trial; the SAR is number 0 with the answer's length; two records of one public identity are
+-- refusal 5
+met-1 : eqb (callNumber (serve (asked (take 19 (sar s 5))) .call)) 2 ≡ true
 unfolding all
-met-1-fits = demand-1-fits (sar s 5) table [] room refl refl 2 sound-table
+met-1 =
+    demand-1 (asked (take 19 (sar s 5))) .given (take 1 (trials (asked (take 19 (sar s 5))))) (drop 2 (trials (asked (take 19 (sar s 5)))))
+    (record { holds = true; number = 2; besides = 0 }) refl
 
-met-1-word : Reads (Answered 116) (callWord (Answered 116))
-met-1-word = rw removal-call at (demand-1-word (sar s 5) table [] room)
+met-1-within : 116 ≤ length room
+unfolding all
+met-1-within = demand-1-within (asked (sar s 5)) refl
 
-short-refused : serve (take 19 (sar s 5)) table [] room .call ≡ Refused 2 0
+met-1-number : callNumber (serve (asked (sar s 5)) .call) ≤ 5
+met-1-number = demand-1-number (asked (sar s 5))
+
+met-1-length : 116 ≡ length (answerTo (asked (sar s 5)) 2)
+met-1-length = demand-1-length (asked (sar s 5)) 116 removal-call 2 sound-table
+
+met-1-fits : length (answerTo (asked (sar s 5)) 2) ≤ 36864
+unfolding all
+met-1-fits = demand-1-fits (asked (sar s 5)) refl refl 2 sound-table
+
+met-1-word : Reads (Answered (record { length = 116 })) (callWord (Answered (record { length = 116 })))
+met-1-word = rw removal-call at (demand-1-word (asked (sar s 5)))
+
+short-refused : serve (asked (take 19 (sar s 5))) .call ≡ Refused 2 0
 unfolding all
 short-refused = refl
 
 met-1-none : _≡_ {A = ℕ} 0 0
-met-1-none = demand-1-none (take 19 (sar s 5)) table [] room 2 0 short-refused (lit≤ tt)
+met-1-none = demand-1-none (asked (take 19 (sar s 5))) 2 0 short-refused (lit≤ tt)
 
-met-1-kept : serve (take 19 (sar s 5)) table [] room .table ≡ table
+met-1-kept : serve (asked (take 19 (sar s 5))) .table ≡ table
 unfolding all
-met-1-kept = demand-1-kept (take 19 (sar s 5)) table [] room refl .0
+met-1-kept = demand-1-kept (asked (take 19 (sar s 5))) refl .0
 
 met-1-block : checkTable twice 0 ≡ Bad 2
 unfolding all twice
-met-1-block = demand-1-block (sar s 5) twice [] room 2 refl
+met-1-block = demand-1-block (lent (sar s 5) twice [] room) 2 refl
 
 -- DEMAND 2: the removal leaves the decision's table, and of it record 2, the header, and of record 1 the identities and the bits above pending
-met-2 : serve (sar s 5) table [] room .table ≡ decide (sar s 5) table 2 [] .table
+met-2 : serve (asked (sar s 5)) .table ≡ decision (asked (sar s 5)) 2 .table
 unfolding all
-met-2 = demand-2 (sar s 5) table [] room 2 sound-table refl .1
+met-2 = demand-2 (asked (sar s 5)) 2 sound-table refl .1
 
-met-2-others : blockOf (serve (sar s 5) table [] room .table) 2 ≡ blockOf table 2
+met-2-others : blockOf (serve (asked (sar s 5)) .table) 2 ≡ blockOf table 2
 unfolding all
 met-2-others =
-    demand-2-others (sar s 5) table [] room 2 sound-table 2 (lit≤ tt)
+    demand-2-others (asked (sar s 5)) 2 sound-table 2 (lit≤ tt)
     (λ e. let d : 0x71 ∷ [] ≡ 0x70 ∷ [] = Option·some-injective _ _ e in let c : _≡_ {A = ℕ} 0x71 0x70 = ap (λ (l : List ℕ). getD l 0 0) d in omega arith)
 
-met-2-header : blockOf (serve (sar s 5) table [] room .table) 0 ≡ blockOf table 0
-met-2-header = demand-2-header (sar s 5) table [] room 2 sound-table
+met-2-header : blockOf (serve (asked (sar s 5)) .table) 0 ≡ blockOf table 0
+met-2-header = demand-2-header (asked (sar s 5)) 2 sound-table
 
-met-2-bytes : getD (blockOf (serve (sar s 5) table [] room .table) 1) 144 0 ≡ getD (blockOf table 1) 144 0
-unfolding alterable
-met-2-bytes = demand-2-bytes (sar s 5) table [] room 2 sound-table 1 144 (lit≤ tt) (lit< tt) refl
+met-2-bytes : getD (blockOf (serve (asked (sar s 5)) .table) 1) 144 0 ≡ getD (blockOf table 1) 144 0
+met-2-bytes = demand-2-bytes (asked (sar s 5)) 2 sound-table 1 144 (lit≤ tt) (lit< tt) refl
 
-met-2-bits : getD (blockOf (serve (sar s 5) table [] room .table) 1) 9 0 / 2 ≡ getD (blockOf table 1) 9 0 / 2
-met-2-bits = demand-2-bits (sar s 5) table [] room 2 sound-table 1 (lit≤ tt)
+met-2-bits : getD (blockOf (serve (asked (sar s 5)) .table) 1) 9 0 / 2 ≡ getD (blockOf table 1) 9 0 / 2
+met-2-bits = demand-2-bits (asked (sar s 5)) 2 sound-table 1 (lit≤ tt)
 
-met-2-size : length (serve (sar s 5) table [] room .table) ≡ length table
-met-2-size = demand-2-size (sar s 5) table [] room 2 sound-table
+met-2-size : length (serve (asked (sar s 5)) .table) ≡ length table
+met-2-size = demand-2-size (asked (sar s 5)) 2 sound-table
 
-met-2-sound : checkTable (serve (sar s 5) table [] room .table) 0 ≡ Sound 2
-met-2-sound = demand-2-sound (sar s 5) table [] room 2 sound-table
+met-2-sound : checkTable (serve (asked (sar s 5)) .table) 0 ≡ Sound 2
+met-2-sound = demand-2-sound (asked (sar s 5)) 2 sound-table
 
-met-2-room : length (serve (sar s 5) table [] room .buffer) ≡ length room
-met-2-room = demand-2-room (sar s 5) table [] room
+met-2-room : length (serve (asked (sar s 5)) .buffer) ≡ length room
+met-2-room = demand-2-room (asked (sar s 5))
 
-met-2-past : drop (callValue (serve (sar s 5) table [] room .call)) (serve (sar s 5) table [] room .buffer) ≡ drop (callValue (serve (sar s 5) table [] room .call)) room
-met-2-past = demand-2-past (sar s 5) table [] room
+met-2-past : drop (callValue (serve (asked (sar s 5)) .call)) (serve (asked (sar s 5)) .buffer) ≡ drop (callValue (serve (asked (sar s 5)) .call)) room
+met-2-past = demand-2-past (asked (sar s 5))
 
 -- a name that differs is X5005 and leaves the table; so does a LIR
-met-2-failure : serve (sar z 5) table [] room .table ≡ table
+met-2-failure : serve (asked (sar z 5)) .table ≡ table
 unfolding all
-met-2-failure = demand-2-failure (sar z 5) table [] room 2 sound-table refl
+met-2-failure = demand-2-failure (asked (sar z 5)) 2 sound-table refl
 
 lir : List ℕ
 lir = request 302 (bytesOf (session ∷ application ∷ common ++ (vendor 601 (0x61 ∷ []) ∷ [])))
 
-met-2-question : serve lir table [] room .table ≡ table
+met-2-question : serve (asked lir) .table ≡ table
 unfolding all lir
-met-2-question = demand-2-question lir table [] room (λ e. let d : _≡_ {A = ℕ} 302 301 = e in omega arith)
+met-2-question = demand-2-question (asked lir) (λ e. let d : _≡_ {A = ℕ} 302 301 = e in omega arith)
 
 -- DEMAND 3: a row is whole if a test says so of each
 isWhole : Piece → Bool
@@ -207,7 +221,11 @@ is-whole : (q : Piece) → isWhole q ≡ true → Whole q
 unfolding isWhole
 is-whole q e =
     let r = and-right (sound (q .avp)) _ e in
-    record { right = and-left (sound (q .avp)) _ e; exact = eqb-true _ _ (and-left (eqb (avpLen (q .avp)) (length (q .avp))) _ r); filled = eqb-true _ _ (and-right (eqb (avpLen (q .avp)) (length (q .avp))) _ r) }
+    record {
+      right = and-left (sound (q .avp)) _ e;
+      exact = eqb-true _ _ (and-left (eqb (avpLen (q .avp)) (length (q .avp))) _ r);
+      filled = eqb-true _ _ (and-right (eqb (avpLen (q .avp)) (length (q .avp))) _ r);
+    }
 
 all-whole : (qs : List Piece) → allWhole qs ≡ true → All Whole qs
 unfolding allWhole
@@ -240,25 +258,29 @@ kept [] = ending
 kept (q ∷ qs) = keep q (kept qs)
 
 -- two unmarked ones between, and one at the end of the SAR that succeeds: the same answer and the same table
-met-3-unmarked : serve (requestOf head (session ∷ application ∷ plain ∷ zeroVendor ∷ common ++ (own s 5 ++ (plain ∷ []))) []) table [] room ≡ comes removed (answer (numberBytes 268 2001) [])
+met-3-unmarked : serve (asked (requestOf head (session ∷ application ∷ plain ∷ zeroVendor ∷ common ++ (own s 5 ++ (plain ∷ []))) []))
+    ≡ comes removed (answer (numberBytes 268 2001) [])
 unfolding all isWhole allWhole
 met-3-unmarked =
-    demand-3-unmarked head refl session (rest s 5) (application ∷ plain ∷ zeroVendor ∷ common ++ (own s 5 ++ (plain ∷ []))) (all-whole (session ∷ rest s 5) refl) [] refl (lit≤ tt) table [] room
-    (keep _ (put plain quiet-plain (put zeroVendor quiet-zero (keep _ (keep _ (keep _ (keep _ (keep _ (keep _ (keep _ (keep _ (put plain quiet-plain ending))))))))))))
+    demand-3-unmarked head refl session (rest s 5) (application ∷ plain ∷ zeroVendor ∷ common ++ (own s 5 ++ (plain ∷ [])))
+    (all-whole (session ∷ rest s 5) refl) [] refl (lit≤ tt) (asked [])
+    (keep _ (put plain quiet-plain (put zeroVendor quiet-zero
+    (keep _ (keep _ (keep _ (keep _ (keep _ (keep _ (keep _ (keep _ (put plain quiet-plain ending))))))))))))
     ∙ removal
 
 -- the same before an AVP that says a length of 4, which is B5014
 cut : List ℕ
 cut = 0 ∷ 0 ∷ 0 ∷ 1 ∷ 0 ∷ 0 ∷ 0 ∷ 4 ∷ []
 
-cut-answered : serve (requestOf head (session ∷ rest s 5) cut) table [] room ≡ comes table (answer (numberBytes 268 5014) (failed (headBytes 1 0 8)))
+cut-answered : serve (asked (requestOf head (session ∷ rest s 5) cut)) ≡ comes table (answer (numberBytes 268 5014) (failed (headBytes 1 0 8)))
 unfolding all cut
 cut-answered = refl
 
-met-3-tail : serve (requestOf head (session ∷ application ∷ plain ∷ common ++ own s 5) cut) table [] room ≡ comes table (answer (numberBytes 268 5014) (failed (headBytes 1 0 8)))
+met-3-tail : serve (asked (requestOf head (session ∷ application ∷ plain ∷ common ++ own s 5) cut))
+    ≡ comes table (answer (numberBytes 268 5014) (failed (headBytes 1 0 8)))
 unfolding all isWhole allWhole cut
 met-3-tail =
-    demand-3-unmarked head refl session (rest s 5) (application ∷ plain ∷ common ++ own s 5) (all-whole (session ∷ rest s 5) refl) cut refl (lit≤ tt) table [] room
+    demand-3-unmarked head refl session (rest s 5) (application ∷ plain ∷ common ++ own s 5) (all-whole (session ∷ rest s 5) refl) cut refl (lit≤ tt) (asked [])
     (keep _ (put plain quiet-plain (kept (common ++ own s 5))))
     ∙ cut-answered
 
@@ -288,17 +310,20 @@ unsupported-answer : Served
 unsupported-answer = comes table (answer (numberBytes 268 5001) (failed (loud .avp)))
 
 -- type 12 is bad content, B5004. The marked one before it: B5001, and the table is as it was
-met-3-marked : serve (requestOf head (session ∷ application ∷ common ++ (loud ∷ own s 12)) []) table [] room ≡ unsupported-answer
+met-3-marked : serve (asked (requestOf head (session ∷ application ∷ common ++ (loud ∷ own s 12)) [])) ≡ unsupported-answer
 unfolding all isWhole allWhole unsupported-answer markedAt
 met-3-marked =
-    demand-3-marked head refl session (rest s 12) (application ∷ common ++ (loud ∷ own s 12)) (all-whole (session ∷ rest s 12) refl) [] refl (lit≤ tt) table [] room
+    demand-3-marked head refl session (rest s 12) (application ∷ common ++ (loud ∷ own s 12)) (all-whole (session ∷ rest s 12) refl) [] refl (lit≤ tt)
+    (asked [])
     (markedAt (application ∷ common) (own s 12)) refl refl
 
 -- the marked one behind it: the answer given without it
-met-3-fault : serve (requestOf head (session ∷ rest s 12 ++ (loud ∷ [])) []) table [] room ≡ comes table (answer (numberBytes 268 5004) (failed (vendorHead 614 16 ++ wordBytes 12)))
+met-3-fault : serve (asked (requestOf head (session ∷ rest s 12 ++ (loud ∷ [])) []))
+    ≡ comes table (answer (numberBytes 268 5004) (failed (vendorHead 614 16 ++ wordBytes 12)))
 unfolding all isWhole allWhole markedAt
 met-3-fault =
-    demand-3-fault head refl session (rest s 12) (rest s 12 ++ (loud ∷ [])) (all-whole (session ∷ rest s 12) refl) [] refl (lit≤ tt) table [] room (markedAt (rest s 12) []) refl
+    demand-3-fault head refl session (rest s 12) (rest s 12 ++ (loud ∷ [])) (all-whole (session ∷ rest s 12) refl) [] refl (lit≤ tt) (asked [])
+    (markedAt (rest s 12) []) refl
 
 -- no 624, which after the walk is B5005; two identities in a SAR of type 1, which the decision calls B5009: the marked one goes before both
 lacking624 : List Piece
@@ -307,18 +332,20 @@ lacking624 = application ∷ common ++ (vendor 601 (0x61 ∷ []) ∷ vendor 602 
 many : List Piece
 many = application ∷ common ++ (vendor 601 (0x62 ∷ []) ∷ own s 1)
 
-met-3-missing : serve (requestOf head (session ∷ lacking624 ++ (loud ∷ [])) []) table [] room ≡ unsupported-answer
+met-3-missing : serve (asked (requestOf head (session ∷ lacking624 ++ (loud ∷ [])) [])) ≡ unsupported-answer
 unfolding all isWhole allWhole unsupported-answer markedAt lacking624
 met-3-missing =
-    demand-3-marked head refl session lacking624 (lacking624 ++ (loud ∷ [])) (all-whole (session ∷ lacking624) refl) [] refl (lit≤ tt) table [] room (markedAt lacking624 []) refl refl
+    demand-3-marked head refl session lacking624 (lacking624 ++ (loud ∷ [])) (all-whole (session ∷ lacking624) refl) [] refl (lit≤ tt) (asked [])
+    (markedAt lacking624 []) refl refl
 
-met-3-many : serve (requestOf head (session ∷ many ++ (loud ∷ [])) []) table [] room ≡ unsupported-answer
+met-3-many : serve (asked (requestOf head (session ∷ many ++ (loud ∷ [])) [])) ≡ unsupported-answer
 unfolding all isWhole allWhole unsupported-answer markedAt many
-met-3-many = demand-3-marked head refl session many (many ++ (loud ∷ [])) (all-whole (session ∷ many) refl) [] refl (lit≤ tt) table [] room (markedAt many []) refl refl
+met-3-many =
+    demand-3-marked head refl session many (many ++ (loud ∷ [])) (all-whole (session ∷ many) refl) [] refl (lit≤ tt) (asked []) (markedAt many []) refl refl
 
-met-3-table : serve (requestOf head (session ∷ many ++ (loud ∷ [])) []) table [] room .table ≡ table
+met-3-table : serve (asked (requestOf head (session ∷ many ++ (loud ∷ [])) [])) .table ≡ table
 unfolding all isWhole allWhole many
-met-3-table = demand-3-table head refl session many (many ++ (loud ∷ [])) (all-whole (session ∷ many) refl) [] refl (lit≤ tt) table [] room (markedAt many [])
+met-3-table = demand-3-table head refl session many (many ++ (loud ∷ [])) (all-whole (session ∷ many) refl) [] refl (lit≤ tt) (asked []) (markedAt many [])
 
 -- the SAR as bytes is such a header and row
 allBytes : List ℕ → Bool
@@ -338,7 +365,18 @@ met-3-any = demand-3-any (sar s 5) (are-bytes (sar s 5) refl) refl refl
 -- In one sentence: the SAR of type 5 with two unmarked ones put in, and with a marked one behind them.
 cut-sar : Cut (sar s 5)
 unfolding all isWhole allWhole
-cut-sar = record { head = head; first = session; rest = rest s 5; tail = []; twenty = refl; whole = all-whole (session ∷ rest s 5) refl; fours = refl; stops = refl; joined = refl }
+cut-sar =
+    record {
+      head = head;
+      first = session;
+      rest = rest s 5;
+      tail = [];
+      twenty = refl;
+      whole = all-whole (session ∷ rest s 5) refl;
+      fours = refl;
+      stops = refl;
+      joined = refl;
+    }
 
 quietly : List Piece
 quietly = application ∷ plain ∷ zeroVendor ∷ common ++ own s 5
@@ -349,21 +387,33 @@ loudly = application ∷ plain ∷ loud ∷ common ++ own s 5
 longer-quietly : Longer (sar s 5) (requestOf head (session ∷ quietly) [])
 unfolding all quietly cut-sar
 longer-quietly =
-    record { cut = cut-sar; row = quietly; inserted = keep _ (put plain foreign-plain (put zeroVendor foreign-zero (kept (common ++ own s 5)))); bytes = refl; most = lit≤ tt }
+    record {
+      cut = cut-sar;
+      row = quietly;
+      inserted = keep _ (put plain foreign-plain (put zeroVendor foreign-zero (kept (common ++ own s 5))));
+      bytes = refl;
+      most = lit≤ tt;
+    }
 
 longer-loudly : Longer (sar s 5) (requestOf head (session ∷ loudly) [])
 unfolding all loudly cut-sar
 longer-loudly =
-    record { cut = cut-sar; row = loudly; inserted = keep _ (put plain foreign-plain (put loud foreign-loud (kept (common ++ own s 5)))); bytes = refl; most = lit≤ tt }
+    record {
+      cut = cut-sar;
+      row = loudly;
+      inserted = keep _ (put plain foreign-plain (put loud foreign-loud (kept (common ++ own s 5))));
+      bytes = refl;
+      most = lit≤ tt;
+    }
 
-met-3-quietly : serve (requestOf head (session ∷ quietly) []) table [] room ≡ comes removed (answer (numberBytes 268 2001) [])
+met-3-quietly : serve (asked (requestOf head (session ∷ quietly) [])) ≡ comes removed (answer (numberBytes 268 2001) [])
 unfolding all quietly longer-quietly cut-sar firstMark newer kept
-met-3-quietly = demand-3 (sar s 5) (requestOf head (session ∷ quietly) []) table [] room longer-quietly .comes ∙ removal
+met-3-quietly = demand-3 (asked (sar s 5)) (requestOf head (session ∷ quietly) []) longer-quietly .comes ∙ removal
 
-met-3-loudly : serve (requestOf head (session ∷ loudly) []) table [] room ≡ unsupported-answer
+met-3-loudly : serve (asked (requestOf head (session ∷ loudly) [])) ≡ unsupported-answer
 unfolding all loudly longer-loudly cut-sar firstMark newer kept unsupported-answer
-met-3-loudly = demand-3 (sar s 5) (requestOf head (session ∷ loudly) []) table [] room longer-loudly .comes
+met-3-loudly = demand-3 (asked (sar s 5)) (requestOf head (session ∷ loudly) []) longer-loudly .comes
 
-met-3-left : serve (requestOf head (session ∷ loudly) []) table [] room .table ≡ table
+met-3-left : serve (asked (requestOf head (session ∷ loudly) [])) .table ≡ table
 unfolding all loudly longer-loudly cut-sar firstMark kept
-met-3-left = demand-3 (sar s 5) (requestOf head (session ∷ loudly) []) table [] room longer-loudly .table _ refl
+met-3-left = demand-3 (asked (sar s 5)) (requestOf head (session ∷ loudly) []) longer-loudly .table _ refl

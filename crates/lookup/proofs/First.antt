@@ -90,26 +90,26 @@ first-some p count k a b e = go (firstFrom p count 1) refl
     go (At j) h = refl
     go Nothing h = absurd (true≢false (sym e ∙ first-fails p count 1 h k a (omega arith)))
 
-pub record Stands (p : ℕ → Bool) (n k m : ℕ) : Type 0 where
+pub record FirstAt (p : ℕ → Bool) (n k m : ℕ) : Type 0 where
   pub from : k ≤ m
   pub to : m < k + n
   pub holds : p m ≡ true
   pub first : (j : ℕ) → k ≤ j → j < m → p j ≡ false
 
-pub first-stands : (p : ℕ → Bool) (n k m : ℕ) → firstFrom p n k ≡ At m → Stands p n k m
+pub first-stands : (p : ℕ → Bool) (n k m : ℕ) → firstFrom p n k ≡ At m → FirstAt p n k m
 unfolding firstFrom
 first-stands p zero k m e = absurd (let z : _≡_ {A = ℕ} 0 1 = cc in omega arith)
 first-stands p (suc n) k m e = go (p k) refl e (first-stands p n (suc k) m)
   where
-    go : (x : Bool) → p k ≡ x → cond x (At k) (firstFrom p n (suc k)) ≡ At m → (firstFrom p n (suc k) ≡ At m → Stands p n (suc k) m) → Stands p (suc n) k m
+    go : (x : Bool) → p k ≡ x → cond x (At k) (firstFrom p n (suc k)) ≡ At m → (firstFrom p n (suc k) ≡ At m → FirstAt p n (suc k) m) → FirstAt p (suc n) k m
     go true f g r =
         let i : k ≡ m = cc in
         record { from = omega arith; to = omega arith; holds = rw (← i) f; first = λ j a b. absurd (omega arith) }
     go false f g r =
-        let s : Stands p n (suc k) m = r g in
+        let s : FirstAt p n (suc k) m = r g in
         record { from = omega arith; to = omega arith; holds = s .holds; first = λ j a b. earlier s f j (ltb k j) refl a b }
       where
-        earlier : Stands p n (suc k) m → p k ≡ false → (j : ℕ) (y : Bool) → ltb k j ≡ y → k ≤ j → j < m → p j ≡ false
+        earlier : FirstAt p n (suc k) m → p k ≡ false → (j : ℕ) (y : Bool) → ltb k j ≡ y → k ≤ j → j < m → p j ≡ false
         earlier s f j true h a b = s .first j (ltb-true k j h) b
         earlier s f j false h a b = let i : j ≡ k = omega (arith, ltb-false k j h) in rw i f
 

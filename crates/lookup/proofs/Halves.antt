@@ -16,7 +16,7 @@ use Rattle.lookup.specs.Find.{firstFrom, publicIs, findPublic}
 use Rattle.lookup.specs.SoundTable.{Ordered}
 use Rattle.lookup.specs.declared.Found.{Found}
 use Rattle.lookup.specs.declared.Found.the-variants.{At, Nothing}
-use Rattle.lookup.proofs.First.{first-skip, first-short, first-hit, first-at, first-none, first-fails, first-stands, first-same, Stands}
+use Rattle.lookup.proofs.First.{first-skip, first-short, first-hit, first-at, first-none, first-fails, first-stands, first-same, FirstAt}
 
 module _ (t : List ℕ) (count : ℕ) (ordered : Ordered t count) where
   -- Public identities rise from any block to any later one.
@@ -123,7 +123,7 @@ module _ (t : List ℕ) (count : ℕ) (name : List ℕ) where
   pub found-only : Ordered t count → (k : ℕ) → findPublic t count name ≡ At k → Only t count name k
   unfolding findPublic publicIs
   found-only ordered k e =
-      let s : Stands (publicIs t name) count 1 k = first-stands (publicIs t name) count 1 k e in
+      let s : FirstAt (publicIs t name) count 1 k = first-stands (publicIs t name) count 1 k e in
       let is : publicAt t k ≡ name = same-eq (publicAt t k) name (s .holds) in
       let to : k ≤ count = omega (arith, s .to) in
       record { from = s .from; to = to; named = is; alone = λ j a b q. one-block t count ordered j k a (s .from) b to (q ∙ sym is) }

@@ -18,8 +18,11 @@ use Rattle.deciding.specs.Passed.{Passed}
 use Rattle.deciding.specs.Plans.{Answers}
 use Rattle.ndushavire.specs.declared.Call.{Call}
 use Rattle.ndushavire.specs.declared.Call.the-variants.{Answered, Refused}
-use Rattle.ndushavire.specs.Serve.{refused, answered, wrongSize, wrongLength, serveChecked, serve}
-use Rattle.ndushavire.specs.Promise.{DecidePromise, Leaves}
+use Rattle.ndushavire.specs.Lent.{Lent, lent}
+use Rattle.ndushavire.specs.Trial.{tried}
+use Rattle.ndushavire.specs.Serve.{refused, answered, wrongSize, wrongLength, serve}
+use Rattle.ndushavire.specs.Leaves.{Leaves, serveChecked}
+use Rattle.ndushavire.specs.Promise.{DecidePromise}
 use Rattle.ndushavire.specs.Word.{callWord}
 use Rattle.fitting.proofs.Tests.{neither}
 
@@ -41,45 +44,50 @@ pub checked-sound : (t : List ℕ) (n count : ℕ) {c : Checked} → c ≡ check
 checked-sound t n count e f = sound-says t n count (sym e ∙ f)
 
 module _ (req t file o : List ℕ) (c : Checked) where
-  pub served-bad : (k : ℕ) → c ≡ Bad k → Leaves (serveChecked req t file o c) (Refused 5 k) t o
-  unfolding serveChecked refused
+  pub served-bad : (k : ℕ) → c ≡ Bad k → Leaves (serveChecked (lent req t file o) c) (Refused 5 k) t o
+  unfolding serveChecked tried refused
   served-bad k e = record { call-is = rw e; table-is = rw e; buffer-is = rw e }
 
   pub served-sound : (count n : ℕ) {t' o' : List ℕ} → c ≡ Sound count → Answers req t count file o o' n → t' ≡ decide req t count file .table
-      → Leaves (serveChecked req t file o c) (Answered n) t' o'
-  unfolding serveChecked answered
-  served-sound count n e a d = record { call-is = ap Answered (a .count) ∙ rw e; table-is = d ∙ rw e; buffer-is = a .bytes ∙ rw e }
+      → Leaves (serveChecked (lent req t file o) c) (Answered (record { length = n })) t' o'
+  unfolding serveChecked tried answered
+  served-sound count n e a d =
+      record { call-is = rw e (ap (λ (m : ℕ). Answered (record { length = m })) (a .count)); table-is = d ∙ rw e; buffer-is = a .bytes ∙ rw e }
 
 -- The five refusals, in their order.
 module _ (req t file o : List ℕ) where
-  pub call-buffer : length o < 36864 → Leaves (serve req t file o) (Refused 1 0) t o
-  unfolding serve refused
+  abbrev x : Lent
+  x = lent req t file o
+
+  pub call-buffer : length o < 36864 → Leaves (serve x) (Refused 1 0) t o
+  unfolding serve tried refused
   call-buffer a = let h = lt-ltb (length o) 36864 a in record { call-is = rw h; table-is = rw h; buffer-is = rw h }
 
   module _ (room : 36864 ≤ length o) where
-    pub call-size : wrongSize req ≡ true → Leaves (serve req t file o) (Refused 2 0) t o
-    unfolding serve refused
+    pub call-size : wrongSize req ≡ true → Leaves (serve x) (Refused 2 0) t o
+    unfolding serve tried refused
     call-size a = let h = le-ltb (length o) 36864 room in record { call-is = rw (h, a); table-is = rw (h, a); buffer-is = rw (h, a) }
 
-    module _ (fits : wrongSize req ≡ false) {x : Bool} (is : x ≡ wrongLength req) where
-      pub call-length : x ≡ true → Leaves (serve req t file o) (Refused 3 0) t o
-      unfolding serve refused
+    module _ (fits : wrongSize req ≡ false) {w : Bool} (is : w ≡ wrongLength req) where
+      pub call-length : w ≡ true → Leaves (serve x) (Refused 3 0) t o
+      unfolding serve tried refused
       call-length a =
           let h = le-ltb (length o) 36864 room in
           let l : wrongLength req ≡ true = sym is ∙ a in
           record { call-is = rw (h, fits, l); table-is = rw (h, fits, l); buffer-is = rw (h, fits, l) }
 
-      pub call-request : x ≡ false → getD req 4 0 < 128 → Leaves (serve req t file o) (Refused 4 0) t o
-      unfolding serve refused
+      pub call-request : w ≡ false → getD req 4 0 < 128 → Leaves (serve x) (Refused 4 0) t o
+      unfolding serve tried refused
       call-request a b =
           let h = le-ltb (length o) 36864 room in
           let l : wrongLength req ≡ false = sym is ∙ a in
           let q = lt-ltb (getD req 4 0) 128 b in
           record { call-is = rw (h, fits, l, q); table-is = rw (h, fits, l, q); buffer-is = rw (h, fits, l, q) }
 
-      pub call-rest : x ≡ false → 128 ≤ getD req 4 0 → (c : Checked) → c ≡ checkTable t (length file) → {r : Call} {t' o' : List ℕ} → Leaves (serveChecked req t file o c) r t' o'
-          → Leaves (serve req t file o) r t' o'
-      unfolding serve
+      pub call-rest : w ≡ false → 128 ≤ getD req 4 0 → (c : Checked) → c ≡ checkTable t (length file) → {r : Call} {t' o' : List ℕ}
+          → Leaves (serveChecked x c) r t' o'
+          → Leaves (serve x) r t' o'
+      unfolding serve tried serveChecked
       call-rest a b c d s =
           let h = le-ltb (length o) 36864 room in
           let l : wrongLength req ≡ false = sym is ∙ a in
@@ -87,8 +95,8 @@ module _ (req t file o : List ℕ) where
           rw (h, fits, l, q, ← d) s
 
 -- The call as a word.
-pub word-promised : (req t file o : List ℕ) {c : Call} {w : ℕ} {t' o' : List ℕ} → Leaves (serve req t file o) c t' o' → w ≡ callWord c → DecidePromise req t file o w t' o'
-word-promised req t file o s e = record { word-is = e ∙ ap callWord (s .call-is); table-is = s .table-is; buffer-is = s .buffer-is }
+pub word-promised : (x : Lent) {c : Call} {w : ℕ} {t' o' : List ℕ} → Leaves (serve x) c t' o' → w ≡ callWord c → DecidePromise x w t' o'
+word-promised x s e = record { word-is = e ∙ ap callWord (s .call-is); table-is = s .table-is; buffer-is = s .buffer-is }
 
 -- a size that is not wrong
 pub size-least : (req : List ℕ) → wrongSize req ≡ false → 20 ≤ length req

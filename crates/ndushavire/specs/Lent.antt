@@ -7,3 +7,10 @@ pub record Lent : Type 0 where
   pub table : List ℕ
   pub profile : List ℕ
   pub buffer : List ℕ
+
+abbrev pub lent : List ℕ → List ℕ → List ℕ → List ℕ → Lent
+lent request table profile buffer = record { request = request; table = table; profile = profile; buffer = buffer }
+
+-- the same with another request
+abbrev pub asking : Lent → List ℕ → Lent
+asking x request = record { request = request; table = x .table; profile = x .profile; buffer = x .buffer }

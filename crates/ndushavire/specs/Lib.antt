@@ -1,4 +1,6 @@
+pub mod Leaves
 pub mod Lent
 pub mod Promise
 pub mod Serve
+pub mod Trial
 pub mod Word

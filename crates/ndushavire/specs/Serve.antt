@@ -1,7 +1,7 @@
 -- One call: what it comes to, the table and the buffer afterwards, for any bytes.
 use Prim.Native.Nat.{ℕ, _%_}
-use mathlib.Core.List.{List}
-use mathlib.Core.Bool.{Bool, cond, not, _||_}
+use mathlib.Core.List.{List, [], _∷_}
+use mathlib.Core.Bool.{Bool, true, false, not, _||_}
 use lib.ListN.{length, getD}
 use lib.Dec.{eqb, ltb}
 use Rattle.octets.specs.Number.{be24At}
@@ -13,26 +13,17 @@ use Rattle.table.specs.declared.Checked.the-variants.{Sound, Bad}
 use Rattle.decisions.specs.Assignment.{Decision}
 use Rattle.decisions.specs.Decide.{decide}
 use Rattle.reply.specs.Answer.{answerBytes}
+use Rattle.ndushavire.specs.Lent.{Lent}
+use Rattle.ndushavire.specs.Trial.{Trial, tried}
+use Rattle.ndushavire.specs.Word.{checkValue}
 use Rattle.ndushavire.specs.declared.Call.{Call}
 use Rattle.ndushavire.specs.declared.Call.the-variants.{Answered, Refused}
 
+-- what comes of a call
 pub record Served : Type 0 where
   pub call : Call
   pub table : List ℕ
   pub buffer : List ℕ
-
--- "All leave table and buffer as they came."
-unfoldable pub refused : ℕ → ℕ → List ℕ → List ℕ → Served
-refused number besides t o = record { call = Refused number besides; table = t; buffer = o }
-
--- "Otherwise the call returns the answer's length; buffer bytes past it stay."
-unfoldable pub answered : List ℕ → List ℕ → List ℕ → Decision → Served
-answered req t o d =
-    record {
-      call = Answered (length (answerBytes req (blockOf t 0) (d .reply)));
-      table = d .table;
-      buffer = over (answerBytes req (blockOf t 0) (d .reply)) o;
-    }
 
 -- 1: "answer buffer under 36,864 bytes"
 abbrev pub smallBuffer : List ℕ → Bool
@@ -51,15 +42,41 @@ abbrev pub noRequest : List ℕ → Bool
 noRequest req = ltb (getD req 4 0) 128
 
 -- 5: "table unsound", with the "first bad block"
-unfoldable pub serveChecked : List ℕ → List ℕ → List ℕ → List ℕ → Checked → Served
-serveChecked req t file o (Sound count) = answered req t o (decide req t count file)
-serveChecked req t file o (Bad k) = refused 5 k t o
+abbrev pub isBad : Checked → Bool
+isBad (Sound count) = false
+isBad (Bad block) = true
 
--- "Five refusals of the call. Tried in this order."
-unfoldable pub serve : List ℕ → List ℕ → List ℕ → List ℕ → Served
-serve req t file o =
-    cond (smallBuffer o) (refused 1 0 t o)
-    (cond (wrongSize req) (refused 2 0 t o)
-    (cond (wrongLength req) (refused 3 0 t o)
-    (cond (noRequest req) (refused 4 0 t o)
-    (serveChecked req t file o (checkTable t (length file))))))
+abbrev pub unsound : Checked → Trial
+unsound c = record { holds = isBad c; number = 5; besides = checkValue c }
+
+abbrev pub checkOf : Lent → Checked
+checkOf x = checkTable (x .table) (length (x .profile))
+
+-- "Five refusals of the call", in their order, with what each returns besides
+abbrev pub trials : Lent → List Trial
+trials x =
+    record { holds = smallBuffer (x .buffer); number = 1; besides = 0 }
+    ∷ record { holds = wrongSize (x .request); number = 2; besides = 0 }
+    ∷ record { holds = wrongLength (x .request); number = 3; besides = 0 }
+    ∷ record { holds = noRequest (x .request); number = 4; besides = 0 }
+    ∷ unsound (checkOf x)
+    ∷ []
+
+-- "All leave table and buffer as they came."
+unfoldable pub refused : Lent → Trial → Served
+refused x r = record { call = Refused (r .number) (r .besides); table = x .table; buffer = x .buffer }
+
+-- the answer of a decision; "the call returns the answer's length; buffer bytes past it stay"
+abbrev pub answerOf : Lent → Decision → List ℕ
+answerOf x d = answerBytes (x .request) (blockOf (x .table) 0) (d .reply)
+
+unfoldable pub answered : Lent → Decision → Served
+answered x d = record { call = Answered (record { length = length (answerOf x d) }); table = d .table; buffer = over (answerOf x d) (x .buffer) }
+
+-- the decision over a table that is sound, of so many records
+abbrev pub decision : Lent → ℕ → Decision
+decision x count = decide (x .request) (x .table) count (x .profile)
+
+-- "Tried in this order. .. Otherwise the call returns the answer's length"
+unfoldable pub serve : Lent → Served
+serve x = tried (refused x) (answered x (decision x (checkValue (checkOf x)))) (trials x)

@@ -26,15 +26,15 @@ checkValue (Bad block) = block
 
 -- a call: number 0 with the answer's length; a refusal's number with what it returns besides
 abbrev pub callNumber : Call → ℕ
-callNumber (Answered n) = 0
+callNumber (Answered a) = 0
 callNumber (Refused number besides) = number
 
 abbrev pub callValue : Call → ℕ
-callValue (Answered n) = n
+callValue (Answered a) = a .length
 callValue (Refused number besides) = besides
 
 abbrev pub callWord : Call → ℕ
-callWord (Answered n) = word 0 n
+callWord (Answered a) = word 0 (a .length)
 callWord (Refused number besides) = word number besides
 
 -- what the caller reads out of a word: bits 48 to 63, 32 to 47 and 0 to 31, and the call that they say
@@ -48,7 +48,7 @@ abbrev pub valueIn : ℕ → ℕ
 valueIn w = w % 4294967296
 
 abbrev pub callBy : Bool → ℕ → ℕ → Call
-callBy true number value = Answered value
+callBy true number value = Answered (record { length = value })
 callBy false number value = Refused number value
 
 abbrev pub callIn : ℕ → Call

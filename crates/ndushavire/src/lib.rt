@@ -7,8 +7,10 @@ ghost use lib.ListN.{length};
 ghost use Rattle.table.specs.Check.{checkTable};
 ghost use Rattle.ndushavire.specs.Word.{word, checkWord, callWord};
 ghost use Rattle.deciding.specs.Passed.{Passed};
-ghost use Rattle.ndushavire.specs.Serve.{wrongLength, serveChecked, serve};
-ghost use Rattle.ndushavire.specs.Promise.{CheckPromise, DecidePromise, Leaves};
+ghost use Rattle.ndushavire.specs.Lent.{lent};
+ghost use Rattle.ndushavire.specs.Serve.{wrongLength, serve};
+ghost use Rattle.ndushavire.specs.Leaves.{Leaves, serveChecked};
+ghost use Rattle.ndushavire.specs.Promise.{CheckPromise, DecidePromise};
 
 // What the number of a returned word counts: 2^48.
 const NUMBER: u64 = 281474976710656;
@@ -31,9 +33,14 @@ const LEAST: usize = 20;
 
 const MOST: usize = 16384;
 
-// What a call comes to: the answer's length, or a refusal's number with what it returns besides.
+// What is said of an answer: its length.
+pub struct Answer {
+    length: u32,
+}
+
+// What a call comes to: an answer, or a refusal's number with what it returns besides.
 pub enum Call {
-    Answered(u32),
+    Answered(Answer),
     Refused { number: u16, besides: u32 },
 }
 
@@ -67,7 +74,7 @@ fn call_word(c: Call) -> u64
     ensures { λ r. ⌜ r ≡ callWord c ⌝ }
 {
     match c {
-        Call::Answered(n) => word(0, n),
+        Call::Answered(a) => word(0, a.length),
         Call::Refused { number, besides } => word(number, besides),
     }
 }
@@ -83,12 +90,13 @@ fn wrong_length(req: &[u8]) -> bool
 // A request that the first four refusals let pass, over a table that was checked.
 fn call_checked(c: Checked, req: &[u8], t: &mut [u8], file: &[u8], out: &mut [u8]) -> Call
     requires { ⌜ Passed (now req) (now out) × (c ≡ checkTable (now t) (length (now file))) ⌝ }
-    ensures { λ r. ⌜ Leaves (serveChecked (now (req .entry)) (now (t .entry)) (now (file .entry)) (now (out .entry)) c) r (now (t .exit)) (now (out .exit)) ⌝ }
+    ensures { λ r. ⌜ Leaves (serveChecked (lent (now (req .entry)) (now (t .entry)) (now (file .entry)) (now (out .entry))) c)
+        r (now (t .exit)) (now (out .exit)) ⌝ }
 {
     match c {
         Checked::Sound(count) => {
             let n = deciding::answer_sound(out, req, t, file, count as usize);
-            Call::Answered(n as u32)
+            Call::Answered(Answer { length: n as u32 })
         }
         Checked::Bad(block) => Call::Refused {
             number: UNSOUND,
@@ -99,7 +107,8 @@ fn call_checked(c: Checked, req: &[u8], t: &mut [u8], file: &[u8], out: &mut [u8
 
 // "Five refusals of the call. Tried in this order."
 fn one_call(req: &[u8], t: &mut [u8], file: &[u8], out: &mut [u8]) -> Call
-    ensures { λ r. ⌜ Leaves (serve (now (req .entry)) (now (t .entry)) (now (file .entry)) (now (out .entry))) r (now (t .exit)) (now (out .exit)) ⌝ }
+    ensures { λ r. ⌜ Leaves (serve (lent (now (req .entry)) (now (t .entry)) (now (file .entry)) (now (out .entry))))
+        r (now (t .exit)) (now (out .exit)) ⌝ }
 {
     if out.len() < ROOM {
         return Call::Refused {
@@ -137,7 +146,8 @@ pub extern "C" fn ndushavire_decide(
     profile: &[u8],
     answer: &mut [u8],
 ) -> u64
-    ensures { λ r. ⌜ DecidePromise (now (request .entry)) (now (table .entry)) (now (profile .entry)) (now (answer .entry)) r (now (table .exit)) (now (answer .exit)) ⌝ }
+    ensures { λ r. ⌜ DecidePromise (lent (now (request .entry)) (now (table .entry)) (now (profile .entry)) (now (answer .entry)))
+        r (now (table .exit)) (now (answer .exit)) ⌝ }
 {
     call_word(one_call(request, table, profile, answer))
 }

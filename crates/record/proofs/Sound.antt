@@ -6,18 +6,16 @@ use mathlib.Core.List.{List, [], _∷_}
 use lib.Dec.{eqb}
 use Rattle.octets.specs.Sum.{sumWords}
 use Rattle.octets.proofs.Chains.{chain-says}
-use Rattle.record.specs.Fields.{soundHead}
-use Rattle.record.specs.HeaderBlock as header
-use Rattle.record.specs.HeaderBlock.{headerOf, soundCounts, soundNumbers, soundHeader}
+use Rattle.record.specs.HeaderBlock.{headerOf, soundCounts, isHeader, soundNumbers, soundHeaderRest, soundHeader}
 use Rattle.record.specs.Networks.{soundNetworks}
-use Rattle.record.specs.RecordBlock.{recordOf, soundLimits, soundServer, soundRoaming, soundProfile, soundRest, soundRecord}
+use Rattle.record.specs.RecordBlock.{recordOf, isRecord, soundLimits, soundServer, soundRoaming, soundProfile, soundRest, soundRecord}
 use Rattle.record.specs.declared.header.Header.{Header}
 use Rattle.record.specs.declared.subscriber.Record.{Record}
 use Rattle.record.proofs.Tests.{Limits, limits-say, HeaderTests, header-says}
 
-pub header-all : (b : List ℕ) (h : Header) (s : ℕ) (c t n r w : Bool) → h ≡ headerOf b → c ≡ soundCounts h → s ≡ sumWords b 128 → t ≡ soundHead b 1 0
+pub header-all : (b : List ℕ) (h : Header) (s : ℕ) (c t n r w : Bool) → h ≡ headerOf b → c ≡ soundCounts h → s ≡ sumWords b 128 → t ≡ isHeader h
     → n ≡ soundNumbers h
-    → r ≡ header.soundRest b h → w ≡ soundNetworks b (h .networks) → (c && (eqb s 0 && t && n && r && w)) ≡ soundHeader b
+    → r ≡ soundHeaderRest b h → w ≡ soundNetworks b (h .networks) → (c && (eqb s 0 && t && n && r && w)) ≡ soundHeader b
 unfolding soundHeader
 header-all b h s c t n r w eh ec es et en er ew = rw (ew, er, en, et, es, ec, eh)
 
@@ -32,7 +30,7 @@ module _ (q : Record) (z h l n r w : Bool) (el : l ≡ soundLimits q) (good : (z
   pub limits-optional : q .optional ≤ 4
   limits-optional = within .optional
 
-module _ (b : List ℕ) (k networks file : ℕ) (q : Record) (s : ℕ) (h l n r w : Bool) (eq : q ≡ recordOf b) (es : s ≡ sumWords b 128) (eh : h ≡ soundHead b 2 k)
+module _ (b : List ℕ) (k networks file : ℕ) (q : Record) (s : ℕ) (h l n r w : Bool) (eq : q ≡ recordOf b) (es : s ≡ sumWords b 128) (eh : h ≡ isRecord q k)
     (el : l ≡ soundLimits q) (en : n ≡ soundServer q) (er : r ≡ soundRoaming q networks) (ew : w ≡ soundProfile q file) where
   record-whole : (eqb s 0 && h && l && n && r && w && soundRest b q) ≡ soundRecord b k networks file
   unfolding soundRecord

@@ -8,17 +8,15 @@ use borrow.Author.Tests.{eqb-true, leb-true, eq-eqb, le-leb}
 use Rattle.octets.specs.Run.{zeroBetween}
 use Rattle.octets.specs.Sum.{sumWords}
 use Rattle.octets.proofs.Chains.{chain-says, _also_}
-use Rattle.record.specs.Fields.{soundHead}
-use Rattle.record.specs.HeaderBlock as header
-use Rattle.record.specs.HeaderBlock.{headerOf, soundCounts, soundNumbers, soundHeader}
+use Rattle.record.specs.HeaderBlock.{headerOf, soundCounts, isHeader, soundNumbers, soundHeaderRest, soundHeader}
 use Rattle.record.specs.Networks.{soundNetworks}
-use Rattle.record.specs.RecordBlock.{recordOf, soundLimits, soundServer, soundRoaming, soundProfile, soundRest, soundRecord}
+use Rattle.record.specs.RecordBlock.{recordOf, isRecord, soundLimits, soundServer, soundRoaming, soundProfile, soundRest, soundRecord}
 use Rattle.record.specs.declared.subscriber.Record.{Record}
 
 -- A record block: its tests, its limits, and what is zero in it.
 pub record RecordTests (b : List ℕ) (k networks file : ℕ) : Type 0 where
   pub sum : sumWords b 128 ≡ 0
-  pub head : soundHead b 2 k ≡ true
+  pub head : isRecord (recordOf b) k ≡ true
   pub limits : soundLimits (recordOf b) ≡ true
   pub server : soundServer (recordOf b) ≡ true
   pub roaming : soundRoaming (recordOf b) networks ≡ true
@@ -69,7 +67,8 @@ limits-hold r l =
     le-leb _ _ (l .state) also le-leb _ _ (l .bits) also le-leb _ _ (l .mandatory) also le-leb _ _ (l .optional) also le-leb _ _ (l .public-some)
     also le-leb _ _ (l .public) also le-leb _ _ (l .private-some) also le-leb _ _ (l .private) also le-leb _ _ (l .server) also le-leb _ _ (l .size)
 
-pub record Rest (b : List ℕ) (r : Record) : Type 0 where
+pub record Zeros (b : List ℕ) (r : Record) : Type 0 where
+  pub blank : zeroBetween b 2 4 ≡ true
   pub public : zeroBetween b (16 + r .public) 144 ≡ true
   pub private : zeroBetween b (144 + r .private) 272 ≡ true
   pub server : zeroBetween b (272 + r .server) 368 ≡ true
@@ -78,21 +77,22 @@ pub record Rest (b : List ℕ) (r : Record) : Type 0 where
   pub last : zeroBetween b 406 508 ≡ true
 
 module _ (b : List ℕ) (r : Record) where
-  pub rest-says : soundRest b r ≡ true → Rest b r
+  pub rest-says : soundRest b r ≡ true → Zeros b r
   rest-says e =
-      let s = chain-says _ (_ ∷ _ ∷ _ ∷ _ ∷ _ ∷ []) e in
-      record { public = s 0; private = s 1; server = s 2; mandatory = s 3; optional = s 4; last = s 5 }
+      let s = chain-says _ (_ ∷ _ ∷ _ ∷ _ ∷ _ ∷ _ ∷ []) e in
+      record { blank = s 0; public = s 1; private = s 2; server = s 3; mandatory = s 4; optional = s 5; last = s 6 }
 
-  pub rest-holds : Rest b r → soundRest b r ≡ true
-  rest-holds p = p .public also p .private also p .server also p .mandatory also p .optional also p .last
+  pub rest-holds : Zeros b r → soundRest b r ≡ true
+  rest-holds p = p .blank also p .public also p .private also p .server also p .mandatory also p .optional also p .last
 
--- The header block: what its numbers are within, and its networks.
+-- The header block: what its numbers are within, its last zeros, and its networks.
 pub record HeaderTests (b : List ℕ) : Type 0 where
   pub count : headerOf b .count ≤ 4096
   pub networks : headerOf b .networks ≤ 8
   pub keep : headerOf b .keep ≤ 1
   pub host : headerOf b .host ≤ 64
   pub realm : headerOf b .realm ≤ 64
+  pub last : zeroBetween b 400 508 ≡ true
   pub places : soundNetworks b (headerOf b .networks) ≡ true
 
 pub header-says : (b : List ℕ) → soundHeader b ≡ true → HeaderTests b
@@ -100,14 +100,16 @@ unfolding soundHeader
 header-says b e =
     let two = chain-says (soundCounts (headerOf b)) (_ ∷ []) e in
     let c = chain-says _ (_ ∷ []) (two 0) in
-    let tests : List Bool = soundHead b 1 0 ∷ soundNumbers (headerOf b) ∷ header.soundRest b (headerOf b) ∷ soundNetworks b (headerOf b .networks) ∷ [] in
+    let tests : List Bool = isHeader (headerOf b) ∷ soundNumbers (headerOf b) ∷ soundHeaderRest b (headerOf b) ∷ soundNetworks b (headerOf b .networks) ∷ [] in
     let s = chain-says (eqb (sumWords b 128) 0) tests (two 1) in
     let n = chain-says (leb (headerOf b .keep) 1) (_ ∷ _ ∷ _ ∷ _ ∷ []) (s 2) in
+    let z = chain-says (zeroBetween b 2 4) (_ ∷ _ ∷ _ ∷ []) (s 3) in
     record {
       count = leb-true _ _ (c 0);
       networks = leb-true _ _ (c 1);
       keep = leb-true _ _ (n 0);
       host = leb-true _ _ (n 2);
       realm = leb-true _ _ (n 4);
+      last = z 3;
       places = s 4;
     }

@@ -1,44 +1,35 @@
--- What every block begins with, the names that stand in a block, a record's capabilities, profile and bits.
+-- The fields of a block by their names: its numbers, the names that stand in it, a record's capabilities, profile and bits.
 use Prim.Native.Nat.{ℕ, _*_, _/_, _%_, _-_}
-use mathlib.Core.Bool.{Bool, _&&_}
+use mathlib.Core.Bool.{Bool}
 use mathlib.Core.List.{List}
 use lib.ListN.{getD, take, drop}
 use lib.Dec.{eqb}
 use Rattle.octets.specs.Number.{be16At, be32At}
 
--- "0 kind", "1 edition 1", "4-7 block number"; the two bytes not named are zero
-abbrev pub soundHead : List ℕ → ℕ → ℕ → Bool
-soundHead b kind k = eqb (getD b 0 0) kind && eqb (getD b 1 0) 1 && eqb (getD b 2 0) 0 && eqb (getD b 3 0) 0 && eqb (be32At b 4) k
+-- Header: "8-11 count; 12 keep; 13, 14 lengths of host and realm; 15 networks"
+abbrev pub countOf : List ℕ → ℕ
+countOf b = be32At b 8
 
--- Header: "13, 14 lengths of host and realm; 16-79 host; 80-143 realm"
+abbrev pub keepOf : List ℕ → ℕ
+keepOf b = getD b 12 0
+
+abbrev pub hostSize : List ℕ → ℕ
+hostSize b = getD b 13 0
+
+abbrev pub realmSize : List ℕ → ℕ
+realmSize b = getD b 14 0
+
+abbrev pub networksOf : List ℕ → ℕ
+networksOf b = getD b 15 0
+
+-- "16-79 host; 80-143 realm"
 unfoldable pub hostOf : List ℕ → List ℕ
-hostOf b = take (getD b 13 0) (drop 16 b)
+hostOf b = take (hostSize b) (drop 16 b)
 
 unfoldable pub realmOf : List ℕ → List ℕ
-realmOf b = take (getD b 14 0) (drop 80 b)
+realmOf b = take (realmSize b) (drop 80 b)
 
--- Record: "13, 14, 15 lengths of public identity, private identity, server name; 16-143, 144-271, 272-367 these names"
-unfoldable pub publicOf : List ℕ → List ℕ
-publicOf b = take (getD b 13 0) (drop 16 b)
-
-unfoldable pub privateOf : List ℕ → List ℕ
-privateOf b = take (getD b 14 0) (drop 144 b)
-
-unfoldable pub serverOf : List ℕ → List ℕ
-serverOf b = take (getD b 15 0) (drop 272 b)
-
--- "11, 12 counts of mandatory and optional capabilities; 368-383, 384-399 capabilities, 32 bits each": the bytes of their words
-unfoldable pub mandatoryOf : List ℕ → List ℕ
-mandatoryOf b = take (4 * getD b 11 0) (drop 368 b)
-
-unfoldable pub optionalOf : List ℕ → List ℕ
-optionalOf b = take (4 * getD b 12 0) (drop 384 b)
-
--- "400-403 and 404-405 profile start and length": the part of the profile file that is a record's
-unfoldable pub profileOf : List ℕ → List ℕ → List ℕ
-profileOf b file = take (be16At b 404) (drop (be32At b 400) file)
-
--- "8 state; 9 bits; 10 roaming"; the length of the server name
+-- Record: "8 state; 9 bits; 10 roaming; 11, 12 counts of mandatory and optional capabilities; 13, 14, 15 lengths of public identity, private identity, server name"
 abbrev pub stateOf : List ℕ → ℕ
 stateOf b = getD b 8 0
 
@@ -48,8 +39,47 @@ bitsOf b = getD b 9 0
 abbrev pub roamingOf : List ℕ → ℕ
 roamingOf b = getD b 10 0
 
+abbrev pub mandatoryCount : List ℕ → ℕ
+mandatoryCount b = getD b 11 0
+
+abbrev pub optionalCount : List ℕ → ℕ
+optionalCount b = getD b 12 0
+
+abbrev pub publicSize : List ℕ → ℕ
+publicSize b = getD b 13 0
+
+abbrev pub privateSize : List ℕ → ℕ
+privateSize b = getD b 14 0
+
 abbrev pub serverSize : List ℕ → ℕ
 serverSize b = getD b 15 0
+
+-- "16-143, 144-271, 272-367 these names"
+unfoldable pub publicOf : List ℕ → List ℕ
+publicOf b = take (publicSize b) (drop 16 b)
+
+unfoldable pub privateOf : List ℕ → List ℕ
+privateOf b = take (privateSize b) (drop 144 b)
+
+unfoldable pub serverOf : List ℕ → List ℕ
+serverOf b = take (serverSize b) (drop 272 b)
+
+-- "368-383, 384-399 capabilities, 32 bits each": the bytes of their words
+unfoldable pub mandatoryOf : List ℕ → List ℕ
+mandatoryOf b = take (4 * mandatoryCount b) (drop 368 b)
+
+unfoldable pub optionalOf : List ℕ → List ℕ
+optionalOf b = take (4 * optionalCount b) (drop 384 b)
+
+-- "400-403 and 404-405 profile start and length": the part of the profile file that is a record's
+abbrev pub profileStart : List ℕ → ℕ
+profileStart b = be32At b 400
+
+abbrev pub profileSize : List ℕ → ℕ
+profileSize b = be16At b 404
+
+unfoldable pub profileOf : List ℕ → List ℕ → List ℕ
+profileOf b file = take (profileSize b) (drop (profileStart b) file)
 
 -- "bits 0 pending, 1 barred, 2 unregistered services"
 abbrev pub pending : ℕ → Bool

@@ -8,26 +8,40 @@ use lib.Dec.{eqb, leb}
 use Rattle.octets.specs.Number.{be32At}
 use Rattle.octets.specs.Run.{zeroBetween}
 use Rattle.octets.specs.Sum.{sumWords}
-use Rattle.record.specs.Fields.{soundHead}
+use Rattle.record.specs.Fields.{countOf, keepOf, hostSize, realmSize, networksOf}
 use Rattle.record.specs.Networks.{soundNetworks}
 use Rattle.record.specs.declared.header.Header.{Header}
 
 unfoldable pub headerOf : List ℕ → Header
-headerOf b = record { count = be32At b 8; keep = getD b 12 0; host = getD b 13 0; realm = getD b 14 0; networks = getD b 15 0 }
+headerOf b =
+    record {
+      kind = getD b 0 0;
+      edition = getD b 1 0;
+      number = be32At b 4;
+      count = countOf b;
+      keep = keepOf b;
+      host = hostSize b;
+      realm = realmSize b;
+      networks = networksOf b;
+    }
 
 -- "0 to 4,096" records; networks "0 to 8"
 abbrev pub soundCounts : Header → Bool
 soundCounts h = leb (h .count) 4096 && leb (h .networks) 8
 
+-- "0 kind 1; 1 edition 1; 4-7 block number 0"
+abbrev pub isHeader : Header → Bool
+isHeader h = eqb (h .kind) 1 && eqb (h .edition) 1 && eqb (h .number) 0
+
 abbrev pub soundNumbers : Header → Bool
 soundNumbers h = leb (h .keep) 1 && leb 1 (h .host) && leb (h .host) 64 && leb 1 (h .realm) && leb (h .realm) 64
 
 -- "Bytes not named are zero, and so are unused places in a field."
-abbrev pub soundRest : List ℕ → Header → Bool
-soundRest b h = zeroBetween b (16 + h .host) 80 && zeroBetween b (80 + h .realm) 144 && zeroBetween b 400 508
+abbrev pub soundHeaderRest : List ℕ → Header → Bool
+soundHeaderRest b h = zeroBetween b 2 4 && zeroBetween b (16 + h .host) 80 && zeroBetween b (80 + h .realm) 144 && zeroBetween b 400 508
 
 -- a sound header block; the counts stand first, since the check of the records rests on them
 unfoldable pub soundHeader : List ℕ → Bool
 soundHeader b =
     soundCounts (headerOf b)
-    && (eqb (sumWords b 128) 0 && soundHead b 1 0 && soundNumbers (headerOf b) && soundRest b (headerOf b) && soundNetworks b (headerOf b .networks))
+    && (eqb (sumWords b 128) 0 && isHeader (headerOf b) && soundNumbers (headerOf b) && soundHeaderRest b (headerOf b) && soundNetworks b (headerOf b .networks))

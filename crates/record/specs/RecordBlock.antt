@@ -6,26 +6,33 @@ use mathlib.Core.Bool.{Bool, _&&_, _||_, not}
 use mathlib.Core.List.{List}
 use lib.ListN.{getD}
 use lib.Dec.{eqb, leb, ltb}
-use Rattle.octets.specs.Number.{be16At, be32At}
+use Rattle.octets.specs.Number.{be32At}
 use Rattle.octets.specs.Run.{zeroBetween}
 use Rattle.octets.specs.Sum.{sumWords}
-use Rattle.record.specs.Fields.{stateOf, bitsOf, roamingOf, serverSize, soundHead, pending}
+use Rattle.record.specs.Fields.{stateOf, bitsOf, roamingOf, mandatoryCount, optionalCount, publicSize, privateSize, serverSize, profileStart, profileSize, pending}
 use Rattle.record.specs.declared.subscriber.Record.{Record}
 
 unfoldable pub recordOf : List ℕ → Record
 recordOf b =
     record {
+      kind = getD b 0 0;
+      edition = getD b 1 0;
+      number = be32At b 4;
       state = stateOf b;
       bits = bitsOf b;
       roaming = roamingOf b;
-      mandatory = getD b 11 0;
-      optional = getD b 12 0;
-      public = getD b 13 0;
-      private = getD b 14 0;
+      mandatory = mandatoryCount b;
+      optional = optionalCount b;
+      public = publicSize b;
+      private = privateSize b;
       server = serverSize b;
-      start = be32At b 400;
-      size = be16At b 404;
+      start = profileStart b;
+      size = profileSize b;
     }
+
+-- "0 kind 2; 1 edition 1; 4-7 block number"
+abbrev pub isRecord : Record → ℕ → Bool
+isRecord r k = eqb (r .kind) 2 && eqb (r .edition) 1 && eqb (r .number) k
 
 -- state 0 to 2; bits 0 to 2 and no others; capabilities "0 to 4 each"; identities "1 to 128", server name "0 to 96"; profile length "at most 4,096"
 abbrev pub soundLimits : Record → Bool
@@ -34,8 +41,11 @@ soundLimits r =
     && leb (r .private) 128 && leb (r .server) 96 && leb (r .size) 4096
 
 -- "State 1 or 2 needs a server name; state 0 has one exactly if pending is set."
+abbrev pub serverFits : ℕ → ℕ → ℕ → Bool
+serverFits size state bits = eqb size 0 && (eqb state 0 && not (pending bits)) || ltb 0 size && (ltb 0 state || pending bits)
+
 abbrev pub soundServer : Record → Bool
-soundServer r = eqb (r .server) 0 && (eqb (r .state) 0 && not (pending (r .bits))) || ltb 0 (r .server) && (ltb 0 (r .state) || pending (r .bits))
+soundServer r = serverFits (r .server) (r .state) (r .bits)
 
 -- "roaming, bit n for network n, none past the last"
 abbrev pub soundRoaming : Record → ℕ → Bool
@@ -48,11 +58,11 @@ soundProfile r file = leb (r .start + r .size) file
 -- "Bytes not named are zero, and so are unused places in a field."
 abbrev pub soundRest : List ℕ → Record → Bool
 soundRest b r =
-    zeroBetween b (16 + r .public) 144 && zeroBetween b (144 + r .private) 272 && zeroBetween b (272 + r .server) 368
+    zeroBetween b 2 4 && zeroBetween b (16 + r .public) 144 && zeroBetween b (144 + r .private) 272 && zeroBetween b (272 + r .server) 368
     && zeroBetween b (368 + 4 * r .mandatory) 384 && zeroBetween b (384 + 4 * r .optional) 400 && zeroBetween b 406 508
 
 -- block k is a sound record, under a header with so many networks and beside a profile file of such a length
 unfoldable pub soundRecord : List ℕ → ℕ → ℕ → ℕ → Bool
 soundRecord b k networks file =
-    eqb (sumWords b 128) 0 && soundHead b 2 k && soundLimits (recordOf b) && soundServer (recordOf b) && soundRoaming (recordOf b) networks
+    eqb (sumWords b 128) 0 && isRecord (recordOf b) k && soundLimits (recordOf b) && soundServer (recordOf b) && soundRoaming (recordOf b) networks
     && soundProfile (recordOf b) file && soundRest b (recordOf b)

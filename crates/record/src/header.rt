@@ -1,15 +1,17 @@
 // The header block.
-use crate::head;
 use crate::networks;
 use octets::number;
 use octets::run;
 use octets::sum;
 ghost use mathlib.Core.Path.{_≡_};
 ghost use lib.ListN.{length};
-ghost use Rattle.record.specs.HeaderBlock.{headerOf, soundCounts, soundNumbers, soundRest, soundHeader};
+ghost use Rattle.record.specs.HeaderBlock.{headerOf, soundCounts, isHeader, soundNumbers, soundHeaderRest, soundHeader};
 
 // The numbers of the header block. Its names stay in the table.
 pub struct Header {
+    pub kind: u8,
+    pub edition: u8,
+    pub number: u32,
     pub count: u32,
     pub keep: u8,
     pub host: u8,
@@ -19,6 +21,14 @@ pub struct Header {
 
 impl Header {
     // Where each field stands.
+    pub const KIND_AT: usize = 0;
+
+    pub const EDITION_AT: usize = 1;
+
+    pub const BLANK_AT: usize = 2;
+
+    pub const NUMBER_AT: usize = 4;
+
     pub const COUNT_AT: usize = 8;
 
     pub const KEEP_AT: usize = 12;
@@ -42,6 +52,8 @@ impl Header {
     // What each may hold.
     pub const KIND: u8 = 1;
 
+    pub const EDITION: u8 = 1;
+
     pub const NUMBER: u32 = 0;
 
     pub const MOST_COUNT: u32 = 4096;
@@ -58,6 +70,9 @@ impl Header {
         ensures { λ r. ⌜ r ≡ headerOf (now (b .entry)) ⌝ }
     {
         Header {
+            kind: b[Header::KIND_AT],
+            edition: b[Header::EDITION_AT],
+            number: number::be32(b, Header::NUMBER_AT),
             count: number::be32(b, Header::COUNT_AT),
             keep: b[Header::KEEP_AT],
             host: b[Header::HOST_LENGTH_AT],
@@ -74,6 +89,13 @@ fn counts(h: Header) -> bool
     (h.count <= Header::MOST_COUNT) & (h.networks <= Header::MOST_NETWORKS)
 }
 
+// The kind, the edition and the block's number.
+fn is_header(h: Header) -> bool
+    ensures { λ r. ⌜ r ≡ isHeader h ⌝ }
+{
+    (h.kind == Header::KIND) & (h.edition == Header::EDITION) & (h.number == Header::NUMBER)
+}
+
 // Keep, and the lengths of host and realm.
 fn numbers(h: Header) -> bool
     ensures { λ r. ⌜ r ≡ soundNumbers h ⌝ }
@@ -88,9 +110,10 @@ fn numbers(h: Header) -> bool
 // The tails of host and realm, and the bytes not named.
 fn rest(b: &[u8], h: Header) -> bool
     requires { ⌜ length (now b) ≡ 512 ⌝ }
-    ensures { λ r. ⌜ r ≡ soundRest (now (b .entry)) h ⌝ }
+    ensures { λ r. ⌜ r ≡ soundHeaderRest (now (b .entry)) h ⌝ }
 {
-    run::zero_tail(b, Header::HOST_AT, Header::REALM_AT, h.host)
+    run::zero_between(b, Header::BLANK_AT, Header::NUMBER_AT)
+        & run::zero_tail(b, Header::HOST_AT, Header::REALM_AT, h.host)
         & run::zero_tail(b, Header::REALM_AT, Header::PLACES_AT, h.realm)
         & run::zero_between(b, Header::REST_AT, Header::CHECK_AT)
 }
@@ -103,7 +126,7 @@ pub fn sound(b: &[u8]) -> bool
     let h = Header::read(b);
     counts(h)
         & ((sum::sum_fours(b, 32) == 0)
-            & head::sound(b, Header::KIND, Header::NUMBER)
+            & is_header(h)
             & numbers(h)
             & rest(b, h)
             & networks::sound(b, h.networks as usize))

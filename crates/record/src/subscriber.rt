@@ -1,15 +1,18 @@
 // A record block: one public identity of a subscriber.
-use crate::head;
 use octets::number;
 use octets::run;
 use octets::sum;
 ghost use mathlib.Core.Path.{_≡_};
 ghost use Prim.Native.Nat.{_≤_};
 ghost use lib.ListN.{length};
-ghost use Rattle.record.specs.RecordBlock.{recordOf, soundLimits, soundServer, soundRoaming, soundProfile, soundRest, soundRecord};
+ghost use Rattle.record.specs.Fields.{pending, barred, unregisteredServices, cleared};
+ghost use Rattle.record.specs.RecordBlock.{recordOf, isRecord, soundLimits, soundServer, soundRoaming, soundProfile, soundRest, soundRecord};
 
 // The numbers of a record block. Its names stay in the table.
 pub struct Record {
+    pub kind: u8,
+    pub edition: u8,
+    pub number: u32,
     pub state: u8,
     pub bits: u8,
     pub roaming: u8,
@@ -24,6 +27,14 @@ pub struct Record {
 
 impl Record {
     // Where each field stands.
+    pub const KIND_AT: usize = 0;
+
+    pub const EDITION_AT: usize = 1;
+
+    pub const BLANK_AT: usize = 2;
+
+    pub const NUMBER_AT: usize = 4;
+
     pub const STATE_AT: usize = 8;
 
     pub const BITS_AT: usize = 9;
@@ -64,6 +75,8 @@ impl Record {
     // What each may hold.
     pub const KIND: u8 = 2;
 
+    pub const EDITION: u8 = 1;
+
     pub const MOST_STATE: u8 = 2;
 
     pub const MOST_BITS: u8 = 7;
@@ -82,6 +95,9 @@ impl Record {
         ensures { λ r. ⌜ r ≡ recordOf (now (b .entry)) ⌝ }
     {
         Record {
+            kind: b[Record::KIND_AT],
+            edition: b[Record::EDITION_AT],
+            number: number::be32(b, Record::NUMBER_AT),
             state: b[Record::STATE_AT],
             bits: b[Record::BITS_AT],
             roaming: b[Record::ROAMING_AT],
@@ -94,6 +110,39 @@ impl Record {
             size: number::be16(b, Record::PROFILE_LENGTH_AT),
         }
     }
+
+    // "bits 0 pending, 1 barred, 2 unregistered services"
+    pub fn pending(self) -> bool
+        ensures { λ r. ⌜ r ≡ pending (self .bits) ⌝ }
+    {
+        self.bits % 2 == 1
+    }
+
+    pub fn barred(self) -> bool
+        ensures { λ r. ⌜ r ≡ barred (self .bits) ⌝ }
+    {
+        self.bits / 2 % 2 == 1
+    }
+
+    pub fn unregistered_services(self) -> bool
+        ensures { λ r. ⌜ r ≡ unregisteredServices (self .bits) ⌝ }
+    {
+        self.bits / 4 % 2 == 1
+    }
+
+    // The bits with pending cleared.
+    pub fn cleared(self) -> u8
+        ensures { λ r. ⌜ r ≡ cleared (self .bits) ⌝ }
+    {
+        self.bits - self.bits % 2
+    }
+}
+
+// The kind, the edition and the block's number.
+fn is_record(r: Record, k: u32) -> bool
+    ensures { λ x. ⌜ x ≡ isRecord r k ⌝ }
+{
+    (r.kind == Record::KIND) & (r.edition == Record::EDITION) & (r.number == k)
 }
 
 // Each number within its limits.
@@ -116,8 +165,8 @@ fn limits(r: Record) -> bool
 fn server_sound(r: Record) -> bool
     ensures { λ x. ⌜ x ≡ soundServer r ⌝ }
 {
-    (r.server == 0) & ((r.state == 0) & !(r.bits % 2 == 1))
-        | (0 < r.server) & ((0 < r.state) | (r.bits % 2 == 1))
+    let pending = r.pending();
+    (r.server == 0) & ((r.state == 0) & !pending) | (0 < r.server) & ((0 < r.state) | pending)
 }
 
 // No roaming bit past the last network.
@@ -140,7 +189,8 @@ fn rest(b: &[u8], r: Record) -> bool
     requires { ⌜ (length (now b) ≡ 512) × (r .mandatory ≤ 4) × (r .optional ≤ 4) ⌝ }
     ensures { λ x. ⌜ x ≡ soundRest (now (b .entry)) r ⌝ }
 {
-    run::zero_long_tail(b, Record::PUBLIC_AT, Record::PRIVATE_AT, r.public)
+    run::zero_between(b, Record::BLANK_AT, Record::NUMBER_AT)
+        & run::zero_long_tail(b, Record::PUBLIC_AT, Record::PRIVATE_AT, r.public)
         & run::zero_long_tail(b, Record::PRIVATE_AT, Record::SERVER_AT, r.private)
         & run::zero_long_tail(b, Record::SERVER_AT, Record::MANDATORY_AT, r.server)
         & run::zero_tail(
@@ -166,7 +216,7 @@ pub fn sound(b: &[u8], k: u32, networks: u32, file: usize) -> bool
     let total = sum::sum_fours(b, 32);
     let r = Record::read(b);
     if (total == 0)
-        & head::sound(b, Record::KIND, k)
+        & is_record(r, k)
         & limits(r)
         & server_sound(r)
         & roams(r, networks)

@@ -3,22 +3,19 @@ use Prim.Native.Nat.{ℕ, zero, suc, pred, _+_, _-_, _%_, _≤_}
 use mathlib.Core.Path.{_≡_, refl}
 use mathlib.Core.Bool.{Bool, true, false, cond, _&&_}
 use mathlib.Core.List.{List, [], _∷_}
-use mathlib.Core.Option.{some}
 use native.Mathlib.Omega.{arith}
-use lib.Dec.{eqb, leb}
-use lib.ListN.{length, take, drop, set, replicate, length-append, length-take, length-drop, length-set}
+use lib.Dec.{eqb}
+use lib.ListN.{length, take, drop, length-append, length-drop}
 use lib.Seq.{length-take-le}
 use borrow.Author.Tests.{eqb-true, ne-eqb}
-use Rattle.diameter.specs.Avp.{padded, avpFlags, avpHead, avpLen, reserved, sound}
+use Rattle.diameter.specs.Avp.{padded, avpFlags, avpLen, reserved, sound}
 use Rattle.diameter.specs.Walk.{Walk, avp, onSound, walkFrom, walk}
 use Rattle.diameter.proofs.Walks.{sound-says}
-use Rattle.pen.specs.Bytes.{copied, copiedSize, avpBytes, vendorBytes, ifThere}
-use Rattle.pen.proofs.Sizes.{copied-length, there-length, avp-length, vendor-length}
-use Rattle.pen.proofs.Groups as group
-use Rattle.reading.specs.Kinds.{kindOf, rowOf, sessionId, proxyInfo}
-use Rattle.reading.specs.Rules.{isFour, failedOf}
-use Rattle.reading.specs.Request.{bodyOf, sessionOf, exampleOf, example}
-use Rattle.reply.specs.Answer.{failedPart, proxies}
+use Rattle.pen.specs.Bytes.{copied, copiedSize, ifThere}
+use Rattle.pen.proofs.Sizes.{copied-length, there-length}
+use Rattle.reading.specs.Kinds.{kindOf, sessionId, proxyInfo}
+use Rattle.reading.specs.Request.{bodyOf, sessionOf}
+use Rattle.reply.specs.Answer.{proxies}
 
 -- one AVP of a walk: it is Session-Id or Proxy-Info, and not both
 session-or-proxy : (a : List ℕ) (w : Walk) → copiedSize (length (sessionOf (avp a w))) + length (proxies (avp a w)) ≤ copiedSize (length a) + length (proxies w)
@@ -88,25 +85,3 @@ pub session-proxies : (req : List ℕ) → 20 ≤ length req → length req % 4 
 session-proxies req h e =
     let l : length (drop 20 req) ≡ length req - 20 = length-drop 20 req in
     rw l at (session-walk (drop 20 req) (rw l (omega arith)))
-
--- What Failed-AVP holds is no longer than what is there.
-pub fault-length : (n : ℕ) (t : List ℕ) → length (failedOf n t) ≤ length t
-unfolding failedOf
-fault-length n t = go (eqb n 5014) (leb (avpHead t) (length t)) refl
-  where
-    go : (x y : Bool) → leb (avpHead t) (length t) ≡ y
-        → length (cond x (cond y (set (set (set (take (avpHead t) t) 5 0) 6 0) 7 (avpHead t)) []) (take (avpLen t) t)) ≤ length t
-    go true true e = simp (length-set, length-take) (omega arith)
-    go true false e = omega arith
-    go false y e = simp length-take (omega arith)
-
-pub example-length : (k : ℕ) → length (failedPart (some (example k))) ≤ 24
-unfolding example exampleOf
-example-length k =
-    omega (arith, group.failed-length (example k), go (eqb (rowOf k .vendor) 0) (isFour (rowOf k .content)))
-  where
-    go : (x y : Bool) → length (cond x (avpBytes (rowOf k .code) (replicate (cond y 4 0) 0)) (vendorBytes (rowOf k .code) (replicate (cond y 4 0) 0))) ≤ 16
-    go true true = omega (arith, avp-length (rowOf k .code) (replicate 4 0))
-    go true false = omega (arith, avp-length (rowOf k .code) [])
-    go false true = omega (arith, vendor-length (rowOf k .code) (replicate 4 0))
-    go false false = omega (arith, vendor-length (rowOf k .code) [])

@@ -9,7 +9,7 @@ use Rattle.pen.specs.Bytes.{copied, copiedSize, ifThere}
 use Rattle.pen.specs.Groups.{capabilities}
 use Rattle.reading.specs.Kinds.{kindOf, proxyInfo}
 use Rattle.reading.specs.Request.{bodyOf, sessionOf}
-use Rattle.reading.specs.Found.{failedBy}
+use Rattle.failed.specs.Failing.{failedBy}
 use Rattle.reading.specs.declared.Outcome.{Outcome}
 use Rattle.reading.specs.declared.Verdict.{Verdict}
 use Rattle.parts.specs.SoundAlone.{profileAt}

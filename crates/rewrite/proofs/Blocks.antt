@@ -1,4 +1,4 @@
--- A table with one block rewritten, by its blocks: that block renewed, and every other as it was.
+-- A table with one block changed, by its blocks: that block anew, and every other as it was.
 use Prim.Native.Nat.{ℕ, _+_, _*_, _<_, _≤_}
 use mathlib.Core.Bool.{Bool, true, false}
 use mathlib.Core.Path.{_≡_, refl, sym, _∙_, ap}
@@ -11,8 +11,7 @@ use lib.ListN.{length, getD, take, drop}
 use Rattle.octets.proofs.Parts.{part-alike, spliced, spliced-part, spliced-length, spliced-before, spliced-after}
 use Rattle.table.specs.Blocks.{blockOf}
 use Rattle.table.proofs.Blocks.{block-length}
-use Rattle.rewrite.specs.Renew.{renewed, rewritten}
-use Rattle.rewrite.proofs.Bytes.{renewed-length}
+use Rattle.rewrite.specs.Change.{changedIn, Kept, Keeps}
 
 module _ (t : List ℕ) (k : ℕ) (y : List ℕ) (whole : length y ≡ 512) (fits : 512 * k + 512 ≤ length t) where
   block-spliced : blockOf (spliced t (512 * k) y) k ≡ y
@@ -30,22 +29,19 @@ module _ (t : List ℕ) (k : ℕ) (y : List ℕ) (whole : length y ≡ 512) (fit
   unfolding blockOf
   block-apart j h = part-alike (spliced t (512 * k) y) t (512 * j) 512 (spliced-length t (512 * k) y (omega arith)) (λ i u v. byte-apart j i h u v)
 
-module _ (t : List ℕ) (k state bits : ℕ) (name : List ℕ) (fits : 512 * k + 512 ≤ length t) where
-  abbrev new : List ℕ
-  new = renewed (blockOf t k) state bits name
+module _ (t : List ℕ) (k : ℕ) (change : List ℕ → List ℕ) (keeps : Keeps change) (fits : 512 * k + 512 ≤ length t) where
+  new-length : length (change (blockOf t k)) ≡ 512
+  new-length = keeps .each (blockOf t k) (block-length t k fits) .size ∙ block-length t k fits
 
-  new-length : length new ≡ 512
-  new-length = renewed-length (blockOf t k) state bits name ∙ block-length t k fits
-
-  is-spliced : rewritten t k state bits name ≡ spliced t (512 * k) new
-  unfolding rewritten
+  is-spliced : changedIn t k change ≡ spliced t (512 * k) (change (blockOf t k))
+  unfolding changedIn
   is-spliced = rw new-length
 
-  pub rewritten-length : length (rewritten t k state bits name) ≡ length t
-  rewritten-length = rw is-spliced (spliced-length t (512 * k) new (rw new-length fits))
+  pub in-length : length (changedIn t k change) ≡ length t
+  in-length = rw is-spliced (spliced-length t (512 * k) (change (blockOf t k)) (rw new-length fits))
 
-  pub block-renewed : blockOf (rewritten t k state bits name) k ≡ renewed (blockOf t k) state bits name
-  block-renewed = rw is-spliced (block-spliced t k new new-length fits)
+  pub in-here : blockOf (changedIn t k change) k ≡ change (blockOf t k)
+  in-here = rw is-spliced (block-spliced t k (change (blockOf t k)) new-length fits)
 
-  pub block-other : (j : ℕ) → j ≢ k → 512 * j + 512 ≤ length t → blockOf (rewritten t k state bits name) j ≡ blockOf t j
-  block-other j h g = rw is-spliced (block-apart t k new new-length fits j h)
+  pub in-other : (j : ℕ) → j ≢ k → blockOf (changedIn t k change) j ≡ blockOf t j
+  in-other j h = rw is-spliced (block-apart t k (change (blockOf t k)) new-length fits j h)

@@ -1,12 +1,12 @@
 -- The bytes of a renewed block: what is written anew, and what stays.
 use Prim.Native.Nat.{ℕ, _+_, _-_, _<_, _≤_}
-use mathlib.Core.Bool.{Bool, true, false}
+use mathlib.Core.Bool.{Bool, true, false, _&&_, _||_, true≢false}
 use mathlib.Core.Path.{_≡_, refl, sym, _∙_}
 use mathlib.Core.Logic.{_≢_}
 use mathlib.Core.List.{List, [], _∷_, _++_, append-nil}
 use native.Mathlib.Omega.{arith}
-use lib.Dec.{ltb, eqb}
-use borrow.Author.Tests.{ltb-true, ltb-false, eqb-true, eqb-false}
+use lib.Dec.{ltb, leb, eqb}
+use borrow.Author.Tests.{ltb-true, ltb-false, leb-true, leb-false, lt-leb, le-leb, le-ltb, eqb-true, eqb-false, ne-eqb}
 use lib.ListN.{length, getD, set, take, length-set, drop-of-length-le}
 use lib.Seq.{getD-set-same, getD-set-other, sets-eq}
 use Rattle.octets.specs.Number.{putBe32}
@@ -15,6 +15,7 @@ use Rattle.octets.specs.Sum.{sumWords}
 use Rattle.octets.proofs.Parts.{part-alike}
 use Rattle.octets.proofs.Runs.{name-length, name-apart, name-here}
 use Rattle.octets.proofs.Sums.{sum-alike}
+use Rattle.rewrite.specs.Change.{alterable}
 use Rattle.rewrite.specs.Renew.{sealed, renewed}
 
 -- A check word leaves the length, and what is before it.
@@ -42,6 +43,51 @@ seal-alike b c k l h =
     let p : take 508 b ≡ take 508 c = part-alike b c 0 508 (omega arith) (λ i m n. h i (omega arith)) in
     tail-word b _ _ _ _ k ∙ rw (s, p) (sym (tail-word c _ _ _ _ l))
 
+-- A byte that no effect may write: where it is not, and where such bytes are.
+record Apart (i : ℕ) : Type 0 where
+  state : i ≢ 8
+  bits : i ≢ 9
+  size : i ≢ 15
+  name : (j : ℕ) → j < 96 → i ≢ 272 + j
+  before : i < 508
+
+apart : (i : ℕ) → alterable i ≡ false → Apart i
+apart i h = go (eqb i 8) (eqb i 9) (eqb i 15) (leb 272 i) (ltb i 368) (leb 508 i) refl refl refl refl refl refl h
+  where
+    go : (u v w x y z : Bool) → eqb i 8 ≡ u → eqb i 9 ≡ v → eqb i 15 ≡ w → leb 272 i ≡ x → ltb i 368 ≡ y → leb 508 i ≡ z → (u || v || w || x && y || z) ≡ false → Apart i
+    go false false false false y false a b c d e f g =
+        record {
+          state = eqb-false i 8 a;
+          bits = eqb-false i 9 b;
+          size = eqb-false i 15 c;
+          name = λ j l. let m : i < 272 = leb-false 272 i d in omega arith;
+          before = leb-false 508 i f;
+        }
+    go false false false true false false a b c d e f g =
+        record {
+          state = eqb-false i 8 a;
+          bits = eqb-false i 9 b;
+          size = eqb-false i 15 c;
+          name = λ j l. let m : 368 ≤ i = ltb-false i 368 e in omega arith;
+          before = leb-false 508 i f;
+        }
+    go true v w x y z a b c d e f g = absurd (true≢false g)
+    go false true w x y z a b c d e f g = absurd (true≢false g)
+    go false false true x y z a b c d e f g = absurd (true≢false g)
+    go false false false true true z a b c d e f g = absurd (true≢false g)
+    go false false false false y true a b c d e f g = absurd (true≢false g)
+    go false false false true false true a b c d e f g = absurd (true≢false g)
+
+module _ (i : ℕ) where
+  pub kept-low : 16 ≤ i → i < 272 → alterable i ≡ false
+  kept-low a b = rw (ne-eqb i 8 (omega arith), ne-eqb i 9 (omega arith), ne-eqb i 15 (omega arith), lt-leb 272 i b) (lt-leb 508 i (omega arith))
+
+  pub kept-first : i < 8 → alterable i ≡ false
+  kept-first a = rw (ne-eqb i 8 (omega arith), ne-eqb i 9 (omega arith), ne-eqb i 15 (omega arith), lt-leb 272 i (omega arith)) (lt-leb 508 i (omega arith))
+
+  pub kept-high : 368 ≤ i → i < 508 → alterable i ≡ false
+  kept-high a b = rw (ne-eqb i 8 (omega arith), ne-eqb i 9 (omega arith), ne-eqb i 15 (omega arith), le-leb 272 i (omega arith), le-ltb i 368 a) (lt-leb 508 i b)
+
 -- The block before its check word.
 abbrev pub drafted : List ℕ → ℕ → ℕ → List ℕ → List ℕ
 drafted b state bits name = putName (set (set (set b 8 state) 9 bits) 15 (length name)) 272 name 96
@@ -54,24 +100,18 @@ module _ (b : List ℕ) (state bits : ℕ) (name : List ℕ) where
   unfolding renewed
   renewed-length = sealed-length (drafted b state bits name) ∙ drafted-length
 
-  drafted-low : (i : ℕ) → i < 272 → i ≢ 8 → i ≢ 9 → i ≢ 15 → getD (drafted b state bits name) i 0 ≡ getD b i 0
-  drafted-low i h x y z = name-apart _ 272 name 96 i (λ j k. omega arith) ∙ simp getD-set-other
-
-  drafted-high : (i : ℕ) → 368 ≤ i → getD (drafted b state bits name) i 0 ≡ getD b i 0
-  drafted-high i h =
-      let x : i ≢ 8 = omega arith in
-      let y : i ≢ 9 = omega arith in
-      let z : i ≢ 15 = omega arith in
-      name-apart _ 272 name 96 i (λ j k. omega arith) ∙ simp getD-set-other
+  drafted-other : (i : ℕ) → alterable i ≡ false → getD (drafted b state bits name) i 0 ≡ getD b i 0
+  drafted-other i h =
+      let p : Apart i = apart i h in
+      let x : i ≢ 8 = p .state in
+      let y : i ≢ 9 = p .bits in
+      let z : i ≢ 15 = p .size in
+      name-apart _ 272 name 96 i (p .name) ∙ simp getD-set-other
 
   -- what stays
-  pub renewed-low : (i : ℕ) → i < 272 → i ≢ 8 → i ≢ 9 → i ≢ 15 → getD (renewed b state bits name) i 0 ≡ getD b i 0
+  pub renewed-other : (i : ℕ) → alterable i ≡ false → getD (renewed b state bits name) i 0 ≡ getD b i 0
   unfolding renewed
-  renewed-low i h x y z = seal-before _ i (omega arith) ∙ drafted-low i h x y z
-
-  pub renewed-high : (i : ℕ) → 368 ≤ i → i < 508 → getD (renewed b state bits name) i 0 ≡ getD b i 0
-  unfolding renewed
-  renewed-high i h k = seal-before _ i k ∙ drafted-high i h
+  renewed-other i h = seal-before _ i (apart i h .before) ∙ drafted-other i h
 
   -- what is new
   module _ (whole : length b ≡ 512) where
@@ -114,28 +154,24 @@ module _ (b : List ℕ) (state bits : ℕ) (name : List ℕ) where
 
 -- Blocks that differ at most in what is written anew are alike once they are renewed.
 module _ (b c : List ℕ) (state bits : ℕ) (name : List ℕ) (k : length b ≡ 512) (l : length c ≡ 512)
-    (low : (i : ℕ) → i < 272 → i ≢ 8 → i ≢ 9 → i ≢ 15 → getD b i 0 ≡ getD c i 0) (high : (i : ℕ) → 368 ≤ i → i < 508 → getD b i 0 ≡ getD c i 0) where
+    (others : (i : ℕ) → i < 512 → alterable i ≡ false → getD b i 0 ≡ getD c i 0) where
   drafted-alike : (i : ℕ) → i < 508 → getD (drafted b state bits name) i 0 ≡ getD (drafted c state bits name) i 0
-  drafted-alike i h = go (eqb i 8) (eqb i 9) (eqb i 15) (ltb i 272) (ltb i 368) refl refl refl refl refl
+  drafted-alike i h = go (eqb i 8) (eqb i 9) (eqb i 15) (leb 272 i) (ltb i 368) refl refl refl refl refl
     where
-      go : (u v w x y : Bool) → eqb i 8 ≡ u → eqb i 9 ≡ v → eqb i 15 ≡ w → ltb i 272 ≡ x → ltb i 368 ≡ y
+      other : alterable i ≡ false → getD (drafted b state bits name) i 0 ≡ getD (drafted c state bits name) i 0
+      other e = drafted-other b state bits name i e ∙ others i (omega arith) e ∙ sym (drafted-other c state bits name i e)
+
+      go : (u v w x y : Bool) → eqb i 8 ≡ u → eqb i 9 ≡ v → eqb i 15 ≡ w → leb 272 i ≡ x → ltb i 368 ≡ y
           → getD (drafted b state bits name) i 0 ≡ getD (drafted c state bits name) i 0
       go true v w x y a d e f g = rw (eqb-true i 8 a) (drafted-state b state bits name k ∙ sym (drafted-state c state bits name l))
       go false true w x y a d e f g = rw (eqb-true i 9 d) (drafted-bits b state bits name k ∙ sym (drafted-bits c state bits name l))
       go false false true x y a d e f g = rw (eqb-true i 15 e) (drafted-server b state bits name k ∙ sym (drafted-server c state bits name l))
-      go false false false true y a d e f g =
-          let m : i < 272 = ltb-true i 272 f in
-          let p : i ≢ 8 = eqb-false i 8 a in
-          let q : i ≢ 9 = eqb-false i 9 d in
-          let r : i ≢ 15 = eqb-false i 15 e in
-          drafted-low b state bits name i m p q r ∙ low i m p q r ∙ sym (drafted-low c state bits name i m p q r)
-      go false false false false true a d e f g =
-          let q : i ≡ 272 + (i - 272) = omega (arith, ltb-false i 272 f) in
+      go false false false true true a d e f g =
+          let q : i ≡ 272 + (i - 272) = omega (arith, leb-true 272 i f) in
           let m : i - 272 < 96 = omega (arith, ltb-true i 368 g) in
           rw q (drafted-name b state bits name k (i - 272) m ∙ sym (drafted-name c state bits name l (i - 272) m))
-      go false false false false false a d e f g =
-          let m : 368 ≤ i = ltb-false i 368 g in
-          drafted-high b state bits name i m ∙ high i m h ∙ sym (drafted-high c state bits name i m)
+      go false false false true false a d e f g = other (rw (a, d, e, f, g) (lt-leb 508 i h))
+      go false false false false y a d e f g = other (rw (a, d, e, f) (lt-leb 508 i h))
 
   pub renewed-alike : renewed b state bits name ≡ renewed c state bits name
   unfolding renewed

@@ -1,6 +1,5 @@
 pub mod Blocks
 pub mod Bytes
-pub mod Effects
 pub mod Sealed
 pub mod Settled
 pub mod Sound

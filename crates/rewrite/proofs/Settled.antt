@@ -1,108 +1,142 @@
--- A settled block: what it keeps, and that settling it again changes nothing.
-use Prim.Native.Nat.{ℕ, suc, _+_, _<_, _≤_}
-use mathlib.Core.Path.{_≡_, _∙_, ap}
-use mathlib.Core.Logic.{_≢_}
-use mathlib.Core.List.{List}
+-- A renewed block: that it is sound if its new fields fit; and that settling a record is a change of its block that keeps what every effect keeps.
+use Prim.Native.Nat.{ℕ, _+_, _-_, _/_, _%_, _<_, _≤_}
+use mathlib.Core.Bool.{true, false}
+use mathlib.Core.Path.{_≡_, refl, sym, _∙_, ap}
+use mathlib.Core.List.{List, []}
 use native.Mathlib.Omega.{arith}
-use lib.ListN.{length, getD}
-use Rattle.octets.proofs.Parts.{part-alike}
-use Rattle.record.specs.Fields.{publicOf, privateOf, cleared}
-use Rattle.table.specs.Blocks.{blockOf, publicAt}
-use Rattle.lookup.specs.Find.{findPublic}
-use Rattle.lookup.specs.SoundTable.{Ordered}
-use Rattle.lookup.proofs.Halves.{find-alike}
-use Rattle.rewrite.specs.Renew.{renewed}
-use Rattle.rewrite.specs.Effect.{settled}
-use Rattle.rewrite.proofs.Bytes.{renewed-length, renewed-low, renewed-high, renewed-state, renewed-bits, renewed-server, renewed-name, renewed-alike}
+use borrow.Author.Tests.{ne-eqb, lt-ltb}
+use lib.ListN.{length, getD, List·getD-eq-default}
+use Rattle.octets.specs.Number.{be16At, be32At}
+use Rattle.octets.specs.Sum.{sumWords}
+use Rattle.octets.proofs.Numbers.{be16-alike, be32-alike}
+use Rattle.octets.proofs.Runs.{at-zero, zero-alike}
+use Rattle.record.specs.Fields.{bitsOf, cleared}
+use Rattle.record.specs.RecordBlock.{recordOf, isRecord, serverFits, soundServer, soundRecord}
+use Rattle.record.proofs.Tests.{RecordTests, record-says, record-holds, Limits, limits-say, limits-hold, Zeros, rest-says, rest-holds}
+use Rattle.rewrite.specs.Change.{alterable, Kept, Keeps}
+use Rattle.rewrite.specs.Renew.{renewed, settled, Fitting}
+use Rattle.rewrite.proofs.Bytes.{kept-first, kept-low, kept-high, drafted, drafted-length, renewed-length, renewed-other, renewed-state, renewed-bits, renewed-server, renewed-name, renewed-alike}
+use Rattle.rewrite.proofs.Sealed.{sealed-zero}
 
-cleared-twice : (bits : ℕ) → cleared (cleared bits) ≡ cleared bits
-cleared-twice bits = omega arith
+module _ (b : List ℕ) (state bits : ℕ) (name : List ℕ) (whole : length b ≡ 512) where
+  abbrev new : List ℕ
+  new = renewed b state bits name
 
-module _ (b : List ℕ) (state : ℕ) (name : List ℕ) where
-  pub settled-length : length (settled b state name) ≡ length b
-  unfolding settled
-  settled-length = renewed-length b state (cleared (getD b 9 0)) name
+  state-at : getD new 8 0 ≡ state
+  state-at = renewed-state b state bits name whole
 
-  pub settled-low : (i : ℕ) → i < 272 → i ≢ 8 → i ≢ 9 → i ≢ 15 → getD (settled b state name) i 0 ≡ getD b i 0
-  unfolding settled
-  settled-low = renewed-low b state (cleared (getD b 9 0)) name
+  bits-at : getD new 9 0 ≡ bits
+  bits-at = renewed-bits b state bits name whole
 
-  pub settled-high : (i : ℕ) → 368 ≤ i → i < 508 → getD (settled b state name) i 0 ≡ getD b i 0
-  unfolding settled
-  settled-high = renewed-high b state (cleared (getD b 9 0)) name
+  server-at : getD new 15 0 ≡ length name
+  server-at = renewed-server b state bits name whole
 
-  pub settled-public : getD b 13 0 ≤ 128 → publicOf (settled b state name) ≡ publicOf b
-  unfolding publicOf
-  settled-public h =
-      let e : getD (settled b state name) 13 0 ≡ getD b 13 0 = settled-low 13 (omega arith) (omega arith) (omega arith) (omega arith) in
-      rw e
-      (part-alike (settled b state name) b 16 (getD b 13 0) settled-length (λ i u v. settled-low i (omega arith) (omega arith) (omega arith) (omega arith)))
+  past : (i : ℕ) → 272 + length name ≤ i → i < 368 → getD new i 0 ≡ 0
+  past i u v =
+      let q : i ≡ 272 + (i - 272) = omega arith in
+      rw q (renewed-name b state bits name whole (i - 272) (omega arith) ∙ List·getD-eq-default name 0 (omega arith))
 
-  pub settled-private : getD b 14 0 ≤ 128 → privateOf (settled b state name) ≡ privateOf b
-  unfolding privateOf
-  settled-private h =
-      let e : getD (settled b state name) 14 0 ≡ getD b 14 0 = settled-low 14 (omega arith) (omega arith) (omega arith) (omega arith) in
-      rw e
-      (part-alike (settled b state name) b 144 (getD b 14 0) settled-length (λ i u v. settled-low i (omega arith) (omega arith) (omega arith) (omega arith)))
+  new-zero : sumWords new 128 ≡ 0
+  unfolding renewed
+  new-zero = sealed-zero (drafted b state bits name) (drafted-length b state bits name ∙ whole)
 
-  -- what is new: the state, pending cleared, the server name
-  module _ (whole : length b ≡ 512) where
-    pub settled-state : getD (settled b state name) 8 0 ≡ state
+  -- what stays
+  byte : (i : ℕ) → alterable i ≡ false → getD new i 0 ≡ getD b i 0
+  byte = renewed-other b state bits name
+
+  start-at : be32At new 400 ≡ be32At b 400
+  start-at = be32-alike new b 400 400 (λ j l. byte (400 + j) (kept-high (400 + j) (omega arith) (omega arith)))
+
+  size-at : be16At new 404 ≡ be16At b 404
+  size-at = be16-alike new b 404 404 (λ j l. byte (404 + j) (kept-high (404 + j) (omega arith) (omega arith)))
+
+  head-same : (k : ℕ) → isRecord (recordOf new) k ≡ isRecord (recordOf b) k
+  unfolding recordOf
+  head-same k = rw (byte 0 refl, byte 1 refl, be32-alike new b 4 4 (λ j l. byte (4 + j) (kept-first (4 + j) (omega arith))))
+
+  limits-kept : state ≤ 2 → bits ≤ 7 → length name ≤ 96 → Limits (recordOf b) → Limits (recordOf new)
+  unfolding recordOf
+  limits-kept two seven most l =
+      record {
+        state = rw state-at two;
+        bits = rw bits-at seven;
+        mandatory = rw (byte 11 refl) (l .mandatory);
+        optional = rw (byte 12 refl) (l .optional);
+        public-some = rw (byte 13 refl) (l .public-some);
+        public = rw (byte 13 refl) (l .public);
+        private-some = rw (byte 14 refl) (l .private-some);
+        private = rw (byte 14 refl) (l .private);
+        server = rw server-at most;
+        size = rw size-at (l .size);
+      }
+
+  zeros-kept : Zeros b (recordOf b) → Zeros new (recordOf new)
+  unfolding recordOf
+  zeros-kept z =
+      record {
+        blank = zero-alike new b 2 4 (λ i u v. byte i (kept-first i (omega arith))) ∙ z .blank;
+        public = rw (byte 13 refl) (zero-alike new b _ 144 (λ i u v. byte i (kept-low i (omega arith) (omega arith))) ∙ z .public);
+        private = rw (byte 14 refl) (zero-alike new b _ 272 (λ i u v. byte i (kept-low i (omega arith) (omega arith))) ∙ z .private);
+        server = rw server-at (at-zero new (272 + length name) 368 past);
+        mandatory = rw (byte 11 refl) (zero-alike new b _ 384 (λ i u v. byte i (kept-high i (omega arith) (omega arith))) ∙ z .mandatory);
+        optional = rw (byte 12 refl) (zero-alike new b _ 400 (λ i u v. byte i (kept-high i (omega arith) (omega arith))) ∙ z .optional);
+        last = zero-alike new b 406 508 (λ i u v. byte i (kept-high i (omega arith) (omega arith))) ∙ z .last;
+      }
+
+  -- A sound record, renewed with fields that fit, is sound.
+  pub renewed-sound : state ≤ 2 → bits / 2 ≡ bitsOf b / 2 → length name ≤ 96 → serverFits (length name) state bits ≡ true → (k networks file : ℕ)
+      → soundRecord b k networks file ≡ true → soundRecord (renewed b state bits name) k networks file ≡ true
+  unfolding recordOf
+  renewed-sound two above most fit k networks file sound =
+      record-holds new k networks file
+      (record {
+        sum = new-zero;
+        head = rw (head-same k) (was .head);
+        limits = limits-hold (recordOf new) (limits-kept two (omega (arith, within .bits)) most within);
+        server = rw (server-at, state-at, bits-at) fit;
+        roaming = rw (byte 10 refl) (was .roaming);
+        profile = rw (start-at, size-at) (was .profile);
+        rest = rest-holds new (recordOf new) (zeros-kept (rest-says b (recordOf b) (was .rest)));
+      })
+    where
+      was : RecordTests b k networks file
+      was = record-says b k networks file sound
+
+      within : Limits (recordOf b)
+      within = limits-say (recordOf b) (was .limits)
+
+-- A state 1 or 2 fits with a name, and state 0 with none.
+pub fits-named : (state : ℕ) (name : List ℕ) → 1 ≤ state → state ≤ 2 → 1 ≤ length name → length name ≤ 96 → Fitting state name
+fits-named state name a b c d = record { two = b; most = d; served = rw (ne-eqb (length name) 0 (omega arith), lt-ltb 0 (length name) c, lt-ltb 0 state a) }
+
+pub fits-none : Fitting 0 []
+fits-none = record { two = omega arith; most = omega arith; served = refl }
+
+-- Settling: a row of the table of effects is a change of blocks.
+module _ (state : ℕ) (name : List ℕ) (fits : Fitting state name) where
+  module _ (b : List ℕ) (whole : length b ≡ 512) where
+    served : serverFits (length name) state (cleared (bitsOf b)) ≡ true
+    served = rw (ne-eqb (cleared (bitsOf b) % 2) 1 (omega arith)) (fits .served)
+
+    settled-kept : Kept b (settled state name b)
     unfolding settled
-    settled-state = renewed-state b state (cleared (getD b 9 0)) name whole
+    settled-kept =
+        record {
+          size = renewed-length b state (cleared (bitsOf b)) name;
+          others = λ i l e. renewed-other b state (cleared (bitsOf b)) name i e;
+          bits = rw (renewed-bits b state (cleared (bitsOf b)) name whole) (omega arith);
+          sound = renewed-sound b state (cleared (bitsOf b)) name whole (fits .two) (omega arith) (fits .most) served;
+        }
 
-    pub settled-bits : getD (settled b state name) 9 0 ≡ cleared (getD b 9 0)
+    -- an identity named twice counts once
+    settled-twice : settled state name (settled state name b) ≡ settled state name b
     unfolding settled
-    settled-bits = renewed-bits b state (cleared (getD b 9 0)) name whole
+    settled-twice =
+        let bits = cleared (bitsOf b) in
+        let again = renewed b state bits name in
+        let e : cleared (bitsOf again) ≡ bits = omega (arith, renewed-bits b state bits name whole) in
+        ap (λ (x : ℕ). renewed again state x name) e
+        ∙ renewed-alike again b state bits name (renewed-length b state bits name ∙ whole) whole (λ i l f. renewed-other b state bits name i f)
 
-    pub settled-size : getD (settled b state name) 15 0 ≡ length name
-    unfolding settled
-    settled-size = renewed-server b state (cleared (getD b 9 0)) name whole
-
-    pub settled-name : (j : ℕ) → j < 96 → getD (settled b state name) (272 + j) 0 ≡ getD name j 0
-    unfolding settled
-    settled-name = renewed-name b state (cleared (getD b 9 0)) name whole
-
-  -- an identity named twice counts once
-  pub settled-twice : length b ≡ 512 → settled (settled b state name) state name ≡ settled b state name
-  unfolding settled
-  settled-twice h =
-      let f : getD (renewed b state (cleared (getD b 9 0)) name) 9 0 ≡ cleared (getD b 9 0) = renewed-bits b state (cleared (getD b 9 0)) name h in
-      ap (λ (x : ℕ). renewed (renewed b state (cleared (getD b 9 0)) name) state (cleared x) name) f
-      ∙ ap (λ (x : ℕ). renewed (renewed b state (cleared (getD b 9 0)) name) state x name) (cleared-twice (getD b 9 0))
-      ∙ renewed-alike (renewed b state (cleared (getD b 9 0)) name) b state (cleared (getD b 9 0)) name (settled-length ∙ h) h settled-low settled-high
-
--- What a record keeps in every effect, and what rests on it: that the table rises, and what is found in it.
-pub record Kept (b c : List ℕ) : Type 0 where
-  pub public : publicOf b ≡ publicOf c
-  pub private : privateOf b ≡ privateOf c
-  pub first : getD b 13 0 ≡ getD c 13 0
-  pub second : getD b 14 0 ≡ getD c 14 0
-
-pub kept-same : (b c : List ℕ) → b ≡ c → Kept b c
-kept-same b c e = record { public = rw e; private = rw e; first = rw e; second = rw e }
-
-pub kept-settled : (b : List ℕ) (state : ℕ) (name : List ℕ) → getD b 13 0 ≤ 128 → getD b 14 0 ≤ 128 → Kept (settled b state name) b
-kept-settled b state name h k =
-    record {
-      public = settled-public b state name h;
-      private = settled-private b state name k;
-      first = settled-low b state name 13 (omega arith) (omega arith) (omega arith) (omega arith);
-      second = settled-low b state name 14 (omega arith) (omega arith) (omega arith) (omega arith);
-    }
-
-pub ordered-kept : (x y : List ℕ) (count : ℕ) → Ordered x count → length y ≡ length x → ((j : ℕ) → 1 ≤ j → j ≤ count → Kept (blockOf y j) (blockOf x j))
-    → Ordered y count
-unfolding publicAt
-ordered-kept x y count o e h =
-    record {
-      size = e ∙ o .size;
-      rising = λ k a b. rw (h k a (omega arith) .public, h (suc k) (omega arith) (omega arith) .public) (o .rising k a b);
-      room = λ k a b. rw (h k a b .first) (o .room k a b);
-      space = λ k a b. rw (h k a b .second) (o .space k a b);
-    }
-
-pub kept-found : (x y : List ℕ) (count : ℕ) (n : List ℕ) → ((j : ℕ) → 1 ≤ j → j ≤ count → Kept (blockOf y j) (blockOf x j))
-    → findPublic y count n ≡ findPublic x count n
-unfolding publicAt
-kept-found x y count n kept = find-alike y x count n (λ j a b. kept j a b .public)
+  pub settled-keeps : Keeps (settled state name)
+  settled-keeps = record { each = settled-kept; twice = settled-twice }

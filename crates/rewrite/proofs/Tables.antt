@@ -1,75 +1,110 @@
--- The table after an effect, by its blocks.
+-- The table after an effect, by its blocks: for any change that keeps what every effect keeps.
 use Prim.Native.Nat.{ℕ, suc, _+_, _*_, _<_, _≤_}
 use mathlib.Core.Bool.{Bool, true, false, cond}
-use mathlib.Core.Path.{_≡_, refl, _∙_}
+use mathlib.Core.Path.{_≡_, refl, sym, _∙_}
 use mathlib.Core.List.{List}
 use native.Mathlib.Omega.{arith}
+use lib.Dec.{eqb}
+use borrow.Author.Tests.{eqb-true, eqb-false, ne-eqb}
 use lib.ListN.{length}
 use Rattle.table.specs.Blocks.{blockOf}
 use Rattle.table.proofs.Blocks.{block-length, table-same, table-is, table-length, table-block}
-use Rattle.lookup.specs.SoundTable.{Ordered}
-use Rattle.rewrite.specs.Effect.{settled, settledAt, afterOf}
-use Rattle.rewrite.proofs.Settled.{settled-length, settled-twice, Kept, kept-same, kept-settled}
+use Rattle.lookup.specs.Find.{firstFrom}
+use Rattle.lookup.specs.declared.Found.{Found}
+use Rattle.lookup.specs.declared.Found.the-variants.{At, Nothing}
+use Rattle.lookup.proofs.First.{FirstAt, first-stands}
+use Rattle.rewrite.specs.Change.{changedAt, afterOf, changedIn, changedFound, Kept, Keeps}
+use Rattle.rewrite.proofs.Blocks.{in-length, in-here, in-other}
+
+pub kept-same : (b c : List ℕ) → c ≡ b → Kept b c
+kept-same b c e = record { size = rw e; others = λ i l a. rw e; bits = rw e; sound = λ k networks file s. rw e s }
 
 -- Two effects that leave the same blocks leave the same table.
-pub after-same : (x t : List ℕ) (count : ℕ) (p q : ℕ → Bool) (state : ℕ) (name : List ℕ)
-    → ((k : ℕ) → k ≤ count → settledAt x p state name k ≡ settledAt t q state name k) → afterOf x count p state name ≡ afterOf t count q state name
+pub after-same : (x t : List ℕ) (count : ℕ) (p q : ℕ → Bool) (change : List ℕ → List ℕ) → ((k : ℕ) → k ≤ count → changedAt x p change k ≡ changedAt t q change k)
+    → afterOf x count p change ≡ afterOf t count q change
 unfolding afterOf
-after-same x t count p q state name h = table-same _ _ (suc count) (λ k l. h k (omega arith))
+after-same x t count p q change h = table-same _ _ (suc count) (λ k l. h k (omega arith))
 
--- Block j after an effect: as before if the choice and the block are; settled once if it was settled already.
-pub at-same : (x y : List ℕ) (p q : ℕ → Bool) (state : ℕ) (name : List ℕ) (j : ℕ) → blockOf x j ≡ blockOf y j → p j ≡ q j
-    → settledAt x p state name j ≡ settledAt y q state name j
-unfolding settledAt
-at-same x y p q state name j e f = rw (e, f)
+-- Block j after an effect: as before if the choice and the block are; changed once if it was changed already.
+module _ (y x : List ℕ) (p q : ℕ → Bool) (change : List ℕ → List ℕ) where
+  pub at-same : (j : ℕ) → blockOf y j ≡ blockOf x j → p j ≡ q j → changedAt y p change j ≡ changedAt x q change j
+  unfolding changedAt
+  at-same j e f = rw (e, f)
 
-pub at-twice : (y x : List ℕ) (p q : ℕ → Bool) (state : ℕ) (name : List ℕ) (k : ℕ) → blockOf y k ≡ settled (blockOf x k) state name → q k ≡ true
-    → length (blockOf x k) ≡ 512 → settledAt y p state name k ≡ settledAt x q state name k
-unfolding settledAt
-at-twice y x p q state name k e f l = rw (e, f) (go (p k))
-  where
-    go : (u : Bool) → cond u (settled (settled (blockOf x k) state name) state name) (settled (blockOf x k) state name) ≡ settled (blockOf x k) state name
-    go true = settled-twice (blockOf x k) state name l
-    go false = refl
-
-module _ (t : List ℕ) (count : ℕ) (chosen : ℕ → Bool) (state : ℕ) (name : List ℕ) (size : length t ≡ 512 * (count + 1)) where
-  settled-whole : (k : ℕ) → k < suc count → length (settledAt t chosen state name k) ≡ 512
-  unfolding settledAt
-  settled-whole k h = go (chosen k)
+  pub at-twice : (k : ℕ) → Keeps change → blockOf y k ≡ change (blockOf x k) → q k ≡ true → length (blockOf x k) ≡ 512 → changedAt y p change k ≡ changedAt x q change k
+  unfolding changedAt
+  at-twice k keeps e f l = rw (e, f) (go (p k))
     where
-      go : (x : Bool) → length (cond x (settled (blockOf t k) state name) (blockOf t k)) ≡ 512
-      go true = settled-length (blockOf t k) state name ∙ block-length t k (omega arith)
-      go false = block-length t k (omega arith)
+      go : (u : Bool) → cond u (change (change (blockOf x k))) (change (blockOf x k)) ≡ change (blockOf x k)
+      go true = keeps .twice (blockOf x k) l
+      go false = refl
 
-  pub after-length : length (afterOf t count chosen state name) ≡ length t
-  unfolding afterOf
-  after-length = table-length (settledAt t chosen state name) (suc count) settled-whole ∙ omega arith
+-- A table that keeps of another its length, its header, and of each record what every effect keeps.
+pub record Keeping (x y : List ℕ) (count : ℕ) : Type 0 where
+  pub size : length y ≡ length x
+  pub header : blockOf y 0 ≡ blockOf x 0
+  pub each : (k : ℕ) → 1 ≤ k → k ≤ count → Kept (blockOf x k) (blockOf y k)
 
-  pub after-block : (k : ℕ) → k ≤ count → blockOf (afterOf t count chosen state name) k ≡ settledAt t chosen state name k
-  unfolding afterOf
-  after-block k h = table-block (settledAt t chosen state name) (suc count) settled-whole k (omega arith)
+pub keeping-same : (x : List ℕ) (count : ℕ) → Keeping x x count
+keeping-same x count = record { size = refl; header = refl; each = λ k a b. kept-same _ _ refl }
 
-  -- the frame: a record that is not chosen stays, a chosen one is settled
-  pub after-frame : (k : ℕ) → k ≤ count → chosen k ≡ false → blockOf (afterOf t count chosen state name) k ≡ blockOf t k
-  unfolding settledAt
-  after-frame k h e = after-block k h ∙ rw e
+module _ (t : List ℕ) (count : ℕ) (change : List ℕ → List ℕ) (size : length t ≡ 512 * (count + 1)) where
+  module _ (chosen : ℕ → Bool) where
+    -- an effect on none
+    pub after-none : ((k : ℕ) → k ≤ count → chosen k ≡ false) → t ≡ afterOf t count chosen change
+    unfolding afterOf changedAt
+    after-none h = table-is t (suc count) (omega arith) ∙ table-same (blockOf t) (changedAt t chosen change) (suc count) (λ k l. rw (h k (omega arith)))
 
-  pub after-chosen : (k : ℕ) → k ≤ count → chosen k ≡ true → blockOf (afterOf t count chosen state name) k ≡ settled (blockOf t k) state name
-  unfolding settledAt
-  after-chosen k h e = after-block k h ∙ rw e
+    module _ (keeps : Keeps change) where
+      changed-whole : (k : ℕ) → k < suc count → length (changedAt t chosen change k) ≡ 512
+      unfolding changedAt
+      changed-whole k h = go (chosen k)
+        where
+          go : (x : Bool) → length (cond x (change (blockOf t k)) (blockOf t k)) ≡ 512
+          go true = keeps .each (blockOf t k) (block-length t k (omega arith)) .size ∙ block-length t k (omega arith)
+          go false = block-length t k (omega arith)
 
-  -- an effect on none
-  pub after-none : ((k : ℕ) → k ≤ count → chosen k ≡ false) → t ≡ afterOf t count chosen state name
-  unfolding afterOf settledAt
-  after-none h =
-      table-is t (suc count) (omega arith)
-      ∙ table-same (blockOf t) (settledAt t chosen state name) (suc count) (λ k l. rw (h k (omega arith)))
+      after-length : length (afterOf t count chosen change) ≡ length t
+      unfolding afterOf
+      after-length = table-length (changedAt t chosen change) (suc count) changed-whole ∙ omega arith
 
--- An effect keeps the identities of every record.
-module _ (t : List ℕ) (count : ℕ) (chosen : ℕ → Bool) (state : ℕ) (name : List ℕ) (ordered : Ordered t count) where
-  pub after-kept : (k : ℕ) → 1 ≤ k → k ≤ count → Kept (blockOf (afterOf t count chosen state name) k) (blockOf t k)
-  after-kept k a b = go (chosen k) refl
-    where
-      go : (x : Bool) → chosen k ≡ x → Kept (blockOf (afterOf t count chosen state name) k) (blockOf t k)
-      go true e = rw (after-chosen t count chosen state name (ordered .size) k b e) (kept-settled (blockOf t k) state name (ordered .room k a b) (ordered .space k a b))
-      go false e = kept-same _ _ (after-frame t count chosen state name (ordered .size) k b e)
+      pub after-block : (k : ℕ) → k ≤ count → blockOf (afterOf t count chosen change) k ≡ changedAt t chosen change k
+      unfolding afterOf
+      after-block k h = table-block (changedAt t chosen change) (suc count) changed-whole k (omega arith)
+
+      -- the frame: a record that is not chosen stays, a chosen one is changed
+      pub after-frame : (k : ℕ) → k ≤ count → chosen k ≡ false → blockOf (afterOf t count chosen change) k ≡ blockOf t k
+      unfolding changedAt
+      after-frame k h e = after-block k h ∙ rw e
+
+      pub after-chosen : (k : ℕ) → k ≤ count → chosen k ≡ true → blockOf (afterOf t count chosen change) k ≡ change (blockOf t k)
+      unfolding changedAt
+      after-chosen k h e = after-block k h ∙ rw e
+
+      pub after-keeping : chosen 0 ≡ false → Keeping t (afterOf t count chosen change) count
+      after-keeping none = record { size = after-length; header = after-frame 0 (omega arith) none; each = λ k a b. go k b (chosen k) refl }
+        where
+          go : (k : ℕ) → k ≤ count → (x : Bool) → chosen k ≡ x → Kept (blockOf t k) (blockOf (afterOf t count chosen change) k)
+          go k b true e = rw (after-chosen k b e) (keeps .each (blockOf t k) (block-length t k (omega arith)))
+          go k b false e = kept-same _ _ (after-frame k b e)
+
+  -- One record changed.
+  module _ (keeps : Keeps change) where
+    pub in-keeping : (k : ℕ) → 1 ≤ k → k ≤ count → Keeping t (changedIn t k change) count
+    in-keeping k a b =
+        record {
+          size = in-length t k change keeps (omega arith);
+          header = in-other t k change keeps (omega arith) 0 (omega arith);
+          each = λ j u v. go j v (eqb j k) refl;
+        }
+      where
+        go : (j : ℕ) → j ≤ count → (x : Bool) → eqb j k ≡ x → Kept (blockOf t j) (blockOf (changedIn t k change) j)
+        go j v true e =
+            let q : j ≡ k = eqb-true j k e in
+            rw (q, in-here t k change keeps (omega arith)) (keeps .each (blockOf t k) (block-length t k (omega arith)))
+        go j v false e = kept-same _ _ (in-other t k change keeps (omega arith) j (eqb-false j k e))
+
+    pub found-keeping : (p : ℕ → Bool) (f : Found) → firstFrom p count 1 ≡ f → Keeping t (changedFound t f change) count
+    unfolding changedFound
+    found-keeping p (At k) e = let s : FirstAt p count 1 k = first-stands p count 1 k e in in-keeping k (s .from) (omega (arith, s .to))
+    found-keeping p Nothing e = keeping-same t count

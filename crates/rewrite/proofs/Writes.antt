@@ -15,22 +15,24 @@ use Rattle.octets.specs.Sum.{sumWords}
 use Rattle.octets.proofs.Runs.{name-length}
 use Rattle.octets.proofs.Sums.{sum-lt}
 use Rattle.record.specs.Fields.{cleared}
+use Rattle.record.specs.RecordBlock.{recordOf}
+use Rattle.record.specs.declared.subscriber.Record.{Record}
 use Rattle.table.specs.Blocks.{blockOf}
 use Rattle.lookup.specs.Find.{endOf}
 use Rattle.lookup.specs.declared.Found.{Found}
 use Rattle.lookup.specs.declared.Found.the-variants.{At, Nothing}
-use Rattle.rewrite.specs.Renew.{lacking, sealed, renewed, rewritten}
-use Rattle.rewrite.specs.Effect.{settledIn, settledFound}
+use Rattle.rewrite.specs.Renew.{negated, sealed, renewed, settled, Fitting}
+use Rattle.rewrite.specs.Change.{changedIn, changedFound}
 use Rattle.rewrite.proofs.Bytes.{sealed-length}
 
 -- A check word: what the other words lack, from the word that was there and the sum with it.
-lacking-from : (x c s w : ℕ) → x < 2 ^ 32 → w < 2 ^ 32 → s ≡ (x + c) % 2 ^ 32 → (w + s) % 2 ^ 32 ≡ c → w ≡ lacking x
-unfolding lacking
-lacking-from x c s w a b e f = omega arith
+negated-from : (x c s w : ℕ) → x < 2 ^ 32 → w < 2 ^ 32 → s ≡ (x + c) % 2 ^ 32 → (w + s) % 2 ^ 32 ≡ c → w ≡ negated x
+unfolding negated
+negated-from x c s w a b e f = omega arith
 
 pub seal-put : (b : List ℕ) {c s w : ℕ} {y : List ℕ} → c ≡ be32At b 508 → s ≡ sumWords b (4 * 32) → w < 2 ^ 32 → (w + s) % 2 ^ 32 ≡ c → y ≡ putBe32 b 508 w → y ≡ sealed b
 unfolding sealed sumWords
-seal-put b {c} {s} {w} e f h g k = rw (← lacking-from (sumWords b 127) (be32At b 508) s w (sum-lt b 127) h f (g ∙ e)) k
+seal-put b {c} {s} {w} e f h g k = rw (← negated-from (sumWords b 127) (be32At b 508) s w (sum-lt b 127) h f (g ∙ e)) k
 
 -- A block: three bytes, the name's field, the check word.
 module _ (b : List ℕ) (state bits : ℕ) (name : List ℕ) (whole : length b ≡ 512) where
@@ -47,17 +49,24 @@ module _ (b : List ℕ) (state bits : ℕ) (name : List ℕ) (whole : length b �
   unfolding renewed
   renew-put e f = rw (← e) f
 
--- A block of a table, lent and come back.
-pub block-put : (t : List ℕ) (k state bits : ℕ) (name : List ℕ) {y : List ℕ}
-    → y ≡ renewed (midOf (512 * k) (512 * k + 512 - 512 * k) t) state bits name → putMid (512 * k) (512 * k + 512 - 512 * k) t y ≡ rewritten t k state bits name
-unfolding rewritten blockOf
-block-put t k state bits name e = rw (e, add-sub-cancel-left, drop-drop)
+-- Pending cleared.
+pub fits-most : (state : ℕ) (name : List ℕ) → Fitting state name → length name ≤ 96
+fits-most state name f = f .most
 
--- A record of a table.
-pub settle-put : (t : List ℕ) (k state : ℕ) (name : List ℕ) {bits : ℕ} {y : List ℕ} → bits ≡ cleared (getD t (512 * k + 9) 0) → y ≡ rewritten t k state bits name
-    → y ≡ settledIn t k state name
-unfolding settledIn blockOf
-settle-put t k state name e f = rw (getD-take 512 (drop (512 * k) t) 9 0 (lit< tt), getD-drop (512 * k) t 9 0, ← e) f
+pub settle-block : (b : List ℕ) (state : ℕ) (name : List ℕ) {r : Record} {bits : ℕ} {y : List ℕ} → r ≡ recordOf b → bits ≡ cleared (r .bits) → y ≡ renewed b state bits name
+    → y ≡ settled state name b
+unfolding settled recordOf
+settle-block b state name d e f = f ∙ rw (e, d)
+
+-- A block of a table, lent and come back.
+pub block-put : (change : List ℕ → List ℕ) (t : List ℕ) (k : ℕ) {y : List ℕ} → y ≡ change (midOf (512 * k) (512 * k + 512 - 512 * k) t)
+    → putMid (512 * k) (512 * k + 512 - 512 * k) t y ≡ changedIn t k change
+unfolding changedIn blockOf
+block-put change t k e = rw (e, add-sub-cancel-left, drop-drop)
+
+pub settle-put : (t : List ℕ) (k state : ℕ) (name : List ℕ) {y : List ℕ} → y ≡ settled state name (midOf (512 * k) (512 * k + 512 - 512 * k) t)
+    → putMid (512 * k) (512 * k + 512 - 512 * k) t y ≡ changedIn t k (settled state name)
+settle-put t k state name e = block-put (settled state name) t k e
 
 pub if-yes : (c : Bool) (a b : List ℕ) {y : List ℕ} → c ≡ true → y ≡ a → y ≡ cond c a b
 if-yes c a b e f = rw e f
@@ -68,10 +77,11 @@ if-no c a b e = rw e
 pub found-fits : (f : Found) (k n : ℕ) → f ≡ At k → endOf f ≤ n → 512 * k + 512 ≤ n
 found-fits f k n e h = rw e at h
 
-pub found-put : (t : List ℕ) (f : Found) (k state : ℕ) (name : List ℕ) {y : List ℕ} → f ≡ At k → y ≡ settledIn t k state name → y ≡ settledFound t f state name
-unfolding settledFound
-found-put t f k state name e h = rw e h
+module _ (t : List ℕ) (f : Found) (change : List ℕ → List ℕ) where
+  pub found-put : (k : ℕ) {y : List ℕ} → f ≡ At k → y ≡ changedIn t k change → y ≡ changedFound t f change
+  unfolding changedFound
+  found-put k e h = rw e h
 
-pub found-none : (t : List ℕ) (f : Found) (state : ℕ) (name : List ℕ) → f ≡ Nothing → t ≡ settledFound t f state name
-unfolding settledFound
-found-none t f state name e = rw e
+  pub found-none : f ≡ Nothing → t ≡ changedFound t f change
+  unfolding changedFound
+  found-none e = rw e

@@ -1,2 +1,2 @@
-pub mod Effect
+pub mod Change
 pub mod Renew

@@ -8,10 +8,9 @@ ghost use mathlib.Core.Path.{_≡_};
 ghost use mathlib.Core.Bool.{cond};
 ghost use Prim.Native.Nat.{_+_, _*_, _≤_};
 ghost use lib.ListN.{length};
-ghost use Rattle.record.specs.Fields.{cleared};
 ghost use Rattle.lookup.specs.Find.{endOf};
-ghost use Rattle.rewrite.specs.Effect.{settledIn, settledFound};
-ghost use Rattle.rewrite.specs.Renew.{sealed, renewed, rewritten};
+ghost use Rattle.rewrite.specs.Change.{changedIn, changedFound};
+ghost use Rattle.rewrite.specs.Renew.{sealed, renewed, settled, Fitting};
 
 // Gives a block a new check word: the old one, less what the block sums to.
 fn seal(b: &mut [u8])
@@ -34,35 +33,28 @@ fn renew(b: &mut [u8], state: u8, bits: u8, name: &[u8])
     seal(b);
 }
 
-// Renews block k of a table.
-fn rewrite_block(t: &mut [u8], k: usize, state: u8, bits: u8, name: &[u8])
-    requires { ⌜ (512 * k + 512 ≤ length (now t)) × (length (now name) ≤ 96) ⌝ }
-    ensures { λ _. ⌜ now (t .exit) ≡ rewritten (now (t .entry)) k state bits (now (name .entry)) ⌝ }
+// Gives a record block another state and another server name, and clears pending.
+fn settle_block(b: &mut [u8], state: u8, name: &[u8])
+    requires { ⌜ (length (now b) ≡ 512) × Fitting state (now name) ⌝ }
+    ensures { λ _. ⌜ now (b .exit) ≡ settled state (now (name .entry)) (now (b .entry)) ⌝ }
+{
+    let bits = Record::read(b).cleared();
+    renew(b, state, bits, name);
+}
+
+// The same, of block k of a table.
+fn settle(t: &mut [u8], k: usize, state: u8, name: &[u8])
+    requires { ⌜ (512 * k + 512 ≤ length (now t)) × Fitting state (now name) ⌝ }
+    ensures { λ _. ⌜ now (t .exit) ≡ changedIn (now (t .entry)) k (settled state (now (name .entry))) ⌝ }
 {
     let at = table::BLOCK * k;
-    renew(&mut t[at..at + table::BLOCK], state, bits, name);
-}
-
-// A record's bits without pending.
-fn clear(bits: u8) -> u8
-    ensures { λ r. ⌜ r ≡ cleared bits ⌝ }
-{
-    bits - bits % 2
-}
-
-// Gives record k another state and another server name, and clears pending.
-fn settle(t: &mut [u8], k: usize, state: u8, name: &[u8])
-    requires { ⌜ (512 * k + 512 ≤ length (now t)) × (length (now name) ≤ 96) ⌝ }
-    ensures { λ _. ⌜ now (t .exit) ≡ settledIn (now (t .entry)) k state (now (name .entry)) ⌝ }
-{
-    let bits = clear(t[table::BLOCK * k + Record::BITS_AT]);
-    rewrite_block(t, k, state, bits, name);
+    settle_block(&mut t[at..at + table::BLOCK], state, name);
 }
 
 // The same, if the record is chosen.
 pub fn settle_if(t: &mut [u8], k: usize, chosen: bool, state: u8, name: &[u8])
-    requires { ⌜ (512 * k + 512 ≤ length (now t)) × (length (now name) ≤ 96) ⌝ }
-    ensures { λ _. ⌜ now (t .exit) ≡ cond chosen (settledIn (now (t .entry)) k state (now (name .entry))) (now (t .entry)) ⌝ }
+    requires { ⌜ (512 * k + 512 ≤ length (now t)) × Fitting state (now name) ⌝ }
+    ensures { λ _. ⌜ now (t .exit) ≡ cond chosen (changedIn (now (t .entry)) k (settled state (now (name .entry)))) (now (t .entry)) ⌝ }
 {
     if chosen {
         settle(t, k, state, name);
@@ -72,8 +64,8 @@ pub fn settle_if(t: &mut [u8], k: usize, chosen: bool, state: u8, name: &[u8])
 
 // The same, of a record that was found.
 pub fn settle_found(t: &mut [u8], f: Found, state: u8, name: &[u8])
-    requires { ⌜ (endOf f ≤ length (now t)) × (length (now name) ≤ 96) ⌝ }
-    ensures { λ _. ⌜ now (t .exit) ≡ settledFound (now (t .entry)) f state (now (name .entry)) ⌝ }
+    requires { ⌜ (endOf f ≤ length (now t)) × Fitting state (now name) ⌝ }
+    ensures { λ _. ⌜ now (t .exit) ≡ changedFound (now (t .entry)) f (settled state (now (name .entry))) ⌝ }
 {
     match f {
         Found::At(k) => {

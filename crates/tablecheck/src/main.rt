@@ -32,10 +32,19 @@ fn check(t: &[u8]) {
     say(table::check(t, size));
 }
 
-fn main() {
+fn check_here() {
     let mut space = room();
     let Got::Bytes(n) = files::load(b"table", &mut space) else {
         return;
     };
     check(&space[..n]);
+}
+
+fn main() {
+    if !arguments::given(
+        b"tablecheck",
+        b"usage: tablecheck\nSays whether the file table is sound beside the file profile, both of this folder. See tablecheck(1).\n",
+    ) {
+        check_here();
+    }
 }

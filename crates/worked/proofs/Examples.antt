@@ -13,10 +13,12 @@ use Rattle.pen.specs.Bytes.{vendorHead, avpBytes, numberBytes}
 use Rattle.pen.specs.Groups.{experimental, failed}
 use Rattle.ndushavire.specs.declared.Call.{Call}
 use Rattle.ndushavire.specs.declared.Call.the-variants.{Answered, Refused}
+use Rattle.ndushavire.specs.Lent.{lent}
 use Rattle.ndushavire.specs.Serve.{serve}
 use Rattle.worked.proofs.Sample.{block, header, answer, assignment, one, two, s, z, opened}
 
--- A case: a call (a request, a table, no profile file, a buffer of zeros of so many bytes; what it comes to, the table afterwards, the answer), the check of a table with its
+-- A case: a call (a request, a table, no profile file, a buffer of zeros of so many bytes; what it comes to, the table afterwards, the answer), the check of
+-- a table with its
 -- answer, or a block with the sum of its words
 data Case : Type 0 where
   call : List ℕ → List ℕ → ℕ → Call → List ℕ → List ℕ → Case
@@ -25,7 +27,7 @@ data Case : Type 0 where
 
 abbrev Right : Case → Type 0
 Right (call req table room comes after bytes) =
-    serve req table [] (replicate room 0) ≡ record { call = comes; table = after; buffer = over bytes (replicate room 0) }
+    serve (lent req table [] (replicate room 0)) ≡ record { call = comes; table = after; buffer = over bytes (replicate room 0) }
 Right (check table answer) = checkTable table 0 ≡ answer
 Right (sum b n) = sumWords b 128 ≡ n
 
@@ -47,7 +49,8 @@ exactly =
     ∷ 0x69 ∷ 0x73 ∷ 0x6C ∷ 0x65 ∷ 0x00 ∷ 0x00 ∷ 0x01 ∷ 0x17 ∷ 0x40 ∷ 0x00 ∷ 0x00 ∷ 0x10 ∷ 0x00 ∷ 0x00 ∷ 0x01 ∷ 0x07 ∷ 0x40 ∷ 0x00 ∷ 0x00 ∷ 0x08
     ∷ []
 
--- a SAR of type 1 for `a` with the name `z`, a table of one line `a` that is registered at `s`, and X5005, each byte by byte: no writer of the definitions made them
+-- a SAR of type 1 for `a` with the name `z`, a table of one line `a` that is registered at `s`, and X5005, each byte by byte: no writer of the definitions
+-- made them
 other : List ℕ
 other =
     0x01 ∷ 0x00 ∷ 0x00 ∷ 0xB0 ∷ 0xC0 ∷ 0x00 ∷ 0x01 ∷ 0x2D ∷ 0x01 ∷ 0x00 ∷ 0x00 ∷ 0x00 ∷ 0x00 ∷ 0x00 ∷ 0x00 ∷ 0x01 ∷ 0x00 ∷ 0x00 ∷ 0x00 ∷ 0x02
@@ -93,7 +96,7 @@ abbrev refusing : List ℕ → List ℕ → ℕ → ℕ → ℕ → Case
 refusing req table room number besides = call req table room (Refused number besides) table []
 
 abbrev answering : List ℕ → List ℕ → List ℕ → List ℕ → Case
-answering req table after bytes = call req table 36864 (Answered (length bytes)) after bytes
+answering req table after bytes = call req table 36864 (Answered (record { length = length bytes })) after bytes
 
 abbrev cases : List Case
 cases =
@@ -129,4 +132,5 @@ cases =
 
 examples : Holds cases
 unfolding opened worked exactly other registered elsewhere alone unkind
-examples = (refl, (refl, (refl, (refl, (refl, (refl, (refl, (refl, (refl, (refl, (refl, (refl, (refl, (refl, (refl, (refl, (refl, (refl, (refl, tt)))))))))))))))))))
+examples =
+    (refl, (refl, (refl, (refl, (refl, (refl, (refl, (refl, (refl, (refl, (refl, (refl, (refl, (refl, (refl, (refl, (refl, (refl, (refl, tt)))))))))))))))))))

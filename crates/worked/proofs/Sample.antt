@@ -16,24 +16,27 @@ use Rattle.table.specs.Blocks.{blockOf, tableOf, publicAt, privateAt}
 use Rattle.table.specs.Check.{risesAt, soundAt, firstBad, checkRecords, checkTable}
 use Rattle.lookup.specs.Find.{firstFrom, publicIs, findPublic, privateIs, findPrivate, serverHere, servesAt, findServer}
 use Rattle.lookup.specs.Network.{networkIs, seek, networkNumber, roamsIn}
-use Rattle.rewrite.specs.Renew.{lacking, sealed, renewed, rewritten}
-use Rattle.rewrite.specs.Effect.{settled, settledAt, afterOf}
+use Rattle.rewrite.specs.Change.{changedAt, afterOf}
+use Rattle.rewrite.specs.Renew.{negated, sealed, renewed, settled}
 use Rattle.diameter.specs.Avp.{padded, headOf, vendorOf, valueOf, sound}
 use Rattle.diameter.specs.Walk.{walkFrom, walk}
 use Rattle.pen.specs.Bytes.{padding, vendorHead, copied, avpBytes, vendorBytes, numberBytes, vendorNumber, group, vendorGroup, ifThere}
 use Rattle.pen.specs.Groups.{vendorApplication, experimental, failed, vendorNumbers, capabilities}
 use Rattle.reading.specs.Kinds.{known, kindFrom, kindBy, rowOf, useIn}
-use Rattle.reading.specs.Rules.{isMember, members, numberFault, contentFault, nothing, ruleBy, rule, failedOf, judge}
-use Rattle.reading.specs.Request.{headerFault, exampleOf, example, missingFrom, missing, complete, readWalk, readIn, identities}
+use Rattle.reading.specs.Rules.{isMember, members, numberFault, contentFault, nothing, ruleBy, rule, judge}
+use Rattle.reading.specs.Request.{headerFault, missingFrom, missing, complete, readWalk, readIn, identities}
 use Rattle.decisions.specs.Reply.{served}
 use Rattle.decisions.specs.Authorization.{mayRoam, authorizeRecord, authorizeFound, authorize}
 use Rattle.decisions.specs.Location.{locateRecord, locateFound, locate}
 use Rattle.decisions.specs.Types.{groupOf, startOf, effectOf}
-use Rattle.decisions.specs.Assignment.{identityFault, every, isOne, findAll, numbersOf, ownedHere, ownedUpTo, recordsOf, allKnown, ownerOf, ownAt, storesAt, fitsAt, rightAt, assigned, storedName, effected, assignRecords, assignKnown, assign}
+use Rattle.decisions.specs.Assignment.{identityFault, every, isOne, findAll, numbersOf, ownedHere, ownedUpTo, recordsOf, allKnown, ownerOf, ownAt, storesAt}
+use Rattle.decisions.specs.Assignment.{fitsAt, rightAt, assigned, storedName, effected, assignRecords, assignKnown, assign}
 use Rattle.decisions.specs.Decide.{assignmentOf, decideRead, decideJudged, decide}
 use Rattle.reading.specs.Found.{numberOf}
+use Rattle.failed.specs.Failing.{headPart, alone, failedOf, sample, exampleOf, failedBy}
 use Rattle.reply.specs.Answer.{resultBytes, proxies, frontBytes, originBytes, givenBytes, endBytes, bodyBytes, flagsOf, headerBytes, answerBytes}
-use Rattle.ndushavire.specs.Serve.{refused, answered, wrongLength, serveChecked, serve}
+use Rattle.ndushavire.specs.Trial.{tried}
+use Rattle.ndushavire.specs.Serve.{wrongLength, refused, answered, serve}
 
 -- `hss.isle` and `isle`
 unfoldable pub host : List ℕ
@@ -52,23 +55,26 @@ header count keep = sealed (sets (sets (sets (putBe32 (sets block 0 (1 ∷ 1 ∷
 -- record k: a public and a private identity of one byte each, a state and a server name
 unfoldable pub person : ℕ → ℕ → ℕ → ℕ → List ℕ → List ℕ
 person k public private state server =
-    sealed
-    (sets (sets (sets (sets (sets (putBe32 (sets block 0 (2 ∷ 1 ∷ [])) 4 k) 8 (state ∷ [])) 13 (1 ∷ 1 ∷ length server ∷ [])) 16 (public ∷ [])) 144 (private ∷ [])) 272 server)
+    let numbers = sets (sets (putBe32 (sets block 0 (2 ∷ 1 ∷ [])) 4 k) 8 (state ∷ [])) 13 (1 ∷ 1 ∷ length server ∷ []) in
+    sealed (sets (sets (sets numbers 16 (public ∷ [])) 144 (private ∷ [])) 272 server)
 
 -- a request of a command with a body; its header as in the worked case
 unfoldable pub request : ℕ → List ℕ → List ℕ
 request command body =
-    putBe24 (putBe24 (0x01 ∷ 0x00 ∷ 0x00 ∷ 0x00 ∷ 0xC0 ∷ 0x00 ∷ 0x00 ∷ 0x00 ∷ 0x01 ∷ 0x00 ∷ 0x00 ∷ 0x00 ∷ 0x00 ∷ 0x00 ∷ 0x00 ∷ 0x01 ∷ 0x00 ∷ 0x00 ∷ 0x00 ∷ 0x02 ∷ []) 1 (20 + length body)) 5 command
-    ++ body
+    let head = 0x01 ∷ 0x00 ∷ 0x00 ∷ 0x00 ∷ 0xC0 ∷ 0x00 ∷ 0x00 ∷ 0x00 ∷ 0x01 ∷ 0x00 ∷ 0x00 ∷ 0x00 ∷ 0x00 ∷ 0x00 ∷ 0x00 ∷ 0x01 ∷ 0x00 ∷ 0x00 ∷ 0x00 ∷ 0x02 ∷ [] in
+    putBe24 (putBe24 head 1 (20 + length body)) 5 command ++ body
 
 -- the answer to a SAR of the Session-Id `s`: its result, and what follows the realm
 unfoldable pub answer : List ℕ → List ℕ → List ℕ
 answer result rest =
-    set (request 301 (avpBytes 263 (0x73 ∷ []) ++ (vendorApplication ++ (result ++ (numberBytes 277 1 ++ (avpBytes 264 host ++ (avpBytes 296 realm ++ rest))))))) 4 0x40
+    let own = avpBytes 264 host ++ (avpBytes 296 realm ++ rest) in
+    set (request 301 (avpBytes 263 (0x73 ∷ []) ++ (vendorApplication ++ (result ++ (numberBytes 277 1 ++ own))))) 4 0x40
 
 -- what every request needs, and a SAR of a type for the identity `a` with a server name
 unfoldable pub common : List ℕ
-common = avpBytes 263 (0x73 ∷ []) ++ (vendorApplication ++ (numberBytes 277 1 ++ (avpBytes 264 (0x63 ∷ []) ++ (avpBytes 296 (0x72 ∷ []) ++ avpBytes 283 (0x72 ∷ [])))))
+common =
+    avpBytes 263 (0x73 ∷ []) ++ (vendorApplication ++
+    (numberBytes 277 1 ++ (avpBytes 264 (0x63 ∷ []) ++ (avpBytes 296 (0x72 ∷ []) ++ avpBytes 283 (0x72 ∷ [])))))
 
 unfoldable pub assignment : ℕ → List ℕ → List ℕ
 assignment kind server = request 301 (common ++ (vendorBytes 601 (0x61 ∷ []) ++ (vendorBytes 602 server ++ (vendorNumber 614 kind ++ vendorNumber 624 1))))
@@ -93,12 +99,12 @@ unfolding host realm block header person request answer common assignment one tw
     allBelow orderOf alikeAt same be16At be24At be32At putBe24 putBe32 zeros zeroBetween putName over sumWords
     hostOf realmOf publicOf privateOf serverOf headerOf soundHeader networkOf usedPlace soundPlace sameByte otherPlace newPlace soundNetworks recordOf soundRecord
     blockOf tableOf publicAt privateAt risesAt soundAt firstBad checkRecords checkTable firstFrom publicIs findPublic privateIs findPrivate serverHere servesAt findServer
-    networkIs seek networkNumber roamsIn lacking sealed renewed rewritten settled settledAt afterOf padded headOf vendorOf valueOf sound walkFrom walk
+    networkIs seek networkNumber roamsIn negated sealed renewed settled changedAt afterOf padded headOf vendorOf valueOf sound walkFrom walk
     padding vendorHead copied avpBytes vendorBytes numberBytes vendorNumber group vendorGroup ifThere vendorApplication experimental failed vendorNumbers capabilities
-    known kindFrom kindBy rowOf useIn isMember members numberFault contentFault nothing ruleBy rule failedOf judge
-    headerFault exampleOf example missingFrom missing complete readWalk readIn identities served mandatoryOf optionalOf profileOf
+    known kindFrom kindBy rowOf useIn isMember members numberFault contentFault nothing ruleBy rule judge
+    headerFault headPart alone failedOf sample exampleOf failedBy missingFrom missing complete readWalk readIn identities served mandatoryOf optionalOf profileOf
     mayRoam authorizeRecord authorizeFound authorize locateRecord locateFound locate groupOf startOf effectOf
     identityFault every isOne findAll numbersOf ownedHere ownedUpTo recordsOf allKnown ownerOf ownAt storesAt fitsAt rightAt assigned storedName effected assignRecords assignKnown assign
     assignmentOf decideRead decideJudged decide numberOf resultBytes proxies frontBytes originBytes givenBytes endBytes bodyBytes flagsOf headerBytes answerBytes
-    refused answered serveChecked wrongLength serve
+    tried wrongLength refused answered serve
 opened = 0

@@ -7,7 +7,7 @@ use native.Mathlib.Omega.{arith}
 use lib.ListN.{getD, replicate}
 use Rattle.octets.specs.Run.{over}
 use Rattle.pen.specs.Bytes.{numberBytes}
-use Rattle.ndushavire.specs.Lent.{Lent}
+use Rattle.ndushavire.specs.Lent.{Lent, lent}
 use Rattle.ndushavire.specs.Serve.{Served, serve}
 use Rattle.ndushavire.specs.declared.Call.the-variants.{Answered}
 use Rattle.ndushavire.specs.Word.{word, callWord}
@@ -26,13 +26,11 @@ Server = ℕ → Lent → Outcome
 
 -- Call n of a run meets the promise, given x.
 abbrev Meets : Server → ℕ → Lent → Type 0
-Meets f n x = DecidePromise (x .request) (x .table) (x .profile) (x .buffer) (f n x .word) (f n x .table) (f n x .buffer)
+Meets f n x = DecidePromise x (f n x .word) (f n x .table) (f n x .buffer)
 
 -- The true server, which shows that the inputs below are no trap.
 truly : Server
-truly n x =
-    let y = serve (x .request) (x .table) (x .profile) (x .buffer) in
-    record { word = callWord (y .call); table = y .table; buffer = y .buffer }
+truly n x = record { word = callWord (serve x .call); table = serve x .table; buffer = serve x .buffer }
 
 truly-meets : (n : ℕ) (x : Lent) → Meets truly n x
 unfolding truly
@@ -43,23 +41,24 @@ room : List ℕ
 room = replicate 36864 0
 
 removal : Lent
-removal = record { request = assignment 5 s; table = one 0 1 s; profile = []; buffer = room }
+removal = lent (assignment 5 s) (one 0 1 s) [] room
 
 question : Lent
-question = record { request = assignment 0 z; table = one 0 1 s; profile = []; buffer = room }
+question = lent (assignment 0 z) (one 0 1 s) [] room
 
 abbrev comes : List ℕ → List ℕ → Served
-comes after bytes = record { call = Answered 116; table = after; buffer = over bytes room }
+comes after bytes = record { call = Answered (record { length = 116 }); table = after; buffer = over bytes room }
 
-removal-served : serve (assignment 5 s) (one 0 1 s) [] room ≡ comes (one 0 0 []) (answer (numberBytes 268 2001) [])
-unfolding opened room
+removal-served : serve removal ≡ comes (one 0 0 []) (answer (numberBytes 268 2001) [])
+unfolding opened room removal
 removal-served = refl
 
-question-served : serve (assignment 0 z) (one 0 1 s) [] room ≡ comes (one 0 1 s) (answer (numberBytes 268 5012) [])
-unfolding opened room
+question-served : serve question ≡ comes (one 0 1 s) (answer (numberBytes 268 5012) [])
+unfolding opened room question
 question-served = refl
 
--- What the promise leaves of the removal: the word 116, state 0 in the record, and 2001, whose last byte is 209, in the answer; of the other 5012, whose last byte is 148.
+-- What the promise leaves of the removal: the word 116, state 0 in the record, and 2001, whose last byte is 209, in the answer; of the other 5012, whose last
+-- byte is 148.
 state : List ℕ → ℕ
 state t = getD t 520 0
 
@@ -68,19 +67,18 @@ result o = getD o 75 0
 
 module _ (f : Server) (n : ℕ) where
   removal-word : Meets f n removal → f n removal .word ≡ 116
-  unfolding removal
   removal-word p = p .word-is ∙ ap (λ (y : Served). callWord (y .call)) removal-served
 
   removal-state : Meets f n removal → state (f n removal .table) ≡ 0
-  unfolding removal state opened
+  unfolding state opened
   removal-state p = ap state (p .table-is ∙ ap (λ (y : Served). y .table) removal-served)
 
   removal-result : Meets f n removal → result (f n removal .buffer) ≡ 209
-  unfolding removal result opened room
+  unfolding result opened room
   removal-result p = ap result (p .buffer-is ∙ ap (λ (y : Served). y .buffer) removal-served)
 
   question-result : Meets f n question → result (f n question .buffer) ≡ 148
-  unfolding question result opened room
+  unfolding result opened room
   question-result p = ap result (p .buffer-is ∙ ap (λ (y : Served). y .buffer) question-served)
 
 -- Two answers whose results end alike cannot both be right, whatever else they take from the request.
@@ -111,7 +109,8 @@ unwriting-fails : (word : Lent → ℕ) (bytes : Lent → List ℕ) (n : ℕ) �
 unfolding unwriting removal state opened
 unwriting-fails word bytes n p = omega (arith, removal-state (unwriting word bytes) n p)
 
--- 4. "one that serves the first request of a run truly and only imitates later". It meets the promise at the first call; at each later one it does what the imitator does ..
+-- 4. "one that serves the first request of a run truly and only imitates later". It meets the promise at the first call; at each later one it does what the
+-- imitator does ..
 once : Server → Server
 once later zero x = truly zero x
 once later (suc n) x = later n x

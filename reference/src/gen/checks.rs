@@ -3,7 +3,7 @@
 use super::damage;
 use super::made::Made;
 use super::tables;
-use crate::cases::{Case, Entry};
+use crate::cases::Case;
 use crate::rng::Rng;
 use crate::table::MOST_RECORDS;
 
@@ -29,13 +29,5 @@ pub fn case(rng: &mut Rng) -> Made {
             damaged = None;
         }
     }
-    let case = Case {
-        entry: Entry::Check,
-        noise_from: rng.byte(),
-        request: vec![],
-        table: subject.bytes,
-        profile: subject.profile,
-        buffer_length: 0,
-    };
-    Made { case, notes, damaged }
+    Made { case: Case::check(rng.byte(), subject.bytes, subject.profile), notes, damaged }
 }

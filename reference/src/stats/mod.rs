@@ -6,7 +6,7 @@ use std::collections::BTreeMap;
 use std::ops::Range;
 
 use crate::block::{word_at, BLOCK};
-use crate::cases::{Case, Outcome};
+use crate::cases::{Case, Outcome, Slice};
 use crate::gen::{self, Made, Stream, FAR};
 use crate::kinds::{Command, Kind, EXPERIMENTAL_RESULT, FAILED_AVP, RESULT_CODE, SERVER_CAPABILITIES, USER_DATA};
 use crate::message::{sound_avps, Message};
@@ -45,7 +45,7 @@ impl Histogram {
         };
         if let Ok(records) = found {
             self.add(format!("sound table of {} records", size(records as usize)));
-            if made.case.profile.len() > FAR {
+            if made.case.held(Slice::Profile).len() > FAR {
                 self.add("sound table, profile over 65,536 bytes".to_string());
             }
         }
@@ -68,12 +68,12 @@ impl Histogram {
             Why::Rule(letter, what) => format!("rule ({letter}): {what}"),
             Why::Missing(kind) => format!("missing: {}", kind.name()),
             Why::Decided(decision) => {
-                self.add(format!("decided over {} records", size(made.case.table.len() / BLOCK - 1)));
+                self.add(format!("decided over {} records", size(made.case.held(Slice::Table).len() / BLOCK - 1)));
                 self.decision(decision)
             }
         };
         self.add(row);
-        match made.case.request.len() {
+        match made.case.held(Slice::Request).len() {
             16_384 => self.add("request: 16,384 bytes".to_string()),
             length if length > FAR => self.add("request: over 65,536 bytes".to_string()),
             _ => {}
@@ -102,8 +102,7 @@ impl Histogram {
     }
 
     fn count_answer(&mut self, case: &Case, outcome: &Outcome, why: &Why) {
-        let mut buffer = case.buffer_before();
-        outcome.buffer.apply(&mut buffer);
+        let buffer = case.after(outcome, Slice::Buffer).unwrap_or_default();
         let answer = &buffer[..outcome.parts().2 as usize];
         let avps = sound_avps(Message(answer).avps(), Slip::NONE);
         self.add(format!("result: {}", code_name(result_of(answer))));
@@ -138,7 +137,7 @@ impl Histogram {
                 _ => {}
             }
         }
-        if !outcome.table.bytes.is_empty() {
+        if case.entry.rewrote(outcome) {
             self.add("answer: records rewritten".to_string());
         }
         for (least, row) in [(16_384, "answer: over 16,384 bytes"), (32_000, "answer: over 32,000 bytes")] {

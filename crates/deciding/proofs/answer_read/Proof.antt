@@ -1,5 +1,5 @@
 use Rattle.decisions.proofs.Ready.{sound-ready}
-use Rattle.deciding.proofs.Answering.{plan-reply, plan-table, given-room, answers, answers-most, read-fits}
+use Rattle.deciding.proofs.Answering.{plan-reply, plan-table, given-room, answers, answers-most, plan-fits}
 use borrow.Author.Needs.{needs}
 use Rattle.deciding.proofs.answer_read.Statement.{statement}
 use Rattle.deciding.proofs.answer_read.Tie as tie
@@ -10,7 +10,7 @@ answer-read-spec =
     (tie.spec
     (λ c κs. search (needs, sound-ready))
     (λ c κs. search (needs, given-room, plan-reply))
-    (λ c κs. search (needs, sound-ready, read-fits))
+    (λ c κs. search (needs, sound-ready, plan-fits))
     (λ c. search needs)
     (λ c. search needs)
     (λ c. search (needs, answers-most, answers, plan-reply, plan-table)))

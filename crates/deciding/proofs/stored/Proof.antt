@@ -5,11 +5,11 @@ use Rattle.deciding.proofs.stored.Tie as tie
 
 returns : tie.Need-returns
 unfolding storedName
-returns c = (rw (c .if1 .taken), search needs)
+returns c = rw (c .if1 .taken)
 
 returns-2 : tie.Need-returns-2
 unfolding storedName
-returns-2 c = (rw (c .before .if1 .left), search needs)
+returns-2 c = rw (c .before .if1 .left)
 
 pub stored-spec : {M : Type 1} → statement M
 stored-spec =

@@ -1,6 +1,6 @@
 //! A call in the making, and right ones.
 
-use crate::cases::{Case, Entry};
+use crate::cases::Case;
 use crate::gen::asks;
 use crate::gen::made::Made;
 use crate::gen::request::RequestModel;
@@ -48,14 +48,8 @@ impl Call {
     }
 
     pub fn with_request(self, rng: &mut Rng, request: Vec<u8>) -> Made {
-        let case = Case {
-            entry: Entry::Decide,
-            noise_from: rng.byte(),
-            request,
-            table: self.sound.model.encode(),
-            profile: self.sound.profile,
-            buffer_length: self.buffer_length,
-        };
+        let table = self.sound.model.encode();
+        let case = Case::decide(rng.byte(), request, table, self.sound.profile, self.buffer_length);
         Made { case, notes: self.notes, damaged: None }
     }
 }

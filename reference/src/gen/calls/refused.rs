@@ -1,6 +1,7 @@
 //! Calls that are refused, or only just not.
 
 use super::call::{right, right_over, Call};
+use crate::cases::Slice;
 use crate::gen::damage;
 use crate::gen::made::Made;
 use crate::gen::tables::FAR;
@@ -93,8 +94,7 @@ fn damage_table(rng: &mut Rng, mut call: Call, request: Vec<u8>) -> Made {
     let mut subject = damage::Subject { bytes: model.encode(), profile, model };
     let damaged = damage::damage(rng, &mut subject, &mut call.notes);
     let mut made = call.with_request(rng, request);
-    made.case.table = subject.bytes;
-    made.case.profile = subject.profile;
+    made.case = made.case.with(Slice::Table, subject.bytes).with(Slice::Profile, subject.profile);
     made.damaged = damaged;
     made
 }

@@ -3,7 +3,8 @@ use mathlib.Core.Path.{_≡_}
 use lib.ListN.{length}
 use Rattle.lookup.specs.SoundTable.{Ordered}
 use Rattle.lookup.proofs.Scans.{public-end}
-use Rattle.rewrite.specs.Effect.{afterOf}
+use Rattle.rewrite.specs.Change.{afterOf}
+use Rattle.rewrite.specs.Renew.{settled}
 use Rattle.reading.specs.Request.{bodyOf, identities}
 use Rattle.requests.proofs.Naming.{named-less}
 use Rattle.decisions.specs.Assignment.{isOne, findAll, numbersOf}
@@ -15,7 +16,8 @@ use Rattle.assignment.proofs.naming.settle_named.Tie as tie
 abbrev Inv-loop : tie.InvT-loop
 Inv-loop t₀ count req state server at₀ t at =
     Ordered t count × (length t ≡ length t₀)
-    × (afterOf t count (isOne (numbersOf (findAll t count (restOf req at)))) state server ≡ afterOf t₀ count (isOne (numbersOf (findAll t₀ count (identities (bodyOf req))))) state server)
+    × (afterOf t count (isOne (numbersOf (findAll t count (restOf req at)))) (settled state server)
+    ≡ afterOf t₀ count (isOne (numbersOf (findAll t₀ count (identities (bodyOf req))))) (settled state server))
 
 abbrev μ-loop : tie.MeasureT-loop
 μ-loop t₀ count req state server at₀ t at = length req - at

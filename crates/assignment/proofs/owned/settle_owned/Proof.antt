@@ -1,7 +1,8 @@
 use Prim.Native.Nat.{_+_, _-_, _*_, _≤_}
 use mathlib.Core.Path.{_≡_}
 use lib.ListN.{length}
-use Rattle.rewrite.specs.Effect.{afterOf}
+use Rattle.rewrite.specs.Change.{afterOf}
+use Rattle.rewrite.specs.Renew.{settled}
 use Rattle.decisions.specs.Assignment.{isOne, ownedUpTo}
 use Rattle.assignment.proofs.OwnTurns.{ownedFrom, owned-start, owned-turn, owned-size, owned-end}
 use borrow.Author.Needs.{needs}
@@ -11,7 +12,7 @@ use Rattle.assignment.proofs.owned.settle_owned.Tie as tie
 abbrev Inv-loop : tie.InvT-loop
 Inv-loop t₀ count user state server k₀ t k =
     (1 ≤ k) × (k ≤ count + 1) × (length t ≡ 512 * (count + 1))
-    × (afterOf t count (ownedFrom t user k) state server ≡ afterOf t₀ count (isOne (ownedUpTo t₀ user count)) state server)
+    × (afterOf t count (ownedFrom t user k) (settled state server) ≡ afterOf t₀ count (isOne (ownedUpTo t₀ user count)) (settled state server))
 
 abbrev μ-loop : tie.MeasureT-loop
 μ-loop t₀ count user state server k₀ t k = count + 1 - k

@@ -1,0 +1,36 @@
+// The calls, a function for each entry: it lends the slices of the case, copies of those that the entry writes to, and tells of the outcome.
+use crate::outcome;
+use crate::words;
+use octets::run;
+
+fn check(given: &[u8], w: &[u8; 64]) -> bool {
+    let word = ndushavire::ndushavire_check(words::slice(given, w, 0), words::slice(given, w, 1));
+    outcome::put(word, 0)
+}
+
+fn decide(given: &[u8], w: &[u8; 64]) -> bool {
+    let table = words::slice(given, w, 1);
+    let buffer = words::slice(given, w, 3);
+    let mut t = [0u8; 40000];
+    let mut out = [0u8; 40000];
+    run::copy(&mut t, table);
+    run::copy(&mut out, buffer);
+    let n = table.len();
+    let room = buffer.len();
+    let word = ndushavire::ndushavire_decide(
+        words::slice(given, w, 0),
+        &mut t[..n],
+        words::slice(given, w, 2),
+        &mut out[..room],
+    );
+    outcome::put(word, 2) & outcome::put_change(table, &t) & outcome::put_change(buffer, &out)
+}
+
+// Calls an entry by its number in the streams.
+pub fn call(entry: u8, given: &[u8], w: &[u8; 64]) -> bool {
+    match entry {
+        1 => check(given, w),
+        2 => decide(given, w),
+        _ => false,
+    }
+}

@@ -1,0 +1,85 @@
+-- Laws of trials in order, by induction: what holds of each and of what is otherwise, and "exactly when, and none earlier".
+use Prim.Native.Nat.{ℕ}
+use mathlib.Core.List.{List, [], _∷_, _++_}
+use mathlib.Core.Bool.{Bool, true, false, cond, not, _||_, _&&_, true≢false}
+use mathlib.Core.Path.{_≡_, refl, sym, _∙_}
+use mathlib.Core.Logic.{_≢_}
+use lib.Dec.{eqb}
+use borrow.Author.Tests.{eqb-false, eq-eqb, ne-eqb}
+use Rattle.diameter.specs.Put.{All}
+use Rattle.ndushavire.specs.Trial.{Trial, tried, anyHolds}
+use Rattle.demands.specs.Call.{Exactly}
+
+-- What holds of every one that may be given, and of what is otherwise, holds of what comes.
+pub tried-by : {X : Type 0} (P : Bool → X → Type 0) (Q : Trial → Type 0) (give : Trial → X) (otherwise : X)
+    → ((r : Trial) → Q r → r .holds ≡ true → P true (give r)) → P false otherwise
+    → (rs : List Trial) → All Q rs → P (anyHolds rs) (tried give otherwise rs)
+unfolding tried anyHolds
+tried-by P Q give otherwise f o [] h = o
+tried-by P Q give otherwise f o (r ∷ rs) h = go (r .holds) refl (tried-by P Q give otherwise f o rs (h .1))
+  where
+    go : (x : Bool) → r .holds ≡ x → P (anyHolds rs) (tried give otherwise rs) → P (x || anyHolds rs) (cond x (give r) (tried give otherwise rs))
+    go true e next = f r (h .0) e
+    go false e next = next
+
+-- If one of them holds, what is otherwise does not matter.
+pub tried-alike : {X : Type 0} (give : Trial → X) (o p : X) (rs : List Trial) → anyHolds rs ≡ true → tried give o rs ≡ tried give p rs
+unfolding tried anyHolds
+tried-alike give o p [] e = absurd (true≢false (sym e))
+tried-alike give o p (r ∷ rs) e = go (r .holds) e (tried-alike give o p rs)
+  where
+    go : (x : Bool) → (x || anyHolds rs) ≡ true → (anyHolds rs ≡ true → tried give o rs ≡ tried give p rs)
+        → cond x (give r) (tried give o rs) ≡ cond x (give r) (tried give p rs)
+    go true h next = refl
+    go false h next = next h
+
+-- the numbers differ, and none is 0
+abbrev pub Numbered : List Trial → Type 0
+Numbered [] = Unit
+Numbered (r ∷ rs) = (eqb (r .number) 0 ≡ false) × All (λ (q : Trial). eqb (q .number) (r .number) ≡ false) rs × Numbered rs
+
+other-number : (n : ℕ) (earlier later : List Trial) (r : Trial) → All (λ (q : Trial). eqb (q .number) n ≡ false) (earlier ++ (r ∷ later)) → r .number ≢ n
+other-number n [] later r h = eqb-false (r .number) n (h .0)
+other-number n (e ∷ earlier) later r h = other-number n earlier later r (h .1)
+
+-- What is given says the number of its trial, and what is otherwise says 0.
+module _ {X : Type 0} (give : Trial → X) (otherwise : X) (number : X → ℕ) (is : (r : Trial) → number (give r) ≡ r .number) (zero : number otherwise ≡ 0) where
+  abbrev comes : List Trial → ℕ
+  comes rs = number (tried give otherwise rs)
+
+  absent : (n : ℕ) → n ≢ 0 → (rs : List Trial) → All (λ (q : Trial). eqb (q .number) n ≡ false) rs → eqb (comes rs) n ≡ false
+  unfolding tried
+  absent n l [] h = ne-eqb (number otherwise) n (λ e. l (sym e ∙ zero))
+  absent n l (r ∷ rs) h = go (r .holds) (absent n l rs (h .1))
+    where
+      go : (x : Bool) → eqb (comes rs) n ≡ false → eqb (number (cond x (give r) (tried give otherwise rs))) n ≡ false
+      go true next = rw (is r) (h .0)
+      go false next = next
+
+  -- A trial's number comes exactly when it holds and none earlier does.
+  given : (earlier later : List Trial) (r : Trial) → Numbered (earlier ++ (r ∷ later))
+      → eqb (comes (earlier ++ (r ∷ later))) (r .number) ≡ (not (anyHolds earlier) && r .holds)
+  unfolding tried anyHolds
+  given [] later r h = go (r .holds)
+    where
+      go : (x : Bool) → eqb (number (cond x (give r) (tried give otherwise later))) (r .number) ≡ x
+      go true = eq-eqb (number (give r)) (r .number) (is r)
+      go false = absent (r .number) (eqb-false (r .number) 0 (h .0)) later (h .1)
+  given (e ∷ earlier) later r h = go (e .holds) (given earlier later r (h .2))
+    where
+      go : (x : Bool) → eqb (comes (earlier ++ (r ∷ later))) (r .number) ≡ (not (anyHolds earlier) && r .holds)
+          → eqb (number (cond x (give e) (tried give otherwise (earlier ++ (r ∷ later))))) (r .number) ≡ (not (x || anyHolds earlier) && r .holds)
+      go true next = ne-eqb (number (give e)) (r .number) (λ q. other-number (e .number) earlier later r (h .1) (sym q ∙ is e))
+      go false next = next
+
+  none : (rs : List Trial) → Numbered rs → eqb (comes rs) 0 ≡ not (anyHolds rs)
+  unfolding tried anyHolds
+  none [] h = eq-eqb (number otherwise) 0 zero
+  none (r ∷ rs) h = go (r .holds) (none rs (h .2))
+    where
+      go : (x : Bool) → eqb (comes rs) 0 ≡ not (anyHolds rs) → eqb (number (cond x (give r) (tried give otherwise rs))) 0 ≡ not (x || anyHolds rs)
+      go true next = rw (is r) (h .0)
+      go false next = next
+
+  pub exactly : (rs : List Trial) → Numbered rs → Exactly rs (comes rs)
+  exactly rs h = record { given = λ earlier later r e. rw e (given earlier later r (rw e at h)); none = none rs h }

@@ -1,0 +1,43 @@
+-- The table after an effect: a change of the chosen records' blocks, and every other block as it was.
+use Prim.Native.Nat.{ℕ, suc, _+_, _*_, _/_, _<_}
+use mathlib.Core.Bool.{Bool, true, false, _&&_, _||_, cond}
+use mathlib.Core.Path.{_≡_}
+use mathlib.Core.List.{List, _++_}
+use lib.Dec.{eqb, leb, ltb}
+use lib.ListN.{length, getD, take, drop}
+use Rattle.record.specs.Fields.{bitsOf}
+use Rattle.record.specs.RecordBlock.{soundRecord}
+use Rattle.table.specs.Blocks.{blockOf, tableOf}
+use Rattle.lookup.specs.declared.Found.{Found}
+use Rattle.lookup.specs.declared.Found.the-variants.{At, Nothing}
+
+-- block k after a change of the chosen records. A choice is a test of block numbers, false of 0
+unfoldable pub changedAt : List ℕ → (ℕ → Bool) → (List ℕ → List ℕ) → ℕ → List ℕ
+changedAt t chosen change k = cond (chosen k) (change (blockOf t k)) (blockOf t k)
+
+unfoldable pub afterOf : List ℕ → ℕ → (ℕ → Bool) → (List ℕ → List ℕ) → List ℕ
+afterOf t count chosen change = tableOf (changedAt t chosen change) (suc count)
+
+-- a table with block k changed; with a found record changed
+unfoldable pub changedIn : List ℕ → ℕ → (List ℕ → List ℕ) → List ℕ
+changedIn t k change = take (512 * k) t ++ (change (blockOf t k) ++ drop (512 * k + 512) t)
+
+unfoldable pub changedFound : List ℕ → Found → (List ℕ → List ℕ) → List ℕ
+changedFound t (At k) change = changedIn t k change
+changedFound t Nothing change = t
+
+-- the bytes of a record that an effect may write: state, bits, the server name with its length, the check word
+abbrev pub alterable : ℕ → Bool
+alterable i = eqb i 8 || eqb i 9 || eqb i 15 || leb 272 i && ltb i 368 || leb 508 i
+
+-- what a record's new block c keeps of the old one: its length, every byte that no effect may write, the bits above pending, and its soundness
+pub record Kept (b c : List ℕ) : Type 0 where
+  pub size : length c ≡ length b
+  pub others : (i : ℕ) → i < 512 → alterable i ≡ false → getD c i 0 ≡ getD b i 0
+  pub bits : bitsOf c / 2 ≡ bitsOf b / 2
+  pub sound : (k networks file : ℕ) → soundRecord b k networks file ≡ true → soundRecord c k networks file ≡ true
+
+-- what a change keeps of every block; done twice it is done once
+pub record Keeps (change : List ℕ → List ℕ) : Type 0 where
+  pub each : (b : List ℕ) → length b ≡ 512 → Kept b (change b)
+  pub twice : (b : List ℕ) → length b ≡ 512 → change (change b) ≡ change b

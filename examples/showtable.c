@@ -1,0 +1,234 @@
+/* showtable TABLE PROFILE: a table and its profile file as the text that maketable reads, on standard output. maketable makes
+ * the same two files of it again, byte for byte, so a line can be edited and the next table made with nothing lost:
+ * states, names of servers and whatever bytes a name or a profile has.
+ *
+ * TABLE.md among the documents says how the text is written ("As text") and what stands in the blocks. The text is plain
+ * ASCII, with \xHH for every other byte, so that no editor alters what it does not show.
+ *
+ * Exit status: 0 written; 1 the table is unsound, and its first bad block is named on standard error; 2 wrong use, a file
+ * that cannot be read, or no memory, or standard output fails. Nothing is written of a table that is unsound.
+ * This program stands apart from the library and reads the table's rules for itself, so that each tests the other. */
+#include "load.h"
+
+enum { BLOCK = 512, RECORDS = 4096, NETWORKS = 8, NETWORK = 32, CAPABILITIES = 4, PART = 4096 };
+
+static uint32_t number_at(const uint8_t *at) {
+    return (uint32_t)at[0] << 24 | (uint32_t)at[1] << 16 | (uint32_t)at[2] << 8 | at[3];
+}
+
+/* ---- whether the table is sound */
+
+static int zeros(const uint8_t *bytes, size_t from, size_t to) {
+    while (from < to && bytes[from] == 0) from++;
+    return from >= to;
+}
+
+/* A name of a length in its field, and zeros behind it. */
+static int sound_name(const uint8_t *field, size_t length, size_t least, size_t room) {
+    return length >= least && length <= room && zeros(field, length, room);
+}
+
+static int sound_start(const uint8_t *block, unsigned kind, uint32_t number) {
+    uint32_t sum = 0;
+    for (size_t at = 0; at < BLOCK; at += 4) sum += number_at(block + at);
+    return sum == 0 && block[0] == kind && block[1] == 1 && zeros(block, 2, 4) && number_at(block + 4) == number;
+}
+
+static int sound_networks(const uint8_t *header) {
+    const size_t networks = header[15];
+    const uint8_t *places = header + 144;
+    if (networks > NETWORKS) return 0;
+    for (size_t i = 0; i < networks; i++) {
+        const uint8_t *place = places + NETWORK * i;
+        if (!sound_name(place + 1, place[0], 1, NETWORK - 1)) return 0;
+        for (size_t j = 0; j < i; j++)
+            if (memcmp(place, places + NETWORK * j, NETWORK) == 0) return 0;
+    }
+    return zeros(places, NETWORK * networks, NETWORK * NETWORKS);
+}
+
+static int sound_header(const uint8_t *block) {
+    return sound_start(block, 1, 0) && block[12] <= 1 && sound_name(block + 16, block[13], 1, 64) &&
+           sound_name(block + 80, block[14], 1, 64) && sound_networks(block) && zeros(block, 400, BLOCK - 4);
+}
+
+static size_t part_length(const uint8_t *record) { return (size_t)record[404] << 8 | record[405]; }
+
+static uint64_t part_start(const uint8_t *record) { return number_at(record + 400); }
+
+static int sound_record(const uint8_t *block, uint32_t number, unsigned networks, size_t profile_len) {
+    const unsigned state = block[8], bits = block[9], mandatory = block[11], optional = block[12];
+    const int pending = bits & 1;
+    return sound_start(block, 2, number) && state <= 2 && bits <= 7 && block[10] >> networks == 0 &&
+           sound_name(block + 16, block[13], 1, 128) && sound_name(block + 144, block[14], 1, 128) &&
+           sound_name(block + 272, block[15], 0, 96) && (block[15] > 0) == (state > 0 || pending) &&
+           mandatory <= CAPABILITIES && zeros(block, 368 + 4 * mandatory, 384) &&
+           optional <= CAPABILITIES && zeros(block, 384 + 4 * optional, 400) &&
+           part_length(block) <= PART && part_start(block) + part_length(block) <= profile_len && zeros(block, 406, BLOCK - 4);
+}
+
+/* Whether a record's public identity is greater than that of the one before: bytewise, a prefix first. */
+static int rises(const uint8_t *before, const uint8_t *block) {
+    const size_t a = before[13], b = block[13];
+    const int order = memcmp(before + 16, block + 16, a < b ? a : b);
+    return order != 0 ? order < 0 : a < b;
+}
+
+/* Whether the table is sound; if not, `bad` is its first bad block. */
+static int sound_table(const uint8_t *table, size_t table_len, size_t profile_len, size_t *bad) {
+    *bad = 0;
+    if (table_len < BLOCK) return 0;
+    const size_t count = number_at(table + 8);
+    if (count > RECORDS || table_len != BLOCK * (count + 1) || !sound_header(table)) return 0;
+    for (*bad = 1; *bad <= count; ++*bad) {
+        const uint8_t *block = table + BLOCK * *bad;
+        if (!sound_record(block, (uint32_t)*bad, table[15], profile_len)) return 0;
+        if (*bad > 1 && !rises(block - BLOCK, block)) return 0;
+    }
+    return 1;
+}
+
+/* ---- the text */
+
+static const char *gap = ""; /* what stands before the next word */
+
+static void new_line(void) { gap = "\n"; }
+
+static void new_paragraph(void) { gap = "\n\n"; }
+
+static void put_word(const char *word) {
+    printf("%s%s", gap, word);
+    gap = " ";
+}
+
+static void put_number(const char *key, uint64_t number) {
+    put_word(key);
+    printf("=%llu", (unsigned long long)number);
+}
+
+static void put_quoted(const char *key, const uint8_t *bytes, size_t length) {
+    put_word(key);
+    fputs("=\"", stdout);
+    for (size_t i = 0; i < length; i++) {
+        const uint8_t c = bytes[i];
+        if (c == '"' || c == '\\') printf("\\%c", c);
+        else if (c == '\n') fputs("\\n", stdout);
+        else if (c < ' ' || c >= 0x7F) printf("\\x%02x", c);
+        else putchar(c);
+    }
+    putchar('"');
+}
+
+/* A name stands bare unless one of its bytes needs quotes. */
+static void put_name(const char *key, const uint8_t *bytes, size_t length) {
+    for (size_t i = 0; i < length; i++)
+        if (bytes[i] <= ' ' || bytes[i] >= 0x7F || bytes[i] == '"' || bytes[i] == '\\') {
+            put_quoted(key, bytes, length);
+            return;
+        }
+    put_word(key);
+    printf("=%.*s", (int)length, (const char *)bytes);
+}
+
+static void put_capabilities(const char *key, const uint8_t *values, unsigned count) {
+    if (count == 0) return;
+    put_word(key);
+    for (unsigned i = 0; i < count; i++) printf("%c%lu", i == 0 ? '=' : ',', (unsigned long)number_at(values + 4 * i));
+}
+
+static void put_header(const uint8_t *header) {
+    put_name("host", header + 16, header[13]);
+    put_name("realm", header + 80, header[14]);
+    put_number("keep", header[12]);
+    new_line();
+    for (size_t i = 0; i < header[15]; i++) put_name("network", header + 145 + NETWORK * i, header[144 + NETWORK * i]);
+}
+
+static void put_record(const uint8_t *header, const uint8_t *record, const uint8_t *profile, int placed) {
+    static const char *const states[] = {"not-registered", "registered", "unregistered"};
+    new_paragraph();
+    put_name("public", record + 16, record[13]);
+    put_name("private", record + 144, record[14]);
+    new_line();
+    if (record[8] != 0) put_name("state", (const uint8_t *)states[record[8]], strlen(states[record[8]]));
+    if (record[9] & 1) put_word("pending");
+    if (record[9] & 2) put_word("barred");
+    if (record[9] & 4) put_word("unregistered-services");
+    if (record[15] > 0) put_name("server", record + 272, record[15]);
+    new_line();
+    for (size_t i = 0; i < header[15]; i++)
+        if (record[10] >> i & 1) put_name("roaming", header + 145 + NETWORK * i, header[144 + NETWORK * i]);
+    new_line();
+    put_capabilities("mandatory", record + 368, record[11]);
+    put_capabilities("optional", record + 384, record[12]);
+    new_line();
+    if (part_length(record) > 0) put_quoted("profile", profile + part_start(record), part_length(record));
+    if (placed) put_number("profile-at", part_start(record));
+}
+
+/* Whether the profile file is the records' parts one behind the other, as maketable lays them. */
+static int laid_in_order(const uint8_t *table, size_t count, size_t profile_len) {
+    uint64_t end = 0;
+    for (size_t k = 1; k <= count; k++) {
+        if (part_start(table + BLOCK * k) != end) return 0;
+        end += part_length(table + BLOCK * k);
+    }
+    return end == profile_len;
+}
+
+static int by_start(const void *left, const void *right) {
+    const uint64_t a = part_start(*(const uint8_t *const *)left), b = part_start(*(const uint8_t *const *)right);
+    return (a > b) - (a < b);
+}
+
+static void put_unused(const uint8_t *profile, uint64_t from, uint64_t to) {
+    for (; from < to; from += PART) {
+        new_paragraph();
+        put_quoted("unused", profile + from, to - from < PART ? (size_t)(to - from) : PART);
+        put_number("profile-at", from);
+    }
+}
+
+/* Each run of the profile file that is in no record's part. */
+static void put_all_unused(const uint8_t *table, size_t count, const uint8_t *profile, size_t profile_len) {
+    static const uint8_t *records[RECORDS];
+    size_t parts = 0;
+    uint64_t reached = 0;
+    for (size_t k = 1; k <= count; k++)
+        if (part_length(table + BLOCK * k) > 0) records[parts++] = table + BLOCK * k;
+    qsort(records, parts, sizeof records[0], by_start);
+    for (size_t i = 0; i < parts; i++) {
+        const uint64_t start = part_start(records[i]), end = start + part_length(records[i]);
+        put_unused(profile, reached, start);
+        if (end > reached) reached = end;
+    }
+    put_unused(profile, reached, profile_len);
+}
+
+int main(int argc, char **argv) {
+    if (argc != 3) {
+        fprintf(stderr, "usage: showtable TABLE PROFILE\n");
+        return 2;
+    }
+    size_t table_len, profile_len;
+    uint8_t *table = load(argv[1], &table_len);
+    uint8_t *profile = load(argv[2], &profile_len);
+    size_t bad;
+    const int sound = sound_table(table, table_len, profile_len, &bad);
+    int printed = 1;
+    if (sound) {
+        const size_t count = number_at(table + 8);
+        const int placed = !laid_in_order(table, count, profile_len);
+        put_header(table);
+        for (size_t k = 1; k <= count; k++) put_record(table, table + BLOCK * k, profile, placed);
+        if (placed) put_all_unused(table, count, profile, profile_len);
+        putchar('\n');
+        printed = fflush(stdout) == 0 && !ferror(stdout);
+        if (!printed) fprintf(stderr, "showtable: standard output: %s\n", strerror(errno));
+    } else {
+        fprintf(stderr, "showtable: %s: block %lu is bad\n", argv[1], (unsigned long)bad);
+    }
+    free(table);
+    free(profile);
+    return !printed ? 2 : sound ? 0 : 1;
+}

@@ -1,0 +1,134 @@
+#!/usr/bin/env bash
+# install.sh try | install ARCHIVE PROGRAM.. | uninstall: puts the library, its pages and its examples under PREFIX, and below DESTDIR
+# if that is set, or takes them away again; `try` only says whether it could. PREFIX is absolute, and empty means /. So are BINDIR,
+# LIBDIR, INCLUDEDIR, MANDIR and DOCDIR, which lie under PREFIX unless they are set.
+# Each file, and each folder made for one, is first noted in DOCDIR/installed. Uninstalling goes by that note and nothing else.
+set -euo pipefail
+cd "$(dirname "$0")/.."
+
+fail() {
+    echo "packaging/install.sh: $*" >&2
+    exit 1
+}
+
+# A path that is absolute, without the slashes at its end.
+absolute() { # NAME PATH
+    local path=$2
+    case $path in
+    '' | /*) ;;
+    *) fail "$1 is no absolute path: '$path'" ;;
+    esac
+    case $path in
+    *[\"\'\`\\\$#]* | *[[:cntrl:]]*) fail "$1 has a character that a pkg-config file cannot hold: '$path'" ;;
+    */../* | */..) fail "$1 goes up again: '$path'" ;;
+    esac
+    while [ "${path%/}" != "$path" ]; do path=${path%/}; done
+    printf %s "$path"
+}
+prefix=$(absolute PREFIX "${PREFIX-/usr/local}")
+bindir=$(absolute BINDIR "${BINDIR:-$prefix/bin}")
+libdir=$(absolute LIBDIR "${LIBDIR:-$prefix/lib}")
+includedir=$(absolute INCLUDEDIR "${INCLUDEDIR:-$prefix/include}")
+mandir=$(absolute MANDIR "${MANDIR:-$prefix/share/man}")
+docdir=$(absolute DOCDIR "${DOCDIR:-$prefix/share/doc/ndushavire}")
+below=${DESTDIR-}
+note=$docdir/installed
+
+# ---- what goes where: a file of the tree, its place and its mode. Two captured requests go with the examples, to be tried.
+requests=(tests/captured/icscf-20-lir.hex tests/captured/scscf-12-sar.hex)
+sources=() places=() modes=()
+goes() { # SOURCE PLACE MODE
+    sources+=("$1") places+=("$2") modes+=("$3")
+}
+list_files() { # ARCHIVE PROGRAM..
+    local file name
+    goes "$1" "$libdir/libndushavire.a" 644
+    goes include/ndushavire.h "$includedir/ndushavire.h" 644
+    for file in man/*; do goes "$file" "$mandir/man${file##*.}/${file#man/}" 644; done
+    for file in packaging/README.md docs/*.md; do goes "$file" "$docdir/${file##*/}" 644; done
+    for file in examples/* "${requests[@]}"; do goes "$file" "$docdir/examples/${file##*/}" 644; done
+    for file in "${@:2}"; do
+        name=${file##*/}
+        [ "$name" != check ] || name=ndushavire-check
+        goes "$file" "$bindir/$name" 755
+    done
+}
+
+# What pkg-config is told: folders under PREFIX by that name.
+pkg_config() {
+    local text version
+    under() { if [ "${1#"$prefix"/}" != "$1" ]; then printf '${prefix}/%s' "${1#"$prefix"/}"; else printf %s "$1"; fi; }
+    version=$(sed -n 's/^#define NDUSHAVIRE_VERSION "\(.*\)"$/\1/p' include/ndushavire.h)
+    text=$(<packaging/ndushavire.pc.in)
+    text=${text//@PREFIX@/"$prefix"}
+    text=${text//@LIBDIR@/"$(under "$libdir")"}
+    text=${text//@INCLUDEDIR@/"$(under "$includedir")"}
+    printf '%s\n' "${text//@VERSION@/"$version"}"
+}
+
+# ---- the note: a line `file PLACE` or `folder PLACE`, without DESTDIR
+early=()
+noted() { # KIND PLACE
+    if [ ! -e "$below$docdir" ]; then
+        early+=("$1 $2")
+    else
+        grep -q -x -F -e "$1 $2" "$below$note" 2>/dev/null || printf '%s\n' "$1 $2" >>"$below$note"
+    fi
+}
+make_folder() { # PLACE
+    [ -n "$1" ] && [ ! -d "$below$1" ] || return 0
+    make_folder "${1%/*}"
+    noted folder "$1"
+    install -d "$below$1"
+}
+
+install_all() { # ARCHIVE PROGRAM..
+    local i line
+    list_files "$@"
+    for i in "${!sources[@]}"; do
+        [ ! "$below${places[i]}" -ef "${sources[i]}" ] || fail "${sources[i]} would be installed over itself"
+    done
+    make_folder "$docdir"
+    for line in "${early[@]}" "file $note"; do noted "${line%% *}" "${line#* }"; done
+    for i in "${!sources[@]}"; do
+        make_folder "${places[i]%/*}"
+        noted file "${places[i]}"
+        install -m "${modes[i]}" "${sources[i]}" "$below${places[i]}"
+    done
+    for i in check decide; do
+        noted file "$mandir/man3/ndushavire_$i.3"
+        ln -sf ndushavire.3 "$below$mandir/man3/ndushavire_$i.3"
+    done
+    make_folder "$libdir/pkgconfig"
+    noted file "$libdir/pkgconfig/ndushavire.pc"
+    pkg_config >"$below$libdir/pkgconfig/ndushavire.pc"
+    chmod 644 "$below$libdir/pkgconfig/ndushavire.pc" "$below$note"
+}
+
+uninstall_all() {
+    local line lines
+    [ -f "$below$note" ] || fail "nothing is installed there: there is no $below$note"
+    mapfile -t lines < <(LC_ALL=C sort -r "$below$note")
+    for line in "${lines[@]}"; do
+        case $line in
+        */../* | */..) fail "the note $below$note is no longer what it was: $line" ;;
+        'file /'* | 'folder /'*) ;;
+        *) fail "the note $below$note is no longer what it was: $line" ;;
+        esac
+    done
+    for line in "${lines[@]}"; do
+        case $line in "file $note") ;; 'file '*) rm -f "$below${line#file }" ;; esac
+    done
+    rm -f "$below$note"
+    # Inner ones first, and only those that are empty now.
+    for line in "${lines[@]}"; do
+        case $line in 'folder '*) rmdir "$below${line#folder }" 2>/dev/null || true ;; esac
+    done
+}
+
+case ${1-} in
+try) ;;
+install) install_all "${@:2}" ;;
+uninstall) uninstall_all ;;
+*) fail 'usage: install.sh try | install ARCHIVE PROGRAM.. | uninstall' ;;
+esac

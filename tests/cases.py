@@ -1,0 +1,168 @@
+#!/usr/bin/env python3
+"""cases.py REFERENCE CRATE: writes CRATE/stdin, the cases that the program `cases` runs, and CRATE/stdout, their outcomes.
+
+Both are the independent program's: it makes the cases and says their outcomes. Chosen are small cases: for each of its deliberate
+faults one that shows it; of each result one, and then more: a refusal with what it returns besides; a command with its result; of a
+SAR past the reading rules also its type, and where it succeeds or meets a wrong state also keep, the state and whether it names many
+identities. After them stand the requests of real software in captured/, each over the table that their heads describe. Nothing here
+is random: a second run writes the same bytes."""
+import collections, pathlib, struct, sys
+
+import streams
+from streams import answer, avps, made, outcomes, run
+
+MOST = 649_500  # bytes of cases
+CX = 10415
+RULES = tuple(('B', n) for n in (5001, 5004, 5014, 3009, 5011, 3008, 3001, 3007))
+KNOWN = {(n, 0) for n in (263, 260, 277, 264, 296, 293, 283, 1, 284, 282)} | {(n, CX) for n in (601, 600, 623, 602, 614, 624)}
+EFFECTS = ('B', 2001), ('X', 2004), ('X', 5007)
+
+
+def number(data):
+    return struct.unpack('>I', data)[0] if len(data) == 4 else None
+
+
+def state(table, public):
+    """The state of a public identity's record."""
+    blocks = (table[at:at + 512] for at in range(512, len(table), 512))
+    return next((b[8] for b in blocks if b[16:16 + b[13]] == public), None)
+
+
+def row(case, outcome):
+    """What a case comes to, and what its answer carries."""
+    if outcome.word >> 48 or case.entry == 1:
+        several = case.entry == 1 or outcome.word >> 48 == 5  # a bad block has many causes
+        return (case.entry, outcome.word, streams.sizes(case).get('request', 0) > 16384), case.fill % 6 if several else 0
+    held = streams.slices(case)
+    asked, table = held['request'], held['table']
+    said, carried = None, []
+    for kind, data in avps(answer(case, outcome)[20:]):
+        if kind == (268, 0):
+            said = 'B', number(data)
+        elif kind == (297, 0):
+            said = 'X', number(dict(avps(data))[298, 0])
+        elif kind == (279, 0):
+            carried.append((279, next((k if k in KNOWN else 0 for k, _ in avps(data)), None)))
+        elif kind[0] in (1, 602, 603, 606):
+            carried.append(kind)
+    command, given = int.from_bytes(asked[5:8], 'big'), list(avps(asked[20:]))
+    result = command if command in (300, 301, 302) else 0, said
+    if command == 301 and said not in RULES:
+        names = [data for kind, data in given if kind == (601, CX)]
+        result += (next((number(data) for kind, data in given if kind == (614, CX)), None),)
+        if said in EFFECTS:
+            result += len(names) > 1, table[12], state(table, names[0]) if names else None
+    return result, tuple(carried)
+
+
+def fits(case):
+    """Whether the program has room for a case, 40,000 bytes for a slice and 65,536 for all, and the table is of few records."""
+    sizes = streams.sizes(case)
+    return max(sizes.values()) <= 40000 and sum(sizes.values()) <= 65536 and sizes['table'] <= 4096
+
+
+def small(case):
+    sizes = streams.sizes(case)
+    request = sizes.get('request', 0)
+    return sizes['table'] <= 2048 and sizes['profile'] <= 700 and (request <= 900 or request > 16384)
+
+
+def fitting(reference):
+    """Cases that fit, the smallest first."""
+    found = []
+    for kind, seeds, count in (('tables', (1,), 4000), ('calls', range(1, 6), 20000)):
+        for seed in seeds:
+            found += [case for case in streams.cases(made(reference, kind, seed, count)) if fits(case)]
+    return sorted(found, key=lambda case: len(case.whole))
+
+
+def showing(reference, fault, found, told):
+    """The first case that shows a fault, if one does; most are shown by one of the first thousand."""
+    at, count = 0, 1000
+    while at < len(found):
+        some = found[at:at + count]
+        wrong = outcomes(run(reference, 'outcomes', '--fault', fault, given=b''.join(case.whole for case in some)))
+        for case, right, other in zip(some, told[at:at + count], wrong):
+            if right.whole != other.whole:
+                return case.whole
+        at, count = at + count, 2 * count
+
+
+def telling(reference, found, told):
+    """For each deliberate fault of the independent program the first case that shows it."""
+    for line in run(reference, 'faults').decode().splitlines():
+        fault = line.split()[0]
+        case = showing(reference, fault, found, told)
+        if case is None:
+            print(f'no case shows {fault}')
+        else:
+            yield [case]
+
+
+def chosen(reference):
+    """The smallest case for each result and for each fault, then for each result with what the answer carries, and more while there is room."""
+    found = fitting(reference)
+    told = list(outcomes(run(reference, 'outcomes', given=b''.join(case.whole for case in found))))
+    results, rows = collections.defaultdict(list), collections.defaultdict(list)
+    for case, outcome in zip(found, told):
+        if small(case):
+            result, carried = row(case, outcome)
+            results[result].append(case.whole)
+            rows[result, carried].append(case.whole)
+    taken, left = {}, MOST
+    for groups in telling(reference, found, told), results.values(), rows.values(), (group[1:] for group in rows.values()):
+        for group in groups:
+            case = group[0] if group else None
+            if case and case not in taken and len(case) <= left:
+                taken[case] = None
+                left -= len(case)
+        print(f'{len(taken)} cases of {len(results)} results and {len(rows)} rows, room for {left} bytes more')
+    return list(taken)
+
+
+def summed(block):
+    return block + struct.pack('>I', -sum(struct.unpack('>127I', block)) & 0xFFFFFFFF)
+
+
+def header(count, networks):
+    places = b''.join((bytes([len(n)]) + n).ljust(32, b'\0') for n in networks)
+    fields = struct.pack('>BBHIIBBBB', 1, 1, 0, 0, count, 1, 8, 4, len(networks))
+    return summed((fields + b'hss.isle'.ljust(64, b'\0') + b'isle'.ljust(64, b'\0') + places).ljust(508, b'\0'))
+
+
+def record(number, name, state=0, bits=0, mandatory=(), optional=(), server=b'', profile=(0, 0)):
+    public, private = b'sip:' + name + b'@isle', name + b'@isle'
+    fields = struct.pack('>BBHIBBBBBBBB', 2, 1, 0, number, state, bits, 1, len(mandatory), len(optional), len(public), len(private), len(server))
+    names = public.ljust(128, b'\0') + private.ljust(128, b'\0') + server.ljust(96, b'\0')
+    words = b''.join(struct.pack(f'>{len(w)}I', *w).ljust(16, b'\0') for w in (mandatory, optional))
+    return summed((fields + names + words + struct.pack('>IH', *profile)).ljust(508, b'\0'))
+
+
+def real(folder):
+    """Alice was never registered, Bob is, Erin has unregistered services."""
+    table = b''.join((
+        header(5, (b'isle', b'guest.example')),
+        record(1, b'alice', mandatory=(1, 2), optional=(3,)),
+        record(2, b'bob', state=1, server=b'sip:scscf1.isle:6060'),
+        record(3, b'erin', bits=4, mandatory=(1, 2), profile=(0, 432)),
+        record(4, b'user0', profile=(432, 434)),
+        record(5, b'user3')))
+    profile = b'0' * 866
+    for path in sorted(folder.glob('*.hex')):
+        lines = [line for line in path.read_text().splitlines() if not line.startswith('#')]
+        request = bytes.fromhex(''.join(lines))
+        yield streams.case(2, 0, request, table, profile, 36864)
+
+
+def main():
+    reference, crate = sys.argv[1], pathlib.Path(sys.argv[2])
+    taken = chosen(reference)
+    sent = list(real(pathlib.Path(__file__).parent / 'captured'))
+    stdin = b''.join(taken + sent)
+    (crate / 'stdin').write_bytes(stdin)
+    (crate / 'stdout').write_bytes(run(reference, 'outcomes', given=stdin))
+    print(f'{len(taken)} cases and {len(sent)} requests of real software, {len(stdin)} bytes')
+
+
+if __name__ == '__main__':
+    main()

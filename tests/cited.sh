@@ -1,0 +1,60 @@
+#!/usr/bin/env bash
+# cited.sh ROOM CC..: in an installation, whatever the README and the manual pages cite is there: each file that they name, each
+# manual page. Then the README's trial, word by word. RUN, if set, is the emulator.
+set -euo pipefail
+room=$1
+shift
+top=$(cd "$(dirname "$0")/.." && pwd)
+rm -rf "$room"
+mkdir -p "$room/trial"
+room=$(cd "$room" && pwd)
+prefix=$room/prefix
+cited=0
+
+fail() {
+    echo "cited.sh: $*" >&2
+    exit 1
+}
+make -s -C "$top" install PREFIX="$prefix" DESTDIR=
+readme=$prefix/share/doc/ndushavire/README.md
+there() { # FILE BY
+    [ -e "$1" ] || fail "${2#"$prefix"/} cites ${1#"$prefix"/}, which is not installed"
+    cited=$((cited + 1))
+}
+# In the README: every word in backquotes that has a slash or a file's ending.
+while read -r file; do
+    there "${readme%/*}/$file" "$readme"
+done < <(grep -o '`[^` ]*`' "$readme" | tr -d '`' | grep -E '/|\.(md|c|h|txt|hex|answer)$' | grep -v -E '=|^share/' | sort -u)
+# In the manual pages: every PREFIX/.. and every name of a page. A page that names a file of the examples or of the documents by its
+# last name alone must name it whole as well.
+for page in "$prefix"/share/man/man*/*; do
+    while read -r file; do
+        there "$prefix/${file#PREFIX/}" "$page"
+    done < <(grep -o 'PREFIX/[A-Za-z0-9_./-]*' "$page" | sort -u)
+    while read -r name; do
+        grep -q -E "PREFIX/[a-z/]*/$name( |\$)" "$page" || fail "${page#"$prefix"/} names $name and not where it is installed"
+    done < <(cd "$prefix/share/doc/ndushavire" && for name in *.md examples/*; do
+        ! grep -q -w -F "Pa ${name#examples/}" "$page" || echo "${name#examples/}"
+    done)
+done
+for page in "$readme" "$prefix"/share/man/man*/*; do
+    while read -r name section; do
+        [ "$name" != sync ] || continue # of the system
+        there "$prefix/share/man/man$section/$name.$section" "$page"
+    done < <(case $page in
+    *.md) grep -o -E '[a-z_-]+\([13]\)' "$page" | tr '()' '  ' ;;
+    *) sed -n 's/^\.Xr \([a-z_-]*\) \([0-9]\).*/\1 \2/p' "$page" ;;
+    esac | sort -u)
+done
+[ "$cited" -gt 20 ] || fail "only $cited citations were found"
+
+# The trial. PREFIX is here, and what is run needs the emulator on some machines.
+export PKG_CONFIG_PATH=$prefix/lib/pkgconfig
+sed -n '/^## Try it/,/^## /s/^    \$ //p' "$readme" >"$room/commands"
+[ "$(wc -l <"$room/commands")" -ge 8 ] || fail 'the README has no trial'
+cc=$*
+sed -e "s|PREFIX|$prefix|" -e "s|^cc \(.*pkg-config\)|$cc \1|" -e "s|^\./decide|${RUN:-} ./decide|" "$room/commands" >"$room/trial.sh"
+(cd "$room/trial" && bash -euo pipefail ../trial.sh) >"$room/said" || fail 'the trial in the README fails'
+grep -q -x 'answered, 168 bytes' "$room/said" || fail 'the trial gives another answer'
+grep -q -x 'public=sip:erin@isle private=erin@isle' "$room/said" || fail 'the trial shows no table'
+echo "cited.sh: $cited citations of installed things, and the README's trial"
