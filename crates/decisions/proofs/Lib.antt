@@ -1,6 +1,2 @@
-pub mod Authorizing
-pub mod Locating
-pub mod Ranges
+pub mod Answers
 pub mod Ready
-pub mod Replies
-pub mod Rows

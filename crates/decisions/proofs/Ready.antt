@@ -1,21 +1,19 @@
 -- What a sound table says to a decision, and where a record that was found stands.
-use Prim.Native.Nat.{ℕ, _≤_}
-use mathlib.Core.Bool.{Bool}
+use Prim.Native.Nat.{ℕ, _+_, _*_, _≤_}
 use mathlib.Core.Path.{_≡_, sym, _∙_}
 use mathlib.Core.List.{List}
 use native.Mathlib.Omega.{arith}
-use lib.ListN.{getD}
+use lib.ListN.{length, getD}
 use Rattle.record.specs.HeaderBlock.{headerOf}
 use Rattle.table.specs.Blocks.{blockOf}
-use Rattle.lookup.specs.Find.{firstFrom, publicIs, findPublic, servesAt, findServer}
+use Rattle.lookup.specs.Find.{publicIs, findPublic}
 use Rattle.lookup.specs.Network.{Short}
 use Rattle.lookup.specs.SoundTable.{SoundTable}
 use Rattle.lookup.specs.declared.Found.{Found}
 use Rattle.lookup.specs.declared.Found.the-variants.{At}
 use Rattle.lookup.proofs.First.{first-stands}
 use Rattle.lookup.proofs.Sound.{sound-header, sound-count, sound-places, sound-ordered}
-use Rattle.decisions.specs.Planned.{Ready}
-use Rattle.decisions.specs.Gives.{Within}
+use Rattle.decisions.specs.Ready.{Ready, Among}
 
 pub sound-ready : (t : List ℕ) (file count : ℕ) → SoundTable t file count → Ready t count
 unfolding headerOf
@@ -38,25 +36,20 @@ pub short-same : (h : List ℕ) (n : ℕ) → n ≡ getD h 15 0 → Short h (get
 short-same h n e s = rw e s
 
 -- A search from block 1 on finds a record, and no header.
-first-within : (p : ℕ → Bool) (count : ℕ) {f : Found} → f ≡ firstFrom p count 1 → Within count f
-first-within p count e =
+pub public-among : (t : List ℕ) (count : ℕ) (name : List ℕ) {f : Found} → f ≡ findPublic t count name → Among count f
+unfolding findPublic
+public-among t count name e =
     record {
-      from = λ k g. first-stands p count 1 k (sym e ∙ g) .from;
-      to = λ k g. omega (arith, first-stands p count 1 k (sym e ∙ g) .to);
+      from = λ k g. first-stands (publicIs t name) count 1 k (sym e ∙ g) .from;
+      to = λ k g. omega (arith, first-stands (publicIs t name) count 1 k (sym e ∙ g) .to);
     }
 
-module _ (t : List ℕ) (count : ℕ) (name : List ℕ) {f : Found} where
-  pub public-within : f ≡ findPublic t count name → Within count f
-  unfolding findPublic
-  public-within e = first-within (publicIs t name) count e
+module _ (count : ℕ) (f : Found) (k : ℕ) (l : Among count f) (e : f ≡ At k) where
+  pub among-from : 1 ≤ k
+  among-from = l .from k e
 
-  pub server-later : f ≡ findServer t count name → f ≡ At 0 → ⊥
-  unfolding findServer
-  server-later e g = omega (arith, first-within (servesAt t name) count e .from 0 g)
+  pub among-to : k ≤ count
+  among-to = l .to k e
 
-module _ (count : ℕ) (f : Found) (k : ℕ) (l : Within count f) (e : f ≡ At k) where
-  pub within-from : 1 ≤ k
-  within-from = l .from k e
-
-  pub within-to : k ≤ count
-  within-to = l .to k e
+  pub among-room : (t : List ℕ) → Ready t count → 512 * k + 512 ≤ length t
+  among-room t ready = omega (arith, ready .ordered .size, among-to)

@@ -7,11 +7,8 @@ pub plan-sar-spec : {M : Type 1} → statement M
 plan-sar-spec =
     tie.close
     (tie.spec
-    (λ c κs. search needs)
-    (λ c κs. search needs)
-    (λ c κs. search needs)
-    (λ c κs. search needs)
-    (λ c κs. search needs)
     (λ c κs. search (needs, ready-whole))
+    (λ c κs. search needs)
+    (λ c κs. search needs)
     (λ c κs. search needs)
     (λ c. search (needs, sar-planned)))

@@ -7,7 +7,7 @@ use Rattle.rewrite.specs.Change.{afterOf}
 use Rattle.rewrite.specs.Renew.{settled}
 use Rattle.reading.specs.Request.{bodyOf, identities}
 use Rattle.requests.proofs.Naming.{named-less}
-use Rattle.decisions.specs.Assignment.{isOne, findAll, numbersOf}
+use Rattle.assignment.specs.Assignment.{isOne, findAll, numbersOf}
 use Rattle.assignment.proofs.NameTurns.{restOf, settle-start, settle-none, settle-turn, settle-ordered, settle-end}
 use borrow.Author.Needs.{needs}
 use Rattle.assignment.proofs.naming.settle_named.Statement.{statement}

@@ -3,7 +3,7 @@ use mathlib.Core.Path.{_≡_}
 use lib.ListN.{length}
 use Rattle.rewrite.specs.Change.{afterOf}
 use Rattle.rewrite.specs.Renew.{settled}
-use Rattle.decisions.specs.Assignment.{isOne, ownedUpTo}
+use Rattle.assignment.specs.Assignment.{isOne, ownedUpTo}
 use Rattle.assignment.proofs.OwnTurns.{ownedFrom, owned-start, owned-turn, owned-size, owned-end}
 use borrow.Author.Needs.{needs}
 use Rattle.assignment.proofs.owned.settle_owned.Statement.{statement}
