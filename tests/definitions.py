@@ -89,7 +89,7 @@ def opened():
 CASES = '''%s
 use mathlib.Core.Path.{_≡_}
 use Rattle.ndushavire.specs.Lent.{lent}
-use Rattle.ndushavire.specs.Word.{callIn}
+use Rattle.ndushavire.specs.Reads.{callIn}
 
 -- all that the cases open
 unfoldable pub opened : ℕ

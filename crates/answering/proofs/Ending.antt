@@ -7,8 +7,8 @@ use borrow.Author.Tests.{lt-ltb, le-ltb}
 use Rattle.octets.specs.Run.{over, Wrote}
 use Rattle.octets.proofs.Writes.{lent, back, then, named}
 use Rattle.pen.specs.Groups.{failed}
-use Rattle.reading.specs.Found.{numberOf}
-use Rattle.reading.specs.Request.{bodyOf}
+use Rattle.reading.specs.Verdicts.{numberOf}
+use Rattle.diameter.specs.Message.{bodyOf}
 use Rattle.failed.specs.Failing.{failedOf, example, failedBy}
 use Rattle.reading.specs.declared.Verdict.{Verdict}
 use Rattle.choices.specs.declared.Given.{Given}

@@ -9,9 +9,9 @@ use reply::given;
 ghost use Prim.Native.Nat.{_+_, _≤_};
 ghost use lib.ListN.{length};
 ghost use Rattle.octets.specs.Run.{Wrote};
-ghost use Rattle.lookup.specs.SoundTable.{SoundTable};
+ghost use Rattle.table.specs.SoundTable.{SoundTable};
 ghost use Rattle.diameter.specs.Reader.{ownOf, Here};
-ghost use Rattle.reading.specs.Request.{bodyOf};
+ghost use Rattle.diameter.specs.Message.{bodyOf};
 ghost use Rattle.failed.specs.Failing.{failedBy};
 ghost use Rattle.reply.specs.Answer.{failedPart, proxy, proxies, endBytes, restBytes};
 
@@ -71,7 +71,7 @@ fn put_end(out: &mut [u8], req: &[u8], v: Verdict) -> usize
 
 // What depends on the decision, and the end.
 pub fn put_rest(out: &mut [u8], req: &[u8], t: &[u8], file: &[u8], count: usize, g: Given) -> usize
-    requires { ⌜ SoundTable (now t) (length (now file)) count × (length (restBytes (now req) (now t) (now file) g) ≤ length (now out)) ⌝ }
+    requires { ⌜ SoundTable (now t) count × (length (restBytes (now req) (now t) (now file) g) ≤ length (now out)) ⌝ }
     ensures { λ r. ⌜ (r ≤ length (now (out .entry))) × Wrote (restBytes (now (req .entry)) (now (t .entry)) (now (file .entry)) g) (now (out .entry)) (now (out .exit)) r ⌝ }
 {
     let v = g.verdict;

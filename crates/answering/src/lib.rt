@@ -8,7 +8,7 @@ use reply::header;
 ghost use Prim.Native.Nat.{_+_, _≤_};
 ghost use lib.ListN.{length};
 ghost use Rattle.octets.specs.Run.{Wrote};
-ghost use Rattle.lookup.specs.SoundTable.{SoundTable};
+ghost use Rattle.table.specs.SoundTable.{SoundTable};
 ghost use Rattle.reply.specs.Answer.{bodyBytes, answerBytes};
 
 // "answer buffer under 36,864 bytes" is refused: no answer needs more.
@@ -16,7 +16,7 @@ const MOST: usize = 36864;
 
 // All after the header.
 fn put_body(out: &mut [u8], req: &[u8], t: &[u8], file: &[u8], count: usize, g: Given) -> usize
-    requires { ⌜ SoundTable (now t) (length (now file)) count × (length (bodyBytes (now req) (now t) (now file) g) ≤ length (now out)) ⌝ }
+    requires { ⌜ SoundTable (now t) count × (length (bodyBytes (now req) (now t) (now file) g) ≤ length (now out)) ⌝ }
     ensures { λ r. ⌜ (r ≤ length (now (out .entry))) × Wrote (bodyBytes (now (req .entry)) (now (t .entry)) (now (file .entry)) g) (now (out .entry)) (now (out .exit)) r ⌝ }
 {
     let v = g.verdict;
@@ -28,7 +28,7 @@ fn put_body(out: &mut [u8], req: &[u8], t: &[u8], file: &[u8], count: usize, g: 
 // The answer to a request, over a sound table of so many records, with what a decision gives it to carry: the body first, since its length stands in
 // the header.
 fn put_answer(out: &mut [u8], req: &[u8], t: &[u8], file: &[u8], count: usize, g: Given) -> usize
-    requires { ⌜ (20 ≤ length (now req)) × SoundTable (now t) (length (now file)) count × (20 + length (bodyBytes (now req) (now t) (now file) g) ≤ length (now out)) ⌝ }
+    requires { ⌜ (20 ≤ length (now req)) × SoundTable (now t) count × (20 + length (bodyBytes (now req) (now t) (now file) g) ≤ length (now out)) ⌝ }
     ensures { λ r. ⌜ (r ≤ length (now (out .entry))) × Wrote (answerBytes (now (req .entry)) (now (t .entry)) (now (file .entry)) g) (now (out .entry)) (now (out .exit)) r ⌝ }
 {
     let v = g.verdict;
@@ -40,7 +40,7 @@ fn put_answer(out: &mut [u8], req: &[u8], t: &[u8], file: &[u8], count: usize, g
 
 // The answer built in an array of its own, and then copied to the lent buffer.
 pub fn answer(out: &mut [u8], req: &[u8], t: &[u8], file: &[u8], count: usize, g: Given) -> usize
-    requires { ⌜ (20 ≤ length (now req)) × SoundTable (now t) (length (now file)) count × (length (answerBytes (now req) (now t) (now file) g) ≤ 36864) × (36864 ≤ length (now out)) ⌝ }
+    requires { ⌜ (20 ≤ length (now req)) × SoundTable (now t) count × (length (answerBytes (now req) (now t) (now file) g) ≤ 36864) × (36864 ≤ length (now out)) ⌝ }
     ensures { λ r. ⌜ Wrote (answerBytes (now (req .entry)) (now (t .entry)) (now (file .entry)) g) (now (out .entry)) (now (out .exit)) r ⌝ }
 {
     let mut scratch = [0u8; MOST];

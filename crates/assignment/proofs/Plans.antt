@@ -7,13 +7,17 @@ use native.Mathlib.Omega.{arith}
 use lib.ListN.{length}
 use Rattle.record.specs.Fields.{privateOf}
 use Rattle.table.specs.Blocks.{blockOf, privateAt}
+use Rattle.table.specs.SoundTable.{SoundTable}
+use Rattle.table.proofs.Sound.{sound-block}
 use Rattle.lookup.specs.Find.{isAt, findPublic, findPrivate}
 use Rattle.lookup.specs.declared.Found.{Found}
 use Rattle.lookup.specs.declared.Found.the-variants.{At, Nothing}
 use Rattle.diameter.specs.Reader.{avpAt, dataAt}
 use Rattle.reading.specs.Kinds.{publicIdentity}
-use Rattle.reading.specs.Rules.{faultAt}
-use Rattle.reading.specs.Request.{lacking, bodyOf, identities}
+use Rattle.reading.specs.Verdicts.{faultAt}
+use Rattle.reading.specs.Verdicts.{lackOf}
+use Rattle.diameter.specs.Message.{bodyOf}
+use Rattle.requests.specs.Request.{identities}
 use Rattle.reading.specs.declared.Verdict.{Verdict}
 use Rattle.requests.specs.Identity.{placesFrom}
 use Rattle.requests.proofs.Naming.{identities-at}
@@ -27,8 +31,8 @@ use Rattle.choices.specs.declared.plan.Survey.{Survey}
 use Rattle.choices.specs.declared.plan.Finding.{Finding}
 use Rattle.choices.specs.declared.plan.Plan.{Plan}
 use Rattle.decisions.specs.Carried.{blockFound}
-use Rattle.decisions.specs.Ready.{Ready, Among}
-use Rattle.decisions.proofs.Ready.{public-among}
+use Rattle.decisions.specs.Among.{Among}
+use Rattle.decisions.proofs.Among.{public-among}
 use Rattle.assignment.specs.Assignment.{meantBy, findAll, firstOf, ownedUpTo, surveyOf, userKnown, ownerBy, namedSurvey, ownedSurvey, assignMeant, assign}
 use Rattle.assignment.specs.Survey.{sarOf, alsoKnown, foundSurvey}
 use Rattle.assignment.specs.declared.Meant.{Meant}
@@ -62,8 +66,8 @@ module _ (t : List ℕ) (first : ℕ) (named : Bool) (user : List ℕ) where
         → v ≡ foundSurvey t (ownerBy t first named user) server kind fs
     survey-first e f g h = rw (owner-first e f g) h
 
-pub first-room : (t : List ℕ) (count first : ℕ) → Ready t count → first ≤ count → 512 * first + 512 ≤ length t
-first-room t count first ready h = omega (arith, ready .ordered .size)
+pub first-room : (t : List ℕ) (count first : ℕ) → SoundTable t count → first ≤ count → 512 * first + 512 ≤ length t
+first-room t count first sound h = sound-block t count sound first h
 
 pub found-first : (t : List ℕ) (count : ℕ) (name : List ℕ) (f : Found) {k : ℕ} → f ≡ findPublic t count name → k ≡ blockFound f → k ≤ count
 found-first t count name f {k} e d = go f refl
@@ -87,7 +91,7 @@ begins : (removal named : Bool) (ps : List ℕ) (place : ℕ) → Named place �
 unfolding meantBy
 begins removal named [] place e = absurd (go (removal && named) e)
   where
-    go : (x : Bool) → Named place ≡ cond x Owned (Fault (lacking publicIdentity)) → ⊥
+    go : (x : Bool) → Named place ≡ cond x Owned (Fault (lackOf publicIdentity)) → ⊥
     go true f = let z : _≡_ {A = ℕ} 0 1 = cc in omega arith
     go false f = let z : _≡_ {A = ℕ} 0 1 = cc in omega arith
 begins removal named (p ∷ []) place e = let q : place ≡ p = cc in record { others = []; rest = rw q }

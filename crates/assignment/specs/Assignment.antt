@@ -13,8 +13,8 @@ use Rattle.rewrite.specs.Change.{afterOf}
 use Rattle.rewrite.specs.Renew.{settled}
 use Rattle.diameter.specs.Avp.{dataOf}
 use Rattle.reading.specs.Kinds.{publicIdentity}
-use Rattle.reading.specs.Rules.{faultAt}
-use Rattle.reading.specs.Request.{lacking}
+use Rattle.reading.specs.Verdicts.{faultAt}
+use Rattle.reading.specs.Verdicts.{lackOf}
 use Rattle.choices.specs.Types.{isRemoval, allowed}
 use Rattle.choices.specs.Given.{givenFault}
 use Rattle.choices.specs.Plans.{findingOf, only, planOf}
@@ -37,7 +37,7 @@ pub record Assignment : Type 0 where
 -- "Others need exactly one identity: none B5005 for 601, more B5009 on the second. A removal without identity needs a User-Name (else B5005 for 601) and means
 -- its records not in state 0."
 unfoldable pub meantBy : Bool → Bool → List ℕ → Meant
-meantBy removal named [] = cond (removal && named) Owned (Fault (lacking publicIdentity))
+meantBy removal named [] = cond (removal && named) Owned (Fault (lackOf publicIdentity))
 meantBy removal named (p ∷ []) = Named p
 meantBy removal named (p ∷ (q ∷ others)) = cond removal (Named p) (Fault (faultAt 5009 q))
 

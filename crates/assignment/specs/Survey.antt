@@ -9,7 +9,8 @@ use Rattle.table.specs.Blocks.{blockOf}
 use Rattle.lookup.specs.Find.{isAt}
 use Rattle.lookup.specs.declared.Found.{Found}
 use Rattle.lookup.specs.declared.Found.the-variants.{At, Nothing}
-use Rattle.reading.specs.Request.{bodyOf, identities}
+use Rattle.diameter.specs.Message.{bodyOf}
+use Rattle.requests.specs.Request.{identities}
 use Rattle.requests.specs.Identity.{placesFrom}
 use Rattle.choices.specs.Types.{allowed}
 use Rattle.choices.specs.declared.types.AssignmentType.{AssignmentType}

@@ -14,17 +14,19 @@ use lookup::Found;
 use record::fields;
 ghost use mathlib.Core.Path.{_≡_};
 ghost use Prim.Native.Nat.{_≤_};
-ghost use Rattle.reading.specs.Request.{bodyOf, identities};
+ghost use Rattle.table.specs.SoundTable.{SoundTable};
+ghost use Rattle.diameter.specs.Message.{bodyOf};
+ghost use Rattle.requests.specs.Request.{identities};
 ghost use Rattle.requests.specs.Identity.{placesFrom};
 ghost use Rattle.choices.specs.Types.{isRemoval};
-ghost use Rattle.decisions.specs.Ready.{Ready, Among};
+ghost use Rattle.decisions.specs.Among.{Among};
 ghost use Rattle.decisions.specs.Carried.{blockFound};
 ghost use Rattle.assignment.specs.Assignment.{meantBy, findAll, userKnown, ownerBy, ownedSurvey, namedSurvey, assignMeant, assign};
 ghost use Rattle.assignment.specs.Survey.{sarOf, foundSurvey};
 
 // "or a User-Name given, unknown"; the first record that was named is likely to have it.
 fn user_known(t: &[u8], count: usize, f: Found, named: bool, user: &[u8]) -> bool
-    requires { ⌜ Ready (now t) count × Among count f ⌝ }
+    requires { ⌜ SoundTable (now t) count × Among count f ⌝ }
     ensures { λ r. ⌜ r ≡ userKnown (now (t .entry)) count named (now (user .entry)) ⌝ }
 {
     if !named {
@@ -46,7 +48,7 @@ fn survey_by(
     server: &[u8],
     user: &[u8],
 ) -> Survey
-    requires { ⌜ Ready (now t) count × (first ≤ count) ⌝ }
+    requires { ⌜ SoundTable (now t) count × (first ≤ count) ⌝ }
     ensures { λ r. ⌜ r ≡ foundSurvey (now (t .entry)) (ownerBy (now (t .entry)) first (s .named) (now (user .entry))) (now (server .entry)) (s .kind) (findAll (now (t .entry)) count (identities (bodyOf (now (req .entry))))) ⌝ }
 {
     let kind = s.kind;
@@ -67,7 +69,7 @@ fn plan_named(
     server: &[u8],
     user: &[u8],
 ) -> Plan
-    requires { ⌜ Ready (now t) count × (Meant.Named place ≡ meantBy (isRemoval (s .kind)) (s .named) (placesFrom 20 (bodyOf (now req)))) ⌝ }
+    requires { ⌜ SoundTable (now t) count × (Meant.Named place ≡ meantBy (isRemoval (s .kind)) (s .named) (placesFrom 20 (bodyOf (now req)))) ⌝ }
     ensures { λ r. ⌜ r ≡ assignMeant (now (t .entry)) count (sarOf (now (req .entry)) s (now (server .entry)) (now (user .entry))) (Meant.Named place) ⌝ }
 {
     let f = lookup::find_public(t, count, diameter::data_at(req, place));
@@ -80,7 +82,7 @@ fn plan_named(
 
 // There are none, and a User-Name is given.
 fn plan_owned(t: &[u8], count: usize, req: &[u8], s: Sar, server: &[u8], user: &[u8]) -> Plan
-    requires { ⌜ Ready (now t) count ⌝ }
+    requires { ⌜ SoundTable (now t) count ⌝ }
     ensures { λ r. ⌜ r ≡ assignMeant (now (t .entry)) count (sarOf (now (req .entry)) s (now (server .entry)) (now (user .entry))) Meant.Owned ⌝ }
 {
     let kind = s.kind;
@@ -98,7 +100,7 @@ fn plan_meant(
     server: &[u8],
     user: &[u8],
 ) -> Plan
-    requires { ⌜ Ready (now t) count × (m ≡ meantBy (isRemoval (s .kind)) (s .named) (placesFrom 20 (bodyOf (now req)))) ⌝ }
+    requires { ⌜ SoundTable (now t) count × (m ≡ meantBy (isRemoval (s .kind)) (s .named) (placesFrom 20 (bodyOf (now req)))) ⌝ }
     ensures { λ r. ⌜ r ≡ assignMeant (now (t .entry)) count (sarOf (now (req .entry)) s (now (server .entry)) (now (user .entry))) m ⌝ }
 {
     match m {
@@ -110,7 +112,7 @@ fn plan_meant(
 
 // The plan of a SAR.
 pub fn plan_sar(t: &[u8], count: usize, req: &[u8], s: Sar, server: &[u8], user: &[u8]) -> Plan
-    requires { ⌜ Ready (now t) count ⌝ }
+    requires { ⌜ SoundTable (now t) count ⌝ }
     ensures { λ r. ⌜ r ≡ assign (now (t .entry)) count (sarOf (now (req .entry)) s (now (server .entry)) (now (user .entry))) ⌝ }
 {
     let kind = s.kind;

@@ -7,9 +7,9 @@ use record::fields;
 use record::subscriber::Record;
 ghost use mathlib.Core.Path.{_≡_};
 ghost use mathlib.Core.Bool.{true};
-ghost use Prim.Native.Nat.{_+_, _*_, _≤_};
 ghost use lib.ListN.{length};
-ghost use Rattle.rewrite.specs.Change.{afterOf};
+ghost use Rattle.table.specs.SoundTable.{SoundTable};
+ghost use Rattle.rewrite.specs.Change.{afterOf, alteredUpTo};
 ghost use Rattle.rewrite.specs.Renew.{settled, Fitting};
 ghost use Rattle.assignment.specs.Assignment.{isOne, ownedHere, ownedUpTo, surveyOf};
 ghost use Rattle.assignment.specs.Survey.{glimpsed};
@@ -40,7 +40,7 @@ pub fn survey_owned(
     server: &[u8],
     kind: AssignmentType,
 ) -> Survey
-    requires { ⌜ (count ≤ 4096) × (length (now t) ≡ 512 * (count + 1)) ⌝ }
+    requires { ⌜ SoundTable (now t) count ⌝ }
     ensures { λ r. ⌜ r ≡ surveyOf (now (t .entry)) (now (user .entry)) (now (server .entry)) kind true (ownedUpTo (now (t .entry)) (now (user .entry)) count) ⌝ }
 {
     let mut seen = looking::fresh();
@@ -50,15 +50,18 @@ pub fn survey_owned(
     seen
 }
 
-// The effect on each of them.
-pub fn settle_owned(t: &mut [u8], count: usize, user: &[u8], state: u8, server: &[u8])
-    requires { ⌜ (count ≤ 4096) × (length (now t) ≡ 512 * (count + 1)) × Fitting state (now server) ⌝ }
-    ensures { λ _. ⌜ now (t .exit) ≡ afterOf (now (t .entry)) count (isOne (ownedUpTo (now (t .entry)) (now (user .entry)) count)) (settled state (now (server .entry))) ⌝ }
+// The effect on each of them. Answers how many records have other bytes then.
+pub fn settle_owned(t: &mut [u8], count: usize, user: &[u8], state: u8, server: &[u8]) -> u32
+    requires { ⌜ SoundTable (now t) count × Fitting state (now server) ⌝ }
+    ensures { λ r. ⌜ (now (t .exit) ≡ afterOf (now (t .entry)) count (isOne (ownedUpTo (now (t .entry)) (now (user .entry)) count)) (settled state (now (server .entry))))
+        × (r ≡ alteredUpTo (now (t .entry)) (now (t .exit)) count) ⌝ }
 {
+    let mut altered = 0;
     let mut k = 1;
     while k <= count {
         let chosen = owned(table::block(t, k), user);
-        rewrite::settle_if(t, k, chosen, state, server);
+        altered += rewrite::settle_if(t, k, chosen, state, server);
         k += 1;
     }
+    altered
 }

@@ -6,9 +6,10 @@ use mathlib.Core.Path.{_≡_, ap, _∙_}
 use native.Mathlib.Omega.{arith}
 use lib.ListN.{length}
 use Rattle.octets.specs.Run.{Wrote}
-use Rattle.lookup.specs.SoundTable.{SoundTable}
-use Rattle.reading.specs.Rules.{Seen, bad, fine}
-use Rattle.reading.specs.Request.{readRequest}
+use Rattle.table.specs.SoundTable.{SoundTable}
+use Rattle.reading.specs.Rules.{Seen}
+use Rattle.requests.specs.Judged.{bad, fine}
+use Rattle.requests.specs.Request.{readRequest}
 use Rattle.reading.specs.declared.Verdict.{Verdict}
 use Rattle.choices.specs.Given.{givenFault}
 use Rattle.choices.specs.declared.Given.{Given}
@@ -45,8 +46,8 @@ module _ (req t file : List ℕ) (count : ℕ) (g : Given) (is : g ≡ decide re
   pub answers : (before after : List ℕ) (r : ℕ) → Wrote (answerBytes req t file g) before after r → Answers req t count file before after r
   answers before after r w = rw is at w
 
-  pub given-room : (o : List ℕ) → Passed req o → SoundTable t (length file) count → length (answerBytes req t file g) ≤ 36864
+  pub given-room : (o : List ℕ) → Passed req o → SoundTable t count → length (answerBytes req t file g) ≤ 36864
   given-room o p s = rw is (answer-most t file count s req (p .least) (p .most) (p .fours))
 
-  pub answers-most : (o : List ℕ) → Passed req o → SoundTable t (length file) count → (before after : List ℕ) (r : ℕ) → Wrote (answerBytes req t file g) before after r → r ≤ 36864
+  pub answers-most : (o : List ℕ) → Passed req o → SoundTable t count → (before after : List ℕ) (r : ℕ) → Wrote (answerBytes req t file g) before after r → r ≤ 36864
   answers-most o p s before after r w = omega (arith, w .count, given-room o p s)

@@ -20,12 +20,13 @@ ghost use lib.ListN.{length};
 ghost use lib.Dec.{eqb};
 ghost use Rattle.record.specs.Fields.{keepOf};
 ghost use Rattle.table.specs.Blocks.{blockOf};
-ghost use Rattle.lookup.specs.SoundTable.{SoundTable};
+ghost use Rattle.table.specs.SoundTable.{SoundTable};
 ghost use Rattle.rewrite.specs.Renew.{Fitting};
-ghost use Rattle.reading.specs.Rules.{bad, fine};
-ghost use Rattle.reading.specs.Request.{commandOf, readRequest, dataIn};
-ghost use Rattle.reading.specs.Found.{seenOf};
-ghost use Rattle.decisions.specs.Ready.{Ready};
+ghost use Rattle.requests.specs.Judged.{bad, fine};
+ghost use Rattle.diameter.specs.Message.{commandOf};
+ghost use Rattle.requests.specs.Request.{readRequest, dataSeen};
+ghost use Rattle.reading.specs.Places.{seenOf};
+ghost use Rattle.table.specs.SoundTable.{SoundTable};
 ghost use Rattle.assignment.specs.Assignment.{storedName, carriedOut};
 ghost use Rattle.fitting.specs.Decide.{numbersIn, assignmentOf, planRead, decide};
 ghost use Rattle.deciding.specs.Passed.{Passed};
@@ -41,7 +42,7 @@ fn keep(t: &[u8]) -> bool
 }
 
 fn plan_uar(req: &[u8], t: &[u8], count: usize, found: [usize; kinds::KINDS]) -> Plan
-    requires { ⌜ Ready (now t) count × (commandOf (now req) ≡ 300) ⌝ }
+    requires { ⌜ SoundTable (now t) count × (commandOf (now req) ≡ 300) ⌝ }
     ensures { λ r. ⌜ r ≡ planRead (now (req .entry)) (now (t .entry)) count (seenOf (now (req .entry)) found) ⌝ }
 {
     plan::reply_only(authorization::authorize(
@@ -68,7 +69,7 @@ fn numbers(req: &[u8], t: &[u8], found: [usize; kinds::KINDS]) -> Sar
 }
 
 fn plan_sar(req: &[u8], t: &[u8], count: usize, found: [usize; kinds::KINDS]) -> Plan
-    requires { ⌜ Ready (now t) count × (commandOf (now req) ≡ 301) ⌝ }
+    requires { ⌜ SoundTable (now t) count × (commandOf (now req) ≡ 301) ⌝ }
     ensures { λ r. ⌜ r ≡ planRead (now (req .entry)) (now (t .entry)) count (seenOf (now (req .entry)) found) ⌝ }
 {
     assigning::plan_sar(
@@ -82,7 +83,7 @@ fn plan_sar(req: &[u8], t: &[u8], count: usize, found: [usize; kinds::KINDS]) ->
 }
 
 fn plan_lir(req: &[u8], t: &[u8], count: usize, found: [usize; kinds::KINDS]) -> Plan
-    requires { ⌜ Ready (now t) count × (commandOf (now req) ≡ 300 → ⊥) × (commandOf (now req) ≡ 301 → ⊥) ⌝ }
+    requires { ⌜ SoundTable (now t) count × (commandOf (now req) ≡ 300 → ⊥) × (commandOf (now req) ≡ 301 → ⊥) ⌝ }
     ensures { λ r. ⌜ r ≡ planRead (now (req .entry)) (now (t .entry)) count (seenOf (now (req .entry)) found) ⌝ }
 {
     plan::reply_only(location::locate(
@@ -94,7 +95,7 @@ fn plan_lir(req: &[u8], t: &[u8], count: usize, found: [usize; kinds::KINDS]) ->
 
 // The plan of a request that was read, by its command.
 fn plan_read(req: &[u8], t: &[u8], count: usize, found: [usize; kinds::KINDS]) -> Plan
-    requires { ⌜ Ready (now t) count × (20 ≤ length (now req)) ⌝ }
+    requires { ⌜ SoundTable (now t) count × (20 ≤ length (now req)) ⌝ }
     ensures { λ r. ⌜ r ≡ planRead (now (req .entry)) (now (t .entry)) count (seenOf (now (req .entry)) found) ⌝ }
 {
     let command = requests::command(req);
@@ -116,7 +117,7 @@ fn stored(named: bool, server: &[u8]) -> &[u8]
 
 // The effect that is planned, if there is one.
 fn carry_out(t: &mut [u8], count: usize, req: &[u8], found: [usize; kinds::KINDS], p: Plan)
-    requires { ⌜ Ready (now t) count × (p .write ≡ true → Fitting (p .state) (storedName (p .named) (dataIn (seenOf (now req) found) 10))) ⌝ }
+    requires { ⌜ SoundTable (now t) count × (p .write ≡ true → Fitting (p .state) (storedName (p .named) (dataSeen (seenOf (now req) found) 10))) ⌝ }
     ensures { λ _. ⌜ now (t .exit) ≡ carriedOut (now (t .entry)) count (assignmentOf (now (t .entry)) (seenOf (now (req .entry)) found) (now (req .entry))) p ⌝ }
 {
     let server = stored(p.named, places::data_of(req, found, kinds::SERVER_NAME));
@@ -140,7 +141,7 @@ fn answer_fault(
     count: usize,
     v: Verdict,
 ) -> usize
-    requires { ⌜ Passed (now req) (now out) × SoundTable (now t) (length (now file)) count × (readRequest (now req) ≡ bad v) ⌝ }
+    requires { ⌜ Passed (now req) (now out) × SoundTable (now t) count × (readRequest (now req) ≡ bad v) ⌝ }
     ensures { λ r. ⌜ (r ≤ 36864) × Answers (now (req .entry)) (now (t .entry)) count (now (file .entry)) (now (out .entry)) (now (out .exit)) r ⌝ }
 {
     answering::answer(out, req, t, file, count, giving::faulty(v))
@@ -155,7 +156,7 @@ fn answer_read(
     count: usize,
     found: [usize; kinds::KINDS],
 ) -> usize
-    requires { ⌜ Passed (now req) (now out) × SoundTable (now t) (length (now file)) count × (readRequest (now req) ≡ fine (seenOf (now req) found)) ⌝ }
+    requires { ⌜ Passed (now req) (now out) × SoundTable (now t) count × (readRequest (now req) ≡ fine (seenOf (now req) found)) ⌝ }
     ensures { λ r. ⌜ (r ≤ 36864) × Answers (now (req .entry)) (now (t .entry)) count (now (file .entry)) (now (out .entry)) (now (out .exit)) r
         × (now (t .exit) ≡ decide (now (req .entry)) (now (t .entry)) count .table) ⌝ }
 {
@@ -168,7 +169,7 @@ fn answer_read(
 
 // One request over a sound table of so many records.
 pub fn answer_sound(out: &mut [u8], req: &[u8], t: &mut [u8], file: &[u8], count: usize) -> usize
-    requires { ⌜ Passed (now req) (now out) × SoundTable (now t) (length (now file)) count ⌝ }
+    requires { ⌜ Passed (now req) (now out) × SoundTable (now t) count ⌝ }
     ensures { λ r. ⌜ (r ≤ 36864) × Answers (now (req .entry)) (now (t .entry)) count (now (file .entry)) (now (out .entry)) (now (out .exit)) r
         × (now (t .exit) ≡ decide (now (req .entry)) (now (t .entry)) count .table) ⌝ }
 {

@@ -19,10 +19,11 @@ use Rattle.choices.specs.declared.choice.Sought.{Sought}
 use Rattle.choices.specs.declared.choice.Choice.{Choice}
 use Rattle.choices.specs.declared.choice.Choice.the-variants.{Alone, Server, Capabilities, First}
 use Rattle.decisions.specs.Carried.{blockFound, servedBy, carried}
-use Rattle.decisions.specs.Ready.{Ready}
+use Rattle.table.specs.SoundTable.{SoundTable}
 use Rattle.decisions.specs.Authorization.{askedAt, askedOf, authorizeFound, authorize}
 use Rattle.decisions.specs.Location.{soughtAt, soughtOf, locateFound, locate}
-use Rattle.decisions.proofs.Ready.{public-among}
+use Rattle.table.proofs.Sound.{sound-block}
+use Rattle.decisions.proofs.Among.{public-among}
 
 -- What a choice carries.
 module _ (f : Found) (r other : Outcome) (k : ℕ) {g : Given} where
@@ -51,10 +52,10 @@ module _ (t : List ℕ) (count : ℕ) (user : List ℕ) (k : ℕ) (c : Choice) {
 
 -- A UAR.
 module _ (t : List ℕ) (count : ℕ) (user network : List ℕ) (f : Found) where
-  pub asked-known : (k : ℕ) {h b : List ℕ} {x : Bool} {a : Asked} → f ≡ At k → h ≡ blockOf t 0 → b ≡ blockOf t k → x ≡ isAt (findPrivate t count user)
-      → a ≡ askedAt h b x user network → a ≡ askedOf t count user network f
+  pub asked-known : (k : ℕ) {b : List ℕ} {x : Bool} {a : Asked} → f ≡ At k → b ≡ blockOf t k → x ≡ isAt (findPrivate t count user)
+      → a ≡ askedAt (blockOf t 0) b x user network → a ≡ askedOf t count user network f
   unfolding askedOf
-  asked-known k e header block known s = rw (e, ← header, ← block, ← known) s
+  asked-known k e block known s = rw (e, ← block, ← known) s
 
   pub asked-nothing : f ≡ Nothing
       → record { known = false; together = false; barred = false; roams = false; present = false; stored = false } ≡ askedOf t count user network f
@@ -82,9 +83,9 @@ module _ (t : List ℕ) (f : Found) where
   located count public found at block owns asks chooses s = rw (← found, ← at, ← block, ← owns, ← asks, ← chooses) s
 
 -- The block of a record that was found is there, and so is block 0.
-pub found-room : (t : List ℕ) (count : ℕ) (name : List ℕ) (f : Found) (k : ℕ) → Ready t count → f ≡ findPublic t count name → k ≡ blockFound f → 512 * k + 512 ≤ length t
-found-room t count name f k ready e d = go f refl
+pub found-room : (t : List ℕ) (count : ℕ) (name : List ℕ) (f : Found) (k : ℕ) → SoundTable t count → f ≡ findPublic t count name → k ≡ blockFound f → 512 * k + 512 ≤ length t
+found-room t count name f k sound e d = go f refl
   where
     go : (g : Found) → f ≡ g → 512 * k + 512 ≤ length t
-    go (At j) h = let q : k ≡ j = rw h at d in omega (arith, ready .ordered .size, q, public-among t count name e .to j h)
-    go Nothing h = let q : k ≡ 0 = rw h at d in omega (arith, ready .ordered .size, q)
+    go (At j) h = let q : k ≡ j = rw h at d in rw q (sound-block t count sound j (public-among t count name e .to j h))
+    go Nothing h = let q : k ≡ 0 = rw h at d in rw q (sound-block t count sound 0 (omega arith))

@@ -2,23 +2,18 @@
 use Prim.Native.Nat.{ℕ}
 use mathlib.Core.List.{List}
 use mathlib.Core.Bool.{Bool, false}
-use lib.ListN.{getD}
 use lib.Dec.{ltb}
 use Rattle.octets.specs.Name.{same}
-use Rattle.record.specs.Fields.{privateOf, stateOf, bitsOf, roamingOf, serverSize, barred}
+use Rattle.record.specs.Fields.{privateOf, stateOf, bitsOf, serverSize, barred}
 use Rattle.table.specs.Blocks.{blockOf}
 use Rattle.lookup.specs.Find.{isAt, findPublic, findPrivate}
-use Rattle.lookup.specs.Network.{networkNumber, roamsIn}
+use Rattle.lookup.specs.Network.{mayRoam}
 use Rattle.lookup.specs.declared.Found.{Found}
 use Rattle.lookup.specs.declared.Found.the-variants.{At, Nothing}
 use Rattle.choices.specs.Choices.{authorization}
 use Rattle.choices.specs.declared.Given.{Given}
 use Rattle.choices.specs.declared.choice.Asked.{Asked}
 use Rattle.decisions.specs.Carried.{blockFound, carried}
-
--- "the visited network is named in the header and its bit set"; h is the header block, b the asked record's
-unfoldable pub mayRoam : List ℕ → List ℕ → List ℕ → Bool
-mayRoam h b network = roamsIn (roamingOf b) (getD h 15 0) (networkNumber h (getD h 15 0) network)
 
 -- of a record's block b, where it is said whether the private identity is known; h is the header block
 unfoldable pub askedAt : List ℕ → List ℕ → Bool → List ℕ → List ℕ → Asked

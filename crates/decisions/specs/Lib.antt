@@ -1,4 +1,4 @@
+pub mod Among
 pub mod Authorization
 pub mod Carried
 pub mod Location
-pub mod Ready

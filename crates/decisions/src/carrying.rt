@@ -5,8 +5,7 @@ use choices::giving;
 use lookup::Found;
 use reading::Outcome;
 ghost use mathlib.Core.Path.{_≡_};
-ghost use Prim.Native.Nat.{_+_, _*_, _≤_};
-ghost use lib.ListN.{length};
+ghost use Rattle.table.specs.SoundTable.{SoundTable};
 ghost use Rattle.decisions.specs.Carried.{blockFound, servedBy, carried};
 
 // The block of a record that was found, 0 where none was.
@@ -31,7 +30,7 @@ fn served_by(f: Found, result: Outcome, other: Outcome, k: u32) -> Given
 
 // What a choice on block k carries; user is its subscription.
 pub fn carry(t: &[u8], count: usize, user: &[u8], k: u32, choice: Choice) -> Given
-    requires { ⌜ (count ≤ 4096) × (length (now t) ≡ 512 * (count + 1)) ⌝ }
+    requires { ⌜ SoundTable (now t) count ⌝ }
     ensures { λ r. ⌜ r ≡ carried (now (t .entry)) count (now (user .entry)) k choice ⌝ }
 {
     match choice {

@@ -8,7 +8,8 @@ use record::fields;
 use record::subscriber::Record;
 ghost use mathlib.Core.Path.{_≡_};
 ghost use lib.ListN.{length};
-ghost use Rattle.decisions.specs.Ready.{Ready, Among};
+ghost use Rattle.table.specs.SoundTable.{SoundTable};
+ghost use Rattle.decisions.specs.Among.{Among};
 ghost use Rattle.decisions.specs.Location.{soughtAt, soughtOf, locate};
 
 // The questions, put to a record's block.
@@ -20,13 +21,13 @@ fn seek_record(b: &[u8]) -> Sought
         known: true,
         present: 0 < b[Record::STATE_AT],
         stored: 0 < b[Record::SERVER_LENGTH_AT],
-        services: b[Record::BITS_AT] / 4 % 2 == 1,
+        services: fields::unregistered_services(b),
     }
 }
 
 // The questions, put to the record with the public identity, if there is one.
 fn seek(t: &[u8], count: usize, f: Found) -> Sought
-    requires { ⌜ Ready (now t) count × Among count f ⌝ }
+    requires { ⌜ SoundTable (now t) count × Among count f ⌝ }
     ensures { λ r. ⌜ r ≡ soughtOf (now (t .entry)) f ⌝ }
 {
     match f {
@@ -41,7 +42,7 @@ fn seek(t: &[u8], count: usize, f: Found) -> Sought
 }
 
 pub fn locate(t: &[u8], count: usize, public: &[u8]) -> Given
-    requires { ⌜ Ready (now t) count ⌝ }
+    requires { ⌜ SoundTable (now t) count ⌝ }
     ensures { λ r. ⌜ r ≡ locate (now (t .entry)) count (now (public .entry)) ⌝ }
 {
     let f = lookup::find_public(t, count, public);

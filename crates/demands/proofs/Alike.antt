@@ -10,8 +10,11 @@ use lib.Dec.{eqb}
 use Rattle.diameter.specs.Put.{All}
 use Rattle.diameter.specs.Reader.{avpAt}
 use Rattle.reading.specs.Kinds.{publicIdentity}
-use Rattle.reading.specs.Rules.{Seen, faultAt}
-use Rattle.reading.specs.Request.{commandOf, bodyOf, lacking, identities}
+use Rattle.reading.specs.Rules.{Seen}
+use Rattle.reading.specs.Verdicts.{faultAt}
+use Rattle.diameter.specs.Message.{commandOf, bodyOf}
+use Rattle.reading.specs.Verdicts.{lackOf}
+use Rattle.requests.specs.Request.{identities}
 use Rattle.reading.specs.declared.Verdict.{Verdict}
 use Rattle.requests.specs.Identity.{placesFrom}
 use Rattle.requests.proofs.Naming.{Stood, identities-at, places-stand}
@@ -55,7 +58,7 @@ module _ (long short : List ℕ) where
     owned : SameMeant Owned Owned
     named : (p q : ℕ) → SameMeant (Named p) (Named q)
 
-  lacking-same : failedBy long (lacking publicIdentity) ≡ failedBy short (lacking publicIdentity)
+  lacking-same : failedBy long (lackOf publicIdentity) ≡ failedBy short (lackOf publicIdentity)
   unfolding failedBy
   lacking-same = refl
 
@@ -71,9 +74,9 @@ module _ (long short : List ℕ) where
   unfolding meantBy
   places-same removal given [] [] e a b = go (removal && given)
     where
-      go : (x : Bool) → SameMeant (cond x Owned (Fault (lacking publicIdentity))) (cond x Owned (Fault (lacking publicIdentity)))
+      go : (x : Bool) → SameMeant (cond x Owned (Fault (lackOf publicIdentity))) (cond x Owned (Fault (lackOf publicIdentity)))
       go true = owned
-      go false = fault (lacking publicIdentity) (lacking publicIdentity) refl lacking-same
+      go false = fault (lackOf publicIdentity) (lackOf publicIdentity) refl lacking-same
   places-same removal given [] (q ∷ qs) e a b = absurd (omega (arith, ap length e))
   places-same removal given (p ∷ ps) [] e a b = absurd (omega (arith, ap length e))
   places-same removal given (p ∷ []) (q ∷ []) e a b = named p q

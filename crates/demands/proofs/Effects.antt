@@ -19,8 +19,12 @@ use Rattle.rewrite.specs.Renew.{settled}
 use Rattle.diameter.specs.Avp.{dataOf}
 use Rattle.diameter.specs.Reader.{avpAt}
 use Rattle.reading.specs.Kinds.{publicIdentity}
-use Rattle.reading.specs.Rules.{Seen, Judged, bad, fine, faultAt}
-use Rattle.reading.specs.Request.{commandOf, bodyOf, lacking, readRequest, identities}
+use Rattle.reading.specs.Rules.{Seen}
+use Rattle.requests.specs.Judged.{Judged, bad, fine}
+use Rattle.reading.specs.Verdicts.{faultAt}
+use Rattle.diameter.specs.Message.{commandOf, bodyOf}
+use Rattle.reading.specs.Verdicts.{lackOf}
+use Rattle.requests.specs.Request.{readRequest, identities}
 use Rattle.reading.specs.declared.Outcome.{Outcome}
 use Rattle.requests.specs.Identity.{placesFrom}
 use Rattle.requests.proofs.Naming.{identities-at}
@@ -30,7 +34,7 @@ use Rattle.choices.specs.declared.Given.{Given}
 use Rattle.choices.specs.declared.plan.Sar.{Sar}
 use Rattle.choices.specs.declared.plan.Finding.the-variants.{Fine}
 use Rattle.choices.specs.declared.plan.Plan.{Plan}
-use Rattle.decisions.proofs.Ready.{public-among}
+use Rattle.decisions.proofs.Among.{public-among}
 use Rattle.assignment.specs.Assignment.{Assignment, meantBy, every, isOne, findAll, numbersOf, firstOf, ownedUpTo, ownAt, surveyOf, userKnown, ownerBy}
 use Rattle.assignment.specs.Assignment.{namedSurvey, ownedSurvey, assign, storedName, plannedRecords, carriedOut}
 use Rattle.assignment.specs.declared.Meant.the-variants.{Fault, Owned, Named}
@@ -75,7 +79,7 @@ named-some : (removal given : Bool) (ps : List ℕ) (place : ℕ) → Named plac
 unfolding meantBy
 named-some removal given [] place e z = go (removal && given) e
   where
-    go : (x : Bool) → Named place ≡ cond x Owned (Fault (lacking publicIdentity)) → ⊥
+    go : (x : Bool) → Named place ≡ cond x Owned (Fault (lackOf publicIdentity)) → ⊥
     go true f = let y : _≡_ {A = ℕ} 0 1 = cc in omega arith
     go false f = let y : _≡_ {A = ℕ} 0 1 = cc in omega arith
 named-some removal given (p ∷ ps) place e z = omega arith

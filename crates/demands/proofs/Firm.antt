@@ -16,7 +16,8 @@ use Rattle.table.specs.declared.Checked.{Checked}
 use Rattle.table.specs.declared.Checked.the-variants.{Sound, Bad}
 use Rattle.ndushavire.specs.declared.Call.the-variants.{Answered, Refused}
 use Rattle.ndushavire.specs.Lent.{Lent}
-use Rattle.ndushavire.specs.Word.{word, checkWord, checkValue, callWord, numberIn, placeIn, valueIn, Reads, ReadsCheck}
+use Rattle.ndushavire.specs.Word.{word, checkWord, checkValue, callWord}
+use Rattle.ndushavire.specs.Reads.{numberIn, placeIn, valueIn, Reads, ReadsCheck}
 use Rattle.ndushavire.specs.Promise.{CheckPromise, DecidePromise}
 
 -- Any two returns that meet the promise are equal.

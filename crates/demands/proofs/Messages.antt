@@ -14,8 +14,10 @@ use Rattle.octets.specs.Number.{be24At, putBe24}
 use Rattle.octets.proofs.Numbers.{be24-alike, be32-alike, field-put}
 use Rattle.diameter.specs.Walk.{Walk, walk}
 use Rattle.reading.specs.declared.Dialect.{Dialect}
-use Rattle.reading.specs.Rules.{Judged, bad}
-use Rattle.reading.specs.Request.{commandOf, dialectOf, cx, headerFault, bodyOf, faultOf, readWalk, readIn, readRequest, identities, sessionOf}
+use Rattle.requests.specs.Judged.{Judged, bad}
+use Rattle.diameter.specs.Message.{commandOf, bodyOf}
+use Rattle.reading.specs.Verdicts.{faultOf}
+use Rattle.requests.specs.Request.{dialectOf, cx, headerFault, readWalk, readIn, readRequest, identities, sessionOf}
 use Rattle.choices.specs.declared.Given.{Given}
 use Rattle.fitting.specs.Decide.{Decision, decideJudged, decide}
 use Rattle.reply.specs.Answer.{topBytes, nameBytes, dataBytes, givenBytes, proxies, endBytes, restBytes, bodyBytes, headerBytes, answerBytes}

@@ -17,7 +17,8 @@ use Rattle.ndushavire.specs.declared.Call.the-variants.{Answered, Refused}
 use Rattle.ndushavire.specs.Lent.{Lent, asking}
 use Rattle.ndushavire.specs.Trial.{Trial, tried, anyHolds}
 use Rattle.ndushavire.specs.Serve.{Served, smallBuffer, wrongSize, wrongLength, noRequest, isBad, checkOf, trials, refused, answered, decision, serve}
-use Rattle.ndushavire.specs.Word.{callNumber, callValue, callWord, checkValue, Reads}
+use Rattle.ndushavire.specs.Word.{callNumber, callValue, callWord, checkValue}
+use Rattle.ndushavire.specs.Reads.{Reads}
 use Rattle.fitting.proofs.Tests.{neither}
 use Rattle.demands.specs.Call.{turnedAway, answerTo, Fits, Exactly}
 use Rattle.demands.proofs.Firm.{check-most, answer-reads, refusal-reads}

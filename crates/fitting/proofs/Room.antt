@@ -8,12 +8,13 @@ use mathlib.Core.Logic.{_⊎_, inl, inr}
 use native.Mathlib.Omega.{arith}
 use lib.ListN.{length, drop, length-drop}
 use lib.Dec.{eqb, ltb}
-use Rattle.lookup.specs.SoundTable.{SoundTable}
+use Rattle.table.specs.SoundTable.{SoundTable}
 use Rattle.pen.specs.Bytes.{copiedSize}
 use Rattle.pen.proofs.Groups as groups
-use Rattle.reading.specs.Rules.{Judged, bad, fine}
-use Rattle.reading.specs.Request.{commandOf, readRequest}
-use Rattle.reading.specs.Found.{numberOf}
+use Rattle.requests.specs.Judged.{Judged, bad, fine}
+use Rattle.diameter.specs.Message.{commandOf}
+use Rattle.requests.specs.Request.{readRequest}
+use Rattle.reading.specs.Verdicts.{numberOf}
 use Rattle.reading.specs.declared.Verdict.{Verdict}
 use Rattle.failed.specs.Failing.{failedOf, example, failedBy}
 use Rattle.failed.proofs.Short.{fault-length, example-length}
@@ -24,7 +25,7 @@ use Rattle.decisions.specs.Authorization.{authorizeFound, authorize}
 use Rattle.decisions.specs.Location.{locateFound, locate}
 use Rattle.assignment.specs.Assignment.{Assignment, found, firstOf, assign}
 use Rattle.assignment.proofs.Rows.{Decided, alone, owned, named, assign-decided}
-use Rattle.parts.specs.SoundAlone.{profileAt}
+use Rattle.parts.specs.Profile.{profileAt}
 use Rattle.parts.proofs.Fields as parts
 use Rattle.reply.specs.Answer.{failedPart, answerBytes}
 use Rattle.reply.proofs.Lengths.{answer-length}
@@ -69,13 +70,13 @@ decide-light req t count = go (readRequest req)
         (either (λ (p : Plan). Light (p .given)) (eqb (commandOf req) 301) (assign-light t count (assignmentOf t seen req)) (inr (carried-blameless t count _ _ _)))
 
 -- "answer buffer under 36,864 bytes" is refused: no answer is longer
-module _ (t file : List ℕ) (count : ℕ) (s : SoundTable t (length file) count) (req : List ℕ) (h : 20 ≤ length req) (k : length req ≤ 16384) (e : length req % 4 ≡ 0) where
+module _ (t file : List ℕ) (count : ℕ) (s : SoundTable t count) (req : List ℕ) (h : 20 ≤ length req) (k : length req ≤ 16384) (e : length req % 4 ≡ 0) where
   light-most : (g : Given) → Light g → length (answerBytes req t file g) ≤ 36864
   unfolding failedBy
   light-most g l = go l
     where
       most : length (answerBytes req t file g) ≤ 616 + length req + copiedSize (length (profileAt t file (g .profile))) + length (failedPart (failedBy req (g .verdict)))
-      most = answer-length t count (parts.alone t (length file) count s) req file g h e
+      most = answer-length t count s req file g h e
 
       go : (g .profile ≡ 0) ⊎ ((g .verdict .place ≡ 0) × (g .verdict .lacks ≡ 0)) → length (answerBytes req t file g) ≤ 36864
       go (inl p) =

@@ -6,8 +6,10 @@ use lib.Dec.{eqb}
 use Rattle.record.specs.Fields.{keepOf}
 use Rattle.table.specs.Blocks.{blockOf}
 use Rattle.reading.specs.Kinds.{userName, publicIdentity, visitedNetwork, serverName, assignmentType, dataAvailable, authorizationType}
-use Rattle.reading.specs.Rules.{Seen, Judged, bad, fine}
-use Rattle.reading.specs.Request.{commandOf, bodyOf, readRequest, given, dataIn, valueIn, identities}
+use Rattle.reading.specs.Rules.{Seen}
+use Rattle.requests.specs.Judged.{Judged, bad, fine}
+use Rattle.diameter.specs.Message.{commandOf, bodyOf}
+use Rattle.requests.specs.Request.{readRequest, given, dataSeen, valueSeen, identities}
 use Rattle.requests.specs.Identity.{placesFrom}
 use Rattle.choices.specs.Types.{typeOf}
 use Rattle.choices.specs.Given.{givenFault}
@@ -32,8 +34,8 @@ unaltered t g = record { given = g; table = t }
 abbrev pub numbersIn : List ℕ → Seen → Sar
 numbersIn t seen =
     record {
-      kind = typeOf (valueIn seen assignmentType);
-      already = valueIn seen dataAvailable;
+      kind = typeOf (valueSeen seen assignmentType);
+      already = valueSeen seen dataAvailable;
       named = given seen userName;
       keep = eqb (keepOf (blockOf t 0)) 1;
     }
@@ -42,8 +44,8 @@ unfoldable pub assignmentOf : List ℕ → Seen → List ℕ → Assignment
 assignmentOf t seen req =
     record {
       numbers = numbersIn t seen;
-      server = dataIn seen serverName;
-      user = dataIn seen userName;
+      server = dataSeen seen serverName;
+      user = dataSeen seen userName;
       identities = identities (bodyOf req);
       places = placesFrom 20 (bodyOf req);
     }
@@ -52,9 +54,9 @@ assignmentOf t seen req =
 unfoldable pub planRead : List ℕ → List ℕ → ℕ → Seen → Plan
 planRead req t count seen =
     cond (eqb (commandOf req) 300)
-    (only (authorize t count (dataIn seen userName) (dataIn seen publicIdentity) (dataIn seen visitedNetwork) (valueIn seen authorizationType)))
+    (only (authorize t count (dataSeen seen userName) (dataSeen seen publicIdentity) (dataSeen seen visitedNetwork) (valueSeen seen authorizationType)))
     (cond (eqb (commandOf req) 301) (assign t count (assignmentOf t seen req))
-    (only (locate t count (dataIn seen publicIdentity))))
+    (only (locate t count (dataSeen seen publicIdentity))))
 
 unfoldable pub decideJudged : List ℕ → List ℕ → ℕ → Judged → Decision
 decideJudged req t count (bad v) = unaltered t (givenFault v)

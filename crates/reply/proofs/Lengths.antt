@@ -7,17 +7,18 @@ use lib.Dec.{ltb}
 use lib.ListN.{length, length-append, length-take, length-drop}
 use Rattle.record.specs.Fields.{hostOf, realmOf, privateOf, serverOf, mandatoryOf, optionalOf}
 use Rattle.table.specs.Blocks.{blockOf, ofBlock}
-use Rattle.lookup.specs.SoundTable.{SoundTable}
+use Rattle.table.specs.SoundTable.{SoundTable}
 use Rattle.pen.specs.Bytes.{copiedSize, avpBytes, vendorBytes}
 use Rattle.pen.proofs.Sizes.{copied-length, avp-length, vendor-length, number-length, there-length}
 use Rattle.pen.proofs.Groups.{application-length, experimental-length, capabilities-length}
-use Rattle.reading.specs.Request.{bodyOf, sessionOf}
+use Rattle.diameter.specs.Message.{bodyOf}
+use Rattle.requests.specs.Request.{sessionOf}
 use Rattle.reading.specs.declared.Outcome.{Outcome}
 use Rattle.reading.specs.declared.Outcome.the-variants.{Base, Experimental}
 use Rattle.failed.specs.Failing.{failedBy}
 use Rattle.choices.specs.declared.Given.{Given}
-use Rattle.parts.specs.SoundAlone.{SoundAlone, profileAt}
-use Rattle.parts.proofs.Fields.{alone, part-length, host-length, realm-length, user-field, server-field, mandatory-field, optional-field}
+use Rattle.parts.specs.Profile.{profileAt}
+use Rattle.parts.proofs.Fields.{part-length, host-length, realm-length, user-field, server-field, mandatory-field, optional-field}
 use Rattle.reply.specs.Answer.{resultBytes, namedBytes, vendorNamed, frontBytes, originBytes, topBytes, nameBytes, dataBytes, givenBytes, failedPart, proxies, endBytes, restBytes, bodyBytes, headerBytes, answerBytes}
 use Rattle.reply.proofs.Copies.{session-proxies}
 
@@ -41,7 +42,7 @@ unfolding headerBytes
 header-length req o n h = simp (length-take, length-drop) (omega arith)
 
 -- What the table's limits bound, whatever blocks are named.
-module _ (t : List ℕ) (count : ℕ) (s : SoundAlone t count) where
+module _ (t : List ℕ) (count : ℕ) (s : SoundTable t count) where
   origin-length : length (originBytes (blockOf t 0)) ≤ 144
   unfolding originBytes
   origin-length =

@@ -13,12 +13,13 @@ use Rattle.pen.specs.Bytes.{copied, copiedSize, avpBytes, avpSize, numberBytes}
 use Rattle.pen.specs.Groups.{vendorApplication, experimental, capabilities}
 use Rattle.pen.proofs.Sizes.{copied-length, avp-length, number-length}
 use Rattle.pen.proofs.Groups.{application-length, experimental-length}
-use Rattle.reading.specs.Found.{numberOf}
-use Rattle.reading.specs.Request.{bodyOf, sessionOf}
+use Rattle.reading.specs.Verdicts.{numberOf}
+use Rattle.diameter.specs.Message.{bodyOf}
+use Rattle.requests.specs.Request.{sessionOf}
 use Rattle.reading.specs.declared.Outcome.{Outcome}
 use Rattle.reading.specs.declared.Outcome.the-variants.{Base, Experimental}
 use Rattle.choices.specs.declared.Given.{Given}
-use Rattle.parts.specs.SoundAlone.{profileAt}
+use Rattle.parts.specs.Profile.{profileAt}
 use Rattle.reply.specs.Answer.{resultBytes, namedBytes, vendorNamed, frontBytes, originBytes, topBytes, nameBytes, dataBytes, givenBytes, flagsOf, startBytes, headerBytes}
 use Rattle.reply.proofs.Rooms.{room-left, room-right, wrote-most, wrote-within}
 

@@ -11,14 +11,15 @@ use Rattle.diameter.specs.Walk.{Walk, ended, faulty, avp}
 use Rattle.pen.specs.Bytes.{copied, avpBytes, vendorBytes, numberBytes, ifThere}
 use Rattle.pen.specs.Groups.{vendorApplication, experimental, capabilities, failed}
 use Rattle.reading.specs.Kinds.{kindOf, proxyInfo}
-use Rattle.reading.specs.Request.{bodyOf, sessionOf}
-use Rattle.reading.specs.Found.{numberOf}
+use Rattle.diameter.specs.Message.{bodyOf}
+use Rattle.requests.specs.Request.{sessionOf}
+use Rattle.reading.specs.Verdicts.{numberOf}
 use Rattle.reading.specs.declared.Outcome.{Outcome}
 use Rattle.reading.specs.declared.Outcome.the-variants.{Base, Experimental}
 use Rattle.reading.specs.declared.Verdict.{Verdict}
 use Rattle.failed.specs.Failing.{failedBy}
 use Rattle.choices.specs.declared.Given.{Given}
-use Rattle.parts.specs.SoundAlone.{profileAt}
+use Rattle.parts.specs.Profile.{profileAt}
 
 -- "Result-Code 268 or Experimental-Result 297 (266, 298)"
 unfoldable pub resultBytes : Outcome → List ℕ

@@ -7,8 +7,9 @@ ghost use lib.ListN.{length};
 ghost use Rattle.octets.specs.Run.{Wrote};
 ghost use Rattle.table.specs.Blocks.{blockOf};
 ghost use Rattle.pen.specs.Bytes.{copiedSize};
-ghost use Rattle.reading.specs.Request.{bodyOf, sessionOf};
-ghost use Rattle.parts.specs.SoundAlone.{SoundAlone};
+ghost use Rattle.diameter.specs.Message.{bodyOf};
+ghost use Rattle.requests.specs.Request.{sessionOf};
+ghost use Rattle.table.specs.SoundTable.{SoundTable};
 ghost use Rattle.reply.specs.Answer.{resultBytes, frontBytes, originBytes, topBytes};
 
 // Result-Code or Experimental-Result.
@@ -30,7 +31,7 @@ fn put_start(out: &mut [u8], session: &[u8], o: Outcome) -> usize
     let a = pen::put_copy(out, session);
     let b = a + group::put_application(&mut out[a..]);
     let c = b + put_result(&mut out[b..], o);
-    c + pen::put_number(&mut out[c..], crate::SESSION_STATE, 1)
+    c + pen::put_number(&mut out[c..], crate::SESSION_STATE_CODE, 1)
 }
 
 // The same with the request's Session-Id.
@@ -43,16 +44,21 @@ fn put_front(out: &mut [u8], req: &[u8], o: Outcome) -> usize
 
 // Origin-Host and Origin-Realm.
 fn put_origin(out: &mut [u8], t: &[u8], count: usize) -> usize
-    requires { ⌜ SoundAlone (now t) count × (length (originBytes (blockOf (now t) 0)) ≤ length (now out)) ⌝ }
+    requires { ⌜ SoundTable (now t) count × (length (originBytes (blockOf (now t) 0)) ≤ length (now out)) ⌝ }
     ensures { λ r. ⌜ (r ≤ length (now (out .entry))) × Wrote (originBytes (blockOf (now (t .entry)) 0)) (now (out .entry)) (now (out .exit)) r ⌝ }
 {
-    let a = pen::put_avp(out, crate::ORIGIN_HOST, parts::host(t, count));
-    a + pen::put_avp(&mut out[a..], crate::ORIGIN_REALM, parts::realm(t, count))
+    let a = pen::put_avp(out, crate::ORIGIN_HOST_CODE, parts::host(t, count));
+    a
+        + pen::put_avp(
+            &mut out[a..],
+            crate::ORIGIN_REALM_CODE,
+            parts::realm(t, count),
+        )
 }
 
 // What every answer has.
 pub fn put_top(out: &mut [u8], req: &[u8], t: &[u8], count: usize, o: Outcome) -> usize
-    requires { ⌜ SoundAlone (now t) count × (length (topBytes (now req) (now t) o) ≤ length (now out)) ⌝ }
+    requires { ⌜ SoundTable (now t) count × (length (topBytes (now req) (now t) o) ≤ length (now out)) ⌝ }
     ensures { λ r. ⌜ (r ≤ length (now (out .entry))) × Wrote (topBytes (now (req .entry)) (now (t .entry)) o) (now (out .entry)) (now (out .exit)) r ⌝ }
 {
     let a = put_front(out, req, o);

@@ -4,36 +4,35 @@ use pen::group;
 ghost use Prim.Native.Nat.{_≤_};
 ghost use lib.ListN.{length};
 ghost use Rattle.octets.specs.Run.{Wrote};
-ghost use Rattle.lookup.specs.SoundTable.{SoundTable};
-ghost use Rattle.parts.specs.SoundAlone.{SoundAlone};
+ghost use Rattle.table.specs.SoundTable.{SoundTable};
 ghost use Rattle.reply.specs.Answer.{nameBytes, dataBytes, givenBytes};
 
 // User-Name and Server-Name, each absent where block 0 is named.
 fn put_names(out: &mut [u8], t: &[u8], count: usize, g: Given) -> usize
-    requires { ⌜ SoundAlone (now t) count × (length (nameBytes (now t) g) ≤ length (now out)) ⌝ }
+    requires { ⌜ SoundTable (now t) count × (length (nameBytes (now t) g) ≤ length (now out)) ⌝ }
     ensures { λ r. ⌜ (r ≤ length (now (out .entry))) × Wrote (nameBytes (now (t .entry)) g) (now (out .entry)) (now (out .exit)) r ⌝ }
 {
     let user = parts::user(t, count, g.user as usize);
     let server = parts::server(t, count, g.server as usize);
-    let a = pen::put_avp_if(out, crate::USER_NAME, user);
-    a + pen::put_vendor_if(&mut out[a..], crate::SERVER_NAME, server)
+    let a = pen::put_avp_if(out, crate::USER_NAME_CODE, user);
+    a + pen::put_vendor_if(&mut out[a..], crate::SERVER_NAME_CODE, server)
 }
 
 // Server-Capabilities and User-Data.
 fn put_data(out: &mut [u8], t: &[u8], file: &[u8], count: usize, g: Given) -> usize
-    requires { ⌜ SoundTable (now t) (length (now file)) count × (length (dataBytes (now t) (now file) g) ≤ length (now out)) ⌝ }
+    requires { ⌜ SoundTable (now t) count × (length (dataBytes (now t) (now file) g) ≤ length (now out)) ⌝ }
     ensures { λ r. ⌜ (r ≤ length (now (out .entry))) × Wrote (dataBytes (now (t .entry)) (now (file .entry)) g) (now (out .entry)) (now (out .exit)) r ⌝ }
 {
     let mandatory = parts::mandatory(t, count, g.capable as usize);
     let optional = parts::optional(t, count, g.capable as usize);
     let data = parts::profile(t, count, file, g.profile as usize);
     let a = group::put_capabilities(out, mandatory, optional);
-    a + pen::put_vendor_if(&mut out[a..], crate::USER_DATA, data)
+    a + pen::put_vendor_if(&mut out[a..], crate::USER_DATA_CODE, data)
 }
 
 // All four.
 pub fn put_given(out: &mut [u8], t: &[u8], file: &[u8], count: usize, g: Given) -> usize
-    requires { ⌜ SoundTable (now t) (length (now file)) count × (length (givenBytes (now t) (now file) g) ≤ length (now out)) ⌝ }
+    requires { ⌜ SoundTable (now t) count × (length (givenBytes (now t) (now file) g) ≤ length (now out)) ⌝ }
     ensures { λ r. ⌜ (r ≤ length (now (out .entry))) × Wrote (givenBytes (now (t .entry)) (now (file .entry)) g) (now (out .entry)) (now (out .exit)) r ⌝ }
 {
     let a = put_names(out, t, count, g);

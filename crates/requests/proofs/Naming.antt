@@ -17,7 +17,7 @@ use Rattle.diameter.specs.declared.Read.the-variants as read
 use Rattle.diameter.proofs.Reading.{Says, read-says, read-unsound, walk-past}
 use Rattle.diameter.proofs.Parts.{counted}
 use Rattle.reading.specs.Kinds.{kindOf, publicIdentity}
-use Rattle.reading.specs.Request.{identities}
+use Rattle.requests.specs.Request.{identities}
 use Rattle.requests.specs.Identity.{placesFrom, placesBy, Stands, Named}
 use Rattle.requests.specs.declared.identities.Next.{Next}
 use Rattle.requests.specs.declared.identities.Next.the-variants.{At, Nothing}

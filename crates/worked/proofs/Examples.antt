@@ -17,9 +17,8 @@ use Rattle.ndushavire.specs.Lent.{lent}
 use Rattle.ndushavire.specs.Serve.{serve}
 use Rattle.worked.proofs.Sample.{block, header, answer, assignment, one, two, s, z, opened}
 
--- A case: a call (a request, a table, no profile file, a buffer of zeros of so many bytes; what it comes to, the table afterwards, the answer), the check of
--- a table with its
--- answer, or a block with the sum of its words
+-- A case: a call (a request, a table, no profile file, a buffer of zeros of so many bytes; what it comes to, the table afterwards, the answer), the check
+-- of a table with its answer, or a block with the sum of its words
 data Case : Type 0 where
   call : List ℕ → List ℕ → ℕ → Call → List ℕ → List ℕ → Case
   check : List ℕ → Checked → Case

@@ -15,7 +15,7 @@ use Rattle.record.specs.RecordBlock.{recordOf, soundRecord}
 use Rattle.table.specs.Blocks.{blockOf, tableOf, publicAt, privateAt}
 use Rattle.table.specs.Check.{risesAt, soundAt, firstBad, checkRecords, checkTable}
 use Rattle.lookup.specs.Find.{firstFrom, publicIs, findPublic, privateIs, findPrivate, serverHere, servesAt, findServer}
-use Rattle.lookup.specs.Network.{networkIs, seek, networkNumber, roamsIn}
+use Rattle.lookup.specs.Network.{networkIs, seek, networkNumber, roamsIn, mayRoam}
 use Rattle.rewrite.specs.Change.{changedAt, afterOf}
 use Rattle.rewrite.specs.Renew.{negated, sealed, renewed, settled}
 use Rattle.diameter.specs.Avp.{padded, headOf, vendorOf, valueOf, sound}
@@ -23,19 +23,22 @@ use Rattle.diameter.specs.Walk.{walkFrom, walk}
 use Rattle.pen.specs.Bytes.{padding, vendorHead, copied, avpBytes, vendorBytes, numberBytes, vendorNumber, group, vendorGroup, ifThere}
 use Rattle.pen.specs.Groups.{vendorApplication, experimental, failed, vendorNumbers, capabilities}
 use Rattle.reading.specs.Kinds.{known, kindFrom, kindBy, rowOf, useIn}
-use Rattle.reading.specs.Rules.{isMember, members, numberFault, contentFault, nothing, ruleBy, rule, judge}
-use Rattle.reading.specs.Request.{headerFault, missingFrom, missing, complete, readWalk, readIn, identities}
+use Rattle.reading.specs.Contents.{numberFault, plainFault}
+use Rattle.reading.specs.Groups.{applicationMembers, membersOf, isOf, fits, unlike, onlyOf, countOf, enough, enoughAt, gathers}
+use Rattle.reading.specs.Rules.{contentFault, ruleBy, rule}
+use Rattle.requests.specs.Judged.{nothing, judge}
+use Rattle.requests.specs.Request.{headerFault, missingFrom, missing, complete, readWalk, readIn, identities}
 use Rattle.choices.specs.Choices.{serverIf, authorization, location}
 use Rattle.choices.specs.Plans.{findingOf, grant, planOf}
 use Rattle.choices.specs.Types.{typeOf}
 use Rattle.decisions.specs.Carried.{carried}
-use Rattle.decisions.specs.Authorization.{mayRoam, askedAt, askedOf, authorizeFound, authorize}
+use Rattle.decisions.specs.Authorization.{askedAt, askedOf, authorizeFound, authorize}
 use Rattle.decisions.specs.Location.{soughtAt, soughtOf, locateFound, locate}
 use Rattle.requests.specs.Identity.{placesFrom}
 use Rattle.assignment.specs.Assignment.{meantBy, every, isOne, findAll, numbersOf, ownedHere, ownedUpTo, ownAt, storesAt, fitsAt, rightAt, surveyOf, userKnown}
 use Rattle.assignment.specs.Assignment.{ownerBy, namedSurvey, ownedSurvey, assignMeant, assign, storedName, plannedRecords, carriedOut}
 use Rattle.fitting.specs.Decide.{assignmentOf, planRead, decideJudged, decide}
-use Rattle.reading.specs.Found.{numberOf}
+use Rattle.reading.specs.Verdicts.{numberOf}
 use Rattle.failed.specs.Failing.{headPart, alone, failedOf, sample, exampleOf, failedBy}
 use Rattle.reply.specs.Answer.{resultBytes, frontBytes, originBytes, topBytes, nameBytes, dataBytes, givenBytes, proxy, proxies, endBytes, restBytes, bodyBytes}
 use Rattle.reply.specs.Answer.{flagsOf, headerBytes, answerBytes}
@@ -101,19 +104,17 @@ z = 0x7A ∷ []
 
 -- all that a case opens
 unfoldable pub opened : ℕ
-unfolding host realm block header person request answer common assignment one two s z
-    allBelow orderOf alikeAt same be16At be24At be32At putBe24 putBe32 zeros zeroBetween putName over sumWords
-    hostOf realmOf publicOf privateOf serverOf headerOf soundHeader networkOf usedPlace soundPlace sameByte otherPlace newPlace soundNetworks recordOf soundRecord
-    blockOf tableOf publicAt privateAt risesAt soundAt firstBad checkRecords checkTable firstFrom publicIs findPublic privateIs findPrivate serverHere servesAt findServer
-    networkIs seek networkNumber roamsIn negated sealed renewed settled changedAt afterOf padded headOf vendorOf valueOf sound walkFrom walk
-    padding vendorHead copied avpBytes vendorBytes numberBytes vendorNumber group vendorGroup ifThere vendorApplication experimental failed vendorNumbers capabilities
-    known kindFrom kindBy rowOf useIn isMember members numberFault contentFault nothing ruleBy rule judge
-    headerFault headPart alone failedOf sample exampleOf failedBy missingFrom missing complete readWalk readIn identities placesFrom mandatoryOf optionalOf profileOf
-    serverIf authorization location findingOf grant planOf typeOf carried
-    mayRoam askedAt askedOf authorizeFound authorize soughtAt soughtOf locateFound locate
-    meantBy every isOne findAll numbersOf ownedHere ownedUpTo ownAt storesAt fitsAt rightAt surveyOf userKnown
-    ownerBy namedSurvey ownedSurvey assignMeant assign storedName plannedRecords carriedOut
-    assignmentOf planRead decideJudged decide numberOf
-    resultBytes frontBytes originBytes topBytes nameBytes dataBytes givenBytes proxy proxies endBytes restBytes bodyBytes flagsOf headerBytes answerBytes
-    tried wrongLength refused answered serve
+unfolding host realm block header person request answer common assignment one two s z allBelow orderOf alikeAt same be16At be24At be32At putBe24 putBe32
+    zeros zeroBetween putName over sumWords hostOf realmOf publicOf privateOf serverOf headerOf soundHeader networkOf usedPlace soundPlace sameByte
+    otherPlace newPlace soundNetworks recordOf soundRecord blockOf tableOf publicAt privateAt risesAt soundAt firstBad checkRecords checkTable
+    firstFrom publicIs findPublic privateIs findPrivate serverHere servesAt findServer networkIs seek networkNumber roamsIn negated sealed renewed
+    settled changedAt afterOf padded headOf vendorOf valueOf sound walkFrom walk padding vendorHead copied avpBytes vendorBytes numberBytes
+    vendorNumber group vendorGroup ifThere vendorApplication experimental failed vendorNumbers capabilities known kindFrom kindBy rowOf useIn numberFault
+    plainFault applicationMembers membersOf isOf fits unlike onlyOf countOf enough enoughAt gathers contentFault nothing ruleBy rule judge headerFault
+    headPart alone failedOf sample exampleOf failedBy missingFrom missing
+    complete readWalk readIn identities placesFrom mandatoryOf optionalOf profileOf mayRoam serverIf authorization location findingOf grant planOf
+    typeOf carried askedAt askedOf authorizeFound authorize soughtAt soughtOf locateFound locate meantBy every isOne findAll numbersOf ownedHere
+    ownedUpTo ownAt storesAt fitsAt rightAt surveyOf userKnown ownerBy namedSurvey ownedSurvey assignMeant assign storedName plannedRecords carriedOut
+    assignmentOf planRead decideJudged decide numberOf resultBytes frontBytes originBytes topBytes nameBytes dataBytes givenBytes proxy proxies endBytes
+    restBytes bodyBytes flagsOf headerBytes answerBytes tried wrongLength refused answered serve
 opened = 0

@@ -1,4 +1,3 @@
-use Rattle.decisions.proofs.Ready.{sound-ready}
 use Rattle.deciding.proofs.Answering.{plan-given, plan-table, given-room, answers, answers-most}
 use Rattle.deciding.proofs.Deciding.{plan-fits}
 use borrow.Author.Needs.{needs}
@@ -9,9 +8,9 @@ pub answer-read-spec : {M : Type 1} → statement M
 answer-read-spec =
     tie.close
     (tie.spec
-    (λ c κs. search (needs, sound-ready))
+    (λ c κs. search needs)
     (λ c κs. search (needs, given-room, plan-given))
-    (λ c κs. search (needs, sound-ready, plan-fits))
+    (λ c κs. search (needs, plan-fits))
     (λ c. search needs)
     (λ c. search needs)
     (λ c. search (needs, answers-most, answers, plan-given, plan-table)))

@@ -1,4 +1,4 @@
-use Rattle.deciding.proofs.Deciding.{ready-whole, sar-planned}
+use Rattle.deciding.proofs.Deciding.{table-whole, sar-planned}
 use borrow.Author.Needs.{needs}
 use Rattle.deciding.proofs.plan_sar.Statement.{statement}
 use Rattle.deciding.proofs.plan_sar.Tie as tie
@@ -7,7 +7,7 @@ pub plan-sar-spec : {M : Type 1} → statement M
 plan-sar-spec =
     tie.close
     (tie.spec
-    (λ c κs. search (needs, ready-whole))
+    (λ c κs. search (needs, table-whole))
     (λ c κs. search needs)
     (λ c κs. search needs)
     (λ c κs. search needs)

@@ -1,4 +1,4 @@
-use Rattle.assignment.proofs.Plans.{survey-given, survey-first}
+use Rattle.assignment.proofs.Plans.{first-room, survey-given, survey-first}
 use borrow.Author.Needs.{needs}
 use Rattle.assignment.proofs.assigning.survey_by.Statement.{statement}
 use Rattle.assignment.proofs.assigning.survey_by.Tie as tie
@@ -9,7 +9,7 @@ survey-by-spec =
     (tie.spec
     (λ c κs. search needs)
     (λ c. search (needs, survey-given))
-    (λ c κs. search needs)
+    (λ c κs. search (needs, first-room))
     (λ c κs. search needs)
     (λ c κs. search needs)
     (λ c. search (needs, survey-first)))

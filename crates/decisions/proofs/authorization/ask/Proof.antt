@@ -1,5 +1,5 @@
 use Rattle.decisions.proofs.Answers.{asked-known, asked-nothing}
-use Rattle.decisions.proofs.Ready.{ready-networks, ready-short, among-from, among-to, among-room}
+use Rattle.decisions.proofs.Among.{among-from, among-to, among-room}
 use borrow.Author.Needs.{needs}
 use Rattle.decisions.proofs.authorization.ask.Statement.{statement}
 use Rattle.decisions.proofs.authorization.ask.Tie as tie
@@ -9,11 +9,10 @@ ask-spec =
     tie.close
     (tie.spec
     (λ c. search needs)
-    (λ c κs. search needs)
     (λ c. search needs)
     (λ c κs. search (needs, among-room))
     (λ c κs. search (needs, among-from, among-to))
-    (λ c κs. search (needs, ready-networks, ready-short))
+    (λ c κs. search needs)
     (λ c. search needs)
     (λ c. search (needs, asked-known))
     (λ c. search (needs, asked-nothing)))

@@ -1,5 +1,5 @@
 use Rattle.decisions.proofs.Answers.{authorized}
-use Rattle.decisions.proofs.Ready.{public-among}
+use Rattle.decisions.proofs.Among.{public-among}
 use borrow.Author.Needs.{needs}
 use Rattle.decisions.proofs.authorization.authorize.Statement.{statement}
 use Rattle.decisions.proofs.authorization.authorize.Tie as tie

@@ -1,0 +1,46 @@
+-- The word that a call returned, read back: bits 48 to 63, 32 to 47 and 0 to 31, and what they say.
+use Prim.Native.Nat.{ℕ, _/_, _%_}
+use mathlib.Core.Bool.{Bool, true, false}
+use mathlib.Core.Path.{_≡_}
+use lib.Dec.{eqb}
+use Rattle.table.specs.declared.Checked.{Checked}
+use Rattle.table.specs.declared.Checked.the-variants.{Sound, Bad}
+use Rattle.ndushavire.specs.declared.Call.{Call}
+use Rattle.ndushavire.specs.declared.Call.the-variants.{Answered, Refused}
+use Rattle.ndushavire.specs.Word.{checkNumber, checkValue, callNumber, callValue}
+
+abbrev pub numberIn : ℕ → ℕ
+numberIn w = w / 281474976710656
+
+abbrev pub placeIn : ℕ → ℕ
+placeIn w = w / 4294967296 % 65536
+
+abbrev pub valueIn : ℕ → ℕ
+valueIn w = w % 4294967296
+
+abbrev pub callBy : Bool → ℕ → ℕ → Call
+callBy true number value = Answered (record { length = value })
+callBy false number value = Refused number value
+
+abbrev pub callIn : ℕ → Call
+callIn w = callBy (eqb (numberIn w) 0) (numberIn w) (valueIn w)
+
+abbrev pub checkBy : Bool → ℕ → Checked
+checkBy true value = Sound value
+checkBy false value = Bad value
+
+abbrev pub checkIn : ℕ → Checked
+checkIn w = checkBy (eqb (numberIn w) 0) (valueIn w)
+
+-- so is a call read back, and so is the check's answer
+pub record Reads (c : Call) (w : ℕ) : Type 0 where
+  pub number : numberIn w ≡ callNumber c
+  pub place : placeIn w ≡ 0
+  pub value : valueIn w ≡ callValue c
+  pub call : callIn w ≡ c
+
+pub record ReadsCheck (c : Checked) (w : ℕ) : Type 0 where
+  pub number : numberIn w ≡ checkNumber c
+  pub place : placeIn w ≡ 0
+  pub value : valueIn w ≡ checkValue c
+  pub answer : checkIn w ≡ c
