@@ -1,19 +1,19 @@
 -- How an answer ends: Failed-AVP, then every Proxy-Info, after what a decision gives.
-use Prim.Native.Nat.{ℕ, _+_, _-_, _≤_, _<_}
+use Prim.Native.Nat.{ℕ, _+_, _≤_, _<_}
 use mathlib.Core.Path.{_≡_, refl, sym}
-use mathlib.Core.List.{List, _++_}
-use lib.ListN.{length, drop}
+use mathlib.Core.List.{List}
+use lib.ListN.{length, drop, length-append}
 use borrow.Author.Tests.{lt-ltb, le-ltb}
-use borrow.Rule.Slice.PartMut.{midOf, putMid}
 use Rattle.octets.specs.Run.{over, Wrote}
-use Rattle.octets.proofs.Writes.{then, named}
+use Rattle.octets.proofs.Writes.{lent, back, then, named}
 use Rattle.pen.specs.Groups.{failed}
 use Rattle.reading.specs.Verdicts.{numberOf}
 use Rattle.diameter.specs.Message.{bodyOf}
 use Rattle.failed.specs.Failing.{failedOf, example, failedBy}
 use Rattle.reading.specs.declared.Verdict.{Verdict}
-use Rattle.reply.specs.Answer.{failedPart, proxies}
-use Rattle.reply.specs.Pieces.{givenOf, restBytes}
+use Rattle.choices.specs.declared.Given.{Given}
+use Rattle.reply.specs.Answer.{failedPart, proxies, givenBytes, endBytes, restBytes}
+use Rattle.reply.proofs.Rooms.{room-left, room-right}
 
 -- Failed-AVP: of a kind that is missing, of the AVP at a place, or none.
 module _ (s : List ℕ) (v : Verdict) where
@@ -42,10 +42,24 @@ module _ (s : List ℕ) (v : Verdict) where
   unfolding failedBy over
   wrote-no-failed b h k = rw (le-ltb 0 (v .lacks) h, le-ltb 0 (v .place) k) (record { count = refl; bytes = refl })
 
+pub wrote-end : (req : List ℕ) (v : Verdict) {b xs ys : List ℕ} {n r : ℕ} → Wrote (failedPart (failedBy req v)) b xs n → Wrote (proxies (bodyOf req)) (lent n xs) ys r
+    → Wrote (endBytes req v) b (back n xs ys) (n + r)
+unfolding endBytes
+wrote-end req v p q = then p q
+
 -- What depends on the decision, and the end.
-module _ {b xs ys : List ℕ} {n r : ℕ} where
-  pub wrote-rest : (req t file : List ℕ) (v : Verdict) (user server capable profile : ℕ) → Wrote (givenOf t file user server capable profile) b xs n
-      → Wrote (failedPart (failedBy req v) ++ proxies (bodyOf req)) (midOf n (length xs - n) xs) ys r
-      → Wrote (restBytes req t file v user server capable profile) b (putMid n (length xs - n) xs ys) (n + r)
+module _ (req t file : List ℕ) (g : Given) where
+  pub given-room : {m : ℕ} → length (restBytes req t file g) ≤ m → length (givenBytes t file g) ≤ m
   unfolding restBytes
-  wrote-rest req t file v user server capable profile p q = then p q
+  given-room h = room-left (givenBytes t file g) (endBytes req (g .verdict)) h
+
+  module _ {b xs : List ℕ} {n : ℕ} (p : Wrote (givenBytes t file g) b xs n) where
+    pub end-room : length (restBytes req t file g) ≤ length b → length (failedPart (failedBy req (g .verdict))) + length (proxies (bodyOf req)) ≤ length (lent n xs)
+    unfolding restBytes endBytes
+    end-room h =
+        let k = room-right (givenBytes t file g) (endBytes req (g .verdict)) p h in
+        rw length-append at k
+
+    pub wrote-rest : {ys : List ℕ} {r : ℕ} → Wrote (endBytes req (g .verdict)) (lent n xs) ys r → Wrote (restBytes req t file g) b (back n xs ys) (n + r)
+    unfolding restBytes
+    wrote-rest q = then p q

@@ -1,22 +1,19 @@
 // How an answer ends: Failed-AVP, and every Proxy-Info before the first length fault.
+use choices::Given;
 use diameter::Avp;
 use diameter::Read;
 use diameter::message;
 use reading::Verdict;
 use reading::kinds;
 use reply::given;
-ghost use mathlib.Core.List.{_++_};
 ghost use Prim.Native.Nat.{_+_, _≤_};
 ghost use lib.ListN.{length};
 ghost use Rattle.octets.specs.Run.{Wrote};
 ghost use Rattle.table.specs.SoundTable.{SoundTable};
 ghost use Rattle.diameter.specs.Reader.{ownOf, Here};
-ghost use Rattle.pen.specs.Bytes.{copiedSize};
 ghost use Rattle.diameter.specs.Message.{bodyOf};
 ghost use Rattle.failed.specs.Failing.{failedBy};
-ghost use Rattle.parts.specs.Profile.{profileAt};
-ghost use Rattle.reply.specs.Answer.{failedPart, proxies};
-ghost use Rattle.reply.specs.Pieces.{proxy, restBytes};
+ghost use Rattle.reply.specs.Answer.{failedPart, proxy, proxies, endBytes, restBytes};
 
 // Failed-AVP, where there is one.
 fn put_failed(out: &mut [u8], req: &[u8], v: Verdict) -> usize
@@ -64,31 +61,20 @@ fn put_proxies(out: &mut [u8], req: &[u8]) -> usize
 }
 
 // Failed-AVP, then the Proxy-Infos.
-pub fn put_end(out: &mut [u8], req: &[u8], v: Verdict) -> usize
+fn put_end(out: &mut [u8], req: &[u8], v: Verdict) -> usize
     requires { ⌜ length (failedPart (failedBy (now req) v)) + length (proxies (bodyOf (now req))) ≤ length (now out) ⌝ }
-    ensures { λ r. ⌜ (r ≤ length (failedPart (failedBy (now (req .entry)) v)) + length (proxies (bodyOf (now (req .entry))))) × Wrote (failedPart (failedBy (now (req .entry)) v) ++ proxies (bodyOf (now (req .entry)))) (now (out .entry)) (now (out .exit)) r ⌝ }
+    ensures { λ r. ⌜ (r ≤ length (now (out .entry))) × Wrote (endBytes (now (req .entry)) v) (now (out .entry)) (now (out .exit)) r ⌝ }
 {
     let a = put_failed(out, req, v);
     a + put_proxies(&mut out[a..], req)
 }
 
 // What depends on the decision, and the end.
-pub fn put_rest(
-    out: &mut [u8],
-    req: &[u8],
-    t: &[u8],
-    file: &[u8],
-    count: usize,
-    v: Verdict,
-    user: usize,
-    server: usize,
-    capable: usize,
-    profile: usize,
-) -> usize
-    requires { ⌜ SoundTable (now t) count ⌝ }
-    requires { ⌜ 396 + copiedSize (length (profileAt (now t) (now file) profile)) + length (failedPart (failedBy (now req) v)) + length (proxies (bodyOf (now req))) ≤ length (now out) ⌝ }
-    ensures { λ r. ⌜ (r ≤ length (now (out .entry))) × Wrote (restBytes (now (req .entry)) (now (t .entry)) (now (file .entry)) v user server capable profile) (now (out .entry)) (now (out .exit)) r ⌝ }
+pub fn put_rest(out: &mut [u8], req: &[u8], t: &[u8], file: &[u8], count: usize, g: Given) -> usize
+    requires { ⌜ SoundTable (now t) count × (length (restBytes (now req) (now t) (now file) g) ≤ length (now out)) ⌝ }
+    ensures { λ r. ⌜ (r ≤ length (now (out .entry))) × Wrote (restBytes (now (req .entry)) (now (t .entry)) (now (file .entry)) g) (now (out .entry)) (now (out .exit)) r ⌝ }
 {
-    let a = given::put_given(out, t, file, count, user, server, capable, profile);
+    let v = g.verdict;
+    let a = given::put_given(out, t, file, count, g);
     a + put_end(&mut out[a..], req, v)
 }

@@ -1,122 +1,47 @@
 // The whole answer: header, what every answer has, what a decision gives, the end.
 pub mod last;
 
-use decisions::Given;
+use choices::Given;
 use octets::run;
-use reading::Verdict;
 use reply::front;
 use reply::header;
 ghost use Prim.Native.Nat.{_+_, _≤_};
 ghost use lib.ListN.{length};
 ghost use Rattle.octets.specs.Run.{Wrote};
-ghost use Rattle.table.specs.Blocks.{blockOf};
 ghost use Rattle.table.specs.SoundTable.{SoundTable};
-ghost use Rattle.diameter.specs.Message.{bodyOf};
-ghost use Rattle.decisions.specs.Planned.{replyOf};
-ghost use Rattle.reply.specs.Answer.{answerBytes, roomOf};
-ghost use Rattle.reply.specs.Pieces.{copiesOf, bodyWith, answerWith};
+ghost use Rattle.reply.specs.Answer.{bodyBytes, answerBytes};
 
 // "answer buffer under 36,864 bytes" is refused: no answer needs more.
 const MOST: usize = 36864;
 
 // All after the header.
-fn put_body(
-    out: &mut [u8],
-    req: &[u8],
-    t: &[u8],
-    file: &[u8],
-    count: usize,
-    v: Verdict,
-    user: usize,
-    server: usize,
-    capable: usize,
-    profile: usize,
-) -> usize
-    requires { ⌜ SoundTable (now t) count × (616 + copiesOf (now req) (now t) (now file) v profile ≤ length (now out)) ⌝ }
-    ensures { λ r. ⌜ (r ≤ length (now (out .entry))) × Wrote (bodyWith (now (req .entry)) (now (t .entry)) (now (file .entry)) v user server capable profile) (now (out .entry)) (now (out .exit)) r ⌝ }
+fn put_body(out: &mut [u8], req: &[u8], t: &[u8], file: &[u8], count: usize, g: Given) -> usize
+    requires { ⌜ SoundTable (now t) count × (length (bodyBytes (now req) (now t) (now file) g) ≤ length (now out)) ⌝ }
+    ensures { λ r. ⌜ (r ≤ length (now (out .entry))) × Wrote (bodyBytes (now (req .entry)) (now (t .entry)) (now (file .entry)) g) (now (out .entry)) (now (out .exit)) r ⌝ }
 {
+    let v = g.verdict;
     let result = v.result;
     let a = front::put_top(out, req, t, count, result);
-    a
-        + last::put_rest(
-            &mut out[a..],
-            req,
-            t,
-            file,
-            count,
-            v,
-            user,
-            server,
-            capable,
-            profile,
-        )
+    a + last::put_rest(&mut out[a..], req, t, file, count, g)
 }
 
-// The body first, since its length stands in the header.
-fn put_whole(
-    out: &mut [u8],
-    req: &[u8],
-    t: &[u8],
-    file: &[u8],
-    count: usize,
-    v: Verdict,
-    user: usize,
-    server: usize,
-    capable: usize,
-    profile: usize,
-) -> usize
-    requires { ⌜ (20 ≤ length (now req)) × SoundTable (now t) count × (636 + copiesOf (now req) (now t) (now file) v profile ≤ length (now out)) ⌝ }
-    ensures { λ r. ⌜ (r ≤ length (now (out .entry))) × Wrote (answerWith (now (req .entry)) (now (t .entry)) (now (file .entry)) v user server capable profile) (now (out .entry)) (now (out .exit)) r ⌝ }
+// The answer to a request, over a sound table of so many records, with what a decision gives it to carry: the body first, since its length stands in
+// the header.
+fn put_answer(out: &mut [u8], req: &[u8], t: &[u8], file: &[u8], count: usize, g: Given) -> usize
+    requires { ⌜ (20 ≤ length (now req)) × SoundTable (now t) count × (20 + length (bodyBytes (now req) (now t) (now file) g) ≤ length (now out)) ⌝ }
+    ensures { λ r. ⌜ (r ≤ length (now (out .entry))) × Wrote (answerBytes (now (req .entry)) (now (t .entry)) (now (file .entry)) g) (now (out .entry)) (now (out .exit)) r ⌝ }
 {
+    let v = g.verdict;
     let result = v.result;
-    let n = 20
-        + put_body(
-            &mut out[20..],
-            req,
-            t,
-            file,
-            count,
-            v,
-            user,
-            server,
-            capable,
-            profile,
-        );
+    let n = 20 + put_body(&mut out[20..], req, t, file, count, g);
     header::put_header(out, req, result, n);
     n
 }
 
-// The answer to a request, over a sound table of so many records, with what a decision gives it to carry.
-pub fn put_answer(
-    out: &mut [u8],
-    req: &[u8],
-    t: &[u8],
-    file: &[u8],
-    count: usize,
-    g: Given,
-) -> usize
-    requires { ⌜ (20 ≤ length (now req)) × SoundTable (now t) count × (roomOf (bodyOf (now req)) (replyOf (now req) (now t) (now file) g) ≤ length (now out)) ⌝ }
-    ensures { λ r. ⌜ (r ≤ length (now (out .entry))) × Wrote (answerBytes (now (req .entry)) (blockOf (now (t .entry)) 0) (replyOf (now (req .entry)) (now (t .entry)) (now (file .entry)) g)) (now (out .entry)) (now (out .exit)) r ⌝ }
-{
-    let v = g.verdict;
-    put_whole(
-        out,
-        req,
-        t,
-        file,
-        count,
-        v,
-        g.user as usize,
-        g.server as usize,
-        g.capable as usize,
-        g.profile as usize,
-    )
-}
-
 // The answer built in an array of its own, and then copied to the lent buffer.
 pub fn answer(out: &mut [u8], req: &[u8], t: &[u8], file: &[u8], count: usize, g: Given) -> usize
-    requires { ⌜ (20 ≤ length (now req)) × SoundTable (now t) count × (roomOf (bodyOf (now req)) (replyOf (now req) (now t) (now file) g) ≤ 36864) × (36864 ≤ length (now out)) ⌝ }
-    ensures { λ r. ⌜ Wrote (answerBytes (now (req .entry)) (blockOf (now (t .entry)) 0) (replyOf (now (req .entry)) (now (t .entry)) (now (file .entry)) g)) (now (out .entry)) (now (out .exit)) r ⌝ }
+    requires { ⌜ (20 ≤ length (now req)) × SoundTable (now t) count × (length (answerBytes (now req) (now t) (now file) g) ≤ 36864) × (36864 ≤ length (now out)) ⌝ }
+    ensures { λ r. ⌜ Wrote (answerBytes (now (req .entry)) (now (t .entry)) (now (file .entry)) g) (now (out .entry)) (now (out .exit)) r ⌝ }
 {
     let mut scratch = [0u8; MOST];
     let n = put_answer(&mut scratch, req, t, file, count, g);

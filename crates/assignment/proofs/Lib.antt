@@ -1,6 +1,6 @@
 pub mod Looks
 pub mod NameTurns
 pub mod OwnTurns
-pub mod Planning
-pub mod Sars
+pub mod Plans
+pub mod Rows
 pub mod Surveys

@@ -1,7 +1,6 @@
 -- The turns of the loops over a SAR's identities, and what there are of them.
 use Prim.Native.Nat.{ℕ, _+_, _*_, _≤_, _<_}
 use mathlib.Core.List.{List, [], _∷_}
-use mathlib.Core.Option.{none}
 use mathlib.Core.Bool.{Bool, true, false, _&&_}
 use mathlib.Core.Path.{_≡_, refl, sym, ap, _∙_}
 use native.Mathlib.Omega.{arith}
@@ -25,22 +24,23 @@ use Rattle.rewrite.proofs.Sound.{keeping-says, keeping-found}
 use Rattle.rewrite.proofs.Tables.{after-same, after-none, at-same, at-twice, Keeping, found-keeping}
 use Rattle.diameter.specs.Avp.{dataOf}
 use Rattle.diameter.specs.Walk.{walk}
-use Rattle.diameter.specs.Reader.{avpAt, dataAt}
+use Rattle.diameter.specs.Reader.{dataAt}
 use Rattle.diameter.proofs.Reading.{walk-past}
-use Rattle.reading.specs.Verdicts.{numberOf}
-use Rattle.failed.specs.Failing.{failedBy}
-use Rattle.failed.proofs.Fronts.{failed-at}
+use Rattle.reading.specs.Kinds.{publicIdentity}
+use Rattle.reading.specs.Verdicts.{faultAt}
+use Rattle.reading.specs.Verdicts.{lackOf}
 use Rattle.diameter.specs.Message.{bodyOf}
 use Rattle.requests.specs.Request.{identities}
-use Rattle.requests.specs.Identity.{Named}
+use Rattle.requests.specs.Identity.{placesFrom}
+use Rattle.requests.specs.Identity as identity
 use Rattle.requests.specs.declared.identities.Next.{Next}
 use Rattle.requests.specs.declared.identities.Next.the-variants as next
-use Rattle.requests.proofs.Naming.{named-none, named-first, named-stands}
-use Rattle.decisions.specs.Assignment.{isOne, findAll, numbersOf, identityFault}
-use Rattle.assignment.specs.Survey.{both, lookFound, surveyOf}
-use Rattle.assignment.specs.Identities.{Begins, Tells}
-use Rattle.assignment.specs.declared.Survey.{Survey}
-use Rattle.assignment.specs.declared.Named.the-variants.{Lacking, Second, Nobody, First}
+use Rattle.requests.proofs.Naming.{no-place, first-place, named-none, named-first}
+use Rattle.choices.specs.declared.types.AssignmentType.{AssignmentType}
+use Rattle.choices.specs.declared.plan.Survey.{Survey}
+use Rattle.assignment.specs.Assignment.{meantBy, isOne, findAll, numbersOf}
+use Rattle.assignment.specs.Survey.{clean, both, lookFound, foundSurvey}
+use Rattle.assignment.specs.declared.Meant.the-variants.{Fault, Owned, Named}
 use Rattle.assignment.proofs.Surveys.{survey-cons, both-assoc, both-clean}
 
 -- the identities from a place on
@@ -52,28 +52,28 @@ unfolding restOf identities
 rest-past s at h = rw (walk-past s at h)
 
 -- A survey of what is left, joined to what was seen, is the survey of all.
-module _ (t owner server : List ℕ) (kind count : ℕ) (s : List ℕ) where
-  pub survey-start : both (record { known = true; own = true; stores = true; fits = true; right = true }) (surveyOf t owner server kind (findAll t count (restOf s 20)))
-      ≡ surveyOf t owner server kind (findAll t count (identities (bodyOf s)))
+module _ (t owner server : List ℕ) (kind : AssignmentType) (count : ℕ) (s : List ℕ) where
+  pub survey-start : {seen : Survey} → seen ≡ clean → both seen (foundSurvey t owner server kind (findAll t count (restOf s 20)))
+      ≡ foundSurvey t owner server kind (findAll t count (identities (bodyOf s)))
   unfolding restOf
-  survey-start = refl
+  survey-start e = rw e
 
-  module _ (at : ℕ) (seen whole : Survey) (left : both seen (surveyOf t owner server kind (findAll t count (restOf s at))) ≡ whole) where
+  module _ (at : ℕ) (seen whole : Survey) (left : both seen (foundSurvey t owner server kind (findAll t count (restOf s at))) ≡ whole) where
     pub survey-end : length s ≤ at → seen ≡ whole
     unfolding findAll
     survey-end h = sym (both-clean t owner server kind seen) ∙ rw (rest-past s at h) at left
 
-    module _ (r : Next) (n : Named s at r) where
+    module _ (r : Next) (n : identity.Named s at r) where
       pub survey-none : r ≡ next.Nothing → seen ≡ whole
       unfolding findAll restOf
       survey-none d = sym (both-clean t owner server kind seen) ∙ rw (named-none s at r n d) at left
 
       pub survey-turn : (place past : ℕ) {name : List ℕ} {f : Found} {look seen' : Survey} → r ≡ next.At place past → name ≡ dataAt s place → f ≡ findPublic t count name
-          → look ≡ lookFound t f owner server kind → seen' ≡ both seen look → both seen' (surveyOf t owner server kind (findAll t count (restOf s past))) ≡ whole
+          → look ≡ lookFound t f owner server kind → seen' ≡ both seen look → both seen' (foundSurvey t owner server kind (findAll t count (restOf s past))) ≡ whole
       unfolding findAll restOf
       survey-turn place past {name} {f} {look} {seen'} d en ef el es =
           rw (es, el, ef, en)
-          (both-assoc seen (lookFound t (findPublic t count (dataAt s place)) owner server kind) (surveyOf t owner server kind (findAll t count (restOf s past)))
+          (both-assoc seen (lookFound t (findPublic t count (dataAt s place)) owner server kind) (foundSurvey t owner server kind (findAll t count (restOf s past)))
           ∙ ap (both seen) (sym (survey-cons t owner server kind (findPublic t count (dataAt s place)) (findAll t count (restOf s past))))
           ∙ (rw (named-first s at r n place past d) at left))
 
@@ -109,7 +109,7 @@ module _ (change : List ℕ → List ℕ) (keeps : Keeps change) (x : List ℕ) 
     unfolding findAll numbersOf isOne
     ended h = after-none x count change (sound-size x count sound) (isOne []) (λ j l. refl) ∙ rw (rest-past s at h) at left
 
-    module _ (r : Next) (n : Named s at r) where
+    module _ (r : Next) (n : identity.Named s at r) where
       none-left : r ≡ next.Nothing → x ≡ whole
       unfolding findAll numbersOf isOne restOf
       none-left d = after-none x count change (sound-size x count sound) (isOne []) (λ j l. refl) ∙ rw (named-none s at r n d) at left
@@ -145,7 +145,7 @@ module _ (x : List ℕ) (count : ℕ) (sound : SoundTable x count) (state : ℕ)
   pub settle-end : length s ≤ at → x ≡ whole
   settle-end = ended (settled state name) keeps x count sound s at left
 
-  module _ (r : Next) (n : Named s at r) where
+  module _ (r : Next) (n : identity.Named s at r) where
     pub settle-none : r ≡ next.Nothing → x ≡ whole
     settle-none = none-left (settled state name) keeps x count sound s at left r n
 
@@ -163,39 +163,33 @@ module _ (x : List ℕ) (count : ℕ) (sound : SoundTable x count) (state : ℕ)
       pub settle-few : (c : ℕ) {e : ℕ} (t : List ℕ) → e ≡ differ x y → c + alteredUpTo x whole count ≡ alteredUpTo t whole count → c + e ≤ 4096
       settle-few c {e} t h sum = sum-few t y whole count (c + e) (settle-counts c h sum) (sound-few x count sound)
 
--- How many identities there are.
-module _ (s : List ℕ) (removal named : Bool) (r : Next) (n : Named s 20 r) where
-  pub tells-nobody : r ≡ next.Nothing → (removal && named) ≡ true → Tells s removal named Nobody
-  unfolding identityFault
-  tells-nobody d e = let h : identities (bodyOf s) ≡ [] = named-none s 20 r n d in (rw (h, e), h)
+-- Whom the identities mean.
+module _ (s : List ℕ) (removal named : Bool) (r : Next) (n : identity.Named s 20 r) where
+  pub means-owned : r ≡ next.Nothing → (removal && named) ≡ true → Owned ≡ meantBy removal named (placesFrom 20 (bodyOf s))
+  unfolding meantBy
+  means-owned d e = rw (no-place s 20 r n d, e)
 
-  pub tells-lacking : r ≡ next.Nothing → (removal && named) ≡ false → Tells s removal named Lacking
-  unfolding identityFault failedBy
-  tells-lacking d e = let h : identities (bodyOf s) ≡ [] = named-none s 20 r n d in rw (h, e)
+  pub means-none : r ≡ next.Nothing → (removal && named) ≡ false → Fault (lackOf publicIdentity) ≡ meantBy removal named (placesFrom 20 (bodyOf s))
+  unfolding meantBy
+  means-none d e = rw (no-place s 20 r n d, e)
 
   module _ (place past : ℕ) (d : r ≡ next.At place past) where
-    begins : Begins place s
-    begins = record { others = identities (walk (drop past s)); rest = named-first s 20 r n place past d }
-
-    pub tells-removal : removal ≡ true → Tells s removal named (First place)
-    unfolding identityFault
-    tells-removal e = (rw (named-first s 20 r n place past d, e) (go (identities (walk (drop past s)))), begins)
+    pub means-removal : removal ≡ true → Named place ≡ meantBy removal named (placesFrom 20 (bodyOf s))
+    unfolding meantBy
+    means-removal e = rw (first-place s 20 r n place past d, e) (go (placesFrom past (walk (drop past s))))
       where
-        go : (others : List (List ℕ)) → identityFault true named (avpAt s place ∷ others) ≡ none
+        go : (others : List ℕ) → Named place ≡ meantBy true named (place ∷ others)
         go [] = refl
-        go (b ∷ others) = refl
+        go (q ∷ others) = refl
 
-    module _ (q : Next) (m : Named s past q) where
-      pub tells-one : q ≡ next.Nothing → Tells s removal named (First place)
-      unfolding identityFault
-      tells-one g = (rw (named-first s 20 r n place past d, named-none s past q m g), begins)
+    module _ (q : Next) (m : identity.Named s past q) where
+      pub means-one : q ≡ next.Nothing → Named place ≡ meantBy removal named (placesFrom 20 (bodyOf s))
+      unfolding meantBy
+      means-one g = rw (first-place s 20 r n place past d, no-place s past q m g)
 
-      pub tells-second : (place2 past2 : ℕ) → q ≡ next.At place2 past2 → removal ≡ false → Tells s removal named (Second place2)
-      unfolding identityFault failedBy numberOf
-      tells-second place2 past2 g e =
-          let st = named-stands s past q m place2 past2 g in
-          let z : 0 < place2 = omega (arith, st .reached, named-stands s 20 r n place past d .later) in
-          rw (named-first s 20 r n place past d, named-first s past q m place2 past2 g, e, lt-ltb 0 place2 z, failed-at s place2 5009 (named-stands s past q m place2 past2 g .sounds) (λ b. omega arith))
+      pub means-second : (place2 past2 : ℕ) → q ≡ next.At place2 past2 → removal ≡ false → Fault (faultAt 5009 place2) ≡ meantBy removal named (placesFrom 20 (bodyOf s))
+      unfolding meantBy
+      means-second place2 past2 g e = rw (first-place s 20 r n place past d, first-place s past q m place2 past2 g, e)
 
 pub settle-start : (t : List ℕ) (count : ℕ) (s : List ℕ) (state : ℕ) (name : List ℕ)
     → afterOf t count (isOne (numbersOf (findAll t count (restOf s 20)))) (settled state name)

@@ -16,7 +16,7 @@ use Rattle.rewrite.proofs.Blocks.{in-length, in-here, in-other}
 use Rattle.rewrite.proofs.Counts.{if-counts, sum-few}
 use Rattle.rewrite.proofs.Settled.{settled-keeps}
 use Rattle.rewrite.proofs.Tables.{after-same, after-none, at-same}
-use Rattle.decisions.specs.Assignment.{isOne, ownedHere, ownedUpTo}
+use Rattle.assignment.specs.Assignment.{isOne, ownedHere, ownedUpTo}
 
 -- a subscription's records not in state 0, from a block on
 unfoldable pub ownedFrom : List ℕ → List ℕ → ℕ → ℕ → Bool

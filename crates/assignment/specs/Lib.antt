@@ -1,4 +1,2 @@
-pub mod Assigns
-pub mod Identities
-pub mod Plans
+pub mod Assignment
 pub mod Survey

@@ -1,69 +1,67 @@
--- What the code sees of the records of a SAR, in one pass.
-use Prim.Native.Nat.{ℕ}
+-- What the code sees of the records of a SAR, one after the other.
 use mathlib.Core.List.{List}
-use mathlib.Core.Bool.{true, false, not, cond, _&&_, _||_}
+use Prim.Native.Nat.{ℕ}
+use mathlib.Core.Bool.{Bool, true, false, cond, _&&_, _||_}
 use lib.Dec.{eqb}
 use Rattle.octets.specs.Name.{same}
-use Rattle.record.specs.Fields.{privateOf, serverOf, stateOf, serverSize}
+use Rattle.record.specs.Fields.{privateOf, serverOf, serverSize, stateOf}
 use Rattle.table.specs.Blocks.{blockOf}
 use Rattle.lookup.specs.Find.{isAt}
 use Rattle.lookup.specs.declared.Found.{Found}
 use Rattle.lookup.specs.declared.Found.the-variants.{At, Nothing}
-use Rattle.decisions.specs.Types.{startOf, allowed}
-use Rattle.decisions.specs.Assignment.{every, isEmpty, numbersOf, ownedHere, ownedUpTo, ownAt, storesAt, fitsAt, rightAt}
-use Rattle.assignment.specs.declared.Survey.{Survey}
-use Rattle.assignment.specs.declared.Sight.{Sight}
-use Rattle.assignment.specs.declared.Finding.{Finding}
-use Rattle.assignment.specs.declared.Finding.the-variants.{Unknown, Foreign, Held, NotHeld, Taken, WrongState, Fine}
+use Rattle.diameter.specs.Message.{bodyOf}
+use Rattle.requests.specs.Request.{identities}
+use Rattle.requests.specs.Identity.{placesFrom}
+use Rattle.choices.specs.Types.{allowed}
+use Rattle.choices.specs.declared.types.AssignmentType.{AssignmentType}
+use Rattle.choices.specs.declared.plan.Sar.{Sar}
+use Rattle.choices.specs.declared.plan.Survey.{Survey}
+use Rattle.assignment.specs.Assignment.{Assignment, every, numbersOf, ownedHere, surveyOf}
 
--- two surveys as one; that of an identity that is unknown
+-- what a SAR says, by its parts
+abbrev pub sarOf : List ℕ → Sar → List ℕ → List ℕ → Assignment
+sarOf req s server user = record { numbers = s; server = server; user = user; identities = identities (bodyOf req); places = placesFrom 20 (bodyOf req) }
+
+-- nothing seen yet; two surveys as one; that of an identity that is unknown; another word on what is known
+abbrev pub clean : Survey
+clean = record { known = true; some = false; own = true; stores = true; fits = true; right = true }
+
 abbrev pub both : Survey → Survey → Survey
 both a b =
-    record { known = a .known && b .known; own = a .own && b .own; stores = a .stores && b .stores; fits = a .fits && b .fits; right = a .right && b .right }
+    record {
+      known = a .known && b .known;
+      some = a .some || b .some;
+      own = a .own && b .own;
+      stores = a .stores && b .stores;
+      fits = a .fits && b .fits;
+      right = a .right && b .right;
+    }
 
-abbrev pub strange : Survey
-strange = record { known = false; own = true; stores = true; fits = true; right = true }
+abbrev pub unknown : Survey
+unknown = record { known = false; some = false; own = true; stores = true; fits = true; right = true }
 
--- of one record block; of a record that was found or not
-unfoldable pub lookAt : List ℕ → List ℕ → List ℕ → ℕ → Survey
+unfoldable pub alsoKnown : Survey → Bool → Survey
+alsoKnown v known = record { known = v .known && known; some = v .some; own = v .own; stores = v .stores; fits = v .fits; right = v .right }
+
+-- of one record block; of a record that was found or not; of a block that may be one of a subscription's
+unfoldable pub lookAt : List ℕ → List ℕ → List ℕ → AssignmentType → Survey
 lookAt b owner server kind =
     record {
       known = true;
+      some = true;
       own = same (privateOf b) owner;
       stores = same (serverOf b) server;
       fits = eqb (serverSize b) 0 || same (serverOf b) server;
-      right = allowed (startOf kind) (stateOf b);
+      right = allowed kind (stateOf b);
     }
 
-unfoldable pub lookFound : List ℕ → Found → List ℕ → List ℕ → ℕ → Survey
+unfoldable pub lookFound : List ℕ → Found → List ℕ → List ℕ → AssignmentType → Survey
 lookFound t (At k) owner server kind = lookAt (blockOf t k) owner server kind
-lookFound t Nothing owner server kind = strange
+lookFound t Nothing owner server kind = unknown
 
--- of all
-unfoldable pub surveyOf : List ℕ → List ℕ → List ℕ → ℕ → List Found → Survey
-surveyOf t owner server kind fs =
-    record {
-      known = every isAt fs;
-      own = every (ownAt t owner) (numbersOf fs);
-      stores = every (storesAt t server) (numbersOf fs);
-      fits = every (fitsAt t server) (numbersOf fs);
-      right = every (rightAt t kind) (numbersOf fs);
-    }
+unfoldable pub glimpsed : Survey → List ℕ → List ℕ → List ℕ → AssignmentType → Survey
+glimpsed seen b user server kind = cond (ownedHere b user) (both seen (lookAt b user server kind)) seen
 
--- of a subscription's records up to block n that are not in state 0; and with one block more
-unfoldable pub sightOf : List ℕ → List ℕ → List ℕ → ℕ → Sight
-sightOf t user server n = record { empty = isEmpty (ownedUpTo t user n); fits = every (fitsAt t server) (ownedUpTo t user n) }
-
-unfoldable pub glimpsed : Sight → List ℕ → List ℕ → List ℕ → Sight
-glimpsed s b user server =
-    record { empty = s .empty && not (ownedHere b user); fits = s .fits && (not (ownedHere b user) || (eqb (serverSize b) 0 || same (serverOf b) server)) }
-
--- "X5001 .. X5002 .. Type 0 .. X5005 .. X5007": the first that is at fault
-unfoldable pub findingOf : Survey → ℕ → Finding
-findingOf v kind =
-    cond (not (v .known)) Unknown
-    (cond (not (v .own)) Foreign
-    (cond (eqb kind 0) (cond (v .stores) Held NotHeld)
-    (cond (not (v .fits)) Taken
-    (cond (not (v .right)) WrongState
-    Fine))))
+-- of records that were found or not
+abbrev pub foundSurvey : List ℕ → List ℕ → List ℕ → AssignmentType → List Found → Survey
+foundSurvey t owner server kind fs = surveyOf t owner server kind (every isAt fs) (numbersOf fs)

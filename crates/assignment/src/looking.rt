@@ -1,7 +1,7 @@
-// What is seen of the records of named identities: every question in one pass, by one look-up a name.
-use crate::Finding;
-use crate::Survey;
-use decisions::types;
+// What is seen of a SAR's records: every question in one pass.
+use choices::plan::Survey;
+use choices::types;
+use choices::types::AssignmentType;
 use lookup::Found;
 use octets::name;
 use record::fields;
@@ -10,13 +10,28 @@ ghost use mathlib.Core.Path.{_≡_};
 ghost use Prim.Native.Nat.{_≤_};
 ghost use lib.ListN.{length};
 ghost use Rattle.lookup.specs.Find.{endOf};
-ghost use Rattle.assignment.specs.Survey.{both, lookAt, lookFound, findingOf};
+ghost use Rattle.assignment.specs.Survey.{clean, both, alsoKnown, lookAt, lookFound};
+
+// Nothing seen yet.
+pub fn fresh() -> Survey
+    ensures { λ r. ⌜ r ≡ clean ⌝ }
+{
+    Survey {
+        known: true,
+        some: false,
+        own: true,
+        stores: true,
+        fits: true,
+        right: true,
+    }
+}
 
 pub fn join(a: Survey, b: Survey) -> Survey
     ensures { λ r. ⌜ r ≡ both a b ⌝ }
 {
     Survey {
         known: a.known & b.known,
+        some: a.some | b.some,
         own: a.own & b.own,
         stores: a.stores & b.stores,
         fits: a.fits & b.fits,
@@ -24,23 +39,38 @@ pub fn join(a: Survey, b: Survey) -> Survey
     }
 }
 
+// A survey, with another word on what is known.
+pub fn also_known(v: Survey, known: bool) -> Survey
+    ensures { λ r. ⌜ r ≡ alsoKnown v known ⌝ }
+{
+    Survey {
+        known: v.known & known,
+        some: v.some,
+        own: v.own,
+        stores: v.stores,
+        fits: v.fits,
+        right: v.right,
+    }
+}
+
 // Of a record's block.
-fn look_at(b: &[u8], owner: &[u8], server: &[u8], kind: u32) -> Survey
+pub fn look_at(b: &[u8], owner: &[u8], server: &[u8], kind: AssignmentType) -> Survey
     requires { ⌜ length (now b) ≡ 512 ⌝ }
     ensures { λ r. ⌜ r ≡ lookAt (now (b .entry)) (now (owner .entry)) (now (server .entry)) kind ⌝ }
 {
     let stores = name::same(fields::server(b), server);
     Survey {
         known: true,
+        some: true,
         own: name::same(fields::private(b), owner),
         stores,
         fits: (b[Record::SERVER_LENGTH_AT] == 0) | stores,
-        right: types::allows(types::start_of(kind), b[Record::STATE_AT]),
+        right: types::allows(kind, b[Record::STATE_AT]),
     }
 }
 
 // Of a record that was found or not.
-pub fn look_found(t: &[u8], f: Found, owner: &[u8], server: &[u8], kind: u32) -> Survey
+pub fn look_found(t: &[u8], f: Found, owner: &[u8], server: &[u8], kind: AssignmentType) -> Survey
     requires { ⌜ endOf f ≤ length (now t) ⌝ }
     ensures { λ r. ⌜ r ≡ lookFound (now (t .entry)) f (now (owner .entry)) (now (server .entry)) kind ⌝ }
 {
@@ -48,35 +78,11 @@ pub fn look_found(t: &[u8], f: Found, owner: &[u8], server: &[u8], kind: u32) ->
         Found::At(k) => look_at(table::block(t, k as usize), owner, server, kind),
         Found::Nothing => Survey {
             known: false,
+            some: false,
             own: true,
             stores: true,
             fits: true,
             right: true,
         },
     }
-}
-
-// What a survey comes to.
-pub fn finding(v: Survey, kind: u32) -> Finding
-    ensures { λ r. ⌜ r ≡ findingOf v kind ⌝ }
-{
-    if !v.known {
-        return Finding::Unknown;
-    }
-    if !v.own {
-        return Finding::Foreign;
-    }
-    if kind == 0 {
-        if v.stores {
-            return Finding::Held;
-        }
-        return Finding::NotHeld;
-    }
-    if !v.fits {
-        return Finding::Taken;
-    }
-    if !v.right {
-        return Finding::WrongState;
-    }
-    Finding::Fine
 }

@@ -1,8 +1,12 @@
 // The records of named identities: looked at, and settled.
-use crate::Named;
-use crate::Survey;
+use crate::Meant;
 use crate::looking;
+use choices::plan::Survey;
+use choices::types::AssignmentType;
 use diameter::message;
+use reading::Outcome;
+use reading::Verdict;
+use reading::kinds;
 use requests::identities;
 use requests::identities::Next;
 ghost use mathlib.Core.Path.{_≡_};
@@ -13,31 +17,39 @@ ghost use Rattle.rewrite.specs.Change.{afterOf, alteredUpTo};
 ghost use Rattle.rewrite.specs.Renew.{settled, Fitting};
 ghost use Rattle.diameter.specs.Message.{bodyOf};
 ghost use Rattle.requests.specs.Request.{identities};
-ghost use Rattle.decisions.specs.Assignment.{isOne, findAll, numbersOf};
-ghost use Rattle.assignment.specs.Survey.{surveyOf};
-ghost use Rattle.assignment.specs.Identities.{Tells};
+ghost use Rattle.requests.specs.Identity.{placesFrom};
+ghost use Rattle.assignment.specs.Assignment.{meantBy, isOne, findAll, numbersOf};
+ghost use Rattle.assignment.specs.Survey.{foundSurvey};
 
-// How many identities there are, as far as it matters: "Others need exactly one identity"; "A removal without identity needs a User-Name".
-pub fn identities_of(req: &[u8], removal: bool, named: bool) -> Named
-    ensures { λ r. ⌜ Tells (now (req .entry)) removal named r ⌝ }
+// "Others need exactly one identity"; "A removal without identity needs a User-Name".
+pub fn meant_by(req: &[u8], removal: bool, named: bool) -> Meant
+    ensures { λ r. ⌜ r ≡ meantBy removal named (placesFrom 20 (bodyOf (now (req .entry)))) ⌝ }
 {
     let Next::At { place, past } = identities::next_identity(req, message::BODY) else {
         if removal & named {
-            return Named::Nobody;
+            return Meant::Owned;
         }
-        return Named::Lacking;
+        return Meant::Fault(Verdict {
+            result: Outcome::Base(5005),
+            place: 0,
+            lacks: kinds::PUBLIC_IDENTITY,
+        });
     };
     if removal {
-        return Named::First(place);
+        return Meant::Named(place);
     }
     let Next::At {
         place: second,
         past: _,
     } = identities::next_identity(req, past)
     else {
-        return Named::First(place);
+        return Meant::Named(place);
     };
-    Named::Second(second)
+    Meant::Fault(Verdict {
+        result: Outcome::Base(5009),
+        place: second,
+        lacks: 0,
+    })
 }
 
 // All that are named, asked whether they are the owner's.
@@ -47,18 +59,12 @@ pub fn survey_all(
     req: &[u8],
     owner: &[u8],
     server: &[u8],
-    kind: u32,
+    kind: AssignmentType,
 ) -> Survey
     requires { ⌜ SoundTable (now t) count ⌝ }
-    ensures { λ r. ⌜ r ≡ surveyOf (now (t .entry)) (now (owner .entry)) (now (server .entry)) kind (findAll (now (t .entry)) count (identities (bodyOf (now (req .entry))))) ⌝ }
+    ensures { λ r. ⌜ r ≡ foundSurvey (now (t .entry)) (now (owner .entry)) (now (server .entry)) kind (findAll (now (t .entry)) count (identities (bodyOf (now (req .entry))))) ⌝ }
 {
-    let mut seen = Survey {
-        known: true,
-        own: true,
-        stores: true,
-        fits: true,
-        right: true,
-    };
+    let mut seen = looking::fresh();
     let mut at = message::BODY;
     while at < req.len() {
         let Next::At { place, past } = identities::next_identity(req, at) else {

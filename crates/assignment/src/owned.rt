@@ -1,16 +1,18 @@
 // A removal without identity: the User-Name's records that are not in state 0.
-use crate::Sight;
+use crate::looking;
+use choices::plan::Survey;
+use choices::types::AssignmentType;
 use octets::name;
 use record::fields;
 use record::subscriber::Record;
 ghost use mathlib.Core.Path.{_≡_};
-ghost use Prim.Native.Nat.{_+_, _*_, _≤_};
+ghost use mathlib.Core.Bool.{true};
 ghost use lib.ListN.{length};
 ghost use Rattle.table.specs.SoundTable.{SoundTable};
 ghost use Rattle.rewrite.specs.Change.{afterOf, alteredUpTo};
 ghost use Rattle.rewrite.specs.Renew.{settled, Fitting};
-ghost use Rattle.decisions.specs.Assignment.{isOne, ownedHere, ownedUpTo};
-ghost use Rattle.assignment.specs.Survey.{sightOf, glimpsed};
+ghost use Rattle.assignment.specs.Assignment.{isOne, ownedHere, ownedUpTo, surveyOf};
+ghost use Rattle.assignment.specs.Survey.{glimpsed};
 
 fn owned(b: &[u8], user: &[u8]) -> bool
     requires { ⌜ length (now b) ≡ 512 ⌝ }
@@ -20,30 +22,30 @@ fn owned(b: &[u8], user: &[u8]) -> bool
 }
 
 // One block more.
-fn glimpse(s: Sight, b: &[u8], user: &[u8], server: &[u8]) -> Sight
+fn glimpse(seen: Survey, b: &[u8], user: &[u8], server: &[u8], kind: AssignmentType) -> Survey
     requires { ⌜ length (now b) ≡ 512 ⌝ }
-    ensures { λ r. ⌜ r ≡ glimpsed s (now (b .entry)) (now (user .entry)) (now (server .entry)) ⌝ }
+    ensures { λ r. ⌜ r ≡ glimpsed seen (now (b .entry)) (now (user .entry)) (now (server .entry)) kind ⌝ }
 {
-    let other = !owned(b, user);
-    Sight {
-        empty: s.empty & other,
-        fits: s.fits
-            & (other
-                | ((b[Record::SERVER_LENGTH_AT] == 0) | name::same(fields::server(b), server))),
+    if owned(b, user) {
+        return looking::join(seen, looking::look_at(b, user, server, kind));
     }
+    seen
 }
 
 // What is seen of them.
-pub fn sight_of(t: &[u8], count: usize, user: &[u8], server: &[u8]) -> Sight
+pub fn survey_owned(
+    t: &[u8],
+    count: usize,
+    user: &[u8],
+    server: &[u8],
+    kind: AssignmentType,
+) -> Survey
     requires { ⌜ SoundTable (now t) count ⌝ }
-    ensures { λ r. ⌜ r ≡ sightOf (now (t .entry)) (now (user .entry)) (now (server .entry)) count ⌝ }
+    ensures { λ r. ⌜ r ≡ surveyOf (now (t .entry)) (now (user .entry)) (now (server .entry)) kind true (ownedUpTo (now (t .entry)) (now (user .entry)) count) ⌝ }
 {
-    let mut seen = Sight {
-        empty: true,
-        fits: true,
-    };
+    let mut seen = looking::fresh();
     for k in 0..count {
-        seen = glimpse(seen, table::block(t, k + 1), user, server);
+        seen = glimpse(seen, table::block(t, k + 1), user, server, kind);
     }
     seen
 }

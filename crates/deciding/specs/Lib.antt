@@ -1,2 +1,2 @@
+pub mod Answers
 pub mod Passed
-pub mod Plans

@@ -2,10 +2,12 @@
 use assignment::assigning;
 use assignment::naming;
 use assignment::owned;
-use assignment::plan;
-use decisions::Plan;
+use choices::giving;
+use choices::plan;
+use choices::plan::Plan;
+use choices::plan::Sar;
+use choices::types;
 use decisions::authorization;
-use decisions::giving;
 use decisions::location;
 use reading::Verdict;
 use reading::kinds;
@@ -13,7 +15,7 @@ use record::header::Header;
 use requests::places;
 ghost use mathlib.Core.Path.{_≡_};
 ghost use mathlib.Core.Bool.{true};
-ghost use Prim.Native.Nat.{_+_, _*_, _≤_};
+ghost use Prim.Native.Nat.{_≤_};
 ghost use lib.ListN.{length};
 ghost use lib.Dec.{eqb};
 ghost use Rattle.record.specs.Fields.{keepOf};
@@ -24,15 +26,15 @@ ghost use Rattle.requests.specs.Judged.{bad, fine};
 ghost use Rattle.diameter.specs.Message.{commandOf};
 ghost use Rattle.requests.specs.Request.{readRequest, dataSeen};
 ghost use Rattle.reading.specs.Places.{seenOf};
-ghost use Rattle.decisions.specs.Assignment.{storedName};
-ghost use Rattle.decisions.specs.Decide.{assignmentOf, decide};
-ghost use Rattle.decisions.specs.Planned.{planned};
+ghost use Rattle.table.specs.SoundTable.{SoundTable};
+ghost use Rattle.assignment.specs.Assignment.{storedName, carriedOut};
+ghost use Rattle.fitting.specs.Decide.{numbersIn, assignmentOf, planRead, decide};
 ghost use Rattle.deciding.specs.Passed.{Passed};
-ghost use Rattle.deciding.specs.Plans.{Plans, Answers};
+ghost use Rattle.deciding.specs.Answers.{Answers};
 
 // Whether the header says that names are kept.
 fn keep(t: &[u8]) -> bool
-    requires { ⌜ 512 * 0 + 512 ≤ length (now t) ⌝ }
+    requires { ⌜ 512 ≤ length (now t) ⌝ }
     ensures { λ r. ⌜ r ≡ eqb (keepOf (blockOf (now (t .entry)) 0)) 1 ⌝ }
 {
     let h = table::block(t, 0);
@@ -41,7 +43,7 @@ fn keep(t: &[u8]) -> bool
 
 fn plan_uar(req: &[u8], t: &[u8], count: usize, found: [usize; kinds::KINDS]) -> Plan
     requires { ⌜ SoundTable (now t) count × (commandOf (now req) ≡ 300) ⌝ }
-    ensures { λ r. ⌜ Plans (now (req .entry)) (now (t .entry)) count (seenOf (now (req .entry)) found) r ⌝ }
+    ensures { λ r. ⌜ r ≡ planRead (now (req .entry)) (now (t .entry)) count (seenOf (now (req .entry)) found) ⌝ }
 {
     plan::reply_only(authorization::authorize(
         t,
@@ -53,26 +55,36 @@ fn plan_uar(req: &[u8], t: &[u8], count: usize, found: [usize; kinds::KINDS]) ->
     ))
 }
 
+// The numbers of a SAR.
+fn numbers(req: &[u8], t: &[u8], found: [usize; kinds::KINDS]) -> Sar
+    requires { ⌜ 512 ≤ length (now t) ⌝ }
+    ensures { λ r. ⌜ r ≡ numbersIn (now (t .entry)) (seenOf (now (req .entry)) found) ⌝ }
+{
+    Sar {
+        kind: types::type_of(places::value_of(req, found, kinds::ASSIGNMENT_TYPE)),
+        already: places::value_of(req, found, kinds::DATA_AVAILABLE),
+        named: places::given(req, found, kinds::USER_NAME),
+        keep: keep(t),
+    }
+}
+
 fn plan_sar(req: &[u8], t: &[u8], count: usize, found: [usize; kinds::KINDS]) -> Plan
-    requires { ⌜ SoundTable (now t) count × (readRequest (now req) ≡ fine (seenOf (now req) found)) × (commandOf (now req) ≡ 301) ⌝ }
-    ensures { λ r. ⌜ Plans (now (req .entry)) (now (t .entry)) count (seenOf (now (req .entry)) found) r ⌝ }
+    requires { ⌜ SoundTable (now t) count × (commandOf (now req) ≡ 301) ⌝ }
+    ensures { λ r. ⌜ r ≡ planRead (now (req .entry)) (now (t .entry)) count (seenOf (now (req .entry)) found) ⌝ }
 {
     assigning::plan_sar(
         t,
         count,
         req,
-        places::value_of(req, found, kinds::ASSIGNMENT_TYPE),
+        numbers(req, t, found),
         places::data_of(req, found, kinds::SERVER_NAME),
-        places::value_of(req, found, kinds::DATA_AVAILABLE),
-        places::given(req, found, kinds::USER_NAME),
         places::data_of(req, found, kinds::USER_NAME),
-        keep(t),
     )
 }
 
 fn plan_lir(req: &[u8], t: &[u8], count: usize, found: [usize; kinds::KINDS]) -> Plan
     requires { ⌜ SoundTable (now t) count × (commandOf (now req) ≡ 300 → ⊥) × (commandOf (now req) ≡ 301 → ⊥) ⌝ }
-    ensures { λ r. ⌜ Plans (now (req .entry)) (now (t .entry)) count (seenOf (now (req .entry)) found) r ⌝ }
+    ensures { λ r. ⌜ r ≡ planRead (now (req .entry)) (now (t .entry)) count (seenOf (now (req .entry)) found) ⌝ }
 {
     plan::reply_only(location::locate(
         t,
@@ -83,8 +95,8 @@ fn plan_lir(req: &[u8], t: &[u8], count: usize, found: [usize; kinds::KINDS]) ->
 
 // The plan of a request that was read, by its command.
 fn plan_read(req: &[u8], t: &[u8], count: usize, found: [usize; kinds::KINDS]) -> Plan
-    requires { ⌜ SoundTable (now t) count × (readRequest (now req) ≡ fine (seenOf (now req) found)) × (20 ≤ length (now req)) ⌝ }
-    ensures { λ r. ⌜ Plans (now (req .entry)) (now (t .entry)) count (seenOf (now (req .entry)) found) r ⌝ }
+    requires { ⌜ SoundTable (now t) count × (20 ≤ length (now req)) ⌝ }
+    ensures { λ r. ⌜ r ≡ planRead (now (req .entry)) (now (t .entry)) count (seenOf (now (req .entry)) found) ⌝ }
 {
     let command = requests::command(req);
     if command == reading::UAR {
@@ -106,7 +118,7 @@ fn stored(named: bool, server: &[u8]) -> &[u8]
 // The effect that is planned, if there is one.
 fn carry_out(t: &mut [u8], count: usize, req: &[u8], found: [usize; kinds::KINDS], p: Plan)
     requires { ⌜ SoundTable (now t) count × (p .write ≡ true → Fitting (p .state) (storedName (p .named) (dataSeen (seenOf (now req) found) 10))) ⌝ }
-    ensures { λ _. ⌜ now (t .exit) ≡ planned (now (t .entry)) count (assignmentOf (seenOf (now (req .entry)) found) (now (req .entry))) p ⌝ }
+    ensures { λ _. ⌜ now (t .exit) ≡ carriedOut (now (t .entry)) count (assignmentOf (now (t .entry)) (seenOf (now (req .entry)) found) (now (req .entry))) p ⌝ }
 {
     let server = stored(p.named, places::data_of(req, found, kinds::SERVER_NAME));
     if p.write {
@@ -146,7 +158,7 @@ fn answer_read(
 ) -> usize
     requires { ⌜ Passed (now req) (now out) × SoundTable (now t) count × (readRequest (now req) ≡ fine (seenOf (now req) found)) ⌝ }
     ensures { λ r. ⌜ (r ≤ 36864) × Answers (now (req .entry)) (now (t .entry)) count (now (file .entry)) (now (out .entry)) (now (out .exit)) r
-        × (now (t .exit) ≡ decide (now (req .entry)) (now (t .entry)) count (now (file .entry)) .table) ⌝ }
+        × (now (t .exit) ≡ decide (now (req .entry)) (now (t .entry)) count .table) ⌝ }
 {
     let p = plan_read(req, t, count, found);
     let g = p.given;
@@ -159,7 +171,7 @@ fn answer_read(
 pub fn answer_sound(out: &mut [u8], req: &[u8], t: &mut [u8], file: &[u8], count: usize) -> usize
     requires { ⌜ Passed (now req) (now out) × SoundTable (now t) count ⌝ }
     ensures { λ r. ⌜ (r ≤ 36864) × Answers (now (req .entry)) (now (t .entry)) count (now (file .entry)) (now (out .entry)) (now (out .exit)) r
-        × (now (t .exit) ≡ decide (now (req .entry)) (now (t .entry)) count (now (file .entry)) .table) ⌝ }
+        × (now (t .exit) ≡ decide (now (req .entry)) (now (t .entry)) count .table) ⌝ }
 {
     let w = requests::read_request(req);
     if w.ok {

@@ -1,6 +1,2 @@
-pub mod Authorizing
-pub mod Locating
-pub mod Ranges
-pub mod Within
-pub mod Replies
-pub mod Rows
+pub mod Among
+pub mod Answers

@@ -1,9 +1,4 @@
-pub mod Assignment
+pub mod Among
 pub mod Authorization
-pub mod Chosen
-pub mod Decide
-pub mod Gives
+pub mod Carried
 pub mod Location
-pub mod Planned
-pub mod Reply
-pub mod Types

@@ -1,28 +1,30 @@
--- "LIR."
+-- "LIR.": the questions, and what their answers come to (choices/specs/Choices has the paragraph, row by row).
 use Prim.Native.Nat.{ℕ}
 use mathlib.Core.List.{List}
-use mathlib.Core.Bool.{cond}
+use mathlib.Core.Bool.{true, false}
 use lib.Dec.{ltb}
-use Rattle.record.specs.Fields.{privateOf, serverOf, stateOf, bitsOf, unregisteredServices}
-use Rattle.table.specs.Blocks.{blockOf}
-use Rattle.lookup.specs.Find.{findPublic, findServer}
+use Rattle.record.specs.Fields.{stateOf, bitsOf, serverSize, unregisteredServices}
+use Rattle.table.specs.Blocks.{blockOf, privateAt}
+use Rattle.lookup.specs.Find.{findPublic}
 use Rattle.lookup.specs.declared.Found.{Found}
 use Rattle.lookup.specs.declared.Found.the-variants.{At, Nothing}
-use Rattle.reading.specs.declared.Outcome.the-variants.{Base, Experimental}
-use Rattle.decisions.specs.Reply.{Reply, plain, served, capable, servedBy}
+use Rattle.choices.specs.Choices.{location}
+use Rattle.choices.specs.declared.Given.{Given}
+use Rattle.choices.specs.declared.choice.Sought.{Sought}
+use Rattle.decisions.specs.Carried.{blockFound, carried}
 
--- "State 1 or 2: server name, B2001 (none stored: B5012). State 0 without unregistered services: X5003; with them, the subscription's first server name,
--- B2001; none, capabilities, X2003."
-unfoldable pub locateRecord : List ℕ → ℕ → List ℕ → Reply
-locateRecord t count b =
-    cond (ltb 0 (stateOf b)) (served (Base 2001) (serverOf b))
-    (cond (unregisteredServices (bitsOf b)) (servedBy t (findServer t count (privateOf b)) (Base 2001) (capable (Experimental 2003) b))
-    (plain (Experimental 5003)))
+-- of a record's block
+unfoldable pub soughtAt : List ℕ → Sought
+soughtAt b = record { known = true; present = ltb 0 (stateOf b); stored = ltb 0 (serverSize b); services = unregisteredServices (bitsOf b) }
 
--- "Unknown: X5001."
-unfoldable pub locateFound : List ℕ → ℕ → Found → Reply
-locateFound t count (At k) = locateRecord t count (blockOf t k)
-locateFound t count Nothing = plain (Experimental 5001)
+-- of the record that was found or not
+unfoldable pub soughtOf : List ℕ → Found → Sought
+soughtOf t (At k) = soughtAt (blockOf t k)
+soughtOf t Nothing = record { known = false; present = false; stored = false; services = false }
 
-unfoldable pub locate : List ℕ → ℕ → List ℕ → Reply
+-- "the subscription's first server name": that of the asked record's private identity
+unfoldable pub locateFound : List ℕ → ℕ → Found → Given
+locateFound t count f = carried t count (privateAt t (blockFound f)) (blockFound f) (location (soughtOf t f))
+
+unfoldable pub locate : List ℕ → ℕ → List ℕ → Given
 locate t count public = locateFound t count (findPublic t count public)

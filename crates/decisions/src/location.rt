@@ -1,58 +1,52 @@
 // "LIR."
-use crate::Given;
-use crate::choice;
-use crate::choice::Choice;
-use crate::giving;
+use crate::carrying;
+use choices::Given;
+use choices::choice;
+use choices::choice::Sought;
 use lookup::Found;
-use reading::Outcome;
 use record::fields;
 use record::subscriber::Record;
 ghost use mathlib.Core.Path.{_≡_};
-ghost use Prim.Native.Nat.{_≤_};
-ghost use Rattle.table.specs.Blocks.{blockOf};
+ghost use lib.ListN.{length};
 ghost use Rattle.table.specs.SoundTable.{SoundTable};
-ghost use Rattle.decisions.specs.Gives.{Gives, Within};
-ghost use Rattle.decisions.specs.Chosen.{location};
-ghost use Rattle.decisions.specs.Location.{locateRecord, locateFound, locate};
+ghost use Rattle.decisions.specs.Among.{Among};
+ghost use Rattle.decisions.specs.Location.{soughtAt, soughtOf, locate};
 
-// The decision on a record that is in state 1 or 2 or not, with unregistered services or without.
-fn choose(present: bool, services: bool) -> Choice
-    ensures { λ r. ⌜ r ≡ location present services ⌝ }
+// The questions, put to a record's block.
+fn seek_record(b: &[u8]) -> Sought
+    requires { ⌜ length (now b) ≡ 512 ⌝ }
+    ensures { λ r. ⌜ r ≡ soughtAt (now (b .entry)) ⌝ }
 {
-    if present {
-        return Choice::Server(Outcome::Base(2001));
+    Sought {
+        known: true,
+        present: 0 < b[Record::STATE_AT],
+        stored: 0 < b[Record::SERVER_LENGTH_AT],
+        services: fields::unregistered_services(b),
     }
-    if services {
-        return Choice::First(Outcome::Base(2001), Outcome::Experimental(2003));
-    }
-    Choice::Alone(Outcome::Experimental(5003))
 }
 
-// Of the record in block k.
-fn locate_record(t: &[u8], count: usize, k: u32) -> Given
-    requires { ⌜ SoundTable (now t) count × (1 ≤ k) × (k ≤ count) ⌝ }
-    ensures { λ r. ⌜ Gives (now (t .entry)) r (locateRecord (now (t .entry)) count (blockOf (now (t .entry)) k)) ⌝ }
-{
-    let b = table::block(t, k as usize);
-    let chosen = choose(0 < b[Record::STATE_AT], fields::unregistered_services(b));
-    choice::carry(t, count, fields::private(b), k, chosen)
-}
-
-// "Unknown: X5001."
-fn locate_found(t: &[u8], count: usize, f: Found) -> Given
-    requires { ⌜ SoundTable (now t) count × Within count f ⌝ }
-    ensures { λ r. ⌜ Gives (now (t .entry)) r (locateFound (now (t .entry)) count f) ⌝ }
+// The questions, put to the record with the public identity, if there is one.
+fn seek(t: &[u8], count: usize, f: Found) -> Sought
+    requires { ⌜ SoundTable (now t) count × Among count f ⌝ }
+    ensures { λ r. ⌜ r ≡ soughtOf (now (t .entry)) f ⌝ }
 {
     match f {
-        Found::At(k) => locate_record(t, count, k),
-        Found::Nothing => giving::plain(Outcome::Experimental(5001)),
+        Found::At(k) => seek_record(table::block(t, k as usize)),
+        Found::Nothing => Sought {
+            known: false,
+            present: false,
+            stored: false,
+            services: false,
+        },
     }
 }
 
 pub fn locate(t: &[u8], count: usize, public: &[u8]) -> Given
     requires { ⌜ SoundTable (now t) count ⌝ }
-    ensures { λ r. ⌜ Gives (now (t .entry)) r (locate (now (t .entry)) count (now (public .entry))) ⌝ }
+    ensures { λ r. ⌜ r ≡ locate (now (t .entry)) count (now (public .entry)) ⌝ }
 {
     let f = lookup::find_public(t, count, public);
-    locate_found(t, count, f)
+    let k = carrying::block_found(f);
+    let owner = fields::private(table::block(t, k as usize));
+    carrying::carry(t, count, owner, k, choice::location(seek(t, count, f)))
 }

@@ -89,7 +89,7 @@ module _ (x : Lent) (count : ℕ) (sound : checkOf x ≡ Sound count) where
   demand-2 e = let s = answered-is x count sound e in (rw s, rw s, rw s)
 
   -- A result that is no success leaves the table as it was.
-  pub demand-2-failure : succeeds (decision x count .reply .result) ≡ false → serve x .table ≡ x .table
+  pub demand-2-failure : succeeds (decision x count .given .verdict .result) ≡ false → serve x .table ≡ x .table
   demand-2-failure = failure-kept x count sound
 
   -- A block whose private identity is not that of the subscription asked about is as it was, and so is the header.
@@ -146,8 +146,9 @@ module _ (head : List ℕ) (twenty : length head ≡ 20) (q : Piece) (qs rs : Li
   demand-3-table m = marked-kept head twenty q qs rs whole tail fours most m x
 
   -- .. and the answer is the one of B5001 with the first marked one in Failed-AVP (before a missing AVP, and before a SAR's own B5005 and B5009) ..
-  pub demand-3-marked : (m : FirstMarked (dialectOf cx head) qs rs) → faultIn head (q ∷ m .front) ≡ false → turnedAway (asking x (requestOf head (q ∷ qs) tail)) ≡ false
-      → serve (asking x (requestOf head (q ∷ rs) tail)) ≡ answered (asking x (requestOf head (q ∷ rs) tail)) (unsupported (x .table) (m .mark))
+  pub demand-3-marked : (m : FirstMarked (dialectOf cx head) qs rs) → faultIn head (q ∷ m .front) ≡ false
+      → turnedAway (asking x (requestOf head (q ∷ qs) tail)) ≡ false
+      → serve (asking x (requestOf head (q ∷ rs) tail)) ≡ unsupported (asking x (requestOf head (q ∷ rs) tail)) (m .mark)
   demand-3-marked m e = mark-answered head twenty q qs rs whole tail fours most m e x
 
   -- .. unless the header or an AVP before it breaks a reading rule, (a) to (h): then the call gives what it gives without them.

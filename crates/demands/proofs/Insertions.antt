@@ -11,6 +11,7 @@ use lib.ListN.{length, drop, length-append}
 use lib.Dec.{eqb}
 use borrow.Author.Tests.{lt-ltb}
 use Rattle.pen.specs.Bytes.{ifThere}
+use Rattle.pen.specs.Groups.{capabilities}
 use Rattle.diameter.specs.Avp.{padded}
 use Rattle.diameter.specs.Walk.{Walk, ended, avp, walk}
 use Rattle.diameter.specs.Put.{glue, Piece, bytesOf, avpsOf, Whole, All}
@@ -25,13 +26,14 @@ use Rattle.requests.specs.Request.{dialectOf, cx, headerFault, firstOther, miss
 use Rattle.requests.proofs.Insert.{stranger-kind, identity-known, proxy-known, judge-marked, andThen, judge-glue, past}
 use Rattle.failed.specs.Failing.{failedBy}
 use Rattle.failed.proofs.Fronts.{failed-piece, failed-whole}
-use Rattle.decisions.specs.Decide.{decideJudged, decide}
-use Rattle.reply.specs.Answer.{proxies}
+use Rattle.choices.specs.Given.{givenFault}
+use Rattle.fitting.specs.Decide.{unaltered, decideJudged, decide}
+use Rattle.reply.specs.Answer.{nameBytes, dataBytes, givenBytes, proxy, proxies, endBytes, restBytes, bodyBytes, answerBytes}
 use Rattle.ndushavire.specs.Lent.{Lent, asking}
 use Rattle.ndushavire.specs.Word.{checkValue}
 use Rattle.ndushavire.specs.Serve.{noRequest, checkOf, answered, decision, serve}
 use Rattle.demands.specs.Call.{turnedAway}
-use Rattle.demands.specs.Insertion.{message, requestOf, Foreign, isMarked, Quiet, Inserted, ending, keep, put, FirstMarked, isFault, faultIn, unsupported}
+use Rattle.demands.specs.Insertion.{message, requestOf, Foreign, isMarked, Quiet, Inserted, ending, keep, put, FirstMarked, isFault, faultIn, unsupportedBody, unsupportedBytes, unsupported}
 use Rattle.demands.proofs.Refusals.{refused-kept, refused-alike, answered-is, taken}
 use Rattle.demands.proofs.Moved.{putBefore, Moved, faults, same, moved-as, past-later, past-drop, failed-there}
 use Rattle.demands.proofs.Moved.{Row-moved, row-moved, ends-none, ends-same}
@@ -77,7 +79,7 @@ foreign-identities {dialect} =
 
 foreign-proxies : {dialect : Dialect} {qs rs : List Piece} → Inserted (Foreign dialect) qs rs → (w : Walk)
     → proxies (glue (avpsOf rs) w) ≡ proxies (glue (avpsOf qs) w)
-unfolding proxies ifThere
+unfolding proxies proxy ifThere
 foreign-proxies {dialect} = inserted-same proxies (λ a v w e. rw e) (λ u w p. rw (stranger-kind dialect (u .avp) proxyInfo (p .stranger) (proxy-known dialect)))
 
 pub quiet-foreign : {dialect : Dialect} {qs rs : List Piece} → Inserted (Quiet dialect) qs rs → Inserted (Foreign dialect) qs rs
@@ -152,12 +154,12 @@ module _ {long short : List ℕ} {more : ℕ → ℕ} (none : more 0 ≡ 0) wher
   fault-decides head true false k l (same seen) e = absurd (true≢false (sym e))
 
   fault-keeps : (head : List ℕ) (h f : Bool) {from : ℕ} {i j : Judged} (k : Seen → Judged) → Moved long short from more i j → (not h || f || isFault j) ≡ true
-      → (req t : List ℕ) (count : ℕ) (file : List ℕ) → decideJudged req t count file (readFrom head h f i k) .table ≡ t
+      → (req t : List ℕ) (count : ℕ) → decideJudged req t count (readFrom head h f i k) .table ≡ t
   unfolding readFrom andThen complete decideJudged
-  fault-keeps head false f k m e req t count file = refl
-  fault-keeps head true true k m e req t count file = refl
-  fault-keeps head true false k (faults x y m) e req t count file = refl
-  fault-keeps head true false k (same seen) e req t count file = absurd (true≢false (sym e))
+  fault-keeps head false f k m e req t count = refl
+  fault-keeps head true true k m e req t count = refl
+  fault-keeps head true false k (faults x y m) e req t count = refl
+  fault-keeps head true false k (same seen) e req t count = absurd (true≢false (sym e))
 
   none-decides : (head : List ℕ) (h f : Bool) {from : ℕ} {i j : Judged} (k : Seen → Judged) (v : Verdict) → Moved long short from more i j
       → (not h || f || isFault j) ≡ false
@@ -385,20 +387,32 @@ module _ (head : List ℕ) (twenty : length head ≡ 20) (q : Piece) (qs rs : Li
       )
       (ap some (failed-whole (m .mark) 5001 (m .foreign .whole) refl))
 
-  mark-decides : faultIn head (q ∷ m .front) ≡ false → (t : List ℕ) (count : ℕ) (file : List ℕ) → decide longer t count file ≡ unsupported t (m .mark)
+  -- its answer: nothing is given but the verdict
+  marked-body : (t file : List ℕ) → bodyBytes longer t file (givenFault (faultAt 5001 markPlace)) ≡ unsupportedBody longer t (m .mark)
+  unfolding bodyBytes restBytes givenBytes nameBytes dataBytes endBytes capabilities ifThere
+  marked-body t file = rw mark-failed
+
+  marked-bytes : (t file : List ℕ) → answerBytes longer t file (givenFault (faultAt 5001 markPlace)) ≡ unsupportedBytes longer t (m .mark)
+  unfolding answerBytes
+  marked-bytes t file = rw (marked-body t file)
+
+  mark-decides : faultIn head (q ∷ m .front) ≡ false → (t : List ℕ) (count : ℕ) → decide longer t count ≡ unaltered t (givenFault (faultAt 5001 markPlace))
   unfolding decide decideJudged
-  mark-decides e t count file = rw (mark-read e, mark-failed)
+  mark-decides e t count = rw (mark-read e)
 
   pub mark-answered : faultIn head (q ∷ m .front) ≡ false → (x : Lent) → turnedAway (asking x shorter) ≡ false
-      → serve (asking x longer) ≡ answered (asking x longer) (unsupported (x .table) (m .mark))
+      → serve (asking x longer) ≡ unsupported (asking x longer) (m .mark)
+  unfolding answered
   mark-answered e x away =
       let f : turnedAway (asking x longer) ≡ false = turned-same head twenty q qs rs whole tail fours most i x ∙ away in
       let count = checkValue (checkOf x) in
-      answered-is (asking x longer) count (taken (asking x longer) f .table) f ∙ ap (answered (asking x longer)) (mark-decides e (x .table) count (x .profile))
+      answered-is (asking x longer) count (taken (asking x longer) f .table) f
+      ∙ ap (answered (asking x longer)) (mark-decides e (x .table) count)
+      ∙ rw (marked-bytes (x .table) (x .profile))
 
-  long-decides : (t : List ℕ) (count : ℕ) (file : List ℕ) → decide longer t count file ≡ decideJudged longer t count file longRead
+  long-decides : (t : List ℕ) (count : ℕ) → decide longer t count ≡ decideJudged longer t count longRead
   unfolding decide
-  long-decides t count file = rw (message-read head twenty (bytesOf (q ∷ rs) ++ tail), long-read)
+  long-decides t count = rw (message-read head twenty (bytesOf (q ∷ rs) ++ tail), long-read)
 
   pub marked-kept : (x : Lent) → serve (asking x longer) .table ≡ x .table
   unfolding answered faultIn
@@ -413,7 +427,7 @@ module _ (head : List ℕ) (twenty : length head ≡ 20) (q : Piece) (qs rs : Li
       go : (y : Bool) → turnedAway (asking x longer) ≡ y → (z : Bool) → faultIn head (q ∷ m .front) ≡ z → serve (asking x longer) .table ≡ x .table
       go true e z f = refused-kept (asking x longer) e .0
       go false e true f =
-          rw (answers e, long-decides (x .table) count (x .profile))
+          rw (answers e, long-decides (x .table) count)
           (fault-keeps (none-before q (m .quiet)) head headed (frontOther q (m .front)) (behind markPlace (m .mark ∷ m .after)) front-moved f longer (x .table)
-          count (x .profile))
-      go false e false f = rw (answers e, mark-decides f (x .table) count (x .profile))
+          count)
+      go false e false f = rw (answers e, mark-decides f (x .table) count)

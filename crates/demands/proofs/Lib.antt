@@ -1,3 +1,4 @@
+pub mod Alike
 pub mod Cuts
 pub mod Demands
 pub mod Effects

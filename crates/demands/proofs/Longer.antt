@@ -106,7 +106,7 @@ module _ (head : List ℕ) (twenty : length head ≡ 20) (q : Piece) (qs rs : Li
   long = asking x (requestOf head (q ∷ rs) tail)
 
   marked-newer : (m : FirstMarked (dialectOf cx head) qs rs) (y z : Bool) → turnedAway short ≡ y → faultIn head (q ∷ m .front) ≡ z
-      → serve long ≡ cond (y || z) (serve short) (answered long (unsupported (x .table) (m .mark)))
+      → serve long ≡ cond (y || z) (serve short) (unsupported long (m .mark))
   marked-newer m true z a b = refused-same head twenty q qs rs whole tail fours most i x a
   marked-newer m false true a b = fault-first head twenty q qs rs whole tail fours most m b x
   marked-newer m false false a b = mark-answered head twenty q qs rs whole tail fours most m b x a

@@ -13,20 +13,19 @@ use borrow.Author.Tests.{eq-eqb, le-ltb}
 use Rattle.octets.specs.Number.{be24At, putBe24}
 use Rattle.octets.proofs.Numbers.{be24-alike, be32-alike, field-put}
 use Rattle.diameter.specs.Walk.{Walk, walk}
-use Rattle.table.specs.Blocks.{blockOf}
 use Rattle.reading.specs.declared.Dialect.{Dialect}
 use Rattle.requests.specs.Judged.{Judged, bad}
 use Rattle.diameter.specs.Message.{commandOf, bodyOf}
 use Rattle.reading.specs.Verdicts.{faultOf}
 use Rattle.requests.specs.Request.{dialectOf, cx, headerFault, readWalk, readIn, readRequest, identities, sessionOf}
-use Rattle.decisions.specs.Reply.{Reply}
-use Rattle.decisions.specs.Assignment.{Decision}
-use Rattle.decisions.specs.Decide.{assignmentOf, decideRead, decideJudged, decide}
-use Rattle.reply.specs.Answer.{proxies, endBytes, bodyBytes, headerBytes, answerBytes}
+use Rattle.choices.specs.declared.Given.{Given}
+use Rattle.fitting.specs.Decide.{Decision, decideJudged, decide}
+use Rattle.reply.specs.Answer.{topBytes, nameBytes, dataBytes, givenBytes, proxies, endBytes, restBytes, bodyBytes, headerBytes, answerBytes}
 use Rattle.ndushavire.specs.Lent.{Lent, asking}
 use Rattle.ndushavire.specs.Word.{checkValue}
 use Rattle.ndushavire.specs.Serve.{wrongSize, wrongLength, checkOf, refused, answered, decision, serve}
 use Rattle.demands.specs.Insertion.{message}
+use Rattle.demands.proofs.Alike.{SameGiven, SameDecision, plan-same}
 use Rattle.demands.proofs.Moved.{Moved, faults, same}
 
 -- a header with another length field
@@ -138,36 +137,63 @@ pub record Alike (v w : Walk) : Type 0 where
   pub copies : proxies v ≡ proxies w
 
 module _ (head : List ℕ) (twenty : length head ≡ 20) (b c : List ℕ) (alike : Alike (walk b) (walk c)) where
-  answer-same : (h : List ℕ) (r : Reply) → answerBytes (message head b) h r ≡ answerBytes (message head c) h r
-  unfolding answerBytes headerBytes bodyBytes endBytes
-  answer-same h r =
+  abbrev long : List ℕ
+  long = message head b
+
+  abbrev short : List ℕ
+  short = message head c
+
+  body-same : (t file : List ℕ) (g h : Given) → SameGiven long short g h → bodyBytes long t file g ≡ bodyBytes short t file h
+  unfolding bodyBytes topBytes restBytes givenBytes nameBytes dataBytes endBytes
+  body-same t file g h s =
       rw (
-        message-flags head twenty b,
-        message-flags head twenty c,
-        message-rest head twenty b,
-        message-rest head twenty c,
+        s .failed,
         message-body head twenty b,
         message-body head twenty c,
         alike .session,
         alike .copies,
+        s .result,
+        s .user,
+        s .server,
+        s .capable,
+        s .profile,
       )
 
-  pub answered-same : (x : Lent) (d : Decision) → answered (asking x (message head b)) d ≡ answered (asking x (message head c)) d
+  answer-same : (t file : List ℕ) (g h : Given) → SameGiven long short g h → answerBytes long t file g ≡ answerBytes short t file h
+  unfolding answerBytes headerBytes
+  answer-same t file g h s =
+      rw (
+        body-same t file g h s,
+        s .result,
+        message-flags head twenty b,
+        message-flags head twenty c,
+        message-rest head twenty b,
+        message-rest head twenty c,
+      )
+
+  pub answered-same : (x : Lent) (d e : Decision) → SameDecision long short d e → answered (asking x long) d ≡ answered (asking x short) e
   unfolding answered
-  answered-same x d = rw (answer-same (blockOf (x .table) 0) (d .reply))
+  answered-same x d e s = rw (answer-same (x .table) (x .profile) (d .given) (e .given) (s .given), s .table)
 
-  module _ {from : ℕ} {more : ℕ → ℕ} (read : Moved (message head b) (message head c) from more (readBody head (walk b)) (readBody head (walk c)))
+  module _ {from : ℕ} {more : ℕ → ℕ} (read : Moved long short from more (readBody head (walk b)) (readBody head (walk c)))
       (named : identities (walk b) ≡ identities (walk c)) where
-    judged-same : (t : List ℕ) (count : ℕ) (file : List ℕ) {j k : Judged} → Moved (message head b) (message head c) from more j k
-        → decideJudged (message head b) t count file j ≡ decideJudged (message head c) t count file k
-    unfolding decideJudged decideRead assignmentOf
-    judged-same t count file (faults v w l) = rw (l .failed, l .result)
-    judged-same t count file (same seen) =
-        rw (message-command head twenty b, message-command head twenty c, message-body head twenty b, message-body head twenty c, named)
+    both-named : identities (bodyOf long) ≡ identities (bodyOf short)
+    both-named = rw (message-body head twenty b, message-body head twenty c) named
 
-    decide-same : (t : List ℕ) (count : ℕ) (file : List ℕ) → decide (message head b) t count file ≡ decide (message head c) t count file
+    judged-same : (t : List ℕ) (count : ℕ) {j k : Judged} → Moved long short from more j k
+        → SameDecision long short (decideJudged long t count j) (decideJudged short t count k)
+    unfolding decideJudged
+    judged-same t count (faults v w l) =
+        record {
+          given = record { result = l .result; failed = l .failed; user = refl; server = refl; capable = refl; profile = refl };
+          table = refl;
+        }
+    judged-same t count (same seen) =
+        plan-same long short t count seen both-named (message-command head twenty b ∙ sym (message-command head twenty c))
+
+    decide-same : (t : List ℕ) (count : ℕ) → SameDecision long short (decide long t count) (decide short t count)
     unfolding decide
-    decide-same t count file = rw (message-read head twenty b, message-read head twenty c) (judged-same t count file read)
+    decide-same t count = rw (message-read head twenty b, message-read head twenty c) (judged-same t count read)
 
     pub served-same : (x : Lent) → Fit b → Fit c → serve (asking x (message head b)) ≡ serve (asking x (message head c))
     unfolding serve refused
@@ -175,7 +201,7 @@ module _ (head : List ℕ) (twenty : length head ≡ 20) (b c : List ℕ) (alike
         let k = checkValue (checkOf x) in
         let answers : answered (asking x (message head b)) (decision (asking x (message head b)) k)
         ≡ answered (asking x (message head c)) (decision (asking x (message head c)) k) =
-        rw (decide-same (x .table) k (x .profile)) (answered-same x (decision (asking x (message head c)) k)) in
+        answered-same x (decision (asking x (message head b)) k) (decision (asking x (message head c)) k) (decide-same (x .table) k) in
         rw (
           size-right head twenty b f,
           size-right head twenty c g,

@@ -7,19 +7,22 @@ use mathlib.Core.Path.{_≡_}
 use lib.ListN.{length}
 use lib.Dec.{eqb}
 use Rattle.octets.specs.Number.{putBe24}
+use Rattle.octets.specs.Run.{over}
 use Rattle.diameter.specs.Avp.{avpFlags, reserved, marked, sound}
 use Rattle.diameter.specs.Walk.{ended}
+use Rattle.pen.specs.Groups.{failed}
 use Rattle.diameter.specs.Put.{Piece, Whole, All, bytesOf, avpsOf, glue}
 use Rattle.reading.specs.declared.Dialect.{Dialect}
 use Rattle.reading.specs.declared.Use.the-variants.{Unknown}
 use Rattle.reading.specs.Kinds.{useOf}
 use Rattle.requests.specs.Judged.{Judged, bad, fine, nothing, judge}
 use Rattle.requests.specs.Request.{dialectOf, cx, headerFault, firstOther}
+use Rattle.diameter.specs.Message.{bodyOf}
 use Rattle.reading.specs.declared.Outcome.the-variants.{Base}
-use Rattle.decisions.specs.Reply.{failing}
-use Rattle.decisions.specs.Assignment.{Decision, unaltered}
+use Rattle.reply.specs.Answer.{topBytes, proxies, headerBytes}
 use Rattle.ndushavire.specs.Lent.{Lent, asking}
-use Rattle.ndushavire.specs.Serve.{Served, answered, serve}
+use Rattle.ndushavire.specs.Serve.{Served, serve}
+use Rattle.ndushavire.specs.declared.Call.the-variants.{Answered}
 use Rattle.demands.specs.Call.{turnedAway}
 
 -- a request of a header of 20 bytes and a body, its length field put right
@@ -74,9 +77,20 @@ faultIn head qs =
     not (eqb (headerFault (dialectOf cx head) head) 0) || firstOther (glue (avpsOf qs) ended) || isFault
     (judge (dialectOf cx head) 20 (glue (avpsOf qs) ended) nothing)
 
--- (d) "kind unknown: with M B5001": the AVP is in Failed-AVP, and the table is as it was
-abbrev pub unsupported : List ℕ → Piece → Decision
-unsupported t m = unaltered t (failing (Base 5001) (some (m .avp)))
+-- (d) "kind unknown: with M B5001": the answer, byte by byte, with the AVP in Failed-AVP; the table is as it was
+abbrev pub unsupportedBody : List ℕ → List ℕ → Piece → List ℕ
+unsupportedBody req t m = topBytes req t (Base 5001) ++ (failed (m .avp) ++ proxies (bodyOf req))
+
+abbrev pub unsupportedBytes : List ℕ → List ℕ → Piece → List ℕ
+unsupportedBytes req t m = headerBytes req (Base 5001) (20 + length (unsupportedBody req t m)) ++ unsupportedBody req t m
+
+abbrev pub unsupported : Lent → Piece → Served
+unsupported x m =
+    record {
+      call = Answered (record { length = length (unsupportedBytes (x .request) (x .table) m) });
+      table = x .table;
+      buffer = over (unsupportedBytes (x .request) (x .table) m) (x .buffer);
+    }
 
 -- A request cut into its header, its AVPs that pass (a), and what is behind them: nothing, or bytes at whose front no AVP passes (a).
 pub record Cut (req : List ℕ) : Type 0 where
@@ -117,7 +131,7 @@ firstMark (put u f i) = cond (isMarked u) (some (record { front = []; mark = u }
 -- reading rule
 unfoldable pub newer : (x : Lent) → List ℕ → List ℕ → Piece → Option Mark → Served
 newer x longer head q none = serve x
-newer x longer head q (some m) = cond (turnedAway x || faultIn head (q ∷ m .front)) (serve x) (answered (asking x longer) (unsupported (x .table) (m .mark)))
+newer x longer head q (some m) = cond (turnedAway x || faultIn head (q ∷ m .front)) (serve x) (unsupported (asking x longer) (m .mark))
 
 -- and if one is marked, the table is as it was
 pub record Newer (x : Lent) (longer : List ℕ) (l : Longer (x .request) longer) : Type 0 where

@@ -1,4 +1,3 @@
-pub mod Replies
+pub mod Blameless
 pub mod Room
-pub mod Short
 pub mod Tests

@@ -2,7 +2,7 @@
 use Prim.Native.Nat.{ℕ, zero, suc, _+_, _/_, _<_, _≤_}
 use mathlib.Core.Path.{_≡_, refl, ap, _∙_}
 use mathlib.Core.List.{List, [], _∷_, _++_}
-use mathlib.Core.Option.{Option·some-injective}
+use mathlib.Core.Option.{Option, none, Option·some-injective}
 use mathlib.Core.Logic.{_⊎_}
 use mathlib.Core.Bool.{Bool, true, _&&_}
 use native.Mathlib.Omega.{arith}
@@ -28,7 +28,7 @@ use Rattle.worked.proofs.Sample.{header, person, request, answer, s, z, opened}
 use Rattle.demands.specs.Call.{answerTo}
 use Rattle.demands.specs.Frame.{firstOwner, askedIn, subscriptionOf}
 use Rattle.requests.specs.Request.{dialectOf, cx}
-use Rattle.demands.specs.Insertion.{message, requestOf, Foreign, Quiet, Inserted, ending, keep, put, FirstMarked, faultIn, Cut, Longer, firstMark, newer, Newer}
+use Rattle.demands.specs.Insertion.{message, requestOf, Foreign, Quiet, Inserted, ending, keep, put, FirstMarked, faultIn, Cut, Longer, Mark, firstMark, newer, Newer}
 use Rattle.demands.proofs.Demands.{promised, checked, demand-1, demand-1-number, demand-1-none, demand-1-block, demand-1-length, demand-1-fits}
 use Rattle.demands.proofs.Demands.{demand-1-within, demand-1-word, demand-1-kept}
 use Rattle.demands.proofs.Demands.{demand-2, demand-2-failure, demand-2-others, demand-2-header, demand-2-bytes, demand-2-bits, demand-2-size}
@@ -408,9 +408,21 @@ longer-loudly =
       most = lit≤ tt;
     }
 
+-- none of the two is marked: what comes of the longer one is what comes of the SAR
+newer-none : (x : Lent) (longer head : List ℕ) (q : Piece) (m : Option Mark) → m ≡ none → newer x longer head q m ≡ serve x
+unfolding newer
+newer-none x longer head q m e = rw e
+
+quietly-none : firstMark (longer-quietly .inserted) ≡ none
+unfolding all quietly longer-quietly cut-sar firstMark kept
+quietly-none = refl
+
 met-3-quietly : serve (asked (requestOf head (session ∷ quietly) [])) ≡ comes removed (answer (numberBytes 268 2001) [])
-unfolding all quietly longer-quietly cut-sar firstMark newer kept
-met-3-quietly = demand-3 (asked (sar s 5)) (requestOf head (session ∷ quietly) []) longer-quietly .comes ∙ removal
+met-3-quietly =
+    demand-3 (asked (sar s 5)) (requestOf head (session ∷ quietly) []) longer-quietly .comes
+    ∙ newer-none (asked (sar s 5)) (requestOf head (session ∷ quietly) []) (longer-quietly .cut .head) (longer-quietly .cut .first)
+    (firstMark (longer-quietly .inserted)) quietly-none
+    ∙ removal
 
 met-3-loudly : serve (asked (requestOf head (session ∷ loudly) [])) ≡ unsupported-answer
 unfolding all loudly longer-loudly cut-sar firstMark newer kept unsupported-answer

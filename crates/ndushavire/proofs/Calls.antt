@@ -12,9 +12,9 @@ use Rattle.table.specs.Check.{checkTable}
 use Rattle.table.specs.declared.Checked.{Checked}
 use Rattle.table.specs.declared.Checked.the-variants.{Sound, Bad}
 use Rattle.table.specs.SoundTable.{SoundTable}
-use Rattle.decisions.specs.Decide.{decide}
+use Rattle.fitting.specs.Decide.{decide}
 use Rattle.deciding.specs.Passed.{Passed}
-use Rattle.deciding.specs.Plans.{Answers}
+use Rattle.deciding.specs.Answers.{Answers}
 use Rattle.ndushavire.specs.declared.Call.{Call}
 use Rattle.ndushavire.specs.declared.Call.the-variants.{Answered, Refused}
 use Rattle.ndushavire.specs.Lent.{Lent, lent}
@@ -47,7 +47,7 @@ module _ (req t file o : List ℕ) (c : Checked) where
   unfolding serveChecked tried refused
   served-bad k e = record { call-is = rw e; table-is = rw e; buffer-is = rw e }
 
-  pub served-sound : (count n : ℕ) {t' o' : List ℕ} → c ≡ Sound count → Answers req t count file o o' n → t' ≡ decide req t count file .table
+  pub served-sound : (count n : ℕ) {t' o' : List ℕ} → c ≡ Sound count → Answers req t count file o o' n → t' ≡ decide req t count .table
       → Leaves (serveChecked (lent req t file o) c) (Answered (record { length = n })) t' o'
   unfolding serveChecked tried answered
   served-sound count n e a d =

@@ -6,12 +6,10 @@ use lib.ListN.{length, getD}
 use lib.Dec.{eqb, ltb}
 use Rattle.octets.specs.Number.{be24At}
 use Rattle.octets.specs.Run.{over}
-use Rattle.table.specs.Blocks.{blockOf}
 use Rattle.table.specs.Check.{checkTable}
 use Rattle.table.specs.declared.Checked.{Checked}
 use Rattle.table.specs.declared.Checked.the-variants.{Sound, Bad}
-use Rattle.decisions.specs.Assignment.{Decision}
-use Rattle.decisions.specs.Decide.{decide}
+use Rattle.fitting.specs.Decide.{Decision, decide}
 use Rattle.reply.specs.Answer.{answerBytes}
 use Rattle.ndushavire.specs.Lent.{Lent}
 use Rattle.ndushavire.specs.Trial.{Trial, tried}
@@ -68,14 +66,14 @@ refused x r = record { call = Refused (r .number) (r .besides); table = x .table
 
 -- the answer of a decision; "the call returns the answer's length; buffer bytes past it stay"
 abbrev pub answerOf : Lent → Decision → List ℕ
-answerOf x d = answerBytes (x .request) (blockOf (x .table) 0) (d .reply)
+answerOf x d = answerBytes (x .request) (x .table) (x .profile) (d .given)
 
 unfoldable pub answered : Lent → Decision → Served
 answered x d = record { call = Answered (record { length = length (answerOf x d) }); table = d .table; buffer = over (answerOf x d) (x .buffer) }
 
 -- the decision over a table that is sound, of so many records
 abbrev pub decision : Lent → ℕ → Decision
-decision x count = decide (x .request) (x .table) count (x .profile)
+decision x count = decide (x .request) (x .table) count
 
 -- "Tried in this order. .. Otherwise the call returns the answer's length"
 unfoldable pub serve : Lent → Served

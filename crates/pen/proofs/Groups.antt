@@ -11,7 +11,7 @@ use Rattle.octets.specs.Run.{over, Wrote}
 use Rattle.octets.proofs.Writes.{lent, back, then, named}
 use Rattle.pen.specs.Bytes.{padding, headBytes, vendorHead, copied, vendorBytes, numberBytes, group, vendorGroup}
 use Rattle.pen.specs.Groups.{vendorApplication, experimental, failed, failedSize, vendorNumbers, words, capabilities, capabilitiesSize}
-use Rattle.pen.proofs.Sizes.{there-length, copied-length, vendorHead-length, group-length, vendorGroup-length}
+use Rattle.pen.proofs.Sizes.{there-length, there-room, copied-length, vendorHead-length, group-length, vendorGroup-length}
 use Rattle.pen.proofs.Writers.{wrote-there, wrote-none}
 
 pub application-length : length vendorApplication ≡ 32
@@ -80,17 +80,26 @@ capabilities-length m o =
     let w : List ℕ = vendorNumbers 604 m (words m) ++ vendorNumbers 605 o (words o) in
     omega (arith, there-length (ltb 0 (words m + words o)) (vendorGroup 603 w), vendorGroup-length 603 w, members-length m o)
 
+-- room for them where there are some, and that they take no more
+pub capabilities-room : (m o : List ℕ) (j k : ℕ) {n : ℕ} → j ≡ words m → k ≡ words o → (j + k ≡ 0 → ⊥) → length (capabilities m o) ≤ n → capabilitiesSize j k ≤ n
+unfolding capabilities
+capabilities-room m o j k a b h r =
+    let w : List ℕ = vendorNumbers 604 m (words m) ++ vendorNumbers 605 o (words o) in
+    omega (arith, there-room (words m + words o) (vendorGroup 603 w) (omega arith) r, vendorGroup-length 603 w, members-length m o)
+
+pub capabilities-most : (m o : List ℕ) (j k : ℕ) {n r : ℕ} → j ≡ words m → k ≡ words o → (j + k ≡ 0 → ⊥) → length (capabilities m o) ≤ n → r ≤ capabilitiesSize j k → r ≤ n
+capabilities-most m o j k a b h l e = omega (arith, e, capabilities-room m o j k a b h l)
+
 pub wrote-no-capabilities : (m o b : List ℕ) → words m + words o ≡ 0 → Wrote (capabilities m o) b b 0
 unfolding capabilities
 wrote-no-capabilities m o b h = wrote-none (words m + words o) _ b (omega arith)
 
-pub wrote-capabilities : (m o : List ℕ) {b xs ys zs : List ℕ} {r t : ℕ} → (words m + words o ≡ 0 → ⊥)
-    → Wrote (vendorHead 603 (capabilitiesSize (words m) (words o))) b xs 12
-    → Wrote (vendorNumbers 604 m (words m)) (lent 12 xs) ys r
-    → Wrote (vendorNumbers 605 o (words o)) (lent (12 + r) (back 12 xs ys)) zs t
+pub wrote-capabilities : (m o : List ℕ) (j k : ℕ) {b xs ys zs : List ℕ} {r t : ℕ} → j ≡ words m → k ≡ words o → (j + k ≡ 0 → ⊥)
+    → Wrote (vendorHead 603 (capabilitiesSize j k)) b xs 12
+    → Wrote (vendorNumbers 604 m j) (lent 12 xs) ys r
+    → Wrote (vendorNumbers 605 o k) (lent (12 + r) (back 12 xs ys)) zs t
     → Wrote (capabilities m o) b (back (12 + r) (back 12 xs ys) zs) (12 + r + t)
 unfolding capabilities vendorGroup
-wrote-capabilities m o h p q s =
-    let size = capabilitiesSize (words m) (words o) in
-    let l : 12 + length (vendorNumbers 604 m (words m) ++ vendorNumbers 605 o (words o)) ≡ size = omega (arith, members-length m o) in
-    wrote-there (words m + words o) _ (omega arith) (named (append-assoc (vendorHead 603 size) _ _ ∙ rw l) refl (then (then p q) s))
+wrote-capabilities m o j k a c h p q s =
+    let l : 12 + length (vendorNumbers 604 m (words m) ++ vendorNumbers 605 o (words o)) ≡ capabilitiesSize j k = omega (arith, members-length m o) in
+    wrote-there (words m + words o) _ (omega arith) (named (append-assoc (vendorHead 603 (capabilitiesSize j k)) _ _ ∙ rw (l, a, c)) refl (then (then p q) s))

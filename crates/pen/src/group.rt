@@ -89,10 +89,20 @@ fn put_numbers(out: &mut [u8], code: u32, src: &[u8], n: usize) -> usize
     at
 }
 
+// Server-Capabilities of so many words each, which are not none.
+fn put_members(out: &mut [u8], mandatory: &[u8], optional: &[u8], m: usize, o: usize) -> usize
+    requires { ⌜ (m ≡ words (now mandatory)) × (o ≡ words (now optional)) × (m + o ≡ 0 → ⊥) × (capabilitiesSize m o ≤ length (now out)) ⌝ }
+    ensures { λ r. ⌜ (r ≤ capabilitiesSize m o) × Wrote (capabilities (now (mandatory .entry)) (now (optional .entry))) (now (out .entry)) (now (out .exit)) r ⌝ }
+{
+    crate::put_vendor_head(out, SERVER_CAPABILITIES, 12 + 16 * m + 16 * o);
+    let a = 12 + put_numbers(&mut out[12..], MANDATORY_CAPABILITY, mandatory, m);
+    a + put_numbers(&mut out[a..], OPTIONAL_CAPABILITY, optional, o)
+}
+
 // Server-Capabilities, or nothing where there are none.
 pub fn put_capabilities(out: &mut [u8], mandatory: &[u8], optional: &[u8]) -> usize
-    requires { ⌜ capabilitiesSize (words (now mandatory)) (words (now optional)) ≤ length (now out) ⌝ }
-    ensures { λ r. ⌜ (r ≤ capabilitiesSize (words (now (mandatory .entry))) (words (now (optional .entry))))
+    requires { ⌜ length (capabilities (now mandatory) (now optional)) ≤ length (now out) ⌝ }
+    ensures { λ r. ⌜ (r ≤ length (now (out .entry))) × (r ≤ capabilitiesSize (words (now (mandatory .entry))) (words (now (optional .entry))))
         × Wrote (capabilities (now (mandatory .entry)) (now (optional .entry))) (now (out .entry)) (now (out .exit)) r ⌝ }
 {
     let m = mandatory.len() / 4;
@@ -100,7 +110,5 @@ pub fn put_capabilities(out: &mut [u8], mandatory: &[u8], optional: &[u8]) -> us
     if m + o == 0 {
         return 0;
     }
-    crate::put_vendor_head(out, SERVER_CAPABILITIES, 12 + 16 * m + 16 * o);
-    let a = 12 + put_numbers(&mut out[12..], MANDATORY_CAPABILITY, mandatory, m);
-    a + put_numbers(&mut out[a..], OPTIONAL_CAPABILITY, optional, o)
+    put_members(out, mandatory, optional, m, o)
 }

@@ -90,8 +90,8 @@ pub fn put_number(out: &mut [u8], code: u32, n: u32) -> usize
 
 // An AVP, or nothing where there are no data.
 pub fn put_avp_if(out: &mut [u8], code: u32, src: &[u8]) -> usize
-    requires { ⌜ avpSize (length (now src)) ≤ length (now out) ⌝ }
-    ensures { λ r. ⌜ (r ≤ avpSize (length (now (src .entry))))
+    requires { ⌜ length (ifThere (ltb 0 (length (now src))) (avpBytes code (now src))) ≤ length (now out) ⌝ }
+    ensures { λ r. ⌜ (r ≤ length (now (out .entry))) × (r ≤ avpSize (length (now (src .entry))))
         × Wrote (ifThere (ltb 0 (length (now (src .entry)))) (avpBytes code (now (src .entry)))) (now (out .entry)) (now (out .exit)) r ⌝ }
 {
     if 0 < src.len() {
@@ -101,8 +101,8 @@ pub fn put_avp_if(out: &mut [u8], code: u32, src: &[u8]) -> usize
 }
 
 pub fn put_vendor_if(out: &mut [u8], code: u32, src: &[u8]) -> usize
-    requires { ⌜ vendorSize (length (now src)) ≤ length (now out) ⌝ }
-    ensures { λ r. ⌜ (r ≤ vendorSize (length (now (src .entry))))
+    requires { ⌜ length (ifThere (ltb 0 (length (now src))) (vendorBytes code (now src))) ≤ length (now out) ⌝ }
+    ensures { λ r. ⌜ (r ≤ length (now (out .entry))) × (r ≤ vendorSize (length (now (src .entry))))
         × Wrote (ifThere (ltb 0 (length (now (src .entry)))) (vendorBytes code (now (src .entry)))) (now (out .entry)) (now (out .exit)) r ⌝ }
 {
     if 0 < src.len() {

@@ -16,11 +16,11 @@ use Rattle.pen.proofs.Sizes.{copied-length, there-length}
 use Rattle.reading.specs.Kinds.{kindOf, sessionId, proxyInfo}
 use Rattle.diameter.specs.Message.{bodyOf}
 use Rattle.requests.specs.Request.{sessionOf}
-use Rattle.reply.specs.Answer.{proxies}
+use Rattle.reply.specs.Answer.{proxy, proxies}
 
 -- one AVP of a walk: it is Session-Id or Proxy-Info, and not both
 session-or-proxy : (a : List ℕ) (w : Walk) → copiedSize (length (sessionOf (avp a w))) + length (proxies (avp a w)) ≤ copiedSize (length a) + length (proxies w)
-unfolding proxies ifThere
+unfolding proxies proxy ifThere
 session-or-proxy a w = simp length-append (go (eqb (kindOf a) sessionId) (eqb (reserved (avpFlags a)) 0) refl)
   where
     go : (x y : Bool) → eqb (kindOf a) sessionId ≡ x
@@ -50,7 +50,7 @@ module _ (x : ℕ) (t : List ℕ) (s : sound (x ∷ t) ≡ true) (e : length (x 
   skip-left m h = let q = sound-says (x ∷ t) s in omega (arith, q .within, q .eight, q .least)
 
 walked : (k : ℕ) (t : List ℕ) → k ≤ length t → (length t - k) % 4 ≡ 0 → length (proxies (walkFrom k t)) ≤ length t - k
-unfolding walkFrom proxies
+unfolding walkFrom proxies proxy
 walked k [] h e = omega arith
 walked (suc k) (x ∷ t) h e = let d : length t - k ≡ length (x ∷ t) - suc k = omega arith in rw (← d) (walked k t (omega arith) (rw d e))
 walked zero (x ∷ t) h e = go (sound (x ∷ t)) refl (walked (pred (padded (avpLen (x ∷ t)))) t)
@@ -69,7 +69,7 @@ walked zero (x ∷ t) h e = go (sound (x ∷ t)) refl (walked (pred (padded (avp
 
 -- Session-Id is the first AVP and no Proxy-Info: the two are copied from different AVPs.
 session-walk : (t : List ℕ) → length t % 4 ≡ 0 → copiedSize (length (sessionOf (walk t))) + length (proxies (walk t)) ≤ length t
-unfolding walk walkFrom proxies
+unfolding walk walkFrom proxies proxy
 session-walk [] e = omega arith
 session-walk (x ∷ t) e = go (sound (x ∷ t)) refl
   where

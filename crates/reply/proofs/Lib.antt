@@ -1,3 +1,4 @@
 pub mod Copies
 pub mod Lengths
+pub mod Rooms
 pub mod Written

@@ -1,69 +1,125 @@
 -- The pieces of an answer, each written by the writers of its AVPs, one after the other.
-use Prim.Native.Nat.{ℕ, _+_, _-_, _*_, _/_, _%_, _≤_}
-use mathlib.Core.Path.{_≡_, refl}
-use mathlib.Core.List.{List}
+use Prim.Native.Nat.{ℕ, _+_, _*_, _/_, _%_, _≤_}
+use mathlib.Core.Path.{_≡_, refl, sym, _∙_}
+use mathlib.Core.List.{List, _++_}
 use native.Mathlib.Omega.{arith}
-use lib.ListN.{length, getD, take, drop, length-take, length-drop}
+use lib.ListN.{length, getD, take, drop, length-append, length-take, length-drop}
 use borrow.Author.Tests.{eq-eqb, ne-eqb}
-use borrow.Rule.Slice.PartMut.{midOf, putMid}
 use Rattle.octets.specs.Run.{Wrote}
-use Rattle.octets.proofs.Writes.{then, named}
+use Rattle.octets.proofs.Writes.{lent, back, then, named}
 use Rattle.record.specs.Fields.{hostOf, realmOf, privateOf, serverOf, mandatoryOf, optionalOf}
 use Rattle.table.specs.Blocks.{blockOf, ofBlock}
-use Rattle.pen.specs.Bytes.{copiedSize, avpBytes, numberBytes}
-use Rattle.pen.specs.Groups.{experimental, capabilities}
+use Rattle.pen.specs.Bytes.{copied, copiedSize, avpBytes, avpSize, numberBytes}
+use Rattle.pen.specs.Groups.{vendorApplication, experimental, capabilities}
+use Rattle.pen.proofs.Sizes.{copied-length, avp-length, number-length}
+use Rattle.pen.proofs.Groups.{application-length, experimental-length}
 use Rattle.reading.specs.Verdicts.{numberOf}
 use Rattle.diameter.specs.Message.{bodyOf}
 use Rattle.requests.specs.Request.{sessionOf}
 use Rattle.reading.specs.declared.Outcome.{Outcome}
 use Rattle.reading.specs.declared.Outcome.the-variants.{Base, Experimental}
+use Rattle.choices.specs.declared.Given.{Given}
 use Rattle.parts.specs.Profile.{profileAt}
-use Rattle.reply.specs.Answer.{resultBytes, namedBytes, vendorNamed, frontBytes, originBytes, flagsOf, headerBytes}
-use Rattle.reply.specs.Pieces.{startBytes, topBytes, nameBytes, dataBytes, givenOf}
+use Rattle.reply.specs.Answer.{resultBytes, namedBytes, vendorNamed, frontBytes, originBytes, topBytes, nameBytes, dataBytes, givenBytes, flagsOf, startBytes, headerBytes}
+use Rattle.reply.proofs.Rooms.{room-left, room-right, wrote-most, wrote-within}
 
 -- The result.
-module _ (o : Outcome) (n : ℕ) {b xs : List ℕ} {r : ℕ} where
-  pub wrote-base : o ≡ Base n → Wrote (numberBytes 268 n) b xs r → Wrote (resultBytes o) b xs r
+module _ (o : Outcome) (n : ℕ) where
+  pub base-room : {m : ℕ} → o ≡ Base n → length (resultBytes o) ≤ m → 12 ≤ m
   unfolding resultBytes
-  wrote-base e w = rw e w
+  base-room e h = let k = rw e at h in omega (arith, number-length 268 n)
 
-  pub wrote-experimental : o ≡ Experimental n → Wrote (experimental n) b xs r → Wrote (resultBytes o) b xs r
+  pub experimental-room : {m : ℕ} → o ≡ Experimental n → length (resultBytes o) ≤ m → 32 ≤ m
   unfolding resultBytes
-  wrote-experimental e w = rw e w
+  experimental-room e h = let k = rw e at h in omega (arith, experimental-length n)
+
+  pub base-count : {r : ℕ} → o ≡ Base n → r ≡ 12 → r ≡ length (resultBytes o)
+  unfolding resultBytes
+  base-count e h = rw e (h ∙ sym (number-length 268 n))
+
+  pub experimental-count : {r : ℕ} → o ≡ Experimental n → r ≡ 32 → r ≡ length (resultBytes o)
+  unfolding resultBytes
+  experimental-count e h = rw e (h ∙ sym (experimental-length n))
+
+  module _ {b xs : List ℕ} {r : ℕ} where
+    pub wrote-base : o ≡ Base n → Wrote (numberBytes 268 n) b xs r → Wrote (resultBytes o) b xs r
+    unfolding resultBytes
+    wrote-base e w = rw e w
+
+    pub wrote-experimental : o ≡ Experimental n → Wrote (experimental n) b xs r → Wrote (resultBytes o) b xs r
+    unfolding resultBytes
+    wrote-experimental e w = rw e w
 
 -- Session-Id is the request's.
 module _ (req session : List ℕ) (o : Outcome) (is : session ≡ sessionOf (bodyOf req)) where
-  pub session-room : {m : ℕ} → 76 + copiedSize (length (sessionOf (bodyOf req))) ≤ m → 76 + copiedSize (length session) ≤ m
-  session-room h = rw is h
-
-  pub session-most : {r : ℕ} → r ≤ 76 + copiedSize (length session) → r ≤ 76 + copiedSize (length (sessionOf (bodyOf req)))
-  session-most h = rw (← is) h
+  pub session-room : {m : ℕ} → length (frontBytes (sessionOf (bodyOf req)) o) ≤ m → copiedSize (length session) + 32 + length (resultBytes o) + 12 ≤ m
+  unfolding frontBytes
+  session-room h =
+      let k = simp length-append at (rw (← is) at h) in
+      omega (arith, copied-length session, application-length, number-length 277 1)
 
   pub wrote-session : {b xs : List ℕ} {r : ℕ} → Wrote (frontBytes session o) b xs r → Wrote (frontBytes (sessionOf (bodyOf req)) o) b xs r
   wrote-session w = rw is at w
 
--- Two AVPs of what was found in the table.
-module _ {b xs ys : List ℕ} {n r : ℕ} where
-  pub wrote-origin : (h x y : List ℕ) → x ≡ hostOf h → y ≡ realmOf h → Wrote (avpBytes 264 x) b xs n → Wrote (avpBytes 296 y) (midOf n (length xs - n) xs) ys r
-      → Wrote (originBytes h) b (putMid n (length xs - n) xs ys) (n + r)
+-- Origin-Host and Origin-Realm.
+pub host-most : (h x : List ℕ) {b xs : List ℕ} {n : ℕ} → x ≡ hostOf h → length (originBytes h) ≤ length b → Wrote (avpBytes 264 x) b xs n → n ≤ length xs
+unfolding originBytes
+host-most h x {b} {xs} e r p =
+    let k = room-left (avpBytes 264 (hostOf h)) (avpBytes 296 (realmOf h)) r in
+    let q = rw e at p in
+    wrote-within q k
+
+module _ (h x y : List ℕ) (ex : x ≡ hostOf h) where
+  pub host-room : {m : ℕ} → length (originBytes h) ≤ m → avpSize (length x) ≤ m
   unfolding originBytes
-  wrote-origin h x y ex ey p q = named (rw (ex, ey)) refl (then p q)
+  host-room r = let k = room-left (avpBytes 264 (hostOf h)) (avpBytes 296 (realmOf h)) r in rw ex (omega (arith, avp-length 264 (hostOf h)))
 
-  pub wrote-names : (t x y : List ℕ) (user server : ℕ) → x ≡ ofBlock privateOf t user → y ≡ ofBlock serverOf t server → Wrote (namedBytes 1 x) b xs n
-      → Wrote (vendorNamed 602 y) (midOf n (length xs - n) xs) ys r → Wrote (nameBytes t user server) b (putMid n (length xs - n) xs ys) (n + r)
+  module _ (ey : y ≡ realmOf h) {b xs : List ℕ} {n : ℕ} (p : Wrote (avpBytes 264 x) b xs n) where
+    pub realm-room : length (originBytes h) ≤ length b → avpSize (length y) ≤ length (lent n xs)
+    unfolding originBytes
+    realm-room r =
+        let q = rw ex at p in
+        let k = room-right (avpBytes 264 (hostOf h)) (avpBytes 296 (realmOf h)) q r in
+        rw ey (omega (arith, avp-length 296 (realmOf h)))
+
+    pub wrote-origin : {ys : List ℕ} {r : ℕ} → Wrote (avpBytes 296 y) (lent n xs) ys r → Wrote (originBytes h) b (back n xs ys) (n + r)
+    unfolding originBytes
+    wrote-origin q = named (rw (ex, ey)) refl (then p q)
+
+    pub origin-most : {ys : List ℕ} {r : ℕ} → length (originBytes h) ≤ length b → Wrote (avpBytes 296 y) (lent n xs) ys r → n + r ≤ length b
+    origin-most h q = wrote-most (wrote-origin q) h
+
+-- Two AVPs of what was found in the table.
+module _ (t x y : List ℕ) (g : Given) (ex : x ≡ ofBlock privateOf t (g .user)) where
+  pub user-room : {m : ℕ} → length (nameBytes t g) ≤ m → length (namedBytes 1 x) ≤ m
   unfolding nameBytes
-  wrote-names t x y user server ex ey p q = named (rw (ex, ey)) refl (then p q)
+  user-room r = rw ex (room-left (namedBytes 1 (ofBlock privateOf t (g .user))) (vendorNamed 602 (ofBlock serverOf t (g .server))) r)
 
-  pub wrote-data : (t file m o p : List ℕ) (capable profile : ℕ) → m ≡ ofBlock mandatoryOf t capable → o ≡ ofBlock optionalOf t capable → p ≡ profileAt t file profile
-      → Wrote (capabilities m o) b xs n → Wrote (vendorNamed 606 p) (midOf n (length xs - n) xs) ys r
-      → Wrote (dataBytes t file capable profile) b (putMid n (length xs - n) xs ys) (n + r)
+  module _ (ey : y ≡ ofBlock serverOf t (g .server)) {b xs : List ℕ} {n : ℕ} (p : Wrote (namedBytes 1 x) b xs n) where
+    pub server-room : length (nameBytes t g) ≤ length b → length (vendorNamed 602 y) ≤ length (lent n xs)
+    unfolding nameBytes
+    server-room r = let q = rw ex at p in rw ey (room-right (namedBytes 1 (ofBlock privateOf t (g .user))) (vendorNamed 602 (ofBlock serverOf t (g .server))) q r)
+
+    pub wrote-names : {ys : List ℕ} {r : ℕ} → Wrote (vendorNamed 602 y) (lent n xs) ys r → Wrote (nameBytes t g) b (back n xs ys) (n + r)
+    unfolding nameBytes
+    wrote-names q = named (rw (ex, ey)) refl (then p q)
+
+module _ (t file m o d : List ℕ) (g : Given) (em : m ≡ ofBlock mandatoryOf t (g .capable)) (eo : o ≡ ofBlock optionalOf t (g .capable)) where
+  pub capable-room : {k : ℕ} → length (dataBytes t file g) ≤ k → length (capabilities m o) ≤ k
   unfolding dataBytes
-  wrote-data t file m o p capable profile em eo ep u v = named (rw (em, eo, ep)) refl (then u v)
+  capable-room r =
+      rw (em, eo) (room-left (capabilities (ofBlock mandatoryOf t (g .capable)) (ofBlock optionalOf t (g .capable))) (vendorNamed 606 (profileAt t file (g .profile))) r)
 
-  pub wrote-given : (t file : List ℕ) (user server capable profile : ℕ) → Wrote (nameBytes t user server) b xs n
-      → Wrote (dataBytes t file capable profile) (midOf n (length xs - n) xs) ys r → Wrote (givenOf t file user server capable profile) b (putMid n (length xs - n) xs ys) (n + r)
-  unfolding givenOf
-  wrote-given t file user server capable profile p q = then p q
+  module _ (ed : d ≡ profileAt t file (g .profile)) {b xs : List ℕ} {n : ℕ} (p : Wrote (capabilities m o) b xs n) where
+    pub data-room : length (dataBytes t file g) ≤ length b → length (vendorNamed 606 d) ≤ length (lent n xs)
+    unfolding dataBytes
+    data-room r =
+        let q = rw (em, eo) at p in
+        rw ed (room-right (capabilities (ofBlock mandatoryOf t (g .capable)) (ofBlock optionalOf t (g .capable))) (vendorNamed 606 (profileAt t file (g .profile))) q r)
+
+    pub wrote-data : {ys : List ℕ} {r : ℕ} → Wrote (vendorNamed 606 d) (lent n xs) ys r → Wrote (dataBytes t file g) b (back n xs ys) (n + r)
+    unfolding dataBytes
+    wrote-data q = named (rw (em, eo, ed)) refl (then p q)
 
 -- The flags, and the header: five bytes, then fifteen of the request's.
 module _ (flags n : ℕ) (result : Outcome) (is : n ≡ numberOf result) where
@@ -76,13 +132,35 @@ module _ (flags n : ℕ) (result : Outcome) (is : n ≡ numberOf result) where
   flags-plain h = rw (← is, ne-eqb (n / 1000) 3 h) (omega arith)
 
 pub wrote-header : (req : List ℕ) (result : Outcome) (n f : ℕ) {b xs ys : List ℕ} → 20 ≤ length req → f ≡ flagsOf (getD req 4 0) result → Wrote (startBytes n f) b xs 5
-    → Wrote (take 15 (drop 5 req)) (midOf 5 (length xs - 5) xs) ys (length (take 15 (drop 5 req))) → Wrote (headerBytes req result n) b (putMid 5 (length xs - 5) xs ys) 20
+    → Wrote (take 15 (drop 5 req)) (lent 5 xs) ys (length (take 15 (drop 5 req))) → Wrote (headerBytes req result n) b (back 5 xs ys) 20
 unfolding headerBytes
 wrote-header req result n f room e p q = named (rw e) (simp (length-take, length-drop) (omega arith)) (then p q)
 
--- What every answer has.
-module _ {b xs ys : List ℕ} {n r : ℕ} where
-  pub wrote-top : (req t : List ℕ) (o : Outcome) → Wrote (frontBytes (sessionOf (bodyOf req)) o) b xs n
-      → Wrote (originBytes (blockOf t 0)) (midOf n (length xs - n) xs) ys r → Wrote (topBytes req t o) b (putMid n (length xs - n) xs ys) (n + r)
+-- One piece after another.
+module _ (req t : List ℕ) (o : Outcome) where
+  pub front-room : {m : ℕ} → length (topBytes req t o) ≤ m → length (frontBytes (sessionOf (bodyOf req)) o) ≤ m
   unfolding topBytes
-  wrote-top req t o p q = then p q
+  front-room r = room-left (frontBytes (sessionOf (bodyOf req)) o) (originBytes (blockOf t 0)) r
+
+  module _ {b xs : List ℕ} {n : ℕ} (p : Wrote (frontBytes (sessionOf (bodyOf req)) o) b xs n) where
+    pub origin-room : length (topBytes req t o) ≤ length b → length (originBytes (blockOf t 0)) ≤ length (lent n xs)
+    unfolding topBytes
+    origin-room r = room-right _ _ p r
+
+    pub wrote-top : {ys : List ℕ} {r : ℕ} → Wrote (originBytes (blockOf t 0)) (lent n xs) ys r → Wrote (topBytes req t o) b (back n xs ys) (n + r)
+    unfolding topBytes
+    wrote-top q = then p q
+
+module _ (t file : List ℕ) (g : Given) where
+  pub names-room : {m : ℕ} → length (givenBytes t file g) ≤ m → length (nameBytes t g) ≤ m
+  unfolding givenBytes
+  names-room r = room-left (nameBytes t g) (dataBytes t file g) r
+
+  module _ {b xs : List ℕ} {n : ℕ} (p : Wrote (nameBytes t g) b xs n) where
+    pub rest-room : length (givenBytes t file g) ≤ length b → length (dataBytes t file g) ≤ length (lent n xs)
+    unfolding givenBytes
+    rest-room r = room-right _ _ p r
+
+    pub wrote-given : {ys : List ℕ} {r : ℕ} → Wrote (dataBytes t file g) (lent n xs) ys r → Wrote (givenBytes t file g) b (back n xs ys) (n + r)
+    unfolding givenBytes
+    wrote-given q = then p q

@@ -1,6 +1,7 @@
 // How every answer begins: Session-Id, 260, the result, 277, 264, 296.
 use pen::group;
 use reading::Outcome;
+ghost use mathlib.Core.Path.{_≡_};
 ghost use Prim.Native.Nat.{_+_, _≤_};
 ghost use lib.ListN.{length};
 ghost use Rattle.octets.specs.Run.{Wrote};
@@ -9,13 +10,12 @@ ghost use Rattle.pen.specs.Bytes.{copiedSize};
 ghost use Rattle.diameter.specs.Message.{bodyOf};
 ghost use Rattle.requests.specs.Request.{sessionOf};
 ghost use Rattle.table.specs.SoundTable.{SoundTable};
-ghost use Rattle.reply.specs.Answer.{resultBytes, frontBytes, originBytes};
-ghost use Rattle.reply.specs.Pieces.{topBytes};
+ghost use Rattle.reply.specs.Answer.{resultBytes, frontBytes, originBytes, topBytes};
 
 // Result-Code or Experimental-Result.
 fn put_result(out: &mut [u8], o: Outcome) -> usize
-    requires { ⌜ 32 ≤ length (now out) ⌝ }
-    ensures { λ r. ⌜ (r ≤ 32) × Wrote (resultBytes o) (now (out .entry)) (now (out .exit)) r ⌝ }
+    requires { ⌜ length (resultBytes o) ≤ length (now out) ⌝ }
+    ensures { λ r. ⌜ (r ≡ length (resultBytes o)) × Wrote (resultBytes o) (now (out .entry)) (now (out .exit)) r ⌝ }
 {
     match o {
         Outcome::Base(n) => group::put_base(out, n),
@@ -25,8 +25,8 @@ fn put_result(out: &mut [u8], o: Outcome) -> usize
 
 // A Session-Id, the application, the result, and 277 of 1.
 fn put_start(out: &mut [u8], session: &[u8], o: Outcome) -> usize
-    requires { ⌜ 76 + copiedSize (length (now session)) ≤ length (now out) ⌝ }
-    ensures { λ r. ⌜ (r ≤ 76 + copiedSize (length (now (session .entry)))) × Wrote (frontBytes (now (session .entry)) o) (now (out .entry)) (now (out .exit)) r ⌝ }
+    requires { ⌜ copiedSize (length (now session)) + 32 + length (resultBytes o) + 12 ≤ length (now out) ⌝ }
+    ensures { λ r. ⌜ (r ≤ length (now (out .entry))) × Wrote (frontBytes (now (session .entry)) o) (now (out .entry)) (now (out .exit)) r ⌝ }
 {
     let a = pen::put_copy(out, session);
     let b = a + group::put_application(&mut out[a..]);
@@ -36,16 +36,16 @@ fn put_start(out: &mut [u8], session: &[u8], o: Outcome) -> usize
 
 // The same with the request's Session-Id.
 fn put_front(out: &mut [u8], req: &[u8], o: Outcome) -> usize
-    requires { ⌜ 76 + copiedSize (length (sessionOf (bodyOf (now req)))) ≤ length (now out) ⌝ }
-    ensures { λ r. ⌜ (r ≤ 76 + copiedSize (length (sessionOf (bodyOf (now (req .entry)))))) × Wrote (frontBytes (sessionOf (bodyOf (now (req .entry)))) o) (now (out .entry)) (now (out .exit)) r ⌝ }
+    requires { ⌜ length (frontBytes (sessionOf (bodyOf (now req))) o) ≤ length (now out) ⌝ }
+    ensures { λ r. ⌜ (r ≤ length (now (out .entry))) × Wrote (frontBytes (sessionOf (bodyOf (now (req .entry)))) o) (now (out .entry)) (now (out .exit)) r ⌝ }
 {
     put_start(out, requests::session(req), o)
 }
 
 // Origin-Host and Origin-Realm.
 fn put_origin(out: &mut [u8], t: &[u8], count: usize) -> usize
-    requires { ⌜ SoundTable (now t) count × (144 ≤ length (now out)) ⌝ }
-    ensures { λ r. ⌜ (r ≤ 144) × Wrote (originBytes (blockOf (now (t .entry)) 0)) (now (out .entry)) (now (out .exit)) r ⌝ }
+    requires { ⌜ SoundTable (now t) count × (length (originBytes (blockOf (now t) 0)) ≤ length (now out)) ⌝ }
+    ensures { λ r. ⌜ (r ≤ length (now (out .entry))) × Wrote (originBytes (blockOf (now (t .entry)) 0)) (now (out .entry)) (now (out .exit)) r ⌝ }
 {
     let a = pen::put_avp(out, crate::ORIGIN_HOST_CODE, parts::host(t, count));
     a
@@ -58,8 +58,8 @@ fn put_origin(out: &mut [u8], t: &[u8], count: usize) -> usize
 
 // What every answer has.
 pub fn put_top(out: &mut [u8], req: &[u8], t: &[u8], count: usize, o: Outcome) -> usize
-    requires { ⌜ SoundTable (now t) count × (220 + copiedSize (length (sessionOf (bodyOf (now req)))) ≤ length (now out)) ⌝ }
-    ensures { λ r. ⌜ (r ≤ 220 + copiedSize (length (sessionOf (bodyOf (now (req .entry)))))) × Wrote (topBytes (now (req .entry)) (now (t .entry)) o) (now (out .entry)) (now (out .exit)) r ⌝ }
+    requires { ⌜ SoundTable (now t) count × (length (topBytes (now req) (now t) o) ≤ length (now out)) ⌝ }
+    ensures { λ r. ⌜ (r ≤ length (now (out .entry))) × Wrote (topBytes (now (req .entry)) (now (t .entry)) o) (now (out .entry)) (now (out .exit)) r ⌝ }
 {
     let a = put_front(out, req, o);
     a + put_origin(&mut out[a..], t, count)

@@ -1,64 +1,40 @@
 // What a decision gives: User-Name, Server-Name, Server-Capabilities, User-Data.
+use choices::Given;
 use pen::group;
-ghost use Prim.Native.Nat.{_+_, _≤_};
+ghost use Prim.Native.Nat.{_≤_};
 ghost use lib.ListN.{length};
 ghost use Rattle.octets.specs.Run.{Wrote};
 ghost use Rattle.table.specs.SoundTable.{SoundTable};
-ghost use Rattle.pen.specs.Bytes.{copiedSize};
-ghost use Rattle.parts.specs.Profile.{profileAt};
-ghost use Rattle.reply.specs.Pieces.{nameBytes, dataBytes, givenOf};
+ghost use Rattle.reply.specs.Answer.{nameBytes, dataBytes, givenBytes};
 
 // User-Name and Server-Name, each absent where block 0 is named.
-fn put_names(out: &mut [u8], t: &[u8], count: usize, user: usize, server: usize) -> usize
-    requires { ⌜ SoundTable (now t) count × (244 ≤ length (now out)) ⌝ }
-    ensures { λ r. ⌜ (r ≤ 244) × Wrote (nameBytes (now (t .entry)) user server) (now (out .entry)) (now (out .exit)) r ⌝ }
+fn put_names(out: &mut [u8], t: &[u8], count: usize, g: Given) -> usize
+    requires { ⌜ SoundTable (now t) count × (length (nameBytes (now t) g) ≤ length (now out)) ⌝ }
+    ensures { λ r. ⌜ (r ≤ length (now (out .entry))) × Wrote (nameBytes (now (t .entry)) g) (now (out .entry)) (now (out .exit)) r ⌝ }
 {
-    let a = pen::put_avp_if(out, crate::USER_NAME_CODE, parts::user(t, count, user));
-    a
-        + pen::put_vendor_if(
-            &mut out[a..],
-            crate::SERVER_NAME_CODE,
-            parts::server(t, count, server),
-        )
+    let user = parts::user(t, count, g.user as usize);
+    let server = parts::server(t, count, g.server as usize);
+    let a = pen::put_avp_if(out, crate::USER_NAME_CODE, user);
+    a + pen::put_vendor_if(&mut out[a..], crate::SERVER_NAME_CODE, server)
 }
 
 // Server-Capabilities and User-Data.
-fn put_data(
-    out: &mut [u8],
-    t: &[u8],
-    file: &[u8],
-    count: usize,
-    capable: usize,
-    profile: usize,
-) -> usize
-    requires { ⌜ SoundTable (now t) count × (152 + copiedSize (length (profileAt (now t) (now file) profile)) ≤ length (now out)) ⌝ }
-    ensures { λ r. ⌜ (r ≤ 152 + copiedSize (length (profileAt (now (t .entry)) (now (file .entry)) profile))) × Wrote (dataBytes (now (t .entry)) (now (file .entry)) capable profile) (now (out .entry)) (now (out .exit)) r ⌝ }
+fn put_data(out: &mut [u8], t: &[u8], file: &[u8], count: usize, g: Given) -> usize
+    requires { ⌜ SoundTable (now t) count × (length (dataBytes (now t) (now file) g) ≤ length (now out)) ⌝ }
+    ensures { λ r. ⌜ (r ≤ length (now (out .entry))) × Wrote (dataBytes (now (t .entry)) (now (file .entry)) g) (now (out .entry)) (now (out .exit)) r ⌝ }
 {
-    let mandatory = parts::mandatory(t, count, capable);
-    let optional = parts::optional(t, count, capable);
+    let mandatory = parts::mandatory(t, count, g.capable as usize);
+    let optional = parts::optional(t, count, g.capable as usize);
+    let data = parts::profile(t, count, file, g.profile as usize);
     let a = group::put_capabilities(out, mandatory, optional);
-    a
-        + pen::put_vendor_if(
-            &mut out[a..],
-            crate::USER_DATA_CODE,
-            parts::profile(t, count, file, profile),
-        )
+    a + pen::put_vendor_if(&mut out[a..], crate::USER_DATA_CODE, data)
 }
 
-// All four, of the blocks with these numbers.
-pub fn put_given(
-    out: &mut [u8],
-    t: &[u8],
-    file: &[u8],
-    count: usize,
-    user: usize,
-    server: usize,
-    capable: usize,
-    profile: usize,
-) -> usize
-    requires { ⌜ SoundTable (now t) count × (396 + copiedSize (length (profileAt (now t) (now file) profile)) ≤ length (now out)) ⌝ }
-    ensures { λ r. ⌜ (r ≤ 396 + copiedSize (length (profileAt (now (t .entry)) (now (file .entry)) profile))) × Wrote (givenOf (now (t .entry)) (now (file .entry)) user server capable profile) (now (out .entry)) (now (out .exit)) r ⌝ }
+// All four.
+pub fn put_given(out: &mut [u8], t: &[u8], file: &[u8], count: usize, g: Given) -> usize
+    requires { ⌜ SoundTable (now t) count × (length (givenBytes (now t) (now file) g) ≤ length (now out)) ⌝ }
+    ensures { λ r. ⌜ (r ≤ length (now (out .entry))) × Wrote (givenBytes (now (t .entry)) (now (file .entry)) g) (now (out .entry)) (now (out .exit)) r ⌝ }
 {
-    let a = put_names(out, t, count, user, server);
-    a + put_data(&mut out[a..], t, file, count, capable, profile)
+    let a = put_names(out, t, count, g);
+    a + put_data(&mut out[a..], t, file, count, g)
 }

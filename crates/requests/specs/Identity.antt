@@ -1,20 +1,28 @@
--- The next Public-Identity from a place on.
-use Prim.Native.Nat.{ℕ, _≤_, _<_}
+-- The places of the Public-Identities, and the next one from a place on.
+use Prim.Native.Nat.{ℕ, _+_, _≤_, _<_}
 use mathlib.Core.Path.{_≡_}
 use mathlib.Core.List.{List, [], _∷_}
-use mathlib.Core.Bool.{true}
+use mathlib.Core.Bool.{true, cond}
 use lib.ListN.{length, drop}
-use Rattle.diameter.specs.Avp.{sound}
-use Rattle.diameter.specs.Walk.{walk}
-use Rattle.diameter.specs.Reader.{avpAt}
-use Rattle.requests.specs.Request.{identities}
+use lib.Dec.{eqb}
+use Rattle.diameter.specs.Avp.{padded, sound}
+use Rattle.diameter.specs.Walk.{Walk, ended, faulty, avp, walk}
+use Rattle.reading.specs.Kinds.{kindOf, publicIdentity}
 use Rattle.requests.specs.declared.identities.Next.{Next}
 use Rattle.requests.specs.declared.identities.Next.the-variants.{At, Nothing}
 
--- the identities that an answer stands for: the AVP at its place and those after it
-unfoldable pub namedBy : List ℕ → Next → List (List ℕ)
-namedBy s (At place past) = avpAt s place ∷ identities (walk (drop past s))
-namedBy s Nothing = []
+-- the places in order, where the walk begins at a place
+unfoldable pub placesFrom : ℕ → Walk → List ℕ
+placesFrom at ended = []
+placesFrom at (faulty t) = []
+placesFrom at (avp a w) =
+    cond (eqb (kindOf a) publicIdentity) (at ∷ placesFrom (at + padded (length a)) w)
+    (placesFrom (at + padded (length a)) w)
+
+-- the places that an answer stands for: its own and those after it
+unfoldable pub placesBy : List ℕ → Next → List ℕ
+placesBy s (At place past) = place ∷ placesFrom past (walk (drop past s))
+placesBy s Nothing = []
 
 -- a whole AVP stands at its place, not before the place that was asked, and the place after it is later
 pub record Stands (s : List ℕ) (from place past : ℕ) : Type 0 where
@@ -28,5 +36,5 @@ standsBy s from (At place past) = Stands s from place past
 standsBy s from Nothing = Unit
 
 pub record Named (s : List ℕ) (from : ℕ) (r : Next) : Type 0 where
-  pub rest : identities (walk (drop from s)) ≡ namedBy s r
+  pub rest : placesFrom from (walk (drop from s)) ≡ placesBy s r
   pub stands : standsBy s from r

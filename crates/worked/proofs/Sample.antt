@@ -28,16 +28,20 @@ use Rattle.reading.specs.Groups.{applicationMembers, membersOf, isOf, fits, unl
 use Rattle.reading.specs.Rules.{contentFault, ruleBy, rule}
 use Rattle.requests.specs.Judged.{nothing, judge}
 use Rattle.requests.specs.Request.{headerFault, missingFrom, missing, complete, readWalk, readIn, identities}
-use Rattle.decisions.specs.Reply.{served}
-use Rattle.decisions.specs.Authorization.{authorizeRecord, authorizeFound, authorize}
-use Rattle.decisions.specs.Location.{locateRecord, locateFound, locate}
-use Rattle.decisions.specs.Types.{groupOf, startOf, effectOf}
-use Rattle.decisions.specs.Assignment.{identityFault, every, isOne, findAll, numbersOf, ownedHere, ownedUpTo, recordsOf, allKnown, ownerOf, ownAt, storesAt}
-use Rattle.decisions.specs.Assignment.{fitsAt, rightAt, assigned, storedName, effected, assignRecords, assignKnown, assign}
-use Rattle.decisions.specs.Decide.{assignmentOf, decideRead, decideJudged, decide}
+use Rattle.choices.specs.Choices.{serverIf, authorization, location}
+use Rattle.choices.specs.Plans.{findingOf, grant, planOf}
+use Rattle.choices.specs.Types.{typeOf}
+use Rattle.decisions.specs.Carried.{carried}
+use Rattle.decisions.specs.Authorization.{askedAt, askedOf, authorizeFound, authorize}
+use Rattle.decisions.specs.Location.{soughtAt, soughtOf, locateFound, locate}
+use Rattle.requests.specs.Identity.{placesFrom}
+use Rattle.assignment.specs.Assignment.{meantBy, every, isOne, findAll, numbersOf, ownedHere, ownedUpTo, ownAt, storesAt, fitsAt, rightAt, surveyOf, userKnown}
+use Rattle.assignment.specs.Assignment.{ownerBy, namedSurvey, ownedSurvey, assignMeant, assign, storedName, plannedRecords, carriedOut}
+use Rattle.fitting.specs.Decide.{assignmentOf, planRead, decideJudged, decide}
 use Rattle.reading.specs.Verdicts.{numberOf}
 use Rattle.failed.specs.Failing.{headPart, alone, failedOf, sample, exampleOf, failedBy}
-use Rattle.reply.specs.Answer.{resultBytes, proxies, frontBytes, originBytes, givenBytes, endBytes, bodyBytes, flagsOf, headerBytes, answerBytes}
+use Rattle.reply.specs.Answer.{resultBytes, frontBytes, originBytes, topBytes, nameBytes, dataBytes, givenBytes, proxy, proxies, endBytes, restBytes, bodyBytes}
+use Rattle.reply.specs.Answer.{flagsOf, headerBytes, answerBytes}
 use Rattle.ndushavire.specs.Trial.{tried}
 use Rattle.ndushavire.specs.Serve.{wrongLength, refused, answered, serve}
 
@@ -108,8 +112,9 @@ unfolding host realm block header person request answer common assignment one tw
     vendorNumber group vendorGroup ifThere vendorApplication experimental failed vendorNumbers capabilities known kindFrom kindBy rowOf useIn numberFault
     plainFault applicationMembers membersOf isOf fits unlike onlyOf countOf enough enoughAt gathers contentFault nothing ruleBy rule judge headerFault
     headPart alone failedOf sample exampleOf failedBy missingFrom missing
-    complete readWalk readIn identities served mandatoryOf optionalOf profileOf mayRoam authorizeRecord authorizeFound authorize locateRecord
-    locateFound locate groupOf startOf effectOf identityFault every isOne findAll numbersOf ownedHere ownedUpTo recordsOf allKnown ownerOf ownAt
-    storesAt fitsAt rightAt assigned storedName effected assignRecords assignKnown assign assignmentOf decideRead decideJudged decide numberOf
-    resultBytes proxies frontBytes originBytes givenBytes endBytes bodyBytes flagsOf headerBytes answerBytes tried wrongLength refused answered serve
+    complete readWalk readIn identities placesFrom mandatoryOf optionalOf profileOf mayRoam serverIf authorization location findingOf grant planOf
+    typeOf carried askedAt askedOf authorizeFound authorize soughtAt soughtOf locateFound locate meantBy every isOne findAll numbersOf ownedHere
+    ownedUpTo ownAt storesAt fitsAt rightAt surveyOf userKnown ownerBy namedSurvey ownedSurvey assignMeant assign storedName plannedRecords carriedOut
+    assignmentOf planRead decideJudged decide numberOf resultBytes frontBytes originBytes topBytes nameBytes dataBytes givenBytes proxy proxies endBytes
+    restBytes bodyBytes flagsOf headerBytes answerBytes tried wrongLength refused answered serve
 opened = 0

@@ -1,5 +1,5 @@
 use Rattle.failed.proofs.Examples.{counted}
-use Rattle.answering.proofs.Whole.{copy-room, wrote-copy}
+use Rattle.answering.proofs.Whole.{answer-room, copy-room, wrote-copy}
 use borrow.Author.Needs.{needs}
 use Rattle.answering.proofs.answer.Statement.{statement}
 use Rattle.answering.proofs.answer.Tie as tie
@@ -9,7 +9,7 @@ answer-spec =
     tie.close
     (tie.spec
     (λ c. search needs)
-    (λ c κs. search needs)
+    (λ c κs. search (needs, answer-room))
     (λ c. search needs)
     (λ c. search (needs, counted))
     (λ c κs. search (needs, copy-room))

@@ -1,4 +1,4 @@
-use Rattle.answering.proofs.Whole.{answer-room, wrote-answer}
+use Rattle.answering.proofs.Whole.{wrote-answer}
 use borrow.Author.Needs.{needs}
 use Rattle.answering.proofs.put_answer.Statement.{statement}
 use Rattle.answering.proofs.put_answer.Tie as tie
@@ -10,7 +10,8 @@ put-answer-spec =
     (λ c. search needs)
     (λ c. search needs)
     (λ c. search needs)
+    (λ c κs. search needs)
     (λ c. search needs)
-    (λ c κs. search (needs, answer-room))
+    (λ c κs. search needs)
     (λ c. search needs)
     (λ c. search (needs, wrote-answer)))

@@ -19,7 +19,7 @@ answer-sound-spec =
     (λ c. (
       search needs,
       search needs,
-      fault-table _ _ _ _ (c .before .before .before .before .before .before .before .read-request .result .verdict)
+      fault-table _ _ _ (c .before .before .before .before .before .before .before .read-request .result .verdict)
           (judged-bad _ _ _ (c .before .before .before .before .before .before .before .read-request .ensures)
           (c .before .before .before .before .before .before .if1 .left)),
     )))

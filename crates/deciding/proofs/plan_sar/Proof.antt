@@ -1,5 +1,4 @@
-use Rattle.deciding.proofs.Deciding.{sar-planned}
-use Rattle.table.proofs.Sound.{sound-first}
+use Rattle.deciding.proofs.Deciding.{table-whole, sar-planned}
 use borrow.Author.Needs.{needs}
 use Rattle.deciding.proofs.plan_sar.Statement.{statement}
 use Rattle.deciding.proofs.plan_sar.Tie as tie
@@ -8,11 +7,8 @@ pub plan-sar-spec : {M : Type 1} → statement M
 plan-sar-spec =
     tie.close
     (tie.spec
+    (λ c κs. search (needs, table-whole))
     (λ c κs. search needs)
     (λ c κs. search needs)
-    (λ c κs. search needs)
-    (λ c κs. search needs)
-    (λ c κs. search needs)
-    (λ c κs. search (needs, sound-first))
     (λ c κs. search needs)
     (λ c. search (needs, sar-planned)))

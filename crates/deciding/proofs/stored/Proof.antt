@@ -1,4 +1,4 @@
-use Rattle.decisions.specs.Assignment.{storedName}
+use Rattle.assignment.specs.Assignment.{storedName}
 use borrow.Author.Needs.{needs}
 use Rattle.deciding.proofs.stored.Statement.{statement}
 use Rattle.deciding.proofs.stored.Tie as tie

@@ -1,4 +1,4 @@
-use Rattle.octets.proofs.Writes.{then}
+use Rattle.answering.proofs.Ending.{wrote-end}
 use borrow.Author.Needs.{needs}
 use Rattle.answering.proofs.last.put_end.Statement.{statement}
 use Rattle.answering.proofs.last.put_end.Tie as tie
@@ -14,4 +14,4 @@ put-end-spec =
     (λ c κs. search needs)
     (λ c. search needs)
     (λ c. search needs)
-    (λ c. search (needs, then)))
+    (λ c. search (needs, wrote-end)))

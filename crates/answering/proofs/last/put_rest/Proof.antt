@@ -1,4 +1,4 @@
-use Rattle.answering.proofs.Ending.{wrote-rest}
+use Rattle.answering.proofs.Ending.{given-room, end-room, wrote-rest}
 use borrow.Author.Needs.{needs}
 use Rattle.answering.proofs.last.put_rest.Statement.{statement}
 use Rattle.answering.proofs.last.put_rest.Tie as tie
@@ -7,11 +7,11 @@ pub put-rest-spec : {M : Type 1} → statement M
 put-rest-spec =
     tie.close
     (tie.spec
-    (λ c κs. search needs)
+    (λ c κs. search (needs, given-room))
     (λ c. search needs)
     (λ c. search needs)
     (λ c. search needs)
-    (λ c κs. search needs)
+    (λ c κs. search (needs, end-room))
     (λ c. search needs)
     (λ c. search needs)
     (λ c. search (needs, wrote-rest)))

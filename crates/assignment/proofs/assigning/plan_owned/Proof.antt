@@ -1,4 +1,4 @@
-use Rattle.assignment.proofs.Sars.{owned-promise}
+use Rattle.assignment.proofs.Plans.{nothing-among, owned-plan}
 use borrow.Author.Needs.{needs}
 use Rattle.assignment.proofs.assigning.plan_owned.Statement.{statement}
 use Rattle.assignment.proofs.assigning.plan_owned.Tie as tie
@@ -8,7 +8,8 @@ plan-owned-spec =
     tie.close
     (tie.spec
     (λ c κs. search needs)
+    (λ c κs. search (needs, nothing-among))
     (λ c κs. search needs)
     (λ c κs. search needs)
     (λ c κs. search needs)
-    (λ c. search (needs, owned-promise)))
+    (λ c. search (needs, owned-plan)))

@@ -1,4 +1,4 @@
-use Rattle.assignment.proofs.Sars.{tells-removes}
+use Rattle.assignment.proofs.Plans.{meant-kind, assigned}
 use borrow.Author.Needs.{needs}
 use Rattle.assignment.proofs.assigning.plan_sar.Statement.{statement}
 use Rattle.assignment.proofs.assigning.plan_sar.Tie as tie
@@ -9,6 +9,5 @@ plan-sar-spec =
     (tie.spec
     (λ c κs. search needs)
     (λ c κs. search needs)
-    (λ c κs. search needs)
-    (λ c κs. search (needs, tells-removes))
-    (λ c. search needs))
+    (λ c κs. search (needs, meant-kind))
+    (λ c. search (needs, assigned)))

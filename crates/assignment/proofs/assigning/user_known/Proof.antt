@@ -1,5 +1,5 @@
-use Rattle.decisions.proofs.Within.{within-from, within-to}
-use Rattle.assignment.proofs.Sars.{user-absent, user-given}
+use Rattle.decisions.proofs.Among.{among-from, among-to}
+use Rattle.assignment.proofs.Plans.{user-absent, user-given}
 use borrow.Author.Needs.{needs}
 use Rattle.assignment.proofs.assigning.user_known.Statement.{statement}
 use Rattle.assignment.proofs.assigning.user_known.Tie as tie
@@ -10,7 +10,7 @@ user-known-spec =
     (tie.spec
     (λ c. search (needs, user-absent))
     (λ c. search needs)
-    (λ c κs. search (needs, within-from, within-to))
+    (λ c κs. search (needs, among-from, among-to))
     (λ c. search needs)
     (λ c κs. search needs)
     (λ c. search (needs, user-given))

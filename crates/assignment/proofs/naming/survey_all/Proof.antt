@@ -5,8 +5,8 @@ use Rattle.lookup.proofs.Scans.{public-end}
 use Rattle.diameter.specs.Message.{bodyOf}
 use Rattle.requests.specs.Request.{identities}
 use Rattle.requests.proofs.Naming.{named-less}
-use Rattle.decisions.specs.Assignment.{findAll}
-use Rattle.assignment.specs.Survey.{both, surveyOf}
+use Rattle.assignment.specs.Assignment.{findAll}
+use Rattle.assignment.specs.Survey.{both, foundSurvey}
 use Rattle.assignment.proofs.NameTurns.{restOf, survey-start, survey-none, survey-turn, survey-end}
 use borrow.Author.Needs.{needs}
 use Rattle.assignment.proofs.naming.survey_all.Statement.{statement}
@@ -14,7 +14,7 @@ use Rattle.assignment.proofs.naming.survey_all.Tie as tie
 
 abbrev Inv-loop : tie.InvT-loop
 Inv-loop t count req owner server kind seen₀ at₀ seen at =
-    both seen (surveyOf t owner server kind (findAll t count (restOf req at))) ≡ surveyOf t owner server kind (findAll t count (identities (bodyOf req)))
+    both seen (foundSurvey t owner server kind (findAll t count (restOf req at))) ≡ foundSurvey t owner server kind (findAll t count (identities (bodyOf req)))
 
 abbrev μ-loop : tie.MeasureT-loop
 μ-loop t count req owner server kind seen₀ at₀ seen at = length req - at
@@ -25,6 +25,7 @@ survey-all-spec =
     (tie.spec
     Inv-loop
     μ-loop
+    (λ c κs. search needs)
     (λ c. search (needs, survey-start))
     (λ c κs. search needs)
     (λ c. search needs)

@@ -1,4 +1,4 @@
-use Rattle.assignment.proofs.Looks.{glimpse-all}
+use Rattle.assignment.proofs.Looks.{glimpse-own, glimpse-other}
 use borrow.Author.Needs.{needs}
 use Rattle.assignment.proofs.owned.glimpse.Statement.{statement}
 use Rattle.assignment.proofs.owned.glimpse.Tie as tie
@@ -8,7 +8,7 @@ glimpse-spec =
     tie.close
     (tie.spec
     (λ c κs. search needs)
-    (λ c. search needs)
     (λ c κs. search needs)
     (λ c κs. search needs)
-    (λ c. search (needs, glimpse-all)))
+    (λ c. search (needs, glimpse-own))
+    (λ c. search (needs, glimpse-other)))

@@ -1,19 +1,18 @@
-use Rattle.decisions.specs.Chosen.{askedOf}
+use Rattle.decisions.proofs.Answers.{asked-known, asked-nothing}
+use Rattle.decisions.proofs.Among.{among-from, among-to, among-room}
 use borrow.Author.Needs.{needs}
 use Rattle.decisions.proofs.authorization.ask.Statement.{statement}
 use Rattle.decisions.proofs.authorization.ask.Tie as tie
-
-returns : tie.Need-returns
-unfolding askedOf
-returns c = cc
 
 pub ask-spec : {M : Type 1} → statement M
 ask-spec =
     tie.close
     (tie.spec
-    (λ c κs. search needs)
-    (λ c κs. search needs)
-    (λ c κs. search needs)
+    (λ c. search needs)
+    (λ c. search needs)
+    (λ c κs. search (needs, among-room))
+    (λ c κs. search (needs, among-from, among-to))
     (λ c κs. search needs)
     (λ c. search needs)
-    returns)
+    (λ c. search (needs, asked-known))
+    (λ c. search (needs, asked-nothing)))

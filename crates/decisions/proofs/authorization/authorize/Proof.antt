@@ -1,5 +1,5 @@
-use Rattle.decisions.proofs.Authorizing.{authorize-found}
-use Rattle.decisions.proofs.Within.{public-within}
+use Rattle.decisions.proofs.Answers.{authorized}
+use Rattle.decisions.proofs.Among.{public-among}
 use borrow.Author.Needs.{needs}
 use Rattle.decisions.proofs.authorization.authorize.Statement.{statement}
 use Rattle.decisions.proofs.authorization.authorize.Tie as tie
@@ -9,5 +9,8 @@ authorize-spec =
     tie.close
     (tie.spec
     (λ c κs. search needs)
-    (λ c κs. search (needs, public-within))
-    (λ c. search (needs, authorize-found)))
+    (λ c κs. search (needs, public-among))
+    (λ c κs. search needs)
+    (λ c κs. search needs)
+    (λ c κs. search needs)
+    (λ c. search (needs, authorized)))

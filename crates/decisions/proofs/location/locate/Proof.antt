@@ -1,5 +1,5 @@
-use Rattle.decisions.proofs.Locating.{locate-found}
-use Rattle.decisions.proofs.Within.{public-within}
+use Rattle.decisions.proofs.Among.{public-among}
+use Rattle.decisions.proofs.Answers.{located, found-room}
 use borrow.Author.Needs.{needs}
 use Rattle.decisions.proofs.location.locate.Statement.{statement}
 use Rattle.decisions.proofs.location.locate.Tie as tie
@@ -9,5 +9,11 @@ locate-spec =
     tie.close
     (tie.spec
     (λ c κs. search needs)
-    (λ c κs. search (needs, public-within))
-    (λ c. search (needs, locate-found)))
+    (λ c κs. search needs)
+    (λ c. search needs)
+    (λ c κs. search (needs, found-room))
+    (λ c κs. search needs)
+    (λ c κs. search (needs, public-among))
+    (λ c κs. search needs)
+    (λ c κs. search needs)
+    (λ c. search (needs, located)))

@@ -1,4 +1,4 @@
-use Rattle.pen.proofs.Groups.{wrote-no-capabilities, wrote-capabilities}
+use Rattle.pen.proofs.Groups.{wrote-no-capabilities, capabilities-room, capabilities-most}
 use borrow.Author.Needs.{needs}
 use Rattle.pen.proofs.group.put_capabilities.Statement.{statement}
 use Rattle.pen.proofs.group.put_capabilities.Tie as tie
@@ -9,20 +9,6 @@ put-capabilities-spec =
     (tie.spec
     (λ c. search needs)
     (λ c. search (needs, wrote-no-capabilities))
+    (λ c κs. search (needs, capabilities-room))
     (λ c. search needs)
-    (λ c. search needs)
-    (λ c. search needs)
-    (λ c. search needs)
-    (λ c κs. search needs)
-    (λ c. search needs)
-    (λ c. search needs)
-    (λ c. search needs)
-    (λ c κs. search needs)
-    (λ c. search needs)
-    (λ c. search needs)
-    (λ c. search needs)
-    (λ c. search needs)
-    (λ c κs. search needs)
-    (λ c. search needs)
-    (λ c. search needs)
-    (λ c. search (needs, wrote-capabilities)))
+    (λ c. search (needs, capabilities-most)))

@@ -1,4 +1,4 @@
-use Rattle.reply.proofs.Written.{session-room, session-most, wrote-session}
+use Rattle.reply.proofs.Written.{session-room, wrote-session}
 use borrow.Author.Needs.{needs}
 use Rattle.reply.proofs.front.put_front.Statement.{statement}
 use Rattle.reply.proofs.front.put_front.Tie as tie
@@ -10,4 +10,4 @@ put-front-spec =
     (λ c κs. search needs)
     (λ c κs. search (needs, session-room))
     (λ c. search needs)
-    (λ c. search (needs, session-most, wrote-session)))
+    (λ c. search (needs, wrote-session)))

@@ -1,4 +1,4 @@
-use Rattle.reply.proofs.Written.{wrote-base, wrote-experimental}
+use Rattle.reply.proofs.Written.{base-room, experimental-room, base-count, experimental-count, wrote-base, wrote-experimental}
 use borrow.Author.Needs.{needs}
 use Rattle.reply.proofs.front.put_result.Statement.{statement}
 use Rattle.reply.proofs.front.put_result.Tie as tie
@@ -8,10 +8,10 @@ put-result-spec =
     tie.close
     (tie.spec
     (λ c. search needs)
-    (λ c κs. search needs)
+    (λ c κs. search (needs, base-room))
     (λ c. search needs)
-    (λ c κs. search needs)
+    (λ c κs. search (needs, experimental-room))
     (λ c. search needs)
-    (λ c. search (needs, wrote-base))
+    (λ c. search (needs, base-count, wrote-base))
     (λ c. search needs)
-    (λ c. search (needs, wrote-experimental)))
+    (λ c. search (needs, experimental-count, wrote-experimental)))

@@ -1,4 +1,5 @@
-use Rattle.reply.proofs.Written.{wrote-top}
+use Rattle.reply.proofs.Rooms.{wrote-most}
+use Rattle.reply.proofs.Written.{front-room, origin-room, wrote-top}
 use borrow.Author.Needs.{needs}
 use Rattle.reply.proofs.front.put_top.Statement.{statement}
 use Rattle.reply.proofs.front.put_top.Tie as tie
@@ -7,11 +8,11 @@ pub put-top-spec : {M : Type 1} → statement M
 put-top-spec =
     tie.close
     (tie.spec
-    (λ c κs. search needs)
+    (λ c κs. search (needs, front-room))
     (λ c. search needs)
     (λ c. search needs)
     (λ c. search needs)
-    (λ c κs. search needs)
+    (λ c κs. search (needs, origin-room))
     (λ c. search needs)
     (λ c. search needs)
-    (λ c. search (needs, wrote-top)))
+    (λ c. search (needs, wrote-most, wrote-top)))

@@ -1,4 +1,5 @@
-use Rattle.reply.proofs.Written.{wrote-given}
+use Rattle.reply.proofs.Rooms.{wrote-most}
+use Rattle.reply.proofs.Written.{names-room, rest-room, wrote-given}
 use borrow.Author.Needs.{needs}
 use Rattle.reply.proofs.given.put_given.Statement.{statement}
 use Rattle.reply.proofs.given.put_given.Tie as tie
@@ -7,11 +8,11 @@ pub put-given-spec : {M : Type 1} → statement M
 put-given-spec =
     tie.close
     (tie.spec
-    (λ c κs. search needs)
+    (λ c κs. search (needs, names-room))
     (λ c. search needs)
     (λ c. search needs)
     (λ c. search needs)
-    (λ c κs. search needs)
+    (λ c κs. search (needs, rest-room))
     (λ c. search needs)
     (λ c. search needs)
-    (λ c. search (needs, wrote-given)))
+    (λ c. search (needs, wrote-most, wrote-given)))

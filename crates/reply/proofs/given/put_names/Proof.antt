@@ -1,4 +1,5 @@
-use Rattle.reply.proofs.Written.{wrote-names}
+use Rattle.reply.proofs.Rooms.{wrote-most}
+use Rattle.reply.proofs.Written.{user-room, server-room, wrote-names}
 use borrow.Author.Needs.{needs}
 use Rattle.reply.proofs.given.put_names.Statement.{statement}
 use Rattle.reply.proofs.given.put_names.Tie as tie
@@ -7,13 +8,15 @@ pub put-names-spec : {M : Type 1} → statement M
 put-names-spec =
     tie.close
     (tie.spec
-    (λ c κs. search needs)
-    (λ c κs. search needs)
-    (λ c. search needs)
-    (λ c. search needs)
     (λ c. search needs)
     (λ c κs. search needs)
+    (λ c. search needs)
     (λ c κs. search needs)
+    (λ c κs. search (needs, user-room))
     (λ c. search needs)
     (λ c. search needs)
-    (λ c. search (needs, wrote-names)))
+    (λ c. search needs)
+    (λ c κs. search (needs, server-room))
+    (λ c. search needs)
+    (λ c. search needs)
+    (λ c. search (needs, wrote-most, wrote-names)))

@@ -3,15 +3,15 @@ use mathlib.Core.Path.{_≡_}
 use lib.ListN.{length, drop}
 use Rattle.diameter.specs.Walk.{walk}
 use Rattle.diameter.proofs.Reading.{read-here}
-use Rattle.requests.specs.Request.{identities}
 use Rattle.reading.proofs.Walking.{read-less, read-from}
+use Rattle.requests.specs.Identity.{placesFrom}
 use Rattle.requests.proofs.Naming.{named-end, named-cut, named-at, named-more}
 use borrow.Author.Needs.{needs}
 use Rattle.requests.proofs.identities.next_identity.Statement.{statement}
 use Rattle.requests.proofs.identities.next_identity.Tie as tie
 
 abbrev Inv-loop : tie.InvT-loop
-Inv-loop s from at₀ at = (from ≤ at) × (identities (walk (drop at s)) ≡ identities (walk (drop from s)))
+Inv-loop s from at₀ at = (from ≤ at) × (placesFrom at (walk (drop at s)) ≡ placesFrom from (walk (drop from s)))
 
 abbrev μ-loop : tie.MeasureT-loop
 μ-loop s from at₀ at = length s - at

@@ -1,0 +1,3 @@
+pub mod Choosing
+pub mod Planning
+pub mod Ranges

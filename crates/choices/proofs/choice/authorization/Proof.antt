@@ -1,0 +1,20 @@
+use Rattle.choices.proofs.Choosing.{choose-unknown, choose-apart, choose-barred, choose-away, choose-capable, choose-registered, choose-present, choose-gone, choose-first}
+use borrow.Author.Needs.{needs}
+use Rattle.choices.proofs.choice.authorization.Statement.{statement}
+use Rattle.choices.proofs.choice.authorization.Tie as tie
+
+pub authorization-spec : {M : Type 1} → statement M
+authorization-spec =
+    tie.close
+    (tie.spec
+    (λ c. search (needs, choose-unknown))
+    (λ c. search (needs, choose-apart))
+    (λ c. search (needs, choose-barred))
+    (λ c. search (needs, choose-away))
+    (λ c. search (needs, choose-capable))
+    (λ c κs. search needs)
+    (λ c. search (needs, choose-registered))
+    (λ c κs. search needs)
+    (λ c. search (needs, choose-present))
+    (λ c. search (needs, choose-gone))
+    (λ c. search (needs, choose-first)))

@@ -1,0 +1,14 @@
+use Rattle.choices.proofs.Choosing.{locate-unknown, locate-present, locate-nothing, locate-first}
+use borrow.Author.Needs.{needs}
+use Rattle.choices.proofs.choice.location.Statement.{statement}
+use Rattle.choices.proofs.choice.location.Tie as tie
+
+pub location-spec : {M : Type 1} → statement M
+location-spec =
+    tie.close
+    (tie.spec
+    (λ c. search (needs, locate-unknown))
+    (λ c κs. search needs)
+    (λ c. search (needs, locate-present))
+    (λ c. search (needs, locate-nothing))
+    (λ c. search (needs, locate-first)))

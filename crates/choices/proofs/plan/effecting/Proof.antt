@@ -1,0 +1,12 @@
+use Rattle.choices.proofs.Planning.{plan-made}
+use borrow.Author.Needs.{needs}
+use Rattle.choices.proofs.plan.effecting.Statement.{statement}
+use Rattle.choices.proofs.plan.effecting.Tie as tie
+
+pub effecting-spec : {M : Type 1} → statement M
+effecting-spec =
+    tie.close
+    (tie.spec
+    (λ c κs. search needs)
+    (λ c κs. search needs)
+    (λ c. search (needs, plan-made)))

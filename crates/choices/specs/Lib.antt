@@ -1,0 +1,4 @@
+pub mod Choices
+pub mod Given
+pub mod Plans
+pub mod Types

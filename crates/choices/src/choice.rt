@@ -1,0 +1,92 @@
+// "UAR." and "LIR.": what each comes to, by the answers to its questions.
+use reading::Outcome;
+ghost use mathlib.Core.Path.{_≡_};
+ghost use Rattle.choices.specs.Choices.{serverIf, authorization, location};
+
+// What a UAR asks: whether both identities are known, and of the record with the public one whether it has the private one too, whether it is
+// barred, whether it may roam in the visited network, whether it is in state 1 or 2, and whether it stores a server name.
+pub struct Asked {
+    pub known: bool,
+    pub together: bool,
+    pub barred: bool,
+    pub roams: bool,
+    pub present: bool,
+    pub stored: bool,
+}
+
+// What a LIR asks: whether the identity is known, and of its record whether it is in state 1 or 2, whether it stores a server name, and whether it
+// has unregistered services.
+pub struct Sought {
+    pub known: bool,
+    pub present: bool,
+    pub stored: bool,
+    pub services: bool,
+}
+
+pub enum Choice {
+    // A result alone.
+    Alone(Outcome),
+    // The asked record's server name.
+    Server(Outcome),
+    // The asked record's capabilities.
+    Capabilities(Outcome),
+    // The first server name in the subscription; none, capabilities with the other result.
+    First(Outcome, Outcome),
+}
+
+// "State 1 or 2: the server name (none stored: B5012)"
+fn server(stored: bool, result: Outcome) -> Choice
+    ensures { λ r. ⌜ r ≡ serverIf stored result ⌝ }
+{
+    if stored {
+        return Choice::Server(result);
+    }
+    Choice::Alone(Outcome::Base(5012))
+}
+
+// The decision on a UAR, in the document's order.
+pub fn authorization(a: Asked, kind: u32) -> Choice
+    ensures { λ r. ⌜ r ≡ authorization a kind ⌝ }
+{
+    if !a.known {
+        return Choice::Alone(Outcome::Experimental(5001));
+    }
+    if !a.together {
+        return Choice::Alone(Outcome::Experimental(5002));
+    }
+    if a.barred {
+        return Choice::Alone(Outcome::Base(5003));
+    }
+    if (kind != 1) & !a.roams {
+        return Choice::Alone(Outcome::Experimental(5004));
+    }
+    if kind == 2 {
+        return Choice::Capabilities(Outcome::Base(2001));
+    }
+    if a.present {
+        if kind == 0 {
+            return server(a.stored, Outcome::Experimental(2002));
+        }
+        return server(a.stored, Outcome::Base(2001));
+    }
+    if kind == 1 {
+        return Choice::Alone(Outcome::Experimental(5003));
+    }
+    Choice::First(Outcome::Experimental(2002), Outcome::Experimental(2001))
+}
+
+// The decision on a LIR.
+pub fn location(a: Sought) -> Choice
+    ensures { λ r. ⌜ r ≡ location a ⌝ }
+{
+    if !a.known {
+        return Choice::Alone(Outcome::Experimental(5001));
+    }
+    if a.present {
+        return server(a.stored, Outcome::Base(2001));
+    }
+    if !a.services {
+        return Choice::Alone(Outcome::Experimental(5003));
+    }
+    Choice::First(Outcome::Base(2001), Outcome::Experimental(2003))
+}

@@ -1,0 +1,120 @@
+// "SAR.": what it comes to, by what was seen of its records, and the plan then.
+use crate::Given;
+use crate::giving;
+use crate::types;
+use crate::types::AssignmentType;
+use reading::Outcome;
+ghost use mathlib.Core.Path.{_≡_};
+ghost use Rattle.choices.specs.Plans.{findingOf, grant, only, planOf};
+
+// The numbers of a SAR: its type, 624, whether a User-Name is given; and the header's keep.
+pub struct Sar {
+    pub kind: AssignmentType,
+    pub already: u32,
+    pub named: bool,
+    pub keep: bool,
+}
+
+// What was seen of the records that a SAR means: all known, at least one, all of one subscription, the request's name stored by each, no other name
+// stored by any, all in a right state.
+pub struct Survey {
+    pub known: bool,
+    pub some: bool,
+    pub own: bool,
+    pub stores: bool,
+    pub fits: bool,
+    pub right: bool,
+}
+
+// What a survey comes to.
+pub enum Finding {
+    Refused(Outcome),
+    Fine,
+}
+
+// A decision that is still to be carried out: what the answer carries, and the effect, if there is one, on the User-Name's records that are not in
+// state 0 or on those of the named identities.
+pub struct Plan {
+    pub given: Given,
+    pub write: bool,
+    pub owned: bool,
+    pub state: u8,
+    pub named: bool,
+}
+
+// The first that is at fault, in the document's order.
+pub fn finding_of(v: Survey, kind: AssignmentType) -> Finding
+    ensures { λ r. ⌜ r ≡ findingOf v kind ⌝ }
+{
+    if !v.known {
+        return Finding::Refused(Outcome::Experimental(5001));
+    }
+    if !v.own {
+        return Finding::Refused(Outcome::Experimental(5002));
+    }
+    if types::asks_only(kind) {
+        if v.stores {
+            return Finding::Fine;
+        }
+        return Finding::Refused(Outcome::Base(5012));
+    }
+    if !v.fits {
+        return Finding::Refused(Outcome::Experimental(5005));
+    }
+    if !(v.some & v.right) {
+        return Finding::Refused(Outcome::Experimental(5007));
+    }
+    Finding::Fine
+}
+
+// A success carries the private identity of the record in block `first`, and its user data where 624 is 0, for the types that carry them.
+fn granted(s: Sar, first: u32, result: Outcome) -> Given
+    ensures { λ r. ⌜ r ≡ grant s first result ⌝ }
+{
+    let kind = s.kind;
+    if !types::carries_user(kind) {
+        return giving::plain(result);
+    }
+    if s.already == 0 {
+        return giving::assigned(result, first, first);
+    }
+    giving::assigned(result, first, 0)
+}
+
+// Nothing is written.
+pub fn reply_only(given: Given) -> Plan
+    ensures { λ r. ⌜ r ≡ only given ⌝ }
+{
+    Plan {
+        given,
+        write: false,
+        owned: false,
+        state: 0,
+        named: false,
+    }
+}
+
+// The row of the type in the table of effects is to be carried out.
+fn effecting(s: Sar, first: u32, owned: bool) -> Plan
+    ensures { λ r. ⌜ r ≡ planOf Finding.Fine s first owned ⌝ }
+{
+    let kind = s.kind;
+    let e = types::effect_of(kind, s.keep);
+    let result = e.result;
+    Plan {
+        given: granted(s, first, result),
+        write: e.write,
+        owned,
+        state: e.state,
+        named: e.named,
+    }
+}
+
+pub fn plan_of(f: Finding, s: Sar, first: u32, owned: bool) -> Plan
+    ensures { λ r. ⌜ r ≡ planOf f s first owned ⌝ }
+{
+    match f {
+        Finding::Refused(result) => reply_only(giving::plain(result)),
+        Finding::Fine => effecting(s, first, owned),
+    }
+}
