@@ -8,8 +8,8 @@ use borrow.Rule.Slice.PartMut.{midOf, putMid}
 use Rattle.octets.specs.Run.{over, Wrote}
 use Rattle.octets.proofs.Writes.{then, named}
 use Rattle.pen.specs.Groups.{failed}
-use Rattle.reading.specs.Found.{numberOf}
-use Rattle.reading.specs.Request.{bodyOf}
+use Rattle.reading.specs.Verdicts.{numberOf}
+use Rattle.diameter.specs.Message.{bodyOf}
 use Rattle.failed.specs.Failing.{failedOf, example, failedBy}
 use Rattle.reading.specs.declared.Verdict.{Verdict}
 use Rattle.reply.specs.Answer.{failedPart, proxies}

@@ -16,7 +16,7 @@ use Rattle.diameter.specs.declared.Read.the-variants as read
 use Rattle.diameter.proofs.Reading.{read-says, read-fault-says, walk-past}
 use Rattle.pen.specs.Bytes.{copied, copiedSize, ifThere}
 use Rattle.pen.proofs.Sizes.{copied-length}
-use Rattle.reading.specs.Kinds.{kindOf}
+use Rattle.reading.specs.Kinds.{kindOf, proxyInfo}
 use Rattle.reply.specs.Answer.{proxies}
 use Rattle.reply.specs.Pieces.{proxy}
 
@@ -28,17 +28,17 @@ wrote-fits {w} {b} p e =
     omega (arith, p .count, simp (length-append, length-drop) at l)
 
 module _ (a d : List ℕ) (k : ℕ) (kind : k ≡ kindOf d) where
-  pub proxy-room : {m : ℕ} → k ≡ 15 → a ≡ d → length (proxy d) ≤ m → copiedSize (length a) ≤ m
+  pub proxy-room : {m : ℕ} → k ≡ proxyInfo → a ≡ d → length (proxy d) ≤ m → copiedSize (length a) ≤ m
   unfolding proxy ifThere
-  proxy-room h e r = rw e (rw (← kind, eq-eqb k 15 h, copied-length d) at r)
+  proxy-room h e r = rw e (rw (← kind, eq-eqb k proxyInfo h, copied-length d) at r)
 
-  pub wrote-proxy : {b xs : List ℕ} {n : ℕ} → k ≡ 15 → a ≡ d → Wrote (copied a) b xs n → Wrote (proxy d) b xs n
+  pub wrote-proxy : {b xs : List ℕ} {n : ℕ} → k ≡ proxyInfo → a ≡ d → Wrote (copied a) b xs n → Wrote (proxy d) b xs n
   unfolding proxy ifThere
-  wrote-proxy h e w = rw (← kind, eq-eqb k 15 h, ← e) w
+  wrote-proxy h e w = rw (← kind, eq-eqb k proxyInfo h, ← e) w
 
-pub wrote-other : (d b : List ℕ) (k : ℕ) → k ≡ kindOf d → (k ≡ 15 → ⊥) → Wrote (proxy d) b b 0
+pub wrote-other : (d b : List ℕ) (k : ℕ) → k ≡ kindOf d → (k ≡ proxyInfo → ⊥) → Wrote (proxy d) b b 0
 unfolding proxy ifThere over
-wrote-other d b k kind h = rw (← kind, ne-eqb k 15 h) (record { count = refl; bytes = refl })
+wrote-other d b k kind h = rw (← kind, ne-eqb k proxyInfo h) (record { count = refl; bytes = refl })
 
 -- The loop's turns.
 module _ (s : List ℕ) (at : ℕ) {b xs all : List ℕ} {n : ℕ} where

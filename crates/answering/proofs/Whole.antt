@@ -9,7 +9,8 @@ use Rattle.octets.specs.Run.{Wrote}
 use Rattle.octets.proofs.Writes.{then, named, then-front, front}
 use Rattle.table.specs.Blocks.{blockOf, privateAt}
 use Rattle.diameter.specs.Walk.{Walk}
-use Rattle.reading.specs.Request.{bodyOf, sessionOf}
+use Rattle.diameter.specs.Message.{bodyOf}
+use Rattle.requests.specs.Request.{sessionOf}
 use Rattle.failed.specs.Failing.{failedBy}
 use Rattle.reading.specs.declared.Verdict.{Verdict}
 use Rattle.decisions.specs.Reply.{Reply}

@@ -12,7 +12,7 @@ ghost use Rattle.octets.specs.Run.{Wrote};
 ghost use Rattle.lookup.specs.SoundTable.{SoundTable};
 ghost use Rattle.diameter.specs.Reader.{ownOf, Here};
 ghost use Rattle.pen.specs.Bytes.{copiedSize};
-ghost use Rattle.reading.specs.Request.{bodyOf};
+ghost use Rattle.diameter.specs.Message.{bodyOf};
 ghost use Rattle.failed.specs.Failing.{failedBy};
 ghost use Rattle.parts.specs.SoundAlone.{profileAt};
 ghost use Rattle.reply.specs.Answer.{failedPart, proxies};

@@ -11,7 +11,7 @@ ghost use lib.ListN.{length};
 ghost use Rattle.octets.specs.Run.{Wrote};
 ghost use Rattle.table.specs.Blocks.{blockOf};
 ghost use Rattle.lookup.specs.SoundTable.{SoundTable};
-ghost use Rattle.reading.specs.Request.{bodyOf};
+ghost use Rattle.diameter.specs.Message.{bodyOf};
 ghost use Rattle.decisions.specs.Planned.{replyOf};
 ghost use Rattle.reply.specs.Answer.{answerBytes, roomOf};
 ghost use Rattle.reply.specs.Pieces.{copiesOf, bodyWith, answerWith};

@@ -25,10 +25,11 @@ use Rattle.diameter.specs.Avp.{dataOf}
 use Rattle.diameter.specs.Walk.{walk}
 use Rattle.diameter.specs.Reader.{avpAt, dataAt}
 use Rattle.diameter.proofs.Reading.{walk-past}
-use Rattle.reading.specs.Found.{numberOf}
+use Rattle.reading.specs.Verdicts.{numberOf}
 use Rattle.failed.specs.Failing.{failedBy}
 use Rattle.failed.proofs.Fronts.{failed-at}
-use Rattle.reading.specs.Request.{bodyOf, identities}
+use Rattle.diameter.specs.Message.{bodyOf}
+use Rattle.requests.specs.Request.{identities}
 use Rattle.requests.specs.Identity.{Named}
 use Rattle.requests.specs.declared.identities.Next.{Next}
 use Rattle.requests.specs.declared.identities.Next.the-variants as next

@@ -16,7 +16,8 @@ use Rattle.lookup.specs.declared.Found.the-variants.{At, Nothing}
 use Rattle.lookup.proofs.First.{first-stands}
 use Rattle.diameter.specs.Reader.{dataAt}
 use Rattle.failed.specs.Failing.{failedBy}
-use Rattle.reading.specs.Request.{bodyOf, identities}
+use Rattle.diameter.specs.Message.{bodyOf}
+use Rattle.requests.specs.Request.{identities}
 use Rattle.reading.specs.declared.Outcome.the-variants.{Base, Experimental}
 use Rattle.decisions.specs.Types.{groupOf, isRemoval, startOf, between}
 use Rattle.decisions.specs.Reply.{plain, failing}

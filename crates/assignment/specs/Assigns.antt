@@ -9,7 +9,8 @@ use Rattle.lookup.specs.Find.{isAt, findPrivate}
 use Rattle.lookup.specs.declared.Found.{Found}
 use Rattle.lookup.specs.declared.Found.the-variants.{At, Nothing}
 use Rattle.rewrite.specs.Renew.{Fitting}
-use Rattle.reading.specs.Request.{bodyOf, identities}
+use Rattle.diameter.specs.Message.{bodyOf}
+use Rattle.requests.specs.Request.{identities}
 use Rattle.decisions.specs.Assignment.{Assignment, storedName, assign}
 use Rattle.decisions.specs.Planned.{decisionOf}
 use Rattle.decisions.specs.declared.Plan.{Plan}

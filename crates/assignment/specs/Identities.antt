@@ -6,7 +6,8 @@ use mathlib.Core.Option.{none, some}
 use mathlib.Core.Bool.{Bool}
 use Rattle.diameter.specs.Reader.{avpAt}
 use Rattle.reading.specs.Kinds.{publicIdentity}
-use Rattle.reading.specs.Request.{bodyOf, identities}
+use Rattle.diameter.specs.Message.{bodyOf}
+use Rattle.requests.specs.Request.{identities}
 use Rattle.reading.specs.declared.Outcome.the-variants.{Base}
 use Rattle.reading.specs.declared.Verdict.{Verdict}
 use Rattle.failed.specs.Failing.{failedBy}

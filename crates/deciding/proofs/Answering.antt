@@ -9,8 +9,10 @@ use Rattle.octets.specs.Run.{Wrote}
 use Rattle.table.specs.Blocks.{blockOf}
 use Rattle.lookup.specs.SoundTable.{SoundTable}
 use Rattle.rewrite.specs.Renew.{Fitting}
-use Rattle.reading.specs.Rules.{Seen, bad, fine}
-use Rattle.reading.specs.Request.{bodyOf, readRequest, dataIn}
+use Rattle.reading.specs.Rules.{Seen}
+use Rattle.requests.specs.Judged.{bad, fine}
+use Rattle.diameter.specs.Message.{bodyOf}
+use Rattle.requests.specs.Request.{readRequest, dataSeen}
 use Rattle.reading.specs.declared.Verdict.{Verdict}
 use Rattle.decisions.specs.Reply.{Reply}
 use Rattle.decisions.specs.Gives.{givenFault}
@@ -49,7 +51,7 @@ module _ (req t file : List ℕ) (count : ℕ) (seen : Seen) (is : readRequest r
   unfolding decisionOf
   plan-table e = e ∙ ap (λ (d : Decision). d .table) planned-decides
 
-  pub plan-fits : p .write ≡ true → Fitting (p .state) (storedName (p .named) (dataIn seen 10))
+  pub plan-fits : p .write ≡ true → Fitting (p .state) (storedName (p .named) (dataSeen seen 10))
   plan-fits = plans .fits
 
 -- The answer of a reply that is the decision's.

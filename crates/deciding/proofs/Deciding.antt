@@ -10,8 +10,10 @@ use borrow.Author.Tests.{eq-eqb, ne-eqb}
 use Rattle.table.specs.Blocks.{blockOf}
 use Rattle.rewrite.specs.Change.{afterOf}
 use Rattle.rewrite.specs.Renew.{settled, Fitting}
-use Rattle.reading.specs.Rules.{Seen, fine}
-use Rattle.reading.specs.Request.{commandOf, bodyOf, readRequest, given, dataIn, valueIn, identities}
+use Rattle.reading.specs.Rules.{Seen}
+use Rattle.requests.specs.Judged.{fine}
+use Rattle.diameter.specs.Message.{commandOf, bodyOf}
+use Rattle.requests.specs.Request.{readRequest, given, dataSeen, valueSeen, identities}
 use Rattle.requests.proofs.Kept.{server-most, server-least}
 use Rattle.decisions.specs.Authorization.{authorize}
 use Rattle.decisions.specs.Location.{locate}
@@ -29,14 +31,14 @@ pub keep-read : (t : List ℕ) {h : List ℕ} → h ≡ blockOf t 0 → eqb (get
 keep-read t e = rw e
 
 module _ (req t : List ℕ) (count : ℕ) (seen : Seen) where
-  pub uar-planned : {user public network : List ℕ} {kind : ℕ} {g : Given} {p : Plan} → commandOf req ≡ 300 → user ≡ dataIn seen 7 → public ≡ dataIn seen 8
-      → network ≡ dataIn seen 9
-      → kind ≡ valueIn seen 13 → Gives t g (authorize t count user public network kind) → p ≡ only g → Plans req t count seen p
+  pub uar-planned : {user public network : List ℕ} {kind : ℕ} {g : Given} {p : Plan} → commandOf req ≡ 300 → user ≡ dataSeen seen 7 → public ≡ dataSeen seen 8
+      → network ≡ dataSeen seen 9
+      → kind ≡ valueSeen seen 13 → Gives t g (authorize t count user public network kind) → p ≡ only g → Plans req t count seen p
   unfolding decisionOf planned decideRead
   uar-planned c a b d e g p =
       record { decides = λ file. rw (p, g .reply req file, eq-eqb (commandOf req) 300 c, a, b, d, e); fits = λ w. absurd (true≢false (sym (rw p at w))) }
 
-  pub lir-planned : {public : List ℕ} {g : Given} {p : Plan} → (commandOf req ≡ 300 → ⊥) → (commandOf req ≡ 301 → ⊥) → public ≡ dataIn seen 8
+  pub lir-planned : {public : List ℕ} {g : Given} {p : Plan} → (commandOf req ≡ 300 → ⊥) → (commandOf req ≡ 301 → ⊥) → public ≡ dataSeen seen 8
       → Gives t g (locate t count public)
       → p ≡ only g → Plans req t count seen p
   unfolding decisionOf planned decideRead
@@ -48,9 +50,9 @@ module _ (req t : List ℕ) (count : ℕ) (seen : Seen) where
       }
 
   pub sar-planned : {kind already : ℕ} {server user : List ℕ} {named keep : Bool} {p : Plan} → readRequest req ≡ fine seen → commandOf req ≡ 301
-      → kind ≡ valueIn seen 11 → server ≡ dataIn seen 10
-      → already ≡ valueIn seen 12
-      → named ≡ given seen 7 → user ≡ dataIn seen 7 → keep ≡ eqb (getD (blockOf t 0) 12 0) 1
+      → kind ≡ valueSeen seen 11 → server ≡ dataSeen seen 10
+      → already ≡ valueSeen seen 12
+      → named ≡ given seen 7 → user ≡ dataSeen seen 7 → keep ≡ eqb (getD (blockOf t 0) 12 0) 1
       → Assigns req t count (sarOf req kind server already named user) keep p
       → Plans req t count seen p
   unfolding assignmentOf decideRead
@@ -65,13 +67,13 @@ module _ (req t : List ℕ) (count : ℕ) (seen : Seen) where
 
 -- What is left of the table.
 module _ (t : List ℕ) (count : ℕ) (req : List ℕ) (seen : Seen) (p : Plan) where
-  pub carried-owned : {name server user y : List ℕ} → name ≡ dataIn seen 10 → server ≡ storedName (p .named) name → user ≡ dataIn seen 7 → p .write ≡ true
+  pub carried-owned : {name server user y : List ℕ} → name ≡ dataSeen seen 10 → server ≡ storedName (p .named) name → user ≡ dataSeen seen 7 → p .write ≡ true
       → p .owned ≡ true
       → y ≡ afterOf t count (isOne (ownedUpTo t user count)) (settled (p .state) server) → y ≡ planned t count (assignmentOf seen req) p
   unfolding planned plannedRecords assignmentOf
   carried-owned a b c d e f = rw (d, e) (f ∙ rw (b, a, c))
 
-  pub carried-named : {name server y : List ℕ} → name ≡ dataIn seen 10 → server ≡ storedName (p .named) name → p .write ≡ true → p .owned ≡ false
+  pub carried-named : {name server y : List ℕ} → name ≡ dataSeen seen 10 → server ≡ storedName (p .named) name → p .write ≡ true → p .owned ≡ false
       → y ≡ afterOf t count (isOne (numbersOf (findAll t count (identities (bodyOf req))))) (settled (p .state) server)
       → y ≡ planned t count (assignmentOf seen req) p
   unfolding planned plannedRecords assignmentOf
@@ -81,8 +83,8 @@ module _ (t : List ℕ) (count : ℕ) (req : List ℕ) (seen : Seen) (p : Plan) 
   unfolding planned
   carried-nothing d = rw d
 
-pub stored-fits : (seen : Seen) (state : ℕ) (write named : Bool) (name server : List ℕ) → name ≡ dataIn seen 10 → server ≡ storedName named name
-    → (write ≡ true → Fitting state (storedName named (dataIn seen 10))) → write ≡ true → Fitting state server
+pub stored-fits : (seen : Seen) (state : ℕ) (write named : Bool) (name server : List ℕ) → name ≡ dataSeen seen 10 → server ≡ storedName named name
+    → (write ≡ true → Fitting state (storedName named (dataSeen seen 10))) → write ≡ true → Fitting state server
 stored-fits seen state write named name server a b f w = rw (b, a) (f w)
 
 pub ready-whole : (t : List ℕ) (count : ℕ) → Ready t count → 512 ≤ length t

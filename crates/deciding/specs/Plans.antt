@@ -8,7 +8,7 @@ use Rattle.table.specs.Blocks.{blockOf}
 use Rattle.rewrite.specs.Renew.{Fitting}
 use Rattle.reading.specs.Kinds.{serverName}
 use Rattle.reading.specs.Rules.{Seen}
-use Rattle.reading.specs.Request.{dataIn}
+use Rattle.requests.specs.Request.{dataSeen}
 use Rattle.decisions.specs.Assignment.{storedName}
 use Rattle.decisions.specs.Decide.{assignmentOf, decideRead, decide}
 use Rattle.decisions.specs.Planned.{decisionOf}
@@ -18,7 +18,7 @@ use Rattle.reply.specs.Answer.{answerBytes}
 -- carried out, it is document 01's decision, whatever the profile file; what it writes fits
 pub record Plans (req t : List ℕ) (count : ℕ) (seen : Seen) (p : Plan) : Type 0 where
   pub decides : (file : List ℕ) → decisionOf req t count file (assignmentOf seen req) p ≡ decideRead req t count file seen
-  pub fits : p .write ≡ true → Fitting (p .state) (storedName (p .named) (dataIn seen serverName))
+  pub fits : p .write ≡ true → Fitting (p .state) (storedName (p .named) (dataSeen seen serverName))
 
 -- the answer of the decision was written, and nothing past it
 abbrev pub Answers : List ℕ → List ℕ → ℕ → List ℕ → List ℕ → List ℕ → ℕ → Type 0

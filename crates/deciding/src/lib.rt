@@ -19,9 +19,10 @@ ghost use lib.Dec.{eqb};
 ghost use Rattle.table.specs.Blocks.{blockOf};
 ghost use Rattle.lookup.specs.SoundTable.{SoundTable};
 ghost use Rattle.rewrite.specs.Renew.{Fitting};
-ghost use Rattle.reading.specs.Rules.{bad, fine};
-ghost use Rattle.reading.specs.Request.{commandOf, readRequest, dataIn};
-ghost use Rattle.reading.specs.Found.{seenOf};
+ghost use Rattle.requests.specs.Judged.{bad, fine};
+ghost use Rattle.diameter.specs.Message.{commandOf};
+ghost use Rattle.requests.specs.Request.{readRequest, dataSeen};
+ghost use Rattle.reading.specs.Places.{seenOf};
 ghost use Rattle.decisions.specs.Assignment.{storedName};
 ghost use Rattle.decisions.specs.Decide.{assignmentOf, decide};
 ghost use Rattle.decisions.specs.Planned.{Ready, planned};
@@ -103,7 +104,7 @@ fn stored(named: bool, server: &[u8]) -> &[u8]
 
 // The effect that is planned, if there is one.
 fn carry_out(t: &mut [u8], count: usize, req: &[u8], found: [usize; kinds::KINDS], p: Plan)
-    requires { ⌜ Ready (now t) count × (p .write ≡ true → Fitting (p .state) (storedName (p .named) (dataIn (seenOf (now req) found) 10))) ⌝ }
+    requires { ⌜ Ready (now t) count × (p .write ≡ true → Fitting (p .state) (storedName (p .named) (dataSeen (seenOf (now req) found) 10))) ⌝ }
     ensures { λ _. ⌜ now (t .exit) ≡ planned (now (t .entry)) count (assignmentOf (seenOf (now (req .entry)) found) (now (req .entry))) p ⌝ }
 {
     let server = stored(p.named, places::data_of(req, found, kinds::SERVER_NAME));

@@ -6,8 +6,10 @@ use lib.ListN.{getD}
 use lib.Dec.{eqb}
 use Rattle.table.specs.Blocks.{blockOf}
 use Rattle.reading.specs.Kinds.{userName, publicIdentity, visitedNetwork, serverName, assignmentType, dataAvailable, authorizationType}
-use Rattle.reading.specs.Rules.{Seen, Judged, bad, fine}
-use Rattle.reading.specs.Request.{commandOf, bodyOf, readRequest, given, dataIn, valueIn, identities}
+use Rattle.reading.specs.Rules.{Seen}
+use Rattle.requests.specs.Judged.{Judged, bad, fine}
+use Rattle.diameter.specs.Message.{commandOf, bodyOf}
+use Rattle.requests.specs.Request.{readRequest, given, dataSeen, valueSeen, identities}
 use Rattle.failed.specs.Failing.{failedBy}
 use Rattle.decisions.specs.Reply.{failing}
 use Rattle.decisions.specs.Authorization.{authorize}
@@ -18,11 +20,11 @@ use Rattle.decisions.specs.Assignment.{Decision, Assignment, unaltered, 
 unfoldable pub assignmentOf : Seen → List ℕ → Assignment
 assignmentOf seen req =
     record {
-      kind = valueIn seen assignmentType;
-      server = dataIn seen serverName;
-      already = valueIn seen dataAvailable;
+      kind = valueSeen seen assignmentType;
+      server = dataSeen seen serverName;
+      already = valueSeen seen dataAvailable;
       named = given seen userName;
-      user = dataIn seen userName;
+      user = dataSeen seen userName;
       identities = identities (bodyOf req);
     }
 
@@ -30,9 +32,9 @@ assignmentOf seen req =
 unfoldable pub decideRead : List ℕ → List ℕ → ℕ → List ℕ → Seen → Decision
 decideRead req t count file seen =
     cond (eqb (commandOf req) 300)
-    (unaltered t (authorize t count (dataIn seen userName) (dataIn seen publicIdentity) (dataIn seen visitedNetwork) (valueIn seen authorizationType)))
+    (unaltered t (authorize t count (dataSeen seen userName) (dataSeen seen publicIdentity) (dataSeen seen visitedNetwork) (valueSeen seen authorizationType)))
     (cond (eqb (commandOf req) 301) (assign t count file (eqb (getD (blockOf t 0) 12 0) 1) (assignmentOf seen req))
-    (unaltered t (locate t count (dataIn seen publicIdentity))))
+    (unaltered t (locate t count (dataSeen seen publicIdentity))))
 
 unfoldable pub decideJudged : List ℕ → List ℕ → ℕ → List ℕ → Judged → Decision
 decideJudged req t count file (bad v) = unaltered t (failing (v .result) (failedBy req v))

@@ -13,7 +13,7 @@ use Rattle.table.specs.Check.{checkTable}
 use Rattle.table.specs.declared.Checked.the-variants.{Sound, Bad}
 use Rattle.diameter.specs.Avp.{sound}
 use Rattle.diameter.specs.Put.{Piece, Whole, All}
-use Rattle.reading.specs.Request.{commandOf}
+use Rattle.diameter.specs.Message.{commandOf}
 use Rattle.rewrite.specs.Change.{alterable}
 use Rattle.ndushavire.specs.declared.Call.the-variants.{Answered, Refused}
 use Rattle.ndushavire.specs.Lent.{Lent, asking}
@@ -22,11 +22,12 @@ use Rattle.ndushavire.specs.Word.{callNumber, callValue, callWord}
 use Rattle.ndushavire.specs.Reads.{callIn, Reads, ReadsCheck}
 use Rattle.ndushavire.specs.Promise.{CheckPromise, DecidePromise}
 use Rattle.demands.proofs.Firm.{check-said}
+use Rattle.reading.specs.declared.Dialect.{Dialect}
+use Rattle.requests.specs.Request.{dialectOf, cx}
 use Rattle.demands.specs.Call.{turnedAway, answerTo, Exactly}
 use Rattle.demands.specs.Frame.{succeeds, subscriptionOf}
 use Rattle.demands.specs.Insertion.{requestOf, Foreign, Quiet, Inserted, FirstMarked, faultIn, unsupported, Cut, Longer, Newer}
-use Rattle.demands.proofs.Refusals.{refusals, number-most, besides-none, besides-block, answer-long, answer-within, word-reads, refused-kept}
-use Rattle.demands.proofs.Refusals.{answered-is, buffer-length, buffer-past}
+use Rattle.demands.proofs.Refusals.{refusals, number-most, besides-none, besides-block, answer-long, answer-within, word-reads, refused-kept, answered-is, buffer-length, buffer-past}
 use Rattle.demands.proofs.Fitting.{fits}
 use Rattle.demands.proofs.Frame.{question-kept, failure-kept, others-kept, header-kept, bytes-kept, bits-kept, size-kept, sound-kept}
 use Rattle.demands.proofs.Insertions.{unmarked-same, marked-kept, mark-answered, fault-first}
@@ -137,26 +138,26 @@ demand-3 = longer-newer
 module _ (head : List ℕ) (twenty : length head ≡ 20) (q : Piece) (qs rs : List Piece) (whole : All Whole (q ∷ qs)) (tail : List ℕ) (fours : length tail % 4 ≡ 0)
     (most : length (requestOf head (q ∷ rs) tail) ≤ 16384) (x : Lent) where
   -- If none of them is marked M, the call comes to the same, and leaves the same table and the same buffer.
-  pub demand-3-unmarked : Inserted Quiet qs rs → serve (asking x (requestOf head (q ∷ rs) tail)) ≡ serve (asking x (requestOf head (q ∷ qs) tail))
+  pub demand-3-unmarked : Inserted (Quiet (dialectOf cx head)) qs rs → serve (asking x (requestOf head (q ∷ rs) tail)) ≡ serve (asking x (requestOf head (q ∷ qs) tail))
   demand-3-unmarked i = unmarked-same head twenty q qs rs whole tail fours most i x
 
   -- If one is, the table is as it was ..
-  pub demand-3-table : FirstMarked qs rs → serve (asking x (requestOf head (q ∷ rs) tail)) .table ≡ x .table
+  pub demand-3-table : FirstMarked (dialectOf cx head) qs rs → serve (asking x (requestOf head (q ∷ rs) tail)) .table ≡ x .table
   demand-3-table m = marked-kept head twenty q qs rs whole tail fours most m x
 
   -- .. and the answer is the one of B5001 with the first marked one in Failed-AVP (before a missing AVP, and before a SAR's own B5005 and B5009) ..
-  pub demand-3-marked : (m : FirstMarked qs rs) → faultIn head (q ∷ m .front) ≡ false → turnedAway (asking x (requestOf head (q ∷ qs) tail)) ≡ false
+  pub demand-3-marked : (m : FirstMarked (dialectOf cx head) qs rs) → faultIn head (q ∷ m .front) ≡ false → turnedAway (asking x (requestOf head (q ∷ qs) tail)) ≡ false
       → serve (asking x (requestOf head (q ∷ rs) tail)) ≡ answered (asking x (requestOf head (q ∷ rs) tail)) (unsupported (x .table) (m .mark))
   demand-3-marked m e = mark-answered head twenty q qs rs whole tail fours most m e x
 
   -- .. unless the header or an AVP before it breaks a reading rule, (a) to (h): then the call gives what it gives without them.
-  pub demand-3-fault : (m : FirstMarked qs rs) → faultIn head (q ∷ m .front) ≡ true
+  pub demand-3-fault : (m : FirstMarked (dialectOf cx head) qs rs) → faultIn head (q ∷ m .front) ≡ true
       → serve (asking x (requestOf head (q ∷ rs) tail)) ≡ serve (asking x (requestOf head (q ∷ qs) tail))
   demand-3-fault m e = fault-first head twenty q qs rs whole tail fours most m e x
 
 -- These are all cases: of those put in none is marked, or one is the first that is.
-pub demand-3-cases : (qs rs : List Piece) → Inserted Foreign qs rs → Inserted Quiet qs rs ⊎ FirstMarked qs rs
-demand-3-cases qs rs = marked-or-not
+pub demand-3-cases : (d : Dialect) (qs rs : List Piece) → Inserted (Foreign d) qs rs → Inserted (Quiet d) qs rs ⊎ FirstMarked d qs rs
+demand-3-cases d qs rs = marked-or-not
 
 -- And these are all requests of a right length whose first AVP passes (a): their bytes are such a header, row and rest, and the row is as long as it can
 -- be, so that every place before the first length fault is one of its places. Any other has no place: it has no AVP, or a length fault in its first.

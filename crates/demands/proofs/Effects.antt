@@ -12,13 +12,14 @@ use Rattle.record.specs.Fields.{profileOf}
 use Rattle.table.specs.Blocks.{blockOf, privateAt}
 use Rattle.rewrite.specs.Change.{afterOf}
 use Rattle.rewrite.specs.Renew.{settled}
-use Rattle.reading.specs.Rules.{Seen, Judged, bad, fine}
-use Rattle.reading.specs.Request.{commandOf, readRequest}
+use Rattle.reading.specs.Rules.{Seen}
+use Rattle.requests.specs.Judged.{Judged, bad, fine}
+use Rattle.diameter.specs.Message.{commandOf}
+use Rattle.requests.specs.Request.{readRequest}
 use Rattle.reading.specs.declared.Outcome.the-variants.{Experimental}
 use Rattle.decisions.specs.Reply.{Reply, plain}
 use Rattle.decisions.specs.Types.{groupOf, isRemoval, effectOf}
-use Rattle.decisions.specs.Assignment.{Decision, Assignment, identityFault, every, isOne, isEmpty, recordsOf, allKnown, firstOf, ownerOf, ownAt, fitsAt}
-use Rattle.decisions.specs.Assignment.{rightAt, assigned, storedName, unaltered, effected, assignRecords, assignKnown, assign}
+use Rattle.decisions.specs.Assignment.{Decision, Assignment, identityFault, every, isOne, isEmpty, recordsOf, allKnown, firstOf, ownerOf, ownAt, fitsAt, rightAt, assigned, storedName, unaltered, effected, assignRecords, assignKnown, assign}
 use Rattle.decisions.specs.Decide.{assignmentOf, decideRead, decideJudged, decide}
 
 -- the effect of a SAR's type on its records, all of one subscription

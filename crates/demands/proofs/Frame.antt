@@ -29,8 +29,8 @@ use Rattle.rewrite.proofs.Tables.{Keeping, keeping-same, kept-same, after-frame
 use Rattle.diameter.specs.Avp.{dataOf}
 use Rattle.reading.specs.declared.Outcome.{Outcome}
 use Rattle.reading.specs.declared.Outcome.the-variants.{Base, Experimental}
-use Rattle.reading.specs.Found.{numberOf}
-use Rattle.reading.specs.Request.{commandOf}
+use Rattle.reading.specs.Verdicts.{numberOf}
+use Rattle.diameter.specs.Message.{commandOf}
 use Rattle.requests.proofs.Kept.{server-most, server-least}
 use Rattle.decisions.specs.declared.Effect.{Effect}
 use Rattle.decisions.specs.Reply.{Reply}

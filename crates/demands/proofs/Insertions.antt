@@ -17,10 +17,12 @@ use Rattle.diameter.specs.Put.{glue, Piece, bytesOf, avpsOf, Whole, All}
 use Rattle.diameter.proofs.Pieces.{walk-pieces, row-even, avps-joined, glue-glue}
 use Rattle.reading.specs.declared.Dialect.{Dialect}
 use Rattle.reading.specs.declared.Verdict.{Verdict}
-use Rattle.reading.specs.Kinds.{sessionId}
-use Rattle.reading.specs.Rules.{Seen, Judged, bad, fine, faultAt, nothing, judge}
-use Rattle.reading.specs.Request.{dialectOf, cx, headerFault, firstOther, missing, lacking, faultOf, complete, readWalk, readRequest, identities}
-use Rattle.requests.proofs.Insert.{unknown-use, judge-marked, andThen, judge-glue, past}
+use Rattle.reading.specs.Kinds.{sessionId, publicIdentity, proxyInfo}
+use Rattle.reading.specs.Rules.{Seen}
+use Rattle.reading.specs.Verdicts.{faultAt, lackOf, faultOf}
+use Rattle.requests.specs.Judged.{Judged, bad, fine, nothing, judge}
+use Rattle.requests.specs.Request.{dialectOf, cx, headerFault, firstOther, missing, complete, readWalk, readRequest, identities}
+use Rattle.requests.proofs.Insert.{stranger-kind, identity-known, proxy-known, judge-marked, andThen, judge-glue, past}
 use Rattle.failed.specs.Failing.{failedBy}
 use Rattle.failed.proofs.Fronts.{failed-piece, failed-whole}
 use Rattle.decisions.specs.Decide.{decideJudged, decide}
@@ -31,10 +33,10 @@ use Rattle.ndushavire.specs.Serve.{noRequest, checkOf, answered, decision, serv
 use Rattle.demands.specs.Call.{turnedAway}
 use Rattle.demands.specs.Insertion.{message, requestOf, Foreign, isMarked, Quiet, Inserted, ending, keep, put, FirstMarked, isFault, faultIn, unsupported}
 use Rattle.demands.proofs.Refusals.{refused-kept, refused-alike, answered-is, taken}
-use Rattle.demands.proofs.Moved.{putBefore, Moved, faults, same, moved-as, past-later, past-drop, failed-there, Row-moved, row-moved, ends-none}
-use Rattle.demands.proofs.Moved.{ends-same}
-use Rattle.demands.proofs.Messages.{message-length, message-flags, message-drop, message-read, readBody, Fit, size-right, length-right, Alike}
-use Rattle.demands.proofs.Messages.{served-same}
+use Rattle.demands.proofs.Moved.{putBefore, Moved, faults, same, moved-as, past-later, past-drop, failed-there}
+use Rattle.demands.proofs.Moved.{Row-moved, row-moved, ends-none, ends-same}
+use Rattle.demands.proofs.Messages.{message-length, message-flags, message-drop, message-read}
+use Rattle.demands.proofs.Messages.{readBody, Fit, size-right, length-right, Alike, served-same}
 
 -- what a fold that passes over those put in makes of the longer row
 inserted-same : {X : Type 0} {P : Piece → Type 0} (f : Walk → X) → ((a : List ℕ) (v w : Walk) → f v ≡ f w → f (avp a v) ≡ f (avp a w))
@@ -67,21 +69,24 @@ inserted-joined (keep q i) j = keep q (inserted-joined i j)
 inserted-joined (put u p i) j = put u p (inserted-joined i j)
 
 -- the folds that pass over unknown kinds: the identities and the copies
-foreign-identities : {qs rs : List Piece} → Inserted Foreign qs rs → (w : Walk) → identities (glue (avpsOf rs) w) ≡ identities (glue (avpsOf qs) w)
+foreign-identities : {dialect : Dialect} {qs rs : List Piece} → Inserted (Foreign dialect) qs rs → (w : Walk)
+    → identities (glue (avpsOf rs) w) ≡ identities (glue (avpsOf qs) w)
 unfolding identities
-foreign-identities = inserted-same identities (λ a v w e. rw e) (λ u w p. rw (p .stranger))
+foreign-identities {dialect} =
+    inserted-same identities (λ a v w e. rw e) (λ u w p. rw (stranger-kind dialect (u .avp) publicIdentity (p .stranger) (identity-known dialect)))
 
-foreign-proxies : {qs rs : List Piece} → Inserted Foreign qs rs → (w : Walk) → proxies (glue (avpsOf rs) w) ≡ proxies (glue (avpsOf qs) w)
+foreign-proxies : {dialect : Dialect} {qs rs : List Piece} → Inserted (Foreign dialect) qs rs → (w : Walk)
+    → proxies (glue (avpsOf rs) w) ≡ proxies (glue (avpsOf qs) w)
 unfolding proxies ifThere
-foreign-proxies = inserted-same proxies (λ a v w e. rw e) (λ u w p. rw (p .stranger))
+foreign-proxies {dialect} = inserted-same proxies (λ a v w e. rw e) (λ u w p. rw (stranger-kind dialect (u .avp) proxyInfo (p .stranger) (proxy-known dialect)))
 
-pub quiet-foreign : {qs rs : List Piece} → Inserted Quiet qs rs → Inserted Foreign qs rs
+pub quiet-foreign : {dialect : Dialect} {qs rs : List Piece} → Inserted (Quiet dialect) qs rs → Inserted (Foreign dialect) qs rs
 quiet-foreign = inserted-as (λ u p. p .foreign)
 
 -- What reading a request comes to, by the header's fault, by rule (b), by what the AVPs in front come to, and by those behind.
 readFrom : List ℕ → Bool → Bool → Judged → (Seen → Judged) → Judged
 readFrom head h f j next =
-    cond h (cond f (bad (lacking sessionId)) (complete (dialectOf cx head) (andThen j next))) (bad (faultOf (headerFault (dialectOf cx head) head)))
+    cond h (cond f (bad (lackOf sessionId)) (complete (dialectOf cx head) (andThen j next))) (bad (faultOf (headerFault (dialectOf cx head) head)))
 
 abbrev frontOther : Piece → List Piece → Bool
 frontOther q ps = firstOther (glue (avpsOf (q ∷ ps)) ended)
@@ -104,9 +109,9 @@ module _ {long short : List ℕ} {more : ℕ → ℕ} (none : more 0 ≡ 0) wher
   unfolding failedBy
   fault-of n = faults (faultOf n) (faultOf n) (record { result = refl; lacks = refl; reached = omega arith; place = rw none; failed = refl })
 
-  lacking-of : (k : ℕ) → Moved long short 0 more (bad (lacking k)) (bad (lacking k))
+  lacking-of : (k : ℕ) → Moved long short 0 more (bad (lackOf k)) (bad (lackOf k))
   unfolding failedBy
-  lacking-of k = faults (lacking k) (lacking k) (record { result = refl; lacks = refl; reached = omega arith; place = rw none; failed = refl })
+  lacking-of k = faults (lackOf k) (lackOf k) (record { result = refl; lacks = refl; reached = omega arith; place = rw none; failed = refl })
 
   complete-moved : (dialect : Dialect) {from : ℕ} {j k : Judged} → Moved long short from more j k
       → Moved long short 0 more (complete dialect j) (complete dialect k)
@@ -115,7 +120,7 @@ module _ {long short : List ℕ} {more : ℕ → ℕ} (none : more 0 ≡ 0) wher
   complete-moved dialect (same seen) = go (eqb (missing dialect seen) 0)
     where
       go : (x : Bool)
-          → Moved long short 0 more (cond x (fine seen) (bad (lacking (missing dialect seen)))) (cond x (fine seen) (bad (lacking (missing dialect seen))))
+          → Moved long short 0 more (cond x (fine seen) (bad (lackOf (missing dialect seen)))) (cond x (fine seen) (bad (lackOf (missing dialect seen))))
       go true = same seen
       go false = lacking-of (missing dialect seen)
 
@@ -128,9 +133,9 @@ module _ {long short : List ℕ} {more : ℕ → ℕ} (none : more 0 ≡ 0) wher
     where
       go : (h f : Bool)
           → Moved long short 0 more
-          (cond h (cond f (bad (lacking sessionId)) (complete (dialectOf cx head) (judge (dialectOf cx head) 20 v nothing)))
+          (cond h (cond f (bad (lackOf sessionId)) (complete (dialectOf cx head) (judge (dialectOf cx head) 20 v nothing)))
           (bad (faultOf (headerFault (dialectOf cx head) head))))
-          (cond h (cond f (bad (lacking sessionId)) (complete (dialectOf cx head) (judge (dialectOf cx head) 20 w nothing)))
+          (cond h (cond f (bad (lackOf sessionId)) (complete (dialectOf cx head) (judge (dialectOf cx head) 20 w nothing)))
           (bad (faultOf (headerFault (dialectOf cx head) head))))
       go false f = fault-of (headerFault (dialectOf cx head) head)
       go true true = lacking-of sessionId
@@ -163,12 +168,12 @@ module _ {long short : List ℕ} {more : ℕ → ℕ} (none : more 0 ≡ 0) wher
   none-decides head true false k v (faults x y m) e g = absurd (true≢false e)
   none-decides head true false k v (same seen) e g = rw (g seen)
 
-mark-judged : (dialect : Dialect) (at : ℕ) (m : Piece) (w : Walk) (seen : Seen) → Foreign m → isMarked m ≡ true
+mark-judged : (dialect : Dialect) (at : ℕ) (m : Piece) (w : Walk) (seen : Seen) → Foreign dialect m → isMarked m ≡ true
     → judge dialect at (avp (m .avp) w) seen ≡ bad (faultAt 5001 at)
-mark-judged dialect at m w seen f e = judge-marked dialect at (m .avp) w seen (f .plain) (unknown-use dialect (m .avp) (f .stranger)) e
+mark-judged dialect at m w seen f e = judge-marked dialect at (m .avp) w seen (f .plain) (f .stranger) e
 
 -- before the first AVP nothing was put in
-none-before : (q : Piece) {qs rs : List Piece} (i : Inserted Quiet qs rs) → putBefore (keep q i) 20 0 ≡ 0
+none-before : {dialect : Dialect} (q : Piece) {qs rs : List Piece} (i : Inserted (Quiet dialect) qs rs) → putBefore (keep q i) 20 0 ≡ 0
 unfolding putBefore
 none-before q i = rw (lt-ltb 0 (20 + padded (length (q .avp))) (omega arith))
 
@@ -188,7 +193,7 @@ module _ (head : List ℕ) (twenty : length head ≡ 20) (q : Piece) (qs rs : Li
   even : (ps : List Piece) → All Whole ps → length (bytesOf ps ++ tail) % 4 ≡ 0
   even ps w = rw (length-append (bytesOf ps) tail) (omega (arith, row-even ps w, fours))
 
-  module _ (i : Inserted Foreign qs rs) where
+  module _ (i : Inserted (Foreign (dialectOf cx head)) qs rs) where
     long-whole : All Whole (q ∷ rs)
     long-whole = (whole .0, inserted-whole (λ u p. p .whole) i (whole .1))
 
@@ -238,7 +243,7 @@ module _ (head : List ℕ) (twenty : length head ≡ 20) (q : Piece) (qs rs : Li
         refused-alike x (message head long) (message head short) size lengths flags e
 
   -- the verdict of reading: the place of the AVP at fault moves by what was put in before it
-  pub unmarked-moved : (j : Inserted Quiet qs rs)
+  pub unmarked-moved : (j : Inserted (Quiet (dialectOf cx head)) qs rs)
       → Moved (message head long) (message head short) 0 (putBefore (keep q j) 20) (readBody head (walk long)) (readBody head (walk short))
   unfolding Row-moved avpsOf glue
   unmarked-moved j =
@@ -252,11 +257,11 @@ module _ (head : List ℕ) (twenty : length head ≡ 20) (q : Piece) (qs rs : Li
       (walk-moved (none-before q j) head (avp (q .avp) (glue (avpsOf rs) w)) (avp (q .avp) (glue (avpsOf qs) w)) refl
       (moved-as (omega arith) (λ p h. zero-add (putBefore (keep q j) 20 p)) m))
 
-  pub unmarked-same : Inserted Quiet qs rs → (x : Lent) → serve (asking x (message head long)) ≡ serve (asking x (message head short))
+  pub unmarked-same : Inserted (Quiet (dialectOf cx head)) qs rs → (x : Lent) → serve (asking x (message head long)) ≡ serve (asking x (message head short))
   unmarked-same j = both-served (quiet-foreign j) (unmarked-moved j)
 
 -- Some are marked: the row before the first marked one decides, or that one does.
-marked-inserted : {qs rs : List Piece} → FirstMarked qs rs → Inserted Foreign qs rs
+marked-inserted : {dialect : Dialect} {qs rs : List Piece} → FirstMarked dialect qs rs → Inserted (Foreign dialect) qs rs
 marked-inserted m = rw (m .row, m .longer) (inserted-joined (quiet-foreign (m .quiet)) (put (m .mark) (m .foreign) (m .rest)))
 
 -- rows joined
@@ -273,8 +278,8 @@ row-joined : (q : Piece) (ps ss : List Piece) (w : Walk) → glue (avpsOf (q ∷
 row-joined q ps ss w = rw (avps-joined (q ∷ ps) ss) (glue-glue (avpsOf (q ∷ ps)) (avpsOf ss) w)
 
 module _ (head : List ℕ) (twenty : length head ≡ 20) (q : Piece) (qs rs : List Piece) (whole : All Whole (q ∷ qs)) (tail : List ℕ) (fours : length tail % 4 ≡ 0)
-    (most : length (requestOf head (q ∷ rs) tail) ≤ 16384) (m : FirstMarked qs rs) where
-  abbrev i : Inserted Foreign qs rs
+    (most : length (requestOf head (q ∷ rs) tail) ≤ 16384) (m : FirstMarked (dialectOf cx head) qs rs) where
+  abbrev i : Inserted (Foreign (dialectOf cx head)) qs rs
   i = marked-inserted m
 
   abbrev longer : List ℕ
@@ -303,7 +308,7 @@ module _ (head : List ℕ) (twenty : length head ≡ 20) (q : Piece) (qs rs : Li
   abbrev rest : List ℕ
   rest = bytesOf (m .mark ∷ m .after) ++ tail
 
-  abbrev frontal : Inserted Quiet (q ∷ m .front) (q ∷ m .before)
+  abbrev frontal : Inserted (Quiet (dialectOf cx head)) (q ∷ m .front) (q ∷ m .before)
   frontal = keep q (m .quiet)
 
   -- those in front, in both messages

@@ -8,6 +8,8 @@ use mathlib.Core.Logic.{_⊎_, inl, inr}
 use native.Mathlib.Omega.{arith}
 use lib.ListN.{length}
 use Rattle.diameter.specs.Put.{Piece, Whole, All}
+use Rattle.reading.specs.declared.Dialect.{Dialect}
+use Rattle.requests.specs.Request.{dialectOf, cx}
 use Rattle.ndushavire.specs.Lent.{Lent, asking}
 use Rattle.ndushavire.specs.Serve.{answered, serve}
 use Rattle.demands.specs.Call.{turnedAway}
@@ -16,14 +18,14 @@ use Rattle.demands.specs.Insertion.{behind, firstMark, newer, Newer}
 use Rattle.demands.proofs.Insertions.{unmarked-same, refused-same, marked-kept, mark-answered, fault-first}
 
 -- the mark that is found, with the rows around it
-record Found {qs rs : List Piece} (i : Inserted Foreign qs rs) : Type 0 where
-  first : FirstMarked qs rs
+record Found {dialect : Dialect} {qs rs : List Piece} (i : Inserted (Foreign dialect) qs rs) : Type 0 where
+  first : FirstMarked dialect qs rs
   is : firstMark i ≡ some (record { front = first .front; mark = first .mark })
 
-abbrev Split : {qs rs : List Piece} → Inserted Foreign qs rs → Type 0
-Split {qs} {rs} i = ((firstMark i ≡ none) × Inserted Quiet qs rs) ⊎ Found i
+abbrev Split : {dialect : Dialect} {qs rs : List Piece} → Inserted (Foreign dialect) qs rs → Type 0
+Split {dialect} {qs} {rs} i = ((firstMark i ≡ none) × Inserted (Quiet dialect) qs rs) ⊎ Found i
 
-split-keep : (q : Piece) {qs rs : List Piece} (i : Inserted Foreign qs rs) → Split i → Split (keep q i)
+split-keep : (q : Piece) {dialect : Dialect} {qs rs : List Piece} (i : Inserted (Foreign dialect) qs rs) → Split i → Split (keep q i)
 unfolding firstMark
 split-keep q i (inl (e, j)) = inl (ap (behind q) e, keep q j)
 split-keep q i (inr f) =
@@ -46,7 +48,8 @@ split-keep q i (inr f) =
       is = ap (behind q) (f .is);
     })
 
-split-quiet : (u : Piece) (f : Foreign u) (h : isMarked u ≡ false) {qs rs : List Piece} (i : Inserted Foreign qs rs) → Split i → Split (put u f i)
+split-quiet : {dialect : Dialect} (u : Piece) (f : Foreign dialect u) (h : isMarked u ≡ false) {qs rs : List Piece} (i : Inserted (Foreign dialect) qs rs)
+    → Split i → Split (put u f i)
 unfolding firstMark
 split-quiet u f h i (inl (e, j)) = inl (rw h e, put u (record { foreign = f; unmarked = h }) j)
 split-quiet u f h i (inr g) =
@@ -69,7 +72,8 @@ split-quiet u f h i (inr g) =
       is = rw h (g .is);
     })
 
-split-put : (u : Piece) (f : Foreign u) {qs rs : List Piece} (i : Inserted Foreign qs rs) → Split i → (x : Bool) → isMarked u ≡ x → Split (put u f i)
+split-put : {dialect : Dialect} (u : Piece) (f : Foreign dialect u) {qs rs : List Piece} (i : Inserted (Foreign dialect) qs rs) → Split i → (x : Bool)
+    → isMarked u ≡ x → Split (put u f i)
 unfolding firstMark
 split-put u f {qs} {rs} i s true h =
     inr (record {
@@ -79,29 +83,29 @@ split-put u f {qs} {rs} i s true h =
     })
 split-put u f i s false h = split-quiet u f h i s
 
-split : {qs rs : List Piece} (i : Inserted Foreign qs rs) → Split i
+split : {dialect : Dialect} {qs rs : List Piece} (i : Inserted (Foreign dialect) qs rs) → Split i
 unfolding firstMark
 split ending = inl (refl, ending)
 split (keep q i) = split-keep q i (split i)
 split (put u f i) = split-put u f i (split i) (isMarked u) refl
 
-pub marked-or-not : {qs rs : List Piece} → Inserted Foreign qs rs → Inserted Quiet qs rs ⊎ FirstMarked qs rs
-marked-or-not {qs} {rs} i = go (split i)
+pub marked-or-not : {dialect : Dialect} {qs rs : List Piece} → Inserted (Foreign dialect) qs rs → Inserted (Quiet dialect) qs rs ⊎ FirstMarked dialect qs rs
+marked-or-not {dialect} {qs} {rs} i = go (split i)
   where
-    go : Split i → Inserted Quiet qs rs ⊎ FirstMarked qs rs
+    go : Split i → Inserted (Quiet dialect) qs rs ⊎ FirstMarked dialect qs rs
     go (inl (e, j)) = inl j
     go (inr f) = inr (f .first)
 
 -- A request, its AVPs after the first, the longer row, and what is behind it.
 module _ (head : List ℕ) (twenty : length head ≡ 20) (q : Piece) (qs rs : List Piece) (whole : All Whole (q ∷ qs)) (tail : List ℕ) (fours : length tail % 4 ≡ 0)
-    (most : length (requestOf head (q ∷ rs) tail) ≤ 16384) (x : Lent) (i : Inserted Foreign qs rs) where
+    (most : length (requestOf head (q ∷ rs) tail) ≤ 16384) (x : Lent) (i : Inserted (Foreign (dialectOf cx head)) qs rs) where
   abbrev short : Lent
   short = asking x (requestOf head (q ∷ qs) tail)
 
   abbrev long : Lent
   long = asking x (requestOf head (q ∷ rs) tail)
 
-  marked-newer : (m : FirstMarked qs rs) (y z : Bool) → turnedAway short ≡ y → faultIn head (q ∷ m .front) ≡ z
+  marked-newer : (m : FirstMarked (dialectOf cx head) qs rs) (y z : Bool) → turnedAway short ≡ y → faultIn head (q ∷ m .front) ≡ z
       → serve long ≡ cond (y || z) (serve short) (answered long (unsupported (x .table) (m .mark)))
   marked-newer m true z a b = refused-same head twenty q qs rs whole tail fours most i x a
   marked-newer m false true a b = fault-first head twenty q qs rs whole tail fours most m b x

@@ -15,8 +15,10 @@ use Rattle.octets.proofs.Numbers.{be24-alike, be32-alike, field-put}
 use Rattle.diameter.specs.Walk.{Walk, walk}
 use Rattle.table.specs.Blocks.{blockOf}
 use Rattle.reading.specs.declared.Dialect.{Dialect}
-use Rattle.reading.specs.Rules.{Judged, bad}
-use Rattle.reading.specs.Request.{commandOf, dialectOf, cx, headerFault, bodyOf, faultOf, readWalk, readIn, readRequest, identities, sessionOf}
+use Rattle.requests.specs.Judged.{Judged, bad}
+use Rattle.diameter.specs.Message.{commandOf, bodyOf}
+use Rattle.reading.specs.Verdicts.{faultOf}
+use Rattle.requests.specs.Request.{dialectOf, cx, headerFault, readWalk, readIn, readRequest, identities, sessionOf}
 use Rattle.decisions.specs.Reply.{Reply}
 use Rattle.decisions.specs.Assignment.{Decision}
 use Rattle.decisions.specs.Decide.{assignmentOf, decideRead, decideJudged, decide}

@@ -1,8 +1,8 @@
 -- Demand 3, of the AVP at fault: where AVPs are put in before it, it stands later by their length, and Failed-AVP holds the same.
-use Prim.Native.Nat.{ℕ, zero, suc, _+_, _%_, _≤_, _<_}
+use Prim.Native.Nat.{ℕ, _+_, _%_, _≤_, _<_}
 use native.Mathlib.Nat.{add-zero}
 use mathlib.Core.List.{List, [], _∷_, _++_, append-assoc}
-use mathlib.Core.Option.{none, some}
+use mathlib.Core.Option.{some}
 use mathlib.Core.Bool.{Bool, true, false, cond}
 use mathlib.Core.Path.{_≡_, refl, sym, ap, _∙_}
 use native.Mathlib.Omega.{arith}
@@ -10,7 +10,7 @@ use lib.ListN.{length, drop, set}
 use lib.Seq.{drop-drop, drop-at}
 use lib.Dec.{ltb}
 use borrow.Author.Tests.{lt-ltb, le-ltb}
-use Rattle.diameter.specs.Avp.{padded, avpLen, sound}
+use Rattle.diameter.specs.Avp.{padded, sound}
 use Rattle.diameter.specs.Walk.{Walk, ended, avp, walk}
 use Rattle.diameter.specs.Put.{glue, Piece, bytesOf, avpsOf, Whole, All}
 use Rattle.diameter.proofs.Walks.{sound-says, padded-least, walk-nil, walk-faulty}
@@ -20,9 +20,10 @@ use Rattle.reading.specs.declared.Ruled.{Ruled}
 use Rattle.reading.specs.declared.Ruled.the-variants.{Taken, Skipped, Fault}
 use Rattle.reading.specs.declared.Verdict.{Verdict}
 use Rattle.reading.specs.Kinds.{kindOf}
-use Rattle.reading.specs.Rules.{Seen, Judged, bad, fine, faultAt, rule, onRule, judge}
-use Rattle.reading.specs.Found.{numberOf}
-use Rattle.requests.proofs.Insert.{unknown-use, judge-unmarked, past}
+use Rattle.reading.specs.Rules.{Seen, rule}
+use Rattle.reading.specs.Verdicts.{faultAt, numberOf}
+use Rattle.requests.specs.Judged.{Judged, bad, fine, onRule, judge}
+use Rattle.requests.proofs.Insert.{judge-unmarked, past}
 use Rattle.failed.specs.Failing.{failedOf, failedBy}
 use Rattle.failed.proofs.Fronts.{failed-piece}
 use Rattle.demands.specs.Insertion.{Quiet, Inserted, ending, keep, put}
@@ -119,7 +120,7 @@ module _ (dialect : Dialect) (long short : List ℕ) where
 
   -- a row with others put in, and what is behind it
   module _ (t' t : List ℕ) (w' w : Walk) (ends : Ends t' t w' w) where
-    unfoldable pub Row-moved : {qs rs : List Piece} → Inserted Quiet qs rs → Type 0
+    unfoldable pub Row-moved : {qs rs : List Piece} → Inserted (Quiet dialect) qs rs → Type 0
     Row-moved {qs} {rs} i =
         All Whole qs → (at more : ℕ) → 0 < at → drop (at + more) long ≡ bytesOf rs ++ t' → drop at short ≡ bytesOf qs ++ t → (seen : Seen)
         → Moved long short at (λ p. more + putBefore i at p) (judge dialect (at + more) (glue (avpsOf rs) w') seen) (judge dialect at (glue (avpsOf qs) w) seen)
@@ -128,7 +129,7 @@ module _ (dialect : Dialect) (long short : List ℕ) where
     unfolding Row-moved putBefore avpsOf glue bytesOf
     row-ending h at more k e d seen = moved-as (omega arith) (λ p l. sym (add-zero more)) (ends at more k e d seen)
 
-    row-keep : (q : Piece) {qs rs : List Piece} (i : Inserted Quiet qs rs) → Row-moved i → Row-moved (keep q i)
+    row-keep : (q : Piece) {qs rs : List Piece} (i : Inserted (Quiet dialect) qs rs) → Row-moved i → Row-moved (keep q i)
     unfolding Row-moved putBefore avpsOf bytesOf glue judge
     row-keep q {qs} {rs} i next h at more k e d seen = go (rule dialect seen (q .avp))
       where
@@ -166,23 +167,23 @@ module _ (dialect : Dialect) (long short : List ℕ) where
         go Skipped = further seen
         go (Fault m) = faults _ _ (fault m)
 
-    row-put : (u : Piece) (p : Quiet u) {qs rs : List Piece} (i : Inserted Quiet qs rs) → Row-moved i → Row-moved (put u p i)
+    row-put : (u : Piece) (p : Quiet dialect u) {qs rs : List Piece} (i : Inserted (Quiet dialect) qs rs) → Row-moved i → Row-moved (put u p i)
     unfolding Row-moved putBefore avpsOf glue
     row-put u p {qs} {rs} i next h at more k e d seen =
         let n = sizeOf u in
         let f = p .foreign in
         let swap : at + more + n ≡ at + (more + n) = omega arith in
-        rw (judge-unmarked dialect (at + more) (u .avp) (glue (avpsOf rs) w') seen (f .plain) (unknown-use dialect (u .avp) (f .stranger)) (p .unmarked), swap)
+        rw (judge-unmarked dialect (at + more) (u .avp) (glue (avpsOf rs) w') seen (f .plain) (f .stranger) (p .unmarked), swap)
         (moved-as (omega arith) (λ q l. omega arith)
         (next h at (more + n) k (rw swap at (drop-row long (at + more) u rs t' (f .whole) e)) d seen))
 
-    pub row-moved : {qs rs : List Piece} (i : Inserted Quiet qs rs) → Row-moved i
+    pub row-moved : {qs rs : List Piece} (i : Inserted (Quiet dialect) qs rs) → Row-moved i
     row-moved ending = row-ending
     row-moved (keep q i) = row-keep q i (row-moved i)
     row-moved (put u p i) = row-put u p i (row-moved i)
 
   -- any bytes of a right length, which stand in both messages
-  kept : (qs : List Piece) → Inserted Quiet qs qs
+  kept : (qs : List Piece) → Inserted (Quiet dialect) qs qs
   kept [] = ending
   kept (q ∷ qs) = keep q (kept qs)
 

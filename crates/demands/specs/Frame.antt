@@ -10,9 +10,10 @@ use Rattle.lookup.specs.declared.Found.{Found}
 use Rattle.lookup.specs.declared.Found.the-variants.{At, Nothing}
 use Rattle.diameter.specs.Avp.{dataOf}
 use Rattle.reading.specs.Kinds.{userName}
-use Rattle.reading.specs.Rules.{Judged, bad, fine}
-use Rattle.reading.specs.Request.{bodyOf, readRequest, given, dataIn, identities}
-use Rattle.reading.specs.Found.{numberOf}
+use Rattle.requests.specs.Judged.{Judged, bad, fine}
+use Rattle.diameter.specs.Message.{bodyOf}
+use Rattle.requests.specs.Request.{readRequest, given, dataSeen, identities}
+use Rattle.reading.specs.Verdicts.{numberOf}
 use Rattle.reading.specs.declared.Outcome.{Outcome}
 
 -- a result 2xxx, B or X
@@ -31,7 +32,7 @@ firstOwner t count (a ∷ avps) = ownerAt t (findPublic t count (dataOf a))
 -- the subscription that a request asks about, by its private identity: the User-Name if given, else that of the first Public-Identity
 unfoldable pub askedIn : List ℕ → List ℕ → ℕ → Judged → Option (List ℕ)
 askedIn req t count (bad v) = none
-askedIn req t count (fine seen) = cond (given seen userName) (some (dataIn seen userName)) (firstOwner t count (identities (bodyOf req)))
+askedIn req t count (fine seen) = cond (given seen userName) (some (dataSeen seen userName)) (firstOwner t count (identities (bodyOf req)))
 
 unfoldable pub subscriptionOf : List ℕ → List ℕ → ℕ → Option (List ℕ)
 subscriptionOf req t count = askedIn req t count (readRequest req)

@@ -10,9 +10,11 @@ use Rattle.octets.specs.Number.{putBe24}
 use Rattle.diameter.specs.Avp.{avpFlags, reserved, marked, sound}
 use Rattle.diameter.specs.Walk.{ended}
 use Rattle.diameter.specs.Put.{Piece, Whole, All, bytesOf, avpsOf, glue}
-use Rattle.reading.specs.Kinds.{kindOf}
-use Rattle.reading.specs.Rules.{Judged, bad, fine, nothing, judge}
-use Rattle.reading.specs.Request.{dialectOf, cx, headerFault, firstOther}
+use Rattle.reading.specs.declared.Dialect.{Dialect}
+use Rattle.reading.specs.declared.Use.the-variants.{Unknown}
+use Rattle.reading.specs.Kinds.{useOf}
+use Rattle.requests.specs.Judged.{Judged, bad, fine, nothing, judge}
+use Rattle.requests.specs.Request.{dialectOf, cx, headerFault, firstOther}
 use Rattle.reading.specs.declared.Outcome.the-variants.{Base}
 use Rattle.decisions.specs.Reply.{failing}
 use Rattle.decisions.specs.Assignment.{Decision, unaltered}
@@ -28,18 +30,18 @@ message head body = putBe24 head 1 (20 + length body) ++ body
 abbrev pub requestOf : List ℕ → List Piece → List ℕ → List ℕ
 requestOf head qs tail = message head (bytesOf qs ++ tail)
 
--- an AVP of an unknown kind with its padding: sound, filled up to a multiple of 4, no reserved flag
-pub record Foreign (u : Piece) : Type 0 where
+-- an AVP of a kind that the dialect does not know, with its padding: sound, filled up to a multiple of 4, no reserved flag
+pub record Foreign (d : Dialect) (u : Piece) : Type 0 where
   pub whole : Whole u
   pub plain : reserved (avpFlags (u .avp)) ≡ 0
-  pub stranger : kindOf (u .avp) ≡ 0
+  pub stranger : useOf d (u .avp) ≡ Unknown
 
 abbrev pub isMarked : Piece → Bool
 isMarked u = marked (avpFlags (u .avp))
 
 -- such an AVP without M
-pub record Quiet (u : Piece) : Type 0 where
-  pub foreign : Foreign u
+pub record Quiet (d : Dialect) (u : Piece) : Type 0 where
+  pub foreign : Foreign d u
   pub unmarked : isMarked u ≡ false
 
 -- A row of AVPs with others put in, before, between and after its own, at any number of places: each of the longer row is kept or put in.
@@ -49,7 +51,7 @@ pub data Inserted (P : Piece → Type 0) : List Piece → List Piece → Type 0 
   put : (u : Piece) {qs rs : List Piece} → P u → Inserted P qs rs → Inserted P qs (u ∷ rs)
 
 -- Some of those put in are marked M: the first of them, the row before it and the row behind it.
-pub record FirstMarked (qs rs : List Piece) : Type 0 where
+pub record FirstMarked (d : Dialect) (qs rs : List Piece) : Type 0 where
   pub mark : Piece
   pub front : List Piece
   pub back : List Piece
@@ -57,10 +59,10 @@ pub record FirstMarked (qs rs : List Piece) : Type 0 where
   pub after : List Piece
   pub row : qs ≡ front ++ back
   pub longer : rs ≡ before ++ (mark ∷ after)
-  pub quiet : Inserted Quiet front before
-  pub foreign : Foreign mark
+  pub quiet : Inserted (Quiet d) front before
+  pub foreign : Foreign d mark
   pub marking : isMarked mark ≡ true
-  pub rest : Inserted Foreign back after
+  pub rest : Inserted (Foreign d) back after
 
 -- the header, or one of the AVPs in front, breaks a reading rule: (b) of the first, (a) and (c) to (h) of each
 abbrev pub isFault : Judged → Bool
@@ -93,7 +95,7 @@ pub record Cut (req : List ℕ) : Type 0 where
 pub record Longer (req longer : List ℕ) : Type 0 where
   pub cut : Cut req
   pub row : List Piece
-  pub inserted : Inserted Foreign (cut .rest) row
+  pub inserted : Inserted (Foreign (dialectOf cx (cut .head))) (cut .rest) row
   pub bytes : longer ≡ requestOf (cut .head) (cut .first ∷ row) (cut .tail)
   pub most : length longer ≤ 16384
 
@@ -106,7 +108,7 @@ abbrev pub behind : Piece → Option Mark → Option Mark
 behind q none = none
 behind q (some m) = some (record { front = q ∷ m .front; mark = m .mark })
 
-unfoldable pub firstMark : {qs rs : List Piece} → Inserted Foreign qs rs → Option Mark
+unfoldable pub firstMark : {d : Dialect} {qs rs : List Piece} → Inserted (Foreign d) qs rs → Option Mark
 firstMark ending = none
 firstMark (keep q i) = behind q (firstMark i)
 firstMark (put u f i) = cond (isMarked u) (some (record { front = []; mark = u })) (firstMark i)

@@ -11,7 +11,7 @@ use lib.Dec.{leb}
 use borrow.Author.Tests.{eq-eqb, ne-eqb}
 use Rattle.octets.specs.Number.{be32At}
 use Rattle.octets.proofs.Numbers.{be32-drop, be32-take}
-use Rattle.diameter.specs.Avp.{padded, headOf, avpCode, avpFlags, avpHead, vendorOf, dataOf, valueOf}
+use Rattle.diameter.specs.Avp.{padded, headOf, avpCode, avpFlags, vendorOf, dataOf, valueOf}
 use Rattle.diameter.specs.Reader.{readOf, partAt, present, dataAt, ownOf, Here}
 use Rattle.diameter.specs.declared.Avp.{Avp}
 use Rattle.diameter.specs.declared.Read.{Read}

@@ -118,7 +118,15 @@ module _ (s : List ℕ) (at : ℕ) (good : sound (drop at s) ≡ true) where
         stepped = refl;
         lengthed = refl;
         sounds = good;
-        here = record { headed = refl; flagged = refl; eight = head-least _; twelve = head-most _; least = h .least; room = omega (arith, w, h .eight, h .least) };
+        here =
+            record {
+              headed = refl;
+              flagged = refl;
+              eight = head-least _;
+              twelve = head-most _;
+              least = h .least;
+              room = omega (arith, w, h .eight, h .least);
+            };
         walked = walk-sound t good ∙ rw (drop-drop (padded (avpLen t)) at s);
         part = rw good;
         later = omega (arith, padded-least (avpLen t), h .eight, h .least);

@@ -1,14 +1,14 @@
 -- The faulty AVP of a request: its own bytes, or its header alone.
 use Prim.Native.Nat.{ℕ, _+_, _-_, _*_, _/_, _%_, _≤_, _<_, min}
 use mathlib.Core.Path.{_≡_, refl, sym, ap, _∙_}
-use mathlib.Core.Bool.{Bool, true, false, cond}
+use mathlib.Core.Bool.{Bool, true, false}
 use mathlib.Core.List.{List, []}
 use native.Mathlib.Omega.{arith}
 use native.Mathlib.Nat.{add-sub-cancel-left}
-use lib.Dec.{leb, ltb}
+use lib.Dec.{ltb}
 use lib.ListN.{length, getD, take, drop, set, length-take, length-drop, length-set, drop-of-length-le}
-use lib.Seq.{take-nil, take-set-lt, take-set-le, set-out, length-take-le, getD-drop}
-use borrow.Author.Tests.{ltb-true, ltb-false, leb-true, le-leb, lt-leb, eq-eqb, ne-eqb}
+use lib.Seq.{take-nil, take-set-lt, take-set-le, set-out, getD-drop}
+use borrow.Author.Tests.{ltb-true, ltb-false, le-leb, lt-leb, eq-eqb, ne-eqb}
 use Rattle.octets.specs.Number.{be24At, putBe24}
 use Rattle.octets.specs.Run.{Wrote}
 use Rattle.octets.proofs.Writes.{named, front}

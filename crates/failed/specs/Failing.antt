@@ -12,7 +12,7 @@ use Rattle.reading.specs.declared.Content.the-variants.{Free, Number, Sized, Ap
 use Rattle.reading.specs.declared.Kind.{Kind}
 use Rattle.reading.specs.declared.Verdict.{Verdict}
 use Rattle.reading.specs.Kinds.{rowOf}
-use Rattle.reading.specs.Found.{numberOf}
+use Rattle.reading.specs.Verdicts.{numberOf}
 
 -- the header of the AVP at the front, nothing "if that header is cut off"
 unfoldable pub headPart : List ℕ → List ℕ

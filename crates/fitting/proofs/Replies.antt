@@ -16,16 +16,17 @@ use Rattle.lookup.specs.declared.Found.{Found}
 use Rattle.lookup.specs.declared.Found.the-variants.{At, Nothing}
 use Rattle.diameter.specs.Walk.{walk}
 use Rattle.reading.specs.Kinds.{userName, publicIdentity, visitedNetwork, authorizationType}
-use Rattle.reading.specs.Rules.{Seen, Judged, bad, fine}
-use Rattle.reading.specs.Request.{commandOf, bodyOf, readRequest, dataIn, valueIn, identities}
+use Rattle.reading.specs.Rules.{Seen}
+use Rattle.requests.specs.Judged.{Judged, bad, fine}
+use Rattle.diameter.specs.Message.{commandOf, bodyOf}
+use Rattle.requests.specs.Request.{readRequest, dataSeen, valueSeen, identities}
 use Rattle.reading.specs.declared.Outcome.{Outcome}
 use Rattle.reading.specs.declared.Outcome.the-variants.{Base, Experimental}
 use Rattle.decisions.specs.Types.{groupOf, isRemoval, effectOf}
 use Rattle.decisions.specs.Reply.{Reply, plain, failing, serving, served, capable, servedBy}
 use Rattle.decisions.specs.Authorization.{mayRoam, authorizeRecord, authorizeFound, authorize}
 use Rattle.decisions.specs.Location.{locateRecord, locateFound, locate}
-use Rattle.decisions.specs.Assignment.{Assignment, identityFault, every, isEmpty, firstOf, ownerOf, ownAt, storesAt, fitsAt, rightAt, recordsOf, allKnown}
-use Rattle.decisions.specs.Assignment.{assigned, unaltered, effected, assignRecords, assignKnown, assign}
+use Rattle.decisions.specs.Assignment.{Assignment, identityFault, every, isEmpty, firstOf, ownerOf, ownAt, storesAt, fitsAt, rightAt, recordsOf, allKnown, assigned, unaltered, effected, assignRecords, assignKnown, assign}
 use Rattle.decisions.specs.Decide.{assignmentOf, decideRead, decideJudged, decide}
 use Rattle.reply.specs.Answer.{failedPart}
 use Rattle.failed.specs.Failing.{example, failedBy}
@@ -134,13 +135,13 @@ module _ (t : List ℕ) (count : ℕ) (file : List ℕ) (P : Reply → Type 0) (
           (of-fault (length (drop 20 req)) (omega (arith, length-drop 20 req)) (isRemoval (groupOf (s .kind))) (s .named) (s .identities) (rw e within))
 
       by : (x y : Bool) (seen : Seen)
-          → P (cond x (unaltered t (authorize t count (dataIn seen userName) (dataIn seen publicIdentity) (dataIn seen visitedNetwork)
-          (valueIn seen authorizationType)))
+          → P (cond x (unaltered t (authorize t count (dataSeen seen userName) (dataSeen seen publicIdentity) (dataSeen seen visitedNetwork)
+          (valueSeen seen authorizationType)))
           (cond y (assign t count file (eqb (getD (blockOf t 0) 12 0) 1) (assignmentOf seen req))
-          (unaltered t (locate t count (dataIn seen publicIdentity)))) .reply)
-      by true y seen = of-uar (dataIn seen userName) (dataIn seen publicIdentity) (dataIn seen visitedNetwork) (valueIn seen authorizationType)
+          (unaltered t (locate t count (dataSeen seen publicIdentity)))) .reply)
+      by true y seen = of-uar (dataSeen seen userName) (dataSeen seen publicIdentity) (dataSeen seen visitedNetwork) (valueSeen seen authorizationType)
       by false true seen = sar (assignmentOf seen req) refl (eqb (getD (blockOf t 0) 12 0) 1)
-      by false false seen = of-lir (dataIn seen publicIdentity)
+      by false false seen = of-lir (dataSeen seen publicIdentity)
 
       go : (j : Judged) → P (decideJudged req t count file j .reply)
       go (bad v) = faulty (v .result) (failedBy req v) (failed-short req v k)

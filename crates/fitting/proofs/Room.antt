@@ -17,7 +17,7 @@ use Rattle.table.specs.Blocks.{blockOf, privateAt}
 use Rattle.lookup.proofs.Sound.{sound-header}
 use Rattle.lookup.specs.SoundTable.{SoundTable}
 use Rattle.pen.specs.Bytes.{copiedSize}
-use Rattle.reading.specs.Request.{bodyOf}
+use Rattle.diameter.specs.Message.{bodyOf}
 use Rattle.reading.specs.declared.Outcome.{Outcome}
 use Rattle.decisions.specs.Reply.{Reply, plain, failing, serving, capable}
 use Rattle.decisions.specs.Assignment.{Assignment, assigned}

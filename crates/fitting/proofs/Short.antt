@@ -10,8 +10,8 @@ use Rattle.diameter.specs.Avp.{padded, avpLen, sound}
 use Rattle.diameter.specs.Walk.{Walk, ended, faulty, avp, onSound, walkFrom, walk}
 use Rattle.pen.proofs.Groups as groups
 use Rattle.reading.specs.Kinds.{kindOf, publicIdentity}
-use Rattle.reading.specs.Request.{identities}
-use Rattle.reading.specs.Found.{numberOf}
+use Rattle.requests.specs.Request.{identities}
+use Rattle.reading.specs.Verdicts.{numberOf}
 use Rattle.reading.specs.declared.Verdict.{Verdict}
 use Rattle.failed.specs.Failing.{failedOf, example, failedBy}
 use Rattle.failed.proofs.Short.{fault-length, example-length}

@@ -27,6 +27,7 @@ use Rattle.ndushavire.specs.Reads.{Reads, ReadsCheck}
 use Rattle.worked.proofs.Sample.{header, person, request, answer, s, z, opened}
 use Rattle.demands.specs.Call.{answerTo}
 use Rattle.demands.specs.Frame.{firstOwner, askedIn, subscriptionOf}
+use Rattle.requests.specs.Request.{dialectOf, cx}
 use Rattle.demands.specs.Insertion.{message, requestOf, Foreign, Quiet, Inserted, ending, keep, put, FirstMarked, faultIn, Cut, Longer, firstMark, newer, Newer}
 use Rattle.demands.proofs.Demands.{promised, checked, demand-1, demand-1-number, demand-1-none, demand-1-block, demand-1-length, demand-1-fits}
 use Rattle.demands.proofs.Demands.{demand-1-within, demand-1-word, demand-1-kept}
@@ -233,23 +234,23 @@ unfolding allWhole
 all-whole [] e = tt
 all-whole (q ∷ qs) e = (is-whole q (and-left (isWhole q) _ e), all-whole qs (and-right (isWhole q) _ e))
 
-foreign-plain : Foreign plain
+foreign-plain : Foreign (dialectOf cx head) plain
 unfolding all
 foreign-plain = record { whole = record { right = refl; exact = refl; filled = refl }; plain = refl; stranger = refl }
 
-foreign-zero : Foreign zeroVendor
+foreign-zero : Foreign (dialectOf cx head) zeroVendor
 unfolding all
 foreign-zero = record { whole = record { right = refl; exact = refl; filled = refl }; plain = refl; stranger = refl }
 
-foreign-loud : Foreign loud
+foreign-loud : Foreign (dialectOf cx head) loud
 unfolding all
 foreign-loud = record { whole = record { right = refl; exact = refl; filled = refl }; plain = refl; stranger = refl }
 
-quiet-plain : Quiet plain
+quiet-plain : Quiet (dialectOf cx head) plain
 unfolding all
 quiet-plain = record { foreign = foreign-plain; unmarked = refl }
 
-quiet-zero : Quiet zeroVendor
+quiet-zero : Quiet (dialectOf cx head) zeroVendor
 unfolding all
 quiet-zero = record { foreign = foreign-zero; unmarked = refl }
 
@@ -286,7 +287,7 @@ met-3-tail =
     ∙ cut-answered
 
 -- one marked M between a front and a back
-markedAt : (front back : List Piece) → FirstMarked (front ++ back) (front ++ (loud ∷ back))
+markedAt : (front back : List Piece) → FirstMarked (dialectOf cx head) (front ++ back) (front ++ (loud ∷ back))
 unfolding all
 markedAt front back =
     record {
@@ -304,8 +305,8 @@ markedAt front back =
     }
 
 -- these are all cases
-met-3-cases : Inserted Quiet common (plain ∷ common) ⊎ FirstMarked common (plain ∷ common)
-met-3-cases = demand-3-cases common (plain ∷ common) (put plain foreign-plain (kept common))
+met-3-cases : Inserted (Quiet (dialectOf cx head)) common (plain ∷ common) ⊎ FirstMarked (dialectOf cx head) common (plain ∷ common)
+met-3-cases = demand-3-cases (dialectOf cx head) common (plain ∷ common) (put plain foreign-plain (kept common))
 
 unsupported-answer : Served
 unsupported-answer = comes table (answer (numberBytes 268 5001) (failed (loud .avp)))

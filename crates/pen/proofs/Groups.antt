@@ -91,5 +91,6 @@ pub wrote-capabilities : (m o : List ℕ) {b xs ys zs : List ℕ} {r t : ℕ} �
     → Wrote (capabilities m o) b (back (12 + r) (back 12 xs ys) zs) (12 + r + t)
 unfolding capabilities vendorGroup
 wrote-capabilities m o h p q s =
-    let l : 12 + length (vendorNumbers 604 m (words m) ++ vendorNumbers 605 o (words o)) ≡ capabilitiesSize (words m) (words o) = omega (arith, members-length m o) in
-    wrote-there (words m + words o) _ (omega arith) (named (append-assoc (vendorHead 603 (capabilitiesSize (words m) (words o))) _ _ ∙ rw l) refl (then (then p q) s))
+    let size = capabilitiesSize (words m) (words o) in
+    let l : 12 + length (vendorNumbers 604 m (words m) ++ vendorNumbers 605 o (words o)) ≡ size = omega (arith, members-length m o) in
+    wrote-there (words m + words o) _ (omega arith) (named (append-assoc (vendorHead 603 size) _ _ ∙ rw l) refl (then (then p q) s))

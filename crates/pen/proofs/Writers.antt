@@ -15,7 +15,8 @@ pub wrote-vendorHead : (code len : ℕ) {b xs ys : List ℕ} → Wrote (headByte
 unfolding vendorHead
 wrote-vendorHead code len p q = then p q
 
-pub wrote-copied : (d : List ℕ) {b xs ys : List ℕ} {k : ℕ} → Wrote d b xs (length d) → Wrote (replicate (inFours (length d) - length d) 0) (lent (length d) xs) ys k
+pub wrote-copied : (d : List ℕ) {b xs ys : List ℕ} {k : ℕ} → Wrote d b xs (length d)
+    → Wrote (replicate (inFours (length d) - length d) 0) (lent (length d) xs) ys k
     → Wrote (copied d) b (back (length d) xs ys) (length d + k)
 unfolding copied padding
 wrote-copied d p q = then p q

@@ -1,12 +1,12 @@
 -- Rules (c) to (h): from what the code finds of one AVP to what the rules say of it.
-use Prim.Native.Nat.{ℕ, zero, suc, _+_, _-_, _/_, _%_, _<_, _≤_}
+use Prim.Native.Nat.{ℕ, zero, suc, _+_, _-_, _/_, _%_, _<_}
 use native.Mathlib.Nat.{not-suc-le-zero, le-of-suc-le-suc}
-use mathlib.Core.Path.{_≡_, refl, sym, _∙_}
+use mathlib.Core.Path.{_≡_, refl, _∙_}
 use mathlib.Core.List.{List, [], _∷_, map}
 use mathlib.Core.Option.{none}
-use mathlib.Core.Bool.{Bool, true, false, not, _&&_}
+use mathlib.Core.Bool.{Bool, true, false, _&&_}
 use lib.ListN.{length, getD}
-use lib.Dec.{eqb, leb}
+use lib.Dec.{leb}
 use borrow.Author.Tests.{eq-eqb, ne-eqb}
 use Rattle.diameter.specs.Avp.{dataOf, valueOf}
 use Rattle.diameter.specs.Walk.{walk}
@@ -23,8 +23,10 @@ use Rattle.reading.specs.declared.Ruled.the-variants.{Taken, Skipped, Fa
 use Rattle.reading.specs.declared.Use.{Use}
 use Rattle.reading.specs.declared.Use.the-variants.{Unknown, Unnamed, Needed, Optional, Repeated}
 use Rattle.reading.specs.Kinds.{kindOf, rowOf, useIn}
-use Rattle.reading.specs.Rules.{members, faultUnless, numberFault, contentFault, ofUnknown, ofContent, ofOnce, ruleBy, rule}
-use Rattle.reading.specs.Found.{seenOf}
+use Rattle.reading.specs.Contents.{faultUnless, numberFault, plainFault}
+use Rattle.reading.specs.Groups.{membersOf, gathers}
+use Rattle.reading.specs.Rules.{contentFault, ofUnknown, ofContent, ofOnce, ruleBy, rule}
+use Rattle.reading.specs.Places.{seenOf}
 
 -- (g), (h), by what the kind must hold
 module _ (s : List ℕ) (a : Avp) (h : Here s a) where
@@ -37,25 +39,41 @@ module _ (s : List ℕ) (a : Avp) (h : Here s a) where
   unfolding numberFault
   number-judged least most n r e d m = m ∙ rw (own-avpHead s a h, counted s a h, eq-eqb _ _ e, ← d)
 
-  module _ (d : Dialect) (c : Content) where
-    pub content-sized : (least most r : ℕ) → c ≡ Sized least most → r ≡ faultUnless (leb least (a .len - a .head) && leb (a .len - a .head) most) 5004
-        → r ≡ contentFault d c (ownOf s a)
+  pub plain-sized : (c : Content) (least most r : ℕ) → c ≡ Sized least most → r ≡ faultUnless (leb least (a .len - a .head) && leb (a .len - a .head) most) 5004
+      → r ≡ plainFault c (ownOf s a)
+  unfolding plainFault
+  plain-sized c least most r e m = m ∙ rw (e, data-length s a h)
+
+module _ (c : Content) (a : List ℕ) where
+  pub plain-free : c ≡ Free → 0 ≡ plainFault c a
+  unfolding plainFault
+  plain-free e = rw e
+
+  pub plain-group : c ≡ Application → 0 ≡ plainFault c a
+  unfolding plainFault
+  plain-group e = rw e
+
+  pub plain-number : (least most r : ℕ) → c ≡ Number least most → r ≡ numberFault least most a → r ≡ plainFault c a
+  unfolding plainFault
+  plain-number least most r e m = m ∙ rw e
+
+  module _ (d : Dialect) (r : ℕ) where
+    pub content-free : c ≡ Free → r ≡ plainFault c a → r ≡ contentFault d c a
     unfolding contentFault
-    content-sized least most r e m = m ∙ rw (e, data-length s a h)
+    content-free e m = m ∙ rw e
 
-module _ (d : Dialect) (c : Content) (a : List ℕ) where
-  pub content-free : c ≡ Free → 0 ≡ contentFault d c a
-  unfolding contentFault
-  content-free e = rw e
+    pub content-number : (least most : ℕ) → c ≡ Number least most → r ≡ plainFault c a → r ≡ contentFault d c a
+    unfolding contentFault
+    content-number least most e m = m ∙ rw e
 
-  pub content-number : (least most r : ℕ) → c ≡ Number least most → r ≡ numberFault least most a → r ≡ contentFault d c a
-  unfolding contentFault
-  content-number least most r e m = m ∙ rw e
+    pub content-sized : (least most : ℕ) → c ≡ Sized least most → r ≡ plainFault c a → r ≡ contentFault d c a
+    unfolding contentFault
+    content-sized least most e m = m ∙ rw e
 
-  pub content-application : (t : List ℕ) (b : Bool) (r : ℕ) → c ≡ Application → t ≡ dataOf a → b ≡ members (d .application) (walk t) false false → r ≡ faultUnless b 5004
-      → r ≡ contentFault d c a
-  unfolding contentFault
-  content-application t b r e f m g = g ∙ rw (m, e, f)
+    pub content-application : (t : List ℕ) (b : Bool) → c ≡ Application → t ≡ dataOf a → b ≡ gathers (membersOf d c) (walk t) → r ≡ faultUnless b 5004
+        → r ≡ contentFault d c a
+    unfolding contentFault
+    content-application t b e f m g = g ∙ rw (m, e, f)
 
 -- (d), (f), (g) and (h)
 pub unknown-marked : (flags : ℕ) → flags / 64 % 2 ≡ 1 → Fault 5001 ≡ ofUnknown flags

@@ -12,7 +12,6 @@ use Rattle.diameter.specs.declared.Avp.{Avp}
 use Rattle.diameter.proofs.Reading.{own-flags}
 use Rattle.reading.specs.declared.Dialect.{Dialect}
 use Rattle.reading.specs.declared.Kind.{Kind}
-use Rattle.reading.specs.declared.Use.{Use}
 use Rattle.reading.specs.Kinds.{
   kinds,
   known,
@@ -58,18 +57,20 @@ module _ (d : Dialect) (k : Kind) where
 pub row-is : (n k : ℕ) {r : Kind} → k ≡ n → r ≡ rowOf n → r ≡ rowOf k
 row-is n k e d = d ∙ rw e
 
-above : (n k : ℕ) → n ≤ k → (k ≡ n → ⊥) → suc n ≤ k
-above n k h e = omega arith
+above : {n k : ℕ} → n ≤ k → (k ≡ n → ⊥) → suc n ≤ k
+above h e = omega arith
 
-pub row-past : (k : ℕ) {r : Kind} → r ≡ unknown → (k ≡ sessionId → ⊥) → (k ≡ application → ⊥) → (k ≡ sessionState → ⊥) → (k ≡ originHost → ⊥) → (k ≡ originRealm → ⊥)
+pub row-past : (k : ℕ) {r : Kind} → r ≡ unknown → (k ≡ sessionId → ⊥) → (k ≡ application → ⊥) → (k ≡ sessionState → ⊥) → (k ≡ originHost → ⊥)
+    → (k ≡ originRealm → ⊥)
     → (k ≡ destinationRealm → ⊥) → (k ≡ userName → ⊥) → (k ≡ publicIdentity → ⊥) → (k ≡ visitedNetwork → ⊥) → (k ≡ serverName → ⊥) → (k ≡ assignmentType → ⊥)
     → (k ≡ dataAvailable → ⊥) → (k ≡ authorizationType → ⊥) → (k ≡ destinationHost → ⊥) → (k ≡ proxyInfo → ⊥) → (k ≡ routeRecord → ⊥) → r ≡ rowOf k
 unfolding rowOf known
 row-past zero e a b c d f g h i j k' l m n o p q = e
 row-past (suc k) e a b c d f g h i j k' l m n o p q =
-    let low : suc destinationRealm ≤ suc k = above destinationRealm (suc k) (above originRealm (suc k) (above originHost (suc k) (above sessionState (suc k) (above application (suc k) (above sessionId (suc k) (omega arith) a) b) c) d) f) g in
-    let middle : suc assignmentType ≤ suc k = above assignmentType (suc k) (above serverName (suc k) (above visitedNetwork (suc k) (above publicIdentity (suc k) (above userName (suc k) low h) i) j) k') l in
-    let past : kinds ≤ suc k = above routeRecord (suc k) (above proxyInfo (suc k) (above destinationHost (suc k) (above authorizationType (suc k) (above dataAvailable (suc k) middle m) n) o) p) q in
+    let first : sessionId ≤ suc k = omega arith in
+    let low : suc destinationRealm ≤ suc k = above (above (above (above (above (above first a) b) c) d) f) g in
+    let middle : suc assignmentType ≤ suc k = above (above (above (above (above low h) i) j) k') l in
+    let past : kinds ≤ suc k = above (above (above (above (above middle m) n) o) p) q in
     e ∙ sym (List·getD-eq-default (unknown ∷ known) unknown past)
 
 -- a code that is none of them
@@ -78,7 +79,8 @@ pub base-none : (code : ℕ) → (code ≡ 263 → ⊥) → (code ≡ 260 → �
 unfolding kindBy kindFrom known
 base-none code a b c d e f g h i j = simp (ne-eqb, and-false)
 
-pub vendor-none : (code : ℕ) → (code ≡ 601 → ⊥) → (code ≡ 600 → ⊥) → (code ≡ 602 → ⊥) → (code ≡ 614 → ⊥) → (code ≡ 624 → ⊥) → (code ≡ 623 → ⊥) → 0 ≡ kindBy 128 10415 code
+pub vendor-none : (code : ℕ) → (code ≡ 601 → ⊥) → (code ≡ 600 → ⊥) → (code ≡ 602 → ⊥) → (code ≡ 614 → ⊥) → (code ≡ 624 → ⊥) → (code ≡ 623 → ⊥)
+    → 0 ≡ kindBy 128 10415 code
 unfolding kindBy kindFrom known
 vendor-none code a b c d e f = simp (ne-eqb, and-false)
 

@@ -1,57 +1,165 @@
--- A member of 260, and the turns of the loop over the members.
+-- The members of a group: one AVP beside the table, and the turns of the loops over the AVPs.
 use Prim.Native.Nat.{ℕ, _+_, _%_, _≤_, _<_}
-use mathlib.Core.Path.{_≡_, sym, _∙_}
-use mathlib.Core.List.{List}
-use mathlib.Core.Bool.{Bool, true, false, not, _&&_, and-true, and-false}
+use native.Mathlib.Nat.{zero-add, add-zero}
 use native.Mathlib.Omega.{arith}
-use lib.ListN.{length, drop}
-use lib.Dec.{eqb, ltb}
-use borrow.Author.Tests.{eq-eqb, ne-eqb}
-use Rattle.octets.specs.Number.{be32At}
-use Rattle.octets.proofs.Numbers.{be32-drop, be32-take}
-use Rattle.diameter.specs.Avp.{avpCode}
+use mathlib.Core.Path.{_≡_, sym, ap, _∙_}
+use mathlib.Core.List.{List}
+use mathlib.Core.Bool.{Bool, true, false, not, _&&_, and-assoc}
+use lib.ListN.{length, getD, drop, List·getD-eq-default}
+use lib.Dec.{eqb, leb, ltb}
+use borrow.Author.Tests.{lt-leb, le-leb}
+use Rattle.octets.specs.All.{allBelow}
+use Rattle.octets.proofs.All.{all-more}
+use Rattle.diameter.specs.Avp.{avpCode, vendorOf}
 use Rattle.diameter.specs.Reader.{readOf, ownOf, Here}
 use Rattle.diameter.specs.Walk.{walk}
 use Rattle.diameter.specs.declared.Avp.{Avp}
 use Rattle.diameter.specs.declared.Read.{Read}
 use Rattle.diameter.specs.declared.Read.the-variants as read
-use Rattle.diameter.proofs.Parts.{counted}
 use Rattle.diameter.proofs.Reading.{own-flags, read-says, read-fault-says, walk-past}
-use Rattle.reading.specs.Rules.{isMember, members}
+use Rattle.reading.specs.declared.Content.{Content}
+use Rattle.reading.specs.declared.Content.the-variants.{Free, Number, Sized, Application}
+use Rattle.reading.specs.declared.Dialect.{Dialect}
+use Rattle.reading.specs.declared.Member.{Member}
+use Rattle.reading.specs.Contents.{plainFault}
+use Rattle.reading.specs.Groups.{member, nobody, applicationMembers, membersOf, isOf, fits, unlike, isOther, onlyOf, countOf, enough, enoughAt, gathers}
 
-module _ (s : List ℕ) (a : Avp) (h : Here s a) (code value : ℕ) where
-  pub member-short : (a .len ≡ 12 → ⊥) → false ≡ isMember (ownOf s a) code value
-  unfolding isMember
-  member-short e = simp (counted s a h, ne-eqb _ _ e, and-false)
+-- the table by the content: what is no group has no member
+module _ (d : Dialect) (c : Content) where
+  module _ (k : ℕ) (r : Member) where
+    pub member-free : c ≡ Free → r ≡ nobody → r ≡ getD (membersOf d c) k nobody
+    unfolding membersOf
+    member-free e m = m ∙ rw e
 
-  pub member-is : (c v : ℕ) → a .len ≡ 12 → c ≡ avpCode (ownOf s a) → v ≡ be32At s (a .at + 8)
-      → (eqb (a .flags % 32) 0 && ltb (a .flags) 128 && eqb c code && eqb v value) ≡ isMember (ownOf s a) code value
-  unfolding isMember
-  member-is c v e ec ev =
-      let b : be32At (ownOf s a) 8 ≡ v = be32-take (drop (a .at) s) (a .len) 8 (omega arith) ∙ be32-drop s (a .at) 8 ∙ sym ev in
-      rw (own-flags s a h, counted s a h, eq-eqb _ _ e, ← ec, b, and-true)
+    pub member-number : (least most : ℕ) → c ≡ Number least most → r ≡ nobody → r ≡ getD (membersOf d c) k nobody
+    unfolding membersOf
+    member-number least most e m = m ∙ rw e
 
--- the members from a place on are judged as the whole is
-module _ (s : List ℕ) (at : ℕ) (r : Read) (e : r ≡ readOf at (drop at s)) (application : ℕ) (vendor app whole : Bool)
-    (left : members application (walk (drop at s)) vendor app ≡ whole) where
-  module _ (a : Avp) (d : r ≡ read.Avp a) {x : Bool} (m : x ≡ isMember (ownOf s a) 266 10415) where
-    pub members-vendor : x ≡ true → members application (walk (drop (a .next) s)) true app ≡ whole
-    unfolding members
-    members-vendor t = rw (read-says s at r e a d .walked, ← m, t) at left
+    pub member-sized : (least most : ℕ) → c ≡ Sized least most → r ≡ nobody → r ≡ getD (membersOf d c) k nobody
+    unfolding membersOf
+    member-sized least most e m = m ∙ rw e
 
-    module _ (f : x ≡ false) {y : Bool} (n : y ≡ isMember (ownOf s a) 258 application) where
-      pub members-application : (y && not app) ≡ true → members application (walk (drop (a .next) s)) vendor true ≡ whole
-      unfolding members
-      members-application t = rw (read-says s at r e a d .walked, ← m, f, ← n, t) at left
+    pub member-application : c ≡ Application → r ≡ getD (applicationMembers (d .application)) k nobody → r ≡ getD (membersOf d c) k nobody
+    unfolding membersOf
+    member-application e m = m ∙ rw e
 
-      pub members-stranger : (y && not app) ≡ false → false ≡ whole
-      unfolding members
-      members-stranger t = rw (read-says s at r e a d .walked, ← m, f, ← n, t) at left
+  pub size-free : c ≡ Free → 0 ≡ length (membersOf d c)
+  unfolding membersOf
+  size-free e = rw e
 
-  pub members-cut : at < length s → r ≡ read.Fault → false ≡ whole
-  unfolding members
-  members-cut h d = rw (read-fault-says s at r e h d) at left
+  pub size-number : (least most : ℕ) → c ≡ Number least most → 0 ≡ length (membersOf d c)
+  unfolding membersOf
+  size-number least most e = rw e
 
-pub members-end : (s : List ℕ) (at application : ℕ) (vendor app whole : Bool) → members application (walk (drop at s)) vendor app ≡ whole → length s ≤ at → (vendor && app) ≡ whole
-unfolding members
-members-end s at application vendor app whole left h = rw (walk-past s at h) at left
+  pub size-sized : (least most : ℕ) → c ≡ Sized least most → 0 ≡ length (membersOf d c)
+  unfolding membersOf
+  size-sized least most e = rw e
+
+  pub size-application : c ≡ Application → 2 ≡ length (membersOf d c)
+  unfolding membersOf applicationMembers
+  size-application e = rw e
+
+-- 260's
+module _ (application k : ℕ) {r : Member} where
+  pub first-member : k ≡ 0 → r ≡ member 266 0 (Number 10415 10415) true → r ≡ getD (applicationMembers application) k nobody
+  unfolding applicationMembers
+  first-member e m = m ∙ rw e
+
+  pub second-member : k ≡ 1 → r ≡ member 258 0 (Number application application) false → r ≡ getD (applicationMembers application) k nobody
+  unfolding applicationMembers
+  second-member e m = m ∙ rw e
+
+  pub no-member : (k ≡ 0 → ⊥) → (k ≡ 1 → ⊥) → r ≡ nobody → r ≡ getD (applicationMembers application) k nobody
+  unfolding applicationMembers
+  no-member e f m = let past : 2 ≤ k = omega arith in m ∙ sym (List·getD-eq-default (applicationMembers application) nobody past)
+
+-- the loops over the table
+module _ (ms : List Member) (k : ℕ) (m : Member) (em : m ≡ getD ms k nobody) where
+  pub other-more : (b : List ℕ) {other x : Bool} → other ≡ allBelow (unlike ms b) k → x ≡ fits m b
+      → (other && not x) ≡ allBelow (unlike ms b) (k + 1)
+  unfolding unlike
+  other-more b e f = all-more (unlike ms b) k e (rw (f, em))
+
+  pub all-enough : (s : List ℕ) {all x : Bool} → all ≡ allBelow (enoughAt ms (walk s)) k → x ≡ enough m (walk s)
+      → (all && x) ≡ allBelow (enoughAt ms (walk s)) (k + 1)
+  unfolding enoughAt
+  all-enough s e f = all-more (enoughAt ms (walk s)) k e (f ∙ rw em)
+
+pub other-end : (ms : List Member) (b : List ℕ) (k n : ℕ) {other : Bool} → other ≡ allBelow (unlike ms b) k → n ≡ length ms → k ≤ n → n ≤ k
+    → other ≡ isOther ms b
+other-end ms b k n e l g h = let f : k ≡ length ms = omega arith in rw f at e
+
+pub gathers-end : (ms : List Member) (s : List ℕ) (k n : ℕ) {all x : Bool} → all ≡ allBelow (enoughAt ms (walk s)) k → n ≡ length ms → k ≤ n → n ≤ k
+    → x ≡ onlyOf ms (walk s) → (all && x) ≡ gathers ms (walk s)
+unfolding gathers
+gathers-end ms s k n e l g h ex = let f : k ≡ length ms = omega arith in rw (e, f, ex)
+
+-- an AVP of a code and vendor, without V and with it
+module _ (s : List ℕ) (a : Avp) (h : Here s a) (code vendor c : ℕ) (ec : c ≡ avpCode (ownOf s a)) where
+  pub of-base : a .flags < 128 → (eqb c code && eqb vendor 0) ≡ isOf code vendor (ownOf s a)
+  unfolding isOf
+  of-base l = rw (own-flags s a h, lt-leb _ _ l, ← ec)
+
+  pub of-vendor : (v : ℕ) → 128 ≤ a .flags → v ≡ vendorOf (ownOf s a) → (eqb c code && ltb 0 vendor && eqb v vendor) ≡ isOf code vendor (ownOf s a)
+  unfolding isOf
+  of-vendor v l ev = rw (own-flags s a h, le-leb _ _ l, ← ec, ← ev) (and-assoc (eqb c code) (ltb 0 vendor) (eqb v vendor))
+
+pub fits-there : (s : List ℕ) (a : Avp) → Here s a → (m : Member) (x : Bool) (n : ℕ) → x ≡ isOf (m .code) (m .vendor) (ownOf s a)
+    → n ≡ plainFault (m .content) (ownOf s a)
+    → (eqb (a .flags % 32) 0 && x && eqb n 0) ≡ fits m (ownOf s a)
+unfolding fits
+fits-there s a h m x n ex en = rw (own-flags s a h, ex, en)
+
+-- the AVPs from a place on are looked at as the whole is
+module _ (s : List ℕ) (at : ℕ) (r : Read) (e : r ≡ readOf at (drop at s)) where
+  module _ (ms : List Member) (whole : Bool) (left : onlyOf ms (walk (drop at s)) ≡ whole) where
+    pub only-cut : at < length s → r ≡ read.Fault → false ≡ whole
+    unfolding onlyOf
+    only-cut h d = rw (read-fault-says s at r e h d) at left
+
+    module _ (a : Avp) (d : r ≡ read.Avp a) (x : Bool) (ex : x ≡ isOther ms (ownOf s a)) where
+      pub only-other : x ≡ true → false ≡ whole
+      unfolding onlyOf
+      only-other t = rw (read-says s at r e a d .walked, ← ex, t) at left
+
+      pub only-more : x ≡ false → onlyOf ms (walk (drop (a .next) s)) ≡ whole
+      unfolding onlyOf
+      only-more t = rw (read-says s at r e a d .walked, ← ex, t) at left
+
+  module _ (m : Member) (n whole : ℕ) (left : n + countOf m (walk (drop at s)) ≡ whole) where
+    pub count-cut : at < length s → r ≡ read.Fault → n ≡ whole
+    unfolding countOf
+    count-cut h d = rw (read-fault-says s at r e h d, add-zero) at left
+
+    module _ (a : Avp) (d : r ≡ read.Avp a) (x : Bool) (ex : x ≡ fits m (ownOf s a)) where
+      pub count-one : x ≡ true → n + 1 + countOf m (walk (drop (a .next) s)) ≡ whole
+      unfolding countOf
+      count-one t = omega (arith, rw (read-says s at r e a d .walked, ← ex, t) at left)
+
+      pub count-other : x ≡ false → n + countOf m (walk (drop (a .next) s)) ≡ whole
+      unfolding countOf
+      count-other t = rw (read-says s at r e a d .walked, ← ex, t) at left
+
+pub only-end : (s : List ℕ) (at : ℕ) (ms : List Member) (whole : Bool) → onlyOf ms (walk (drop at s)) ≡ whole → length s ≤ at → true ≡ whole
+unfolding onlyOf
+only-end s at ms whole left h = rw (walk-past s at h) at left
+
+pub count-end : (s : List ℕ) (at : ℕ) (m : Member) (n whole : ℕ) → n + countOf m (walk (drop at s)) ≡ whole → length s ≤ at → n ≡ whole
+unfolding countOf
+count-end s at m n whole left h = rw (walk-past s at h, add-zero) at left
+
+pub count-start : (s : List ℕ) (m : Member) → 0 + countOf m (walk (drop 0 s)) ≡ countOf m (walk s)
+count-start s m = zero-add (countOf m (walk s))
+
+pub count-room : (s : List ℕ) (at : ℕ) (r : Read) → r ≡ readOf at (drop at s) → (a : Avp) → r ≡ read.Avp a → (n : ℕ) → n ≤ at → n + 1 ≤ a .next
+count-room s at r e a d n h = omega (arith, read-says s at r e a d .later)
+
+-- "one", or "one or more"
+module _ (m : Member) (s : List ℕ) (n : ℕ) (en : n ≡ countOf m (walk s)) where
+  pub enough-many : m .many ≡ true → leb 1 n ≡ enough m (walk s)
+  unfolding enough
+  enough-many t = ap (λ (k : ℕ). leb 1 k) en ∙ rw t
+
+  pub enough-one : m .many ≡ false → eqb n 1 ≡ enough m (walk s)
+  unfolding enough
+  enough-one t = ap (λ (k : ℕ). eqb k 1) en ∙ rw t

@@ -119,6 +119,13 @@ useIn d k = cond (eqb (d .command) 300) (k .uar) (cond (eqb (d .command) 301) (k
 abbrev pub useOf : Dialect → List ℕ → Use
 useOf d a = useIn d (rowOf (kindOf a))
 
+abbrev pub isUnknown : Use → Bool
+isUnknown Unknown = true
+isUnknown Unnamed = false
+isUnknown Needed = false
+isUnknown Optional = false
+isUnknown Repeated = false
+
 abbrev pub isNeeded : Use → Bool
 isNeeded Unknown = false
 isNeeded Unnamed = false

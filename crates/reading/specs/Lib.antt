@@ -1,4 +1,6 @@
-pub mod Found
+pub mod Contents
+pub mod Groups
 pub mod Kinds
-pub mod Request
+pub mod Places
 pub mod Rules
+pub mod Verdicts

@@ -1,53 +1,156 @@
-// The members of Vendor-Specific-Application-Id 260.
+// A group is a table of members. They stand in any order, pass (a) and (c), and no others are there; behind the last one nothing but a further
+// AVP would be looked at, so that its padding may be whole or cut.
+use crate::Content;
+use crate::Dialect;
+use crate::Member;
+use crate::plain;
 use diameter::Avp;
 use diameter::Read;
-use octets::number;
 ghost use mathlib.Core.Path.{_≡_};
-ghost use mathlib.Core.Bool.{false};
+ghost use lib.ListN.{length, getD};
 ghost use Rattle.diameter.specs.Reader.{ownOf, Here};
 ghost use Rattle.diameter.specs.Walk.{walk};
-ghost use Rattle.reading.specs.Rules.{isMember, members};
+ghost use Rattle.reading.specs.Groups.{member, nobody, applicationMembers, membersOf, isOf, fits, isOther, onlyOf, countOf, enough, gathers};
 
-// The codes of the members.
-const VENDOR_ID: u32 = 266;
-
-const AUTH_APPLICATION_ID: u32 = 258;
-
-// Whether an AVP is a 4-byte member with such a code and value.
-fn is_member(s: &[u8], a: Avp, code: u32, value: u32) -> bool
-    requires { ⌜ Here (now s) a ⌝ }
-    ensures { λ r. ⌜ r ≡ isMember (ownOf (now (s .entry)) a) code value ⌝ }
+// A member: code, vendor (0: without V), content, and whether it may come more than once.
+fn member(code: u32, vendor: u32, content: Content, many: bool) -> Member
+    ensures { λ r. ⌜ r ≡ member code vendor content many ⌝ }
 {
-    if a.len != 12 {
-        return false;
+    Member {
+        code,
+        vendor,
+        content,
+        many,
     }
-    (a.flags % diameter::P_FLAG == 0)
-        & (a.flags < diameter::V_FLAG)
-        & (diameter::code_of(s, a) == code)
-        & (number::be32(s, a.at + 8) == value)
 }
 
-// "one or more Vendor-Id 266, each 10415, and one Auth-Application-Id 258 of 16777216 .. and no other"
-pub fn application_ok(application: u32, s: &[u8]) -> bool
-    ensures { λ r. ⌜ r ≡ members application (walk (now (s .entry))) false false ⌝ }
+// "260 holds, in any order, one or more Vendor-Id 266, each 10415, and one Auth-Application-Id 258 of 16777216"
+fn application_member(application: u32, k: usize) -> Member
+    ensures { λ r. ⌜ r ≡ getD (applicationMembers application) k nobody ⌝ }
 {
-    let mut vendor = false;
-    let mut named = false;
+    match k {
+        0 => member(266, 0, Content::Number(crate::VENDOR, crate::VENDOR), true),
+        1 => member(258, 0, Content::Number(application, application), false),
+        _ => member(0, 0, Content::Free, false),
+    }
+}
+
+// The members of a group by their numbers, and how many there are; what is no group has none.
+fn member_of(d: Dialect, c: Content, k: usize) -> Member
+    ensures { λ r. ⌜ r ≡ getD (membersOf d c) k nobody ⌝ }
+{
+    match c {
+        Content::Free => member(0, 0, Content::Free, false),
+        Content::Number(_, _) => member(0, 0, Content::Free, false),
+        Content::Sized(_, _) => member(0, 0, Content::Free, false),
+        Content::Application => application_member(d.application, k),
+    }
+}
+
+fn size_of(d: Dialect, c: Content) -> usize
+    ensures { λ r. ⌜ r ≡ length (membersOf d c) ⌝ }
+{
+    match c {
+        Content::Free => 0,
+        Content::Number(_, _) => 0,
+        Content::Sized(_, _) => 0,
+        Content::Application => 2,
+    }
+}
+
+// Whether an AVP has such a code and vendor: "V with vendor 0" is none.
+fn is_of(code: u32, vendor: u32, s: &[u8], a: Avp) -> bool
+    requires { ⌜ Here (now s) a ⌝ }
+    ensures { λ r. ⌜ r ≡ isOf code vendor (ownOf (now (s .entry)) a) ⌝ }
+{
+    if a.flags < diameter::V_FLAG {
+        return (diameter::code_of(s, a) == code) & (vendor == 0);
+    }
+    (diameter::code_of(s, a) == code) & (0 < vendor) & (diameter::vendor_of(s, a) == vendor)
+}
+
+// Whether an AVP is a member.
+fn fits(m: Member, s: &[u8], a: Avp) -> bool
+    requires { ⌜ Here (now s) a ⌝ }
+    ensures { λ r. ⌜ r ≡ fits m (ownOf (now (s .entry)) a) ⌝ }
+{
+    let content = m.content;
+    (a.flags % diameter::P_FLAG == 0)
+        & is_of(m.code, m.vendor, s, a)
+        & (plain::plain_fault(content, s, a) == 0)
+}
+
+// Whether an AVP is none of a group's members.
+fn is_other(d: Dialect, c: Content, s: &[u8], a: Avp) -> bool
+    requires { ⌜ Here (now s) a ⌝ }
+    ensures { λ r. ⌜ r ≡ isOther (membersOf d c) (ownOf (now (s .entry)) a) ⌝ }
+{
+    let n = size_of(d, c);
+    let mut other = true;
+    let mut k = 0;
+    while k < n {
+        other = other & !fits(member_of(d, c, k), s, a);
+        k += 1;
+    }
+    other
+}
+
+// Whether all AVPs are whole, and each is one of the members.
+fn only_of(d: Dialect, c: Content, s: &[u8]) -> bool
+    ensures { λ r. ⌜ r ≡ onlyOf (membersOf d c) (walk (now (s .entry))) ⌝ }
+{
     let mut at = 0;
     while at < s.len() {
         let Read::Avp(a) = diameter::read_avp(s, at) else {
             return false;
         };
-        if is_member(s, a, VENDOR_ID, crate::VENDOR) {
-            vendor = true;
-        } else {
-            if is_member(s, a, AUTH_APPLICATION_ID, application) & !named {
-                named = true;
-            } else {
-                return false;
-            }
+        if is_other(d, c, s, a) {
+            return false;
         }
         at = a.next;
     }
-    vendor & named
+    true
+}
+
+// How many AVPs are a member.
+fn count_of(m: Member, s: &[u8]) -> usize
+    ensures { λ r. ⌜ r ≡ countOf m (walk (now (s .entry))) ⌝ }
+{
+    let mut n = 0;
+    let mut at = 0;
+    while at < s.len() {
+        let Read::Avp(a) = diameter::read_avp(s, at) else {
+            return n;
+        };
+        if fits(m, s, a) {
+            n += 1;
+        }
+        at = a.next;
+    }
+    n
+}
+
+// "one", or "one or more"
+fn enough(m: Member, s: &[u8]) -> bool
+    ensures { λ r. ⌜ r ≡ enough m (walk (now (s .entry))) ⌝ }
+{
+    let n = count_of(m, s);
+    if m.many {
+        return 1 <= n;
+    }
+    n == 1
+}
+
+// Whether a group's data are its members.
+pub fn gathers(d: Dialect, c: Content, s: &[u8]) -> bool
+    ensures { λ r. ⌜ r ≡ gathers (membersOf d c) (walk (now (s .entry))) ⌝ }
+{
+    let n = size_of(d, c);
+    let mut all = true;
+    let mut k = 0;
+    while k < n {
+        all = all & enough(member_of(d, c, k), s);
+        k += 1;
+    }
+    all & only_of(d, c, s)
 }

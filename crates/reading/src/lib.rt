@@ -1,11 +1,13 @@
 // Reading a request: the kinds of AVPs, and rules (c) to (h) for one AVP.
 
+pub mod faults;
 pub mod group;
 pub mod kinds;
+pub mod plain;
 pub mod rules;
 
 ghost use mathlib.Core.Path.{_≡_};
-ghost use Rattle.reading.specs.Found.{numberOf};
+ghost use Rattle.reading.specs.Verdicts.{numberOf};
 
 // What a request is read by: the command that it asks for, and the application that is spoken.
 pub struct Dialect {
@@ -75,16 +77,17 @@ pub struct Kind {
     pub lir: Use,
 }
 
+// A member of a group: its code and vendor (0: without V), its content, and whether it may come more than once.
+pub struct Member {
+    pub code: u32,
+    pub vendor: u32,
+    pub content: Content,
+    pub many: bool,
+}
+
 // What rules (c) to (h) say of one AVP: it is taken, it is skipped, or it is at fault with this base result.
 pub enum Ruled {
     Taken,
     Skipped,
     Fault(u32),
-}
-
-// What reading a request found: for each kind number the place of its last AVP (the message's length: none came), or the first fault.
-pub struct Walked {
-    pub ok: bool,
-    pub verdict: Verdict,
-    pub places: [usize; kinds::KINDS],
 }

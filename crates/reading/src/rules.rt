@@ -3,45 +3,17 @@ use crate::Content;
 use crate::Dialect;
 use crate::Ruled;
 use crate::Use;
+use crate::faults;
 use crate::group;
 use crate::kinds;
+use crate::plain;
 use diameter::Avp;
 ghost use mathlib.Core.Path.{_≡_};
 ghost use Prim.Native.Nat.{_<_};
 ghost use Rattle.diameter.specs.Reader.{ownOf, Here};
 ghost use Rattle.reading.specs.Kinds.{kinds, kindOf};
-ghost use Rattle.reading.specs.Rules.{faultUnless, numberFault, contentFault, ofUnknown, ofContent, ofOnce, ruleBy, rule};
-ghost use Rattle.reading.specs.Found.{seenOf};
-
-// The faults that these rules find.
-const RESERVED_FLAG: u32 = 3009;
-
-const UNSUPPORTED: u32 = 5001;
-
-const BAD_CONTENT: u32 = 5004;
-
-const TOO_OFTEN: u32 = 5009;
-
-const WRONG_LENGTH: u32 = 5014;
-
-// A fault's number, or 0 where it is not there.
-fn fault_unless(good: bool, n: u32) -> u32
-    ensures { λ r. ⌜ r ≡ faultUnless good n ⌝ }
-{
-    if good { 0 } else { n }
-}
-
-// (g) "a 4-byte kind of another length", (h) or one whose number is not within the limits.
-fn number_fault(s: &[u8], a: Avp, least: u32, most: u32) -> u32
-    requires { ⌜ Here (now s) a ⌝ }
-    ensures { λ r. ⌜ r ≡ numberFault least most (ownOf (now (s .entry)) a) ⌝ }
-{
-    if a.len != a.head + 4 {
-        return WRONG_LENGTH;
-    }
-    let n = diameter::value_of(s, a);
-    fault_unless((least <= n) & (n <= most), BAD_CONTENT)
-}
+ghost use Rattle.reading.specs.Rules.{contentFault, ofUnknown, ofContent, ofOnce, ruleBy, rule};
+ghost use Rattle.reading.specs.Places.{seenOf};
 
 // (g), (h) The fault of what an AVP holds, 0 where there is none.
 pub fn content_fault(d: Dialect, c: Content, s: &[u8], a: Avp) -> u32
@@ -49,15 +21,12 @@ pub fn content_fault(d: Dialect, c: Content, s: &[u8], a: Avp) -> u32
     ensures { λ r. ⌜ r ≡ contentFault d c (ownOf (now (s .entry)) a) ⌝ }
 {
     match c {
-        Content::Free => 0,
-        Content::Number(least, most) => number_fault(s, a, least, most),
-        Content::Sized(least, most) => {
-            let n = a.len - a.head;
-            fault_unless((least <= n) & (n <= most), BAD_CONTENT)
-        }
-        Content::Application => fault_unless(
-            group::application_ok(d.application, diameter::data_part(s, a)),
-            BAD_CONTENT,
+        Content::Free => plain::plain_fault(c, s, a),
+        Content::Number(_, _) => plain::plain_fault(c, s, a),
+        Content::Sized(_, _) => plain::plain_fault(c, s, a),
+        Content::Application => plain::fault_unless(
+            group::gathers(d, c, diameter::data_part(s, a)),
+            faults::INVALID_AVP_VALUE,
         ),
     }
 }
@@ -67,7 +36,7 @@ fn of_unknown(flags: u8) -> Ruled
     ensures { λ r. ⌜ r ≡ ofUnknown flags ⌝ }
 {
     if flags / diameter::M_FLAG % 2 == 1 {
-        return Ruled::Fault(UNSUPPORTED);
+        return Ruled::Fault(faults::AVP_UNSUPPORTED);
     }
     Ruled::Skipped
 }
@@ -87,7 +56,7 @@ fn of_once(earlier: bool, fault: u32) -> Ruled
     ensures { λ r. ⌜ r ≡ ofOnce earlier fault ⌝ }
 {
     if earlier {
-        return Ruled::Fault(TOO_OFTEN);
+        return Ruled::Fault(faults::AVP_OCCURS_TOO_MANY_TIMES);
     }
     of_content(fault)
 }
@@ -97,7 +66,7 @@ pub fn rule_by(u: Use, earlier: bool, flags: u8, fault: u32) -> Ruled
     ensures { λ r. ⌜ r ≡ ruleBy u earlier flags fault ⌝ }
 {
     if flags % diameter::P_FLAG != 0 {
-        return Ruled::Fault(RESERVED_FLAG);
+        return Ruled::Fault(faults::INVALID_AVP_BITS);
     }
     match u {
         Use::Unknown => of_unknown(flags),

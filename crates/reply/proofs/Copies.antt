@@ -14,7 +14,8 @@ use Rattle.diameter.proofs.Walks.{sound-says}
 use Rattle.pen.specs.Bytes.{copied, copiedSize, ifThere}
 use Rattle.pen.proofs.Sizes.{copied-length, there-length}
 use Rattle.reading.specs.Kinds.{kindOf, sessionId, proxyInfo}
-use Rattle.reading.specs.Request.{bodyOf, sessionOf}
+use Rattle.diameter.specs.Message.{bodyOf}
+use Rattle.requests.specs.Request.{sessionOf}
 use Rattle.reply.specs.Answer.{proxies}
 
 -- one AVP of a walk: it is Session-Id or Proxy-Info, and not both

@@ -10,7 +10,8 @@ use Rattle.diameter.specs.Walk.{Walk}
 use Rattle.pen.specs.Bytes.{copiedSize, avpBytes, vendorBytes}
 use Rattle.pen.proofs.Sizes.{copied-length, avp-length, vendor-length, number-length, there-length}
 use Rattle.pen.proofs.Groups.{application-length, experimental-length, capabilities-length}
-use Rattle.reading.specs.Request.{bodyOf, sessionOf}
+use Rattle.diameter.specs.Message.{bodyOf}
+use Rattle.requests.specs.Request.{sessionOf}
 use Rattle.reading.specs.declared.Outcome.{Outcome}
 use Rattle.reading.specs.declared.Outcome.the-variants.{Base, Experimental}
 use Rattle.decisions.specs.Reply.{Reply}

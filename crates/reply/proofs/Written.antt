@@ -12,8 +12,9 @@ use Rattle.record.specs.Fields.{hostOf, realmOf, privateOf, serverOf, mandatory
 use Rattle.table.specs.Blocks.{blockOf, ofBlock}
 use Rattle.pen.specs.Bytes.{copiedSize, avpBytes, numberBytes}
 use Rattle.pen.specs.Groups.{experimental, capabilities}
-use Rattle.reading.specs.Found.{numberOf}
-use Rattle.reading.specs.Request.{bodyOf, sessionOf}
+use Rattle.reading.specs.Verdicts.{numberOf}
+use Rattle.diameter.specs.Message.{bodyOf}
+use Rattle.requests.specs.Request.{sessionOf}
 use Rattle.reading.specs.declared.Outcome.{Outcome}
 use Rattle.reading.specs.declared.Outcome.the-variants.{Base, Experimental}
 use Rattle.parts.specs.SoundAlone.{profileAt}

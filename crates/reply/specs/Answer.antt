@@ -10,8 +10,9 @@ use Rattle.diameter.specs.Walk.{Walk, ended, faulty, avp}
 use Rattle.pen.specs.Bytes.{copied, copiedSize, avpBytes, vendorBytes, numberBytes, ifThere}
 use Rattle.pen.specs.Groups.{vendorApplication, experimental, capabilities, failed}
 use Rattle.reading.specs.Kinds.{kindOf, proxyInfo}
-use Rattle.reading.specs.Request.{bodyOf, sessionOf}
-use Rattle.reading.specs.Found.{numberOf}
+use Rattle.diameter.specs.Message.{bodyOf}
+use Rattle.requests.specs.Request.{sessionOf}
+use Rattle.reading.specs.Verdicts.{numberOf}
 use Rattle.reading.specs.declared.Outcome.{Outcome}
 use Rattle.reading.specs.declared.Outcome.the-variants.{Base, Experimental}
 use Rattle.decisions.specs.Reply.{Reply}

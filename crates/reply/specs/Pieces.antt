@@ -8,7 +8,8 @@ use Rattle.table.specs.Blocks.{blockOf, ofBlock}
 use Rattle.pen.specs.Bytes.{copied, copiedSize, ifThere}
 use Rattle.pen.specs.Groups.{capabilities}
 use Rattle.reading.specs.Kinds.{kindOf, proxyInfo}
-use Rattle.reading.specs.Request.{bodyOf, sessionOf}
+use Rattle.diameter.specs.Message.{bodyOf}
+use Rattle.requests.specs.Request.{sessionOf}
 use Rattle.failed.specs.Failing.{failedBy}
 use Rattle.reading.specs.declared.Outcome.{Outcome}
 use Rattle.reading.specs.declared.Verdict.{Verdict}

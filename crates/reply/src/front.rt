@@ -6,7 +6,8 @@ ghost use lib.ListN.{length};
 ghost use Rattle.octets.specs.Run.{Wrote};
 ghost use Rattle.table.specs.Blocks.{blockOf};
 ghost use Rattle.pen.specs.Bytes.{copiedSize};
-ghost use Rattle.reading.specs.Request.{bodyOf, sessionOf};
+ghost use Rattle.diameter.specs.Message.{bodyOf};
+ghost use Rattle.requests.specs.Request.{sessionOf};
 ghost use Rattle.parts.specs.SoundAlone.{SoundAlone};
 ghost use Rattle.reply.specs.Answer.{resultBytes, frontBytes, originBytes};
 ghost use Rattle.reply.specs.Pieces.{topBytes};
@@ -30,7 +31,7 @@ fn put_start(out: &mut [u8], session: &[u8], o: Outcome) -> usize
     let a = pen::put_copy(out, session);
     let b = a + group::put_application(&mut out[a..]);
     let c = b + put_result(&mut out[b..], o);
-    c + pen::put_number(&mut out[c..], crate::SESSION_STATE, 1)
+    c + pen::put_number(&mut out[c..], crate::SESSION_STATE_CODE, 1)
 }
 
 // The same with the request's Session-Id.
@@ -46,8 +47,13 @@ fn put_origin(out: &mut [u8], t: &[u8], count: usize) -> usize
     requires { ⌜ SoundAlone (now t) count × (144 ≤ length (now out)) ⌝ }
     ensures { λ r. ⌜ (r ≤ 144) × Wrote (originBytes (blockOf (now (t .entry)) 0)) (now (out .entry)) (now (out .exit)) r ⌝ }
 {
-    let a = pen::put_avp(out, crate::ORIGIN_HOST, parts::host(t, count));
-    a + pen::put_avp(&mut out[a..], crate::ORIGIN_REALM, parts::realm(t, count))
+    let a = pen::put_avp(out, crate::ORIGIN_HOST_CODE, parts::host(t, count));
+    a
+        + pen::put_avp(
+            &mut out[a..],
+            crate::ORIGIN_REALM_CODE,
+            parts::realm(t, count),
+        )
 }
 
 // What every answer has.

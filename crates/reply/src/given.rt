@@ -13,11 +13,11 @@ fn put_names(out: &mut [u8], t: &[u8], count: usize, user: usize, server: usize)
     requires { ⌜ SoundAlone (now t) count × (244 ≤ length (now out)) ⌝ }
     ensures { λ r. ⌜ (r ≤ 244) × Wrote (nameBytes (now (t .entry)) user server) (now (out .entry)) (now (out .exit)) r ⌝ }
 {
-    let a = pen::put_avp_if(out, crate::USER_NAME, parts::user(t, count, user));
+    let a = pen::put_avp_if(out, crate::USER_NAME_CODE, parts::user(t, count, user));
     a
         + pen::put_vendor_if(
             &mut out[a..],
-            crate::SERVER_NAME,
+            crate::SERVER_NAME_CODE,
             parts::server(t, count, server),
         )
 }
@@ -40,7 +40,7 @@ fn put_data(
     a
         + pen::put_vendor_if(
             &mut out[a..],
-            crate::USER_DATA,
+            crate::USER_DATA_CODE,
             parts::profile(t, count, file, profile),
         )
 }

@@ -4,14 +4,14 @@ pub mod given;
 pub mod header;
 
 // The codes of an answer's AVPs.
-const SESSION_STATE: u32 = 277;
+const SESSION_STATE_CODE: u32 = 277;
 
-const ORIGIN_HOST: u32 = 264;
+const ORIGIN_HOST_CODE: u32 = 264;
 
-const ORIGIN_REALM: u32 = 296;
+const ORIGIN_REALM_CODE: u32 = 296;
 
-const USER_NAME: u32 = 1;
+const USER_NAME_CODE: u32 = 1;
 
-const SERVER_NAME: u32 = 602;
+const SERVER_NAME_CODE: u32 = 602;
 
-const USER_DATA: u32 = 606;
+const USER_DATA_CODE: u32 = 606;

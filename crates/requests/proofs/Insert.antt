@@ -1,29 +1,51 @@
 -- Demand 3 over walks: an unknown kind without M is passed over; one with M is B5001, unless an AVP in front of it is at fault.
 use Prim.Native.Nat.{ℕ, _+_}
-use mathlib.Core.Path.{_≡_, refl, ap, _∙_, fun-ext}
+use mathlib.Core.Path.{_≡_, refl, sym, ap, _∙_, fun-ext}
 use mathlib.Core.List.{List, [], _∷_}
-use mathlib.Core.Bool.{Bool, true, false, cond}
+use mathlib.Core.Bool.{Bool, true, false, cond, true≢false}
 use lib.ListN.{length}
 use lib.Dec.{eqb}
+use borrow.Author.Tests.{eqb-true}
 use Rattle.diameter.specs.Avp.{padded, avpFlags, reserved, marked}
 use Rattle.diameter.specs.Walk.{Walk, ended, avp}
 use Rattle.diameter.specs.Put.{glue}
 use Rattle.reading.specs.declared.Dialect.{Dialect}
+use Rattle.reading.specs.declared.Kind.{Kind}
 use Rattle.reading.specs.declared.Ruled.{Ruled}
 use Rattle.reading.specs.declared.Ruled.the-variants.{Taken, Skipped, Fault}
 use Rattle.reading.specs.declared.Use.the-variants.{Unknown}
-use Rattle.reading.specs.Kinds.{kindOf, rowOf, useIn, useOf}
-use Rattle.reading.specs.Rules.{ruleBy, rule, Seen, Judged, bad, fine, faultAt, onRule, judge}
+use Rattle.reading.specs.Kinds.{known, kindOf, rowOf, useIn, useOf, isUnknown, publicIdentity, proxyInfo}
+use Rattle.reading.specs.Rules.{ruleBy, rule, Seen}
+use Rattle.reading.specs.Verdicts.{faultAt}
+use Rattle.requests.specs.Judged.{Judged, bad, fine, onRule, judge}
 
--- a kind that is unknown everywhere
-pub unknown-use : (dialect : Dialect) (u : List ℕ) → kindOf u ≡ 0 → useOf dialect u ≡ Unknown
-unfolding useIn rowOf
-unknown-use dialect u e = rw e (go (eqb (dialect .command) 300) (eqb (dialect .command) 301))
+-- an AVP of a kind that the dialect does not know is none of a kind that it knows
+pub stranger-kind : (dialect : Dialect) (u : List ℕ) (k : ℕ) → useOf dialect u ≡ Unknown → isUnknown (useIn dialect (rowOf k)) ≡ false
+    → eqb (kindOf u) k ≡ false
+stranger-kind dialect u k e f = go (eqb (kindOf u) k) refl
   where
-    go : (x y : Bool) → cond x Unknown (cond y Unknown Unknown) ≡ Unknown
-    go true y = refl
-    go false true = refl
-    go false false = refl
+    go : (x : Bool) → eqb (kindOf u) k ≡ x → eqb (kindOf u) k ≡ false
+    go true d = absurd (true≢false (sym (ap isUnknown e) ∙ rw (eqb-true (kindOf u) k d) f))
+    go false d = d
+
+-- Public-Identity and Proxy-Info are known to each command
+known-in : (dialect : Dialect) (k : Kind) → isUnknown (k .uar) ≡ false → isUnknown (k .sar) ≡ false → isUnknown (k .lir) ≡ false
+    → isUnknown (useIn dialect k) ≡ false
+unfolding useIn
+known-in dialect k a b c = go (eqb (dialect .command) 300) (eqb (dialect .command) 301)
+  where
+    go : (x y : Bool) → isUnknown (cond x (k .uar) (cond y (k .sar) (k .lir))) ≡ false
+    go true y = a
+    go false true = b
+    go false false = c
+
+pub identity-known : (dialect : Dialect) → isUnknown (useIn dialect (rowOf publicIdentity)) ≡ false
+unfolding rowOf known
+identity-known dialect = known-in dialect (rowOf publicIdentity) refl refl refl
+
+pub proxy-known : (dialect : Dialect) → isUnknown (useIn dialect (rowOf proxyInfo)) ≡ false
+unfolding rowOf known
+proxy-known dialect = known-in dialect (rowOf proxyInfo) refl refl refl
 
 -- an AVP of a kind that the dialect does not know, without a reserved flag
 module _ (dialect : Dialect) (at : ℕ) (u : List ℕ) (w : Walk) (seen : Seen) (plain : reserved (avpFlags u) ≡ 0) (stranger : useOf dialect u ≡ Unknown) where

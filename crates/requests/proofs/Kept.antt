@@ -22,8 +22,13 @@ use Rattle.reading.specs.declared.Use.{Use}
 use Rattle.reading.specs.declared.Use.the-variants.{Unknown, Unnamed, Needed, Optional, Repeated}
 use Rattle.reading.specs.declared.Verdict.{Verdict}
 use Rattle.reading.specs.Kinds.{kinds, known, unknown, kindOf, rowOf, useIn, useOf, isNeeded, sessionId, serverName}
-use Rattle.reading.specs.Rules.{faultUnless, contentFault, ofContent, ofUse, ruleBy, rule, Seen, nothing, Judged, bad, fine, onRule, judge}
-use Rattle.reading.specs.Request.{commandOf, dialectOf, cx, headerFault, firstOther, missingFrom, missing, complete, readWalk, readIn, readRequest, bodyOf, lacking, faultOf, given, dataIf, dataIn}
+use Rattle.reading.specs.Contents.{faultUnless, plainFault}
+use Rattle.reading.specs.Rules.{contentFault, ofContent, ofUse, ruleBy, rule, Seen}
+use Rattle.requests.specs.Judged.{nothing, Judged, bad, fine, onRule, judge}
+use Rattle.diameter.specs.Message.{commandOf, bodyOf}
+use Rattle.reading.specs.Verdicts.{lackOf, faultOf}
+use Rattle.requests.specs.Request.{dialectOf, cx, headerFault, firstOther, missingFrom, missing, complete, readWalk, readIn, readRequest}
+use Rattle.requests.specs.Request.{given, dataIf, dataSeen}
 
 -- every AVP that was taken holds what its kind must
 abbrev pub AllKept : Dialect → Seen → Type 0
@@ -61,14 +66,16 @@ unfolding rule ruleBy
 rule-taken dialect seen a =
     taken-if _ (not (eqb (reserved (avpFlags a)) 0)) _ _ (faulted 3009) (use-taken (useOf dialect a) (present (getD seen (kindOf a) none)) (avpFlags a) _)
 
-set-cases : {P : Type 0} (l : Seen) (i k : ℕ) (x : Option (List ℕ)) (b : List ℕ) → getD (set l i x) k none ≡ some b → (k ≡ i → x ≡ some b → P) → (getD l k none ≡ some b → P) → P
+set-cases : {P : Type 0} (l : Seen) (i k : ℕ) (x : Option (List ℕ)) (b : List ℕ) → getD (set l i x) k none ≡ some b → (k ≡ i → x ≡ some b → P)
+    → (getD l k none ≡ some b → P) → P
 set-cases [] i k x b e p q = q e
 set-cases (y ∷ l) zero zero x b e p q = p refl e
 set-cases (y ∷ l) zero (suc k) x b e p q = q e
 set-cases (y ∷ l) (suc i) zero x b e p q = q e
 set-cases (y ∷ l) (suc i) (suc k) x b e p q = set-cases l i k x b e (λ z. p (ap suc z)) q
 
-taken-kept : (dialect : Dialect) (seen : Seen) (a : List ℕ) → AllKept dialect seen → contentFault dialect (rowOf (kindOf a) .content) a ≡ 0 → AllKept dialect (set seen (kindOf a) (some a))
+taken-kept : (dialect : Dialect) (seen : Seen) (a : List ℕ) → AllKept dialect seen → contentFault dialect (rowOf (kindOf a) .content) a ≡ 0
+    → AllKept dialect (set seen (kindOf a) (some a))
 taken-kept dialect seen a h g k b e = set-cases seen (kindOf a) k (some a) b e (λ i j. let ab : a ≡ b = cc in rw (i, ← ab) g) (h k b)
 
 judge-kept : (dialect : Dialect) (at : ℕ) (w : Walk) (seen out : Seen) → AllKept dialect seen → judge dialect at w seen ≡ fine out → AllKept dialect out
@@ -98,21 +105,23 @@ unfolding complete
 complete-fine dialect (bad v) seen e = bad-fine v seen e
 complete-fine dialect (fine σ) seen e = go (eqb (missing dialect σ) 0) refl e
   where
-    go : (x : Bool) → eqb (missing dialect σ) 0 ≡ x → cond x (fine σ) (bad (lacking (missing dialect σ))) ≡ fine seen
+    go : (x : Bool) → eqb (missing dialect σ) 0 ≡ x → cond x (fine σ) (bad (lackOf (missing dialect σ))) ≡ fine seen
         → (fine σ ≡ fine seen) × (missing dialect seen ≡ 0)
     go true p d = let q : σ ≡ seen = cc in (d, rw (← q) (eqb-true _ _ p))
     go false p d = bad-fine _ _ d
 
-walk-fine : (dialect : Dialect) (w : Walk) (seen : Seen) → readWalk dialect w ≡ fine seen → (judge dialect 20 w nothing ≡ fine seen) × (missing dialect seen ≡ 0)
+walk-fine : (dialect : Dialect) (w : Walk) (seen : Seen) → readWalk dialect w ≡ fine seen
+    → (judge dialect 20 w nothing ≡ fine seen) × (missing dialect seen ≡ 0)
 unfolding readWalk
 walk-fine dialect w seen e = go (firstOther w) e
   where
-    go : (x : Bool) → cond x (bad (lacking sessionId)) (complete dialect (judge dialect 20 w nothing)) ≡ fine seen
+    go : (x : Bool) → cond x (bad (lackOf sessionId)) (complete dialect (judge dialect 20 w nothing)) ≡ fine seen
         → (judge dialect 20 w nothing ≡ fine seen) × (missing dialect seen ≡ 0)
     go true d = bad-fine _ _ d
     go false d = complete-fine dialect (judge dialect 20 w nothing) seen d
 
-request-fine : (req : List ℕ) (seen : Seen) → readRequest req ≡ fine seen → (judge (dialectOf cx req) 20 (bodyOf req) nothing ≡ fine seen) × (missing (dialectOf cx req) seen ≡ 0)
+request-fine : (req : List ℕ) (seen : Seen) → readRequest req ≡ fine seen
+    → (judge (dialectOf cx req) 20 (bodyOf req) nothing ≡ fine seen) × (missing (dialectOf cx req) seen ≡ 0)
 unfolding readIn
 request-fine req seen e = go (eqb (headerFault (dialectOf cx req) req) 0) e
   where
@@ -129,13 +138,15 @@ missing-zero : (dialect : Dialect) (seen : Seen) (ks : List Kind) (n : ℕ) → 
     → isNeeded (useIn dialect (getD ks i unknown)) ≡ true → present (getD seen (n + i) none) ≡ true
 unfolding missingFrom
 missing-zero dialect seen [] n p e i h t = absurd (omega arith)
-missing-zero dialect seen (k ∷ ks) n p e i h t = go (isNeeded (useIn dialect k)) (present (getD seen n none)) refl refl e (missing-zero dialect seen ks (suc n) (omega arith)) i h t
+missing-zero dialect seen (k ∷ ks) n p e i h t =
+    go (isNeeded (useIn dialect k)) (present (getD seen n none)) refl refl e (missing-zero dialect seen ks (suc n) (omega arith)) i h t
   where
     later : (j : ℕ) → present (getD seen (suc n + j) none) ≡ true → present (getD seen (n + suc j) none) ≡ true
     later j d = rw (add-suc n j, ← suc-add n j) d
 
     go : (x y : Bool) → isNeeded (useIn dialect k) ≡ x → present (getD seen n none) ≡ y → cond (x && not y) n (missingFrom dialect seen ks (suc n)) ≡ 0
-        → (missingFrom dialect seen ks (suc n) ≡ 0 → (j : ℕ) → j < length ks → isNeeded (useIn dialect (getD ks j unknown)) ≡ true → present (getD seen (suc n + j) none) ≡ true)
+        → (missingFrom dialect seen ks (suc n) ≡ 0 → (j : ℕ) → j < length ks → isNeeded (useIn dialect (getD ks j unknown)) ≡ true
+        → present (getD seen (suc n + j) none) ≡ true)
         → (j : ℕ) → j < length (k ∷ ks) → isNeeded (useIn dialect (getD (k ∷ ks) j unknown)) ≡ true → present (getD seen (n + j) none) ≡ true
     go true false ex ey d next j l u = absurd (omega arith)
     go true true ex ey d next zero l u = rw add-zero ey
@@ -143,7 +154,8 @@ missing-zero dialect seen (k ∷ ks) n p e i h t = go (isNeeded (useIn dialect k
     go true true ex ey d next (suc j) l u = later j (next d j (omega arith) u)
     go false y ex ey d next (suc j) l u = later j (next d j (omega arith) u)
 
-pub read-needed : (req : List ℕ) (seen : Seen) (k : ℕ) → readRequest req ≡ fine seen → k < kinds → isNeeded (useIn (dialectOf cx req) (rowOf k)) ≡ true → given seen k ≡ true
+pub read-needed : (req : List ℕ) (seen : Seen) (k : ℕ) → readRequest req ≡ fine seen → k < kinds → isNeeded (useIn (dialectOf cx req) (rowOf k)) ≡ true
+    → given seen k ≡ true
 unfolding missing rowOf known useIn
 read-needed req seen zero e h t = go (eqb (dialectOf cx req .command) 300) (eqb (dialectOf cx req .command) 301) t
   where
@@ -163,30 +175,31 @@ no-fault false n e = absurd (omega arith)
 
 module _ (dialect : Dialect) (seen : Seen) (k : ℕ) (h : AllKept dialect seen) where
   -- the data of the AVP that was taken are of that length
-  sized : (least most : ℕ) → rowOf k .content ≡ Sized least most → (a : List ℕ) → getD seen k none ≡ some a → (leb least (length (dataOf a)) && leb (length (dataOf a)) most) ≡ true
-  unfolding contentFault
+  sized : (least most : ℕ) → rowOf k .content ≡ Sized least most → (a : List ℕ) → getD seen k none ≡ some a
+      → (leb least (length (dataOf a)) && leb (length (dataOf a)) most) ≡ true
+  unfolding contentFault plainFault
   sized least most e a d = no-fault _ 5003 (rw e at (h k a d))
 
   if-data : (o : Option (List ℕ)) (most : ℕ) → ((a : List ℕ) → o ≡ some a → length (dataOf a) ≤ most) → length (dataIf o) ≤ most
   if-data none most f = omega arith
   if-data (some a) most f = f a refl
 
-  pub data-most : (least most : ℕ) → rowOf k .content ≡ Sized least most → length (dataIn seen k) ≤ most
+  pub data-most : (least most : ℕ) → rowOf k .content ≡ Sized least most → length (dataSeen seen k) ≤ most
   data-most least most e = if-data (getD seen k none) most (λ a d. leb-true _ _ (and-right (leb least (length (dataOf a))) _ (sized least most e a d)))
 
   if-given : (o : Option (List ℕ)) (least : ℕ) → present o ≡ true → ((a : List ℕ) → o ≡ some a → least ≤ length (dataOf a)) → least ≤ length (dataIf o)
   if-given none least t f = absurd (true≢false (sym t))
   if-given (some a) least t f = f a refl
 
-  pub data-least : (least most : ℕ) → rowOf k .content ≡ Sized least most → given seen k ≡ true → least ≤ length (dataIn seen k)
+  pub data-least : (least most : ℕ) → rowOf k .content ≡ Sized least most → given seen k ≡ true → least ≤ length (dataSeen seen k)
   data-least least most e t = if-given (getD seen k none) least t (λ a d. leb-true _ _ (and-left (leb least (length (dataOf a))) _ (sized least most e a d)))
 
 -- "Server-Name 602 (1 to 96 bytes)"
 module _ (req : List ℕ) (seen : Seen) (e : readRequest req ≡ fine seen) where
-  pub server-most : length (dataIn seen serverName) ≤ 96
+  pub server-most : length (dataSeen seen serverName) ≤ 96
   unfolding rowOf known
   server-most = data-most (dialectOf cx req) seen serverName (read-kept req seen e) 1 96 refl
 
-  pub server-least : commandOf req ≡ 301 → 1 ≤ length (dataIn seen serverName)
+  pub server-least : commandOf req ≡ 301 → 1 ≤ length (dataSeen seen serverName)
   unfolding rowOf known useIn
   server-least c = data-least (dialectOf cx req) seen serverName (read-kept req seen e) 1 96 refl (read-needed req seen serverName e (omega arith) (rw c))

@@ -12,7 +12,7 @@ use Rattle.diameter.specs.declared.Read.{Read}
 use Rattle.diameter.specs.declared.Read.the-variants as read
 use Rattle.diameter.proofs.Reading.{read-says, read-unsound, walk-past}
 use Rattle.reading.specs.Kinds.{kindOf, publicIdentity}
-use Rattle.reading.specs.Request.{identities}
+use Rattle.requests.specs.Request.{identities}
 use Rattle.requests.specs.Identity.{namedBy, Stands, Named}
 use Rattle.requests.specs.declared.identities.Next.{Next}
 use Rattle.requests.specs.declared.identities.Next.the-variants.{At, Nothing}

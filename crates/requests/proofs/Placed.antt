@@ -12,8 +12,8 @@ use Rattle.diameter.specs.declared.Avp.{Avp}
 use Rattle.diameter.specs.declared.Read.{Read}
 use Rattle.diameter.specs.declared.Read.the-variants as read
 use Rattle.diameter.proofs.Reading.{read-says, read-none}
-use Rattle.reading.specs.Request.{given, dataIf, valueIf, dataIn, valueIn}
-use Rattle.reading.specs.Found.{seenOf}
+use Rattle.requests.specs.Request.{given, dataIf, valueIf, dataSeen, valueSeen}
+use Rattle.reading.specs.Places.{seenOf}
 use Rattle.reading.proofs.Judging.{seen-at}
 
 data-if : (o : Option (List ℕ)) → dataIf o ≡ dataOf (orNone o)
@@ -21,19 +21,19 @@ data-if none = sym (drop-nil (headOf 0))
 data-if (some a) = refl
 
 module _ (s places : List ℕ) (k : ℕ) (room : k < length places) where
-  pub data-in : dataIn (seenOf s places) k ≡ dataAt s (getD places k 0)
+  pub data-in : dataSeen (seenOf s places) k ≡ dataAt s (getD places k 0)
   data-in = rw (seen-at s places k room) (data-if (partAt s (getD places k 0)))
 
-  pub value-in : valueIn (seenOf s places) k ≡ valueIf (partAt s (getD places k 0))
+  pub value-in : valueSeen (seenOf s places) k ≡ valueIf (partAt s (getD places k 0))
   value-in = rw (seen-at s places k room)
 
   pub given-in : given (seenOf s places) k ≡ present (partAt s (getD places k 0))
   given-in = rw (seen-at s places k room)
 
-  pub data-placed : (d : List ℕ) → d ≡ dataAt s (getD places k 0) → d ≡ dataIn (seenOf s places) k
+  pub data-placed : (d : List ℕ) → d ≡ dataAt s (getD places k 0) → d ≡ dataSeen (seenOf s places) k
   data-placed d e = e ∙ sym data-in
 
-  pub value-placed : (v : ℕ) → v ≡ valueIf (partAt s (getD places k 0)) → v ≡ valueIn (seenOf s places) k
+  pub value-placed : (v : ℕ) → v ≡ valueIf (partAt s (getD places k 0)) → v ≡ valueSeen (seenOf s places) k
   value-placed v e = e ∙ sym value-in
 
   pub given-placed : (b : Bool) → b ≡ present (partAt s (getD places k 0)) → b ≡ given (seenOf s places) k

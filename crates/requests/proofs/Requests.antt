@@ -18,11 +18,15 @@ use Rattle.diameter.specs.declared.Read.the-variants as read
 use Rattle.diameter.proofs.Walks.{walk-nil, walk-faulty}
 use Rattle.diameter.proofs.Reading.{own-flags, read-says, read-unsound}
 use Rattle.reading.specs.declared.Dialect.{Dialect}
-use Rattle.reading.specs.declared.Walked.{Walked}
+use Rattle.requests.specs.declared.Walked.{Walked}
 use Rattle.reading.specs.Kinds.{kinds, known, unknown, sessionId, kindOf, rowOf, useIn, isNeeded}
-use Rattle.reading.specs.Rules.{Seen, nothing, Judged, bad, fine, judge}
-use Rattle.reading.specs.Request.{commandOf, applicationOf, cx, spoken, headerFault, firstOther, missingFrom, missing, lacking, faultOf, complete, readWalk, bodyOf, readIn, readRequest, sessionOf}
-use Rattle.reading.specs.Found.{seenOf, judgedOf, Refused}
+use Rattle.reading.specs.Rules.{Seen}
+use Rattle.requests.specs.Judged.{nothing, Judged, bad, fine, judge}
+use Rattle.diameter.specs.Message.{commandOf, applicationOf, bodyOf}
+use Rattle.reading.specs.Verdicts.{lackOf, faultOf}
+use Rattle.requests.specs.Request.{cx, spoken, headerFault, firstOther, missingFrom, missing, complete, readWalk, readIn, readRequest, sessionOf}
+use Rattle.reading.specs.Places.{seenOf}
+use Rattle.requests.specs.Found.{judgedOf, Refuses}
 use Rattle.reading.proofs.Judging.{seen-at}
 use Rattle.requests.proofs.Refusing.{refused-is}
 
@@ -84,7 +88,8 @@ unfolding missing
 missing-all dialect seen = refl
 
 module _ (s places : List ℕ) (dialect : Dialect) (k whole : ℕ) (left : whole ≡ missingFrom dialect (seenOf s places) (drop k (unknown ∷ known)) k) where
-  module _ (low : k < kinds) (room : k < length places) (x : Bool) (e : x ≡ (isNeeded (useIn dialect (rowOf k)) && not (present (partAt s (getD places k 0))))) where
+  module _ (low : k < kinds) (room : k < length places) (x : Bool)
+      (e : x ≡ (isNeeded (useIn dialect (rowOf k)) && not (present (partAt s (getD places k 0))))) where
     pub missing-found : x ≡ true → k ≡ whole
     unfolding missingFrom known rowOf
     missing-found t = rw (left, drop-cons (unknown ∷ known) k unknown low, seen-at s places k room, ← e, t)
@@ -108,21 +113,21 @@ module _ (s : List ℕ) (dialect : Dialect) (w : Walked) where
     unfolding judgedOf complete
     complete-whole z = rw (t, ← e, z)
 
-    pub complete-lacking : (r : Walked) → (k ≡ 0 → ⊥) → Refused (lacking k) r → judgedOf s r ≡ complete dialect (judgedOf s w)
+    pub complete-lacking : (r : Walked) → (k ≡ 0 → ⊥) → Refuses (lackOf k) r → judgedOf s r ≡ complete dialect (judgedOf s w)
     unfolding judgedOf complete
     complete-lacking r h f =
-        refused-is s (lacking k) r f ∙ rw (t, ← e, ne-eqb _ _ h)
+        refused-is s (lackOf k) r f ∙ rw (t, ← e, ne-eqb _ _ h)
 
 -- header, first AVP, walk, what is missing
 module _ (req : List ℕ) (dialect : Dialect) (r : Walked) (n : ℕ) (en : n ≡ headerFault dialect req) where
-  pub request-header : (n ≡ 0 → ⊥) → Refused (faultOf n) r → judgedOf req r ≡ readIn dialect req
+  pub request-header : (n ≡ 0 → ⊥) → Refuses (faultOf n) r → judgedOf req r ≡ readIn dialect req
   unfolding readIn
   request-header h f = refused-is req (faultOf n) r f ∙ rw (← en, ne-eqb _ _ h)
 
   module _ (z : n ≡ 0) (x : Bool) (ex : x ≡ firstOther (bodyOf req)) where
-    pub request-first : x ≡ true → Refused (lacking sessionId) r → judgedOf req r ≡ readIn dialect req
+    pub request-first : x ≡ true → Refuses (lackOf sessionId) r → judgedOf req r ≡ readIn dialect req
     unfolding readIn readWalk
-    request-first t f = refused-is req (lacking sessionId) r f ∙ rw (← en, z, ← ex, t)
+    request-first t f = refused-is req (lackOf sessionId) r f ∙ rw (← en, z, ← ex, t)
 
     pub request-walked : (w : Walked) → x ≡ false → judgedOf req w ≡ judge dialect 20 (bodyOf req) nothing → judgedOf req r ≡ complete dialect (judgedOf req w)
         → judgedOf req r ≡ readIn dialect req

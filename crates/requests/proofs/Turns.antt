@@ -14,10 +14,13 @@ use Rattle.diameter.proofs.Parts.{says-next}
 use Rattle.reading.specs.declared.Ruled.{Ruled}
 use Rattle.reading.specs.declared.Ruled.the-variants as ruled
 use Rattle.reading.specs.declared.Dialect.{Dialect}
-use Rattle.reading.specs.declared.Walked.{Walked}
+use Rattle.requests.specs.declared.Walked.{Walked}
 use Rattle.reading.specs.Kinds.{kinds, kindOf}
-use Rattle.reading.specs.Rules.{nothing, Judged, faultAt, onRule, rule, judge}
-use Rattle.reading.specs.Found.{seenOf, judgedOf, Refused, Accepted}
+use Rattle.reading.specs.Rules.{rule}
+use Rattle.reading.specs.Verdicts.{faultAt}
+use Rattle.requests.specs.Judged.{nothing, Judged, onRule, judge}
+use Rattle.reading.specs.Places.{seenOf}
+use Rattle.requests.specs.Found.{judgedOf, Refuses, Accepts}
 use Rattle.requests.proofs.Refusing.{refused-is, accepted-is}
 
 map-set : {X Y : Type 0} (f : X → Y) (l : List X) (i : ℕ) (x : X) → map f (set l i x) ≡ set (map f l) i (f x)
@@ -26,17 +29,18 @@ map-set f (y ∷ l) zero x = refl
 map-set f (y ∷ l) (suc i) x = ap (f y ∷_) (map-set f l i x)
 
 -- at first no kind has a place
-pub nothing-seen : (s : List ℕ) (dialect : Dialect) (at : ℕ) → judge dialect at (walk (drop at s)) (seenOf s (replicate kinds (length s))) ≡ judge dialect at (walk (drop at s)) nothing
+pub nothing-seen : (s : List ℕ) (dialect : Dialect) (at : ℕ)
+    → judge dialect at (walk (drop at s)) (seenOf s (replicate kinds (length s))) ≡ judge dialect at (walk (drop at s)) nothing
 unfolding nothing
 nothing-seen s dialect at = rw (none-past s (length s) (omega arith))
 
 module _ (s places : List ℕ) (dialect : Dialect) (at : ℕ) (whole : Judged) (left : judge dialect at (walk (drop at s)) (seenOf s places) ≡ whole) where
-  pub turn-end : (w : Walked) → length s ≤ at → Accepted places w → judgedOf s w ≡ whole
+  pub turn-end : (w : Walked) → length s ≤ at → Accepts places w → judgedOf s w ≡ whole
   unfolding judge
   turn-end w h a = accepted-is s places w a ∙ rw (walk-past s at h) at left
 
   module _ (r : Read) (e : r ≡ readOf at (drop at s)) where
-    pub turn-cut : (w : Walked) → at < length s → r ≡ read.Fault → Refused (faultAt 5014 at) w → judgedOf s w ≡ whole
+    pub turn-cut : (w : Walked) → at < length s → r ≡ read.Fault → Refuses (faultAt 5014 at) w → judgedOf s w ≡ whole
     unfolding judge
     turn-cut w h d f = refused-is s (faultAt 5014 at) w f ∙ rw (read-fault-says s at r e h d) at left
 
@@ -48,10 +52,11 @@ module _ (s places : List ℕ) (dialect : Dialect) (at : ℕ) (whole : Judged) (
       unfolding judge
       turned = rw (says .walked, says-next s at a says, ← ex) at left
 
-      pub turn-bad : (n : ℕ) (w : Walked) → x ≡ ruled.Fault n → Refused (faultAt n at) w → judgedOf s w ≡ whole
+      pub turn-bad : (n : ℕ) (w : Walked) → x ≡ ruled.Fault n → Refuses (faultAt n at) w → judgedOf s w ≡ whole
       turn-bad n w z f = refused-is s (faultAt n at) w f ∙ rw z at turned
 
-      pub turn-taken : (k : ℕ) → k ≡ kindOf (ownOf s a) → x ≡ ruled.Taken → judge dialect (a .next) (walk (drop (a .next) s)) (seenOf s (set places k at)) ≡ whole
+      pub turn-taken : (k : ℕ) → k ≡ kindOf (ownOf s a) → x ≡ ruled.Taken
+          → judge dialect (a .next) (walk (drop (a .next) s)) (seenOf s (set places k at)) ≡ whole
       turn-taken k ek z = rw (map-set (partAt s) places k at, says .part, ek) (rw z at turned)
 
       pub turn-skipped : x ≡ ruled.Skipped → judge dialect (a .next) (walk (drop (a .next) s)) (seenOf s places) ≡ whole

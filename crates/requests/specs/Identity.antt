@@ -7,7 +7,7 @@ use lib.ListN.{length, drop}
 use Rattle.diameter.specs.Avp.{sound}
 use Rattle.diameter.specs.Walk.{walk}
 use Rattle.diameter.specs.Reader.{avpAt}
-use Rattle.reading.specs.Request.{identities}
+use Rattle.requests.specs.Request.{identities}
 use Rattle.requests.specs.declared.identities.Next.{Next}
 use Rattle.requests.specs.declared.identities.Next.the-variants.{At, Nothing}
 

@@ -1,1 +1,4 @@
+pub mod Found
 pub mod Identity
+pub mod Judged
+pub mod Request

@@ -7,7 +7,8 @@ use diameter::Read;
 use diameter::message;
 use octets::number;
 use reading::Dialect;
-use reading::Walked;
+use reading::Verdict;
+use reading::faults;
 use reading::kinds;
 ghost use mathlib.Core.Path.{_≡_};
 ghost use Prim.Native.Nat.{_≤_, _<_};
@@ -15,8 +16,17 @@ ghost use mathlib.Core.Bool.{_&&_, not};
 ghost use lib.ListN.{length};
 ghost use Rattle.diameter.specs.Reader.{partAt, present};
 ghost use Rattle.reading.specs.Kinds.{isNeeded, useIn, rowOf};
-ghost use Rattle.reading.specs.Request.{commandOf, spoken, headerFault, firstOther, missing, complete, bodyOf, readIn, readRequest, sessionOf};
-ghost use Rattle.reading.specs.Found.{seenOf, judgedOf};
+ghost use Rattle.diameter.specs.Message.{commandOf, bodyOf};
+ghost use Rattle.requests.specs.Request.{spoken, headerFault, firstOther, missing, complete, readIn, readRequest, sessionOf};
+ghost use Rattle.reading.specs.Places.{seenOf};
+ghost use Rattle.requests.specs.Found.{judgedOf};
+
+// What reading a request found: for each kind number the place of its last AVP (the message's length: none came), or the first fault.
+pub struct Walked {
+    pub ok: bool,
+    pub verdict: Verdict,
+    pub places: [usize; kinds::KINDS],
+}
 
 // The command of a request.
 pub fn command(req: &[u8]) -> usize
@@ -39,16 +49,16 @@ fn header_fault(req: &[u8], d: Dialect) -> u32
     ensures { λ r. ⌜ r ≡ headerFault d (now (req .entry)) ⌝ }
 {
     if req[message::VERSION_AT] != message::VERSION {
-        return 5011;
+        return faults::UNSUPPORTED_VERSION;
     }
     if req[message::FLAGS_AT] / message::E_BIT % 2 == 1 {
-        return 3008;
+        return faults::INVALID_HDR_BITS;
     }
     if !spoken(d) {
-        return 3001;
+        return faults::COMMAND_UNSUPPORTED;
     }
     if number::be32(req, message::APPLICATION_AT) != d.application {
-        return 3007;
+        return faults::APPLICATION_UNSUPPORTED;
     }
     0
 }
@@ -92,7 +102,7 @@ fn complete(s: &[u8], d: Dialect, w: Walked) -> Walked
         let places = w.places;
         let k = missing(s, d, places);
         if k != 0 {
-            return walk::refuse(5005, 0, k);
+            return walk::refuse(faults::MISSING_AVP, 0, k);
         }
     }
     w
@@ -108,7 +118,7 @@ pub fn read_in(req: &[u8], d: Dialect) -> Walked
         return walk::refuse(n, 0, 0);
     }
     if first_other(req) {
-        return walk::refuse(5005, 0, kinds::SESSION_ID);
+        return walk::refuse(faults::MISSING_AVP, 0, kinds::SESSION_ID);
     }
     complete(req, d, walk::walk_message(req, d))
 }

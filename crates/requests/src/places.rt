@@ -6,8 +6,8 @@ ghost use Prim.Native.Nat.{_≤_, _<_};
 ghost use lib.ListN.{length};
 ghost use Rattle.diameter.specs.Reader.{partAt};
 ghost use Rattle.reading.specs.Kinds.{kinds};
-ghost use Rattle.reading.specs.Request.{given, valueIf, dataIn, valueIn};
-ghost use Rattle.reading.specs.Found.{seenOf};
+ghost use Rattle.requests.specs.Request.{given, valueIf, dataSeen, valueSeen};
+ghost use Rattle.reading.specs.Places.{seenOf};
 
 // The number that the 4-byte AVP at a place holds, 0 where there is none.
 pub fn value_of_place(s: &[u8], place: usize) -> u32
@@ -30,7 +30,7 @@ pub fn given(req: &[u8], places: [usize; kinds::KINDS], k: usize) -> bool
 // Its data, nothing where none came.
 pub fn data_of(req: &[u8], places: [usize; kinds::KINDS], k: usize) -> &[u8]
     requires { ⌜ k < kinds ⌝ }
-    ensures { λ r. ⌜ (now r ≡ dataIn (seenOf (now (req .entry)) places) k) × (length (now r) ≤ length (now (req .entry))) ⌝ }
+    ensures { λ r. ⌜ (now r ≡ dataSeen (seenOf (now (req .entry)) places) k) × (length (now r) ≤ length (now (req .entry))) ⌝ }
 {
     diameter::data_at(req, places[k])
 }
@@ -38,7 +38,7 @@ pub fn data_of(req: &[u8], places: [usize; kinds::KINDS], k: usize) -> &[u8]
 // Its number, 0 where none came.
 pub fn value_of(req: &[u8], places: [usize; kinds::KINDS], k: usize) -> u32
     requires { ⌜ k < kinds ⌝ }
-    ensures { λ r. ⌜ r ≡ valueIn (seenOf (now (req .entry)) places) k ⌝ }
+    ensures { λ r. ⌜ r ≡ valueSeen (seenOf (now (req .entry)) places) k ⌝ }
 {
     value_of_place(req, places[k])
 }

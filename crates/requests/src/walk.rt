@@ -1,23 +1,24 @@
 // "Then AVPs by position; the first fault decides."
+use crate::Walked;
 use diameter::Read;
 use diameter::message;
 use reading::Dialect;
 use reading::Outcome;
 use reading::Ruled;
 use reading::Verdict;
-use reading::Walked;
+use reading::faults;
 use reading::kinds;
 use reading::rules;
 ghost use mathlib.Core.Path.{_≡_};
 ghost use lib.ListN.{drop};
 ghost use Rattle.diameter.specs.Walk.{walk};
 ghost use Rattle.reading.specs.declared.Outcome.the-variants.{Base};
-ghost use Rattle.reading.specs.Rules.{nothing, judge};
-ghost use Rattle.reading.specs.Found.{judgedOf, Refused, Accepted};
+ghost use Rattle.requests.specs.Judged.{nothing, judge};
+ghost use Rattle.requests.specs.Found.{judgedOf, Refuses, Accepts};
 
 // A fault: its base result, the place of the AVP at fault (0: none is), the kind that is missing (0: none is).
 pub fn refuse(number: u32, place: usize, lacks: usize) -> Walked
-    ensures { λ r. ⌜ Refused (record { result = Base number; place = place; lacks = lacks }) r ⌝ }
+    ensures { λ r. ⌜ Refuses (record { result = Base number; place = place; lacks = lacks }) r ⌝ }
 {
     Walked {
         ok: false,
@@ -32,7 +33,7 @@ pub fn refuse(number: u32, place: usize, lacks: usize) -> Walked
 
 // No fault, and the places of the kinds.
 pub fn accept(places: [usize; kinds::KINDS]) -> Walked
-    ensures { λ r. ⌜ Accepted places r ⌝ }
+    ensures { λ r. ⌜ Accepts places r ⌝ }
 {
     Walked {
         ok: true,
@@ -54,7 +55,7 @@ pub fn walk_message(s: &[u8], d: Dialect) -> Walked
     let mut at = message::BODY;
     while at < s.len() {
         let Read::Avp(a) = diameter::read_avp(s, at) else {
-            return refuse(5014, at, 0);
+            return refuse(faults::INVALID_AVP_LENGTH, at, 0);
         };
         let k = kinds::kind_of(s, a);
         match rules::rule_at(s, d, places, a, k) {

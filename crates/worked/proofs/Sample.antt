@@ -23,8 +23,11 @@ use Rattle.diameter.specs.Walk.{walkFrom, walk}
 use Rattle.pen.specs.Bytes.{padding, vendorHead, copied, avpBytes, vendorBytes, numberBytes, vendorNumber, group, vendorGroup, ifThere}
 use Rattle.pen.specs.Groups.{vendorApplication, experimental, failed, vendorNumbers, capabilities}
 use Rattle.reading.specs.Kinds.{known, kindFrom, kindBy, rowOf, useIn}
-use Rattle.reading.specs.Rules.{isMember, members, numberFault, contentFault, nothing, ruleBy, rule, judge}
-use Rattle.reading.specs.Request.{headerFault, missingFrom, missing, complete, readWalk, readIn, identities}
+use Rattle.reading.specs.Contents.{numberFault, plainFault}
+use Rattle.reading.specs.Groups.{applicationMembers, membersOf, isOf, fits, unlike, onlyOf, countOf, enough, enoughAt, gathers}
+use Rattle.reading.specs.Rules.{contentFault, ruleBy, rule}
+use Rattle.requests.specs.Judged.{nothing, judge}
+use Rattle.requests.specs.Request.{headerFault, missingFrom, missing, complete, readWalk, readIn, identities}
 use Rattle.decisions.specs.Reply.{served}
 use Rattle.decisions.specs.Authorization.{mayRoam, authorizeRecord, authorizeFound, authorize}
 use Rattle.decisions.specs.Location.{locateRecord, locateFound, locate}
@@ -32,7 +35,7 @@ use Rattle.decisions.specs.Types.{groupOf, startOf, effectOf}
 use Rattle.decisions.specs.Assignment.{identityFault, every, isOne, findAll, numbersOf, ownedHere, ownedUpTo, recordsOf, allKnown, ownerOf, ownAt, storesAt}
 use Rattle.decisions.specs.Assignment.{fitsAt, rightAt, assigned, storedName, effected, assignRecords, assignKnown, assign}
 use Rattle.decisions.specs.Decide.{assignmentOf, decideRead, decideJudged, decide}
-use Rattle.reading.specs.Found.{numberOf}
+use Rattle.reading.specs.Verdicts.{numberOf}
 use Rattle.failed.specs.Failing.{headPart, alone, failedOf, sample, exampleOf, failedBy}
 use Rattle.reply.specs.Answer.{resultBytes, proxies, frontBytes, originBytes, givenBytes, endBytes, bodyBytes, flagsOf, headerBytes, answerBytes}
 use Rattle.ndushavire.specs.Trial.{tried}
@@ -102,8 +105,9 @@ unfolding host realm block header person request answer common assignment one tw
     otherPlace newPlace soundNetworks recordOf soundRecord blockOf tableOf publicAt privateAt risesAt soundAt firstBad checkRecords checkTable
     firstFrom publicIs findPublic privateIs findPrivate serverHere servesAt findServer networkIs seek networkNumber roamsIn negated sealed renewed
     settled changedAt afterOf padded headOf vendorOf valueOf sound walkFrom walk padding vendorHead copied avpBytes vendorBytes numberBytes
-    vendorNumber group vendorGroup ifThere vendorApplication experimental failed vendorNumbers capabilities known kindFrom kindBy rowOf useIn isMember
-    members numberFault contentFault nothing ruleBy rule judge headerFault headPart alone failedOf sample exampleOf failedBy missingFrom missing
+    vendorNumber group vendorGroup ifThere vendorApplication experimental failed vendorNumbers capabilities known kindFrom kindBy rowOf useIn numberFault
+    plainFault applicationMembers membersOf isOf fits unlike onlyOf countOf enough enoughAt gathers contentFault nothing ruleBy rule judge headerFault
+    headPart alone failedOf sample exampleOf failedBy missingFrom missing
     complete readWalk readIn identities served mandatoryOf optionalOf profileOf mayRoam authorizeRecord authorizeFound authorize locateRecord
     locateFound locate groupOf startOf effectOf identityFault every isOne findAll numbersOf ownedHere ownedUpTo recordsOf allKnown ownerOf ownAt
     storesAt fitsAt rightAt assigned storedName effected assignRecords assignKnown assign assignmentOf decideRead decideJudged decide numberOf

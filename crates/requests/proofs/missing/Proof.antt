@@ -3,8 +3,8 @@ use mathlib.Core.Path.{_≡_}
 use mathlib.Core.List.{_∷_}
 use lib.ListN.{drop}
 use Rattle.reading.specs.Kinds.{kinds, known, unknown}
-use Rattle.reading.specs.Request.{missingFrom, missing}
-use Rattle.reading.specs.Found.{seenOf}
+use Rattle.requests.specs.Request.{missingFrom, missing}
+use Rattle.reading.specs.Places.{seenOf}
 use Rattle.requests.proofs.Requests.{missing-all, missing-found, missing-more, missing-none}
 use borrow.Author.Needs.{needs}
 use Rattle.requests.proofs.missing.Statement.{statement}

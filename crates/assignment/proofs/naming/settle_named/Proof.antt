@@ -5,7 +5,8 @@ use Rattle.lookup.specs.SoundTable.{Ordered}
 use Rattle.lookup.proofs.Scans.{public-end}
 use Rattle.rewrite.specs.Change.{afterOf}
 use Rattle.rewrite.specs.Renew.{settled}
-use Rattle.reading.specs.Request.{bodyOf, identities}
+use Rattle.diameter.specs.Message.{bodyOf}
+use Rattle.requests.specs.Request.{identities}
 use Rattle.requests.proofs.Naming.{named-less}
 use Rattle.decisions.specs.Assignment.{isOne, findAll, numbersOf}
 use Rattle.assignment.proofs.NameTurns.{restOf, settle-start, settle-none, settle-turn, settle-ordered, settle-end}

@@ -2,7 +2,8 @@ use Prim.Native.Nat.{_-_}
 use mathlib.Core.Path.{_≡_}
 use lib.ListN.{length}
 use Rattle.lookup.proofs.Scans.{public-end}
-use Rattle.reading.specs.Request.{bodyOf, identities}
+use Rattle.diameter.specs.Message.{bodyOf}
+use Rattle.requests.specs.Request.{identities}
 use Rattle.requests.proofs.Naming.{named-less}
 use Rattle.decisions.specs.Assignment.{findAll}
 use Rattle.assignment.specs.Survey.{both, surveyOf}

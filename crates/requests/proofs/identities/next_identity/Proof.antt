@@ -3,7 +3,7 @@ use mathlib.Core.Path.{_≡_}
 use lib.ListN.{length, drop}
 use Rattle.diameter.specs.Walk.{walk}
 use Rattle.diameter.proofs.Reading.{read-here}
-use Rattle.reading.specs.Request.{identities}
+use Rattle.requests.specs.Request.{identities}
 use Rattle.reading.proofs.Walking.{read-less, read-from}
 use Rattle.requests.proofs.Naming.{named-end, named-cut, named-at, named-more}
 use borrow.Author.Needs.{needs}

@@ -4,8 +4,8 @@ use lib.ListN.{length, drop}
 use Rattle.diameter.specs.Walk.{walk}
 use Rattle.diameter.proofs.Reading.{read-here}
 use Rattle.reading.specs.Kinds.{kinds}
-use Rattle.reading.specs.Rules.{nothing, judge}
-use Rattle.reading.specs.Found.{seenOf}
+use Rattle.requests.specs.Judged.{nothing, judge}
+use Rattle.reading.specs.Places.{seenOf}
 use Rattle.reading.proofs.Walking.{read-less}
 use Rattle.requests.proofs.Turns.{nothing-seen, turn-end, turn-cut, turn-bad, turn-taken, turn-skipped}
 use borrow.Author.Needs.{needs}
@@ -13,7 +13,8 @@ use Rattle.requests.proofs.walk.walk_message.Statement.{statement}
 use Rattle.requests.proofs.walk.walk_message.Tie as tie
 
 abbrev Inv-loop : tie.InvT-loop
-Inv-loop s dialect absent places₀ at₀ places at = (length places ≡ kinds) × (judge dialect at (walk (drop at s)) (seenOf s places) ≡ judge dialect 20 (walk (drop 20 s)) nothing)
+Inv-loop s dialect absent places₀ at₀ places at =
+    (length places ≡ kinds) × (judge dialect at (walk (drop at s)) (seenOf s places) ≡ judge dialect 20 (walk (drop 20 s)) nothing)
 
 abbrev μ-loop : tie.MeasureT-loop
 μ-loop s dialect absent places₀ at₀ places at = length s - at

@@ -1,7 +1,7 @@
 use Rattle.reading.proofs.Judging.{number-long, number-judged}
 use borrow.Author.Needs.{needs}
-use Rattle.reading.proofs.rules.number_fault.Statement.{statement}
-use Rattle.reading.proofs.rules.number_fault.Tie as tie
+use Rattle.reading.proofs.plain.number_fault.Statement.{statement}
+use Rattle.reading.proofs.plain.number_fault.Tie as tie
 
 pub number-fault-spec : {M : Type 1} → statement M
 number-fault-spec =

@@ -3,24 +3,18 @@ use Prim.Native.Nat.{ℕ, suc, _/_, _%_}
 use mathlib.Core.List.{List, [], _∷_}
 use mathlib.Core.Option.{Option, none, some}
 use mathlib.Core.Bool.{Bool, false, cond, not, _&&_}
-use lib.ListN.{getD, drop}
+use lib.ListN.{getD}
 use lib.Dec.{eqb, leb}
-use Rattle.octets.specs.Number.{be24At, be32At}
 use Rattle.diameter.specs.Avp.{dataOf, valueOf, avpFlags, reserved}
-use Rattle.diameter.specs.Walk.{Walk, ended, faulty, avp, walk}
+use Rattle.diameter.specs.Walk.{Walk, ended, faulty, avp}
+use Rattle.diameter.specs.Message.{versionOf, messageFlags, commandOf, applicationOf, bodyOf}
 use Rattle.diameter.specs.Reader.{present}
 use Rattle.reading.specs.declared.Dialect.{Dialect}
 use Rattle.reading.specs.declared.Kind.{Kind}
-use Rattle.reading.specs.declared.Outcome.the-variants.{Base}
-use Rattle.reading.specs.declared.Verdict.{Verdict}
 use Rattle.reading.specs.Kinds.{known, kindOf, useIn, isNeeded, sessionId, publicIdentity}
-use Rattle.reading.specs.Rules.{Seen, Judged, bad, fine, nothing, judge}
-
-abbrev pub commandOf : List ℕ → ℕ
-commandOf req = be24At req 5
-
-abbrev pub applicationOf : List ℕ → ℕ
-applicationOf req = be32At req 8
+use Rattle.reading.specs.Rules.{Seen}
+use Rattle.reading.specs.Verdicts.{faultOf, lackOf}
+use Rattle.requests.specs.Judged.{Judged, bad, fine, nothing, judge}
 
 -- the dialect of a request to the server of an application; the application Cx
 abbrev pub dialectOf : ℕ → List ℕ → Dialect
@@ -36,8 +30,8 @@ spoken d = eqb (d .application) cx && leb 300 (d .command) && leb (d .command) 3
 -- "Header, in order: version not 1, B5011; E bit set, B3008; command not 300 to 302, B3001; application not 16777216, B3007." 0: no fault
 unfoldable pub headerFault : Dialect → List ℕ → ℕ
 headerFault d req =
-    cond (not (eqb (getD req 0 0) 1)) 5011
-    (cond (eqb (getD req 4 0 / 32 % 2) 1) 3008
+    cond (not (eqb (versionOf req) 1)) 5011
+    (cond (eqb (messageFlags req / 32 % 2) 1) 3008
     (cond (not (spoken d)) 3001
     (cond (not (eqb (applicationOf req) (d .application))) 3007
     0)))
@@ -58,24 +52,14 @@ missingFrom d seen (k ∷ ks) n =
 unfoldable pub missing : Dialect → Seen → ℕ
 missing d seen = missingFrom d seen known 1
 
--- a kind that is missing; a fault of the header
-abbrev pub lacking : ℕ → Verdict
-lacking k = record { result = Base 5005; place = 0; lacks = k }
-
-abbrev pub faultOf : ℕ → Verdict
-faultOf n = record { result = Base n; place = 0; lacks = 0 }
-
 -- "After the walk, the first missing AVP in the order below: B5005. With no AVPs, Session-Id is missing."
 unfoldable pub complete : Dialect → Judged → Judged
 complete d (bad v) = bad v
-complete d (fine seen) = cond (eqb (missing d seen) 0) (fine seen) (bad (lacking (missing d seen)))
+complete d (fine seen) = cond (eqb (missing d seen) 0) (fine seen) (bad (lackOf (missing d seen)))
 
 -- the AVPs begin behind the header's 20 bytes
 unfoldable pub readWalk : Dialect → Walk → Judged
-readWalk d w = cond (firstOther w) (bad (lacking sessionId)) (complete d (judge d 20 w nothing))
-
-abbrev pub bodyOf : List ℕ → Walk
-bodyOf req = walk (drop 20 req)
+readWalk d w = cond (firstOther w) (bad (lackOf sessionId)) (complete d (judge d 20 w nothing))
 
 -- a request read in a dialect; a request to the Cx server
 unfoldable pub readIn : Dialect → List ℕ → Judged
@@ -96,11 +80,11 @@ abbrev pub valueIf : Option (List ℕ) → ℕ
 valueIf none = 0
 valueIf (some a) = valueOf a
 
-abbrev pub dataIn : Seen → ℕ → List ℕ
-dataIn seen k = dataIf (getD seen k none)
+abbrev pub dataSeen : Seen → ℕ → List ℕ
+dataSeen seen k = dataIf (getD seen k none)
 
-abbrev pub valueIn : Seen → ℕ → ℕ
-valueIn seen k = valueIf (getD seen k none)
+abbrev pub valueSeen : Seen → ℕ → ℕ
+valueSeen seen k = valueIf (getD seen k none)
 
 -- the Public-Identities in order, over the whole walk: a SAR may have many
 unfoldable pub identities : Walk → List (List ℕ)

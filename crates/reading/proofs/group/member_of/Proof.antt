@@ -1,0 +1,21 @@
+use Rattle.reading.proofs.Members.{member-free, member-number, member-sized, member-application}
+use borrow.Author.Needs.{needs}
+use Rattle.reading.proofs.group.member_of.Statement.{statement}
+use Rattle.reading.proofs.group.member_of.Tie as tie
+
+pub member-of-spec : {M : Type 1} → statement M
+member-of-spec =
+    tie.close
+    (tie.spec
+    (λ c. search needs)
+    (λ c κs. search needs)
+    (λ c. search needs)
+    (λ c κs. search needs)
+    (λ c. search needs)
+    (λ c κs. search needs)
+    (λ c. search needs)
+    (λ c κs. search needs)
+    (λ c. search (needs, member-free))
+    (λ c. search (needs, member-number))
+    (λ c. search (needs, member-sized))
+    (λ c. search (needs, member-application)))

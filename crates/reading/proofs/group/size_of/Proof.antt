@@ -1,0 +1,17 @@
+use Rattle.reading.proofs.Members.{size-free, size-number, size-sized, size-application}
+use borrow.Author.Needs.{needs}
+use Rattle.reading.proofs.group.size_of.Statement.{statement}
+use Rattle.reading.proofs.group.size_of.Tie as tie
+
+pub size-of-spec : {M : Type 1} → statement M
+size-of-spec =
+    tie.close
+    (tie.spec
+    (λ c. search needs)
+    (λ c. search needs)
+    (λ c. search needs)
+    (λ c. search needs)
+    (λ c. search (needs, size-free))
+    (λ c. search (needs, size-number))
+    (λ c. search (needs, size-sized))
+    (λ c. search (needs, size-application)))

@@ -1,0 +1,67 @@
+-- A group is a table of members: "in any order, pass (a) and (c), and no others are there, the last one's padding whole or cut".
+use Prim.Native.Nat.{ℕ, suc}
+use mathlib.Core.List.{List, [], _∷_}
+use mathlib.Core.Bool.{Bool, true, false, cond, not, _&&_}
+use lib.ListN.{length, getD}
+use lib.Dec.{leb, ltb, eqb}
+use Rattle.octets.specs.All.{allBelow}
+use Rattle.diameter.specs.Avp.{avpCode, avpFlags, vendorOf, reserved}
+use Rattle.diameter.specs.Walk.{Walk, ended, faulty, avp}
+use Rattle.reading.specs.declared.Content.{Content}
+use Rattle.reading.specs.declared.Content.the-variants.{Free, Number, Sized, Application}
+use Rattle.reading.specs.declared.Dialect.{Dialect}
+use Rattle.reading.specs.declared.Member.{Member}
+use Rattle.reading.specs.Contents.{plainFault}
+
+-- a member: its code and vendor (0: without V), its content, and whether it may come more than once
+abbrev pub member : ℕ → ℕ → Content → Bool → Member
+member code vendor content many = record { code = code; vendor = vendor; content = content; many = many }
+
+abbrev pub nobody : Member
+nobody = member 0 0 Free false
+
+-- "260 holds, in any order, one or more Vendor-Id 266, each 10415, and one Auth-Application-Id 258 of 16777216, all 4-byte AVPs passing (a) and (c), without V,
+-- and no other": of the application that is spoken
+unfoldable pub applicationMembers : ℕ → List Member
+applicationMembers application = member 266 0 (Number 10415 10415) true ∷ member 258 0 (Number application application) false ∷ []
+
+-- what is no group has none
+unfoldable pub membersOf : Dialect → Content → List Member
+membersOf d Free = []
+membersOf d (Number least most) = []
+membersOf d (Sized least most) = []
+membersOf d Application = applicationMembers (d .application)
+
+-- an AVP of such a code and vendor; such a member: it passes (c) and holds what it must
+unfoldable pub isOf : ℕ → ℕ → List ℕ → Bool
+isOf code vendor a = eqb (avpCode a) code && cond (leb 128 (avpFlags a)) (ltb 0 vendor && eqb (vendorOf a) vendor) (eqb vendor 0)
+
+unfoldable pub fits : Member → List ℕ → Bool
+fits m a = eqb (reserved (avpFlags a)) 0 && isOf (m .code) (m .vendor) a && eqb (plainFault (m .content) a) 0
+
+-- "no others are there": an AVP that is none of the members; a walk on which all pass (a), and each is one of them
+unfoldable pub unlike : List Member → List ℕ → ℕ → Bool
+unlike ms a k = not (fits (getD ms k nobody) a)
+
+abbrev pub isOther : List Member → List ℕ → Bool
+isOther ms a = allBelow (unlike ms a) (length ms)
+
+unfoldable pub onlyOf : List Member → Walk → Bool
+onlyOf ms ended = true
+onlyOf ms (faulty t) = false
+onlyOf ms (avp a w) = not (isOther ms a) && onlyOf ms w
+
+-- how many are a member: one, or one or more
+unfoldable pub countOf : Member → Walk → ℕ
+countOf m ended = 0
+countOf m (faulty t) = 0
+countOf m (avp a w) = cond (fits m a) (suc (countOf m w)) (countOf m w)
+
+unfoldable pub enough : Member → Walk → Bool
+enough m w = cond (m .many) (leb 1 (countOf m w)) (eqb (countOf m w) 1)
+
+unfoldable pub enoughAt : List Member → Walk → ℕ → Bool
+enoughAt ms w k = enough (getD ms k nobody) w
+
+unfoldable pub gathers : List Member → Walk → Bool
+gathers ms w = allBelow (enoughAt ms w) (length ms) && onlyOf ms w
