@@ -18,6 +18,6 @@ done
 grep -q -F "\`$(cat KIT-ID)\`" README.md || fail "README.md does not name the kit '$(cat KIT-ID)'"
 rust=$(sed -n 's/^rust-version = "\(.*\)"$/\1/p' reference/Cargo.toml)
 grep -q -F "rustc $rust or newer" README.md || fail "README.md does not ask for rustc $rust"
-pages=(README.md packaging/README.md docs/TABLE.md docs/INTEROPERABILITY.md docs/DIFFERENCES.md)
+pages=(README.md packaging/README.md docs/*.md)
 ! LC_ALL=C.UTF-8 grep -n -E '^.{200}' "${pages[@]}" /dev/null >&2 || fail 'a line has 200 characters'
 echo "pages.sh: $(wc -l <<<"$targets") targets, each with its line; ${#pages[@]} pages"
