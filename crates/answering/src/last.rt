@@ -9,12 +9,12 @@ ghost use mathlib.Core.List.{_++_};
 ghost use Prim.Native.Nat.{_+_, _≤_};
 ghost use lib.ListN.{length};
 ghost use Rattle.octets.specs.Run.{Wrote};
-ghost use Rattle.lookup.specs.SoundTable.{SoundTable};
+ghost use Rattle.table.specs.SoundTable.{SoundTable};
 ghost use Rattle.diameter.specs.Reader.{ownOf, Here};
 ghost use Rattle.pen.specs.Bytes.{copiedSize};
 ghost use Rattle.diameter.specs.Message.{bodyOf};
 ghost use Rattle.failed.specs.Failing.{failedBy};
-ghost use Rattle.parts.specs.SoundAlone.{profileAt};
+ghost use Rattle.parts.specs.Profile.{profileAt};
 ghost use Rattle.reply.specs.Answer.{failedPart, proxies};
 ghost use Rattle.reply.specs.Pieces.{proxy, restBytes};
 
@@ -85,7 +85,7 @@ pub fn put_rest(
     capable: usize,
     profile: usize,
 ) -> usize
-    requires { ⌜ SoundTable (now t) (length (now file)) count ⌝ }
+    requires { ⌜ SoundTable (now t) count ⌝ }
     requires { ⌜ 396 + copiedSize (length (profileAt (now t) (now file) profile)) + length (failedPart (failedBy (now req) v)) + length (proxies (bodyOf (now req))) ≤ length (now out) ⌝ }
     ensures { λ r. ⌜ (r ≤ length (now (out .entry))) × Wrote (restBytes (now (req .entry)) (now (t .entry)) (now (file .entry)) v user server capable profile) (now (out .entry)) (now (out .exit)) r ⌝ }
 {

@@ -10,7 +10,7 @@ ghost use Prim.Native.Nat.{_+_, _≤_};
 ghost use lib.ListN.{length};
 ghost use Rattle.octets.specs.Run.{Wrote};
 ghost use Rattle.table.specs.Blocks.{blockOf};
-ghost use Rattle.lookup.specs.SoundTable.{SoundTable};
+ghost use Rattle.table.specs.SoundTable.{SoundTable};
 ghost use Rattle.diameter.specs.Message.{bodyOf};
 ghost use Rattle.decisions.specs.Planned.{replyOf};
 ghost use Rattle.reply.specs.Answer.{answerBytes, roomOf};
@@ -32,7 +32,7 @@ fn put_body(
     capable: usize,
     profile: usize,
 ) -> usize
-    requires { ⌜ SoundTable (now t) (length (now file)) count × (616 + copiesOf (now req) (now t) (now file) v profile ≤ length (now out)) ⌝ }
+    requires { ⌜ SoundTable (now t) count × (616 + copiesOf (now req) (now t) (now file) v profile ≤ length (now out)) ⌝ }
     ensures { λ r. ⌜ (r ≤ length (now (out .entry))) × Wrote (bodyWith (now (req .entry)) (now (t .entry)) (now (file .entry)) v user server capable profile) (now (out .entry)) (now (out .exit)) r ⌝ }
 {
     let result = v.result;
@@ -65,7 +65,7 @@ fn put_whole(
     capable: usize,
     profile: usize,
 ) -> usize
-    requires { ⌜ (20 ≤ length (now req)) × SoundTable (now t) (length (now file)) count × (636 + copiesOf (now req) (now t) (now file) v profile ≤ length (now out)) ⌝ }
+    requires { ⌜ (20 ≤ length (now req)) × SoundTable (now t) count × (636 + copiesOf (now req) (now t) (now file) v profile ≤ length (now out)) ⌝ }
     ensures { λ r. ⌜ (r ≤ length (now (out .entry))) × Wrote (answerWith (now (req .entry)) (now (t .entry)) (now (file .entry)) v user server capable profile) (now (out .entry)) (now (out .exit)) r ⌝ }
 {
     let result = v.result;
@@ -95,7 +95,7 @@ pub fn put_answer(
     count: usize,
     g: Given,
 ) -> usize
-    requires { ⌜ (20 ≤ length (now req)) × SoundTable (now t) (length (now file)) count × (roomOf (bodyOf (now req)) (replyOf (now req) (now t) (now file) g) ≤ length (now out)) ⌝ }
+    requires { ⌜ (20 ≤ length (now req)) × SoundTable (now t) count × (roomOf (bodyOf (now req)) (replyOf (now req) (now t) (now file) g) ≤ length (now out)) ⌝ }
     ensures { λ r. ⌜ (r ≤ length (now (out .entry))) × Wrote (answerBytes (now (req .entry)) (blockOf (now (t .entry)) 0) (replyOf (now (req .entry)) (now (t .entry)) (now (file .entry)) g)) (now (out .entry)) (now (out .exit)) r ⌝ }
 {
     let v = g.verdict;
@@ -115,7 +115,7 @@ pub fn put_answer(
 
 // The answer built in an array of its own, and then copied to the lent buffer.
 pub fn answer(out: &mut [u8], req: &[u8], t: &[u8], file: &[u8], count: usize, g: Given) -> usize
-    requires { ⌜ (20 ≤ length (now req)) × SoundTable (now t) (length (now file)) count × (roomOf (bodyOf (now req)) (replyOf (now req) (now t) (now file) g) ≤ 36864) × (36864 ≤ length (now out)) ⌝ }
+    requires { ⌜ (20 ≤ length (now req)) × SoundTable (now t) count × (roomOf (bodyOf (now req)) (replyOf (now req) (now t) (now file) g) ≤ 36864) × (36864 ≤ length (now out)) ⌝ }
     ensures { λ r. ⌜ Wrote (answerBytes (now (req .entry)) (blockOf (now (t .entry)) 0) (replyOf (now (req .entry)) (now (t .entry)) (now (file .entry)) g)) (now (out .entry)) (now (out .exit)) r ⌝ }
 {
     let mut scratch = [0u8; MOST];

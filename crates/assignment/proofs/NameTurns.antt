@@ -9,17 +9,19 @@ use lib.ListN.{length, drop}
 use lib.Dec.{eqb}
 use borrow.Author.Tests.{eqb-true, eqb-false, eq-eqb, lt-ltb}
 use Rattle.table.specs.Blocks.{blockOf}
+use Rattle.table.specs.SoundTable.{SoundTable}
 use Rattle.table.proofs.Blocks.{block-length}
+use Rattle.table.proofs.Sound.{sound-size, sound-few, sound-block}
 use Rattle.lookup.specs.Find.{firstFrom, publicIs, findPublic}
-use Rattle.lookup.specs.SoundTable.{Ordered}
 use Rattle.lookup.specs.declared.Found.{Found}
 use Rattle.lookup.specs.declared.Found.the-variants.{At, Nothing}
 use Rattle.lookup.proofs.First.{FirstAt, first-stands}
-use Rattle.rewrite.specs.Change.{changedAt, afterOf, changedIn, changedFound, Keeps}
+use Rattle.rewrite.specs.Change.{changedAt, afterOf, changedIn, changedFound, Keeps, differ, alteredUpTo}
 use Rattle.rewrite.specs.Renew.{settled, Fitting}
 use Rattle.rewrite.proofs.Blocks.{in-here, in-other}
+use Rattle.rewrite.proofs.Counts.{found-counts, sum-few}
 use Rattle.rewrite.proofs.Settled.{settled-keeps}
-use Rattle.rewrite.proofs.Sound.{keeping-ordered, keeping-found}
+use Rattle.rewrite.proofs.Sound.{keeping-says, keeping-found}
 use Rattle.rewrite.proofs.Tables.{after-same, after-none, at-same, at-twice, Keeping, found-keeping}
 use Rattle.diameter.specs.Avp.{dataOf}
 use Rattle.diameter.specs.Walk.{walk}
@@ -76,19 +78,19 @@ module _ (t owner server : List ℕ) (kind count : ℕ) (s : List ℕ) where
           ∙ (rw (named-first s at r n place past d) at left))
 
 -- What is found in a table with a found record changed is what was found.
-find-kept : (x y : List ℕ) (count : ℕ) → Ordered x count → Keeping x y count → (avps : List (List ℕ)) → findAll y count avps ≡ findAll x count avps
+find-kept : (x y : List ℕ) (count : ℕ) → SoundTable x count → Keeping x y count → (avps : List (List ℕ)) → findAll y count avps ≡ findAll x count avps
 unfolding findAll
-find-kept x y count ordered keeping [] = refl
-find-kept x y count ordered keeping (a ∷ avps) = rw (keeping-found x y count keeping ordered (dataOf a), find-kept x y count ordered keeping avps)
+find-kept x y count sound keeping [] = refl
+find-kept x y count sound keeping (a ∷ avps) = rw (keeping-found x y count keeping sound (dataOf a), find-kept x y count sound keeping avps)
 
 -- The effect of what is left, on the table as it is now, is the effect of all on the table as it came: the record of the next identity is changed.
-module _ (change : List ℕ → List ℕ) (keeps : Keeps change) (x : List ℕ) (count : ℕ) (ordered : Ordered x count) where
+module _ (change : List ℕ → List ℕ) (keeps : Keeps change) (x : List ℕ) (count : ℕ) (sound : SoundTable x count) where
   one-turn : (k : ℕ) → 1 ≤ k → k ≤ count → (ks : List ℕ) → afterOf (changedIn x k change) count (isOne ks) change ≡ afterOf x count (isOne (k ∷ ks)) change
   unfolding isOne
   one-turn k a b ks = after-same (changedIn x k change) x count (isOne ks) (isOne (k ∷ ks)) change (λ j l. go j l (eqb j k) refl)
     where
       fits : 512 * k + 512 ≤ length x
-      fits = omega (arith, ordered .size)
+      fits = sound-block x count sound k b
 
       go : (j : ℕ) → j ≤ count → (u : Bool) → eqb j k ≡ u → changedAt (changedIn x k change) (isOne ks) change j ≡ changedAt x (isOne (k ∷ ks)) change j
       go j l true e =
@@ -105,12 +107,12 @@ module _ (change : List ℕ → List ℕ) (keeps : Keeps change) (x : List ℕ) 
   module _ (s : List ℕ) (at : ℕ) {whole : List ℕ} (left : afterOf x count (isOne (numbersOf (findAll x count (restOf s at)))) change ≡ whole) where
     ended : length s ≤ at → x ≡ whole
     unfolding findAll numbersOf isOne
-    ended h = after-none x count change (ordered .size) (isOne []) (λ j l. refl) ∙ rw (rest-past s at h) at left
+    ended h = after-none x count change (sound-size x count sound) (isOne []) (λ j l. refl) ∙ rw (rest-past s at h) at left
 
     module _ (r : Next) (n : Named s at r) where
       none-left : r ≡ next.Nothing → x ≡ whole
       unfolding findAll numbersOf isOne restOf
-      none-left d = after-none x count change (ordered .size) (isOne []) (λ j l. refl) ∙ rw (named-none s at r n d) at left
+      none-left d = after-none x count change (sound-size x count sound) (isOne []) (λ j l. refl) ∙ rw (named-none s at r n d) at left
 
       module _ (place past : ℕ) {m : List ℕ} {f : Found} {y : List ℕ} (d : r ≡ next.At place past) (em : m ≡ dataAt s place) (ef : f ≡ findPublic x count m)
           (ey : y ≡ changedFound x f change) where
@@ -119,37 +121,47 @@ module _ (change : List ℕ → List ℕ) (keeps : Keeps change) (x : List ℕ) 
         stood = sym ef
 
         keeping : Keeping x (changedFound x f change) count
-        keeping = found-keeping x count change (ordered .size) keeps (publicIs x m) f stood
+        keeping = found-keeping x count change (sound-size x count sound) keeps (publicIs x m) f stood
 
         turned : afterOf y count (isOne (numbersOf (findAll y count (restOf s past)))) change ≡ whole
         unfolding findAll restOf
         turned =
-            rw (ey, find-kept x (changedFound x f change) count ordered keeping (restOf s past))
+            rw (ey, find-kept x (changedFound x f change) count sound keeping (restOf s past))
             (found-turn (publicIs x m) f stood (findAll x count (restOf s past)) ∙ rw (ef, em) ((rw (named-first s at r n place past d) at left)))
 
-        turned-ordered : Ordered y count
-        turned-ordered = rw ey (keeping-ordered x (changedFound x f change) count keeping ordered)
+        turned-sound : SoundTable y count
+        turned-sound = rw ey (keeping-says x (changedFound x f change) count keeping sound)
+
+        turned-counts : alteredUpTo x whole count ≡ differ x y + alteredUpTo y whole count
+        turned-counts =
+            rw (← turned, ey) (found-counts change keeps x count (sound-size x count sound) (publicIs x m) f stood (isOne (numbersOf (findAll (changedFound x f change) count (restOf s past)))))
 
 -- The same of settling, as the loop has it.
-module _ (x : List ℕ) (count : ℕ) (ordered : Ordered x count) (state : ℕ) (name : List ℕ) (fits : Fitting state name) (s : List ℕ) (at : ℕ) {whole : List ℕ}
+module _ (x : List ℕ) (count : ℕ) (sound : SoundTable x count) (state : ℕ) (name : List ℕ) (fits : Fitting state name) (s : List ℕ) (at : ℕ) {whole : List ℕ}
     (left : afterOf x count (isOne (numbersOf (findAll x count (restOf s at)))) (settled state name) ≡ whole) where
   keeps : Keeps (settled state name)
   keeps = settled-keeps state name fits
 
   pub settle-end : length s ≤ at → x ≡ whole
-  settle-end = ended (settled state name) keeps x count ordered s at left
+  settle-end = ended (settled state name) keeps x count sound s at left
 
   module _ (r : Next) (n : Named s at r) where
     pub settle-none : r ≡ next.Nothing → x ≡ whole
-    settle-none = none-left (settled state name) keeps x count ordered s at left r n
+    settle-none = none-left (settled state name) keeps x count sound s at left r n
 
     module _ (place past : ℕ) {m : List ℕ} {f : Found} {y : List ℕ} (d : r ≡ next.At place past) (em : m ≡ dataAt s place) (ef : f ≡ findPublic x count m)
         (ey : y ≡ changedFound x f (settled state name)) where
       pub settle-turn : afterOf y count (isOne (numbersOf (findAll y count (restOf s past)))) (settled state name) ≡ whole
-      settle-turn = turned (settled state name) keeps x count ordered s at left r n place past d em ef ey
+      settle-turn = turned (settled state name) keeps x count sound s at left r n place past d em ef ey
 
-      pub settle-ordered : Ordered y count
-      settle-ordered = turned-ordered (settled state name) keeps x count ordered s at left r n place past d em ef ey
+      pub settle-sound : SoundTable y count
+      settle-sound = turned-sound (settled state name) keeps x count sound s at left r n place past d em ef ey
+
+      pub settle-counts : (c : ℕ) {e w : ℕ} → e ≡ differ x y → c + alteredUpTo x whole count ≡ w → c + e + alteredUpTo y whole count ≡ w
+      settle-counts c {e} h sum = omega (arith, h, sum, turned-counts (settled state name) keeps x count sound s at left r n place past d em ef ey)
+
+      pub settle-few : (c : ℕ) {e : ℕ} (t : List ℕ) → e ≡ differ x y → c + alteredUpTo x whole count ≡ alteredUpTo t whole count → c + e ≤ 4096
+      settle-few c {e} t h sum = sum-few t y whole count (c + e) (settle-counts c h sum) (sound-few x count sound)
 
 -- How many identities there are.
 module _ (s : List ℕ) (removal named : Bool) (r : Next) (n : Named s 20 r) where

@@ -10,9 +10,10 @@ use lib.ListN.{length}
 use lib.Dec.{eqb, leb, ltb}
 use borrow.Author.Tests.{eqb-true, eqb-false, ltb-true, ltb-false, le-leb, lt-leb, ne-eqb}
 use Rattle.table.specs.Blocks.{blockOf}
-use Rattle.rewrite.specs.Change.{changedAt, changedIn, afterOf, Keeps}
+use Rattle.rewrite.specs.Change.{changedAt, changedIn, afterOf, Keeps, differ, alteredUpTo}
 use Rattle.rewrite.specs.Renew.{settled, Fitting}
 use Rattle.rewrite.proofs.Blocks.{in-length, in-here, in-other}
+use Rattle.rewrite.proofs.Counts.{if-counts, sum-few}
 use Rattle.rewrite.proofs.Settled.{settled-keeps}
 use Rattle.rewrite.proofs.Tables.{after-same, after-none, at-same}
 use Rattle.decisions.specs.Assignment.{isOne, ownedHere, ownedUpTo}
@@ -107,6 +108,9 @@ module _ (change : List ℕ → List ℕ) (keeps : Keeps change) (x : List ℕ) 
       go true g = rw (put, g) (in-length x k change keeps (omega arith) ∙ size)
       go false g = rw (put, g) size
 
+  turned-counts : 1 ≤ k → {whole : List ℕ} → afterOf y count (ownedFrom y user (k + 1)) change ≡ whole → alteredUpTo x whole count ≡ differ x y + alteredUpTo y whole count
+  turned-counts a e = rw (← e, put) (if-counts change keeps x count size u k a last (ownedFrom (cond u (changedIn x k change) x) user (k + 1)))
+
 -- The same of settling, as the loop has it.
 module _ (x : List ℕ) (count : ℕ) (user : List ℕ) (state : ℕ) (name : List ℕ) (k : ℕ) (size : length x ≡ 512 * (count + 1)) where
   module _ (fits : Fitting state name) (last : k ≤ count) {b y : List ℕ} {u : Bool} (at : b ≡ blockOf x k) (is : u ≡ ownedHere b user)
@@ -119,6 +123,15 @@ module _ (x : List ℕ) (count : ℕ) (user : List ℕ) (state : ℕ) (name : Li
 
     pub owned-size : length y ≡ 512 * (count + 1)
     owned-size = turned-size (settled state name) (settled-keeps state name fits) x count user k size last u here y put
+
+    pub owned-counts : {whole : List ℕ} → 1 ≤ k → afterOf x count (ownedFrom x user k) (settled state name) ≡ whole → (c : ℕ) {e w : ℕ} → e ≡ differ x y
+        → c + alteredUpTo x whole count ≡ w → c + e + alteredUpTo y whole count ≡ w
+    owned-counts a left c {e} h sum =
+        omega (arith, h, sum, turned-counts (settled state name) (settled-keeps state name fits) x count user k size last u here y put a (owned-turn left))
+
+    pub owned-few : {whole : List ℕ} → 1 ≤ k → count ≤ 4096 → afterOf x count (ownedFrom x user k) (settled state name) ≡ whole → (c : ℕ) {e : ℕ} (t : List ℕ) → e ≡ differ x y
+        → c + alteredUpTo x whole count ≡ alteredUpTo t whole count → c + e ≤ 4096
+    owned-few {whole} a few left c {e} t h sum = sum-few t y whole count (c + e) (owned-counts a left c h sum) few
 
   pub owned-end : {whole : List ℕ} → count < k → afterOf x count (ownedFrom x user k) (settled state name) ≡ whole → x ≡ whole
   unfolding ownedFrom

@@ -2,10 +2,9 @@
 use Prim.Native.Nat.{ℕ}
 use mathlib.Core.List.{List}
 use mathlib.Core.Bool.{true, false, not, cond, _&&_, _||_}
-use lib.ListN.{getD}
 use lib.Dec.{eqb}
 use Rattle.octets.specs.Name.{same}
-use Rattle.record.specs.Fields.{privateOf, serverOf, stateOf}
+use Rattle.record.specs.Fields.{privateOf, serverOf, stateOf, serverSize}
 use Rattle.table.specs.Blocks.{blockOf}
 use Rattle.lookup.specs.Find.{isAt}
 use Rattle.lookup.specs.declared.Found.{Found}
@@ -32,7 +31,7 @@ lookAt b owner server kind =
       known = true;
       own = same (privateOf b) owner;
       stores = same (serverOf b) server;
-      fits = eqb (getD b 15 0) 0 || same (serverOf b) server;
+      fits = eqb (serverSize b) 0 || same (serverOf b) server;
       right = allowed (startOf kind) (stateOf b);
     }
 
@@ -57,7 +56,7 @@ sightOf t user server n = record { empty = isEmpty (ownedUpTo t user n); fits = 
 
 unfoldable pub glimpsed : Sight → List ℕ → List ℕ → List ℕ → Sight
 glimpsed s b user server =
-    record { empty = s .empty && not (ownedHere b user); fits = s .fits && (not (ownedHere b user) || (eqb (getD b 15 0) 0 || same (serverOf b) server)) }
+    record { empty = s .empty && not (ownedHere b user); fits = s .fits && (not (ownedHere b user) || (eqb (serverSize b) 0 || same (serverOf b) server)) }
 
 -- "X5001 .. X5002 .. Type 0 .. X5005 .. X5007": the first that is at fault
 unfoldable pub findingOf : Survey → ℕ → Finding

@@ -20,13 +20,13 @@ ghost use mathlib.Core.List.{[]};
 ghost use mathlib.Core.Option.{none};
 ghost use Prim.Native.Nat.{_≤_};
 ghost use lib.ListN.{length};
+ghost use Rattle.table.specs.SoundTable.{SoundTable};
 ghost use Rattle.lookup.specs.Find.{endOf};
 ghost use Rattle.diameter.specs.Message.{bodyOf};
 ghost use Rattle.requests.specs.Request.{identities};
 ghost use Rattle.decisions.specs.Types.{groupOf, isRemoval};
 ghost use Rattle.decisions.specs.Assignment.{findAll, identityFault};
 ghost use Rattle.decisions.specs.Gives.{Within};
-ghost use Rattle.decisions.specs.Planned.{Ready};
 ghost use Rattle.assignment.specs.Survey.{surveyOf};
 ghost use Rattle.assignment.specs.Assigns.{sarOf, Assigns, ownerBy, userKnown, alsoKnown, numberOf};
 ghost use Rattle.assignment.specs.Identities.{Begins, Tells};
@@ -52,7 +52,7 @@ fn number_of(f: Found) -> u32
 
 // "or a User-Name given, unknown"; the first record that was named is likely to have it.
 fn user_known(t: &[u8], count: usize, f: Found, named: bool, user: &[u8]) -> bool
-    requires { ⌜ Ready (now t) count × Within count f ⌝ }
+    requires { ⌜ SoundTable (now t) count × Within count f ⌝ }
     ensures { λ r. ⌜ r ≡ userKnown (now (t .entry)) count named (now (user .entry)) ⌝ }
 {
     if !named {
@@ -75,7 +75,7 @@ fn survey(
     server: &[u8],
     kind: u32,
 ) -> Survey
-    requires { ⌜ (endOf f ≤ length (now t)) × Ready (now t) count ⌝ }
+    requires { ⌜ (endOf f ≤ length (now t)) × SoundTable (now t) count ⌝ }
     ensures { λ r. ⌜ r ≡ surveyOf (now (t .entry)) (ownerBy (now (t .entry)) f named (now (user .entry))) (now (server .entry)) kind (findAll (now (t .entry)) count (identities (bodyOf (now (req .entry))))) ⌝ }
 {
     let Found::At(first) = f else {
@@ -114,7 +114,7 @@ fn plan_first(
     user: &[u8],
     keep: bool,
 ) -> Plan
-    requires { ⌜ Ready (now t) count × Begins place (now req) × (identityFault (isRemoval (groupOf kind)) named (identities (bodyOf (now req))) ≡ none) ⌝ }
+    requires { ⌜ SoundTable (now t) count × Begins place (now req) × (identityFault (isRemoval (groupOf kind)) named (identities (bodyOf (now req))) ≡ none) ⌝ }
     ensures { λ r. ⌜ Assigns (now (req .entry)) (now (t .entry)) count (sarOf (now (req .entry)) kind (now (server .entry)) already named (now (user .entry))) keep r ⌝ }
 {
     let f = lookup::find_public(t, count, diameter::data_at(req, place));
@@ -142,7 +142,7 @@ fn plan_owned(
     user: &[u8],
     keep: bool,
 ) -> Plan
-    requires { ⌜ Ready (now t) count × (identities (bodyOf (now req)) ≡ []) × (identityFault (isRemoval (groupOf kind)) named (identities (bodyOf (now req))) ≡ none) ⌝ }
+    requires { ⌜ SoundTable (now t) count × (identities (bodyOf (now req)) ≡ []) × (identityFault (isRemoval (groupOf kind)) named (identities (bodyOf (now req))) ≡ none) ⌝ }
     ensures { λ r. ⌜ Assigns (now (req .entry)) (now (t .entry)) count (sarOf (now (req .entry)) kind (now (server .entry)) already named (now (user .entry))) keep r ⌝ }
 {
     let s = owned::sight_of(t, count, user, server);
@@ -169,7 +169,7 @@ fn plan_for(
     user: &[u8],
     keep: bool,
 ) -> Plan
-    requires { ⌜ Ready (now t) count × Tells (now req) (isRemoval (groupOf kind)) named n ⌝ }
+    requires { ⌜ SoundTable (now t) count × Tells (now req) (isRemoval (groupOf kind)) named n ⌝ }
     ensures { λ r. ⌜ Assigns (now (req .entry)) (now (t .entry)) count (sarOf (now (req .entry)) kind (now (server .entry)) already named (now (user .entry))) keep r ⌝ }
 {
     match n {
@@ -211,7 +211,7 @@ pub fn plan_sar(
     user: &[u8],
     keep: bool,
 ) -> Plan
-    requires { ⌜ Ready (now t) count ⌝ }
+    requires { ⌜ SoundTable (now t) count ⌝ }
     ensures { λ r. ⌜ Assigns (now (req .entry)) (now (t .entry)) count (sarOf (now (req .entry)) kind (now (server .entry)) already named (now (user .entry))) keep r ⌝ }
 {
     let removal = is_removal(types::group_of(kind));

@@ -8,8 +8,8 @@ use requests::identities::Next;
 ghost use mathlib.Core.Path.{_≡_};
 ghost use Prim.Native.Nat.{_≤_};
 ghost use lib.ListN.{length};
-ghost use Rattle.lookup.specs.SoundTable.{Ordered};
-ghost use Rattle.rewrite.specs.Change.{afterOf};
+ghost use Rattle.table.specs.SoundTable.{SoundTable};
+ghost use Rattle.rewrite.specs.Change.{afterOf, alteredUpTo};
 ghost use Rattle.rewrite.specs.Renew.{settled, Fitting};
 ghost use Rattle.diameter.specs.Message.{bodyOf};
 ghost use Rattle.requests.specs.Request.{identities};
@@ -49,7 +49,7 @@ pub fn survey_all(
     server: &[u8],
     kind: u32,
 ) -> Survey
-    requires { ⌜ (count ≤ 4096) × Ordered (now t) count ⌝ }
+    requires { ⌜ SoundTable (now t) count ⌝ }
     ensures { λ r. ⌜ r ≡ surveyOf (now (t .entry)) (now (owner .entry)) (now (server .entry)) kind (findAll (now (t .entry)) count (identities (bodyOf (now (req .entry))))) ⌝ }
 {
     let mut seen = Survey {
@@ -71,18 +71,21 @@ pub fn survey_all(
     seen
 }
 
-// The effect on each record that is named.
-pub fn settle_named(t: &mut [u8], count: usize, req: &[u8], state: u8, server: &[u8])
-    requires { ⌜ (count ≤ 4096) × Ordered (now t) count × Fitting state (now server) ⌝ }
-    ensures { λ _. ⌜ now (t .exit) ≡ afterOf (now (t .entry)) count (isOne (numbersOf (findAll (now (t .entry)) count (identities (bodyOf (now (req .entry))))))) (settled state (now (server .entry))) ⌝ }
+// The effect on each record that is named. Answers how many records have other bytes then.
+pub fn settle_named(t: &mut [u8], count: usize, req: &[u8], state: u8, server: &[u8]) -> u32
+    requires { ⌜ SoundTable (now t) count × Fitting state (now server) ⌝ }
+    ensures { λ r. ⌜ (now (t .exit) ≡ afterOf (now (t .entry)) count (isOne (numbersOf (findAll (now (t .entry)) count (identities (bodyOf (now (req .entry))))))) (settled state (now (server .entry))))
+        × (r ≡ alteredUpTo (now (t .entry)) (now (t .exit)) count) ⌝ }
 {
+    let mut altered = 0;
     let mut at = message::BODY;
     while at < req.len() {
         let Next::At { place, past } = identities::next_identity(req, at) else {
-            return;
+            return altered;
         };
         let f = lookup::find_public(t, count, diameter::data_at(req, place));
-        rewrite::settle_found(t, f, state, server);
+        altered += rewrite::settle_found(t, f, state, server);
         at = past;
     }
+    altered
 }

@@ -6,7 +6,8 @@ use record::subscriber::Record;
 ghost use mathlib.Core.Path.{_≡_};
 ghost use Prim.Native.Nat.{_+_, _*_, _≤_};
 ghost use lib.ListN.{length};
-ghost use Rattle.rewrite.specs.Change.{afterOf};
+ghost use Rattle.table.specs.SoundTable.{SoundTable};
+ghost use Rattle.rewrite.specs.Change.{afterOf, alteredUpTo};
 ghost use Rattle.rewrite.specs.Renew.{settled, Fitting};
 ghost use Rattle.decisions.specs.Assignment.{isOne, ownedHere, ownedUpTo};
 ghost use Rattle.assignment.specs.Survey.{sightOf, glimpsed};
@@ -34,7 +35,7 @@ fn glimpse(s: Sight, b: &[u8], user: &[u8], server: &[u8]) -> Sight
 
 // What is seen of them.
 pub fn sight_of(t: &[u8], count: usize, user: &[u8], server: &[u8]) -> Sight
-    requires { ⌜ (count ≤ 4096) × (length (now t) ≡ 512 * (count + 1)) ⌝ }
+    requires { ⌜ SoundTable (now t) count ⌝ }
     ensures { λ r. ⌜ r ≡ sightOf (now (t .entry)) (now (user .entry)) (now (server .entry)) count ⌝ }
 {
     let mut seen = Sight {
@@ -47,15 +48,18 @@ pub fn sight_of(t: &[u8], count: usize, user: &[u8], server: &[u8]) -> Sight
     seen
 }
 
-// The effect on each of them.
-pub fn settle_owned(t: &mut [u8], count: usize, user: &[u8], state: u8, server: &[u8])
-    requires { ⌜ (count ≤ 4096) × (length (now t) ≡ 512 * (count + 1)) × Fitting state (now server) ⌝ }
-    ensures { λ _. ⌜ now (t .exit) ≡ afterOf (now (t .entry)) count (isOne (ownedUpTo (now (t .entry)) (now (user .entry)) count)) (settled state (now (server .entry))) ⌝ }
+// The effect on each of them. Answers how many records have other bytes then.
+pub fn settle_owned(t: &mut [u8], count: usize, user: &[u8], state: u8, server: &[u8]) -> u32
+    requires { ⌜ SoundTable (now t) count × Fitting state (now server) ⌝ }
+    ensures { λ r. ⌜ (now (t .exit) ≡ afterOf (now (t .entry)) count (isOne (ownedUpTo (now (t .entry)) (now (user .entry)) count)) (settled state (now (server .entry))))
+        × (r ≡ alteredUpTo (now (t .entry)) (now (t .exit)) count) ⌝ }
 {
+    let mut altered = 0;
     let mut k = 1;
     while k <= count {
         let chosen = owned(table::block(t, k), user);
-        rewrite::settle_if(t, k, chosen, state, server);
+        altered += rewrite::settle_if(t, k, chosen, state, server);
         k += 1;
     }
+    altered
 }

@@ -7,7 +7,7 @@ use native.Mathlib.Omega.{arith}
 use lib.ListN.{length}
 use Rattle.octets.specs.Run.{Wrote}
 use Rattle.table.specs.Blocks.{blockOf}
-use Rattle.lookup.specs.SoundTable.{SoundTable}
+use Rattle.table.specs.SoundTable.{SoundTable}
 use Rattle.rewrite.specs.Renew.{Fitting}
 use Rattle.reading.specs.Rules.{Seen}
 use Rattle.requests.specs.Judged.{bad, fine}
@@ -60,10 +60,10 @@ module _ (req t file : List ℕ) (count : ℕ) (g : Given) (is : replyOf req t f
       → Answers req t count file before after r
   answers before after r w = rw is at w
 
-  pub given-room : (o : List ℕ) → Passed req o → SoundTable t (length file) count → roomOf (bodyOf req) (replyOf req t file g) ≤ 36864
+  pub given-room : (o : List ℕ) → Passed req o → SoundTable t count → roomOf (bodyOf req) (replyOf req t file g) ≤ 36864
   given-room o p s = rw is (decide-room t file count s req (p .least) (p .most) (p .fours))
 
-  pub answers-most : (o : List ℕ) → Passed req o → SoundTable t (length file) count → (before after : List ℕ) (r : ℕ)
+  pub answers-most : (o : List ℕ) → Passed req o → SoundTable t count → (before after : List ℕ) (r : ℕ)
       → Wrote (answerBytes req (blockOf t 0) (replyOf req t file g)) before after r → r ≤ 36864
   answers-most o p s before after r w =
       omega (arith, w .count, answer-most t file count s req (p .least) (p .most) (p .fours), ap (λ (x : Reply). length (answerBytes req (blockOf t 0) x)) is)

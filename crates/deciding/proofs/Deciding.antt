@@ -1,12 +1,12 @@
 -- The plan of each command, and what carrying it out leaves.
-use Prim.Native.Nat.{ℕ, _≤_}
+use Prim.Native.Nat.{ℕ}
 use mathlib.Core.List.{List}
 use mathlib.Core.Bool.{Bool, true, false, true≢false}
 use mathlib.Core.Path.{_≡_, sym, _∙_}
 use native.Mathlib.Omega.{arith}
-use lib.ListN.{length, getD}
 use lib.Dec.{eqb}
 use borrow.Author.Tests.{eq-eqb, ne-eqb}
+use Rattle.record.specs.Fields.{keepOf}
 use Rattle.table.specs.Blocks.{blockOf}
 use Rattle.rewrite.specs.Change.{afterOf}
 use Rattle.rewrite.specs.Renew.{settled, Fitting}
@@ -20,14 +20,14 @@ use Rattle.decisions.specs.Location.{locate}
 use Rattle.decisions.specs.Gives.{Gives}
 use Rattle.decisions.specs.Assignment.{isOne, findAll, numbersOf, ownedUpTo, storedName}
 use Rattle.decisions.specs.Decide.{assignmentOf, decideRead}
-use Rattle.decisions.specs.Planned.{Ready, plannedRecords, planned, decisionOf}
+use Rattle.decisions.specs.Planned.{plannedRecords, planned, decisionOf}
 use Rattle.decisions.specs.declared.Given.{Given}
 use Rattle.decisions.specs.declared.Plan.{Plan}
 use Rattle.assignment.specs.Plans.{only}
 use Rattle.assignment.specs.Assigns.{sarOf, Assigns}
 use Rattle.deciding.specs.Plans.{Plans}
 
-pub keep-read : (t : List ℕ) {h : List ℕ} → h ≡ blockOf t 0 → eqb (getD h 12 0) 1 ≡ eqb (getD (blockOf t 0) 12 0) 1
+pub keep-read : (t : List ℕ) {h : List ℕ} → h ≡ blockOf t 0 → eqb (keepOf h) 1 ≡ eqb (keepOf (blockOf t 0)) 1
 keep-read t e = rw e
 
 module _ (req t : List ℕ) (count : ℕ) (seen : Seen) where
@@ -52,7 +52,7 @@ module _ (req t : List ℕ) (count : ℕ) (seen : Seen) where
   pub sar-planned : {kind already : ℕ} {server user : List ℕ} {named keep : Bool} {p : Plan} → readRequest req ≡ fine seen → commandOf req ≡ 301
       → kind ≡ valueSeen seen 11 → server ≡ dataSeen seen 10
       → already ≡ valueSeen seen 12
-      → named ≡ given seen 7 → user ≡ dataSeen seen 7 → keep ≡ eqb (getD (blockOf t 0) 12 0) 1
+      → named ≡ given seen 7 → user ≡ dataSeen seen 7 → keep ≡ eqb (keepOf (blockOf t 0)) 1
       → Assigns req t count (sarOf req kind server already named user) keep p
       → Plans req t count seen p
   unfolding assignmentOf decideRead
@@ -86,6 +86,3 @@ module _ (t : List ℕ) (count : ℕ) (req : List ℕ) (seen : Seen) (p : Plan) 
 pub stored-fits : (seen : Seen) (state : ℕ) (write named : Bool) (name server : List ℕ) → name ≡ dataSeen seen 10 → server ≡ storedName named name
     → (write ≡ true → Fitting state (storedName named (dataSeen seen 10))) → write ≡ true → Fitting state server
 stored-fits seen state write named name server a b f w = rw (b, a) (f w)
-
-pub ready-whole : (t : List ℕ) (count : ℕ) → Ready t count → 512 ≤ length t
-ready-whole t count r = omega (arith, r .ordered .size)

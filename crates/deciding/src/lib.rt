@@ -13,11 +13,12 @@ use record::header::Header;
 use requests::places;
 ghost use mathlib.Core.Path.{_≡_};
 ghost use mathlib.Core.Bool.{true};
-ghost use Prim.Native.Nat.{_≤_};
-ghost use lib.ListN.{length, getD};
+ghost use Prim.Native.Nat.{_+_, _*_, _≤_};
+ghost use lib.ListN.{length};
 ghost use lib.Dec.{eqb};
+ghost use Rattle.record.specs.Fields.{keepOf};
 ghost use Rattle.table.specs.Blocks.{blockOf};
-ghost use Rattle.lookup.specs.SoundTable.{SoundTable};
+ghost use Rattle.table.specs.SoundTable.{SoundTable};
 ghost use Rattle.rewrite.specs.Renew.{Fitting};
 ghost use Rattle.requests.specs.Judged.{bad, fine};
 ghost use Rattle.diameter.specs.Message.{commandOf};
@@ -25,21 +26,21 @@ ghost use Rattle.requests.specs.Request.{readRequest, dataSeen};
 ghost use Rattle.reading.specs.Places.{seenOf};
 ghost use Rattle.decisions.specs.Assignment.{storedName};
 ghost use Rattle.decisions.specs.Decide.{assignmentOf, decide};
-ghost use Rattle.decisions.specs.Planned.{Ready, planned};
+ghost use Rattle.decisions.specs.Planned.{planned};
 ghost use Rattle.deciding.specs.Passed.{Passed};
 ghost use Rattle.deciding.specs.Plans.{Plans, Answers};
 
 // Whether the header says that names are kept.
 fn keep(t: &[u8]) -> bool
-    requires { ⌜ 512 ≤ length (now t) ⌝ }
-    ensures { λ r. ⌜ r ≡ eqb (getD (blockOf (now (t .entry)) 0) 12 0) 1 ⌝ }
+    requires { ⌜ 512 * 0 + 512 ≤ length (now t) ⌝ }
+    ensures { λ r. ⌜ r ≡ eqb (keepOf (blockOf (now (t .entry)) 0)) 1 ⌝ }
 {
     let h = table::block(t, 0);
     h[Header::KEEP_AT] == 1
 }
 
 fn plan_uar(req: &[u8], t: &[u8], count: usize, found: [usize; kinds::KINDS]) -> Plan
-    requires { ⌜ Ready (now t) count × (commandOf (now req) ≡ 300) ⌝ }
+    requires { ⌜ SoundTable (now t) count × (commandOf (now req) ≡ 300) ⌝ }
     ensures { λ r. ⌜ Plans (now (req .entry)) (now (t .entry)) count (seenOf (now (req .entry)) found) r ⌝ }
 {
     plan::reply_only(authorization::authorize(
@@ -53,7 +54,7 @@ fn plan_uar(req: &[u8], t: &[u8], count: usize, found: [usize; kinds::KINDS]) ->
 }
 
 fn plan_sar(req: &[u8], t: &[u8], count: usize, found: [usize; kinds::KINDS]) -> Plan
-    requires { ⌜ Ready (now t) count × (readRequest (now req) ≡ fine (seenOf (now req) found)) × (commandOf (now req) ≡ 301) ⌝ }
+    requires { ⌜ SoundTable (now t) count × (readRequest (now req) ≡ fine (seenOf (now req) found)) × (commandOf (now req) ≡ 301) ⌝ }
     ensures { λ r. ⌜ Plans (now (req .entry)) (now (t .entry)) count (seenOf (now (req .entry)) found) r ⌝ }
 {
     assigning::plan_sar(
@@ -70,7 +71,7 @@ fn plan_sar(req: &[u8], t: &[u8], count: usize, found: [usize; kinds::KINDS]) ->
 }
 
 fn plan_lir(req: &[u8], t: &[u8], count: usize, found: [usize; kinds::KINDS]) -> Plan
-    requires { ⌜ Ready (now t) count × (commandOf (now req) ≡ 300 → ⊥) × (commandOf (now req) ≡ 301 → ⊥) ⌝ }
+    requires { ⌜ SoundTable (now t) count × (commandOf (now req) ≡ 300 → ⊥) × (commandOf (now req) ≡ 301 → ⊥) ⌝ }
     ensures { λ r. ⌜ Plans (now (req .entry)) (now (t .entry)) count (seenOf (now (req .entry)) found) r ⌝ }
 {
     plan::reply_only(location::locate(
@@ -82,7 +83,7 @@ fn plan_lir(req: &[u8], t: &[u8], count: usize, found: [usize; kinds::KINDS]) ->
 
 // The plan of a request that was read, by its command.
 fn plan_read(req: &[u8], t: &[u8], count: usize, found: [usize; kinds::KINDS]) -> Plan
-    requires { ⌜ Ready (now t) count × (readRequest (now req) ≡ fine (seenOf (now req) found)) × (20 ≤ length (now req)) ⌝ }
+    requires { ⌜ SoundTable (now t) count × (readRequest (now req) ≡ fine (seenOf (now req) found)) × (20 ≤ length (now req)) ⌝ }
     ensures { λ r. ⌜ Plans (now (req .entry)) (now (t .entry)) count (seenOf (now (req .entry)) found) r ⌝ }
 {
     let command = requests::command(req);
@@ -104,7 +105,7 @@ fn stored(named: bool, server: &[u8]) -> &[u8]
 
 // The effect that is planned, if there is one.
 fn carry_out(t: &mut [u8], count: usize, req: &[u8], found: [usize; kinds::KINDS], p: Plan)
-    requires { ⌜ Ready (now t) count × (p .write ≡ true → Fitting (p .state) (storedName (p .named) (dataSeen (seenOf (now req) found) 10))) ⌝ }
+    requires { ⌜ SoundTable (now t) count × (p .write ≡ true → Fitting (p .state) (storedName (p .named) (dataSeen (seenOf (now req) found) 10))) ⌝ }
     ensures { λ _. ⌜ now (t .exit) ≡ planned (now (t .entry)) count (assignmentOf (seenOf (now (req .entry)) found) (now (req .entry))) p ⌝ }
 {
     let server = stored(p.named, places::data_of(req, found, kinds::SERVER_NAME));
@@ -128,7 +129,7 @@ fn answer_fault(
     count: usize,
     v: Verdict,
 ) -> usize
-    requires { ⌜ Passed (now req) (now out) × SoundTable (now t) (length (now file)) count × (readRequest (now req) ≡ bad v) ⌝ }
+    requires { ⌜ Passed (now req) (now out) × SoundTable (now t) count × (readRequest (now req) ≡ bad v) ⌝ }
     ensures { λ r. ⌜ (r ≤ 36864) × Answers (now (req .entry)) (now (t .entry)) count (now (file .entry)) (now (out .entry)) (now (out .exit)) r ⌝ }
 {
     answering::answer(out, req, t, file, count, giving::faulty(v))
@@ -143,7 +144,7 @@ fn answer_read(
     count: usize,
     found: [usize; kinds::KINDS],
 ) -> usize
-    requires { ⌜ Passed (now req) (now out) × SoundTable (now t) (length (now file)) count × (readRequest (now req) ≡ fine (seenOf (now req) found)) ⌝ }
+    requires { ⌜ Passed (now req) (now out) × SoundTable (now t) count × (readRequest (now req) ≡ fine (seenOf (now req) found)) ⌝ }
     ensures { λ r. ⌜ (r ≤ 36864) × Answers (now (req .entry)) (now (t .entry)) count (now (file .entry)) (now (out .entry)) (now (out .exit)) r
         × (now (t .exit) ≡ decide (now (req .entry)) (now (t .entry)) count (now (file .entry)) .table) ⌝ }
 {
@@ -156,7 +157,7 @@ fn answer_read(
 
 // One request over a sound table of so many records.
 pub fn answer_sound(out: &mut [u8], req: &[u8], t: &mut [u8], file: &[u8], count: usize) -> usize
-    requires { ⌜ Passed (now req) (now out) × SoundTable (now t) (length (now file)) count ⌝ }
+    requires { ⌜ Passed (now req) (now out) × SoundTable (now t) count ⌝ }
     ensures { λ r. ⌜ (r ≤ 36864) × Answers (now (req .entry)) (now (t .entry)) count (now (file .entry)) (now (out .entry)) (now (out .exit)) r
         × (now (t .exit) ≡ decide (now (req .entry)) (now (t .entry)) count (now (file .entry)) .table) ⌝ }
 {

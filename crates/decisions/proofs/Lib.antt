@@ -1,6 +1,6 @@
 pub mod Authorizing
 pub mod Locating
 pub mod Ranges
-pub mod Ready
+pub mod Within
 pub mod Replies
 pub mod Rows

@@ -1,11 +1,10 @@
 -- A LIR: the ways through its decision, and that they are the document's.
-use Prim.Native.Nat.{ℕ, _/_, _%_}
+use Prim.Native.Nat.{ℕ}
 use mathlib.Core.Bool.{Bool, true, false}
 use mathlib.Core.Path.{_≡_}
 use mathlib.Core.List.{List}
-use lib.ListN.{getD}
-use lib.Dec.{eqb, ltb}
-use Rattle.record.specs.Fields.{privateOf}
+use lib.Dec.{ltb}
+use Rattle.record.specs.Fields.{privateOf, stateOf, bitsOf, unregisteredServices}
 use Rattle.table.specs.Blocks.{blockOf}
 use Rattle.lookup.specs.Find.{findPublic}
 use Rattle.lookup.specs.declared.Found.{Found}
@@ -34,16 +33,16 @@ module _ (present services : Bool) where
 
 module _ (t : List ℕ) (count : ℕ) where
   -- The questions first and the decision then is the document's sentence.
-  location-carried : (b : List ℕ) → carried t count (privateOf b) b (location (ltb 0 (getD b 8 0)) (eqb (getD b 9 0 / 4 % 2) 1)) ≡ locateRecord t count b
+  location-carried : (b : List ℕ) → carried t count (privateOf b) b (location (ltb 0 (stateOf b)) (unregisteredServices (bitsOf b))) ≡ locateRecord t count b
   unfolding location locateRecord carried
   location-carried b = simp carried-cond
 
   module _ {g : Given} where
-    pub locate-by : (k : ℕ) {b p : List ℕ} {c : Choice} → b ≡ blockOf t k → c ≡ location (ltb 0 (getD b 8 0)) (eqb (getD b 9 0 / 4 % 2) 1) → p ≡ privateOf b
+    pub locate-by : (k : ℕ) {b p : List ℕ} {x : Bool} {c : Choice} → b ≡ blockOf t k → x ≡ unregisteredServices (bitsOf b) → c ≡ location (ltb 0 (stateOf b)) x → p ≡ privateOf b
         → Gives t g (carried t count p (blockOf t k) c) → Gives t g (locateRecord t count (blockOf t k))
-    locate-by k block chooses owner s =
+    locate-by k block services chooses owner s =
         let e = location-carried (blockOf t k) in
-        rw (chooses, owner, block, e) at s
+        rw (chooses, services, owner, block, e) at s
 
     pub locate-known : (f : Found) (k : ℕ) → f ≡ At k → Gives t g (locateRecord t count (blockOf t k)) → Gives t g (locateFound t count f)
     unfolding locateFound

@@ -3,10 +3,9 @@ use Prim.Native.Nat.{ℕ, zero, suc, _+_}
 use mathlib.Core.List.{List, [], _∷_, _++_, map}
 use mathlib.Core.Option.{Option, none, some}
 use mathlib.Core.Bool.{Bool, true, false, cond, not, _&&_, _||_}
-use lib.ListN.{getD}
 use lib.Dec.{eqb, leb, ltb}
 use Rattle.octets.specs.Name.{same}
-use Rattle.record.specs.Fields.{privateOf, serverOf, profileOf, stateOf}
+use Rattle.record.specs.Fields.{privateOf, serverOf, profileOf, stateOf, serverSize}
 use Rattle.table.specs.Blocks.{blockOf, privateAt}
 use Rattle.lookup.specs.Find.{isAt, findPublic, findPrivate}
 use Rattle.lookup.specs.declared.Found.{Found}
@@ -94,7 +93,7 @@ unfoldable pub storesAt : List ℕ → List ℕ → ℕ → Bool
 storesAt t server k = same (serverOf (blockOf t k)) server
 
 unfoldable pub fitsAt : List ℕ → List ℕ → ℕ → Bool
-fitsAt t server k = eqb (getD (blockOf t k) 15 0) 0 || same (serverOf (blockOf t k)) server
+fitsAt t server k = eqb (serverSize (blockOf t k)) 0 || same (serverOf (blockOf t k)) server
 
 -- "Wrong state": of each, and "at least one record"
 unfoldable pub rightAt : List ℕ → ℕ → ℕ → Bool

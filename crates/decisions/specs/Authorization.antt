@@ -2,21 +2,16 @@
 use Prim.Native.Nat.{ℕ}
 use mathlib.Core.List.{List}
 use mathlib.Core.Bool.{Bool, cond, not, _&&_}
-use lib.ListN.{getD}
 use lib.Dec.{eqb, ltb}
 use Rattle.octets.specs.Name.{same}
-use Rattle.record.specs.Fields.{privateOf, serverOf, stateOf, barred}
+use Rattle.record.specs.Fields.{privateOf, serverOf, stateOf, bitsOf, barred}
 use Rattle.table.specs.Blocks.{blockOf}
 use Rattle.lookup.specs.Find.{isAt, findPublic, findPrivate, findServer}
-use Rattle.lookup.specs.Network.{networkNumber, roamsIn}
+use Rattle.lookup.specs.Network.{mayRoam}
 use Rattle.lookup.specs.declared.Found.{Found}
 use Rattle.lookup.specs.declared.Found.the-variants.{At, Nothing}
 use Rattle.reading.specs.declared.Outcome.the-variants.{Base, Experimental}
 use Rattle.decisions.specs.Reply.{Reply, plain, served, capable, servedBy}
-
--- "the visited network is named in the header and its bit set"; h is the header block, b the asked record's
-unfoldable pub mayRoam : List ℕ → List ℕ → List ℕ → Bool
-mayRoam h b network = roamsIn (getD b 10 0) (getD h 15 0) (networkNumber h (getD h 15 0) network)
 
 -- "Not together in one record: X5002. Barred: B5003. Type 0 or 2: the visited network is named in the header and its bit set, else X5004. Type 2: B2001 with
 -- capabilities. State 1 or 2: the server name (none stored: B5012), with X2002 for type 0, B2001 for type 1. State 0, type 1: X5003. State 0, type 0: the first
@@ -24,7 +19,7 @@ mayRoam h b network = roamsIn (getD b 10 0) (getD h 15 0) (networkNumber h (getD
 unfoldable pub authorizeRecord : List ℕ → ℕ → List ℕ → List ℕ → ℕ → List ℕ → Reply
 authorizeRecord t count user network kind b =
     cond (not (same (privateOf b) user)) (plain (Experimental 5002))
-    (cond (barred (getD b 9 0)) (plain (Base 5003))
+    (cond (barred (bitsOf b)) (plain (Base 5003))
     (cond (not (eqb kind 1) && not (mayRoam (blockOf t 0) b network)) (plain (Experimental 5004))
     (cond (eqb kind 2) (capable (Base 2001) b)
     (cond (ltb 0 (stateOf b)) (served (cond (eqb kind 0) (Experimental 2002) (Base 2001)) (serverOf b))

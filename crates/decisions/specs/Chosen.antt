@@ -2,14 +2,13 @@
 use Prim.Native.Nat.{ℕ}
 use mathlib.Core.List.{List}
 use mathlib.Core.Bool.{Bool, cond, not, _&&_}
-use lib.ListN.{getD}
 use lib.Dec.{eqb, ltb}
 use Rattle.octets.specs.Name.{same}
-use Rattle.record.specs.Fields.{privateOf, serverOf, stateOf, barred}
+use Rattle.record.specs.Fields.{privateOf, serverOf, stateOf, bitsOf, barred}
 use Rattle.lookup.specs.Find.{findServer}
+use Rattle.lookup.specs.Network.{mayRoam}
 use Rattle.reading.specs.declared.Outcome.the-variants.{Base, Experimental}
 use Rattle.decisions.specs.Reply.{Reply, plain, served, capable, servedBy}
-use Rattle.decisions.specs.Authorization.{mayRoam}
 use Rattle.decisions.specs.declared.choice.Choice.{Choice}
 use Rattle.decisions.specs.declared.choice.Choice.the-variants.{Alone, Server, Capabilities, First}
 use Rattle.decisions.specs.declared.authorization.Asked.{Asked}
@@ -24,7 +23,7 @@ carried t count user b (First r other) = servedBy t (findServer t count user) r 
 -- what a UAR asks of a record; h is the header block
 unfoldable pub askedOf : List ℕ → List ℕ → List ℕ → List ℕ → Asked
 askedOf h b user network =
-    record { together = same (privateOf b) user; barred = barred (getD b 9 0); roams = mayRoam h b network; present = ltb 0 (stateOf b) }
+    record { together = same (privateOf b) user; barred = barred (bitsOf b); roams = mayRoam h b network; present = ltb 0 (stateOf b) }
 
 -- "UAR." and "LIR.", of the record that was found
 unfoldable pub authorization : Asked → ℕ → Choice

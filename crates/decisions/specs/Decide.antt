@@ -2,8 +2,8 @@
 use Prim.Native.Nat.{ℕ}
 use mathlib.Core.List.{List}
 use mathlib.Core.Bool.{cond}
-use lib.ListN.{getD}
 use lib.Dec.{eqb}
+use Rattle.record.specs.Fields.{keepOf}
 use Rattle.table.specs.Blocks.{blockOf}
 use Rattle.reading.specs.Kinds.{userName, publicIdentity, visitedNetwork, serverName, assignmentType, dataAvailable, authorizationType}
 use Rattle.reading.specs.Rules.{Seen}
@@ -33,7 +33,7 @@ unfoldable pub decideRead : List ℕ → List ℕ → ℕ → List ℕ → Seen 
 decideRead req t count file seen =
     cond (eqb (commandOf req) 300)
     (unaltered t (authorize t count (dataSeen seen userName) (dataSeen seen publicIdentity) (dataSeen seen visitedNetwork) (valueSeen seen authorizationType)))
-    (cond (eqb (commandOf req) 301) (assign t count file (eqb (getD (blockOf t 0) 12 0) 1) (assignmentOf seen req))
+    (cond (eqb (commandOf req) 301) (assign t count file (eqb (keepOf (blockOf t 0)) 1) (assignmentOf seen req))
     (unaltered t (locate t count (dataSeen seen publicIdentity))))
 
 unfoldable pub decideJudged : List ℕ → List ℕ → ℕ → List ℕ → Judged → Decision

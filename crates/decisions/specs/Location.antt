@@ -2,9 +2,8 @@
 use Prim.Native.Nat.{ℕ}
 use mathlib.Core.List.{List}
 use mathlib.Core.Bool.{cond}
-use lib.ListN.{getD}
 use lib.Dec.{ltb}
-use Rattle.record.specs.Fields.{privateOf, serverOf, stateOf, unregisteredServices}
+use Rattle.record.specs.Fields.{privateOf, serverOf, stateOf, bitsOf, unregisteredServices}
 use Rattle.table.specs.Blocks.{blockOf}
 use Rattle.lookup.specs.Find.{findPublic, findServer}
 use Rattle.lookup.specs.declared.Found.{Found}
@@ -17,7 +16,7 @@ use Rattle.decisions.specs.Reply.{Reply, plain, served, capable, servedB
 unfoldable pub locateRecord : List ℕ → ℕ → List ℕ → Reply
 locateRecord t count b =
     cond (ltb 0 (stateOf b)) (served (Base 2001) (serverOf b))
-    (cond (unregisteredServices (getD b 9 0)) (servedBy t (findServer t count (privateOf b)) (Base 2001) (capable (Experimental 2003) b))
+    (cond (unregisteredServices (bitsOf b)) (servedBy t (findServer t count (privateOf b)) (Base 2001) (capable (Experimental 2003) b))
     (plain (Experimental 5003)))
 
 -- "Unknown: X5001."

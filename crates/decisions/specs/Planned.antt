@@ -1,13 +1,10 @@
 -- What the code's answers say: block numbers in the table stand for what the answer carries.
-use Prim.Native.Nat.{ℕ, _≤_}
+use Prim.Native.Nat.{ℕ}
 use mathlib.Core.List.{List, []}
 use mathlib.Core.Bool.{cond}
-use lib.ListN.{getD}
 use lib.Dec.{eqb}
 use Rattle.record.specs.Fields.{serverOf, mandatoryOf, optionalOf, profileOf}
 use Rattle.table.specs.Blocks.{blockOf, privateAt, ofBlock}
-use Rattle.lookup.specs.Network.{Short}
-use Rattle.lookup.specs.SoundTable.{Ordered}
 use Rattle.rewrite.specs.Change.{afterOf}
 use Rattle.rewrite.specs.Renew.{settled}
 use Rattle.failed.specs.Failing.{failedBy}
@@ -38,10 +35,3 @@ planned t count s p = cond (p .write) (afterOf t count (isOne (plannedRecords t 
 
 unfoldable pub decisionOf : List ℕ → List ℕ → ℕ → List ℕ → Assignment → Plan → Decision
 decisionOf req t count file s p = record { reply = replyOf req t file (p .given); table = planned t count s p }
-
--- What the look-ups of a decision rest on, taken out of a sound table
-pub record Ready (t : List ℕ) (count : ℕ) : Type 0 where
-  pub few : count ≤ 4096
-  pub ordered : Ordered t count
-  pub networks : getD (blockOf t 0) 15 0 ≤ 8
-  pub short : Short (blockOf t 0) (getD (blockOf t 0) 15 0)

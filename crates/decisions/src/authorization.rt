@@ -7,17 +7,15 @@ use lookup::Found;
 use octets::name;
 use reading::Outcome;
 use record::fields;
-use record::header::Header;
 use record::subscriber::Record;
 ghost use mathlib.Core.Path.{_≡_};
 ghost use Prim.Native.Nat.{_≤_};
-ghost use lib.ListN.{length, getD};
+ghost use lib.ListN.{length};
 ghost use Rattle.table.specs.Blocks.{blockOf};
-ghost use Rattle.lookup.specs.Network.{Short};
-ghost use Rattle.decisions.specs.Planned.{Ready};
+ghost use Rattle.table.specs.SoundTable.{SoundTable};
 ghost use Rattle.decisions.specs.Gives.{Gives, Within};
 ghost use Rattle.decisions.specs.Chosen.{askedOf, authorization};
-ghost use Rattle.decisions.specs.Authorization.{mayRoam, authorizeRecord, authorizeFound, authorize};
+ghost use Rattle.decisions.specs.Authorization.{authorizeRecord, authorizeFound, authorize};
 
 // What is asked of the record with the public identity: whether it has the private identity too, whether it is barred, whether it may roam in
 // the visited network, and whether it is in state 1 or 2.
@@ -28,28 +26,15 @@ pub struct Asked {
     pub present: bool,
 }
 
-// "the visited network is named in the header and its bit set"; h is the header block.
-fn may_roam(h: &[u8], b: &[u8], network: &[u8]) -> bool
-    requires { ⌜ (length (now h) ≡ 512) × (getD (now h) 15 0 ≤ 8) × Short (now h) (getD (now h) 15 0) × (length (now b) ≡ 512) ⌝ }
-    ensures { λ r. ⌜ r ≡ mayRoam (now (h .entry)) (now (b .entry)) (now (network .entry)) ⌝ }
-{
-    let networks = octets::byte(h, Header::NETWORKS_AT);
-    lookup::roams_in(
-        b[Record::ROAMING_AT],
-        networks,
-        lookup::network(h, networks, network),
-    )
-}
-
 // The questions, put to a record's block b.
-fn ask(h: &[u8], b: &[u8], user: &[u8], network: &[u8]) -> Asked
-    requires { ⌜ (length (now h) ≡ 512) × (getD (now h) 15 0 ≤ 8) × Short (now h) (getD (now h) 15 0) × (length (now b) ≡ 512) ⌝ }
-    ensures { λ r. ⌜ r ≡ askedOf (now (h .entry)) (now (b .entry)) (now (user .entry)) (now (network .entry)) ⌝ }
+fn ask(t: &[u8], count: usize, b: &[u8], user: &[u8], network: &[u8]) -> Asked
+    requires { ⌜ SoundTable (now t) count × (length (now b) ≡ 512) ⌝ }
+    ensures { λ r. ⌜ r ≡ askedOf (blockOf (now (t .entry)) 0) (now (b .entry)) (now (user .entry)) (now (network .entry)) ⌝ }
 {
     Asked {
         together: name::same(fields::private(b), user),
-        barred: b[Record::BITS_AT] / 2 % 2 == 1,
-        roams: may_roam(h, b, network),
+        barred: fields::barred(b),
+        roams: lookup::may_roam(t, count, b, network),
         present: 0 < b[Record::STATE_AT],
     }
 }
@@ -84,15 +69,10 @@ fn choose(a: Asked, kind: u32) -> Choice
 
 // Of the record in block k, both identities known.
 fn authorize_record(t: &[u8], count: usize, user: &[u8], network: &[u8], kind: u32, k: u32) -> Given
-    requires { ⌜ Ready (now t) count × (1 ≤ k) × (k ≤ count) ⌝ }
+    requires { ⌜ SoundTable (now t) count × (1 ≤ k) × (k ≤ count) ⌝ }
     ensures { λ r. ⌜ Gives (now (t .entry)) r (authorizeRecord (now (t .entry)) count (now (user .entry)) (now (network .entry)) kind (blockOf (now (t .entry)) k)) ⌝ }
 {
-    let asked = ask(
-        table::block(t, 0),
-        table::block(t, k as usize),
-        user,
-        network,
-    );
+    let asked = ask(t, count, table::block(t, k as usize), user, network);
     choice::carry(t, count, user, k, choose(asked, kind))
 }
 
@@ -105,7 +85,7 @@ fn authorize_found(
     kind: u32,
     f: Found,
 ) -> Given
-    requires { ⌜ Ready (now t) count × Within count f ⌝ }
+    requires { ⌜ SoundTable (now t) count × Within count f ⌝ }
     ensures { λ r. ⌜ Gives (now (t .entry)) r (authorizeFound (now (t .entry)) count (now (user .entry)) (now (network .entry)) kind f) ⌝ }
 {
     match f {
@@ -128,7 +108,7 @@ pub fn authorize(
     network: &[u8],
     kind: u32,
 ) -> Given
-    requires { ⌜ Ready (now t) count ⌝ }
+    requires { ⌜ SoundTable (now t) count ⌝ }
     ensures { λ r. ⌜ Gives (now (t .entry)) r (authorize (now (t .entry)) count (now (user .entry)) (now (public .entry)) (now (network .entry)) kind) ⌝ }
 {
     let f = lookup::find_public(t, count, public);

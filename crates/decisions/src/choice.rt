@@ -10,6 +10,7 @@ ghost use Prim.Native.Nat.{ℕ, _+_, _*_, _≤_};
 ghost use lib.ListN.{length};
 ghost use Rattle.record.specs.Fields.{serverOf};
 ghost use Rattle.table.specs.Blocks.{blockOf};
+ghost use Rattle.table.specs.SoundTable.{SoundTable};
 ghost use Rattle.decisions.specs.Reply.{capable, served, servedBy};
 ghost use Rattle.decisions.specs.Gives.{Gives};
 ghost use Rattle.decisions.specs.Chosen.{carried};
@@ -50,7 +51,7 @@ fn served_by(f: Found, result: Outcome, other: Outcome, k: u32) -> Given
 
 // What a choice on block k carries; user is its subscription.
 pub fn carry(t: &[u8], count: usize, user: &[u8], k: u32, choice: Choice) -> Given
-    requires { ⌜ (count ≤ 4096) × (length (now t) ≡ 512 * (count + 1)) × (1 ≤ k) × (k ≤ count) ⌝ }
+    requires { ⌜ SoundTable (now t) count × (1 ≤ k) × (k ≤ count) ⌝ }
     ensures { λ r. ⌜ Gives (now (t .entry)) r (carried (now (t .entry)) count (now (user .entry)) (blockOf (now (t .entry)) k) choice) ⌝ }
 {
     match choice {

@@ -10,7 +10,7 @@ use record::subscriber::Record;
 ghost use mathlib.Core.Path.{_≡_};
 ghost use Prim.Native.Nat.{_≤_};
 ghost use Rattle.table.specs.Blocks.{blockOf};
-ghost use Rattle.decisions.specs.Planned.{Ready};
+ghost use Rattle.table.specs.SoundTable.{SoundTable};
 ghost use Rattle.decisions.specs.Gives.{Gives, Within};
 ghost use Rattle.decisions.specs.Chosen.{location};
 ghost use Rattle.decisions.specs.Location.{locateRecord, locateFound, locate};
@@ -30,17 +30,17 @@ fn choose(present: bool, services: bool) -> Choice
 
 // Of the record in block k.
 fn locate_record(t: &[u8], count: usize, k: u32) -> Given
-    requires { ⌜ Ready (now t) count × (1 ≤ k) × (k ≤ count) ⌝ }
+    requires { ⌜ SoundTable (now t) count × (1 ≤ k) × (k ≤ count) ⌝ }
     ensures { λ r. ⌜ Gives (now (t .entry)) r (locateRecord (now (t .entry)) count (blockOf (now (t .entry)) k)) ⌝ }
 {
     let b = table::block(t, k as usize);
-    let chosen = choose(0 < b[Record::STATE_AT], b[Record::BITS_AT] / 4 % 2 == 1);
+    let chosen = choose(0 < b[Record::STATE_AT], fields::unregistered_services(b));
     choice::carry(t, count, fields::private(b), k, chosen)
 }
 
 // "Unknown: X5001."
 fn locate_found(t: &[u8], count: usize, f: Found) -> Given
-    requires { ⌜ Ready (now t) count × Within count f ⌝ }
+    requires { ⌜ SoundTable (now t) count × Within count f ⌝ }
     ensures { λ r. ⌜ Gives (now (t .entry)) r (locateFound (now (t .entry)) count f) ⌝ }
 {
     match f {
@@ -50,7 +50,7 @@ fn locate_found(t: &[u8], count: usize, f: Found) -> Given
 }
 
 pub fn locate(t: &[u8], count: usize, public: &[u8]) -> Given
-    requires { ⌜ Ready (now t) count ⌝ }
+    requires { ⌜ SoundTable (now t) count ⌝ }
     ensures { λ r. ⌜ Gives (now (t .entry)) r (locate (now (t .entry)) count (now (public .entry))) ⌝ }
 {
     let f = lookup::find_public(t, count, public);

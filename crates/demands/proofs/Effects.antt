@@ -5,10 +5,9 @@ use mathlib.Core.Option.{Option, none, some}
 use mathlib.Core.Bool.{Bool, true, false, not, cond, _||_}
 use mathlib.Core.Path.{_≡_, refl}
 use mathlib.Core.Logic.{_⊎_, inl, inr}
-use lib.ListN.{getD}
 use lib.Dec.{eqb, leb}
 use borrow.Author.Tests.{eqb-true}
-use Rattle.record.specs.Fields.{profileOf}
+use Rattle.record.specs.Fields.{keepOf, profileOf}
 use Rattle.table.specs.Blocks.{blockOf, privateAt}
 use Rattle.rewrite.specs.Change.{afterOf}
 use Rattle.rewrite.specs.Renew.{settled}
@@ -92,7 +91,7 @@ pub record Assigned (req t : List ℕ) (count : ℕ) (file : List ℕ) : Type 0 
   pub seen : Seen
   pub read : readRequest req ≡ fine seen
   pub command : commandOf req ≡ 301
-  pub altered : Altered t count (eqb (getD (blockOf t 0) 12 0) 1) (assignmentOf seen req) (decide req t count file)
+  pub altered : Altered t count (eqb (keepOf (blockOf t 0)) 1) (assignmentOf seen req) (decide req t count file)
 
 module _ (req t : List ℕ) (count : ℕ) (file : List ℕ) where
   abbrev Result : Type 0
@@ -100,10 +99,10 @@ module _ (req t : List ℕ) (count : ℕ) (file : List ℕ) where
 
   module _ (seen : Seen) (e : readRequest req ≡ fine seen) where
     abbrev sar : Decision
-    sar = assign t count file (eqb (getD (blockOf t 0) 12 0) 1) (assignmentOf seen req)
+    sar = assign t count file (eqb (keepOf (blockOf t 0)) 1) (assignmentOf seen req)
 
     sar-cases : commandOf req ≡ 301 → decide req t count file ≡ sar
-        → (sar .table ≡ t) ⊎ Altered t count (eqb (getD (blockOf t 0) 12 0) 1) (assignmentOf seen req) sar → Result
+        → (sar .table ≡ t) ⊎ Altered t count (eqb (keepOf (blockOf t 0)) 1) (assignmentOf seen req) sar → Result
     sar-cases c d (inl u) = inl (rw d u)
     sar-cases c d (inr a) = inr (record { seen = seen; read = e; command = c; altered = rw d a })
 
@@ -111,7 +110,7 @@ module _ (req t : List ℕ) (count : ℕ) (file : List ℕ) where
         → decide req t count file ≡ cond x (unaltered t uar) (cond y sar (unaltered t lir)) → Result
     command-cases true y uar lir p q = inl (rw q)
     command-cases false false uar lir p q = inl (rw q)
-    command-cases false true uar lir p q = sar-cases (eqb-true _ _ p) q (assign-cases t count file (eqb (getD (blockOf t 0) 12 0) 1) (assignmentOf seen req))
+    command-cases false true uar lir p q = sar-cases (eqb-true _ _ p) q (assign-cases t count file (eqb (keepOf (blockOf t 0)) 1) (assignmentOf seen req))
 
     read-cases : decide req t count file ≡ decideRead req t count file seen → Result
     unfolding decideRead

@@ -1,7 +1,6 @@
 -- Every answer fits: no request within the limits has one that is longer than the smallest buffer.
 use mathlib.Core.Path.{refl}
 use lib.ListN.{length}
-use Rattle.lookup.proofs.Sound.{sound-says}
 use Rattle.ndushavire.specs.Lent.{Lent}
 use Rattle.ndushavire.proofs.Calls.{size-least, size-most, length-even}
 use Rattle.fitting.proofs.Room.{answer-most}
@@ -10,5 +9,5 @@ use Rattle.demands.specs.Call.{Fits}
 pub fits : (x : Lent) → Fits x
 fits x size right count sound =
     let req = x .request in
-    answer-most (x .table) (x .profile) count (sound-says (x .table) (length (x .profile)) count sound) req (size-least req size) (size-most req size)
+    answer-most (x .table) (x .profile) count (record { file = length (x .profile); checked = sound }) req (size-least req size) (size-most req size)
     (length-even req refl right)

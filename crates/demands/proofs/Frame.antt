@@ -15,12 +15,11 @@ use Rattle.record.specs.Fields.{keepOf}
 use Rattle.table.specs.Blocks.{blockOf, privateAt}
 use Rattle.table.specs.Check.{checkTable}
 use Rattle.table.specs.declared.Checked.the-variants.{Sound}
-use Rattle.table.proofs.Blocks.{block-length}
+use Rattle.table.specs.SoundTable.{SoundTable}
+use Rattle.table.proofs.Sound.{sound-size}
 use Rattle.lookup.specs.Find.{isAt, findPublic, findPrivate}
-use Rattle.lookup.specs.SoundTable.{SoundTable}
 use Rattle.lookup.specs.declared.Found.{Found}
 use Rattle.lookup.specs.declared.Found.the-variants.{At, Nothing}
-use Rattle.lookup.proofs.Sound.{sound-says}
 use Rattle.rewrite.specs.Change.{alterable, Kept, Keeps}
 use Rattle.rewrite.specs.Renew.{settled}
 use Rattle.rewrite.proofs.Settled.{settled-keeps}
@@ -38,7 +37,7 @@ use Rattle.decisions.specs.Types.{between, groupOf, isRemoval, effectOf}
 use Rattle.decisions.specs.Assignment.{Assignment, identityFault, every, isOne, isEmpty, firstOf, allKnown, findAll, numbersOf, ownedUpTo, recordsOf}
 use Rattle.decisions.specs.Assignment.{ownerOf, ownAt, storedName}
 use Rattle.decisions.specs.Decide.{assignmentOf, decide}
-use Rattle.decisions.proofs.Ready.{public-within}
+use Rattle.decisions.proofs.Within.{public-within}
 use Rattle.decisions.proofs.Rows.{row-fits}
 use Rattle.assignment.proofs.OwnTurns.{no-zero}
 use Rattle.ndushavire.specs.Lent.{Lent}
@@ -180,25 +179,28 @@ module _ (x : Lent) (count : ℕ) (sound : checkOf x ≡ Sound count) where
         go true e = rw (refused-kept x e .0) p
         go false e = rw (answered-is x count sound e) (after-decision p q)
 
-  says : SoundTable t (length file) count
-  says = sound-says t (length file) count sound
+  abbrev says : SoundTable t count
+  says = record { file = length file; checked = sound }
+
+  size : length t ≡ 512 * (count + 1)
+  size = sound-size t count says
 
   pub failure-kept : succeeds (decide req t count file .reply .result) ≡ false → serve x .table ≡ t
   failure-kept e =
       after-call (λ (y : List ℕ). y ≡ t) refl
-      (λ a. absurd (true≢false (sym (assigned-good req t count file (says .size) a) ∙ e)))
+      (λ a. absurd (true≢false (sym (assigned-good req t count file size a) ∙ e)))
 
   pub others-kept : (k : ℕ) → k ≤ count → some (privateAt t k) ≢ subscriptionOf req t count → blockOf (serve x .table) k ≡ blockOf t k
   others-kept k h n = after-call (λ (y : List ℕ). blockOf y k ≡ blockOf t k) refl (λ a. stays a (isOne (recordsOf t count (assignmentOf (a .seen) req)) k) refl)
     where
       stays : (a : Assigned req t count file) (x : Bool) → isOne (recordsOf t count (assignmentOf (a .seen) req)) k ≡ x
           → blockOf (decide req t count file .table) k ≡ blockOf t k
-      stays a true e = absurd (n (assigned-owner req t count file (says .size) a k e))
-      stays a false e = assigned-stays req t count file (says .size) a k h e
+      stays a true e = absurd (n (assigned-owner req t count file size a k e))
+      stays a false e = assigned-stays req t count file size a k h e
 
   -- what every effect keeps is kept by every call
   call-keeping : Keeping t (serve x .table) count
-  call-keeping = after-call (λ (y : List ℕ). Keeping t y count) (keeping-same t count) (λ a. assigned-keeping req t count file (says .size) a)
+  call-keeping = after-call (λ (y : List ℕ). Keeping t y count) (keeping-same t count) (λ a. assigned-keeping req t count file size a)
 
   pub header-kept : blockOf (serve x .table) 0 ≡ blockOf t 0
   header-kept = call-keeping .header
@@ -217,7 +219,7 @@ module _ (x : Lent) (count : ℕ) (sound : checkOf x ≡ Sound count) where
   size-kept = call-keeping .size
 
   pub sound-kept : checkTable (serve x .table) (length file) ≡ Sound count
-  sound-kept = keeping-sound t (serve x .table) count call-keeping (length file) says
+  sound-kept = keeping-sound t (serve x .table) count call-keeping says
 
 -- a question: no SAR, no effect
 pub question-kept : (x : Lent) → commandOf (x .request) ≢ 301 → serve x .table ≡ x .table

@@ -8,8 +8,9 @@ use native.Mathlib.Omega.{arith}
 use lib.ListN.{length, drop, getD, length-drop}
 use lib.Dec.{eqb, ltb}
 use Rattle.octets.specs.Name.{same}
-use Rattle.record.specs.Fields.{privateOf, serverOf, stateOf, barred, unregisteredServices}
+use Rattle.record.specs.Fields.{privateOf, serverOf, stateOf, barred, unregisteredServices, bitsOf, keepOf}
 use Rattle.table.specs.Blocks.{blockOf}
+use Rattle.lookup.specs.Network.{mayRoam}
 use Rattle.lookup.specs.Find.{isAt, publicIs, findPublic, findPrivate, findServer}
 use Rattle.lookup.proofs.First.{first-stands}
 use Rattle.lookup.specs.declared.Found.{Found}
@@ -24,7 +25,7 @@ use Rattle.reading.specs.declared.Outcome.{Outcome}
 use Rattle.reading.specs.declared.Outcome.the-variants.{Base, Experimental}
 use Rattle.decisions.specs.Types.{groupOf, isRemoval, effectOf}
 use Rattle.decisions.specs.Reply.{Reply, plain, failing, serving, served, capable, servedBy}
-use Rattle.decisions.specs.Authorization.{mayRoam, authorizeRecord, authorizeFound, authorize}
+use Rattle.decisions.specs.Authorization.{authorizeRecord, authorizeFound, authorize}
 use Rattle.decisions.specs.Location.{locateRecord, locateFound, locate}
 use Rattle.decisions.specs.Assignment.{Assignment, identityFault, every, isEmpty, firstOf, ownerOf, ownAt, storesAt, fitsAt, rightAt, recordsOf, allKnown, assigned, unaltered, effected, assignRecords, assignKnown, assign}
 use Rattle.decisions.specs.Decide.{assignmentOf, decideRead, decideJudged, decide}
@@ -53,7 +54,7 @@ module _ (t : List ℕ) (count : ℕ) (file : List ℕ) (P : Reply → Type 0) (
       here : (k : ℕ) → 1 ≤ k → P (authorizeRecord t count user network kind (blockOf t k))
       here k h =
           either P (not (same (privateOf (blockOf t k)) user)) (alone (Experimental 5002))
-          (either P (barred (getD (blockOf t k) 9 0)) (alone (Base 5003))
+          (either P (barred (bitsOf (blockOf t k))) (alone (Base 5003))
           (either P (not (eqb kind 1) && not (mayRoam (blockOf t 0) (blockOf t k) network)) (alone (Experimental 5004))
           (either P (eqb kind 2) (able (Base 2001) k h)
           (either P (ltb 0 (stateOf (blockOf t k))) (of-served (cond (eqb kind 0) (Experimental 2002) (Base 2001)) k)
@@ -71,7 +72,7 @@ module _ (t : List ℕ) (count : ℕ) (file : List ℕ) (P : Reply → Type 0) (
       here : (k : ℕ) → 1 ≤ k → P (locateRecord t count (blockOf t k))
       here k h =
           either P (ltb 0 (stateOf (blockOf t k))) (of-served (Base 2001) k)
-          (either P (unregisteredServices (getD (blockOf t k) 9 0))
+          (either P (unregisteredServices (bitsOf (blockOf t k)))
           (of-found (findServer t count (privateOf (blockOf t k))) (Base 2001) (capable (Experimental 2003) (blockOf t k)) (able (Experimental 2003) k h))
           (alone (Experimental 5003)))
 
@@ -137,10 +138,10 @@ module _ (t : List ℕ) (count : ℕ) (file : List ℕ) (P : Reply → Type 0) (
       by : (x y : Bool) (seen : Seen)
           → P (cond x (unaltered t (authorize t count (dataSeen seen userName) (dataSeen seen publicIdentity) (dataSeen seen visitedNetwork)
           (valueSeen seen authorizationType)))
-          (cond y (assign t count file (eqb (getD (blockOf t 0) 12 0) 1) (assignmentOf seen req))
+          (cond y (assign t count file (eqb (keepOf (blockOf t 0)) 1) (assignmentOf seen req))
           (unaltered t (locate t count (dataSeen seen publicIdentity)))) .reply)
       by true y seen = of-uar (dataSeen seen userName) (dataSeen seen publicIdentity) (dataSeen seen visitedNetwork) (valueSeen seen authorizationType)
-      by false true seen = sar (assignmentOf seen req) refl (eqb (getD (blockOf t 0) 12 0) 1)
+      by false true seen = sar (assignmentOf seen req) refl (eqb (keepOf (blockOf t 0)) 1)
       by false false seen = of-lir (dataSeen seen publicIdentity)
 
       go : (j : Judged) → P (decideJudged req t count file j .reply)

@@ -14,8 +14,8 @@ use Rattle.octets.proofs.Runs.{zero-at}
 use Rattle.record.specs.HeaderBlock.{headerOf}
 use Rattle.record.specs.Fields.{privateOf, serverOf, mandatoryOf, optionalOf, profileOf}
 use Rattle.table.specs.Blocks.{blockOf, privateAt}
-use Rattle.lookup.proofs.Sound.{sound-header}
-use Rattle.lookup.specs.SoundTable.{SoundTable}
+use Rattle.table.specs.SoundTable.{SoundTable}
+use Rattle.table.proofs.Sound.{sound-header}
 use Rattle.pen.specs.Bytes.{copiedSize}
 use Rattle.diameter.specs.Message.{bodyOf}
 use Rattle.reading.specs.declared.Outcome.{Outcome}
@@ -24,16 +24,16 @@ use Rattle.decisions.specs.Assignment.{Assignment, assigned}
 use Rattle.decisions.specs.Decide.{decide}
 use Rattle.reply.specs.Answer.{failedPart, roomOf, answerBytes}
 use Rattle.reply.proofs.Lengths.{Limited, answer-length, room-most}
-use Rattle.parts.proofs.Fields.{Field, alone, part-length, host-length, realm-length, user-field, server-field, mandatory-field, optional-field, profile-length}
+use Rattle.parts.proofs.Fields.{Field, part-length, host-length, realm-length, user-field, server-field, mandatory-field, optional-field, profile-length}
 use Rattle.fitting.proofs.Replies.{of-decide}
 
 -- What a reply carries of a sound table is within the table's limits.
-module _ (t file : List ℕ) (count : ℕ) (s : SoundTable t (length file) count) where
+module _ (t file : List ℕ) (count : ℕ) (s : SoundTable t count) where
   -- of block 0, which is no record, there is no user data either: its bytes 404 and 405 are zero
   header-empty : be16At (blockOf t 0) 404 ≡ 0
   unfolding be16At
   header-empty =
-      let z = sound-header t (length file) count s .last in
+      let z = sound-header t count s .last in
       omega (arith, zero-at (blockOf t 0) 400 508 z 404 (omega arith) (omega arith), zero-at (blockOf t 0) 400 508 z 405 (omega arith) (omega arith))
 
   later : (k : ℕ) → eqb (suc k) 0 ≡ false
@@ -46,13 +46,13 @@ module _ (t file : List ℕ) (count : ℕ) (s : SoundTable t (length file) count
 
   user-most : (k : ℕ) → length (privateAt t k) ≤ 128
   unfolding privateAt privateOf headerOf
-  user-most zero = rw (length-take (getD (blockOf t 0) 14 0) (drop 144 (blockOf t 0))) (omega (arith, sound-header t (length file) count s .realm))
-  user-most (suc k) = rw (later k) at (part-length privateOf 128 t count (user-field t count (alone t (length file) count s)) (suc k))
+  user-most zero = rw (length-take (getD (blockOf t 0) 14 0) (drop 144 (blockOf t 0))) (omega (arith, sound-header t count s .realm))
+  user-most (suc k) = rw (later k) at (part-length privateOf 128 t count (user-field t count s) (suc k))
 
   server-most : (k : ℕ) → length (serverOf (blockOf t k)) ≤ 96
   unfolding serverOf headerOf
-  server-most zero = rw (length-take (getD (blockOf t 0) 15 0) (drop 272 (blockOf t 0))) (omega (arith, sound-header t (length file) count s .networks))
-  server-most (suc k) = rw (later k) at (part-length serverOf 96 t count (server-field t count (alone t (length file) count s)) (suc k))
+  server-most zero = rw (length-take (getD (blockOf t 0) 15 0) (drop 272 (blockOf t 0))) (omega (arith, sound-header t count s .networks))
+  server-most (suc k) = rw (later k) at (part-length serverOf 96 t count (server-field t count s) (suc k))
 
   able-most : (f : List ℕ → List ℕ) → Field f 16 t count → (k : ℕ) → 1 ≤ k → length (f (blockOf t k)) ≤ 16
   able-most f h (suc k) i = rw (later k) at (part-length f 16 t count h (suc k))
@@ -70,8 +70,8 @@ module _ (t file : List ℕ) (count : ℕ) (s : SoundTable t (length file) count
       record {
         limited =
             record {
-              host = host-length t count (alone t (length file) count s);
-              realm = realm-length t count (alone t (length file) count s);
+              host = host-length t count s;
+              realm = realm-length t count s;
               user = a;
               server = b;
               mandatory = c;
@@ -89,8 +89,8 @@ module _ (t file : List ℕ) (count : ℕ) (s : SoundTable t (length file) count
       (λ o f i. within (failing o f) (omega arith) (omega arith) (omega arith) (omega arith) (omega arith) i (inl refl))
       (λ o n. within (serving o (serverOf (blockOf t n))) (omega arith) (server-most n) (omega arith) (omega arith) (omega arith) (omega arith) (inl refl))
       (λ o n i. within (capable o (blockOf t n)) (omega arith) (omega arith)
-      (able-most mandatoryOf (mandatory-field t count (alone t (length file) count s)) n i)
-      (able-most optionalOf (optional-field t count (alone t (length file) count s)) n i) (omega arith) (omega arith) (inl refl))
+      (able-most mandatoryOf (mandatory-field t count s) n i)
+      (able-most optionalOf (optional-field t count s) n i) (omega arith) (omega arith) (inl refl))
       (λ a o n. go a o n (leb (a .kind) 3) (eqb (a .already) 0)) req h k
     where
       none-said : (o : Outcome) → Modest (plain o)

@@ -2,6 +2,7 @@
 use Prim.Native.Nat.{ℕ, zero, suc, _+_, _-_, _<_, _≤_}
 use mathlib.Core.Bool.{Bool, true, false}
 use mathlib.Core.Path.{_≡_, refl, sym, _∙_, ap}
+use mathlib.Core.Logic.{_↔_}
 use mathlib.Core.List.{List}
 use native.Mathlib.Omega.{arith}
 use lib.Dec.{ltb}
@@ -12,23 +13,24 @@ use Rattle.octets.specs.declared.name.Order.the-variants.{Less, Equal, Greater}
 use Rattle.octets.proofs.Names.{same-eq, same-yes, same-no, order-eq, order-flip, order-trans, less-differs}
 use Rattle.record.specs.Fields.{publicOf}
 use Rattle.table.specs.Blocks.{blockOf, publicAt}
+use Rattle.table.specs.SoundTable.{SoundTable}
+use Rattle.table.proofs.Sound.{sound-rises}
 use Rattle.lookup.specs.Find.{firstFrom, publicIs, findPublic}
-use Rattle.lookup.specs.SoundTable.{Ordered}
 use Rattle.lookup.specs.declared.Found.{Found}
 use Rattle.lookup.specs.declared.Found.the-variants.{At, Nothing}
 use Rattle.lookup.proofs.First.{first-skip, first-short, first-hit, first-at, first-none, first-fails, first-stands, first-same, FirstAt}
 
-module _ (t : List ℕ) (count : ℕ) (ordered : Ordered t count) where
+module _ (t : List ℕ) (count : ℕ) (sound : SoundTable t count) where
   -- Public identities rise from any block to any later one.
   rising-to : (j n : ℕ) → 1 ≤ j → j + suc n ≤ count → orderOf (publicAt t j) (publicAt t (j + suc n)) ≡ Less
   rising-to j zero a b =
       let e : j + suc zero ≡ suc j = omega arith in
-      rw e (ordered .rising j a (omega arith))
+      rw e (sound-rises t count sound j a (omega arith))
   rising-to j (suc n) a b =
       let e : j + suc (suc n) ≡ suc (j + suc n) = omega arith in
       rw e
       (order-trans (publicAt t j) (publicAt t (j + suc n)) (publicAt t (suc (j + suc n))) (rising-to j n a (omega arith))
-      (ordered .rising (j + suc n) (omega arith) (omega arith)))
+      (sound-rises t count sound (j + suc n) (omega arith) (omega arith)))
 
   pub rising-later : (j k : ℕ) → 1 ≤ j → j < k → k ≤ count → orderOf (publicAt t j) (publicAt t k) ≡ Less
   rising-later j k a b c = let e : k ≡ j + suc (k - j - 1) = omega arith in rw e (rising-to j (k - j - 1) a (omega arith))
@@ -66,7 +68,7 @@ module _ (t : List ℕ) (count : ℕ) (ordered : Ordered t count) where
         same-no _ _ (less-differs _ _ (rw q at (rising-later j k a b to)))
 
 -- The turns of the halving: the scan of the part from low up to high gives the answer of the whole.
-module _ (t : List ℕ) (count : ℕ) (name : List ℕ) (low high k : ℕ) {whole : Found} {b n : List ℕ} {o : Order} (ordered : Ordered t count)
+module _ (t : List ℕ) (count : ℕ) (name : List ℕ) (low high k : ℕ) {whole : Found} {b n : List ℕ} {o : Order} (sound : SoundTable t count)
     (left : whole ≡ firstFrom (publicIs t name) (high - low) low) (at : b ≡ blockOf t k) (is : n ≡ publicOf b) (order : o ≡ orderOf n name)
     (one : 1 ≤ low) (end : high ≤ count + 1) (above : low ≤ k) (below : k < high) where
   order-at : orderOf (publicAt t k) name ≡ o
@@ -81,7 +83,7 @@ module _ (t : List ℕ) (count : ℕ) (name : List ℕ) (low high k : ℕ) {whol
       ∙ rw (
         m,
         first-skip (publicIs t name) (k + 1 - low) (high - (k + 1)) low
-            (λ j u v. below-no t count ordered name k (omega arith) (omega arith) (order-at ∙ e) j (omega arith) (omega arith)),
+            (λ j u v. below-no t count sound name k (omega arith) (omega arith) (order-at ∙ e) j (omega arith) (omega arith)),
         q,
       )
 
@@ -92,7 +94,7 @@ module _ (t : List ℕ) (count : ℕ) (name : List ℕ) (low high k : ℕ) {whol
       ∙ rw (
         m,
         first-short (publicIs t name) (k - low) (high - k) low
-            (λ j u v. above-no t count ordered name k (omega arith) (omega arith) (order-at ∙ e) j (omega arith) (omega arith)),
+            (λ j u v. above-no t count sound name k (omega arith) (omega arith) (order-at ∙ e) j (omega arith) (omega arith)),
       )
 
   pub halves-equal : o ≡ Equal → At k ≡ whole
@@ -104,7 +106,7 @@ module _ (t : List ℕ) (count : ℕ) (name : List ℕ) (low high k : ℕ) {whol
       (left
       ∙ rw m
       (first-hit (publicIs t name) (k - low) (high - k - 1) low
-      (λ j u v. before-no t count ordered name k (omega arith) (omega arith) (order-at ∙ e) j (omega arith) (omega arith))
+      (λ j u v. before-no t count sound name k (omega arith) (omega arith) (order-at ∙ e) j (omega arith) (omega arith))
       (rw q (same-yes _ _ (order-eq _ _ (order-at ∙ e))))
       ∙ ap At q))
 
@@ -120,13 +122,13 @@ pub record Only (t : List ℕ) (count : ℕ) (name : List ℕ) (k : ℕ) : Type 
   pub alone : (j : ℕ) → 1 ≤ j → j ≤ count → publicAt t j ≡ name → j ≡ k
 
 module _ (t : List ℕ) (count : ℕ) (name : List ℕ) where
-  pub found-only : Ordered t count → (k : ℕ) → findPublic t count name ≡ At k → Only t count name k
+  pub found-only : SoundTable t count → (k : ℕ) → findPublic t count name ≡ At k → Only t count name k
   unfolding findPublic publicIs
-  found-only ordered k e =
+  found-only sound k e =
       let s : FirstAt (publicIs t name) count 1 k = first-stands (publicIs t name) count 1 k e in
       let is : publicAt t k ≡ name = same-eq (publicAt t k) name (s .holds) in
       let to : k ≤ count = omega (arith, s .to) in
-      record { from = s .from; to = to; named = is; alone = λ j a b q. one-block t count ordered j k a (s .from) b to (q ∙ sym is) }
+      record { from = s .from; to = to; named = is; alone = λ j a b q. one-block t count sound j k a (s .from) b to (q ∙ sym is) }
 
   pub only-found : (k : ℕ) → Only t count name k → findPublic t count name ≡ At k
   unfolding findPublic publicIs
@@ -152,3 +154,11 @@ pub find-alike : (x t : List ℕ) (count : ℕ) (name : List ℕ) → ((k : ℕ)
     → findPublic x count name ≡ findPublic t count name
 unfolding findPublic publicIs
 find-alike x t count name h = first-same (publicIs x name) (publicIs t name) count 1 (λ j a b. ap (λ (l : List ℕ). same l name) (h j a (omega arith)))
+
+-- The search by halving, whose contract is the scan, answers a record exactly if that record alone has the name, and none exactly if no record has it.
+module _ (t : List ℕ) (count : ℕ) (name : List ℕ) where
+  pub sound-found : SoundTable t count → (k : ℕ) → (findPublic t count name ≡ At k) ↔ Only t count name k
+  sound-found s k = (λ e. found-only t count name s k e, λ o. only-found t count name k o)
+
+  pub sound-missing : (findPublic t count name ≡ Nothing) ↔ ((j : ℕ) → 1 ≤ j → j ≤ count → publicAt t j ≡ name → ⊥)
+  sound-missing = (λ e. found-no t count name e, λ h. no-found t count name h)

@@ -2,4 +2,3 @@ pub mod First
 pub mod Halves
 pub mod Places
 pub mod Scans
-pub mod Sound

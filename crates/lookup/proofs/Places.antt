@@ -14,8 +14,12 @@ use borrow.Author.Tests.{ltb-true, ltb-false, eq-eqb, ne-eqb, eqb-true, eqb-fals
 use Rattle.octets.specs.All.{allBelow}
 use Rattle.octets.proofs.All.{all-more, all-at}
 use Rattle.octets.proofs.Names.{same-yes, same-no}
+use Rattle.record.specs.Fields.{networksOf, roamingOf}
 use Rattle.record.specs.Networks.{placeAt, networkOf}
-use Rattle.lookup.specs.Network.{agreeAt, networkIs, seek, networkNumber, roamsIn, Short}
+use Rattle.table.specs.Blocks.{blockOf}
+use Rattle.table.specs.SoundTable.{SoundTable}
+use Rattle.table.proofs.Sound.{sound-networks, sound-place}
+use Rattle.lookup.specs.Network.{agreeAt, networkIs, seek, networkNumber, roamsIn, mayRoam}
 
 -- One byte of a place.
 module _ (b : List ℕ) (at : ℕ) (name : List ℕ) (i : ℕ) where
@@ -93,30 +97,35 @@ pub bytes-more : (p : ℕ → Bool) (i : ℕ) {u : Bool} → true ≡ allBelow p
 bytes-more p i a e f = sym f ∙ all-more p i a e
 
 -- The turns of the loop over the places: what is left from place k on gives the number of the whole.
-pub places-start : (b : List ℕ) (n : ℕ) (name : List ℕ) → networkNumber b n name ≡ seek (networkIs b name) (n - 0) 0
+pub places-start : (t : List ℕ) (name : List ℕ) {h : List ℕ} {n : ℕ} → h ≡ blockOf t 0 → n ≡ networksOf h
+    → networkNumber (blockOf t 0) (networksOf (blockOf t 0)) name ≡ seek (networkIs h name) (n - 0) 0
 unfolding networkNumber
-places-start b n name = let m : n - 0 ≡ n = omega arith in rw m
+places-start t name {h} {n} e f = let m : n - 0 ≡ n = omega arith in rw (m, f, e)
+
+pub places-few : (t : List ℕ) (count : ℕ) → SoundTable t count → {h : List ℕ} {n : ℕ} → h ≡ blockOf t 0 → n ≡ networksOf h → n ≤ 8
+places-few t count s e f = rw f (sound-networks t count s e)
 
 pub places-end : (p : ℕ → Bool) (n k : ℕ) {whole : ℕ} → whole ≡ seek p (n - k) k → k ≤ n → n ≤ k → k ≡ whole
 unfolding seek
 places-end p n k left a b = let m : n - k ≡ 0 = omega arith in rw (left, m)
 
-module _ (b : List ℕ) (count : ℕ) (name : List ℕ) (k at i : ℕ) {u : Bool} {whole : ℕ} (left : whole ≡ seek (networkIs b name) (count - k) k) (short : Short b count)
-    (size : length b ≡ 512) (more : k < count) (place : at ≡ placeAt k) (low : at ≤ 368) (so : true ≡ allBelow (agreeAt b at name) i) (is : u ≡ agreeAt b at name i) where
-  near : getD b at 0 ≤ 31
-  near = rw place (short .each k more)
+module _ (t : List ℕ) (count : ℕ) (sound : SoundTable t count) (h : List ℕ) (n : ℕ) (name : List ℕ) (k at i : ℕ) {u : Bool} {whole : ℕ} (eh : h ≡ blockOf t 0)
+    (en : n ≡ networksOf h) (left : whole ≡ seek (networkIs h name) (n - k) k) (size : length h ≡ 512) (more : k < n) (place : at ≡ placeAt k) (low : at ≤ 368)
+    (so : true ≡ allBelow (agreeAt h at name) i) (is : u ≡ agreeAt h at name i) where
+  near : getD h at 0 ≤ 31
+  near = rw place (sound-place t count sound eh k (rw en at more))
 
-  pub place-miss : i ≤ length name → u ≡ false → whole ≡ seek (networkIs b name) (count - (k + 1)) (k + 1)
+  pub place-miss : i ≤ length name → u ≡ false → whole ≡ seek (networkIs h name) (n - (k + 1)) (k + 1)
   unfolding seek
-  place-miss h f =
-      let m : count - k ≡ suc (count - (k + 1)) = omega arith in
-      rw (left, m, place-other b name k at size place low near i h is f, add-one k)
+  place-miss l f =
+      let m : n - k ≡ suc (n - (k + 1)) = omega arith in
+      rw (left, m, place-other h name k at size place low near i l is f, add-one k)
 
   pub place-hit : i ≡ length name → u ≡ true → k ≡ whole
   unfolding seek
-  place-hit h f =
-      let m : count - k ≡ suc (count - k - 1) = omega arith in
-      rw (left, m, place-same b name k at size place low near i h so is f)
+  place-hit l f =
+      let m : n - k ≡ suc (n - k - 1) = omega arith in
+      rw (left, m, place-same h name k at size place low near i l so is f)
 
 -- A roaming byte has no bit past its eighth.
 pub roams-past : (roaming n : ℕ) → roaming < 2 ^ 8 → 8 ≤ n → false ≡ eqb (roaming / 2 ^ n % 2) 1
@@ -127,3 +136,8 @@ roams-past roaming n h k =
 pub roams-all : (roaming networks n : ℕ) {x : Bool} → x ≡ eqb (roaming / 2 ^ n % 2) 1 → (ltb n networks && x) ≡ roamsIn roaming networks n
 unfolding roamsIn
 roams-all roaming networks n e = rw e
+
+pub roams-there : (t b name : List ℕ) {h : List ℕ} {networks n roaming : ℕ} {x : Bool} → h ≡ blockOf t 0 → networks ≡ networksOf h → roaming ≡ roamingOf b
+    → n ≡ networkNumber (blockOf t 0) (networksOf (blockOf t 0)) name → x ≡ roamsIn roaming networks n → x ≡ mayRoam (blockOf t 0) b name
+unfolding mayRoam
+roams-there t b name eh en er e f = f ∙ rw (er, en, eh, e)

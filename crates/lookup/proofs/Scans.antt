@@ -1,14 +1,16 @@
 -- Scans by the subscription, and where a record that was found ends.
-use Prim.Native.Nat.{ℕ, _+_, _*_, _<_, _≤_}
+use Prim.Native.Nat.{ℕ, _<_, _≤_}
 use mathlib.Core.Bool.{Bool, true, false}
 use mathlib.Core.Path.{_≡_, sym, _∙_}
 use mathlib.Core.List.{List}
 use native.Mathlib.Omega.{arith}
-use lib.ListN.{length, getD}
+use lib.ListN.{length}
 use borrow.Author.Tests.{lt-ltb}
 use Rattle.octets.specs.Name.{same}
-use Rattle.record.specs.Fields.{privateOf}
+use Rattle.record.specs.Fields.{privateOf, serverSize}
 use Rattle.table.specs.Blocks.{blockOf, privateAt}
+use Rattle.table.specs.SoundTable.{SoundTable}
+use Rattle.table.proofs.Sound.{sound-block}
 use Rattle.lookup.specs.Find.{firstFrom, isAt, endOf, findPublic, publicIs, privateIs, findPrivate, serverHere, servesAt}
 use Rattle.lookup.specs.declared.Found.{Found}
 use Rattle.lookup.specs.declared.Found.the-variants.{At, Nothing}
@@ -19,7 +21,8 @@ pub private-here : (t name : List ℕ) (k : ℕ) {b n : List ℕ} {x : Bool} →
 unfolding privateIs privateAt
 private-here t name k e f g = rw (← e, ← f) g
 
-pub private-known : (t name : List ℕ) (count k : ℕ) {b n : List ℕ} {x : Bool} → b ≡ blockOf t k → n ≡ privateOf b → x ≡ same n name → x ≡ true → 1 ≤ k → k ≤ count
+pub private-known : (t name : List ℕ) (count k : ℕ) {b n : List ℕ} {x : Bool} → b ≡ blockOf t k → n ≡ privateOf b → x ≡ same n name → x ≡ true → 1 ≤ k
+    → k ≤ count
     → true ≡ isAt (findPrivate t count name)
 unfolding findPrivate
 private-known t name count k e f g h a b = first-some (privateIs t name) count k a b (sym (private-here t name k e f g) ∙ h)
@@ -29,18 +32,18 @@ unfolding servesAt
 serves-here t name k e g = rw (← e) g
 
 module _ (b name : List ℕ) where
-  pub serves-none : getD b 15 0 ≡ 0 → false ≡ serverHere b name
+  pub serves-none : serverSize b ≡ 0 → false ≡ serverHere b name
   unfolding serverHere
   serves-none e = rw e
 
-  pub serves-some : {n : List ℕ} {x : Bool} → (getD b 15 0 ≡ 0 → ⊥) → n ≡ privateOf b → x ≡ same n name → x ≡ serverHere b name
+  pub serves-some : {n : List ℕ} {x : Bool} → (serverSize b ≡ 0 → ⊥) → n ≡ privateOf b → x ≡ same n name → x ≡ serverHere b name
   unfolding serverHere
-  serves-some h e f = let l : 0 < getD b 15 0 = omega arith in rw (lt-ltb _ _ l, ← e) f
+  serves-some h e f = let l : 0 < serverSize b = omega arith in rw (lt-ltb _ _ l, ← e) f
 
 -- A record that was found lies in the table.
-module _ (t : List ℕ) (count : ℕ) (size : length t ≡ 512 * (count + 1)) where
+module _ (t : List ℕ) (count : ℕ) (sound : SoundTable t count) where
   first-end : (p : ℕ → Bool) (f : Found) → firstFrom p count 1 ≡ f → endOf f ≤ length t
-  first-end p (At k) e = omega (arith, first-stands p count 1 k e .to)
+  first-end p (At k) e = sound-block t count sound k (omega (arith, first-stands p count 1 k e .to))
   first-end p Nothing e = omega arith
 
   pub public-end : (name : List ℕ) {f : Found} → f ≡ findPublic t count name → endOf f ≤ length t

@@ -2,15 +2,18 @@
 use octets::name;
 use octets::name::Order;
 use record::fields;
+use record::header::Header;
 use record::networks;
 use record::subscriber::Record;
 ghost use mathlib.Core.Path.{_≡_};
 ghost use Prim.Native.Nat.{_+_, _*_, _/_, _%_, _^_, _≤_, _<_};
 ghost use lib.ListN.{length};
 ghost use lib.Dec.{eqb};
+ghost use Rattle.record.specs.Fields.{networksOf};
+ghost use Rattle.table.specs.Blocks.{blockOf};
+ghost use Rattle.table.specs.SoundTable.{SoundTable};
 ghost use Rattle.lookup.specs.Find.{isAt, findPublic, findPrivate, serverHere, findServer};
-ghost use Rattle.lookup.specs.Network.{agreeAt, networkNumber, roamsIn, Short};
-ghost use Rattle.lookup.specs.SoundTable.{Ordered};
+ghost use Rattle.lookup.specs.Network.{agreeAt, networkNumber, roamsIn, mayRoam};
 
 // The number of a record's block, or none.
 pub enum Found {
@@ -38,7 +41,7 @@ fn middle(low: usize, high: usize) -> usize
 
 // The record with a public identity, by halving: public identities rise. It finds what a scan finds.
 pub fn find_public(t: &[u8], count: usize, name: &[u8]) -> Found
-    requires { ⌜ (count ≤ 4096) × Ordered (now t) count ⌝ }
+    requires { ⌜ SoundTable (now t) count ⌝ }
     ensures { λ r. ⌜ r ≡ findPublic (now (t .entry)) count (now (name .entry)) ⌝ }
 {
     let mut low = 1;
@@ -62,7 +65,7 @@ pub fn find_public(t: &[u8], count: usize, name: &[u8]) -> Found
 
 // The first record with a private identity.
 fn find_private(t: &[u8], count: usize, name: &[u8]) -> Found
-    requires { ⌜ (count ≤ 4096) × (length (now t) ≡ 512 * (count + 1)) ⌝ }
+    requires { ⌜ SoundTable (now t) count ⌝ }
     ensures { λ r. ⌜ r ≡ findPrivate (now (t .entry)) count (now (name .entry)) ⌝ }
 {
     let mut k = 1;
@@ -77,7 +80,7 @@ fn find_private(t: &[u8], count: usize, name: &[u8]) -> Found
 
 // Whether a private identity is in the table.
 pub fn known_private(t: &[u8], count: usize, name: &[u8]) -> bool
-    requires { ⌜ (count ≤ 4096) × (length (now t) ≡ 512 * (count + 1)) ⌝ }
+    requires { ⌜ SoundTable (now t) count ⌝ }
     ensures { λ r. ⌜ r ≡ isAt (findPrivate (now (t .entry)) count (now (name .entry))) ⌝ }
 {
     is_at(find_private(t, count, name))
@@ -85,7 +88,7 @@ pub fn known_private(t: &[u8], count: usize, name: &[u8]) -> bool
 
 // The same, where the record in block k is likely to have it: then nothing is scanned.
 pub fn known_near(t: &[u8], count: usize, k: u32, name: &[u8]) -> bool
-    requires { ⌜ (count ≤ 4096) × (length (now t) ≡ 512 * (count + 1)) × (1 ≤ k) × (k ≤ count) ⌝ }
+    requires { ⌜ SoundTable (now t) count × (1 ≤ k) × (k ≤ count) ⌝ }
     ensures { λ r. ⌜ r ≡ isAt (findPrivate (now (t .entry)) count (now (name .entry))) ⌝ }
 {
     if name::same(fields::private(table::block(t, k as usize)), name) {
@@ -108,7 +111,7 @@ fn serves(b: &[u8], name: &[u8]) -> bool
 
 // The first record of a subscription that stores a server name.
 pub fn first_server(t: &[u8], count: usize, name: &[u8]) -> Found
-    requires { ⌜ (count ≤ 4096) × (length (now t) ≡ 512 * (count + 1)) ⌝ }
+    requires { ⌜ SoundTable (now t) count ⌝ }
     ensures { λ r. ⌜ r ≡ findServer (now (t .entry)) count (now (name .entry)) ⌝ }
 {
     let mut k = 1;
@@ -134,15 +137,17 @@ fn agree(b: &[u8], at: usize, name: &[u8], i: usize) -> bool
 }
 
 // The number of the visited network with a name, or the count of networks where none has it.
-pub fn network(b: &[u8], count: usize, name: &[u8]) -> usize
-    requires { ⌜ (length (now b) ≡ 512) × (count ≤ 8) × Short (now b) count ⌝ }
-    ensures { λ r. ⌜ r ≡ networkNumber (now (b .entry)) count (now (name .entry)) ⌝ }
+fn network(t: &[u8], count: usize, name: &[u8]) -> usize
+    requires { ⌜ SoundTable (now t) count ⌝ }
+    ensures { λ r. ⌜ r ≡ networkNumber (blockOf (now (t .entry)) 0) (networksOf (blockOf (now (t .entry)) 0)) (now (name .entry)) ⌝ }
 {
+    let h = table::block(t, 0);
+    let networks = octets::byte(h, Header::NETWORKS_AT);
     let mut k = 0;
-    'places: while k < count {
+    'places: while k < networks {
         let at = networks::place(k);
         let mut i = 0;
-        while agree(b, at, name, i) {
+        while agree(h, at, name, i) {
             if i == name.len() {
                 break 'places;
             }
@@ -165,8 +170,17 @@ fn roams_at(roaming: u8, n: usize) -> bool
 }
 
 // Whether network n is one of them, and its bit is set.
-pub fn roams_in(roaming: u8, networks: usize, n: usize) -> bool
+fn roams_in(roaming: u8, networks: usize, n: usize) -> bool
     ensures { λ r. ⌜ r ≡ roamsIn roaming networks n ⌝ }
 {
     (n < networks) & roams_at(roaming, n)
+}
+
+// Whether the record in block b may roam in the visited network with a name: it is named in the header, and its bit is set.
+pub fn may_roam(t: &[u8], count: usize, b: &[u8], name: &[u8]) -> bool
+    requires { ⌜ SoundTable (now t) count × (length (now b) ≡ 512) ⌝ }
+    ensures { λ r. ⌜ r ≡ mayRoam (blockOf (now (t .entry)) 0) (now (b .entry)) (now (name .entry)) ⌝ }
+{
+    let networks = octets::byte(table::block(t, 0), Header::NETWORKS_AT);
+    roams_in(b[Record::ROAMING_AT], networks, network(t, count, name))
 }

@@ -11,8 +11,7 @@ use Rattle.octets.specs.Number.{be24At}
 use Rattle.table.specs.Check.{checkTable}
 use Rattle.table.specs.declared.Checked.{Checked}
 use Rattle.table.specs.declared.Checked.the-variants.{Sound, Bad}
-use Rattle.lookup.specs.SoundTable.{SoundTable}
-use Rattle.lookup.proofs.Sound.{sound-says}
+use Rattle.table.specs.SoundTable.{SoundTable}
 use Rattle.decisions.specs.Decide.{decide}
 use Rattle.deciding.specs.Passed.{Passed}
 use Rattle.deciding.specs.Plans.{Answers}
@@ -40,8 +39,8 @@ length-even req {x} e f = go (eqb (be24At req 1) (length req)) (eqb (length req 
     go true false g h = absurd (true≢false h)
     go false false g h = absurd (true≢false h)
 
-pub checked-sound : (t : List ℕ) (n count : ℕ) {c : Checked} → c ≡ checkTable t n → c ≡ Sound count → SoundTable t n count
-checked-sound t n count e f = sound-says t n count (sym e ∙ f)
+pub checked-sound : (t : List ℕ) (n count : ℕ) {c : Checked} → c ≡ checkTable t n → c ≡ Sound count → SoundTable t count
+checked-sound t n count e f = record { file = n; checked = sym e ∙ f }
 
 module _ (req t file o : List ℕ) (c : Checked) where
   pub served-bad : (k : ℕ) → c ≡ Bad k → Leaves (serveChecked (lent req t file o) c) (Refused 5 k) t o

@@ -40,11 +40,13 @@ module _ (s t : List ℕ) (i : ℕ) where
   unfolding alikeFrom
   same-more k e f g = sym g ∙ f ∙ all-stretch (alikeAt s t) (alikeFrom s t i) i (λ j. refl) k e
 
-  pub same-differ : (k : ℕ) {x : Bool} → i ≤ length s → k ≤ length s - i → x ≡ allBelow (alikeFrom s t i) k → x ≡ false → false ≡ allBelow (alikeAt s t) (length s)
+  pub same-differ : (k : ℕ) {x : Bool} → i ≤ length s → k ≤ length s - i → x ≡ allBelow (alikeFrom s t i) k → x ≡ false
+      → false ≡ allBelow (alikeAt s t) (length s)
   unfolding alikeFrom
   same-differ k a b f g = sym (all-failing (alikeAt s t) (alikeFrom s t i) i (λ j. refl) k (length s) (omega arith) (sym f ∙ g))
 
-  pub same-rest : {x : Bool} → i ≤ length s → true ≡ allBelow (alikeAt s t) i → x ≡ allBelow (alikeFrom s t i) (length s - i) → x ≡ allBelow (alikeAt s t) (length s)
+  pub same-rest : {x : Bool} → i ≤ length s → true ≡ allBelow (alikeAt s t) i → x ≡ allBelow (alikeFrom s t i) (length s - i)
+      → x ≡ allBelow (alikeAt s t) (length s)
   unfolding alikeFrom
   same-rest a e f =
       let n : i + (length s - i) ≡ length s = omega arith in

@@ -16,7 +16,8 @@ use Rattle.octets.specs.declared.name.Order.the-variants.{Less, Equal, G
 use Rattle.octets.proofs.All.{and-left, and-right}
 
 -- A byte that is the same is passed over.
-order-pass : (s t : List ℕ) (i : ℕ) → i < length s → i < length t → getD s i 0 ≡ getD t i 0 → orderOf (drop i s) (drop i t) ≡ orderOf (drop (i + 1) s) (drop (i + 1) t)
+order-pass : (s t : List ℕ) (i : ℕ) → i < length s → i < length t → getD s i 0 ≡ getD t i 0
+    → orderOf (drop i s) (drop i t) ≡ orderOf (drop (i + 1) s) (drop (i + 1) t)
 unfolding orderOf
 order-pass s t i a b e =
     let g : getD t i 0 ≤ getD s i 0 = omega arith in

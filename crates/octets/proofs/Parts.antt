@@ -21,7 +21,8 @@ part-cut s at n to size whole h e = go (leb (at + n) (length s)) refl
 pub part-short : (s : List ℕ) (at n most to : ℕ) → n ≤ most → to ≡ min (at + n) (length s) → length (take (to - at) (drop at s)) ≤ most
 part-short s at n most to h e = simp length-take (omega arith)
 
-pub part-alike : (x y : List ℕ) (at n : ℕ) → length x ≡ length y → ((i : ℕ) → at ≤ i → i < at + n → getD x i 0 ≡ getD y i 0) → take n (drop at x) ≡ take n (drop at y)
+pub part-alike : (x y : List ℕ) (at n : ℕ) → length x ≡ length y → ((i : ℕ) → at ≤ i → i < at + n → getD x i 0 ≡ getD y i 0)
+    → take n (drop at x) ≡ take n (drop at y)
 part-alike x y at n e h =
     ext-getD 0 (take n (drop at x)) (take n (drop at y)) (simp (length-take, length-drop, e))
     (λ i l.

@@ -20,7 +20,8 @@ pub zeros-none : (s : List ℕ) (from : ℕ) → true ≡ zeros s from (from - f
 unfolding zeros allBelow
 zeros-none s from = let n : from - from ≡ 0 = omega arith in rw n
 
-pub zeros-more : (s : List ℕ) (from i : ℕ) {good : Bool} → from ≤ i → good ≡ zeros s from (i - from) → (good && eqb (getD s i 0) 0) ≡ zeros s from (i + 1 - from)
+pub zeros-more : (s : List ℕ) (from i : ℕ) {good : Bool} → from ≤ i → good ≡ zeros s from (i - from)
+    → (good && eqb (getD s i 0) 0) ≡ zeros s from (i + 1 - from)
 unfolding zeros allBelow
 zeros-more s from i h e =
     let n : i + 1 - from ≡ suc (i - from) = omega arith in
@@ -40,7 +41,8 @@ zero-join s from middle to a b =
 
 -- A field in two parts: its first n bytes end in the first part, or they go on in the second.
 module _ (s : List ℕ) (at n k to : ℕ) where
-  pub tail-first : {x y : Bool} → n ≤ k → at + k ≤ to → x ≡ zeroBetween s (at + n) (at + k) → x ≡ true → y ≡ zeroBetween s (at + k) to → y ≡ zeroBetween s (at + n) to
+  pub tail-first : {x y : Bool} → n ≤ k → at + k ≤ to → x ≡ zeroBetween s (at + n) (at + k) → x ≡ true → y ≡ zeroBetween s (at + k) to
+      → y ≡ zeroBetween s (at + n) to
   tail-first a b e f g = rw (← zero-join s (at + n) (at + k) to (omega arith) b, ← e, f) g
 
   pub tail-stained : {x : Bool} → n ≤ k → at + k ≤ to → x ≡ zeroBetween s (at + n) (at + k) → x ≡ false → false ≡ zeroBetween s (at + n) to
@@ -146,7 +148,8 @@ module _ (s : List ℕ) (at : ℕ) (name : List ℕ) where
   pub name-apart : (n i : ℕ) → ((j : ℕ) → j < n → i ≢ at + j) → getD (putName s at name n) i 0 ≡ getD s i 0
   unfolding putName
   name-apart zero i h = refl
-  name-apart (suc n) i h = rw (getD-set-other (putName s at name n) (at + n) i (getD name n 0) 0 (h n (omega arith))) (name-apart n i (λ j k. h j (omega arith)))
+  name-apart (suc n) i h =
+      rw (getD-set-other (putName s at name n) (at + n) i (getD name n 0) 0 (h n (omega arith))) (name-apart n i (λ j k. h j (omega arith)))
 
   pub name-here : (n j : ℕ) → at + n ≤ length s → j < n → getD (putName s at name n) (at + j) 0 ≡ getD name j 0
   unfolding putName

@@ -54,7 +54,8 @@ fours-more s i a b c d x y e ex ey ea eb ec ed =
     let q : 4 * suc (4 * i) ≡ 16 * i + 4 = omega arith in
     let r : 4 * suc (suc (4 * i)) ≡ 16 * i + 8 = omega arith in
     let t : 4 * suc (suc (suc (4 * i))) ≡ 16 * i + 8 + 4 = omega arith in
-    rw (n, ea, eb, ec, ed, p, q, r, t, ← ex .0, ← ex .1, ← ey .0, ← ey .1, ← e) (wrap-fours a b c d (x / 4294967296) (x % 4294967296) (y / 4294967296) (y % 4294967296))
+    rw (n, ea, eb, ec, ed, p, q, r, t, ← ex .0, ← ex .1, ← ey .0, ← ey .1, ← e)
+    (wrap-fours a b c d (x / 4294967296) (x % 4294967296) (y / 4294967296) (y % 4294967296))
 
 pub fours-all : (s : List ℕ) (i n a b c d : ℕ) {p q r : ℕ} → ((a + b) % 2 ^ 32 + (c + d) % 2 ^ 32) % 2 ^ 32 ≡ sumWords s (4 * i) → i ≤ n → n ≤ i
     → p ≡ (a + b) % 2 ^ 32 → q ≡ (c + d) % 2 ^ 32 → r ≡ (p + q) % 2 ^ 32 → r ≡ sumWords s (4 * n)

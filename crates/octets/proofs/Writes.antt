@@ -30,7 +30,8 @@ pub over-none-taken : (s b : List ℕ) → b ≡ over (take 0 s) b
 unfolding over
 over-none-taken s b = refl
 
-pub over-copied : (s b : List ℕ) (i : ℕ) {x : List ℕ} → i < length s → length s ≤ length b → x ≡ over (take i s) b → set x i (getD s i 0) ≡ over (take (i + 1) s) b
+pub over-copied : (s b : List ℕ) (i : ℕ) {x : List ℕ} → i < length s → length s ≤ length b → x ≡ over (take i s) b
+    → set x i (getD s i 0) ≡ over (take (i + 1) s) b
 over-copied s b i h r e =
     rw e
     (over-snoc (take i s) b i (getD s i 0) (length-take-le i s (omega arith)) (omega arith)
@@ -109,7 +110,9 @@ then-front {h} {v} {b} {ys} {zs} {n} {r} room p q =
     let d : drop n (take n b ++ e) ≡ e = drop-at (take n b) e n (length-take-le n b room) in
     record {
       count = omega (arith, p .count, q .count, length-append h v);
-      bytes = q .bytes ∙ rw (← q .count, d, z, append-nil, p .bytes, t, length-append h v, ← q .count, drop-drop (length v) n b, append-assoc h v (drop (n + length v) b));
+      bytes =
+          q .bytes
+          ∙ rw (← q .count, d, z, append-nil, p .bytes, t, length-append h v, ← q .count, drop-drop (length v) n b, append-assoc h v (drop (n + length v) b));
     }
 
 -- a loop that writes: what is done, and the rest that is still to be written

@@ -50,7 +50,8 @@ fn alike(s: &[u8], t: &[u8], i: usize, k: usize) -> bool
 // Passes over what is the same from a place on, k bytes at a time, below n.
 fn passed(s: &[u8], t: &[u8], n: usize, from: usize, k: usize) -> usize
     requires { ⌜ (n ≤ length (now s)) × (n ≤ length (now t)) × (from ≤ n) × (0 < k) ⌝ }
-    ensures { λ r. ⌜ (r ≤ n) × (orderOf (drop from (now (s .entry))) (drop from (now (t .entry))) ≡ orderOf (drop r (now (s .entry))) (drop r (now (t .entry)))) ⌝ }
+    ensures { λ r. ⌜ (r ≤ n)
+        × (orderOf (drop from (now (s .entry))) (drop from (now (t .entry))) ≡ orderOf (drop r (now (s .entry))) (drop r (now (t .entry)))) ⌝ }
 {
     let mut i = from;
     while k <= n - i {

@@ -1,5 +1,5 @@
 -- How long the parts of a sound table are, and what stands at the number of no record.
-use Prim.Native.Nat.{ℕ, zero, suc, _+_, _-_, _*_, _≤_, _<_}
+use Prim.Native.Nat.{ℕ, zero, suc, _+_, _-_, _*_, _≤_, _<_, min}
 use mathlib.Core.Path.{_≡_, refl, sym, _∙_}
 use mathlib.Core.Bool.{Bool, true, false, _&&_}
 use mathlib.Core.List.{List, []}
@@ -11,17 +11,14 @@ use lib.Seq.{take-nil}
 use borrow.Author.Tests.{ltb-true, leb-true, leb-false, ne-eqb, lt-ltb}
 use Rattle.octets.specs.Number.{be16At, be32At}
 use Rattle.octets.proofs.All.{and-left, and-right}
-use Rattle.record.specs.Fields.{hostOf, realmOf, privateOf, serverOf, mandatoryOf, optionalOf, profileOf}
+use Rattle.octets.proofs.Parts.{part-cut}
+use Rattle.record.specs.Fields.{mandatoryCount, optionalCount, hostOf, realmOf, privateOf, serverOf, mandatoryOf, optionalOf, profileOf}
 use Rattle.record.specs.HeaderBlock.{headerOf}
 use Rattle.record.specs.RecordBlock.{recordOf}
 use Rattle.table.specs.Blocks.{blockOf, ofBlock}
-use Rattle.lookup.specs.SoundTable.{SoundTable}
-use Rattle.lookup.proofs.Sound.{sound-header, sound-tests, sound-limits}
-use Rattle.parts.specs.SoundAlone.{SoundAlone, profileAt}
-
--- a table that is sound beside a profile file is sound
-pub alone : (t : List ℕ) (file count : ℕ) → SoundTable t file count → SoundAlone t count
-alone t file count s = record { file = file; sound = s }
+use Rattle.table.specs.SoundTable.{SoundTable}
+use Rattle.table.proofs.Sound.{sound-size, sound-header, sound-limits}
+use Rattle.parts.specs.Profile.{profileAt}
 
 cut : (n m : ℕ) (l : List ℕ) → n ≤ m → length (take n l) ≤ m
 cut n m l h = rw length-take (omega arith)
@@ -43,11 +40,8 @@ record-first count k e h = ltb-true 0 k (and-left (ltb 0 k) (leb k count) (sym e
 record-last : (count k : ℕ) {x : Bool} → x ≡ (ltb 0 k && leb k count) → x ≡ true → k ≤ count
 record-last count k e h = leb-true k count (and-right (ltb 0 k) (leb k count) (sym e ∙ h))
 
-pub record-room : (t : List ℕ) (count k : ℕ) {x : Bool} → SoundAlone t count → x ≡ (ltb 0 k && leb k count) → x ≡ true → 512 * k + 512 ≤ length t
-record-room t count k s e h = let b : k ≤ count = record-last count k e h in omega (arith, s .sound .size)
-
-pub header-room : (t : List ℕ) (count : ℕ) → SoundAlone t count → 512 * 0 + 512 ≤ length t
-header-room t count s = omega (arith, s .sound .size)
+pub record-room : (t : List ℕ) (count k : ℕ) {x : Bool} → SoundTable t count → x ≡ (ltb 0 k && leb k count) → x ≡ true → 512 * k + 512 ≤ length t
+record-room t count k s e h = let b : k ≤ count = record-last count k e h in omega (arith, sound-size t count s)
 
 module _ (f : List ℕ → List ℕ) (most : ℕ) (t : List ℕ) (count : ℕ) (s : Field f most t count) where
   other : (k : ℕ) → (ltb 0 k && leb k count) ≡ false → ofBlock f t k ≡ []
@@ -76,14 +70,14 @@ module _ (f : List ℕ → List ℕ) (most : ℕ) (t : List ℕ) (count : ℕ) (
       go false e = rw (other k e) (omega arith)
 
 -- The header's names.
-module _ (t : List ℕ) (count : ℕ) (s : SoundAlone t count) where
+module _ (t : List ℕ) (count : ℕ) (s : SoundTable t count) where
   pub host-length : length (hostOf (blockOf t 0)) ≤ 64
   unfolding hostOf headerOf
-  host-length = cut _ 64 _ (sound-header t (s .file) count (s .sound) .host)
+  host-length = cut _ 64 _ (sound-header t count s .host)
 
   pub realm-length : length (realmOf (blockOf t 0)) ≤ 64
   unfolding realmOf headerOf
-  realm-length = cut _ 64 _ (sound-header t (s .file) count (s .sound) .realm)
+  realm-length = cut _ 64 _ (sound-header t count s .realm)
 
   module _ (b y : List ℕ) (eb : b ≡ blockOf t 0) where
     pub host-there : y ≡ hostOf b → y ≡ hostOf (blockOf t 0)
@@ -101,68 +95,74 @@ module _ (t : List ℕ) (count : ℕ) (s : SoundAlone t count) where
   -- A record's names and capabilities.
   pub user-field : Field privateOf 128 t count
   unfolding privateOf recordOf
-  user-field = record { size = s .sound .size; nothing = refl; short = λ k a b. cut _ 128 _ (sound-limits t (s .file) count (s .sound) k a b .private) }
+  user-field = record { size = sound-size t count s; nothing = refl; short = λ k a b. cut _ 128 _ (sound-limits t count s k a b .private) }
 
   pub server-field : Field serverOf 96 t count
   unfolding serverOf recordOf
-  server-field = record { size = s .sound .size; nothing = refl; short = λ k a b. cut _ 96 _ (sound-limits t (s .file) count (s .sound) k a b .server) }
+  server-field = record { size = sound-size t count s; nothing = refl; short = λ k a b. cut _ 96 _ (sound-limits t count s k a b .server) }
 
   pub mandatory-field : Field mandatoryOf 16 t count
   unfolding mandatoryOf recordOf
   mandatory-field = record {
-    size = s .sound .size;
+    size = sound-size t count s;
     nothing = refl;
-    short = λ k a b. cut (4 * getD (blockOf t k) 11 0) 16 _ (omega (arith, sound-limits t (s .file) count (s .sound) k a b .mandatory));
+    short = λ k a b. cut (4 * mandatoryCount (blockOf t k)) 16 _ (omega (arith, sound-limits t count s k a b .mandatory));
   }
 
   pub optional-field : Field optionalOf 16 t count
   unfolding optionalOf recordOf
   optional-field = record {
-    size = s .sound .size;
+    size = sound-size t count s;
     nothing = refl;
-    short = λ k a b. cut (4 * getD (blockOf t k) 12 0) 16 _ (omega (arith, sound-limits t (s .file) count (s .sound) k a b .optional));
+    short = λ k a b. cut (4 * optionalCount (blockOf t k)) 16 _ (omega (arith, sound-limits t count s k a b .optional));
   }
 
   module _ (k : ℕ) (b : List ℕ) (n : ℕ) {x : Bool} (e : x ≡ (ltb 0 k && leb k count)) (h : x ≡ true) (eb : b ≡ blockOf t k) where
-    pub mandatory-few : n ≡ getD b 11 0 → n ≤ 4
+    pub mandatory-few : n ≡ mandatoryCount b → n ≤ 4
     unfolding recordOf
     mandatory-few en =
-        let l = sound-limits t (s .file) count (s .sound) k (record-first count k e h) (record-last count k e h) in
+        let l = sound-limits t count s k (record-first count k e h) (record-last count k e h) in
         rw (en, eb) (l .mandatory)
 
-    pub optional-few : n ≡ getD b 12 0 → n ≤ 4
+    pub optional-few : n ≡ optionalCount b → n ≤ 4
     unfolding recordOf
     optional-few en =
-        let l = sound-limits t (s .file) count (s .sound) k (record-first count k e h) (record-last count k e h) in
+        let l = sound-limits t count s k (record-first count k e h) (record-last count k e h) in
         rw (en, eb) (l .optional)
 
 -- The words that are lent; as the capabilities of a block.
 pub words-lent : (b : List ℕ) (at n : ℕ) → take (at + 4 * n - at) (drop at b) ≡ take (4 * n) (drop at b)
 words-lent b at n = rw (add-sub-cancel-left at (4 * n))
 
-pub mandatory-words : (b y : List ℕ) (n : ℕ) → n ≡ getD b 11 0 → y ≡ take (4 * n) (drop 368 b) → y ≡ mandatoryOf b
+pub mandatory-words : (b y : List ℕ) (n : ℕ) → n ≡ mandatoryCount b → y ≡ take (4 * n) (drop 368 b) → y ≡ mandatoryOf b
 unfolding mandatoryOf
 mandatory-words b y n en ey = rw (← en) ey
 
-pub optional-words : (b y : List ℕ) (n : ℕ) → n ≡ getD b 12 0 → y ≡ take (4 * n) (drop 384 b) → y ≡ optionalOf b
+pub optional-words : (b y : List ℕ) (n : ℕ) → n ≡ optionalCount b → y ≡ take (4 * n) (drop 384 b) → y ≡ optionalOf b
 unfolding optionalOf
 optional-words b y n en ey = rw (← en) ey
 
 -- The part of the profile file.
-pub profile-lent : (b file : List ℕ) (from size : ℕ) → from ≡ be32At b 400 → size ≡ be16At b 404 → take (from + size - from) (drop from file) ≡ profileOf b file
+pub profile-lent : (b file : List ℕ) (start from size n : ℕ) → start ≡ be32At b 400 → from ≡ min start (length file) → size ≡ be16At b 404
+    → n ≡ min size (length file - from) → take (from + n - from) (drop from file) ≡ profileOf b file
 unfolding profileOf
-profile-lent b file from size ef es = rw (add-sub-cancel-left from size, ef, es)
+profile-lent b file start from size n es ef en et = go (leb start (length file)) refl
+  where
+    go : (x : Bool) → leb start (length file) ≡ x → take (from + n - from) (drop from file) ≡ take (be16At b 404) (drop (be32At b 400) file)
+    go true e =
+        let l : start ≤ length file = leb-true start (length file) e in
+        let q : from ≡ start = omega arith in
+        rw (← es, ← en, q) (part-cut file start size (start + n) (length file) refl l (omega arith))
+    go false e =
+        let l : length file < start = leb-false start (length file) e in
+        let u : length file ≤ from = omega arith in
+        let v : length file ≤ be32At b 400 = omega arith in
+        rw (drop-of-length-le file {i = from} u, drop-of-length-le file {i = be32At b 400} v, take-nil (from + n - from), take-nil (be16At b 404))
 
-module _ (t file : List ℕ) (count : ℕ) (s : SoundTable t (length file) count) where
+module _ (t file : List ℕ) (count : ℕ) (s : SoundTable t count) where
   pub profile-field : Field (λ (b : List ℕ). profileOf b file) 4096 t count
   unfolding profileOf recordOf be16At be32At
-  profile-field = record { size = s .size; nothing = refl; short = λ k a b. cut _ 4096 _ (sound-limits t (length file) count s k a b .size) }
-
-  pub profile-room : (k : ℕ) (b : List ℕ) {x : Bool} → x ≡ (ltb 0 k && leb k count) → x ≡ true → b ≡ blockOf t k → be32At b 400 + be16At b 404 ≤ length file
-  unfolding recordOf
-  profile-room k b e h eb =
-      let l = sound-tests t (length file) count s k (record-first count k e h) (record-last count k e h) in
-      rw eb (leb-true _ _ (l .profile))
+  profile-field = record { size = sound-size t count s; nothing = refl; short = λ k a b. cut _ 4096 _ (sound-limits t count s k a b .size) }
 
   module _ (k : ℕ) (b y : List ℕ) {x : Bool} (e : x ≡ (ltb 0 k && leb k count)) (h : x ≡ true) (eb : b ≡ blockOf t k) (ey : y ≡ profileOf b file) where
     pub profile-there : y ≡ profileAt t file k

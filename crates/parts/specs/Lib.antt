@@ -1,1 +1,1 @@
-pub mod SoundAlone
+pub mod Profile

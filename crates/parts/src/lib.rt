@@ -1,4 +1,5 @@
 // What an answer takes out of the table and the profile file, as parts of them.
+use octets::name;
 use octets::number;
 use record::fields;
 use record::subscriber::Record;
@@ -7,29 +8,28 @@ ghost use mathlib.Core.Bool.{_&&_};
 ghost use Prim.Native.Nat.{_+_, _*_, _≤_};
 ghost use lib.ListN.{length, take, drop};
 ghost use lib.Dec.{leb, ltb};
-ghost use Rattle.octets.specs.Number.{be16At, be32At};
 ghost use Rattle.record.specs.Fields.{hostOf, realmOf, privateOf, serverOf, mandatoryOf, optionalOf, profileOf};
 ghost use Rattle.table.specs.Blocks.{blockOf, ofBlock};
-ghost use Rattle.lookup.specs.SoundTable.{SoundTable};
-ghost use Rattle.parts.specs.SoundAlone.{SoundAlone, profileAt};
+ghost use Rattle.table.specs.SoundTable.{SoundTable};
+ghost use Rattle.parts.specs.Profile.{profileAt};
 
 // Origin-Host and Origin-Realm.
 pub fn host(t: &[u8], count: usize) -> &[u8]
-    requires { ⌜ SoundAlone (now t) count ⌝ }
+    requires { ⌜ SoundTable (now t) count ⌝ }
     ensures { λ r. ⌜ (now r ≡ hostOf (blockOf (now (t .entry)) 0)) × (length (now r) ≤ 64) ⌝ }
 {
     fields::host(table::block(t, 0))
 }
 
 pub fn realm(t: &[u8], count: usize) -> &[u8]
-    requires { ⌜ SoundAlone (now t) count ⌝ }
+    requires { ⌜ SoundTable (now t) count ⌝ }
     ensures { λ r. ⌜ (now r ≡ realmOf (blockOf (now (t .entry)) 0)) × (length (now r) ≤ 64) ⌝ }
 {
     fields::realm(table::block(t, 0))
 }
 
 // Whether a block number is a record's.
-fn is_record(count: usize, k: usize) -> bool
+fn has_record(count: usize, k: usize) -> bool
     ensures { λ r. ⌜ r ≡ (ltb 0 k && leb k count) ⌝ }
 {
     (0 < k) & (k <= count)
@@ -37,20 +37,20 @@ fn is_record(count: usize, k: usize) -> bool
 
 // Of record k: its private identity, its server name, its capabilities. Where k is no record's number, nothing.
 pub fn user(t: &[u8], count: usize, k: usize) -> &[u8]
-    requires { ⌜ SoundAlone (now t) count ⌝ }
+    requires { ⌜ SoundTable (now t) count ⌝ }
     ensures { λ r. ⌜ (now r ≡ ofBlock privateOf (now (t .entry)) k) × (length (now r) ≤ 128) ⌝ }
 {
-    if is_record(count, k) {
+    if has_record(count, k) {
         return fields::private(table::block(t, k));
     }
     &t[..0]
 }
 
 pub fn server(t: &[u8], count: usize, k: usize) -> &[u8]
-    requires { ⌜ SoundAlone (now t) count ⌝ }
+    requires { ⌜ SoundTable (now t) count ⌝ }
     ensures { λ r. ⌜ (now r ≡ ofBlock serverOf (now (t .entry)) k) × (length (now r) ≤ 96) ⌝ }
 {
-    if is_record(count, k) {
+    if has_record(count, k) {
         return fields::server(table::block(t, k));
     }
     &t[..0]
@@ -65,10 +65,10 @@ fn words(b: &[u8], at: usize, n: usize) -> &[u8]
 }
 
 pub fn mandatory(t: &[u8], count: usize, k: usize) -> &[u8]
-    requires { ⌜ SoundAlone (now t) count ⌝ }
+    requires { ⌜ SoundTable (now t) count ⌝ }
     ensures { λ r. ⌜ (now r ≡ ofBlock mandatoryOf (now (t .entry)) k) × (length (now r) ≤ 16) ⌝ }
 {
-    if is_record(count, k) {
+    if has_record(count, k) {
         let b = table::block(t, k);
         return words(
             b,
@@ -80,10 +80,10 @@ pub fn mandatory(t: &[u8], count: usize, k: usize) -> &[u8]
 }
 
 pub fn optional(t: &[u8], count: usize, k: usize) -> &[u8]
-    requires { ⌜ SoundAlone (now t) count ⌝ }
+    requires { ⌜ SoundTable (now t) count ⌝ }
     ensures { λ r. ⌜ (now r ≡ ofBlock optionalOf (now (t .entry)) k) × (length (now r) ≤ 16) ⌝ }
 {
-    if is_record(count, k) {
+    if has_record(count, k) {
         let b = table::block(t, k);
         return words(
             b,
@@ -94,22 +94,26 @@ pub fn optional(t: &[u8], count: usize, k: usize) -> &[u8]
     &t[..0]
 }
 
-// The part of the profile file that a record's block names.
+// The part of the profile file that a record's block names, cut at the file's end.
 fn profile_in<'a>(b: &[u8], file: &'a [u8]) -> &'a [u8]
-    requires { ⌜ (length (now b) ≡ 512) × (be32At (now b) 400 + be16At (now b) 404 ≤ length (now file)) ⌝ }
+    requires { ⌜ length (now b) ≡ 512 ⌝ }
     ensures { λ r. ⌜ now r ≡ profileOf (now (b .entry)) (now (file .entry)) ⌝ }
 {
-    let from = number::be32(b, Record::PROFILE_START_AT) as usize;
-    let to = from + (number::be16(b, Record::PROFILE_LENGTH_AT) as usize);
+    let from = name::smaller(
+        number::be32(b, Record::PROFILE_START_AT) as usize,
+        file.len(),
+    );
+    let size = number::be16(b, Record::PROFILE_LENGTH_AT) as usize;
+    let to = from + name::smaller(size, file.len() - from);
     &file[from..to]
 }
 
 // The user data of record k, or nothing.
 pub fn profile<'a>(t: &[u8], count: usize, file: &'a [u8], k: usize) -> &'a [u8]
-    requires { ⌜ SoundTable (now t) (length (now file)) count ⌝ }
+    requires { ⌜ SoundTable (now t) count ⌝ }
     ensures { λ r. ⌜ (now r ≡ profileAt (now (t .entry)) (now (file .entry)) k) × (length (now r) ≤ 4096) ⌝ }
 {
-    if is_record(count, k) {
+    if has_record(count, k) {
         return profile_in(table::block(t, k), file);
     }
     &file[..0]

@@ -1,4 +1,4 @@
--- The tests of a header together, those of a record, and what a sound header says of its counts.
+-- The tests of a header together, those of a record, what a sound header says of its counts, and the bits.
 use Prim.Native.Nat.{ℕ, _≤_}
 use mathlib.Core.Bool.{Bool, true, false, _&&_}
 use mathlib.Core.Path.{_≡_, sym, _∙_}
@@ -6,6 +6,7 @@ use mathlib.Core.List.{List, [], _∷_}
 use lib.Dec.{eqb}
 use Rattle.octets.specs.Sum.{sumWords}
 use Rattle.octets.proofs.Chains.{chain-says}
+use Rattle.record.specs.Fields.{bitsOf, barred, unregisteredServices}
 use Rattle.record.specs.HeaderBlock.{headerOf, soundCounts, isHeader, soundNumbers, soundHeaderRest, soundHeader}
 use Rattle.record.specs.Networks.{soundNetworks}
 use Rattle.record.specs.RecordBlock.{recordOf, isRecord, soundLimits, soundServer, soundRoaming, soundProfile, soundRest, soundRecord}
@@ -51,3 +52,13 @@ module _ (b : List ℕ) (h : Header) {x : Bool} (is : h ≡ headerOf b) (e : x �
 
   pub header-networks : h .networks ≤ 8
   header-networks = rw is (says .networks)
+
+-- A bit of a record that was read is the block's.
+module _ (b : List ℕ) (r : Record) (is : r ≡ recordOf b) where
+  pub bits-barred : {x : Bool} → x ≡ barred (r .bits) → x ≡ barred (bitsOf b)
+  unfolding recordOf
+  bits-barred e = e ∙ rw is
+
+  pub bits-services : {x : Bool} → x ≡ unregisteredServices (r .bits) → x ≡ unregisteredServices (bitsOf b)
+  unfolding recordOf
+  bits-services e = e ∙ rw is

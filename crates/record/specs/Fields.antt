@@ -29,7 +29,8 @@ hostOf b = take (hostSize b) (drop 16 b)
 unfoldable pub realmOf : List ℕ → List ℕ
 realmOf b = take (realmSize b) (drop 80 b)
 
--- Record: "8 state; 9 bits; 10 roaming; 11, 12 counts of mandatory and optional capabilities; 13, 14, 15 lengths of public identity, private identity, server name"
+-- Record: "8 state; 9 bits; 10 roaming; 11, 12 counts of mandatory and optional capabilities; 13, 14, 15 lengths of public identity,
+-- private identity, server name"
 abbrev pub stateOf : List ℕ → ℕ
 stateOf b = getD b 8 0
 

@@ -44,4 +44,5 @@ soundHeaderRest b h = zeroBetween b 2 4 && zeroBetween b (16 + h .host) 80 && ze
 unfoldable pub soundHeader : List ℕ → Bool
 soundHeader b =
     soundCounts (headerOf b)
-    && (eqb (sumWords b 128) 0 && isHeader (headerOf b) && soundNumbers (headerOf b) && soundHeaderRest b (headerOf b) && soundNetworks b (headerOf b .networks))
+    && (eqb (sumWords b 128) 0 && isHeader (headerOf b) && soundNumbers (headerOf b) && soundHeaderRest b (headerOf b)
+    && soundNetworks b (headerOf b .networks))

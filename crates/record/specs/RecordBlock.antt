@@ -9,7 +9,8 @@ use lib.Dec.{eqb, leb, ltb}
 use Rattle.octets.specs.Number.{be32At}
 use Rattle.octets.specs.Run.{zeroBetween}
 use Rattle.octets.specs.Sum.{sumWords}
-use Rattle.record.specs.Fields.{stateOf, bitsOf, roamingOf, mandatoryCount, optionalCount, publicSize, privateSize, serverSize, profileStart, profileSize, pending}
+use Rattle.record.specs.Fields.{stateOf, bitsOf, roamingOf, mandatoryCount, optionalCount, publicSize, privateSize, serverSize, profileStart}
+use Rattle.record.specs.Fields.{profileSize, pending}
 use Rattle.record.specs.declared.subscriber.Record.{Record}
 
 unfoldable pub recordOf : List ℕ → Record

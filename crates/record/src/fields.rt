@@ -1,11 +1,11 @@
-// The names in a block, as parts of it.
+// The names in a block, as parts of it, and the bits of a record.
 use crate::header::Header;
 use crate::subscriber::Record;
 use octets::name;
 ghost use mathlib.Core.Path.{_≡_};
 ghost use Prim.Native.Nat.{_≤_};
 ghost use lib.ListN.{length, take, drop};
-ghost use Rattle.record.specs.Fields.{hostOf, realmOf, publicOf, privateOf, serverOf};
+ghost use Rattle.record.specs.Fields.{hostOf, realmOf, publicOf, privateOf, serverOf, bitsOf, barred, unregisteredServices};
 
 // The n bytes from a place on, cut at the block's end.
 fn part(b: &[u8], at: usize, n: usize) -> &[u8]
@@ -65,4 +65,19 @@ pub fn server(b: &[u8]) -> &[u8]
         Record::SERVER_AT,
         octets::byte(b, Record::SERVER_LENGTH_AT),
     )
+}
+
+// Whether a record is barred; whether it has unregistered services.
+pub fn barred(b: &[u8]) -> bool
+    requires { ⌜ length (now b) ≡ 512 ⌝ }
+    ensures { λ r. ⌜ r ≡ barred (bitsOf (now (b .entry))) ⌝ }
+{
+    Record::read(b).barred()
+}
+
+pub fn unregistered_services(b: &[u8]) -> bool
+    requires { ⌜ length (now b) ≡ 512 ⌝ }
+    ensures { λ r. ⌜ r ≡ unregisteredServices (bitsOf (now (b .entry))) ⌝ }
+{
+    Record::read(b).unregistered_services()
 }

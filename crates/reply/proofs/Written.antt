@@ -17,7 +17,7 @@ use Rattle.diameter.specs.Message.{bodyOf}
 use Rattle.requests.specs.Request.{sessionOf}
 use Rattle.reading.specs.declared.Outcome.{Outcome}
 use Rattle.reading.specs.declared.Outcome.the-variants.{Base, Experimental}
-use Rattle.parts.specs.SoundAlone.{profileAt}
+use Rattle.parts.specs.Profile.{profileAt}
 use Rattle.reply.specs.Answer.{resultBytes, namedBytes, vendorNamed, frontBytes, originBytes, flagsOf, headerBytes}
 use Rattle.reply.specs.Pieces.{startBytes, topBytes, nameBytes, dataBytes, givenOf}
 

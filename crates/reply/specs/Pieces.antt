@@ -13,7 +13,7 @@ use Rattle.requests.specs.Request.{sessionOf}
 use Rattle.failed.specs.Failing.{failedBy}
 use Rattle.reading.specs.declared.Outcome.{Outcome}
 use Rattle.reading.specs.declared.Verdict.{Verdict}
-use Rattle.parts.specs.SoundAlone.{profileAt}
+use Rattle.parts.specs.Profile.{profileAt}
 use Rattle.reply.specs.Answer.{namedBytes, vendorNamed, failedPart, proxies, frontBytes, originBytes, headerBytes}
 
 -- an AVP of the request, if it is a Proxy-Info

@@ -8,7 +8,7 @@ ghost use Rattle.table.specs.Blocks.{blockOf};
 ghost use Rattle.pen.specs.Bytes.{copiedSize};
 ghost use Rattle.diameter.specs.Message.{bodyOf};
 ghost use Rattle.requests.specs.Request.{sessionOf};
-ghost use Rattle.parts.specs.SoundAlone.{SoundAlone};
+ghost use Rattle.table.specs.SoundTable.{SoundTable};
 ghost use Rattle.reply.specs.Answer.{resultBytes, frontBytes, originBytes};
 ghost use Rattle.reply.specs.Pieces.{topBytes};
 
@@ -44,7 +44,7 @@ fn put_front(out: &mut [u8], req: &[u8], o: Outcome) -> usize
 
 // Origin-Host and Origin-Realm.
 fn put_origin(out: &mut [u8], t: &[u8], count: usize) -> usize
-    requires { ⌜ SoundAlone (now t) count × (144 ≤ length (now out)) ⌝ }
+    requires { ⌜ SoundTable (now t) count × (144 ≤ length (now out)) ⌝ }
     ensures { λ r. ⌜ (r ≤ 144) × Wrote (originBytes (blockOf (now (t .entry)) 0)) (now (out .entry)) (now (out .exit)) r ⌝ }
 {
     let a = pen::put_avp(out, crate::ORIGIN_HOST_CODE, parts::host(t, count));
@@ -58,7 +58,7 @@ fn put_origin(out: &mut [u8], t: &[u8], count: usize) -> usize
 
 // What every answer has.
 pub fn put_top(out: &mut [u8], req: &[u8], t: &[u8], count: usize, o: Outcome) -> usize
-    requires { ⌜ SoundAlone (now t) count × (220 + copiedSize (length (sessionOf (bodyOf (now req)))) ≤ length (now out)) ⌝ }
+    requires { ⌜ SoundTable (now t) count × (220 + copiedSize (length (sessionOf (bodyOf (now req)))) ≤ length (now out)) ⌝ }
     ensures { λ r. ⌜ (r ≤ 220 + copiedSize (length (sessionOf (bodyOf (now (req .entry)))))) × Wrote (topBytes (now (req .entry)) (now (t .entry)) o) (now (out .entry)) (now (out .exit)) r ⌝ }
 {
     let a = put_front(out, req, o);

@@ -54,7 +54,8 @@ record Apart (i : ℕ) : Type 0 where
 apart : (i : ℕ) → alterable i ≡ false → Apart i
 apart i h = go (eqb i 8) (eqb i 9) (eqb i 15) (leb 272 i) (ltb i 368) (leb 508 i) refl refl refl refl refl refl h
   where
-    go : (u v w x y z : Bool) → eqb i 8 ≡ u → eqb i 9 ≡ v → eqb i 15 ≡ w → leb 272 i ≡ x → ltb i 368 ≡ y → leb 508 i ≡ z → (u || v || w || x && y || z) ≡ false → Apart i
+    go : (u v w x y z : Bool) → eqb i 8 ≡ u → eqb i 9 ≡ v → eqb i 15 ≡ w → leb 272 i ≡ x → ltb i 368 ≡ y → leb 508 i ≡ z
+        → (u || v || w || x && y || z) ≡ false → Apart i
     go false false false false y false a b c d e f g =
         record {
           state = eqb-false i 8 a;
@@ -86,7 +87,9 @@ module _ (i : ℕ) where
   kept-first a = rw (ne-eqb i 8 (omega arith), ne-eqb i 9 (omega arith), ne-eqb i 15 (omega arith), lt-leb 272 i (omega arith)) (lt-leb 508 i (omega arith))
 
   pub kept-high : 368 ≤ i → i < 508 → alterable i ≡ false
-  kept-high a b = rw (ne-eqb i 8 (omega arith), ne-eqb i 9 (omega arith), ne-eqb i 15 (omega arith), le-leb 272 i (omega arith), le-ltb i 368 a) (lt-leb 508 i b)
+  kept-high a b =
+      rw (ne-eqb i 8 (omega arith), ne-eqb i 9 (omega arith), ne-eqb i 15 (omega arith), le-leb 272 i (omega arith), le-ltb i 368 a)
+      (lt-leb 508 i b)
 
 -- The block before its check word.
 abbrev pub drafted : List ℕ → ℕ → ℕ → List ℕ → List ℕ

@@ -15,7 +15,8 @@ use Rattle.record.specs.RecordBlock.{recordOf, isRecord, serverFits, soundServe
 use Rattle.record.proofs.Tests.{RecordTests, record-says, record-holds, Limits, limits-say, limits-hold, Zeros, rest-says, rest-holds}
 use Rattle.rewrite.specs.Change.{alterable, Kept, Keeps}
 use Rattle.rewrite.specs.Renew.{renewed, settled, Fitting}
-use Rattle.rewrite.proofs.Bytes.{kept-first, kept-low, kept-high, drafted, drafted-length, renewed-length, renewed-other, renewed-state, renewed-bits, renewed-server, renewed-name, renewed-alike}
+use Rattle.rewrite.proofs.Bytes.{kept-first, kept-low, kept-high, drafted, drafted-length, renewed-length, renewed-other, renewed-state}
+use Rattle.rewrite.proofs.Bytes.{renewed-bits, renewed-server, renewed-name, renewed-alike}
 use Rattle.rewrite.proofs.Sealed.{sealed-zero}
 
 module _ (b : List ℕ) (state bits : ℕ) (name : List ℕ) (whole : length b ≡ 512) where

@@ -1,5 +1,5 @@
--- What rests on what every effect keeps: a table stays sound, it still rises, and what is found in it is found again.
-use Prim.Native.Nat.{ℕ, suc, _+_, _-_, _*_, _<_, _≤_}
+-- What rests on what every effect keeps: a table stays sound, and what is found in it is found again.
+use Prim.Native.Nat.{ℕ, _-_, _<_, _≤_}
 use mathlib.Core.Bool.{Bool, true, false, _&&_, cond}
 use mathlib.Core.Path.{_≡_, refl, _∙_}
 use mathlib.Core.List.{List}
@@ -16,10 +16,10 @@ use Rattle.record.specs.RecordBlock.{soundRecord}
 use Rattle.table.specs.Blocks.{blockOf, publicAt}
 use Rattle.table.specs.Check.{isLess, risesAt, soundAt, checkTable}
 use Rattle.table.specs.declared.Checked.the-variants.{Sound}
+use Rattle.table.specs.SoundTable.{SoundTable}
+use Rattle.table.proofs.Sound.{TableTests, table-holds, sound-tests, sound-record, sound-public}
 use Rattle.lookup.specs.Find.{findPublic}
-use Rattle.lookup.specs.SoundTable.{SoundTable, Ordered}
 use Rattle.lookup.proofs.Halves.{find-alike}
-use Rattle.lookup.proofs.Sound.{sound-check, sound-record, sound-ordered}
 use Rattle.rewrite.specs.Change.{Kept}
 use Rattle.rewrite.proofs.Bytes.{kept-low}
 use Rattle.rewrite.proofs.Tables.{Keeping}
@@ -38,54 +38,44 @@ module _ (b c : List ℕ) (kept : Kept b c) where
       rw (kept .others 14 (omega arith) refl)
       (part-alike c b 144 (privateSize b) (kept .size) (λ i u v. kept .others i (omega arith) (kept-low i (omega arith) (omega arith))))
 
-module _ (x y : List ℕ) (count : ℕ) (keeping : Keeping x y count) where
-  module _ (ordered : Ordered x count) where
-    public-same : (k : ℕ) → 1 ≤ k → k ≤ count → publicAt y k ≡ publicAt x k
-    unfolding publicAt
-    public-same k a b = kept-public (blockOf x k) (blockOf y k) (keeping .each k a b) (ordered .room k a b)
+module _ (x y : List ℕ) (count : ℕ) (keeping : Keeping x y count) (sound : SoundTable x count) where
+  abbrev networks : ℕ
+  networks = headerOf (blockOf x 0) .networks
 
-    pub keeping-ordered : Ordered y count
-    keeping-ordered =
-        record {
-          size = keeping .size ∙ ordered .size;
-          rising = λ k a b. rw (public-same k a (omega arith), public-same (suc k) (omega arith) (omega arith)) (ordered .rising k a b);
-          room = λ k a b. rw (keeping .each k a b .others 13 (omega arith) refl) (ordered .room k a b);
-          space = λ k a b. rw (keeping .each k a b .others 14 (omega arith) refl) (ordered .space k a b);
-        }
+  was : TableTests x (sound .file) count
+  was = sound-tests x count sound
 
-    pub keeping-found : (name : List ℕ) → findPublic y count name ≡ findPublic x count name
-    keeping-found name = find-alike y x count name public-same
+  public-same : (k : ℕ) → 1 ≤ k → k ≤ count → publicAt y k ≡ publicAt x k
+  unfolding publicAt
+  public-same k a b = kept-public (blockOf x k) (blockOf y k) (keeping .each k a b) (sound-public x count sound k a b)
 
-  module _ (file : ℕ) (sound : SoundTable x file count) where
-    abbrev networks : ℕ
-    networks = headerOf (blockOf x 0) .networks
+  rises-same : (k : ℕ) → 1 ≤ k → k ≤ count → risesAt y k ≡ risesAt x k
+  unfolding risesAt
+  rises-same k a b = go (leb k 1) refl
+    where
+      go : (z : Bool) → leb k 1 ≡ z
+          → cond z true (isLess (orderOf (publicAt y (k - 1)) (publicAt y k))) ≡ cond z true (isLess (orderOf (publicAt x (k - 1)) (publicAt x k)))
+      go true e = refl
+      go false e = let l : 1 < k = leb-false k 1 e in rw (public-same (k - 1) (omega arith) (omega arith), public-same k a b)
 
-    rises-same : (k : ℕ) → 1 ≤ k → k ≤ count → risesAt y k ≡ risesAt x k
-    unfolding risesAt
-    rises-same k a b = go (leb k 1) refl
-      where
-        o : Ordered x count
-        o = sound-ordered x file count sound
+  good-at : (k : ℕ) → 1 ≤ k → k ≤ count → soundAt y networks (sound .file) k ≡ true
+  unfolding soundAt
+  good-at k a b =
+      rw (keeping .each k a b .sound k networks (sound .file) (sound-record x count sound k a b), rises-same k a b)
+      (and-right (soundRecord (blockOf x k) k networks (sound .file)) (risesAt x k) (was .each k a b))
 
-        go : (z : Bool) → leb k 1 ≡ z
-            → cond z true (isLess (orderOf (publicAt y (k - 1)) (publicAt y k))) ≡ cond z true (isLess (orderOf (publicAt x (k - 1)) (publicAt x k)))
-        go true e = refl
-        go false e = let l : 1 < k = leb-false k 1 e in rw (public-same o (k - 1) (omega arith) (omega arith), public-same o k a b)
+  pub keeping-sound : checkTable y (sound .file) ≡ Sound count
+  keeping-sound =
+      table-holds y (sound .file) count
+      (record {
+        size = keeping .size ∙ was .size;
+        counted = rw (keeping .header) (was .counted);
+        header = rw (keeping .header) (was .header);
+        each = λ k a b. rw (keeping .header) (good-at k a b);
+      })
 
-    good-at : (k : ℕ) → 1 ≤ k → k ≤ count → soundAt y networks file k ≡ true
-    unfolding soundAt
-    good-at k a b =
-        rw (keeping .each k a b .sound k networks file (sound-record x file count sound k a b), rises-same k a b)
-        (and-right (soundRecord (blockOf x k) k networks file) (risesAt x k) (sound .each k a b))
+  pub keeping-says : SoundTable y count
+  keeping-says = record { file = sound .file; checked = keeping-sound }
 
-    pub keeping-says : SoundTable y file count
-    keeping-says =
-        record {
-          size = keeping .size ∙ sound .size;
-          counted = rw (keeping .header) (sound .counted);
-          header = rw (keeping .header) (sound .header);
-          each = λ k a b. rw (keeping .header) (good-at k a b);
-        }
-
-    pub keeping-sound : checkTable y file ≡ Sound count
-    keeping-sound = sound-check y file count keeping-says
+  pub keeping-found : (name : List ℕ) → findPublic y count name ≡ findPublic x count name
+  keeping-found name = find-alike y x count name public-same

@@ -20,7 +20,8 @@ pub kept-same : (b c : List ℕ) → c ≡ b → Kept b c
 kept-same b c e = record { size = rw e; others = λ i l a. rw e; bits = rw e; sound = λ k networks file s. rw e s }
 
 -- Two effects that leave the same blocks leave the same table.
-pub after-same : (x t : List ℕ) (count : ℕ) (p q : ℕ → Bool) (change : List ℕ → List ℕ) → ((k : ℕ) → k ≤ count → changedAt x p change k ≡ changedAt t q change k)
+pub after-same : (x t : List ℕ) (count : ℕ) (p q : ℕ → Bool) (change : List ℕ → List ℕ)
+    → ((k : ℕ) → k ≤ count → changedAt x p change k ≡ changedAt t q change k)
     → afterOf x count p change ≡ afterOf t count q change
 unfolding afterOf
 after-same x t count p q change h = table-same _ _ (suc count) (λ k l. h k (omega arith))
@@ -31,7 +32,8 @@ module _ (y x : List ℕ) (p q : ℕ → Bool) (change : List ℕ → List ℕ) 
   unfolding changedAt
   at-same j e f = rw (e, f)
 
-  pub at-twice : (k : ℕ) → Keeps change → blockOf y k ≡ change (blockOf x k) → q k ≡ true → length (blockOf x k) ≡ 512 → changedAt y p change k ≡ changedAt x q change k
+  pub at-twice : (k : ℕ) → Keeps change → blockOf y k ≡ change (blockOf x k) → q k ≡ true → length (blockOf x k) ≡ 512
+      → changedAt y p change k ≡ changedAt x q change k
   unfolding changedAt
   at-twice k keeps e f l = rw (e, f) (go (p k))
     where

@@ -1,17 +1,19 @@
 -- What the functions that write leave, each by what its parts left.
 use Prim.Native.Nat.{ℕ, _+_, _-_, _*_, _%_, _^_, _<_, _≤_}
-use mathlib.Core.Bool.{Bool, true, false, cond}
-use mathlib.Core.Path.{_≡_, sym, _∙_, ap}
-use mathlib.Core.List.{List}
+use mathlib.Core.Bool.{Bool, true, false, cond, true≢false}
+use mathlib.Core.Path.{_≡_, refl, sym, _∙_, ap}
+use mathlib.Core.List.{List, _++_, append-nil}
 use native.Mathlib.Omega.{arith}
 use native.Mathlib.Nat.{add-sub-cancel-left}
 use lib.Dec.{lit<}
-use lib.ListN.{length, getD, set, drop, length-set}
-use lib.Seq.{getD-take, getD-drop, drop-drop}
-use borrow.Rule.Slice.PartMut.{midOf, putMid}
+use lib.ListN.{length, set, take, drop, length-set, length-take, length-drop, drop-of-length-le}
+use lib.Seq.{drop-drop, drop-at, take-at, length-take-le}
+use borrow.Rule.Slice.PartMut.{midOf, putMid, put-same, mid-len}
 use Rattle.octets.specs.Number.{be32At, putBe32}
-use Rattle.octets.specs.Run.{putName}
+use Rattle.octets.specs.Name.{same}
+use Rattle.octets.specs.Run.{putName, over, Wrote}
 use Rattle.octets.specs.Sum.{sumWords}
+use Rattle.octets.proofs.Names.{same-eq, same-refl, same-yes, same-no}
 use Rattle.octets.proofs.Runs.{name-length}
 use Rattle.octets.proofs.Sums.{sum-lt}
 use Rattle.record.specs.Fields.{cleared}
@@ -22,15 +24,16 @@ use Rattle.lookup.specs.Find.{endOf}
 use Rattle.lookup.specs.declared.Found.{Found}
 use Rattle.lookup.specs.declared.Found.the-variants.{At, Nothing}
 use Rattle.rewrite.specs.Renew.{negated, sealed, renewed, settled, Fitting}
-use Rattle.rewrite.specs.Change.{changedIn, changedFound}
-use Rattle.rewrite.proofs.Bytes.{sealed-length}
+use Rattle.rewrite.specs.Change.{changedIn, changedFound, differ}
+use Rattle.rewrite.proofs.Bytes.{sealed-length, renewed-length}
 
 -- A check word: what the other words lack, from the word that was there and the sum with it.
 negated-from : (x c s w : ℕ) → x < 2 ^ 32 → w < 2 ^ 32 → s ≡ (x + c) % 2 ^ 32 → (w + s) % 2 ^ 32 ≡ c → w ≡ negated x
 unfolding negated
 negated-from x c s w a b e f = omega arith
 
-pub seal-put : (b : List ℕ) {c s w : ℕ} {y : List ℕ} → c ≡ be32At b 508 → s ≡ sumWords b (4 * 32) → w < 2 ^ 32 → (w + s) % 2 ^ 32 ≡ c → y ≡ putBe32 b 508 w → y ≡ sealed b
+pub seal-put : (b : List ℕ) {c s w : ℕ} {y : List ℕ} → c ≡ be32At b 508 → s ≡ sumWords b (4 * 32) → w < 2 ^ 32 → (w + s) % 2 ^ 32 ≡ c → y ≡ putBe32 b 508 w
+    → y ≡ sealed b
 unfolding sealed sumWords
 seal-put b {c} {s} {w} e f h g k = rw (← negated-from (sumWords b 127) (be32At b 508) s w (sum-lt b 127) h f (g ∙ e)) k
 
@@ -53,10 +56,35 @@ module _ (b : List ℕ) (state bits : ℕ) (name : List ℕ) (whole : length b �
 pub fits-most : (state : ℕ) (name : List ℕ) → Fitting state name → length name ≤ 96
 fits-most state name f = f .most
 
-pub settle-block : (b : List ℕ) (state : ℕ) (name : List ℕ) {r : Record} {bits : ℕ} {y : List ℕ} → r ≡ recordOf b → bits ≡ cleared (r .bits) → y ≡ renewed b state bits name
+pub settle-block : (b : List ℕ) (state : ℕ) (name : List ℕ) {r : Record} {bits : ℕ} {y : List ℕ} → r ≡ recordOf b → bits ≡ cleared (r .bits)
+    → y ≡ renewed b state bits name
     → y ≡ settled state name b
 unfolding settled recordOf
 settle-block b state name d e f = f ∙ rw (e, d)
+
+-- Whether bytes changed.
+pub differ-same : (x : List ℕ) → differ x x ≡ 0
+unfolding differ
+differ-same x = rw (same-refl x)
+
+pub differ-none : (x : List ℕ) → 0 ≡ differ x x
+differ-none x = sym (differ-same x)
+
+pub differ-yes : (x y : List ℕ) {s : Bool} → s ≡ same x y → s ≡ true → 0 ≡ differ x y
+unfolding differ
+differ-yes x y e f = rw (← e, f)
+
+pub differ-no : (x y : List ℕ) {s : Bool} → s ≡ same x y → s ≡ false → 1 ≡ differ x y
+unfolding differ
+differ-no x y e f = rw (← e, f)
+
+-- the block as it came, copied before it is written
+copied : (w x y : List ℕ) (n : ℕ) → Wrote w x y n → length w ≡ length x → y ≡ w
+unfolding over
+copied w x y n e l = e .bytes ∙ rw (drop-of-length-le x {i = length w} (omega arith), append-nil)
+
+pub block-differs : (b x y z : List ℕ) (n : ℕ) {r : ℕ} → Wrote b x y n → length x ≡ 512 → length b ≡ 512 → r ≡ differ y z → r ≡ differ b z
+block-differs b x y z n w k l e = e ∙ ap (λ (v : List ℕ). differ v z) (copied b x y n w (l ∙ sym k))
 
 -- A block of a table, lent and come back.
 pub block-put : (change : List ℕ → List ℕ) (t : List ℕ) (k : ℕ) {y : List ℕ} → y ≡ change (midOf (512 * k) (512 * k + 512 - 512 * k) t)
@@ -67,6 +95,38 @@ block-put change t k e = rw (e, add-sub-cancel-left, drop-drop)
 pub settle-put : (t : List ℕ) (k state : ℕ) (name : List ℕ) {y : List ℕ} → y ≡ settled state name (midOf (512 * k) (512 * k + 512 - 512 * k) t)
     → putMid (512 * k) (512 * k + 512 - 512 * k) t y ≡ changedIn t k (settled state name)
 settle-put t k state name e = block-put (settled state name) t k e
+
+-- a table has other bytes exactly if the block that was lent has
+mid-put : (a n : ℕ) (t y : List ℕ) → a ≤ length t → length y ≡ n → midOf a n (putMid a n t y) ≡ y
+mid-put a n t y h l =
+    rw (drop-at (take a t) (y ++ drop n (drop a t)) a (length-take-le a t h))
+    (ap (λ (m : ℕ). take m (y ++ drop n (drop a t))) (sym l) ∙ take-at y (drop n (drop a t)) (length y) refl)
+
+lent-differs : (t y : List ℕ) (a n : ℕ) → a ≤ length t → length y ≡ n → differ (midOf a n t) y ≡ differ t (putMid a n t y)
+unfolding differ
+lent-differs t y a n h l = go (same (midOf a n t) y) refl
+  where
+    go : (x : Bool) → same (midOf a n t) y ≡ x → _≡_ {A = ℕ} (cond x 0 1) (cond (same t (putMid a n t y)) 0 1)
+    go true f =
+        let q : midOf a n t ≡ y = same-eq (midOf a n t) y f in
+        rw (same-yes t (putMid a n t y) (sym (put-same a n t) ∙ ap (putMid a n t) q))
+    go false f = rw (same-no t (putMid a n t y) (λ q. true≢false (sym (same-yes (midOf a n t) y (ap (midOf a n) q ∙ mid-put a n t y h l)) ∙ f)))
+
+pub in-differs : (change : List ℕ → List ℕ) (t : List ℕ) (k : ℕ) → length (change (blockOf t k)) ≡ length (blockOf t k) → 512 * k + 512 ≤ length t
+    → differ (blockOf t k) (change (blockOf t k)) ≡ differ t (changedIn t k change)
+unfolding changedIn blockOf
+in-differs change t k e h =
+    let n : length (take 512 (drop (512 * k) t)) ≡ 512 = rw length-take (rw length-drop (omega arith)) in
+    lent-differs t (change (take 512 (drop (512 * k) t))) (512 * k) 512 (omega arith) (e ∙ n) ∙ rw drop-drop
+
+pub settle-differs : (t : List ℕ) (k state : ℕ) (name : List ℕ) {y : List ℕ} {r : ℕ} → 512 * k + 512 ≤ length t
+    → y ≡ settled state name (midOf (512 * k) (512 * k + 512 - 512 * k) t) → r ≡ differ (midOf (512 * k) (512 * k + 512 - 512 * k) t) y
+    → r ≡ differ t (putMid (512 * k) (512 * k + 512 - 512 * k) t y)
+unfolding settled
+settle-differs t k state name h e f =
+    f
+    ∙ lent-differs t _ (512 * k) (512 * k + 512 - 512 * k) (omega arith)
+    (ap length e ∙ renewed-length _ state _ name ∙ mid-len (512 * k) (512 * k + 512) t h)
 
 pub if-yes : (c : Bool) (a b : List ℕ) {y : List ℕ} → c ≡ true → y ≡ a → y ≡ cond c a b
 if-yes c a b e f = rw e f

@@ -1,10 +1,11 @@
 -- The table after an effect: a change of the chosen records' blocks, and every other block as it was.
-use Prim.Native.Nat.{ℕ, suc, _+_, _*_, _/_, _<_}
+use Prim.Native.Nat.{ℕ, zero, suc, _+_, _*_, _/_, _<_}
 use mathlib.Core.Bool.{Bool, true, false, _&&_, _||_, cond}
 use mathlib.Core.Path.{_≡_}
 use mathlib.Core.List.{List, _++_}
 use lib.Dec.{eqb, leb, ltb}
 use lib.ListN.{length, getD, take, drop}
+use Rattle.octets.specs.Name.{same}
 use Rattle.record.specs.Fields.{bitsOf}
 use Rattle.record.specs.RecordBlock.{soundRecord}
 use Rattle.table.specs.Blocks.{blockOf, tableOf}
@@ -41,3 +42,11 @@ pub record Kept (b c : List ℕ) : Type 0 where
 pub record Keeps (change : List ℕ → List ℕ) : Type 0 where
   pub each : (b : List ℕ) → length b ≡ 512 → Kept b (change b)
   pub twice : (b : List ℕ) → length b ≡ 512 → change (change b) ≡ change b
+
+-- 1 if two pieces have other bytes, else 0; how many of the first n records have other bytes in y than in x
+unfoldable pub differ : List ℕ → List ℕ → ℕ
+differ x y = cond (same x y) 0 1
+
+unfoldable pub alteredUpTo : List ℕ → List ℕ → ℕ → ℕ
+alteredUpTo x y zero = 0
+alteredUpTo x y (suc n) = alteredUpTo x y n + differ (blockOf x (suc n)) (blockOf y (suc n))

@@ -1,5 +1,6 @@
 // Records written anew: another state, pending cleared, another server name, a new check word.
 use lookup::Found;
+use octets::name;
 use octets::number;
 use octets::run;
 use octets::sum;
@@ -9,7 +10,7 @@ ghost use mathlib.Core.Bool.{cond};
 ghost use Prim.Native.Nat.{_+_, _*_, _≤_};
 ghost use lib.ListN.{length};
 ghost use Rattle.lookup.specs.Find.{endOf};
-ghost use Rattle.rewrite.specs.Change.{changedIn, changedFound};
+ghost use Rattle.rewrite.specs.Change.{changedIn, changedFound, differ};
 ghost use Rattle.rewrite.specs.Renew.{sealed, renewed, settled, Fitting};
 
 // Gives a block a new check word: the old one, less what the block sums to.
@@ -33,44 +34,56 @@ fn renew(b: &mut [u8], state: u8, bits: u8, name: &[u8])
     seal(b);
 }
 
-// Gives a record block another state and another server name, and clears pending.
-fn settle_block(b: &mut [u8], state: u8, name: &[u8])
-    requires { ⌜ (length (now b) ≡ 512) × Fitting state (now name) ⌝ }
-    ensures { λ _. ⌜ now (b .exit) ≡ settled state (now (name .entry)) (now (b .entry)) ⌝ }
+// 1 if two pieces have other bytes, else 0.
+fn differ(a: &[u8], b: &[u8]) -> u32
+    ensures { λ r. ⌜ (r ≡ differ (now (a .entry)) (now (b .entry))) × (r ≤ 1) ⌝ }
 {
+    if name::same(a, b) { 0 } else { 1 }
+}
+
+// Gives a record block another state and another server name, and clears pending. Answers 1 if it has other bytes then, else 0: a copy of the
+// block as it came tells that of any change.
+fn settle_block(b: &mut [u8], state: u8, name: &[u8]) -> u32
+    requires { ⌜ (length (now b) ≡ 512) × Fitting state (now name) ⌝ }
+    ensures { λ r. ⌜ (now (b .exit) ≡ settled state (now (name .entry)) (now (b .entry))) × (r ≡ differ (now (b .entry)) (now (b .exit))) × (r ≤ 1) ⌝ }
+{
+    let mut before = [0u8; table::BLOCK];
+    run::copy(&mut before, b);
     let bits = Record::read(b).cleared();
     renew(b, state, bits, name);
+    differ(&before, b)
 }
 
 // The same, of block k of a table.
-fn settle(t: &mut [u8], k: usize, state: u8, name: &[u8])
+fn settle(t: &mut [u8], k: usize, state: u8, name: &[u8]) -> u32
     requires { ⌜ (512 * k + 512 ≤ length (now t)) × Fitting state (now name) ⌝ }
-    ensures { λ _. ⌜ now (t .exit) ≡ changedIn (now (t .entry)) k (settled state (now (name .entry))) ⌝ }
+    ensures { λ r. ⌜ (now (t .exit) ≡ changedIn (now (t .entry)) k (settled state (now (name .entry))))
+        × (r ≡ differ (now (t .entry)) (now (t .exit))) × (r ≤ 1) ⌝ }
 {
     let at = table::BLOCK * k;
-    settle_block(&mut t[at..at + table::BLOCK], state, name);
+    settle_block(&mut t[at..at + table::BLOCK], state, name)
 }
 
 // The same, if the record is chosen.
-pub fn settle_if(t: &mut [u8], k: usize, chosen: bool, state: u8, name: &[u8])
+pub fn settle_if(t: &mut [u8], k: usize, chosen: bool, state: u8, name: &[u8]) -> u32
     requires { ⌜ (512 * k + 512 ≤ length (now t)) × Fitting state (now name) ⌝ }
-    ensures { λ _. ⌜ now (t .exit) ≡ cond chosen (changedIn (now (t .entry)) k (settled state (now (name .entry)))) (now (t .entry)) ⌝ }
+    ensures { λ r. ⌜ (now (t .exit) ≡ cond chosen (changedIn (now (t .entry)) k (settled state (now (name .entry)))) (now (t .entry)))
+        × (r ≡ differ (now (t .entry)) (now (t .exit))) × (r ≤ 1) ⌝ }
 {
     if chosen {
-        settle(t, k, state, name);
-        return;
+        return settle(t, k, state, name);
     }
+    0
 }
 
 // The same, of a record that was found.
-pub fn settle_found(t: &mut [u8], f: Found, state: u8, name: &[u8])
+pub fn settle_found(t: &mut [u8], f: Found, state: u8, name: &[u8]) -> u32
     requires { ⌜ (endOf f ≤ length (now t)) × Fitting state (now name) ⌝ }
-    ensures { λ _. ⌜ now (t .exit) ≡ changedFound (now (t .entry)) f (settled state (now (name .entry))) ⌝ }
+    ensures { λ r. ⌜ (now (t .exit) ≡ changedFound (now (t .entry)) f (settled state (now (name .entry))))
+        × (r ≡ differ (now (t .entry)) (now (t .exit))) × (r ≤ 1) ⌝ }
 {
     match f {
-        Found::At(k) => {
-            settle(t, k as usize, state, name);
-        }
-        Found::Nothing => {}
+        Found::At(k) => settle(t, k as usize, state, name),
+        Found::Nothing => 0,
     }
 }

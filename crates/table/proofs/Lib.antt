@@ -1,3 +1,4 @@
 pub mod Blocks
 pub mod First
+pub mod Sound
 pub mod Verdict

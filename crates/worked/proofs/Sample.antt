@@ -15,7 +15,7 @@ use Rattle.record.specs.RecordBlock.{recordOf, soundRecord}
 use Rattle.table.specs.Blocks.{blockOf, tableOf, publicAt, privateAt}
 use Rattle.table.specs.Check.{risesAt, soundAt, firstBad, checkRecords, checkTable}
 use Rattle.lookup.specs.Find.{firstFrom, publicIs, findPublic, privateIs, findPrivate, serverHere, servesAt, findServer}
-use Rattle.lookup.specs.Network.{networkIs, seek, networkNumber, roamsIn}
+use Rattle.lookup.specs.Network.{networkIs, seek, networkNumber, roamsIn, mayRoam}
 use Rattle.rewrite.specs.Change.{changedAt, afterOf}
 use Rattle.rewrite.specs.Renew.{negated, sealed, renewed, settled}
 use Rattle.diameter.specs.Avp.{padded, headOf, vendorOf, valueOf, sound}
@@ -29,7 +29,7 @@ use Rattle.reading.specs.Rules.{contentFault, ruleBy, rule}
 use Rattle.requests.specs.Judged.{nothing, judge}
 use Rattle.requests.specs.Request.{headerFault, missingFrom, missing, complete, readWalk, readIn, identities}
 use Rattle.decisions.specs.Reply.{served}
-use Rattle.decisions.specs.Authorization.{mayRoam, authorizeRecord, authorizeFound, authorize}
+use Rattle.decisions.specs.Authorization.{authorizeRecord, authorizeFound, authorize}
 use Rattle.decisions.specs.Location.{locateRecord, locateFound, locate}
 use Rattle.decisions.specs.Types.{groupOf, startOf, effectOf}
 use Rattle.decisions.specs.Assignment.{identityFault, every, isOne, findAll, numbersOf, ownedHere, ownedUpTo, recordsOf, allKnown, ownerOf, ownAt, storesAt}

@@ -1,4 +1,3 @@
-use Rattle.decisions.proofs.Ready.{sound-ready}
 use Rattle.deciding.proofs.Answering.{plan-reply, plan-table, given-room, answers, answers-most, plan-fits}
 use borrow.Author.Needs.{needs}
 use Rattle.deciding.proofs.answer_read.Statement.{statement}
@@ -8,9 +7,9 @@ pub answer-read-spec : {M : Type 1} → statement M
 answer-read-spec =
     tie.close
     (tie.spec
-    (λ c κs. search (needs, sound-ready))
+    (λ c κs. search needs)
     (λ c κs. search (needs, given-room, plan-reply))
-    (λ c κs. search (needs, sound-ready, plan-fits))
+    (λ c κs. search (needs, plan-fits))
     (λ c. search needs)
     (λ c. search needs)
     (λ c. search (needs, answers-most, answers, plan-reply, plan-table)))

@@ -1,4 +1,5 @@
-use Rattle.deciding.proofs.Deciding.{ready-whole, sar-planned}
+use Rattle.deciding.proofs.Deciding.{sar-planned}
+use Rattle.table.proofs.Sound.{sound-first}
 use borrow.Author.Needs.{needs}
 use Rattle.deciding.proofs.plan_sar.Statement.{statement}
 use Rattle.deciding.proofs.plan_sar.Tie as tie
@@ -12,6 +13,6 @@ plan-sar-spec =
     (λ c κs. search needs)
     (λ c κs. search needs)
     (λ c κs. search needs)
-    (λ c κs. search (needs, ready-whole))
+    (λ c κs. search (needs, sound-first))
     (λ c κs. search needs)
     (λ c. search (needs, sar-planned)))

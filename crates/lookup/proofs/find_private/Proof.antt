@@ -1,21 +1,25 @@
-use Prim.Native.Nat.{_≤_, _-_, _+_}
+use Prim.Native.Nat.{_≤_, _-_, _+_, _*_}
+use lib.ListN.{length}
 use mathlib.Core.Path.{_≡_, refl}
 use Rattle.lookup.specs.Find.{firstFrom, findPrivate, privateIs}
 use Rattle.lookup.proofs.First.{first-start, first-here, first-next, first-nothing}
 use Rattle.lookup.proofs.Scans.{private-here}
+use Rattle.table.proofs.Sound.{sound-few, sound-size}
 use borrow.Author.Needs.{needs}
 use Rattle.lookup.proofs.find_private.Statement.{statement}
 use Rattle.lookup.proofs.find_private.Tie as tie
 
 abbrev Inv-loop : tie.InvT-loop
-Inv-loop t count name k₀ k = (1 ≤ k) × (k ≤ count + 1) × (findPrivate t count name ≡ firstFrom (privateIs t name) (count + 1 - k) k)
+Inv-loop t count name k₀ k =
+    (count ≤ 4096) × (length t ≡ 512 * (count + 1))
+    × (1 ≤ k) × (k ≤ count + 1) × (findPrivate t count name ≡ firstFrom (privateIs t name) (count + 1 - k) k)
 
 abbrev μ-loop : tie.MeasureT-loop
 μ-loop t count name k₀ k = count + 1 - k
 
 loop-holds : tie.Need-loop-holds Inv-loop μ-loop
 unfolding findPrivate
-loop-holds c = (search needs, search needs, first-start _ _ refl)
+loop-holds c = (search (needs, sound-few), search (needs, sound-size), search needs, search needs, first-start _ _ refl)
 
 pub find-private-spec : {M : Type 1} → statement M
 find-private-spec =

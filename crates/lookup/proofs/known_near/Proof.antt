@@ -1,4 +1,5 @@
 use Rattle.lookup.proofs.Scans.{private-known}
+use Rattle.table.proofs.Sound.{sound-block}
 use borrow.Author.Needs.{needs}
 use Rattle.lookup.proofs.known_near.Statement.{statement}
 use Rattle.lookup.proofs.known_near.Tie as tie
@@ -7,7 +8,7 @@ pub known-near-spec : {M : Type 1} → statement M
 known-near-spec =
     tie.close
     (tie.spec
-    (λ c κs. search needs)
+    (λ c κs. search (needs, sound-block))
     (λ c κs. search needs)
     (λ c κs. search needs)
     (λ c. search (needs, private-known))

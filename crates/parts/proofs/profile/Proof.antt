@@ -1,4 +1,4 @@
-use Rattle.parts.proofs.Fields.{alone, record-room, profile-room, profile-there, profile-short, profile-none}
+use Rattle.parts.proofs.Fields.{record-room, profile-there, profile-short, profile-none}
 use borrow.Author.Needs.{needs}
 use Rattle.parts.proofs.profile.Statement.{statement}
 use Rattle.parts.proofs.profile.Tie as tie
@@ -8,8 +8,8 @@ profile-spec =
     tie.close
     (tie.spec
     (λ c κs. search needs)
-    (λ c κs. search (needs, record-room, alone))
-    (λ c κs. search (needs, profile-room))
+    (λ c κs. search (needs, record-room))
+    (λ c κs. search needs)
     (λ c. search (needs, profile-there, profile-short))
     (λ c. search needs)
     (λ c. search (needs, profile-none)))

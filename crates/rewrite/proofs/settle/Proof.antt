@@ -1,4 +1,4 @@
-use Rattle.rewrite.proofs.Writes.{settle-put}
+use Rattle.rewrite.proofs.Writes.{settle-put, settle-differs}
 use borrow.Author.Needs.{needs}
 use Rattle.rewrite.proofs.settle.Statement.{statement}
 use Rattle.rewrite.proofs.settle.Tie as tie
@@ -14,4 +14,4 @@ settle-spec =
     (λ c. search needs)
     (λ c κs. search needs)
     (λ c. search needs)
-    (λ c. search (needs, settle-put)))
+    (λ c. (search (needs, settle-put), search (needs, settle-differs), search needs)))

@@ -1,4 +1,4 @@
-use Rattle.rewrite.proofs.Writes.{found-fits, found-put, found-none}
+use Rattle.rewrite.proofs.Writes.{found-fits, found-put, found-none, differ-none}
 use borrow.Author.Needs.{needs}
 use Rattle.rewrite.proofs.settle_found.Statement.{statement}
 use Rattle.rewrite.proofs.settle_found.Tie as tie
@@ -12,5 +12,5 @@ settle-found-spec =
     (λ c κs. search (needs, found-fits))
     (λ c. search needs)
     (λ c. search needs)
-    (λ c. search (needs, found-put))
-    (λ c. search (needs, found-none)))
+    (λ c. (search (needs, found-put), search needs, search needs))
+    (λ c. (search (needs, found-none), search (needs, differ-none), search needs)))

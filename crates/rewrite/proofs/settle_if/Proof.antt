@@ -1,4 +1,4 @@
-use Rattle.rewrite.proofs.Writes.{if-yes, if-no}
+use Rattle.rewrite.proofs.Writes.{if-yes, if-no, differ-none}
 use borrow.Author.Needs.{needs}
 use Rattle.rewrite.proofs.settle_if.Statement.{statement}
 use Rattle.rewrite.proofs.settle_if.Tie as tie
@@ -9,5 +9,5 @@ settle-if-spec =
     (tie.spec
     (λ c κs. search needs)
     (λ c. search needs)
-    (λ c. search (needs, if-yes))
-    (λ c. search (needs, if-no)))
+    (λ c. (search (needs, if-yes), search needs, search needs))
+    (λ c. (search (needs, if-no), search (needs, differ-none), search needs)))

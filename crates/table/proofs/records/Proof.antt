@@ -7,7 +7,8 @@ use Rattle.table.proofs.records.Statement.{statement}
 use Rattle.table.proofs.records.Tie as tie
 
 abbrev Inv-loop : tie.InvT-loop
-Inv-loop t count networks file k₀ k = (1 ≤ k) × (k ≤ count + 1) × (checkRecords t count networks file ≡ firstBad (soundAt t networks file) count (count + 1 - k) k)
+Inv-loop t count networks file k₀ k =
+    (1 ≤ k) × (k ≤ count + 1) × (checkRecords t count networks file ≡ firstBad (soundAt t networks file) count (count + 1 - k) k)
 
 abbrev μ-loop : tie.MeasureT-loop
 μ-loop t count networks file k₀ k = count + 1 - k

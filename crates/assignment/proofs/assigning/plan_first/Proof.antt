@@ -1,5 +1,5 @@
 use Rattle.lookup.proofs.Scans.{public-end}
-use Rattle.decisions.proofs.Ready.{public-within}
+use Rattle.decisions.proofs.Within.{public-within}
 use Rattle.assignment.proofs.Sars.{first-promise}
 use borrow.Author.Needs.{needs}
 use Rattle.assignment.proofs.assigning.plan_first.Statement.{statement}

@@ -1,4 +1,4 @@
-use Rattle.decisions.proofs.Ready.{within-from, within-to}
+use Rattle.decisions.proofs.Within.{within-from, within-to}
 use Rattle.assignment.proofs.Sars.{user-absent, user-given}
 use borrow.Author.Needs.{needs}
 use Rattle.assignment.proofs.assigning.user_known.Statement.{statement}

@@ -1,27 +1,30 @@
-use Prim.Native.Nat.{_-_}
+use Prim.Native.Nat.{_+_, _-_, _≤_}
 use mathlib.Core.Path.{_≡_}
 use lib.ListN.{length}
-use Rattle.lookup.specs.SoundTable.{Ordered}
+use Rattle.table.specs.SoundTable.{SoundTable}
 use Rattle.lookup.proofs.Scans.{public-end}
-use Rattle.rewrite.specs.Change.{afterOf}
+use Rattle.rewrite.specs.Change.{afterOf, alteredUpTo}
 use Rattle.rewrite.specs.Renew.{settled}
+use Rattle.rewrite.proofs.Counts.{sum-start, sum-end}
 use Rattle.diameter.specs.Message.{bodyOf}
 use Rattle.requests.specs.Request.{identities}
 use Rattle.requests.proofs.Naming.{named-less}
 use Rattle.decisions.specs.Assignment.{isOne, findAll, numbersOf}
-use Rattle.assignment.proofs.NameTurns.{restOf, settle-start, settle-none, settle-turn, settle-ordered, settle-end}
+use Rattle.assignment.proofs.NameTurns.{restOf, settle-start, settle-none, settle-turn, settle-sound, settle-counts, settle-few, settle-end}
 use borrow.Author.Needs.{needs}
 use Rattle.assignment.proofs.naming.settle_named.Statement.{statement}
 use Rattle.assignment.proofs.naming.settle_named.Tie as tie
 
 abbrev Inv-loop : tie.InvT-loop
-Inv-loop t₀ count req state server at₀ t at =
-    Ordered t count × (length t ≡ length t₀)
+Inv-loop t₀ count req state server altered₀ at₀ t altered at =
+    SoundTable t count × (length t ≡ length t₀) × (altered ≤ 4096)
     × (afterOf t count (isOne (numbersOf (findAll t count (restOf req at)))) (settled state server)
     ≡ afterOf t₀ count (isOne (numbersOf (findAll t₀ count (identities (bodyOf req))))) (settled state server))
+    × (altered + alteredUpTo t (afterOf t₀ count (isOne (numbersOf (findAll t₀ count (identities (bodyOf req))))) (settled state server)) count
+    ≡ alteredUpTo t₀ (afterOf t₀ count (isOne (numbersOf (findAll t₀ count (identities (bodyOf req))))) (settled state server)) count)
 
 abbrev μ-loop : tie.MeasureT-loop
-μ-loop t₀ count req state server at₀ t at = length req - at
+μ-loop t₀ count req state server altered₀ at₀ t altered at = length req - at
 
 pub settle-named-spec : {M : Type 1} → statement M
 settle-named-spec =
@@ -29,16 +32,17 @@ settle-named-spec =
     (tie.spec
     Inv-loop
     μ-loop
-    (λ c. search (needs, settle-start))
+    (λ c. (search needs, search needs, search needs, search (needs, settle-start), search (needs, sum-start)))
     (λ c κs. search needs)
     (λ c. search needs)
     (λ c. search needs)
     (λ c. search needs)
-    (λ c. search (needs, settle-none))
+    (λ c. (search (needs, settle-none), search (needs, sum-end, settle-none)))
     (λ c κs. search needs)
     (λ c κs. search needs)
     (λ c κs. search (needs, public-end))
-    (λ c. search (needs, named-less))
-    (λ c. (search (needs, settle-ordered), search needs, search (needs, settle-turn)))
     (λ c. search needs)
-    (λ c. search (needs, settle-end)))
+    (λ c. search (needs, named-less))
+    (λ c. (search (needs, settle-sound), search needs, search (needs, settle-few), search (needs, settle-turn), search (needs, settle-counts)))
+    (λ c. search needs)
+    (λ c. (search (needs, settle-end), search (needs, sum-end, settle-end))))

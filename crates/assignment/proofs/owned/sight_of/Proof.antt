@@ -1,5 +1,7 @@
-use Prim.Native.Nat.{_≤_, _-_}
+use Prim.Native.Nat.{_+_, _-_, _*_, _≤_}
 use mathlib.Core.Path.{_≡_}
+use lib.ListN.{length}
+use Rattle.table.proofs.Sound.{sound-few, sound-size}
 use Rattle.assignment.specs.Survey.{sightOf}
 use Rattle.assignment.proofs.Looks.{sight-none, sight-turn, sight-end}
 use borrow.Author.Needs.{needs}
@@ -7,7 +9,7 @@ use Rattle.assignment.proofs.owned.sight_of.Statement.{statement}
 use Rattle.assignment.proofs.owned.sight_of.Tie as tie
 
 abbrev Inv-loop : tie.InvT-loop
-Inv-loop t count user server seen₀ k₀ seen k = (k ≤ count) × (seen ≡ sightOf t user server k)
+Inv-loop t count user server seen₀ k₀ seen k = (count ≤ 4096) × (length t ≡ 512 * (count + 1)) × (k ≤ count) × (seen ≡ sightOf t user server k)
 
 abbrev μ-loop : tie.MeasureT-loop
 μ-loop t count user server seen₀ k₀ seen k = count - k
@@ -18,7 +20,7 @@ sight-of-spec =
     (tie.spec
     Inv-loop
     μ-loop
-    (λ c. search (needs, sight-none))
+    (λ c. (search (needs, sound-few), search (needs, sound-size), search needs, search (needs, sight-none)))
     (λ c. search needs)
     (λ c κs. search needs)
     (λ c κs. search needs)

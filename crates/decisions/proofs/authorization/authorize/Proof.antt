@@ -1,5 +1,5 @@
 use Rattle.decisions.proofs.Authorizing.{authorize-found}
-use Rattle.decisions.proofs.Ready.{public-within}
+use Rattle.decisions.proofs.Within.{public-within}
 use borrow.Author.Needs.{needs}
 use Rattle.decisions.proofs.authorization.authorize.Statement.{statement}
 use Rattle.decisions.proofs.authorization.authorize.Tie as tie

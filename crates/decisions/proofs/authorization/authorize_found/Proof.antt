@@ -1,5 +1,5 @@
 use Rattle.decisions.proofs.Authorizing.{authorize-known, authorize-stranger, authorize-none}
-use Rattle.decisions.proofs.Ready.{within-from, within-to}
+use Rattle.decisions.proofs.Within.{within-from, within-to}
 use borrow.Author.Needs.{needs}
 use Rattle.decisions.proofs.authorization.authorize_found.Statement.{statement}
 use Rattle.decisions.proofs.authorization.authorize_found.Tie as tie

@@ -1,5 +1,6 @@
 use Rattle.decisions.proofs.Replies.{carry-alone, carry-server, carry-capable, carry-first}
-use Rattle.decisions.proofs.Ready.{server-later}
+use Rattle.decisions.proofs.Within.{server-later}
+use Rattle.table.proofs.Sound.{sound-block}
 use borrow.Author.Needs.{needs}
 use Rattle.decisions.proofs.choice.carry.Statement.{statement}
 use Rattle.decisions.proofs.choice.carry.Tie as tie
@@ -11,7 +12,7 @@ carry-spec =
     (λ c. search needs)
     (λ c κs. search needs)
     (λ c. search needs)
-    (λ c κs. search needs)
+    (λ c κs. search (needs, sound-block))
     (λ c. search needs)
     (λ c κs. search needs)
     (λ c. search needs)

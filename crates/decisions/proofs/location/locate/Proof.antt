@@ -1,5 +1,5 @@
 use Rattle.decisions.proofs.Locating.{locate-found}
-use Rattle.decisions.proofs.Ready.{public-within}
+use Rattle.decisions.proofs.Within.{public-within}
 use borrow.Author.Needs.{needs}
 use Rattle.decisions.proofs.location.locate.Statement.{statement}
 use Rattle.decisions.proofs.location.locate.Tie as tie

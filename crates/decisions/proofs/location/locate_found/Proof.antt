@@ -1,5 +1,5 @@
 use Rattle.decisions.proofs.Locating.{locate-known, locate-none}
-use Rattle.decisions.proofs.Ready.{within-from, within-to}
+use Rattle.decisions.proofs.Within.{within-from, within-to}
 use borrow.Author.Needs.{needs}
 use Rattle.decisions.proofs.location.locate_found.Statement.{statement}
 use Rattle.decisions.proofs.location.locate_found.Tie as tie

@@ -1,3 +1,4 @@
+use Rattle.table.proofs.Sound.{sound-block}
 use Rattle.decisions.proofs.Locating.{locate-by}
 use borrow.Author.Needs.{needs}
 use Rattle.decisions.proofs.location.locate_record.Statement.{statement}
@@ -7,9 +8,9 @@ pub locate-record-spec : {M : Type 1} → statement M
 locate-record-spec =
     tie.close
     (tie.spec
+    (λ c κs. search (needs, sound-block))
+    (λ c. search needs)
     (λ c κs. search needs)
-    (λ c. search needs)
-    (λ c. search needs)
     (λ c κs. search needs)
     (λ c κs. search needs)
     (λ c κs. search needs)

@@ -34,7 +34,8 @@ sum-fours-spec =
       search needs,
       fours-more _ _ _ _ _ _ _ _ (c .before .before .before .before .before .before .before .loop .inv .1)
           (c .before .before .before .before .before .two-words .ensures) (c .before .before .before .before .two-words2 .ensures)
-          (c .before .before .before .plus-first .ensures) (c .before .before .plus-second .ensures) (c .before .plus-first2 .ensures) (c .plus-second2 .ensures),
+          (c .before .before .before .plus-first .ensures) (c .before .before .plus-second .ensures) (c .before .plus-first2 .ensures)
+          (c .plus-second2 .ensures),
     ))
     (λ c κs. search needs)
     (λ c κs. search needs)

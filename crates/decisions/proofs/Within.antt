@@ -1,41 +1,14 @@
--- What a sound table says to a decision, and where a record that was found stands.
-use Prim.Native.Nat.{ℕ, _≤_}
+-- Where a record that was found stands.
 use mathlib.Core.Bool.{Bool}
+use Prim.Native.Nat.{ℕ, _≤_}
 use mathlib.Core.Path.{_≡_, sym, _∙_}
 use mathlib.Core.List.{List}
 use native.Mathlib.Omega.{arith}
-use lib.ListN.{getD}
-use Rattle.record.specs.HeaderBlock.{headerOf}
-use Rattle.table.specs.Blocks.{blockOf}
 use Rattle.lookup.specs.Find.{firstFrom, publicIs, findPublic, servesAt, findServer}
-use Rattle.lookup.specs.Network.{Short}
-use Rattle.lookup.specs.SoundTable.{SoundTable}
 use Rattle.lookup.specs.declared.Found.{Found}
 use Rattle.lookup.specs.declared.Found.the-variants.{At}
 use Rattle.lookup.proofs.First.{first-stands}
-use Rattle.lookup.proofs.Sound.{sound-header, sound-count, sound-places, sound-ordered}
-use Rattle.decisions.specs.Planned.{Ready}
 use Rattle.decisions.specs.Gives.{Within}
-
-pub sound-ready : (t : List ℕ) (file count : ℕ) → SoundTable t file count → Ready t count
-unfolding headerOf
-sound-ready t file count s =
-    record {
-      few = sound-count t file count s;
-      ordered = sound-ordered t file count s;
-      networks = sound-header t file count s .networks;
-      short = sound-places t file count s;
-    }
-
-module _ (t : List ℕ) (count : ℕ) {h : List ℕ} (ready : Ready t count) (e : h ≡ blockOf t 0) where
-  pub ready-networks : getD h 15 0 ≤ 8
-  ready-networks = rw e (ready .networks)
-
-  pub ready-short : Short h (getD h 15 0)
-  ready-short = rw e (ready .short)
-
-pub short-same : (h : List ℕ) (n : ℕ) → n ≡ getD h 15 0 → Short h (getD h 15 0) → Short h n
-short-same h n e s = rw e s
 
 -- A search from block 1 on finds a record, and no header.
 first-within : (p : ℕ → Bool) (count : ℕ) {f : Found} → f ≡ firstFrom p count 1 → Within count f

@@ -1,0 +1,124 @@
+-- What a sound table says, and that a table that says so is sound.
+use Prim.Native.Nat.{ℕ, suc, _+_, _-_, _*_, _<_, _≤_}
+use mathlib.Core.Bool.{Bool, true, false, _&&_, cond, true≢false}
+use mathlib.Core.Path.{_≡_, refl, sym, _∙_, ap}
+use mathlib.Core.List.{List}
+use native.Mathlib.Omega.{arith}
+use lib.ListN.{length, getD}
+use lib.Dec.{leb, eqb}
+use borrow.Author.Tests.{eqb-true, leb-true, lt-leb, le-leb, eq-eqb, lt-ltb}
+use Rattle.octets.specs.Name.{orderOf}
+use Rattle.octets.specs.declared.name.Order.{Order}
+use Rattle.octets.specs.declared.name.Order.the-variants.{Less, Equal, Greater}
+use Rattle.octets.specs.All.{allBelow}
+use Rattle.octets.proofs.All.{and-left, and-right, all-at}
+use Rattle.record.specs.Fields.{networksOf, publicSize, privateSize}
+use Rattle.record.specs.HeaderBlock.{headerOf, soundHeader}
+use Rattle.record.specs.Networks.{placeAt, usedPlace, soundPlace, soundNetworks}
+use Rattle.record.specs.RecordBlock.{recordOf, soundRecord}
+use Rattle.record.proofs.Tests.{RecordTests, record-says, Limits, limits-say, HeaderTests, header-says}
+use Rattle.table.specs.Blocks.{blockOf, publicAt}
+use Rattle.table.specs.Check.{isLess, risesAt, soundAt, checkRecords, checkTable}
+use Rattle.table.specs.SoundTable.{SoundTable}
+use Rattle.table.specs.declared.Checked.the-variants.{Sound, Bad}
+use Rattle.table.proofs.First.{bad-sound, good-each, good-count, all-good}
+
+-- The tests of a table, taken out of the check once.
+pub record TableTests (t : List ℕ) (file count : ℕ) : Type 0 where
+  pub size : length t ≡ 512 * (count + 1)
+  pub counted : headerOf (blockOf t 0) .count ≡ count
+  pub header : soundHeader (blockOf t 0) ≡ true
+  pub each : (k : ℕ) → 1 ≤ k → k ≤ count → soundAt t (headerOf (blockOf t 0) .networks) file k ≡ true
+
+pub table-says : (t : List ℕ) (file count : ℕ) → checkTable t file ≡ Sound count → TableTests t file count
+unfolding checkTable checkRecords
+table-says t file count e = go (leb 512 (length t) && soundHeader (blockOf t 0) && eqb (length t) (512 * (headerOf (blockOf t 0) .count + 1))) refl e
+  where
+    good : ℕ → Bool
+    good = soundAt t (headerOf (blockOf t 0) .networks) file
+
+    go : (x : Bool) → (leb 512 (length t) && soundHeader (blockOf t 0) && eqb (length t) (512 * (headerOf (blockOf t 0) .count + 1))) ≡ x
+        → cond x (checkRecords t (headerOf (blockOf t 0) .count) (headerOf (blockOf t 0) .networks) file) (Bad 0) ≡ Sound count → TableTests t file count
+    go false f g = bad-sound (Bad 0) 0 count refl g
+    go true f g =
+        let n : headerOf (blockOf t 0) .count ≡ count = good-count good (headerOf (blockOf t 0) .count) count (headerOf (blockOf t 0) .count) 1 g in
+        let l : length t ≡ 512 * (headerOf (blockOf t 0) .count + 1) = eqb-true _ _ (and-right (leb 512 (length t) && soundHeader (blockOf t 0)) _ f) in
+        record {
+          size = omega arith;
+          counted = n;
+          header = and-right (leb 512 (length t)) _ (and-left (leb 512 (length t) && soundHeader (blockOf t 0)) _ f);
+          each = λ k a b. good-each good (headerOf (blockOf t 0) .count) count (headerOf (blockOf t 0) .count) 1 g k a (omega arith);
+        }
+
+pub table-holds : (t : List ℕ) (file count : ℕ) → TableTests t file count → checkTable t file ≡ Sound count
+unfolding checkTable checkRecords
+table-holds t file count s =
+    rw (s .header, s .counted, le-leb 512 (length t) (omega (arith, s .size)), eq-eqb (length t) (512 * (count + 1)) (s .size))
+    (all-good (soundAt t (headerOf (blockOf t 0) .networks) file) count count 1 (λ j a b. s .each j a (omega arith)))
+
+is-less : (o : Order) → isLess o ≡ true → o ≡ Less
+is-less Less e = refl
+is-less Equal e = absurd (true≢false (sym e))
+is-less Greater e = absurd (true≢false (sym e))
+
+-- The names of the networks of a sound header have room.
+place-room : (b : List ℕ) (n : ℕ) → n ≤ 8 → soundNetworks b n ≡ true → (i : ℕ) → i < n → getD b (placeAt i) 0 ≤ 31
+unfolding soundNetworks soundPlace usedPlace
+place-room b n h e i l =
+    let g : soundPlace b n i ≡ true = all-at (soundPlace b n) 8 (and-left (allBelow (soundPlace b n) 8) _ e) i (omega arith) in
+    let u : usedPlace b i ≡ true = rw (lt-ltb i n l) at g in
+    leb-true _ _ (and-right (leb 1 (getD b (placeAt i) 0)) _ (and-left (leb 1 (getD b (placeAt i) 0) && leb (getD b (placeAt i) 0) 31) _ u))
+
+module _ (t : List ℕ) (count : ℕ) (s : SoundTable t count) where
+  pub sound-tests : TableTests t (s .file) count
+  sound-tests = table-says t (s .file) count (s .checked)
+
+  -- how long it is, and where its blocks end
+  pub sound-size : length t ≡ 512 * (count + 1)
+  sound-size = sound-tests .size
+
+  pub sound-first : 512 * 0 + 512 ≤ length t
+  sound-first = omega (arith, sound-size)
+
+  pub sound-block : (k : ℕ) → k ≤ count → 512 * k + 512 ≤ length t
+  sound-block k h = omega (arith, sound-size)
+
+  -- what its header says
+  pub sound-header : HeaderTests (blockOf t 0)
+  sound-header = header-says (blockOf t 0) (sound-tests .header)
+
+  pub sound-few : count ≤ 4096
+  sound-few = rw (sound-tests .counted) at (sound-header .count)
+
+  module _ {h : List ℕ} (e : h ≡ blockOf t 0) where
+    pub sound-networks : networksOf h ≤ 8
+    unfolding headerOf
+    sound-networks = rw e (sound-header .networks)
+
+    pub sound-place : (i : ℕ) → i < networksOf h → getD h (placeAt i) 0 ≤ 31
+    unfolding headerOf
+    sound-place = rw e (place-room (blockOf t 0) (networksOf (blockOf t 0)) (sound-header .networks) (sound-header .places))
+
+  -- what each record says
+  pub sound-record : (k : ℕ) → 1 ≤ k → k ≤ count → soundRecord (blockOf t k) k (headerOf (blockOf t 0) .networks) (s .file) ≡ true
+  unfolding soundAt
+  sound-record k a b = and-left (soundRecord (blockOf t k) k (headerOf (blockOf t 0) .networks) (s .file)) _ (sound-tests .each k a b)
+
+  pub sound-limits : (k : ℕ) → 1 ≤ k → k ≤ count → Limits (recordOf (blockOf t k))
+  sound-limits k a b =
+      limits-say (recordOf (blockOf t k)) (record-says (blockOf t k) k (headerOf (blockOf t 0) .networks) (s .file) (sound-record k a b) .limits)
+
+  pub sound-public : (k : ℕ) → 1 ≤ k → k ≤ count → publicSize (blockOf t k) ≤ 128
+  unfolding recordOf
+  sound-public k a b = sound-limits k a b .public
+
+  -- its public identities rise
+  pub sound-rises : (k : ℕ) → 1 ≤ k → k < count → orderOf (publicAt t k) (publicAt t (suc k)) ≡ Less
+  unfolding soundAt risesAt
+  sound-rises k a b =
+      let g : risesAt t (suc k) ≡ true =
+      and-right (soundRecord (blockOf t (suc k)) (suc k) (headerOf (blockOf t 0) .networks) (s .file)) _
+      (sound-tests .each (suc k) (omega arith) (omega arith)) in
+      let l : 1 < suc k = omega arith in
+      let q : suc k - 1 ≡ k = omega arith in
+      is-less _ (rw (lt-leb _ _ l, q) at g)
