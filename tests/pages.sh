@@ -1,6 +1,7 @@
 #!/usr/bin/env bash
 # pages.sh: make help has a line for each target and no other; every `make X` that a page names is a target; README.md names the kit that
-# KIT-ID pins and the Rust that reference/Cargo.toml asks for; no line of a page has 200 characters.
+# KIT-ID pins and the Rust that reference/Cargo.toml asks for; the map in docs/ARCHITECTURE.md has every crate, and no arrow that crates.txt has not;
+# a file of crates/ that a page names is there; no line of a page has 200 characters.
 set -euo pipefail
 cd "$(dirname "$0")/.."
 
@@ -18,6 +19,20 @@ done
 grep -q -F "\`$(cat KIT-ID)\`" README.md || fail "README.md does not name the kit '$(cat KIT-ID)'"
 rust=$(sed -n 's/^rust-version = "\(.*\)"$/\1/p' reference/Cargo.toml)
 grep -q -F "rustc $rust or newer" README.md || fail "README.md does not ask for rustc $rust"
-pages=(README.md packaging/README.md docs/TABLE.md docs/INTEROPERABILITY.md docs/DIFFERENCES.md)
+map=$(sed -n '/^## The map/,/^[A-Z][a-z]* the left/p' docs/ARCHITECTURE.md | grep -E '^    ')
+arrows=0
+while read -r crate _ below; do
+    for on in ${below//,/ }; do
+        grep -q -E "^$crate:.* $on( |\$)" crates.txt || fail "the map has an arrow from $crate to $on, and crates.txt has none"
+        arrows=$((arrows + 1))
+    done
+done < <(grep -o -E '[a-z]+ → [a-z]+(, [a-z]+)*' <<<"$map")
+for crate in $(sed -n 's/^\([a-z]*\):.*/\1/p' crates.txt); do
+    grep -q -E "(^|  )$crate( →|$|  )" <<<"$map" || fail "the map has no crate $crate"
+done
+for path in $(grep -h -o -E '`[a-z]+/(src|specs|proofs|must-fail)/[A-Za-z_/]+(\.[a-z]+)?`' README.md docs/*.md | tr -d '`' | sort -u); do
+    [ -e "crates/$path" ] || [ -e "crates/$path.antt" ] || fail "a page names crates/$path, which is not there"
+done
+pages=(README.md packaging/README.md docs/*.md)
 ! LC_ALL=C.UTF-8 grep -n -E '^.{200}' "${pages[@]}" /dev/null >&2 || fail 'a line has 200 characters'
-echo "pages.sh: $(wc -l <<<"$targets") targets, each with its line; ${#pages[@]} pages"
+echo "pages.sh: $(wc -l <<<"$targets") targets, each with its line; $arrows arrows; ${#pages[@]} pages"
