@@ -42,7 +42,8 @@ module _ (s : List ℕ) (v : Verdict) where
   unfolding failedBy over
   wrote-no-failed b h k = rw (le-ltb 0 (v .lacks) h, le-ltb 0 (v .place) k) (record { count = refl; bytes = refl })
 
-pub wrote-end : (req : List ℕ) (v : Verdict) {b xs ys : List ℕ} {n r : ℕ} → Wrote (failedPart (failedBy req v)) b xs n → Wrote (proxies (bodyOf req)) (lent n xs) ys r
+pub wrote-end : (req : List ℕ) (v : Verdict) {b xs ys : List ℕ} {n r : ℕ} → Wrote (failedPart (failedBy req v)) b xs n
+    → Wrote (proxies (bodyOf req)) (lent n xs) ys r
     → Wrote (endBytes req v) b (back n xs ys) (n + r)
 unfolding endBytes
 wrote-end req v p q = then p q
@@ -54,7 +55,8 @@ module _ (req t file : List ℕ) (g : Given) where
   given-room h = room-left (givenBytes t file g) (endBytes req (g .verdict)) h
 
   module _ {b xs : List ℕ} {n : ℕ} (p : Wrote (givenBytes t file g) b xs n) where
-    pub end-room : length (restBytes req t file g) ≤ length b → length (failedPart (failedBy req (g .verdict))) + length (proxies (bodyOf req)) ≤ length (lent n xs)
+    pub end-room : length (restBytes req t file g) ≤ length b
+        → length (failedPart (failedBy req (g .verdict))) + length (proxies (bodyOf req)) ≤ length (lent n xs)
     unfolding restBytes endBytes
     end-room h =
         let k = room-right (givenBytes t file g) (endBytes req (g .verdict)) p h in

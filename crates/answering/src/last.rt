@@ -72,7 +72,8 @@ fn put_end(out: &mut [u8], req: &[u8], v: Verdict) -> usize
 // What depends on the decision, and the end.
 pub fn put_rest(out: &mut [u8], req: &[u8], t: &[u8], file: &[u8], count: usize, g: Given) -> usize
     requires { ⌜ SoundTable (now t) count × (length (restBytes (now req) (now t) (now file) g) ≤ length (now out)) ⌝ }
-    ensures { λ r. ⌜ (r ≤ length (now (out .entry))) × Wrote (restBytes (now (req .entry)) (now (t .entry)) (now (file .entry)) g) (now (out .entry)) (now (out .exit)) r ⌝ }
+    ensures { λ r. ⌜ (r ≤ length (now (out .entry)))
+        × Wrote (restBytes (now (req .entry)) (now (t .entry)) (now (file .entry)) g) (now (out .entry)) (now (out .exit)) r ⌝ }
 {
     let v = g.verdict;
     let a = given::put_given(out, t, file, count, g);

@@ -17,7 +17,8 @@ const MOST: usize = 36864;
 // All after the header.
 fn put_body(out: &mut [u8], req: &[u8], t: &[u8], file: &[u8], count: usize, g: Given) -> usize
     requires { ⌜ SoundTable (now t) count × (length (bodyBytes (now req) (now t) (now file) g) ≤ length (now out)) ⌝ }
-    ensures { λ r. ⌜ (r ≤ length (now (out .entry))) × Wrote (bodyBytes (now (req .entry)) (now (t .entry)) (now (file .entry)) g) (now (out .entry)) (now (out .exit)) r ⌝ }
+    ensures { λ r. ⌜ (r ≤ length (now (out .entry)))
+        × Wrote (bodyBytes (now (req .entry)) (now (t .entry)) (now (file .entry)) g) (now (out .entry)) (now (out .exit)) r ⌝ }
 {
     let v = g.verdict;
     let result = v.result;
@@ -29,7 +30,8 @@ fn put_body(out: &mut [u8], req: &[u8], t: &[u8], file: &[u8], count: usize, g: 
 // the header.
 fn put_answer(out: &mut [u8], req: &[u8], t: &[u8], file: &[u8], count: usize, g: Given) -> usize
     requires { ⌜ (20 ≤ length (now req)) × SoundTable (now t) count × (20 + length (bodyBytes (now req) (now t) (now file) g) ≤ length (now out)) ⌝ }
-    ensures { λ r. ⌜ (r ≤ length (now (out .entry))) × Wrote (answerBytes (now (req .entry)) (now (t .entry)) (now (file .entry)) g) (now (out .entry)) (now (out .exit)) r ⌝ }
+    ensures { λ r. ⌜ (r ≤ length (now (out .entry)))
+        × Wrote (answerBytes (now (req .entry)) (now (t .entry)) (now (file .entry)) g) (now (out .entry)) (now (out .exit)) r ⌝ }
 {
     let v = g.verdict;
     let result = v.result;
@@ -40,7 +42,8 @@ fn put_answer(out: &mut [u8], req: &[u8], t: &[u8], file: &[u8], count: usize, g
 
 // The answer built in an array of its own, and then copied to the lent buffer.
 pub fn answer(out: &mut [u8], req: &[u8], t: &[u8], file: &[u8], count: usize, g: Given) -> usize
-    requires { ⌜ (20 ≤ length (now req)) × SoundTable (now t) count × (length (answerBytes (now req) (now t) (now file) g) ≤ 36864) × (36864 ≤ length (now out)) ⌝ }
+    requires { ⌜ (20 ≤ length (now req)) × SoundTable (now t) count × (length (answerBytes (now req) (now t) (now file) g) ≤ 36864)
+        × (36864 ≤ length (now out)) ⌝ }
     ensures { λ r. ⌜ Wrote (answerBytes (now (req .entry)) (now (t .entry)) (now (file .entry)) g) (now (out .entry)) (now (out .exit)) r ⌝ }
 {
     let mut scratch = [0u8; MOST];

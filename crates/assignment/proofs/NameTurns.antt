@@ -68,12 +68,15 @@ module _ (t owner server : List ℕ) (kind : AssignmentType) (count : ℕ) (s : 
       unfolding findAll restOf
       survey-none d = sym (both-clean t owner server kind seen) ∙ rw (named-none s at r n d) at left
 
-      pub survey-turn : (place past : ℕ) {name : List ℕ} {f : Found} {look seen' : Survey} → r ≡ next.At place past → name ≡ dataAt s place → f ≡ findPublic t count name
-          → look ≡ lookFound t f owner server kind → seen' ≡ both seen look → both seen' (foundSurvey t owner server kind (findAll t count (restOf s past))) ≡ whole
+      pub survey-turn : (place past : ℕ) {name : List ℕ} {f : Found} {look seen' : Survey} → r ≡ next.At place past → name ≡ dataAt s place
+          → f ≡ findPublic t count name
+          → look ≡ lookFound t f owner server kind → seen' ≡ both seen look
+          → both seen' (foundSurvey t owner server kind (findAll t count (restOf s past))) ≡ whole
       unfolding findAll restOf
       survey-turn place past {name} {f} {look} {seen'} d en ef el es =
           rw (es, el, ef, en)
-          (both-assoc seen (lookFound t (findPublic t count (dataAt s place)) owner server kind) (foundSurvey t owner server kind (findAll t count (restOf s past)))
+          (both-assoc seen (lookFound t (findPublic t count (dataAt s place)) owner server kind)
+          (foundSurvey t owner server kind (findAll t count (restOf s past)))
           ∙ ap (both seen) (sym (survey-cons t owner server kind (findPublic t count (dataAt s place)) (findAll t count (restOf s past))))
           ∙ (rw (named-first s at r n place past d) at left))
 
@@ -95,7 +98,8 @@ module _ (change : List ℕ → List ℕ) (keeps : Keeps change) (x : List ℕ) 
       go : (j : ℕ) → j ≤ count → (u : Bool) → eqb j k ≡ u → changedAt (changedIn x k change) (isOne ks) change j ≡ changedAt x (isOne (k ∷ ks)) change j
       go j l true e =
           let q : j ≡ k = eqb-true j k e in
-          rw q (at-twice (changedIn x k change) x (isOne ks) (isOne (k ∷ ks)) change k keeps (in-here x k change keeps fits) (rw (eq-eqb k k refl)) (block-length x k fits))
+          rw q (at-twice (changedIn x k change) x (isOne ks) (isOne (k ∷ ks)) change k keeps (in-here x k change keeps fits) (rw (eq-eqb k k refl))
+          (block-length x k fits))
       go j l false e = at-same (changedIn x k change) x (isOne ks) (isOne (k ∷ ks)) change j (in-other x k change keeps fits j (eqb-false j k e)) (rw e)
 
   found-turn : (p : ℕ → Bool) (f : Found) → firstFrom p count 1 ≡ f → (fs : List Found)
@@ -134,7 +138,8 @@ module _ (change : List ℕ → List ℕ) (keeps : Keeps change) (x : List ℕ) 
 
         turned-counts : alteredUpTo x whole count ≡ differ x y + alteredUpTo y whole count
         turned-counts =
-            rw (← turned, ey) (found-counts change keeps x count (sound-size x count sound) (publicIs x m) f stood (isOne (numbersOf (findAll (changedFound x f change) count (restOf s past)))))
+            rw (← turned, ey) (found-counts change keeps x count (sound-size x count sound) (publicIs x m) f stood
+            (isOne (numbersOf (findAll (changedFound x f change) count (restOf s past)))))
 
 -- The same of settling, as the loop has it.
 module _ (x : List ℕ) (count : ℕ) (sound : SoundTable x count) (state : ℕ) (name : List ℕ) (fits : Fitting state name) (s : List ℕ) (at : ℕ) {whole : List ℕ}
@@ -187,7 +192,8 @@ module _ (s : List ℕ) (removal named : Bool) (r : Next) (n : identity.Named s 
       unfolding meantBy
       means-one g = rw (first-place s 20 r n place past d, no-place s past q m g)
 
-      pub means-second : (place2 past2 : ℕ) → q ≡ next.At place2 past2 → removal ≡ false → Fault (faultAt 5009 place2) ≡ meantBy removal named (placesFrom 20 (bodyOf s))
+      pub means-second : (place2 past2 : ℕ) → q ≡ next.At place2 past2 → removal ≡ false
+          → Fault (faultAt 5009 place2) ≡ meantBy removal named (placesFrom 20 (bodyOf s))
       unfolding meantBy
       means-second place2 past2 g e = rw (first-place s 20 r n place past d, first-place s past q m place2 past2 g, e)
 

@@ -31,15 +31,18 @@ one-append (x ∷ xs) ys j = rw (one-append xs ys j) (sym (or-assoc (eqb j x) (i
 owned-one : (t user : List ℕ) (n j : ℕ) → 1 ≤ j → isOne (ownedUpTo t user n) j ≡ (leb j n && ownedHere (blockOf t j) user)
 unfolding ownedUpTo isOne
 owned-one t user zero j h = rw (lt-leb j 0 h)
-owned-one t user (suc n) j h = one-append (ownedUpTo t user n) (cond (ownedHere (blockOf t (suc n)) user) (suc n ∷ []) []) j ∙ rw (owned-one t user n j h) (go (eqb j (suc n)) refl)
+owned-one t user (suc n) j h = one-append (ownedUpTo t user n) (cond (ownedHere (blockOf t (suc n)) user) (suc n ∷ []) []) j
+    ∙ rw (owned-one t user n j h) (go (eqb j (suc n)) refl)
   where
-    last : (u v : Bool) → ownedHere (blockOf t (suc n)) user ≡ u → eqb j (suc n) ≡ v → isOne (cond (ownedHere (blockOf t (suc n)) user) (suc n ∷ []) []) j ≡ (v && u)
+    last : (u v : Bool) → ownedHere (blockOf t (suc n)) user ≡ u → eqb j (suc n) ≡ v
+        → isOne (cond (ownedHere (blockOf t (suc n)) user) (suc n ∷ []) []) j ≡ (v && u)
     last true v e f = rw (e, f) (or-false v ∙ sym (and-true v))
     last false true e f = rw e
     last false false e f = rw e
 
     go : (v : Bool) → eqb j (suc n) ≡ v
-        → ((leb j n && ownedHere (blockOf t j) user) || isOne (cond (ownedHere (blockOf t (suc n)) user) (suc n ∷ []) []) j) ≡ (leb j (suc n) && ownedHere (blockOf t j) user)
+        → ((leb j n && ownedHere (blockOf t j) user) || isOne (cond (ownedHere (blockOf t (suc n)) user) (suc n ∷ []) []) j)
+        ≡ (leb j (suc n) && ownedHere (blockOf t j) user)
     go true e =
         let q : j ≡ suc n = eqb-true j (suc n) e in
         rw (last (ownedHere (blockOf t (suc n)) user) true refl e, q, lt-leb (suc n) n (omega arith), le-leb (suc n) (suc n) (omega arith))
@@ -55,7 +58,8 @@ owned-one t user (suc n) j h = one-append (ownedUpTo t user n) (cond (ownedHere 
 pub no-zero : (t user : List ℕ) (n : ℕ) → isOne (ownedUpTo t user n) 0 ≡ false
 unfolding ownedUpTo isOne
 no-zero t user zero = refl
-no-zero t user (suc n) = one-append (ownedUpTo t user n) (cond (ownedHere (blockOf t (suc n)) user) (suc n ∷ []) []) 0 ∙ rw (no-zero t user n) (go (ownedHere (blockOf t (suc n)) user))
+no-zero t user (suc n) = one-append (ownedUpTo t user n) (cond (ownedHere (blockOf t (suc n)) user) (suc n ∷ []) []) 0
+    ∙ rw (no-zero t user n) (go (ownedHere (blockOf t (suc n)) user))
   where
     go : (u : Bool) → isOne (cond u (suc n ∷ []) []) 0 ≡ false
     go true = rw (ne-eqb 0 (suc n) (λ e. omega arith))
@@ -80,7 +84,8 @@ later k j h = go (ltb j k) refl
     go false e = let l : k ≤ j = ltb-false j k e in rw (le-leb (k + 1) j (omega arith), le-leb k j l)
 
 -- Block k is looked at, and changed if it is one of them.
-module _ (change : List ℕ → List ℕ) (keeps : Keeps change) (x : List ℕ) (count : ℕ) (user : List ℕ) (k : ℕ) (size : length x ≡ 512 * (count + 1)) (last : k ≤ count)
+module _ (change : List ℕ → List ℕ) (keeps : Keeps change) (x : List ℕ) (count : ℕ) (user : List ℕ) (k : ℕ) (size : length x ≡ 512 * (count + 1))
+    (last : k ≤ count)
     (u : Bool) (is : ownedHere (blockOf x k) user ≡ u) (y : List ℕ) (put : y ≡ cond u (changedIn x k change) x) where
   turn : (j : ℕ) → j ≤ count → changedAt y (ownedFrom y user (k + 1)) change j ≡ changedAt x (ownedFrom x user k) change j
   unfolding changedAt ownedFrom
@@ -108,7 +113,8 @@ module _ (change : List ℕ → List ℕ) (keeps : Keeps change) (x : List ℕ) 
       go true g = rw (put, g) (in-length x k change keeps (omega arith) ∙ size)
       go false g = rw (put, g) size
 
-  turned-counts : 1 ≤ k → {whole : List ℕ} → afterOf y count (ownedFrom y user (k + 1)) change ≡ whole → alteredUpTo x whole count ≡ differ x y + alteredUpTo y whole count
+  turned-counts : 1 ≤ k → {whole : List ℕ} → afterOf y count (ownedFrom y user (k + 1)) change ≡ whole
+      → alteredUpTo x whole count ≡ differ x y + alteredUpTo y whole count
   turned-counts a e = rw (← e, put) (if-counts change keeps x count size u k a last (ownedFrom (cond u (changedIn x k change) x) user (k + 1)))
 
 -- The same of settling, as the loop has it.
@@ -118,7 +124,8 @@ module _ (x : List ℕ) (count : ℕ) (user : List ℕ) (state : ℕ) (name : Li
     here : ownedHere (blockOf x k) user ≡ u
     here = cc
 
-    pub owned-turn : {whole : List ℕ} → afterOf x count (ownedFrom x user k) (settled state name) ≡ whole → afterOf y count (ownedFrom y user (k + 1)) (settled state name) ≡ whole
+    pub owned-turn : {whole : List ℕ} → afterOf x count (ownedFrom x user k) (settled state name) ≡ whole
+        → afterOf y count (ownedFrom y user (k + 1)) (settled state name) ≡ whole
     owned-turn left = turned (settled state name) (settled-keeps state name fits) x count user k size last u here y put ∙ left
 
     pub owned-size : length y ≡ 512 * (count + 1)
@@ -129,7 +136,8 @@ module _ (x : List ℕ) (count : ℕ) (user : List ℕ) (state : ℕ) (name : Li
     owned-counts a left c {e} h sum =
         omega (arith, h, sum, turned-counts (settled state name) (settled-keeps state name fits) x count user k size last u here y put a (owned-turn left))
 
-    pub owned-few : {whole : List ℕ} → 1 ≤ k → count ≤ 4096 → afterOf x count (ownedFrom x user k) (settled state name) ≡ whole → (c : ℕ) {e : ℕ} (t : List ℕ) → e ≡ differ x y
+    pub owned-few : {whole : List ℕ} → 1 ≤ k → count ≤ 4096 → afterOf x count (ownedFrom x user k) (settled state name) ≡ whole → (c : ℕ) {e : ℕ} (t : List ℕ)
+        → e ≡ differ x y
         → c + alteredUpTo x whole count ≡ alteredUpTo t whole count → c + e ≤ 4096
     owned-few {whole} a few left c {e} t h sum = sum-few t y whole count (c + e) (owned-counts a left c h sum) few
 

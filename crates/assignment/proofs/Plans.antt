@@ -102,7 +102,8 @@ begins removal named (p ∷ (q ∷ others)) place e = go removal e
     go false f = absurd (let z : _≡_ {A = ℕ} 0 1 = cc in omega arith)
 
 module _ (t : List ℕ) (count : ℕ) (req : List ℕ) where
-  first-at : (place : ℕ) → Begins place (placesFrom 20 (bodyOf req)) → firstOf (findAll t count (identities (bodyOf req))) ≡ blockFound (findPublic t count (dataAt req place))
+  first-at : (place : ℕ) → Begins place (placesFrom 20 (bodyOf req))
+      → firstOf (findAll t count (identities (bodyOf req))) ≡ blockFound (findPublic t count (dataAt req place))
   unfolding findAll
   first-at place b =
       let i : identities (bodyOf req) ≡ avpAt req place ∷ map (avpAt req) (b .others) = sym (identities-at req 20) ∙ ap (map (avpAt req)) (b .rest) in
@@ -114,7 +115,8 @@ module _ (t : List ℕ) (count : ℕ) (req : List ℕ) where
 
   module _ (s : Sar) (server user : List ℕ) where
     -- the premises go from the plan back to the request
-    pub named-plan : (place : ℕ) {name : List ℕ} {f : Found} {first : ℕ} {v w : Survey} {u : Bool} {x : Finding} {p : Plan} → p ≡ planOf x s first false → x ≡ findingOf w (s .kind)
+    pub named-plan : (place : ℕ) {name : List ℕ} {f : Found} {first : ℕ} {v w : Survey} {u : Bool} {x : Finding} {p : Plan} → p ≡ planOf x s first false
+        → x ≡ findingOf w (s .kind)
         → w ≡ alsoKnown v u → u ≡ userKnown t count (s .named) user
         → v ≡ foundSurvey t (ownerBy t first (s .named) user) server (s .kind) (findAll t count (identities (bodyOf req)))
         → first ≡ blockFound f → f ≡ findPublic t count name → name ≡ dataAt req place
@@ -139,7 +141,8 @@ module _ (t : List ℕ) (count : ℕ) (req : List ℕ) where
       pub meant-owned : m ≡ Owned → p ≡ assignMeant t count (sarOf req s server user) Owned → p ≡ assignMeant t count (sarOf req s server user) m
       meant-owned e h = rw e h
 
-      pub meant-named : (place : ℕ) → m ≡ Named place → p ≡ assignMeant t count (sarOf req s server user) (Named place) → p ≡ assignMeant t count (sarOf req s server user) m
+      pub meant-named : (place : ℕ) → m ≡ Named place → p ≡ assignMeant t count (sarOf req s server user) (Named place)
+          → p ≡ assignMeant t count (sarOf req s server user) m
       meant-named place e h = rw e h
 
       pub assigned : {removal : Bool} → removal ≡ isRemoval (s .kind) → m ≡ meantBy removal (s .named) (placesFrom 20 (bodyOf req))

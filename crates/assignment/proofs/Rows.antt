@@ -14,7 +14,8 @@ use Rattle.choices.specs.Types.{isRemoval, asksOnly, effectOf}
 use Rattle.choices.specs.Given.{blameless, givenFault}
 use Rattle.choices.specs.Plans.{findingOf, only, planOf}
 use Rattle.choices.specs.declared.types.AssignmentType.{AssignmentType}
-use Rattle.choices.specs.declared.types.AssignmentType.the-variants.{NoAssignment, Registration, ReRegistration, UnregisteredUser, Removal, StoringRemoval, Failure}
+use Rattle.choices.specs.declared.types.AssignmentType.the-variants.{NoAssignment, Registration, ReRegistration, UnregisteredUser, Removal, StoringRemoval}
+use Rattle.choices.specs.declared.types.AssignmentType.the-variants.{Failure}
 use Rattle.choices.specs.declared.plan.Survey.{Survey}
 use Rattle.choices.specs.declared.plan.Finding.{Finding}
 use Rattle.choices.specs.declared.plan.Finding.the-variants.{Refused, Fine}
@@ -38,7 +39,8 @@ module _ (v : Survey) (kind : AssignmentType) where
   found-is = go (v .known) (v .own) (asksOnly kind) (v .stores) (v .fits) (v .some && v .right) refl refl
     where
       go : (known own asks stores fits right : Bool) → v .known ≡ known → v .own ≡ own
-          → Found (cond (not known) (Refused (Experimental 5001)) (cond (not own) (Refused (Experimental 5002)) (cond asks (cond stores Fine (Refused (Base 5012)))
+          → Found (cond (not known) (Refused (Experimental 5001))
+          (cond (not own) (Refused (Experimental 5002)) (cond asks (cond stores Fine (Refused (Base 5012)))
           (cond (not fits) (Refused (Experimental 5005)) (cond (not right) (Refused (Experimental 5007)) Fine)))))
       go false own asks stores fits right a b = refused _
       go true false asks stores fits right a b = refused _
@@ -51,7 +53,8 @@ module _ (v : Survey) (kind : AssignmentType) where
 module _ (t : List ℕ) (count : ℕ) (s : Assignment) where
   pub data Decided : Plan → Type 0 where
     alone : (v : Verdict) → Decided (only (givenFault v))
-    owned : Owned ≡ meantBy (isRemoval (s .numbers .kind)) (s .numbers .named) (s .places) → Clear (ownedSurvey t count s) → Decided (planOf Fine (s .numbers) 0 true)
+    owned : Owned ≡ meantBy (isRemoval (s .numbers .kind)) (s .numbers .named) (s .places) → Clear (ownedSurvey t count s)
+        → Decided (planOf Fine (s .numbers) 0 true)
     named : (place : ℕ) → Named place ≡ meantBy (isRemoval (s .numbers .kind)) (s .numbers .named) (s .places) → Clear (namedSurvey t count s)
         → Decided (planOf Fine (s .numbers) (firstOf (found t count s)) false)
 
@@ -59,13 +62,15 @@ module _ (t : List ℕ) (count : ℕ) (s : Assignment) where
   unfolding assign assignMeant planOf
   assign-decided = go (meantBy (isRemoval (s .numbers .kind)) (s .numbers .named) (s .places)) refl
     where
-      of-owned : (f : Finding) → Found (ownedSurvey t count s) (s .numbers .kind) f → Owned ≡ meantBy (isRemoval (s .numbers .kind)) (s .numbers .named) (s .places)
+      of-owned : (f : Finding) → Found (ownedSurvey t count s) (s .numbers .kind) f
+          → Owned ≡ meantBy (isRemoval (s .numbers .kind)) (s .numbers .named) (s .places)
           → Decided (planOf f (s .numbers) 0 true)
       of-owned f (refused r) e = alone (blameless r)
       of-owned f (fine c) e = owned e c
 
       of-named : (f : Finding) → Found (namedSurvey t count s) (s .numbers .kind) f → (place : ℕ)
-          → Named place ≡ meantBy (isRemoval (s .numbers .kind)) (s .numbers .named) (s .places) → Decided (planOf f (s .numbers) (firstOf (found t count s)) false)
+          → Named place ≡ meantBy (isRemoval (s .numbers .kind)) (s .numbers .named) (s .places)
+          → Decided (planOf f (s .numbers) (firstOf (found t count s)) false)
       of-named f (refused r) place e = alone (blameless r)
       of-named f (fine c) place e = named place e c
 
@@ -87,7 +92,8 @@ module _ (server : List ℕ) (least : 1 ≤ length server) (most : length server
   row-fits StoringRemoval false = fits-none
   row-fits Failure keep = fits-none
 
-pub assign-fits : (t : List ℕ) (count : ℕ) (s : Assignment) {p : Plan} → p ≡ assign t count s → 1 ≤ length (s .server) → length (s .server) ≤ 96 → p .write ≡ true
+pub assign-fits : (t : List ℕ) (count : ℕ) (s : Assignment) {p : Plan} → p ≡ assign t count s → 1 ≤ length (s .server) → length (s .server) ≤ 96
+    → p .write ≡ true
     → Fitting (p .state) (storedName (p .named) (s .server))
 unfolding planOf
 assign-fits t count s {p} e least most w = rw e (go (assign t count s) (assign-decided t count s) (rw e at w))

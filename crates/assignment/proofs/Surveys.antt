@@ -33,7 +33,8 @@ some-append (x ∷ xs) ys = refl
 
 module _ (t owner server : List ℕ) (kind : AssignmentType) where
   -- One identity more.
-  pub survey-cons : (f : Found) (fs : List Found) → foundSurvey t owner server kind (f ∷ fs) ≡ both (lookFound t f owner server kind) (foundSurvey t owner server kind fs)
+  pub survey-cons : (f : Found) (fs : List Found)
+      → foundSurvey t owner server kind (f ∷ fs) ≡ both (lookFound t f owner server kind) (foundSurvey t owner server kind fs)
   unfolding surveyOf lookFound lookAt every numbersOf ownAt storesAt fitsAt rightAt privateAt
   survey-cons (At k) fs = refl
   survey-cons Nothing fs = refl
@@ -49,7 +50,8 @@ module _ (t user server : List ℕ) (kind : AssignmentType) where
   unfolding surveyOf lookAt every ownAt storesAt fitsAt rightAt privateAt
   survey-one k = simp and-true
 
-  survey-append : (ks ls : List ℕ) → surveyOf t user server kind true (ks ++ ls) ≡ both (surveyOf t user server kind true ks) (surveyOf t user server kind true ls)
+  survey-append : (ks ls : List ℕ)
+      → surveyOf t user server kind true (ks ++ ls) ≡ both (surveyOf t user server kind true ks) (surveyOf t user server kind true ls)
   unfolding surveyOf
   survey-append ks ls =
       rw (
@@ -61,11 +63,13 @@ module _ (t user server : List ℕ) (kind : AssignmentType) where
       )
 
   pub survey-more : (n : ℕ)
-      → glimpsed (surveyOf t user server kind true (ownedUpTo t user n)) (blockOf t (suc n)) user server kind ≡ surveyOf t user server kind true (ownedUpTo t user (suc n))
+      → glimpsed (surveyOf t user server kind true (ownedUpTo t user n)) (blockOf t (suc n)) user server kind
+      ≡ surveyOf t user server kind true (ownedUpTo t user (suc n))
   unfolding glimpsed ownedUpTo
   survey-more n = go (ownedHere (blockOf t (suc n)) user) refl
     where
       go : (x : Bool) → ownedHere (blockOf t (suc n)) user ≡ x
-          → glimpsed (surveyOf t user server kind true (ownedUpTo t user n)) (blockOf t (suc n)) user server kind ≡ surveyOf t user server kind true (ownedUpTo t user (suc n))
+          → glimpsed (surveyOf t user server kind true (ownedUpTo t user n)) (blockOf t (suc n)) user server kind
+          ≡ surveyOf t user server kind true (ownedUpTo t user (suc n))
       go true h = rw (h, survey-append (ownedUpTo t user n) (suc n ∷ []), survey-one (suc n))
       go false h = rw (h, append-nil (ownedUpTo t user n))

@@ -49,7 +49,8 @@ fn survey_by(
     user: &[u8],
 ) -> Survey
     requires { ⌜ SoundTable (now t) count × (first ≤ count) ⌝ }
-    ensures { λ r. ⌜ r ≡ foundSurvey (now (t .entry)) (ownerBy (now (t .entry)) first (s .named) (now (user .entry))) (now (server .entry)) (s .kind) (findAll (now (t .entry)) count (identities (bodyOf (now (req .entry))))) ⌝ }
+    ensures { λ r. ⌜ r ≡ foundSurvey (now (t .entry)) (ownerBy (now (t .entry)) first (s .named) (now (user .entry))) (now (server .entry)) (s .kind)
+        (findAll (now (t .entry)) count (identities (bodyOf (now (req .entry))))) ⌝ }
 {
     let kind = s.kind;
     if s.named {

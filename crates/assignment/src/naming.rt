@@ -62,7 +62,8 @@ pub fn survey_all(
     kind: AssignmentType,
 ) -> Survey
     requires { ⌜ SoundTable (now t) count ⌝ }
-    ensures { λ r. ⌜ r ≡ foundSurvey (now (t .entry)) (now (owner .entry)) (now (server .entry)) kind (findAll (now (t .entry)) count (identities (bodyOf (now (req .entry))))) ⌝ }
+    ensures { λ r. ⌜ r ≡ foundSurvey (now (t .entry)) (now (owner .entry)) (now (server .entry)) kind
+        (findAll (now (t .entry)) count (identities (bodyOf (now (req .entry))))) ⌝ }
 {
     let mut seen = looking::fresh();
     let mut at = message::BODY;
@@ -80,7 +81,9 @@ pub fn survey_all(
 // The effect on each record that is named. Answers how many records have other bytes then.
 pub fn settle_named(t: &mut [u8], count: usize, req: &[u8], state: u8, server: &[u8]) -> u32
     requires { ⌜ SoundTable (now t) count × Fitting state (now server) ⌝ }
-    ensures { λ r. ⌜ (now (t .exit) ≡ afterOf (now (t .entry)) count (isOne (numbersOf (findAll (now (t .entry)) count (identities (bodyOf (now (req .entry))))))) (settled state (now (server .entry))))
+    ensures { λ r. ⌜ (now (t .exit)
+        ≡ afterOf (now (t .entry)) count (isOne (numbersOf (findAll (now (t .entry)) count (identities (bodyOf (now (req .entry)))))))
+        (settled state (now (server .entry))))
         × (r ≡ alteredUpTo (now (t .entry)) (now (t .exit)) count) ⌝ }
 {
     let mut altered = 0;

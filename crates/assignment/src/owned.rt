@@ -41,7 +41,8 @@ pub fn survey_owned(
     kind: AssignmentType,
 ) -> Survey
     requires { ⌜ SoundTable (now t) count ⌝ }
-    ensures { λ r. ⌜ r ≡ surveyOf (now (t .entry)) (now (user .entry)) (now (server .entry)) kind true (ownedUpTo (now (t .entry)) (now (user .entry)) count) ⌝ }
+    ensures { λ r. ⌜ r ≡ surveyOf (now (t .entry)) (now (user .entry)) (now (server .entry)) kind true
+        (ownedUpTo (now (t .entry)) (now (user .entry)) count) ⌝ }
 {
     let mut seen = looking::fresh();
     for k in 0..count {
@@ -53,7 +54,8 @@ pub fn survey_owned(
 // The effect on each of them. Answers how many records have other bytes then.
 pub fn settle_owned(t: &mut [u8], count: usize, user: &[u8], state: u8, server: &[u8]) -> u32
     requires { ⌜ SoundTable (now t) count × Fitting state (now server) ⌝ }
-    ensures { λ r. ⌜ (now (t .exit) ≡ afterOf (now (t .entry)) count (isOne (ownedUpTo (now (t .entry)) (now (user .entry)) count)) (settled state (now (server .entry))))
+    ensures { λ r. ⌜ (now (t .exit)
+        ≡ afterOf (now (t .entry)) count (isOne (ownedUpTo (now (t .entry)) (now (user .entry)) count)) (settled state (now (server .entry))))
         × (r ≡ alteredUpTo (now (t .entry)) (now (t .exit)) count) ⌝ }
 {
     let mut altered = 0;

@@ -9,7 +9,8 @@ use borrow.Author.Tests.{le-leb, lt-leb, ne-eqb}
 use Rattle.reading.specs.declared.Outcome.the-variants.{Experimental}
 use Rattle.choices.specs.Types.{between, typeOf, allowed, keeping, leaving, effectOf}
 use Rattle.choices.specs.declared.types.AssignmentType.{AssignmentType}
-use Rattle.choices.specs.declared.types.AssignmentType.the-variants.{NoAssignment, Registration, ReRegistration, UnregisteredUser, Removal, StoringRemoval, Failure}
+use Rattle.choices.specs.declared.types.AssignmentType.the-variants.{NoAssignment, Registration, ReRegistration, UnregisteredUser, Removal}
+use Rattle.choices.specs.declared.types.AssignmentType.the-variants.{StoringRemoval, Failure}
 use Rattle.choices.specs.declared.types.Effect.{Effect}
 
 module _ (k : ℕ) where

@@ -25,7 +25,8 @@ findingOf v kind =
     (cond (not (v .some && v .right)) (Refused (Experimental 5007))
     Fine))))
 
--- "User-Name (the record's private identity; SAR success, types 0 to 3)"; "User-Data 606 (SAR success, types 0 to 3, 624 is 0, ..)"; the record is that of block `first`
+-- "User-Name (the record's private identity; SAR success, types 0 to 3)"; "User-Data 606 (SAR success, types 0 to 3, 624 is 0, ..)"; the record is that of
+-- block `first`
 unfoldable pub grant : Sar → ℕ → Outcome → Given
 grant s first r = cond (carriesUser (s .kind)) (givenUser r first (cond (eqb (s .already) 0) first 0)) (givenPlain r)
 

@@ -5,7 +5,8 @@ use lib.Dec.{eqb, leb, ltb}
 use Rattle.reading.specs.declared.Outcome.{Outcome}
 use Rattle.reading.specs.declared.Outcome.the-variants.{Base, Experimental}
 use Rattle.choices.specs.declared.types.AssignmentType.{AssignmentType}
-use Rattle.choices.specs.declared.types.AssignmentType.the-variants.{NoAssignment, Registration, ReRegistration, UnregisteredUser, Removal, StoringRemoval, Failure}
+use Rattle.choices.specs.declared.types.AssignmentType.the-variants.{NoAssignment, Registration, ReRegistration, UnregisteredUser, Removal}
+use Rattle.choices.specs.declared.types.AssignmentType.the-variants.{StoringRemoval, Failure}
 use Rattle.choices.specs.declared.types.Effect.{Effect}
 
 abbrev pub between : ℕ → ℕ → ℕ → Bool

@@ -49,5 +49,6 @@ module _ (req t file : List ℕ) (count : ℕ) (g : Given) (is : g ≡ decide re
   pub given-room : (o : List ℕ) → Passed req o → SoundTable t count → length (answerBytes req t file g) ≤ 36864
   given-room o p s = rw is (answer-most t file count s req (p .least) (p .most) (p .fours))
 
-  pub answers-most : (o : List ℕ) → Passed req o → SoundTable t count → (before after : List ℕ) (r : ℕ) → Wrote (answerBytes req t file g) before after r → r ≤ 36864
+  pub answers-most : (o : List ℕ) → Passed req o → SoundTable t count → (before after : List ℕ) (r : ℕ) → Wrote (answerBytes req t file g) before after r
+      → r ≤ 36864
   answers-most o p s before after r w = omega (arith, w .count, given-room o p s)

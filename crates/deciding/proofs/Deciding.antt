@@ -41,7 +41,8 @@ pub keep-read : (t : List ℕ) {h : List ℕ} → h ≡ blockOf t 0 → eqb (kee
 keep-read t e = rw e
 
 module _ (req t : List ℕ) (count : ℕ) (seen : Seen) {p : Plan} where
-  pub uar-planned : {user public network : List ℕ} {kind : ℕ} {g : Given} → commandOf req ≡ 300 → user ≡ dataSeen seen userName → public ≡ dataSeen seen publicIdentity
+  pub uar-planned : {user public network : List ℕ} {kind : ℕ} {g : Given} → commandOf req ≡ 300 → user ≡ dataSeen seen userName
+      → public ≡ dataSeen seen publicIdentity
       → network ≡ dataSeen seen visitedNetwork → kind ≡ valueSeen seen authorizationType → g ≡ authorize t count user public network kind → p ≡ only g
       → p ≡ planRead req t count seen
   unfolding planRead
@@ -52,10 +53,12 @@ module _ (req t : List ℕ) (count : ℕ) (seen : Seen) {p : Plan} where
   unfolding planRead
   lir-planned c d b g q = q ∙ rw (ne-eqb (commandOf req) 300 c, ne-eqb (commandOf req) 301 d, g, b)
 
-  pub sar-planned : {s : Sar} {server user : List ℕ} → commandOf req ≡ 301 → s ≡ numbersIn t seen → server ≡ dataSeen seen serverName → user ≡ dataSeen seen userName
+  pub sar-planned : {s : Sar} {server user : List ℕ} → commandOf req ≡ 301 → s ≡ numbersIn t seen → server ≡ dataSeen seen serverName
+      → user ≡ dataSeen seen userName
       → p ≡ assign t count (sarOf req s server user) → p ≡ planRead req t count seen
   unfolding planRead assignmentOf
-  sar-planned c a b d q = let z : commandOf req ≡ 300 → ⊥ = λ e. omega (arith, c, e) in q ∙ rw (ne-eqb (commandOf req) 300 z, eq-eqb (commandOf req) 301 c, a, b, d)
+  sar-planned c a b d q = let z : commandOf req ≡ 300
+      → ⊥ = λ e. omega (arith, c, e) in q ∙ rw (ne-eqb (commandOf req) 300 z, eq-eqb (commandOf req) 301 c, a, b, d)
 
 -- What a plan writes fits a record: a SAR has a Server-Name.
 pub plan-fits : (req t : List ℕ) (count : ℕ) (seen : Seen) (p : Plan) → readRequest req ≡ fine seen → p ≡ planRead req t count seen → p .write ≡ true
@@ -63,7 +66,8 @@ pub plan-fits : (req t : List ℕ) (count : ℕ) (seen : Seen) (p : Plan) → re
 unfolding planRead assignmentOf
 plan-fits req t count seen p is e = go (eqb (commandOf req) 300) (eqb (commandOf req) 301) _ _ refl e
   where
-    go : (x y : Bool) (g h : Given) → eqb (commandOf req) 301 ≡ y → p ≡ cond x (only g) (cond y (assign t count (assignmentOf t seen req)) (only h)) → p .write ≡ true
+    go : (x y : Bool) (g h : Given) → eqb (commandOf req) 301 ≡ y → p ≡ cond x (only g) (cond y (assign t count (assignmentOf t seen req)) (only h))
+        → p .write ≡ true
         → Fitting (p .state) (storedName (p .named) (dataSeen seen serverName))
     go true y g h c d w = absurd (true≢false (sym (rw d at w)))
     go false true g h c d w = assign-fits t count (assignmentOf t seen req) d (server-least req seen is (eqb-true _ _ c)) (server-most req seen is) w

@@ -118,7 +118,8 @@ fn stored(named: bool, server: &[u8]) -> &[u8]
 // The effect that is planned, if there is one.
 fn carry_out(t: &mut [u8], count: usize, req: &[u8], found: [usize; kinds::KINDS], p: Plan)
     requires { ⌜ SoundTable (now t) count × (p .write ≡ true → Fitting (p .state) (storedName (p .named) (dataSeen (seenOf (now req) found) 10))) ⌝ }
-    ensures { λ _. ⌜ now (t .exit) ≡ carriedOut (now (t .entry)) count (assignmentOf (now (t .entry)) (seenOf (now (req .entry)) found) (now (req .entry))) p ⌝ }
+    ensures { λ _. ⌜ now (t .exit) ≡ carriedOut (now (t .entry)) count
+        (assignmentOf (now (t .entry)) (seenOf (now (req .entry)) found) (now (req .entry))) p ⌝ }
 {
     let server = stored(p.named, places::data_of(req, found, kinds::SERVER_NAME));
     if p.write {

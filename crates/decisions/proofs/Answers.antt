@@ -62,7 +62,8 @@ module _ (t : List ℕ) (count : ℕ) (user network : List ℕ) (f : Found) wher
   unfolding askedOf
   asked-nothing e = rw e
 
-  pub authorized : (public : List ℕ) (kind : ℕ) {a : Asked} {k : ℕ} {c : Choice} {g : Given} → f ≡ findPublic t count public → a ≡ askedOf t count user network f
+  pub authorized : (public : List ℕ) (kind : ℕ) {a : Asked} {k : ℕ} {c : Choice} {g : Given} → f ≡ findPublic t count public
+      → a ≡ askedOf t count user network f
       → k ≡ blockFound f → c ≡ authorization a kind → g ≡ carried t count user k c → g ≡ authorize t count user public network kind
   unfolding authorize authorizeFound
   authorized public kind found asks at chooses s = rw (← found, ← asks, ← at, ← chooses) s
@@ -77,13 +78,15 @@ module _ (t : List ℕ) (f : Found) where
   unfolding soughtOf
   sought-nothing e = rw e
 
-  pub located : (count : ℕ) (public : List ℕ) {a : Sought} {k : ℕ} {b owner : List ℕ} {c : Choice} {g : Given} → f ≡ findPublic t count public → k ≡ blockFound f
+  pub located : (count : ℕ) (public : List ℕ) {a : Sought} {k : ℕ} {b owner : List ℕ} {c : Choice} {g : Given} → f ≡ findPublic t count public
+      → k ≡ blockFound f
       → b ≡ blockOf t k → owner ≡ privateOf b → a ≡ soughtOf t f → c ≡ location a → g ≡ carried t count owner k c → g ≡ locate t count public
   unfolding locate locateFound privateAt
   located count public found at block owns asks chooses s = rw (← found, ← at, ← block, ← owns, ← asks, ← chooses) s
 
 -- The block of a record that was found is there, and so is block 0.
-pub found-room : (t : List ℕ) (count : ℕ) (name : List ℕ) (f : Found) (k : ℕ) → SoundTable t count → f ≡ findPublic t count name → k ≡ blockFound f → 512 * k + 512 ≤ length t
+pub found-room : (t : List ℕ) (count : ℕ) (name : List ℕ) (f : Found) (k : ℕ) → SoundTable t count → f ≡ findPublic t count name → k ≡ blockFound f
+    → 512 * k + 512 ≤ length t
 found-room t count name f k sound e d = go f refl
   where
     go : (g : Found) → f ≡ g → 512 * k + 512 ≤ length t

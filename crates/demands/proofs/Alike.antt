@@ -92,7 +92,8 @@ module _ (long short : List ℕ) where
     abbrev planned : Assignment → Plan → Decision
     planned s p = record { given = p .given; table = carriedOut t count s p }
 
-    meant-same : (s : Assignment) (m n : Meant) → SameMeant m n → SameDecision long short (planned s (assignMeant t count s m)) (planned s (assignMeant t count s n))
+    meant-same : (s : Assignment) (m n : Meant) → SameMeant m n
+        → SameDecision long short (planned s (assignMeant t count s m)) (planned s (assignMeant t count s n))
     unfolding assignMeant carriedOut
     meant-same s m n (fault v w e f) =
         record { given = record { result = e; failed = f; user = refl; server = refl; capable = refl; profile = refl }; table = refl }
@@ -109,7 +110,8 @@ module _ (long short : List ℕ) where
           (meantBy (isRemoval (assignmentOf t seen long .numbers .kind)) (assignmentOf t seen long .numbers .named) (placesFrom 20 (bodyOf long)))
           (meantBy (isRemoval (assignmentOf t seen long .numbers .kind)) (assignmentOf t seen long .numbers .named) (placesFrom 20 (bodyOf short)))
       places-alike =
-          places-same _ _ (placesFrom 20 (bodyOf long)) (placesFrom 20 (bodyOf short)) (identities-at long 20 ∙ named-same ∙ sym (identities-at short 20)) (places-stand long 20)
+          places-same _ _ (placesFrom 20 (bodyOf long)) (placesFrom 20 (bodyOf short)) (identities-at long 20 ∙ named-same ∙ sym (identities-at short 20))
+          (places-stand long 20)
           (places-stand short 20)
 
       -- the same SAR but for the places
@@ -126,12 +128,14 @@ module _ (long short : List ℕ) where
       sar-same = rw (← meant-alike _) (meant-same (assignmentOf t seen long) _ _ places-alike)
 
       pub plan-same : commandOf long ≡ commandOf short
-          → SameDecision long short (planned (assignmentOf t seen long) (planRead long t count seen)) (planned (assignmentOf t seen short) (planRead short t count seen))
+          → SameDecision long short (planned (assignmentOf t seen long) (planRead long t count seen))
+          (planned (assignmentOf t seen short) (planRead short t count seen))
       unfolding planRead authorize authorizeFound locate locateFound carriedOut
       plan-same e =
           rw e (go (eqb (commandOf short) 300) (eqb (commandOf short) 301) _ _ (carried-blameless t count _ _ _) (carried-blameless t count _ _ _))
         where
-          alone : (g : Given) → Blameless g → SameDecision long short (planned (assignmentOf t seen long) (only g)) (planned (assignmentOf t seen short) (only g))
+          alone : (g : Given) → Blameless g
+              → SameDecision long short (planned (assignmentOf t seen long) (only g)) (planned (assignmentOf t seen short) (only g))
           alone g b = record { given = blameless-same g b; table = refl }
 
           go : (x y : Bool) (uar lir : Given) → Blameless uar → Blameless lir

@@ -27,7 +27,8 @@ use Rattle.requests.specs.Request.{dialectOf, cx}
 use Rattle.demands.specs.Call.{turnedAway, answerTo, Exactly}
 use Rattle.demands.specs.Frame.{succeeds, subscriptionOf}
 use Rattle.demands.specs.Insertion.{requestOf, Foreign, Quiet, Inserted, FirstMarked, faultIn, unsupported, Cut, Longer, Newer}
-use Rattle.demands.proofs.Refusals.{refusals, number-most, besides-none, besides-block, answer-long, answer-within, word-reads, refused-kept, answered-is, buffer-length, buffer-past}
+use Rattle.demands.proofs.Refusals.{refusals, number-most, besides-none, besides-block, answer-long, answer-within, word-reads, refused-kept}
+use Rattle.demands.proofs.Refusals.{answered-is, buffer-length, buffer-past}
 use Rattle.demands.proofs.Fitting.{fits}
 use Rattle.demands.proofs.Frame.{question-kept, failure-kept, others-kept, header-kept, bytes-kept, bits-kept, size-kept, sound-kept}
 use Rattle.demands.proofs.Insertions.{unmarked-same, marked-kept, mark-answered, fault-first}
@@ -138,7 +139,8 @@ demand-3 = longer-newer
 module _ (head : List ℕ) (twenty : length head ≡ 20) (q : Piece) (qs rs : List Piece) (whole : All Whole (q ∷ qs)) (tail : List ℕ) (fours : length tail % 4 ≡ 0)
     (most : length (requestOf head (q ∷ rs) tail) ≤ 16384) (x : Lent) where
   -- If none of them is marked M, the call comes to the same, and leaves the same table and the same buffer.
-  pub demand-3-unmarked : Inserted (Quiet (dialectOf cx head)) qs rs → serve (asking x (requestOf head (q ∷ rs) tail)) ≡ serve (asking x (requestOf head (q ∷ qs) tail))
+  pub demand-3-unmarked : Inserted (Quiet (dialectOf cx head)) qs rs
+      → serve (asking x (requestOf head (q ∷ rs) tail)) ≡ serve (asking x (requestOf head (q ∷ qs) tail))
   demand-3-unmarked i = unmarked-same head twenty q qs rs whole tail fours most i x
 
   -- If one is, the table is as it was ..

@@ -97,7 +97,8 @@ module _ (t : List ℕ) (count : ℕ) (s : Assignment) where
 
   -- the row is carried out on these records
   row-cases : (first : ℕ) (all : Bool) (records owner : List ℕ) → plannedRecords t count s (planOf Fine (s .numbers) first all) ≡ records
-      → some owner ≡ cond (s .numbers .named) (some (s .user)) (firstOwner t count (s .identities)) → every (ownAt t owner) records ≡ true → isOne records 0 ≡ false
+      → some owner ≡ cond (s .numbers .named) (some (s .user)) (firstOwner t count (s .identities)) → every (ownAt t owner) records ≡ true
+      → isOne records 0 ≡ false
       → Cases (planned (planOf Fine (s .numbers) first all))
   unfolding carriedOut planOf
   row-cases first all records owner e a o l = go (effectOf (s .numbers .kind) (s .numbers .keep) .write) refl
@@ -168,7 +169,8 @@ module _ (req t : List ℕ) (count : ℕ) where
     sar-cases d c q (inr a) = inr (record { seen = seen; read = e; command = c; altered = rw q a })
 
     command-cases : (x y : Bool) (uar lir : Given) → eqb (commandOf req) 301 ≡ y
-        → decide req t count ≡ planned t count (assignmentOf t seen req) (cond x (only uar) (cond y (assign t count (assignmentOf t seen req)) (only lir))) → Result
+        → decide req t count ≡ planned t count (assignmentOf t seen req) (cond x (only uar) (cond y (assign t count (assignmentOf t seen req)) (only lir)))
+        → Result
     unfolding carriedOut
     command-cases true y uar lir p q = inl (rw q)
     command-cases false false uar lir p q = inl (rw q)

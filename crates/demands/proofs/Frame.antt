@@ -33,7 +33,8 @@ use Rattle.diameter.specs.Message.{commandOf}
 use Rattle.requests.proofs.Kept.{server-most, server-least}
 use Rattle.choices.specs.Types.{effectOf}
 use Rattle.choices.specs.declared.types.AssignmentType.{AssignmentType}
-use Rattle.choices.specs.declared.types.AssignmentType.the-variants.{NoAssignment, Registration, ReRegistration, UnregisteredUser, Removal, StoringRemoval, Failure}
+use Rattle.choices.specs.declared.types.AssignmentType.the-variants.{NoAssignment, Registration, ReRegistration, UnregisteredUser, Removal, StoringRemoval}
+use Rattle.choices.specs.declared.types.AssignmentType.the-variants.{Failure}
 use Rattle.choices.specs.declared.types.Effect.{Effect}
 use Rattle.assignment.specs.Assignment.{Assignment, every, isOne, ownAt, storedName}
 use Rattle.assignment.proofs.Rows.{row-fits}
@@ -86,7 +87,8 @@ module _ (req t : List ℕ) (count : ℕ) (size : length t ≡ 512 * (count + 1)
   unfolding assignmentOf
   keeps =
       settled-keeps _ _
-      (row-fits (asked .server) (server-least req (a .seen) (a .read) (a .command)) (server-most req (a .seen) (a .read)) (asked .numbers .kind) (asked .numbers .keep))
+      (row-fits (asked .server) (server-least req (a .seen) (a .read) (a .command)) (server-most req (a .seen) (a .read)) (asked .numbers .kind)
+      (asked .numbers .keep))
 
   assigned-keeping : Keeping t (decide req t count .table) count
   assigned-keeping = rw (a .altered .table) (after-keeping t count change size chosen keeps (a .altered .later))

@@ -33,7 +33,8 @@ use Rattle.ndushavire.specs.Lent.{Lent, asking}
 use Rattle.ndushavire.specs.Word.{checkValue}
 use Rattle.ndushavire.specs.Serve.{noRequest, checkOf, answered, decision, serve}
 use Rattle.demands.specs.Call.{turnedAway}
-use Rattle.demands.specs.Insertion.{message, requestOf, Foreign, isMarked, Quiet, Inserted, ending, keep, put, FirstMarked, isFault, faultIn, unsupportedBody, unsupportedBytes, unsupported}
+use Rattle.demands.specs.Insertion.{message, requestOf, Foreign, isMarked, Quiet, Inserted, ending, keep, put, FirstMarked, isFault, faultIn}
+use Rattle.demands.specs.Insertion.{unsupportedBody, unsupportedBytes, unsupported}
 use Rattle.demands.proofs.Refusals.{refused-kept, refused-alike, answered-is, taken}
 use Rattle.demands.proofs.Moved.{putBefore, Moved, faults, same, moved-as, past-later, past-drop, failed-there}
 use Rattle.demands.proofs.Moved.{Row-moved, row-moved, ends-none, ends-same}

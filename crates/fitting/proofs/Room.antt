@@ -42,7 +42,8 @@ unfolding failedBy
 failed-short req v h =
     let n = numberOf (v .result) in
     let t = drop (v .place) req in
-    either (λ (f : Option (List ℕ)). length (failedPart f) ≤ 16400) (ltb 0 (v .lacks)) (holds-short (example (v .lacks)) (omega (arith, example-length (v .lacks))))
+    either (λ (f : Option (List ℕ)). length (failedPart f) ≤ 16400) (ltb 0 (v .lacks))
+    (holds-short (example (v .lacks)) (omega (arith, example-length (v .lacks))))
     (either (λ (f : Option (List ℕ)). length (failedPart f) ≤ 16400) (ltb 0 (v .place))
     (holds-short (failedOf n t) (omega (arith, fault-length n t, length-drop (v .place) req)))
     (omega arith))
@@ -67,7 +68,8 @@ decide-light req t count = go (readRequest req)
     go (bad v) = inl refl
     go (fine seen) =
         either (λ (p : Plan). Light (p .given)) (eqb (commandOf req) 300) (inr (carried-blameless t count _ _ _))
-        (either (λ (p : Plan). Light (p .given)) (eqb (commandOf req) 301) (assign-light t count (assignmentOf t seen req)) (inr (carried-blameless t count _ _ _)))
+        (either (λ (p : Plan). Light (p .given)) (eqb (commandOf req) 301) (assign-light t count (assignmentOf t seen req))
+        (inr (carried-blameless t count _ _ _)))
 
 -- "answer buffer under 36,864 bytes" is refused: no answer is longer
 module _ (t file : List ℕ) (count : ℕ) (s : SoundTable t count) (req : List ℕ) (h : 20 ≤ length req) (k : length req ≤ 16384) (e : length req % 4 ≡ 0) where
@@ -75,7 +77,8 @@ module _ (t file : List ℕ) (count : ℕ) (s : SoundTable t count) (req : List 
   unfolding failedBy
   light-most g l = go l
     where
-      most : length (answerBytes req t file g) ≤ 616 + length req + copiedSize (length (profileAt t file (g .profile))) + length (failedPart (failedBy req (g .verdict)))
+      most : length (answerBytes req t file g) ≤ 616 + length req + copiedSize (length (profileAt t file (g .profile)))
+          + length (failedPart (failedBy req (g .verdict)))
       most = answer-length t count s req file g h e
 
       go : (g .profile ≡ 0) ⊎ ((g .verdict .place ≡ 0) × (g .verdict .lacks ≡ 0)) → length (answerBytes req t file g) ≤ 36864

@@ -25,7 +25,8 @@ ten-places n k f h = go (leb k 10) refl
         let q : 10 ^ (k - 1) ≤ n = f .2 (omega arith) in
         absurd (omega arith)
 
-pub number-room : (n k : ℕ) (text out : List ℕ) → Fewest 10 1 n k → n < 4294967296 → k ≡ length (take k text) → 10 ≤ length out → length (take k text) ≤ length out
+pub number-room : (n k : ℕ) (text out : List ℕ) → Fewest 10 1 n k → n < 4294967296 → k ≡ length (take k text) → 10 ≤ length out
+    → length (take k text) ≤ length out
 number-room n k text out f h e r = omega (arith, ten-places n k f h)
 
 pub number-wrote : (n k : ℕ) (text : List ℕ) {b xs : List ℕ} → Fewest 10 1 n k → k ≡ length (take k text) → take k text ≡ digits 10 k n

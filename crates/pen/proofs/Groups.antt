@@ -81,13 +81,15 @@ capabilities-length m o =
     omega (arith, there-length (ltb 0 (words m + words o)) (vendorGroup 603 w), vendorGroup-length 603 w, members-length m o)
 
 -- room for them where there are some, and that they take no more
-pub capabilities-room : (m o : List ℕ) (j k : ℕ) {n : ℕ} → j ≡ words m → k ≡ words o → (j + k ≡ 0 → ⊥) → length (capabilities m o) ≤ n → capabilitiesSize j k ≤ n
+pub capabilities-room : (m o : List ℕ) (j k : ℕ) {n : ℕ} → j ≡ words m → k ≡ words o → (j + k ≡ 0 → ⊥) → length (capabilities m o) ≤ n
+    → capabilitiesSize j k ≤ n
 unfolding capabilities
 capabilities-room m o j k a b h r =
     let w : List ℕ = vendorNumbers 604 m (words m) ++ vendorNumbers 605 o (words o) in
     omega (arith, there-room (words m + words o) (vendorGroup 603 w) (omega arith) r, vendorGroup-length 603 w, members-length m o)
 
-pub capabilities-most : (m o : List ℕ) (j k : ℕ) {n r : ℕ} → j ≡ words m → k ≡ words o → (j + k ≡ 0 → ⊥) → length (capabilities m o) ≤ n → r ≤ capabilitiesSize j k → r ≤ n
+pub capabilities-most : (m o : List ℕ) (j k : ℕ) {n r : ℕ} → j ≡ words m → k ≡ words o → (j + k ≡ 0 → ⊥) → length (capabilities m o) ≤ n
+    → r ≤ capabilitiesSize j k → r ≤ n
 capabilities-most m o j k a b h l e = omega (arith, e, capabilities-room m o j k a b h l)
 
 pub wrote-no-capabilities : (m o b : List ℕ) → words m + words o ≡ 0 → Wrote (capabilities m o) b b 0

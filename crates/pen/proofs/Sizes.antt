@@ -57,5 +57,6 @@ vendor-room code d h r = omega (arith, there-room (length d) (vendorBytes code d
 pub avp-most : (code : ℕ) (d : List ℕ) {m r : ℕ} → r ≡ avpSize (length d) → 0 < length d → length (ifThere (ltb 0 (length d)) (avpBytes code d)) ≤ m → r ≤ m
 avp-most code d e h r = omega (arith, e, avp-room code d h r)
 
-pub vendor-most : (code : ℕ) (d : List ℕ) {m r : ℕ} → r ≡ vendorSize (length d) → 0 < length d → length (ifThere (ltb 0 (length d)) (vendorBytes code d)) ≤ m → r ≤ m
+pub vendor-most : (code : ℕ) (d : List ℕ) {m r : ℕ} → r ≡ vendorSize (length d) → 0 < length d → length (ifThere (ltb 0 (length d)) (vendorBytes code d)) ≤ m
+    → r ≤ m
 vendor-most code d e h r = omega (arith, e, vendor-room code d h r)

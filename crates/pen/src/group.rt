@@ -92,7 +92,8 @@ fn put_numbers(out: &mut [u8], code: u32, src: &[u8], n: usize) -> usize
 // Server-Capabilities of so many words each, which are not none.
 fn put_members(out: &mut [u8], mandatory: &[u8], optional: &[u8], m: usize, o: usize) -> usize
     requires { ⌜ (m ≡ words (now mandatory)) × (o ≡ words (now optional)) × (m + o ≡ 0 → ⊥) × (capabilitiesSize m o ≤ length (now out)) ⌝ }
-    ensures { λ r. ⌜ (r ≤ capabilitiesSize m o) × Wrote (capabilities (now (mandatory .entry)) (now (optional .entry))) (now (out .entry)) (now (out .exit)) r ⌝ }
+    ensures { λ r. ⌜ (r ≤ capabilitiesSize m o)
+        × Wrote (capabilities (now (mandatory .entry)) (now (optional .entry))) (now (out .entry)) (now (out .exit)) r ⌝ }
 {
     crate::put_vendor_head(out, SERVER_CAPABILITIES, 12 + 16 * m + 16 * o);
     let a = 12 + put_numbers(&mut out[12..], MANDATORY_CAPABILITY, mandatory, m);

@@ -24,7 +24,8 @@ unfolding proxies proxy ifThere
 session-or-proxy a w = simp length-append (go (eqb (kindOf a) sessionId) (eqb (reserved (avpFlags a)) 0) refl)
   where
     go : (x y : Bool) → eqb (kindOf a) sessionId ≡ x
-        → copiedSize (length (cond (x && y) a [])) + (length (ifThere (eqb (kindOf a) proxyInfo) (copied a)) + length (proxies w)) ≤ copiedSize (length a) + length (proxies w)
+        → copiedSize (length (cond (x && y) a [])) + (length (ifThere (eqb (kindOf a) proxyInfo) (copied a)) + length (proxies w)) ≤ copiedSize (length a)
+        + length (proxies w)
     go true true e =
         let k : kindOf a ≡ 1 = eqb-true (kindOf a) 1 e in
         rw (ne-eqb (kindOf a) 15 (omega arith)) (omega arith)
@@ -32,7 +33,8 @@ session-or-proxy a w = simp length-append (go (eqb (kindOf a) sessionId) (eqb (r
     go false y e = omega (arith, there-length (eqb (kindOf a) proxyInfo) (copied a), copied-length a)
 
 -- a whole AVP at the front, and what is copied after it
-first-room : (t : List ℕ) (m : ℕ) → sound t ≡ true → length t % 4 ≡ 0 → m ≤ length t - padded (avpLen t) → copiedSize (length (take (avpLen t) t)) + m ≤ length t
+first-room : (t : List ℕ) (m : ℕ) → sound t ≡ true → length t % 4 ≡ 0 → m ≤ length t - padded (avpLen t)
+    → copiedSize (length (take (avpLen t) t)) + m ≤ length t
 unfolding padded
 first-room t m s e h = let q = sound-says t s in rw (length-take-le (avpLen t) t (q .within)) (omega (arith, q .within))
 
@@ -82,7 +84,8 @@ session-walk (x ∷ t) e = go (sound (x ∷ t)) refl
         omega (arith, session-or-proxy (take (avpLen (x ∷ t)) (x ∷ t)) w, first-room (x ∷ t) (length (proxies w)) s e (skip-left x t s e _ i))
     go false s = omega arith
 
-pub session-proxies : (req : List ℕ) → 20 ≤ length req → length req % 4 ≡ 0 → copiedSize (length (sessionOf (bodyOf req))) + length (proxies (bodyOf req)) ≤ length req - 20
+pub session-proxies : (req : List ℕ) → 20 ≤ length req → length req % 4 ≡ 0
+    → copiedSize (length (sessionOf (bodyOf req))) + length (proxies (bodyOf req)) ≤ length req - 20
 session-proxies req h e =
     let l : length (drop 20 req) ≡ length req - 20 = length-drop 20 req in
     rw l at (session-walk (drop 20 req) (rw l (omega arith)))

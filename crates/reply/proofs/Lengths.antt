@@ -19,7 +19,8 @@ use Rattle.failed.specs.Failing.{failedBy}
 use Rattle.choices.specs.declared.Given.{Given}
 use Rattle.parts.specs.Profile.{profileAt}
 use Rattle.parts.proofs.Fields.{part-length, host-length, realm-length, user-field, server-field, mandatory-field, optional-field}
-use Rattle.reply.specs.Answer.{resultBytes, namedBytes, vendorNamed, frontBytes, originBytes, topBytes, nameBytes, dataBytes, givenBytes, failedPart, proxies, endBytes, restBytes, bodyBytes, headerBytes, answerBytes}
+use Rattle.reply.specs.Answer.{resultBytes, namedBytes, vendorNamed, frontBytes, originBytes, topBytes, nameBytes, dataBytes, givenBytes, failedPart}
+use Rattle.reply.specs.Answer.{proxies, endBytes, restBytes, bodyBytes, headerBytes, answerBytes}
 use Rattle.reply.proofs.Copies.{session-proxies}
 
 result-length : (o : Outcome) → length (resultBytes o) ≤ 32
@@ -76,14 +77,16 @@ module _ (t : List ℕ) (count : ℕ) (s : SoundTable t count) where
   -- 616 bytes are bounded by the table's fields; the rest comes from the request and from the profile file
   body-length : (req file : List ℕ) (g : Given)
       → length (bodyBytes req t file g)
-      ≤ 616 + copiedSize (length (sessionOf (bodyOf req))) + copiedSize (length (profileAt t file (g .profile))) + length (failedPart (failedBy req (g .verdict))) + length (proxies (bodyOf req))
+      ≤ 616 + copiedSize (length (sessionOf (bodyOf req))) + copiedSize (length (profileAt t file (g .profile)))
+      + length (failedPart (failedBy req (g .verdict))) + length (proxies (bodyOf req))
   unfolding bodyBytes topBytes restBytes givenBytes endBytes
   body-length req file g =
       simp length-append (omega (arith, front-length (sessionOf (bodyOf req)) (g .verdict .result), origin-length, names-length g, data-length file g))
 
   -- Session-Id and every Proxy-Info are copied from different AVPs.
   pub answer-length : (req file : List ℕ) (g : Given) → 20 ≤ length req → length req % 4 ≡ 0
-      → length (answerBytes req t file g) ≤ 616 + length req + copiedSize (length (profileAt t file (g .profile))) + length (failedPart (failedBy req (g .verdict)))
+      → length (answerBytes req t file g) ≤ 616 + length req + copiedSize (length (profileAt t file (g .profile)))
+      + length (failedPart (failedBy req (g .verdict)))
   unfolding answerBytes
   answer-length req file g h e =
       simp length-append

@@ -20,7 +20,8 @@ use Rattle.reading.specs.declared.Outcome.{Outcome}
 use Rattle.reading.specs.declared.Outcome.the-variants.{Base, Experimental}
 use Rattle.choices.specs.declared.Given.{Given}
 use Rattle.parts.specs.Profile.{profileAt}
-use Rattle.reply.specs.Answer.{resultBytes, namedBytes, vendorNamed, frontBytes, originBytes, topBytes, nameBytes, dataBytes, givenBytes, flagsOf, startBytes, headerBytes}
+use Rattle.reply.specs.Answer.{resultBytes, namedBytes, vendorNamed, frontBytes, originBytes, topBytes, nameBytes, dataBytes, givenBytes, flagsOf}
+use Rattle.reply.specs.Answer.{startBytes, headerBytes}
 use Rattle.reply.proofs.Rooms.{room-left, room-right, wrote-most, wrote-within}
 
 -- The result.
@@ -98,7 +99,8 @@ module _ (t x y : List ℕ) (g : Given) (ex : x ≡ ofBlock privateOf t (g .user
   module _ (ey : y ≡ ofBlock serverOf t (g .server)) {b xs : List ℕ} {n : ℕ} (p : Wrote (namedBytes 1 x) b xs n) where
     pub server-room : length (nameBytes t g) ≤ length b → length (vendorNamed 602 y) ≤ length (lent n xs)
     unfolding nameBytes
-    server-room r = let q = rw ex at p in rw ey (room-right (namedBytes 1 (ofBlock privateOf t (g .user))) (vendorNamed 602 (ofBlock serverOf t (g .server))) q r)
+    server-room r = let q = rw ex at p in rw ey
+        (room-right (namedBytes 1 (ofBlock privateOf t (g .user))) (vendorNamed 602 (ofBlock serverOf t (g .server))) q r)
 
     pub wrote-names : {ys : List ℕ} {r : ℕ} → Wrote (vendorNamed 602 y) (lent n xs) ys r → Wrote (nameBytes t g) b (back n xs ys) (n + r)
     unfolding nameBytes
@@ -108,14 +110,16 @@ module _ (t file m o d : List ℕ) (g : Given) (em : m ≡ ofBlock mandatoryOf t
   pub capable-room : {k : ℕ} → length (dataBytes t file g) ≤ k → length (capabilities m o) ≤ k
   unfolding dataBytes
   capable-room r =
-      rw (em, eo) (room-left (capabilities (ofBlock mandatoryOf t (g .capable)) (ofBlock optionalOf t (g .capable))) (vendorNamed 606 (profileAt t file (g .profile))) r)
+      rw (em, eo) (room-left (capabilities (ofBlock mandatoryOf t (g .capable)) (ofBlock optionalOf t (g .capable)))
+      (vendorNamed 606 (profileAt t file (g .profile))) r)
 
   module _ (ed : d ≡ profileAt t file (g .profile)) {b xs : List ℕ} {n : ℕ} (p : Wrote (capabilities m o) b xs n) where
     pub data-room : length (dataBytes t file g) ≤ length b → length (vendorNamed 606 d) ≤ length (lent n xs)
     unfolding dataBytes
     data-room r =
         let q = rw (em, eo) at p in
-        rw ed (room-right (capabilities (ofBlock mandatoryOf t (g .capable)) (ofBlock optionalOf t (g .capable))) (vendorNamed 606 (profileAt t file (g .profile))) q r)
+        rw ed (room-right (capabilities (ofBlock mandatoryOf t (g .capable)) (ofBlock optionalOf t (g .capable)))
+        (vendorNamed 606 (profileAt t file (g .profile))) q r)
 
     pub wrote-data : {ys : List ℕ} {r : ℕ} → Wrote (vendorNamed 606 d) (lent n xs) ys r → Wrote (dataBytes t file g) b (back n xs ys) (n + r)
     unfolding dataBytes
@@ -131,7 +135,8 @@ module _ (flags n : ℕ) (result : Outcome) (is : n ≡ numberOf result) where
   unfolding flagsOf
   flags-plain h = rw (← is, ne-eqb (n / 1000) 3 h) (omega arith)
 
-pub wrote-header : (req : List ℕ) (result : Outcome) (n f : ℕ) {b xs ys : List ℕ} → 20 ≤ length req → f ≡ flagsOf (getD req 4 0) result → Wrote (startBytes n f) b xs 5
+pub wrote-header : (req : List ℕ) (result : Outcome) (n f : ℕ) {b xs ys : List ℕ} → 20 ≤ length req → f ≡ flagsOf (getD req 4 0) result
+    → Wrote (startBytes n f) b xs 5
     → Wrote (take 15 (drop 5 req)) (lent 5 xs) ys (length (take 15 (drop 5 req))) → Wrote (headerBytes req result n) b (back 5 xs ys) 20
 unfolding headerBytes
 wrote-header req result n f room e p q = named (rw e) (simp (length-take, length-drop) (omega arith)) (then p q)

@@ -28,7 +28,8 @@ module _ (s : List ℕ) (at : ℕ) (a : Avp) (says : Says s at a) where
   follows : at + padded (length (ownOf s a)) ≡ a .next
   follows = rw (counted s a (says .here)) (sym (says .stepped))
 
-  places-walked : placesFrom at (walk (drop at s)) ≡ cond (eqb (kindOf (ownOf s a)) publicIdentity) (at ∷ placesFrom (a .next) (walk (drop (a .next) s))) (placesFrom (a .next) (walk (drop (a .next) s)))
+  places-walked : placesFrom at (walk (drop at s))
+      ≡ cond (eqb (kindOf (ownOf s a)) publicIdentity) (at ∷ placesFrom (a .next) (walk (drop (a .next) s))) (placesFrom (a .next) (walk (drop (a .next) s)))
   unfolding placesFrom
   places-walked = rw (says .walked, follows)
 
@@ -86,7 +87,8 @@ at-places s (suc n) at h = go (sound (drop at s)) refl (at-places s n (avpHere a
   where
     go : (x : Bool) → sound (drop at s) ≡ x
         → (length s ≤ avpHere at (drop at s) .next + n
-        → map (avpAt s) (placesFrom (avpHere at (drop at s) .next) (walk (drop (avpHere at (drop at s) .next) s))) ≡ identities (walk (drop (avpHere at (drop at s) .next) s)))
+        → map (avpAt s) (placesFrom (avpHere at (drop at s) .next) (walk (drop (avpHere at (drop at s) .next) s)))
+        ≡ identities (walk (drop (avpHere at (drop at s) .next) s)))
         → map (avpAt s) (placesFrom at (walk (drop at s))) ≡ identities (walk (drop at s))
     go true e later = let says = whole-says s at e in at-avp s at (avpHere at (drop at s)) says (later (omega (arith, says .later)))
     go false e later = at-none s at e
@@ -113,7 +115,8 @@ all-stood s (suc n) at h = go (sound (drop at s)) refl (all-stood s n (avpHere a
     kinds a says false ps r = stood-later s at (a .next) (omega (arith, says .later)) ps r
 
     go : (x : Bool) → sound (drop at s) ≡ x
-        → (length s ≤ avpHere at (drop at s) .next + n → All (Stood s (avpHere at (drop at s) .next)) (placesFrom (avpHere at (drop at s) .next) (walk (drop (avpHere at (drop at s) .next) s))))
+        → (length s ≤ avpHere at (drop at s) .next + n
+        → All (Stood s (avpHere at (drop at s) .next)) (placesFrom (avpHere at (drop at s) .next) (walk (drop (avpHere at (drop at s) .next) s))))
         → All (Stood s at) (placesFrom at (walk (drop at s)))
     go true e later =
         let says = whole-says s at e in

@@ -7,5 +7,6 @@ use Rattle.table.specs.declared.Checked.the-variants.{Sound, Bad}
 
 -- "sound, " and " records"; "block " and " is bad"
 abbrev pub Line : Checked → List ℕ → List ℕ → ℕ → Type 0
-Line (Sound count) before after r = Words (115 ∷ 111 ∷ 117 ∷ 110 ∷ 100 ∷ 44 ∷ 32 ∷ []) count (32 ∷ 114 ∷ 101 ∷ 99 ∷ 111 ∷ 114 ∷ 100 ∷ 115 ∷ 10 ∷ []) before after r
+Line (Sound count) before after r = Words (115 ∷ 111 ∷ 117 ∷ 110 ∷ 100 ∷ 44 ∷ 32 ∷ []) count
+    (32 ∷ 114 ∷ 101 ∷ 99 ∷ 111 ∷ 114 ∷ 100 ∷ 115 ∷ 10 ∷ []) before after r
 Line (Bad block) before after r = Words (98 ∷ 108 ∷ 111 ∷ 99 ∷ 107 ∷ 32 ∷ []) block (32 ∷ 105 ∷ 115 ∷ 32 ∷ 98 ∷ 97 ∷ 100 ∷ 10 ∷ []) before after r

@@ -12,7 +12,8 @@ use Rattle.answering.proofs.last.put_proxies.Statement.{statement}
 use Rattle.answering.proofs.last.put_proxies.Tie as tie
 
 abbrev Inv-loop : tie.InvT-loop
-Inv-loop out₀ req at₀ n₀ out at n = (length out ≡ length out₀) × (n ≤ length out₀) × Going out₀ out n (proxies (walk (drop at req))) (proxies (walk (drop 20 req)))
+Inv-loop out₀ req at₀ n₀ out at n = (length out ≡ length out₀) × (n ≤ length out₀)
+    × Going out₀ out n (proxies (walk (drop at req))) (proxies (walk (drop 20 req)))
 
 abbrev μ-loop : tie.MeasureT-loop
 μ-loop out₀ req at₀ n₀ out at n = length req - at

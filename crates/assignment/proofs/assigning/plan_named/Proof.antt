@@ -21,4 +21,5 @@ plan-named-spec =
     let found = known .before .before .before in
     let start = found .before .before .before .before .before .before in
     named-plan _ _ _ _ _ _ _ (c .plan-of .ensures) (c .before .finding-of .ensures) (c .before .before .also-known .ensures) (known .user-known .ensures)
-    (known .before .survey-by .ensures) (known .before .before .block-found .ensures) (found .find-public .ensures) (found .before .data-at .ensures .0) (start .pre .1)))
+    (known .before .survey-by .ensures) (known .before .before .block-found .ensures) (found .find-public .ensures) (found .before .data-at .ensures .0)
+    (start .pre .1)))

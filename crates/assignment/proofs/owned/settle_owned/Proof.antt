@@ -27,14 +27,31 @@ settle-owned-spec =
     (tie.spec
     Inv-loop
     μ-loop
-    (λ c. (search (needs, sound-few), search needs, search needs, search (needs, sound-size), search (needs, sound-size), search needs, search (needs, owned-start), search (needs, sum-start)))
+    (λ c. (
+      search (needs, sound-few),
+      search needs,
+      search needs,
+      search (needs, sound-size),
+      search (needs, sound-size),
+      search needs,
+      search (needs, owned-start),
+      search (needs, sum-start),
+    ))
     (λ c κs. search needs)
     (λ c κs. search needs)
     (λ c κs. search needs)
     (λ c. search needs)
     (λ c. search needs)
     (λ c. search needs)
-    (λ c.
-    (search needs, search needs, search needs, search needs, search (needs, owned-size), search (needs, owned-few), search (needs, owned-turn), search (needs, owned-counts)))
+    (λ c. (
+      search needs,
+      search needs,
+      search needs,
+      search needs,
+      search (needs, owned-size),
+      search (needs, owned-few),
+      search (needs, owned-turn),
+      search (needs, owned-counts),
+    ))
     (λ c. search needs)
     (λ c. (search (needs, owned-end), search (needs, sum-end, owned-end))))

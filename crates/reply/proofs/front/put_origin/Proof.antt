@@ -20,6 +20,7 @@ put-origin-spec =
     let second = c .before .before in
     let first = second .before .before .before .before .before in
     let start = first .before .before .before .before .before in (
-      origin-most _ _ _ (first .before .host .ensures .0) (second .before .realm .ensures .0) (first .put-avp .ensures .1) (start .pre .1) (second .put-avp2 .ensures .1),
+      origin-most _ _ _ (first .before .host .ensures .0) (second .before .realm .ensures .0) (first .put-avp .ensures .1) (start .pre .1)
+          (second .put-avp2 .ensures .1),
       search (needs, wrote-origin),
     )))
