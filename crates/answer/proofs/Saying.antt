@@ -10,16 +10,16 @@ use Rattle.ndushavire.specs.Lent.{Lent}
 use Rattle.ndushavire.specs.Reads.{numberIn, valueIn}
 use Rattle.ndushavire.specs.Promise.{DecidePromise}
 use Rattle.demands.proofs.Demands.{demand-1-word, demand-1-within}
-use Rattle.answer.specs.Said.{Fits, Said, SaidTo}
+use Rattle.answer.specs.Said.{SaidFits, Said, SaidTo}
 
 -- An answer that a call says lies within the buffer that it leaves.
-pub promise-fits : (x : Lent) (w : ℕ) {t' o' : List ℕ} → DecidePromise x w t' o' → length o' ≡ length (x .buffer) → Fits w (length o')
+pub promise-fits : (x : Lent) (w : ℕ) {t' o' : List ℕ} → DecidePromise x w t' o' → length o' ≡ length (x .buffer) → SaidFits w (length o')
 promise-fits x w p l =
     let r = rw (← p .word-is) at (demand-1-word x) in
     record { within = λ e. (let h = demand-1-within x (sym (r .number) ∙ e) in omega (arith, h, r .value, l)) }
 
 -- Of number 0 the answer stands; of any other the refusal is written.
-pub answer-within : (w n r : ℕ) → Fits w n → numberIn w ≡ 0 → r ≡ valueIn w → r ≤ n
+pub answer-within : (w n r : ℕ) → SaidFits w n → numberIn w ≡ 0 → r ≡ valueIn w → r ≤ n
 answer-within w n r f e q = rw q (f .within e)
 
 pub said-answer : (w : ℕ) (o : List ℕ) {r : ℕ} → numberIn w ≡ 0 → r ≡ valueIn w → Said w o o r

@@ -11,16 +11,16 @@ use Rattle.ndushavire.specs.Word.{callWord}
 use Rattle.ndushavire.specs.Reads.{numberIn, valueIn}
 
 -- the answer of a word that says one lies within a buffer of n bytes
-pub record Fits (w n : ℕ) : Type 0 where
+pub record SaidFits (w n : ℕ) : Type 0 where
   pub within : numberIn w ≡ 0 → valueIn w ≤ n
 
 -- the first r bytes of the buffer are the answer, as it was left there
-pub record Stands (w : ℕ) (before after : List ℕ) (r : ℕ) : Type 0 where
+pub record SaidStands (w : ℕ) (before after : List ℕ) (r : ℕ) : Type 0 where
   pub count : r ≡ valueIn w
   pub bytes : after ≡ before
 
 abbrev pub SaidIf : Bool → ℕ → List ℕ → List ℕ → ℕ → Type 0
-SaidIf true w before after r = Stands w before after r
+SaidIf true w before after r = SaidStands w before after r
 SaidIf false w before after r = Words (114 ∷ 101 ∷ 102 ∷ 117 ∷ 115 ∷ 101 ∷ 100 ∷ 32 ∷ []) (numberIn w) (10 ∷ []) before after r
 
 -- the first r bytes of the buffer afterwards are written: number 0 is an answer, any other a refusal

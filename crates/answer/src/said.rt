@@ -2,7 +2,7 @@
 ghost use Prim.Native.Nat.{_≤_};
 ghost use lib.ListN.{length};
 ghost use Rattle.ndushavire.specs.Lent.{lent};
-ghost use Rattle.answer.specs.Said.{Fits, Said, SaidTo};
+ghost use Rattle.answer.specs.Said.{SaidFits, Said, SaidTo};
 
 // What the number of a returned word counts, 2^48, and what its value stays below, 2^32.
 const NUMBER: u64 = 281474976710656;
@@ -11,7 +11,7 @@ const VALUE: u64 = 4294967296;
 
 // An answer stands at the front of out already; a refusal is written there.
 fn put_said(out: &mut [u8], w: u64) -> usize
-    requires { ⌜ (30 ≤ length (now out)) × Fits w (length (now out)) ⌝ }
+    requires { ⌜ (30 ≤ length (now out)) × SaidFits w (length (now out)) ⌝ }
     ensures { λ r. ⌜ (r ≤ length (now (out .exit))) × Said w (now (out .entry)) (now (out .exit)) r ⌝ }
 {
     let number = (w / NUMBER) as u32;
