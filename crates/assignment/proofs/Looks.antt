@@ -2,7 +2,7 @@
 use Prim.Native.Nat.{ℕ, _+_, _≤_}
 use mathlib.Core.List.{List}
 use mathlib.Core.Bool.{Bool, true, false, _&&_, _||_}
-use mathlib.Core.Path.{_≡_, refl, _∙_}
+use mathlib.Core.Path.{_≡_, _∙_}
 use native.Mathlib.Numerals.{add-one}
 use native.Mathlib.Omega.{arith}
 use lib.ListN.{getD}
@@ -16,7 +16,7 @@ use Rattle.choices.specs.Types.{allowed}
 use Rattle.choices.specs.declared.types.AssignmentType.{AssignmentType}
 use Rattle.choices.specs.declared.plan.Survey.{Survey}
 use Rattle.assignment.specs.Assignment.{every, ownedHere, ownedUpTo, surveyOf}
-use Rattle.assignment.specs.Survey.{clean, both, unknown, lookAt, lookFound, glimpsed}
+use Rattle.assignment.specs.Survey.{clean, both, notFound, lookAt, lookFound, glimpsed}
 use Rattle.assignment.proofs.Surveys.{survey-more}
 
 pub owned-all : (b user : List ℕ) {p : List ℕ} {x : Bool} → p ≡ privateOf b → x ≡ same p user → (ltb 0 (getD b 8 0) && x) ≡ ownedHere b user
@@ -34,7 +34,7 @@ module _ (t owner server : List ℕ) (kind : AssignmentType) (f : Found) where
   unfolding lookFound
   look-here k e g h = rw (e, ← g) h
 
-  pub look-none : f ≡ Nothing → unknown ≡ lookFound t f owner server kind
+  pub look-none : f ≡ Nothing → notFound ≡ lookFound t f owner server kind
   unfolding lookFound
   look-none e = rw e
 

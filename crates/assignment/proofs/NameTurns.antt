@@ -1,13 +1,12 @@
 -- The turns of the loops over a SAR's identities, and what there are of them.
-use Prim.Native.Nat.{ℕ, _+_, _*_, _≤_, _<_}
+use Prim.Native.Nat.{ℕ, _+_, _*_, _≤_}
 use mathlib.Core.List.{List, [], _∷_}
 use mathlib.Core.Bool.{Bool, true, false, _&&_}
 use mathlib.Core.Path.{_≡_, refl, sym, ap, _∙_}
 use native.Mathlib.Omega.{arith}
 use lib.ListN.{length, drop}
 use lib.Dec.{eqb}
-use borrow.Author.Tests.{eqb-true, eqb-false, eq-eqb, lt-ltb}
-use Rattle.table.specs.Blocks.{blockOf}
+use borrow.Author.Tests.{eqb-true, eqb-false, eq-eqb}
 use Rattle.table.specs.SoundTable.{SoundTable}
 use Rattle.table.proofs.Blocks.{block-length}
 use Rattle.table.proofs.Sound.{sound-size, sound-few, sound-block}
@@ -40,7 +39,7 @@ use Rattle.choices.specs.declared.types.AssignmentType.{AssignmentType}
 use Rattle.choices.specs.declared.plan.Survey.{Survey}
 use Rattle.assignment.specs.Assignment.{meantBy, isOne, findAll, numbersOf}
 use Rattle.assignment.specs.Survey.{clean, both, lookFound, foundSurvey}
-use Rattle.assignment.specs.declared.Meant.the-variants.{Fault, Owned, Named}
+use Rattle.assignment.specs.declared.Meant.the-variants.{Fault, Owned, Listed}
 use Rattle.assignment.proofs.Surveys.{survey-cons, both-assoc, both-clean}
 
 -- the identities from a place on
@@ -179,16 +178,16 @@ module _ (s : List ℕ) (removal named : Bool) (r : Next) (n : identity.Named s 
   means-none d e = rw (no-place s 20 r n d, e)
 
   module _ (place past : ℕ) (d : r ≡ next.At place past) where
-    pub means-removal : removal ≡ true → Named place ≡ meantBy removal named (placesFrom 20 (bodyOf s))
+    pub means-removal : removal ≡ true → Listed place ≡ meantBy removal named (placesFrom 20 (bodyOf s))
     unfolding meantBy
     means-removal e = rw (first-place s 20 r n place past d, e) (go (placesFrom past (walk (drop past s))))
       where
-        go : (others : List ℕ) → Named place ≡ meantBy true named (place ∷ others)
+        go : (others : List ℕ) → Listed place ≡ meantBy true named (place ∷ others)
         go [] = refl
         go (q ∷ others) = refl
 
     module _ (q : Next) (m : identity.Named s past q) where
-      pub means-one : q ≡ next.Nothing → Named place ≡ meantBy removal named (placesFrom 20 (bodyOf s))
+      pub means-one : q ≡ next.Nothing → Listed place ≡ meantBy removal named (placesFrom 20 (bodyOf s))
       unfolding meantBy
       means-one g = rw (first-place s 20 r n place past d, no-place s past q m g)
 

@@ -1,7 +1,7 @@
 -- What the plan of a SAR is, by whom it means.
 use Prim.Native.Nat.{ℕ, _+_, _*_, _≤_}
 use mathlib.Core.List.{List, [], _∷_, map}
-use mathlib.Core.Bool.{Bool, true, false, cond, not, _&&_, _||_}
+use mathlib.Core.Bool.{Bool, true, false, cond, not, _&&_}
 use mathlib.Core.Path.{_≡_, refl, sym, ap, _∙_}
 use native.Mathlib.Omega.{arith}
 use lib.ListN.{length}
@@ -36,7 +36,7 @@ use Rattle.decisions.proofs.Among.{public-among}
 use Rattle.assignment.specs.Assignment.{meantBy, findAll, firstOf, ownedUpTo, surveyOf, userKnown, ownerBy, namedSurvey, ownedSurvey, assignMeant, assign}
 use Rattle.assignment.specs.Survey.{sarOf, alsoKnown, foundSurvey}
 use Rattle.assignment.specs.declared.Meant.{Meant}
-use Rattle.assignment.specs.declared.Meant.the-variants.{Fault, Owned, Named}
+use Rattle.assignment.specs.declared.Meant.the-variants.{Fault, Owned, Listed}
 
 -- The User-Name.
 module _ (t : List ℕ) (count : ℕ) (named : Bool) (user : List ℕ) where
@@ -87,17 +87,17 @@ record Begins (place : ℕ) (ps : List ℕ) : Type 0 where
   others : List ℕ
   rest : ps ≡ place ∷ others
 
-begins : (removal named : Bool) (ps : List ℕ) (place : ℕ) → Named place ≡ meantBy removal named ps → Begins place ps
+begins : (removal named : Bool) (ps : List ℕ) (place : ℕ) → Listed place ≡ meantBy removal named ps → Begins place ps
 unfolding meantBy
 begins removal named [] place e = absurd (go (removal && named) e)
   where
-    go : (x : Bool) → Named place ≡ cond x Owned (Fault (lackOf publicIdentity)) → ⊥
+    go : (x : Bool) → Listed place ≡ cond x Owned (Fault (lackOf publicIdentity)) → ⊥
     go true f = let z : _≡_ {A = ℕ} 0 1 = cc in omega arith
     go false f = let z : _≡_ {A = ℕ} 0 1 = cc in omega arith
 begins removal named (p ∷ []) place e = let q : place ≡ p = cc in record { others = []; rest = rw q }
 begins removal named (p ∷ (q ∷ others)) place e = go removal e
   where
-    go : (x : Bool) → Named place ≡ cond x (Named p) (Fault (faultAt 5009 q)) → Begins place (p ∷ (q ∷ others))
+    go : (x : Bool) → Listed place ≡ cond x (Listed p) (Fault (faultAt 5009 q)) → Begins place (p ∷ (q ∷ others))
     go true f = let h : place ≡ p = cc in record { others = q ∷ others; rest = rw h }
     go false f = absurd (let z : _≡_ {A = ℕ} 0 1 = cc in omega arith)
 
@@ -109,7 +109,7 @@ module _ (t : List ℕ) (count : ℕ) (req : List ℕ) where
       let i : identities (bodyOf req) ≡ avpAt req place ∷ map (avpAt req) (b .others) = sym (identities-at req 20) ∙ ap (map (avpAt req)) (b .rest) in
       rw i
 
-  first-is : (removal named : Bool) (place : ℕ) → Named place ≡ meantBy removal named (placesFrom 20 (bodyOf req))
+  first-is : (removal named : Bool) (place : ℕ) → Listed place ≡ meantBy removal named (placesFrom 20 (bodyOf req))
       → firstOf (findAll t count (identities (bodyOf req))) ≡ blockFound (findPublic t count (dataAt req place))
   first-is removal named place e = first-at place (begins removal named (placesFrom 20 (bodyOf req)) place e)
 
@@ -120,8 +120,8 @@ module _ (t : List ℕ) (count : ℕ) (req : List ℕ) where
         → w ≡ alsoKnown v u → u ≡ userKnown t count (s .named) user
         → v ≡ foundSurvey t (ownerBy t first (s .named) user) server (s .kind) (findAll t count (identities (bodyOf req)))
         → first ≡ blockFound f → f ≡ findPublic t count name → name ≡ dataAt req place
-        → Named place ≡ meantBy (isRemoval (s .kind)) (s .named) (placesFrom 20 (bodyOf req))
-        → p ≡ assignMeant t count (sarOf req s server user) (Named place)
+        → Listed place ≡ meantBy (isRemoval (s .kind)) (s .named) (placesFrom 20 (bodyOf req))
+        → p ≡ assignMeant t count (sarOf req s server user) (Listed place)
     unfolding assignMeant namedSurvey alsoKnown surveyOf
     named-plan place {name} {f} {first} ep ex ew eu ev ek ef en e =
         let q : firstOf (findAll t count (identities (bodyOf req))) ≡ first = first-is (isRemoval (s .kind)) (s .named) place e ∙ rw (← en, ← ef) (sym ek) in
@@ -141,7 +141,7 @@ module _ (t : List ℕ) (count : ℕ) (req : List ℕ) where
       pub meant-owned : m ≡ Owned → p ≡ assignMeant t count (sarOf req s server user) Owned → p ≡ assignMeant t count (sarOf req s server user) m
       meant-owned e h = rw e h
 
-      pub meant-named : (place : ℕ) → m ≡ Named place → p ≡ assignMeant t count (sarOf req s server user) (Named place)
+      pub meant-named : (place : ℕ) → m ≡ Listed place → p ≡ assignMeant t count (sarOf req s server user) (Listed place)
           → p ≡ assignMeant t count (sarOf req s server user) m
       meant-named place e h = rw e h
 
@@ -156,6 +156,6 @@ module _ (s : Sar) (req : List ℕ) (m : Meant) where
       → m ≡ meantBy (isRemoval (s .kind)) (s .named) (placesFrom 20 (bodyOf req))
   meant-kind a e = rw (← a) e
 
-  pub meant-place : (place : ℕ) → m ≡ Named place → m ≡ meantBy (isRemoval (s .kind)) (s .named) (placesFrom 20 (bodyOf req))
-      → Named place ≡ meantBy (isRemoval (s .kind)) (s .named) (placesFrom 20 (bodyOf req))
+  pub meant-place : (place : ℕ) → m ≡ Listed place → m ≡ meantBy (isRemoval (s .kind)) (s .named) (placesFrom 20 (bodyOf req))
+      → Listed place ≡ meantBy (isRemoval (s .kind)) (s .named) (placesFrom 20 (bodyOf req))
   meant-place place e h = sym e ∙ h

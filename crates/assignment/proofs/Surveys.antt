@@ -1,7 +1,7 @@
 -- Laws of what is seen of a SAR's records: one identity more, one block more.
 use Prim.Native.Nat.{ℕ, suc}
 use mathlib.Core.List.{List, [], _∷_, _++_, append-nil}
-use mathlib.Core.Bool.{Bool, true, false, not, cond, _&&_, _||_, and-assoc, and-true, or-assoc, or-false}
+use mathlib.Core.Bool.{Bool, true, false, not, _&&_, _||_, and-assoc, and-true, or-assoc, or-false}
 use mathlib.Core.Path.{_≡_, refl, sym}
 use Rattle.table.specs.Blocks.{blockOf, privateAt}
 use Rattle.lookup.specs.declared.Found.{Found}

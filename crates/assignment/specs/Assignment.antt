@@ -24,7 +24,7 @@ use Rattle.choices.specs.declared.plan.Survey.{Survey}
 use Rattle.choices.specs.declared.plan.Plan.{Plan}
 use Rattle.decisions.specs.Carried.{blockFound}
 use Rattle.assignment.specs.declared.Meant.{Meant}
-use Rattle.assignment.specs.declared.Meant.the-variants.{Fault, Owned, Named}
+use Rattle.assignment.specs.declared.Meant.the-variants.{Fault, Owned, Listed}
 
 -- What a SAR says: its numbers, its server name, the User-Name (empty where none is given), the identities (the AVPs themselves) and their places
 pub record Assignment : Type 0 where
@@ -38,8 +38,8 @@ pub record Assignment : Type 0 where
 -- its records not in state 0."
 unfoldable pub meantBy : Bool → Bool → List ℕ → Meant
 meantBy removal named [] = cond (removal && named) Owned (Fault (lackOf publicIdentity))
-meantBy removal named (p ∷ []) = Named p
-meantBy removal named (p ∷ (q ∷ others)) = cond removal (Named p) (Fault (faultAt 5009 q))
+meantBy removal named (p ∷ []) = Listed p
+meantBy removal named (p ∷ (q ∷ others)) = cond removal (Listed p) (Fault (faultAt 5009 q))
 
 -- a test holds of all
 unfoldable pub every : {X : Type 0} → (X → Bool) → List X → Bool
@@ -125,7 +125,7 @@ module _ (t : List ℕ) (count : ℕ) (s : Assignment) where
   unfoldable pub assignMeant : Meant → Plan
   assignMeant (Fault v) = only (givenFault v)
   assignMeant Owned = planOf (findingOf ownedSurvey (s .numbers .kind)) (s .numbers) 0 true
-  assignMeant (Named place) = planOf (findingOf namedSurvey (s .numbers .kind)) (s .numbers) (firstOf found) false
+  assignMeant (Listed place) = planOf (findingOf namedSurvey (s .numbers .kind)) (s .numbers) (firstOf found) false
 
   unfoldable pub assign : Plan
   assign = assignMeant (meantBy (isRemoval (s .numbers .kind)) (s .numbers .named) (s .places))

@@ -37,8 +37,8 @@ both a b =
       right = a .right && b .right;
     }
 
-abbrev pub unknown : Survey
-unknown = record { known = false; some = false; own = true; stores = true; fits = true; right = true }
+abbrev pub notFound : Survey
+notFound = record { known = false; some = false; own = true; stores = true; fits = true; right = true }
 
 unfoldable pub alsoKnown : Survey → Bool → Survey
 alsoKnown v known = record { known = v .known && known; some = v .some; own = v .own; stores = v .stores; fits = v .fits; right = v .right }
@@ -57,7 +57,7 @@ lookAt b owner server kind =
 
 unfoldable pub lookFound : List ℕ → Found → List ℕ → List ℕ → AssignmentType → Survey
 lookFound t (At k) owner server kind = lookAt (blockOf t k) owner server kind
-lookFound t Nothing owner server kind = unknown
+lookFound t Nothing owner server kind = notFound
 
 unfoldable pub glimpsed : Survey → List ℕ → List ℕ → List ℕ → AssignmentType → Survey
 glimpsed seen b user server kind = cond (ownedHere b user) (both seen (lookAt b user server kind)) seen

@@ -70,8 +70,8 @@ fn plan_named(
     server: &[u8],
     user: &[u8],
 ) -> Plan
-    requires { ⌜ SoundTable (now t) count × (Meant.Named place ≡ meantBy (isRemoval (s .kind)) (s .named) (placesFrom 20 (bodyOf (now req)))) ⌝ }
-    ensures { λ r. ⌜ r ≡ assignMeant (now (t .entry)) count (sarOf (now (req .entry)) s (now (server .entry)) (now (user .entry))) (Meant.Named place) ⌝ }
+    requires { ⌜ SoundTable (now t) count × (Meant.Listed place ≡ meantBy (isRemoval (s .kind)) (s .named) (placesFrom 20 (bodyOf (now req)))) ⌝ }
+    ensures { λ r. ⌜ r ≡ assignMeant (now (t .entry)) count (sarOf (now (req .entry)) s (now (server .entry)) (now (user .entry))) (Meant.Listed place) ⌝ }
 {
     let f = lookup::find_public(t, count, diameter::data_at(req, place));
     let first = carrying::block_found(f);
@@ -107,7 +107,7 @@ fn plan_meant(
     match m {
         Meant::Fault(v) => plan::reply_only(giving::faulty(v)),
         Meant::Owned => plan_owned(t, count, req, s, server, user),
-        Meant::Named(place) => plan_named(t, count, req, place, s, server, user),
+        Meant::Listed(place) => plan_named(t, count, req, place, s, server, user),
     }
 }
 

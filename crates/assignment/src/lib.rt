@@ -11,5 +11,5 @@ use reading::Verdict;
 pub enum Meant {
     Fault(Verdict),
     Owned,
-    Named(usize),
+    Listed(usize),
 }

@@ -36,14 +36,14 @@ pub fn meant_by(req: &[u8], removal: bool, named: bool) -> Meant
         });
     };
     if removal {
-        return Meant::Named(place);
+        return Meant::Listed(place);
     }
     let Next::At {
         place: second,
         past: _,
     } = identities::next_identity(req, past)
     else {
-        return Meant::Named(place);
+        return Meant::Listed(place);
     };
     Meant::Fault(Verdict {
         result: Outcome::Base(5009),

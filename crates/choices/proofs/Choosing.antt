@@ -1,4 +1,4 @@
--- The ways through the decision on a UAR and on a LIR, and an eliminator of what they choose.
+-- The ways through the decision on a UAR and on a LIR.
 use Prim.Native.Nat.{ℕ}
 use mathlib.Core.Bool.{Bool, true, false, not, _&&_}
 use mathlib.Core.Path.{_≡_}

@@ -14,17 +14,17 @@ use Rattle.choices.specs.declared.types.Effect.{Effect}
 use Rattle.choices.specs.declared.plan.Sar.{Sar}
 use Rattle.choices.specs.declared.plan.Survey.{Survey}
 use Rattle.choices.specs.declared.plan.Finding.{Finding}
-use Rattle.choices.specs.declared.plan.Finding.the-variants.{Refused, Fine}
+use Rattle.choices.specs.declared.plan.Finding.the-variants.{Denied, Fine}
 use Rattle.choices.specs.declared.plan.Plan.{Plan}
 
 -- What a survey comes to.
 module _ (v : Survey) (kind : AssignmentType) where
-  pub is-unknown : not (v .known) ≡ true → Refused (Experimental 5001) ≡ findingOf v kind
+  pub is-unknown : not (v .known) ≡ true → Denied (Experimental 5001) ≡ findingOf v kind
   unfolding findingOf
   is-unknown a = rw a
 
   module _ (a : not (v .known) ≡ false) where
-    pub is-foreign : not (v .own) ≡ true → Refused (Experimental 5002) ≡ findingOf v kind
+    pub is-foreign : not (v .own) ≡ true → Denied (Experimental 5002) ≡ findingOf v kind
     unfolding findingOf
     is-foreign b = rw (a, b)
 
@@ -33,16 +33,16 @@ module _ (v : Survey) (kind : AssignmentType) where
       unfolding findingOf
       is-held c d = let e : asksOnly kind ≡ true = sym asks ∙ c in rw (a, b, e, d)
 
-      pub is-not-held : x ≡ true → v .stores ≡ false → Refused (Base 5012) ≡ findingOf v kind
+      pub is-not-held : x ≡ true → v .stores ≡ false → Denied (Base 5012) ≡ findingOf v kind
       unfolding findingOf
       is-not-held c d = let e : asksOnly kind ≡ true = sym asks ∙ c in rw (a, b, e, d)
 
       module _ (c : x ≡ false) where
-        pub is-taken : not (v .fits) ≡ true → Refused (Experimental 5005) ≡ findingOf v kind
+        pub is-taken : not (v .fits) ≡ true → Denied (Experimental 5005) ≡ findingOf v kind
         unfolding findingOf
         is-taken d = let e : asksOnly kind ≡ false = sym asks ∙ c in rw (a, b, e, d)
 
-        pub is-wrong : not (v .fits) ≡ false → not (v .some && v .right) ≡ true → Refused (Experimental 5007) ≡ findingOf v kind
+        pub is-wrong : not (v .fits) ≡ false → not (v .some && v .right) ≡ true → Denied (Experimental 5007) ≡ findingOf v kind
         unfolding findingOf
         is-wrong d f = let e : asksOnly kind ≡ false = sym asks ∙ c in rw (a, b, e, d, f)
 
@@ -74,9 +74,9 @@ module _ (s : Sar) (first : ℕ) (result : Outcome) {g : Given} {x : Bool} (carr
 
 -- The plan of each finding.
 module _ (s : Sar) (first : ℕ) (owned : Bool) where
-  pub plan-refused : (f : Finding) (o : Outcome) {g : Given} {p : Plan} → f ≡ Refused o → g ≡ givenPlain o → p ≡ only g → p ≡ planOf f s first owned
+  pub plan-denied : (f : Finding) (o : Outcome) {g : Given} {p : Plan} → f ≡ Denied o → g ≡ givenPlain o → p ≡ only g → p ≡ planOf f s first owned
   unfolding planOf
-  plan-refused f o e a b = rw e (b ∙ ap only a)
+  plan-denied f o e a b = rw e (b ∙ ap only a)
 
   pub plan-fine : (f : Finding) {p : Plan} → f ≡ Fine → p ≡ planOf Fine s first owned → p ≡ planOf f s first owned
   plan-fine f e a = rw e a

@@ -11,18 +11,18 @@ use Rattle.choices.specs.declared.types.AssignmentType.{AssignmentType}
 use Rattle.choices.specs.declared.plan.Sar.{Sar}
 use Rattle.choices.specs.declared.plan.Survey.{Survey}
 use Rattle.choices.specs.declared.plan.Finding.{Finding}
-use Rattle.choices.specs.declared.plan.Finding.the-variants.{Refused, Fine}
+use Rattle.choices.specs.declared.plan.Finding.the-variants.{Denied, Fine}
 use Rattle.choices.specs.declared.plan.Plan.{Plan}
 
 -- "any named identity, or a User-Name given, unknown: X5001. All in one subscription, the User-Name's if given, else X5002. Type 0: stored name equal to the
 -- request's, B2001, else B5012. A stored name of one of these records that differs from the request's: X5005. Wrong state: X5007 .. and at least one record."
 unfoldable pub findingOf : Survey → AssignmentType → Finding
 findingOf v kind =
-    cond (not (v .known)) (Refused (Experimental 5001))
-    (cond (not (v .own)) (Refused (Experimental 5002))
-    (cond (asksOnly kind) (cond (v .stores) Fine (Refused (Base 5012)))
-    (cond (not (v .fits)) (Refused (Experimental 5005))
-    (cond (not (v .some && v .right)) (Refused (Experimental 5007))
+    cond (not (v .known)) (Denied (Experimental 5001))
+    (cond (not (v .own)) (Denied (Experimental 5002))
+    (cond (asksOnly kind) (cond (v .stores) Fine (Denied (Base 5012)))
+    (cond (not (v .fits)) (Denied (Experimental 5005))
+    (cond (not (v .some && v .right)) (Denied (Experimental 5007))
     Fine))))
 
 -- "User-Name (the record's private identity; SAR success, types 0 to 3)"; "User-Data 606 (SAR success, types 0 to 3, 624 is 0, ..)"; the record is that of
@@ -35,7 +35,7 @@ abbrev pub only : Given → Plan
 only g = record { given = g; write = false; owned = false; state = 0; named = false }
 
 unfoldable pub planOf : Finding → Sar → ℕ → Bool → Plan
-planOf (Refused r) s first owned = only (givenPlain r)
+planOf (Denied r) s first owned = only (givenPlain r)
 planOf Fine s first owned =
     record {
       given = grant s first (effectOf (s .kind) (s .keep) .result);

@@ -28,7 +28,7 @@ pub struct Survey {
 
 // What a survey comes to.
 pub enum Finding {
-    Refused(Outcome),
+    Denied(Outcome),
     Fine,
 }
 
@@ -47,22 +47,22 @@ pub fn finding_of(v: Survey, kind: AssignmentType) -> Finding
     ensures { λ r. ⌜ r ≡ findingOf v kind ⌝ }
 {
     if !v.known {
-        return Finding::Refused(Outcome::Experimental(5001));
+        return Finding::Denied(Outcome::Experimental(5001));
     }
     if !v.own {
-        return Finding::Refused(Outcome::Experimental(5002));
+        return Finding::Denied(Outcome::Experimental(5002));
     }
     if types::asks_only(kind) {
         if v.stores {
             return Finding::Fine;
         }
-        return Finding::Refused(Outcome::Base(5012));
+        return Finding::Denied(Outcome::Base(5012));
     }
     if !v.fits {
-        return Finding::Refused(Outcome::Experimental(5005));
+        return Finding::Denied(Outcome::Experimental(5005));
     }
     if !(v.some & v.right) {
-        return Finding::Refused(Outcome::Experimental(5007));
+        return Finding::Denied(Outcome::Experimental(5007));
     }
     Finding::Fine
 }
@@ -114,7 +114,7 @@ pub fn plan_of(f: Finding, s: Sar, first: u32, owned: bool) -> Plan
     ensures { λ r. ⌜ r ≡ planOf f s first owned ⌝ }
 {
     match f {
-        Finding::Refused(result) => reply_only(giving::plain(result)),
+        Finding::Denied(result) => reply_only(giving::plain(result)),
         Finding::Fine => effecting(s, first, owned),
     }
 }

@@ -1,2 +1,2 @@
 pub mod Among
-pub mod Answers
+pub mod Questions

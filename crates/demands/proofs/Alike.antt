@@ -1,7 +1,6 @@
 -- Demand 3: two requests that say the same are decided alike. The places of their AVPs may differ, and Failed-AVP holds the same all the same.
-use Prim.Native.Nat.{ℕ, _≤_}
+use Prim.Native.Nat.{ℕ}
 use mathlib.Core.List.{List, [], _∷_, map}
-use mathlib.Core.Option.{some}
 use mathlib.Core.Bool.{Bool, true, false, cond, _&&_}
 use mathlib.Core.Path.{_≡_, refl, sym, ap, _∙_}
 use native.Mathlib.Omega.{arith}
@@ -28,7 +27,7 @@ use Rattle.decisions.specs.Authorization.{authorizeFound, authorize}
 use Rattle.decisions.specs.Location.{locateFound, locate}
 use Rattle.assignment.specs.Assignment.{Assignment, meantBy, found, firstOf, namedSurvey, ownedSurvey, assignMeant, assign, plannedRecords, carriedOut}
 use Rattle.assignment.specs.declared.Meant.{Meant}
-use Rattle.assignment.specs.declared.Meant.the-variants.{Fault, Owned, Named}
+use Rattle.assignment.specs.declared.Meant.the-variants.{Fault, Owned, Listed}
 use Rattle.fitting.specs.Decide.{Decision, assignmentOf, planRead}
 use Rattle.fitting.proofs.Blameless.{Blameless, carried-blameless, plan-blameless}
 use Rattle.demands.proofs.Moved.{failed-there}
@@ -56,7 +55,7 @@ module _ (long short : List ℕ) where
   pub data SameMeant : Meant → Meant → Type 0 where
     fault : (v w : Verdict) → v .result ≡ w .result → failedBy long v ≡ failedBy short w → SameMeant (Fault v) (Fault w)
     owned : SameMeant Owned Owned
-    named : (p q : ℕ) → SameMeant (Named p) (Named q)
+    named : (p q : ℕ) → SameMeant (Listed p) (Listed q)
 
   lacking-same : failedBy long (lackOf publicIdentity) ≡ failedBy short (lackOf publicIdentity)
   unfolding failedBy
@@ -84,7 +83,7 @@ module _ (long short : List ℕ) where
   places-same removal given (p ∷ (o ∷ ps)) (q ∷ []) e a b = absurd (omega (arith, ap length e))
   places-same removal given (p ∷ (o ∷ ps)) (q ∷ (r ∷ qs)) e a b = go removal
     where
-      go : (x : Bool) → SameMeant (cond x (Named p) (Fault (faultAt 5009 o))) (cond x (Named q) (Fault (faultAt 5009 r)))
+      go : (x : Bool) → SameMeant (cond x (Listed p) (Fault (faultAt 5009 o))) (cond x (Listed q) (Fault (faultAt 5009 r)))
       go true = named p q
       go false = second-same o r (a .1 .0) (b .1 .0) (ap (λ (l : List (List ℕ)). getD l 1 []) e)
 
@@ -120,7 +119,7 @@ module _ (long short : List ℕ) where
       unfolding assignmentOf assignMeant ownedSurvey namedSurvey carriedOut plannedRecords
       meant-alike (Fault v) = refl
       meant-alike Owned = rw named-same
-      meant-alike (Named place) = rw named-same
+      meant-alike (Listed place) = rw named-same
 
       sar-same : SameDecision long short (planned (assignmentOf t seen long) (assign t count (assignmentOf t seen long)))
           (planned (assignmentOf t seen short) (assign t count (assignmentOf t seen short)))

@@ -21,7 +21,6 @@ use Rattle.diameter.specs.Reader.{avpAt}
 use Rattle.reading.specs.Kinds.{publicIdentity}
 use Rattle.reading.specs.Rules.{Seen}
 use Rattle.requests.specs.Judged.{Judged, bad, fine}
-use Rattle.reading.specs.Verdicts.{faultAt}
 use Rattle.diameter.specs.Message.{commandOf, bodyOf}
 use Rattle.reading.specs.Verdicts.{lackOf}
 use Rattle.requests.specs.Request.{readRequest, identities}
@@ -37,10 +36,10 @@ use Rattle.choices.specs.declared.plan.Plan.{Plan}
 use Rattle.decisions.proofs.Among.{public-among}
 use Rattle.assignment.specs.Assignment.{Assignment, meantBy, every, isOne, findAll, numbersOf, firstOf, ownedUpTo, ownAt, surveyOf, userKnown, ownerBy}
 use Rattle.assignment.specs.Assignment.{namedSurvey, ownedSurvey, assign, storedName, plannedRecords, carriedOut}
-use Rattle.assignment.specs.declared.Meant.the-variants.{Fault, Owned, Named}
+use Rattle.assignment.specs.declared.Meant.the-variants.{Fault, Owned, Listed}
 use Rattle.assignment.proofs.OwnTurns.{no-zero}
-use Rattle.assignment.proofs.Rows.{Clear, Decided, alone, owned, named, assign-decided}
-use Rattle.fitting.specs.Decide.{Decision, unaltered, assignmentOf, planRead, decideJudged, decide}
+use Rattle.assignment.proofs.Rows.{Decided, alone, owned, named, assign-decided}
+use Rattle.fitting.specs.Decide.{Decision, assignmentOf, planRead, decideJudged, decide}
 use Rattle.fitting.proofs.Tests.{either}
 use Rattle.demands.specs.Frame.{ownerAt, firstOwner}
 
@@ -75,11 +74,11 @@ owned-given removal given (p ∷ []) e = absurd (let z : _≡_ {A = ℕ} 0 1 = c
 owned-given true given (p ∷ (q ∷ ps)) e = absurd (let z : _≡_ {A = ℕ} 0 1 = cc in omega arith)
 owned-given false given (p ∷ (q ∷ ps)) e = absurd (let z : _≡_ {A = ℕ} 0 1 = cc in omega arith)
 
-named-some : (removal given : Bool) (ps : List ℕ) (place : ℕ) → Named place ≡ meantBy removal given ps → length ps ≡ 0 → ⊥
+named-some : (removal given : Bool) (ps : List ℕ) (place : ℕ) → Listed place ≡ meantBy removal given ps → length ps ≡ 0 → ⊥
 unfolding meantBy
 named-some removal given [] place e z = go (removal && given) e
   where
-    go : (x : Bool) → Named place ≡ cond x Owned (Fault (lackOf publicIdentity)) → ⊥
+    go : (x : Bool) → Listed place ≡ cond x Owned (Fault (lackOf publicIdentity)) → ⊥
     go true f = let y : _≡_ {A = ℕ} 0 1 = cc in omega arith
     go false f = let y : _≡_ {A = ℕ} 0 1 = cc in omega arith
 named-some removal given (p ∷ ps) place e z = omega arith

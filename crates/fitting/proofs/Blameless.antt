@@ -14,7 +14,7 @@ use Rattle.choices.specs.declared.choice.Choice.{Choice}
 use Rattle.choices.specs.declared.choice.Choice.the-variants.{Alone, Server, Capabilities, First}
 use Rattle.choices.specs.declared.plan.Sar.{Sar}
 use Rattle.choices.specs.declared.plan.Finding.{Finding}
-use Rattle.choices.specs.declared.plan.Finding.the-variants.{Refused, Fine}
+use Rattle.choices.specs.declared.plan.Finding.the-variants.{Denied, Fine}
 use Rattle.decisions.specs.Carried.{servedBy, carried}
 use Rattle.fitting.proofs.Tests.{either}
 
@@ -38,5 +38,5 @@ grant-blameless s first r = either Blameless (carriesUser (s .kind)) (refl, refl
 
 pub plan-blameless : (f : Finding) (s : Sar) (first : ℕ) (owned : Bool) → Blameless (planOf f s first owned .given)
 unfolding planOf
-plan-blameless (Refused r) s first owned = (refl, refl)
+plan-blameless (Denied r) s first owned = (refl, refl)
 plan-blameless Fine s first owned = grant-blameless s first _

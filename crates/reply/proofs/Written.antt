@@ -1,7 +1,7 @@
 -- The pieces of an answer, each written by the writers of its AVPs, one after the other.
 use Prim.Native.Nat.{ℕ, _+_, _*_, _/_, _%_, _≤_}
 use mathlib.Core.Path.{_≡_, refl, sym, _∙_}
-use mathlib.Core.List.{List, _++_}
+use mathlib.Core.List.{List}
 use native.Mathlib.Omega.{arith}
 use lib.ListN.{length, getD, take, drop, length-append, length-take, length-drop}
 use borrow.Author.Tests.{eq-eqb, ne-eqb}
@@ -9,8 +9,8 @@ use Rattle.octets.specs.Run.{Wrote}
 use Rattle.octets.proofs.Writes.{lent, back, then, named}
 use Rattle.record.specs.Fields.{hostOf, realmOf, privateOf, serverOf, mandatoryOf, optionalOf}
 use Rattle.table.specs.Blocks.{blockOf, ofBlock}
-use Rattle.pen.specs.Bytes.{copied, copiedSize, avpBytes, avpSize, numberBytes}
-use Rattle.pen.specs.Groups.{vendorApplication, experimental, capabilities}
+use Rattle.pen.specs.Bytes.{copiedSize, avpBytes, avpSize, numberBytes}
+use Rattle.pen.specs.Groups.{experimental, capabilities}
 use Rattle.pen.proofs.Sizes.{copied-length, avp-length, number-length}
 use Rattle.pen.proofs.Groups.{application-length, experimental-length}
 use Rattle.reading.specs.Verdicts.{numberOf}

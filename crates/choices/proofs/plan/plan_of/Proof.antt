@@ -1,4 +1,4 @@
-use Rattle.choices.proofs.Planning.{plan-refused, plan-fine}
+use Rattle.choices.proofs.Planning.{plan-denied, plan-fine}
 use borrow.Author.Needs.{needs}
 use Rattle.choices.proofs.plan.plan_of.Statement.{statement}
 use Rattle.choices.proofs.plan.plan_of.Tie as tie
@@ -12,5 +12,5 @@ plan-of-spec =
     (λ c κs. search needs)
     (λ c. search needs)
     (λ c κs. search needs)
-    (λ c. search (needs, plan-refused))
+    (λ c. search (needs, plan-denied))
     (λ c. search (needs, plan-fine)))

@@ -1,4 +1,4 @@
-use Rattle.decisions.proofs.Answers.{asked-known, asked-nothing}
+use Rattle.decisions.proofs.Questions.{asked-known, asked-nothing}
 use Rattle.decisions.proofs.Among.{among-from, among-to, among-room}
 use borrow.Author.Needs.{needs}
 use Rattle.decisions.proofs.authorization.ask.Statement.{statement}

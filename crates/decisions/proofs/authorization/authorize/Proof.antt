@@ -1,4 +1,4 @@
-use Rattle.decisions.proofs.Answers.{authorized}
+use Rattle.decisions.proofs.Questions.{authorized}
 use Rattle.decisions.proofs.Among.{public-among}
 use borrow.Author.Needs.{needs}
 use Rattle.decisions.proofs.authorization.authorize.Statement.{statement}

@@ -1,4 +1,4 @@
-use Rattle.decisions.proofs.Answers.{carry-alone, carry-server, carry-capable, carry-first}
+use Rattle.decisions.proofs.Questions.{carry-alone, carry-server, carry-capable, carry-first}
 use borrow.Author.Needs.{needs}
 use Rattle.decisions.proofs.carrying.carry.Statement.{statement}
 use Rattle.decisions.proofs.carrying.carry.Tie as tie

@@ -1,4 +1,4 @@
-use Rattle.decisions.proofs.Answers.{by-found, by-none}
+use Rattle.decisions.proofs.Questions.{by-found, by-none}
 use borrow.Author.Needs.{needs}
 use Rattle.decisions.proofs.carrying.served_by.Statement.{statement}
 use Rattle.decisions.proofs.carrying.served_by.Tie as tie

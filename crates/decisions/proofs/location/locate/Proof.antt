@@ -1,5 +1,5 @@
 use Rattle.decisions.proofs.Among.{public-among}
-use Rattle.decisions.proofs.Answers.{located, found-room}
+use Rattle.decisions.proofs.Questions.{located, found-room}
 use borrow.Author.Needs.{needs}
 use Rattle.decisions.proofs.location.locate.Statement.{statement}
 use Rattle.decisions.proofs.location.locate.Tie as tie

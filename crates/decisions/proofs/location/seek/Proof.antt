@@ -1,4 +1,4 @@
-use Rattle.decisions.proofs.Answers.{sought-known, sought-nothing}
+use Rattle.decisions.proofs.Questions.{sought-known, sought-nothing}
 use Rattle.decisions.proofs.Among.{among-room}
 use borrow.Author.Needs.{needs}
 use Rattle.decisions.proofs.location.seek.Statement.{statement}
