@@ -1,7 +1,5 @@
-pub mod Blocks
 pub mod Bytes
 pub mod Counts
-pub mod Sealed
 pub mod Settled
 pub mod Sound
 pub mod Tables

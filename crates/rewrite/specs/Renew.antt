@@ -1,22 +1,13 @@
 -- A record block written anew. "A rewritten record gets a new check word."
-use Prim.Native.Nat.{ℕ, _-_, _%_, _^_, _≤_}
+use Prim.Native.Nat.{ℕ, _≤_}
 use mathlib.Core.Bool.{true}
 use mathlib.Core.Path.{_≡_}
 use mathlib.Core.List.{List}
 use lib.ListN.{length, set}
-use Rattle.octets.specs.Number.{putBe32}
 use Rattle.octets.specs.Run.{putName}
-use Rattle.octets.specs.Sum.{sumWords}
+use Rattle.blocks.specs.Sealed.{sealed}
 use Rattle.record.specs.Fields.{bitsOf, cleared}
 use Rattle.record.specs.RecordBlock.{serverFits}
-
--- what is to be added to a sum to make it zero, wrapping at 2^32
-unfoldable pub negated : ℕ → ℕ
-negated s = (2 ^ 32 - s) % 2 ^ 32
-
--- "word 127 is the check word"
-unfoldable pub sealed : List ℕ → List ℕ
-sealed b = putBe32 b 508 (negated (sumWords b 127))
 
 -- a record block with another state, other bits and another server name, all 96 bytes of its field
 unfoldable pub renewed : List ℕ → ℕ → ℕ → List ℕ → List ℕ

@@ -1,26 +1,16 @@
 // Records written anew: another state, pending cleared, another server name, a new check word.
 use lookup::Found;
 use octets::name;
-use octets::number;
 use octets::run;
-use octets::sum;
 use record::subscriber::Record;
 ghost use mathlib.Core.Path.{_≡_};
 ghost use mathlib.Core.Bool.{cond};
 ghost use Prim.Native.Nat.{_+_, _*_, _≤_};
 ghost use lib.ListN.{length};
 ghost use Rattle.lookup.specs.Find.{endOf};
-ghost use Rattle.rewrite.specs.Change.{changedIn, changedFound, differ};
-ghost use Rattle.rewrite.specs.Renew.{sealed, renewed, settled, Fitting};
-
-// Gives a block a new check word: the old one, less what the block sums to.
-fn seal(b: &mut [u8])
-    requires { ⌜ length (now b) ≡ 512 ⌝ }
-    ensures { λ _. ⌜ now (b .exit) ≡ sealed (now (b .entry)) ⌝ }
-{
-    let w = std::num::wrapping_sub_u32(number::be32(b, Record::CHECK_AT), sum::sum_fours(b, 32));
-    number::put_be32(b, Record::CHECK_AT, w);
-}
+ghost use Rattle.blocks.specs.Changed.{changedIn};
+ghost use Rattle.rewrite.specs.Change.{changedFound, differ};
+ghost use Rattle.rewrite.specs.Renew.{renewed, settled, Fitting};
 
 // Gives a record block another state, other bits and another server name, all bytes of its field.
 fn renew(b: &mut [u8], state: u8, bits: u8, name: &[u8])
@@ -31,7 +21,7 @@ fn renew(b: &mut [u8], state: u8, bits: u8, name: &[u8])
     b[Record::BITS_AT] = bits;
     b[Record::SERVER_LENGTH_AT] = name.len() as u8;
     run::put_name(b, Record::SERVER_AT, Record::SERVER_FIELD, name);
-    seal(b);
+    blocks::seal(b);
 }
 
 // 1 if two pieces have other bytes, else 0.

@@ -1,7 +1,7 @@
-use Rattle.rewrite.proofs.Writes.{seal-put}
+use Rattle.blocks.proofs.Sealed.{seal-put}
 use borrow.Author.Needs.{needs}
-use Rattle.rewrite.proofs.seal.Statement.{statement}
-use Rattle.rewrite.proofs.seal.Tie as tie
+use Rattle.blocks.proofs.seal.Statement.{statement}
+use Rattle.blocks.proofs.seal.Tie as tie
 
 pub seal-spec : {M : Type 1} → statement M
 seal-spec =

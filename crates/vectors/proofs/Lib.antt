@@ -1,0 +1,5 @@
+pub mod Choosing
+pub mod Marks
+pub mod Pieces
+pub mod Sound
+pub mod Unused

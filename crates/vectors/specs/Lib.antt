@@ -1,0 +1,4 @@
+pub mod Chosen
+pub mod Marked
+pub mod VectorBlock
+pub mod VectorFile
