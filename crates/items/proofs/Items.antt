@@ -148,8 +148,9 @@ module _ (v : List ℕ) (s : Sent) where
   unfolding sentBytes
   sent-room h r = omega (arith, there-room (s .count) (numberedBytes v s) h r, numbered-long v s)
 
-  pub sent-within : {o xs : List ℕ} {r : ℕ} → length (sentBytes v s) ≤ length o → Wrote (sentBytes v s) o xs r → r ≤ length o
-  sent-within h p = omega (arith, p .count)
+  pub sent-within : {o xs : List ℕ} {m r : ℕ} → 0 < s .count → Wrote (numberedBytes v s) o xs r → length (sentBytes v s) ≤ m → r ≤ m
+  unfolding sentBytes
+  sent-within h p r = omega (arith, p .count, there-room (s .count) (numberedBytes v s) h r)
 
   pub wrote-numbered : {o xs ys : List ℕ} {a r : ℕ} → Wrote (vendorNumber 607 (s .count)) o xs a
       → Wrote (itemsBytes v (s .blocks) (s .count)) (lent a xs) ys r → Wrote (numberedBytes v s) o (back a xs ys) (a + r)

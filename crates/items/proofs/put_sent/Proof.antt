@@ -9,5 +9,5 @@ put-sent-spec =
     (tie.spec
     (λ c κs. search (needs, sent-room))
     (λ c. search needs)
-    (λ c. (search (needs, sent-within, wrote-sent), search (needs, wrote-sent)))
+    (λ c. (search (needs, sent-within), search (needs, wrote-sent)))
     (λ c. search (needs, wrote-nothing)))
