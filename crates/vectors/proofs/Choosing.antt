@@ -12,7 +12,7 @@ use borrow.Author.Tests.{eq-eqb, ne-eqb}
 use Rattle.octets.specs.Name.{same}
 use Rattle.table.specs.Blocks.{blockOf}
 use Rattle.vectors.specs.VectorBlock.{vectorOf, cardOf}
-use Rattle.vectors.specs.Chosen.{firstOnes, unusedHere, unusedAt, unusedOf, packed, sentAlso}
+use Rattle.vectors.specs.Chosen.{firstOnes, unusedHere, unusedAt, unusedOf, noneSent, packed, sentAlso}
 use Rattle.vectors.specs.declared.choice.Sent.{Sent}
 
 -- the part of a block that is lent
@@ -48,11 +48,7 @@ module _ (s : Sent) (k : ℕ) where
   unfolding sentAlso
   also-not e = rw e
 
--- No block; one block more in the array.
-pub packed-none : record { blocks = replicate 16 0; count = 0 } ≡ packed []
-unfolding packed
-packed-none = refl
-
+-- One block more in the array.
 set-packed : (ks : List ℕ) (m k : ℕ) → set (ks ++ replicate (suc m) 0) (length ks) k ≡ (ks ++ (k ∷ [])) ++ replicate m 0
 set-packed [] m k = refl
 set-packed (j ∷ ks) m k = ap (j ∷_) (set-packed ks m k)
@@ -78,7 +74,7 @@ pub record Left (v name : List ℕ) (most : ℕ) (s : Sent) (k : ℕ) : Type 0 w
   pub whole : unusedOf v name most ≡ ones ++ firstOnes (unusedAt v name) (length v / 512 - k) k (most - s .count)
 
 module _ (v name : List ℕ) (most : ℕ) where
-  pub left-all : (s : Sent) → s ≡ packed [] → Left v name most s 0
+  pub left-all : (s : Sent) → s ≡ noneSent → Left v name most s 0
   unfolding unusedOf packed
   left-all s e =
       let i : length v / 512 - 0 ≡ length v / 512 = omega arith in

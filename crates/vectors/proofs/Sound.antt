@@ -40,14 +40,14 @@ vector-says b e =
     record {
       sum = eqb-true _ _ (s 0);
       limits =
-        record {
-          kind = eqb-true _ _ (l 0);
-          used = leb-true _ _ (l 1);
-          xres-least = leb-true _ _ (l 2);
-          xres = leb-true _ _ (l 3);
-          private-least = leb-true _ _ (l 4);
-          private = leb-true _ _ (l 5);
-        };
+          record {
+            kind = eqb-true _ _ (l 0);
+            used = leb-true _ _ (l 1);
+            xres-least = leb-true _ _ (l 2);
+            xres = leb-true _ _ (l 3);
+            private-least = leb-true _ _ (l 4);
+            private = leb-true _ _ (l 5);
+          };
       rest = s 2;
     }
 

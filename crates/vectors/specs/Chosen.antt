@@ -26,7 +26,10 @@ unusedAt v name k = unusedHere (blockOf v k) name
 unfoldable pub unusedOf : List ℕ → List ℕ → ℕ → List ℕ
 unusedOf v name most = firstOnes (unusedAt v name) (length v / 512) 0 most
 
--- at most 16 block numbers in an array, zeros behind them; and back
+-- no block; at most 16 block numbers in an array, zeros behind them; and back
+abbrev pub noneSent : Sent
+noneSent = record { blocks = replicate 16 0; count = 0 }
+
 unfoldable pub packed : List ℕ → Sent
 packed ks = record { blocks = ks ++ replicate (16 - length ks) 0; count = length ks }
 

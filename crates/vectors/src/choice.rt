@@ -3,10 +3,9 @@ use crate::vector;
 use crate::vector::Vector;
 use octets::name;
 ghost use mathlib.Core.Path.{_≡_};
-ghost use mathlib.Core.List.{[]};
 ghost use Prim.Native.Nat.{_+_, _*_, _≤_, _<_};
 ghost use lib.ListN.{length};
-ghost use Rattle.vectors.specs.Chosen.{unusedHere, unusedAt, unusedOf, packed, sentAlso};
+ghost use Rattle.vectors.specs.Chosen.{unusedHere, unusedAt, unusedOf, noneSent, packed, sentAlso};
 ghost use Rattle.vectors.specs.VectorFile.{SoundVectors};
 
 // At most so many vectors are sent in one answer.
@@ -20,7 +19,7 @@ pub struct Sent {
 
 // No block.
 pub fn none() -> Sent
-    ensures { λ r. ⌜ r ≡ packed [] ⌝ }
+    ensures { λ r. ⌜ r ≡ noneSent ⌝ }
 {
     Sent {
         blocks: [0; MOST],
