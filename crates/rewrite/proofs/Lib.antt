@@ -1,4 +1,5 @@
 pub mod Bytes
+pub mod Challenged
 pub mod Counts
 pub mod Settled
 pub mod Sound
