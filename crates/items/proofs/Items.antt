@@ -16,10 +16,11 @@ use Rattle.pen.proofs.Sizes.{there-length, there-room, vendor-length, vendorGro
 use Rattle.pen.proofs.Writers.{wrote-there, wrote-none}
 use Rattle.table.specs.Blocks.{blockOf}
 use Rattle.table.proofs.Blocks.{block-length}
+use Rattle.vectors.specs.Scheme.{scheme}
 use Rattle.vectors.specs.VectorBlock.{vectorOf, randAutnOf, xresOf, confidentialityOf, integrityOf}
 use Rattle.vectors.specs.Chosen.{Sendable}
 use Rattle.vectors.specs.declared.choice.Sent.{Sent}
-use Rattle.items.specs.Items.{scheme, challengeBytes, keyBytes, keySize, itemBytes, itemSize, itemsBytes, numberedBytes, sentBytes}
+use Rattle.items.specs.Items.{challengeBytes, keyBytes, keySize, itemBytes, itemSize, itemsBytes, numberedBytes, sentBytes}
 
 module _ (b : List ℕ) where
   pub wrote-challenge : (i : ℕ) {d o xs ys zs : List ℕ} {n r t : ℕ} → d ≡ randAutnOf b → Wrote (vendorNumber 613 i) o xs n

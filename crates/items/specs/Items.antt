@@ -6,12 +6,8 @@ use lib.Dec.{ltb}
 use Rattle.table.specs.Blocks.{blockOf}
 use Rattle.pen.specs.Bytes.{copiedSize, vendorBytes, vendorNumber, vendorGroup, ifThere}
 use Rattle.vectors.specs.declared.choice.Sent.{Sent}
+use Rattle.vectors.specs.Scheme.{scheme}
 use Rattle.vectors.specs.VectorBlock.{vectorOf, randAutnOf, xresOf, confidentialityOf, integrityOf}
-
--- `Digest-AKAv1-MD5`
-abbrev pub scheme : List ℕ
-scheme =
-    0x44 ∷ 0x69 ∷ 0x67 ∷ 0x65 ∷ 0x73 ∷ 0x74 ∷ 0x2D ∷ 0x41 ∷ 0x4B ∷ 0x41 ∷ 0x76 ∷ 0x31 ∷ 0x2D ∷ 0x4D ∷ 0x44 ∷ 0x35 ∷ []
 
 -- the number in this answer, the scheme, and the challenge; XRES, confidentiality and integrity key
 unfoldable pub challengeBytes : ℕ → List ℕ → List ℕ
