@@ -3,6 +3,7 @@ use Prim.Native.Nat.{ℕ, _≤_}
 use mathlib.Core.List.{List}
 use mathlib.Core.Bool.{Bool, true, false, cond, true≢false}
 use mathlib.Core.Path.{_≡_, refl, sym, _∙_}
+use mathlib.Core.Logic.{inl}
 use native.Mathlib.Omega.{arith}
 use lib.ListN.{length}
 use lib.Dec.{eqb}
@@ -70,7 +71,7 @@ plan-fits req t count seen p is e = go (eqb (commandOf req) 300) (eqb (commandOf
         → p .write ≡ true
         → Fitting (p .state) (storedName (p .named) (dataSeen seen serverName))
     go true y g h c d w = absurd (true≢false (sym (rw d at w)))
-    go false true g h c d w = assign-fits t count (assignmentOf t seen req) d (server-least req seen is (eqb-true _ _ c)) (server-most req seen is) w
+    go false true g h c d w = assign-fits t count (assignmentOf t seen req) d (server-least req seen is (inl (eqb-true _ _ c))) (server-most req seen is) w
     go false false g h c d w = absurd (true≢false (sym (rw d at w)))
 
 -- What is left of the table.

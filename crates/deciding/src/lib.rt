@@ -25,6 +25,7 @@ ghost use Rattle.rewrite.specs.Renew.{Fitting};
 ghost use Rattle.requests.specs.Judged.{bad, fine};
 ghost use Rattle.diameter.specs.Message.{commandOf};
 ghost use Rattle.requests.specs.Request.{readRequest, dataSeen};
+ghost use Rattle.reading.specs.Kinds.{serverName};
 ghost use Rattle.reading.specs.Places.{seenOf};
 ghost use Rattle.table.specs.SoundTable.{SoundTable};
 ghost use Rattle.assignment.specs.Assignment.{storedName, carriedOut};
@@ -117,7 +118,7 @@ fn stored(named: bool, server: &[u8]) -> &[u8]
 
 // The effect that is planned, if there is one.
 fn carry_out(t: &mut [u8], count: usize, req: &[u8], found: [usize; kinds::KINDS], p: Plan)
-    requires { ⌜ SoundTable (now t) count × (p .write ≡ true → Fitting (p .state) (storedName (p .named) (dataSeen (seenOf (now req) found) 10))) ⌝ }
+    requires { ⌜ SoundTable (now t) count × (p .write ≡ true → Fitting (p .state) (storedName (p .named) (dataSeen (seenOf (now req) found) serverName))) ⌝ }
     ensures { λ _. ⌜ now (t .exit) ≡ carriedOut (now (t .entry)) count
         (assignmentOf (now (t .entry)) (seenOf (now (req .entry)) found) (now (req .entry))) p ⌝ }
 {

@@ -87,7 +87,7 @@ module _ (req t : List ℕ) (count : ℕ) (size : length t ≡ 512 * (count + 1)
   unfolding assignmentOf
   keeps =
       settled-keeps _ _
-      (row-fits (asked .server) (server-least req (a .seen) (a .read) (a .command)) (server-most req (a .seen) (a .read)) (asked .numbers .kind)
+      (row-fits (asked .server) (server-least req (a .seen) (a .read) (inl (a .command))) (server-most req (a .seen) (a .read)) (asked .numbers .kind)
       (asked .numbers .keep))
 
   assigned-keeping : Keeping t (decide req t count .table) count

@@ -20,11 +20,12 @@ use Rattle.rewrite.specs.Change.{changedAt, afterOf}
 use Rattle.rewrite.specs.Renew.{negated, sealed, renewed, settled}
 use Rattle.diameter.specs.Avp.{padded, headOf, vendorOf, valueOf, sound}
 use Rattle.diameter.specs.Walk.{walkFrom, walk}
+use Rattle.diameter.specs.Reader.{avpOf}
 use Rattle.pen.specs.Bytes.{padding, vendorHead, copied, avpBytes, vendorBytes, numberBytes, vendorNumber, group, vendorGroup, ifThere}
 use Rattle.pen.specs.Groups.{vendorApplication, experimental, failed, vendorNumbers, capabilities}
 use Rattle.reading.specs.Kinds.{known, kindFrom, kindBy, rowOf, useIn}
 use Rattle.reading.specs.Contents.{numberFault, plainFault}
-use Rattle.reading.specs.Groups.{applicationMembers, membersOf, isOf, fits, unlike, onlyOf, countOf, enough, enoughAt, gathers}
+use Rattle.reading.specs.Groups.{applicationMembers, itemMembers, membersOf, isOf, fits, unlike, onlyOf, countOf, enough, enoughAt, gathers}
 use Rattle.reading.specs.Rules.{contentFault, ruleBy, rule}
 use Rattle.requests.specs.Judged.{nothing, judge}
 use Rattle.requests.specs.Request.{headerFault, missingFrom, missing, complete, readWalk, readIn, identities}
@@ -108,10 +109,10 @@ unfolding host realm block header person request answer common assignment one tw
     zeros zeroBetween putName over sumWords hostOf realmOf publicOf privateOf serverOf headerOf soundHeader networkOf usedPlace soundPlace sameByte
     otherPlace newPlace soundNetworks recordOf soundRecord blockOf tableOf publicAt privateAt risesAt soundAt firstBad checkRecords checkTable
     firstFrom publicIs findPublic privateIs findPrivate serverHere servesAt findServer networkIs seek networkNumber roamsIn negated sealed renewed
-    settled changedAt afterOf padded headOf vendorOf valueOf sound walkFrom walk padding vendorHead copied avpBytes vendorBytes numberBytes
+    settled changedAt afterOf padded headOf vendorOf valueOf sound walkFrom walk avpOf padding vendorHead copied avpBytes vendorBytes numberBytes
     vendorNumber group vendorGroup ifThere vendorApplication experimental failed vendorNumbers capabilities known kindFrom kindBy rowOf useIn numberFault
-    plainFault applicationMembers membersOf isOf fits unlike onlyOf countOf enough enoughAt gathers contentFault nothing ruleBy rule judge headerFault
-    headPart alone failedOf sample exampleOf failedBy missingFrom missing
+    plainFault applicationMembers itemMembers membersOf isOf fits unlike onlyOf countOf enough enoughAt gathers contentFault nothing ruleBy rule judge
+    headerFault headPart alone failedOf sample exampleOf failedBy missingFrom missing
     complete readWalk readIn identities placesFrom mandatoryOf optionalOf profileOf mayRoam serverIf authorization location findingOf grant planOf
     typeOf carried askedAt askedOf authorizeFound authorize soughtAt soughtOf locateFound locate meantBy every isOne findAll numbersOf ownedHere
     ownedUpTo ownAt storesAt fitsAt rightAt surveyOf userKnown ownerBy namedSurvey ownedSurvey assignMeant assign storedName plannedRecords carriedOut
