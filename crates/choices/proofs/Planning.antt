@@ -16,7 +16,7 @@ use Rattle.choices.specs.declared.plan.Survey.{Survey}
 use Rattle.choices.specs.declared.plan.Finding.{Finding}
 use Rattle.choices.specs.declared.plan.Finding.the-variants.{Denied, Fine}
 use Rattle.choices.specs.declared.plan.Deed.{Deed}
-use Rattle.choices.specs.declared.plan.Deed.the-variants.{Nothing, Settle}
+use Rattle.choices.specs.declared.plan.Deed.the-variants.{Leave, Settle}
 use Rattle.choices.specs.declared.plan.Plan.{Plan}
 
 -- What a survey comes to.
@@ -94,6 +94,6 @@ module _ (e : Effect) (owned : Bool) where
   unfolding deedOf
   deed-settle h = rw h
 
-  pub deed-nothing : e .write ≡ false → Nothing ≡ deedOf e owned
+  pub deed-nothing : e .write ≡ false → Leave ≡ deedOf e owned
   unfolding deedOf
   deed-nothing h = rw h

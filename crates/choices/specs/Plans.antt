@@ -14,7 +14,7 @@ use Rattle.choices.specs.declared.plan.Survey.{Survey}
 use Rattle.choices.specs.declared.plan.Finding.{Finding}
 use Rattle.choices.specs.declared.plan.Finding.the-variants.{Denied, Fine}
 use Rattle.choices.specs.declared.plan.Deed.{Deed}
-use Rattle.choices.specs.declared.plan.Deed.the-variants.{Nothing, Settle}
+use Rattle.choices.specs.declared.plan.Deed.the-variants.{Leave, Settle}
 use Rattle.choices.specs.declared.plan.Plan.{Plan}
 
 -- "any named identity, or a User-Name given, unknown: X5001. All in one subscription, the User-Name's if given, else X5002. Type 0: stored name equal to the
@@ -35,11 +35,11 @@ grant s first r = cond (carriesUser (s .kind)) (givenUser r first (cond (eqb (s 
 
 -- nothing is written
 abbrev pub only : Given → Plan
-only g = record { given = g; deed = Nothing }
+only g = record { given = g; deed = Leave }
 
 -- what a row of the table of effects has to be written, of the User-Name's records or of the named ones
 unfoldable pub deedOf : Effect → Bool → Deed
-deedOf e owned = cond (e .write) (Settle (record { owned = owned; state = e .state; named = e .named })) Nothing
+deedOf e owned = cond (e .write) (Settle (record { owned = owned; state = e .state; named = e .named })) Leave
 
 unfoldable pub planOf : Finding → Sar → ℕ → Bool → Plan
 planOf (Denied r) s first owned = only (givenPlain r)

@@ -43,7 +43,7 @@ pub struct Settling {
 
 // What is to be written: nothing; a row of the table of effects; the request's server name into the record of a block, with the vectors sent marked.
 pub enum Deed {
-    Nothing,
+    Leave,
     Settle(Settling),
     Challenge(u32),
 }
@@ -99,7 +99,7 @@ pub fn reply_only(given: Given) -> Plan
 {
     Plan {
         given,
-        deed: Deed::Nothing,
+        deed: Deed::Leave,
     }
 }
 
@@ -114,7 +114,7 @@ fn deed_of(e: Effect, owned: bool) -> Deed
             named: e.named,
         });
     }
-    Deed::Nothing
+    Deed::Leave
 }
 
 // The row of the type in the table of effects is to be carried out.

@@ -9,7 +9,7 @@ use mathlib.Core.Logic.{_⊎_, inl, inr}
 use native.Mathlib.Omega.{arith}
 use lib.ListN.{length, getD, set, replicate}
 use lib.Dec.{eqb, leb}
-use borrow.Author.Tests.{eqb-true, leb-true}
+use borrow.Author.Tests.{eqb-true, leb-true, ne-eqb}
 use Rattle.octets.proofs.All.{and-left, and-right}
 use Rattle.diameter.specs.Avp.{padded, avpFlags, dataOf, reserved, marked}
 use Rattle.diameter.specs.Walk.{Walk, ended, faulty, avp}
@@ -196,18 +196,20 @@ module _ (dialect : Dialect) (seen : Seen) (k : ℕ) (h : AllKept dialect seen) 
   pub data-least : (least most : ℕ) → rowOf k .content ≡ Sized least most → given seen k ≡ true → least ≤ length (dataSeen seen k)
   data-least least most e t = if-given (getD seen k none) least t (λ a d. leb-true _ _ (and-left (leb least (length (dataOf a))) _ (sized least most e a d)))
 
--- "Server-Name 602 (1 to 96 bytes)", which a SAR and a MAR need
+-- "Server-Name 602 (1 to 96 bytes)", which a SAR and a MAR (none of the other three that are read) need
 module _ (req : List ℕ) (seen : Seen) (e : readRequest req ≡ fine seen) where
   pub server-most : length (dataSeen seen serverName) ≤ 96
   unfolding rowOf known
   server-most = data-most (dialectOf cx req) seen serverName (read-kept req seen e) 1 96 refl
 
-  server-needed : (commandOf req ≡ 301) ⊎ (commandOf req ≡ 303) → isNeeded (useIn (dialectOf cx req) (rowOf serverName)) ≡ true
+  server-needed : (commandOf req ≡ 301) ⊎ ((commandOf req ≡ 300 → ⊥) × (commandOf req ≡ 301 → ⊥) × (commandOf req ≡ 302 → ⊥))
+      → isNeeded (useIn (dialectOf cx req) (rowOf serverName)) ≡ true
   unfolding rowOf known useIn
   server-needed (inl c) = rw c
-  server-needed (inr c) = rw c
+  server-needed (inr (a, b, c)) = rw (ne-eqb (commandOf req) 300 a, ne-eqb (commandOf req) 301 b, ne-eqb (commandOf req) 302 c)
 
-  pub server-least : (commandOf req ≡ 301) ⊎ (commandOf req ≡ 303) → 1 ≤ length (dataSeen seen serverName)
+  pub server-least : (commandOf req ≡ 301) ⊎ ((commandOf req ≡ 300 → ⊥) × (commandOf req ≡ 301 → ⊥) × (commandOf req ≡ 302 → ⊥))
+      → 1 ≤ length (dataSeen seen serverName)
   unfolding rowOf known
   server-least c =
       data-least (dialectOf cx req) seen serverName (read-kept req seen e) 1 96 refl

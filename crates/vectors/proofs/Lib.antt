@@ -1,5 +1,6 @@
 pub mod Choosing
 pub mod Marks
 pub mod Pieces
+pub mod Sendable
 pub mod Sound
 pub mod Unused
