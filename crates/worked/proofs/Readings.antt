@@ -2,11 +2,12 @@
 use Prim.Native.Nat.{ℕ}
 use mathlib.Core.Path.{_≡_, refl}
 use mathlib.Core.List.{List, [], _∷_, _++_, map}
-use lib.ListN.{length, replicate}
+use lib.ListN.{replicate}
 use Rattle.pen.specs.Bytes.{headBytes, wordBytes, vendorHead, copied, avpBytes, vendorBytes, vendorNumber}
 use Rattle.reading.specs.declared.Verdict.{Verdict}
 use Rattle.reading.specs.Kinds.{userName, publicIdentity, authDataItem, numberAuthItems, serverName}
 use Rattle.reading.specs.Verdicts.{faultAt, faultOf, lackOf}
+use Rattle.failed.specs.Failing.{example}
 use Rattle.requests.specs.Judged.{Judged, bad, fine}
 use Rattle.requests.specs.Request.{readRequest, dataSeen, valueSeen, schemeOf}
 use Rattle.worked.proofs.Sample.{common, request, s, z, opened}
@@ -128,3 +129,12 @@ cases =
 readings : map reading cases ≡ map (λ (c : Case). c .expected) cases
 unfolding opened reading row user public rest asking five like scheme twice said bad-612
 readings = refl
+
+-- B5005's example of a missing 612 has no data, that of a missing 607 has 4 zero bytes
+lacking-612 : example authDataItem ≡ vendorHead 612 12
+unfolding opened
+lacking-612 = refl
+
+lacking-607 : example numberAuthItems ≡ vendorHead 607 16 ++ replicate 4 0
+unfolding opened
+lacking-607 = refl
