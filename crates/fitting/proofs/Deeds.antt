@@ -12,7 +12,7 @@ use Rattle.vectors.specs.declared.choice.Sent.{Sent}
 use Rattle.lookup.specs.Find.{findPublic}
 use Rattle.lookup.specs.declared.Found.{Found}
 use Rattle.lookup.specs.declared.Found.the-variants.{At, Nothing}
-use Rattle.reading.specs.Kinds.{userName, publicIdentity, serverName, numberAuthItems}
+use Rattle.reading.specs.Kinds.{userName, publicIdentity, visitedNetwork, serverName, authorizationType, numberAuthItems}
 use Rattle.reading.specs.Rules.{Seen}
 use Rattle.requests.specs.Judged.{fine}
 use Rattle.diameter.specs.Message.{commandOf}
@@ -26,8 +26,10 @@ use Rattle.choices.specs.declared.plan.Finding.{Finding}
 use Rattle.choices.specs.declared.plan.Finding.the-variants.{Denied, Fine}
 use Rattle.choices.specs.declared.plan.Deed.the-variants.{Leave, Settle}
 use Rattle.choices.specs.declared.plan.Plan.{Plan}
+use Rattle.choices.specs.declared.Given.{Given}
 use Rattle.decisions.specs.Authentication.{claimedOf, authenticateFound, authenticate}
-use Rattle.decisions.specs.Carried.{blockFound}
+use Rattle.decisions.specs.Authorization.{authorize}
+use Rattle.decisions.specs.Location.{locate}
 use Rattle.decisions.proofs.Among.{public-among}
 use Rattle.assignment.specs.Assignment.{Assignment, assign, storedName}
 use Rattle.assignment.proofs.Rows.{Decided, alone, owned, named, assign-decided, row-fits}
@@ -81,12 +83,15 @@ module _ (req t : List ℕ) (count : ℕ) (v : List ℕ) (seen : Seen) (sound : 
 
   pub plan-fits : DeedFits count server (planRead req t count v seen .deed)
   unfolding planRead
-  plan-fits = go (eqb (commandOf req) 300) (eqb (commandOf req) 301) (eqb (commandOf req) 302) refl refl refl
+  plan-fits =
+      go (eqb (commandOf req) 300) (eqb (commandOf req) 301) (eqb (commandOf req) 302)
+      (authorize t count (dataSeen seen userName) (dataSeen seen publicIdentity) (dataSeen seen visitedNetwork) (valueSeen seen authorizationType))
+      (locate t count (dataSeen seen publicIdentity)) refl refl refl
     where
-      go : (x y z : Bool) → eqb (commandOf req) 300 ≡ x → eqb (commandOf req) 301 ≡ y → eqb (commandOf req) 302 ≡ z
-          → DeedFits count server (cond x (only _) (cond y (assign t count (assignmentOf t seen req)) (cond z (only _)
+      go : (x y z : Bool) (uar lir : Given) → eqb (commandOf req) 300 ≡ x → eqb (commandOf req) 301 ≡ y → eqb (commandOf req) 302 ≡ z
+          → DeedFits count server (cond x (only uar) (cond y (assign t count (assignmentOf t seen req)) (cond z (only lir)
           (authenticate t count v (dataSeen seen userName) (dataSeen seen publicIdentity) (schemeOf seen) (valueSeen seen numberAuthItems)))) .deed)
-      go true y z a b c = tt
-      go false true z a b c = sar-fits (eqb-true _ _ b)
-      go false false true a b c = tt
-      go false false false a b c = mar-fits (eqb-false _ _ a) (eqb-false _ _ b) (eqb-false _ _ c) _ _ _ _
+      go true y z uar lir a b c = tt
+      go false true z uar lir a b c = sar-fits (eqb-true _ _ b)
+      go false false true uar lir a b c = tt
+      go false false false uar lir a b c = mar-fits (eqb-false _ _ a) (eqb-false _ _ b) (eqb-false _ _ c) _ _ _ _

@@ -27,9 +27,11 @@ use Rattle.choices.specs.declared.Given.{Given}
 use Rattle.choices.specs.declared.plan.Finding.the-variants.{Denied, Fine}
 use Rattle.choices.specs.declared.plan.Plan.{Plan}
 use Rattle.choices.specs.Challenges.{challengeOf}
+use Rattle.choices.specs.declared.choice.Choice.{Choice}
 use Rattle.choices.specs.declared.plan.Finding.{Finding}
 use Rattle.decisions.specs.Authentication.{toSend, authenticateFound, authenticate}
 use Rattle.decisions.specs.Authorization.{authorizeFound, authorize}
+use Rattle.decisions.specs.Carried.{carried}
 use Rattle.decisions.specs.Location.{locateFound, locate}
 use Rattle.assignment.specs.Assignment.{Assignment, found, firstOf, assign}
 use Rattle.assignment.proofs.Rows.{Decided, alone, owned, named, assign-decided}
@@ -63,13 +65,16 @@ Light v g = ((g .profile ≡ 0) ⊎ Blameless g) × Sendable v (g .sent)
 plain-light : (v : List ℕ) (g : Given) → Plain g → Light v g
 plain-light v g p = (inr (p .0), rw (p .1) (none-sendable v))
 
+carried-light : (v t : List ℕ) (count : ℕ) (user : List ℕ) (k : ℕ) (c : Choice) → Light v (carried t count user k c)
+carried-light v t count user k c = plain-light v (carried t count user k c) (carried-plain t count user k c)
+
 assign-light : (t : List ℕ) (count : ℕ) (v : List ℕ) (s : Assignment) → Light v (assign t count s .given)
 assign-light t count v s = go (assign t count s) (assign-decided t count s)
   where
     go : (p : Plan) → Decided t count s p → Light v (p .given)
     go p (alone f) = (inl refl, none-sendable v)
-    go p (owned e c) = plain-light v _ (plan-plain Fine (s .numbers) 0 true)
-    go p (named place e c) = plain-light v _ (plan-plain Fine (s .numbers) (firstOf (found t count s)) false)
+    go p (owned e c) = plain-light v (p .given) (plan-plain Fine (s .numbers) 0 true)
+    go p (named place e c) = plain-light v (p .given) (plan-plain Fine (s .numbers) (firstOf (found t count s)) false)
 
 challenge-light : (v : List ℕ) (f : Finding) (k : ℕ) (sent : Sent) → Sendable v sent → Light v (challengeOf f k sent .given)
 unfolding challengeOf
@@ -83,9 +88,9 @@ decide-light req t count v vectors = go (readRequest req)
     go : (j : Judged) → Light v (decideJudged req t count v j .given)
     go (bad f) = (inl refl, none-sendable v)
     go (fine seen) =
-        either (λ (p : Plan). Light v (p .given)) (eqb (commandOf req) 300) (plain-light v _ (carried-plain t count _ _ _))
+        either (λ (p : Plan). Light v (p .given)) (eqb (commandOf req) 300) (carried-light v t count _ _ _)
         (either (λ (p : Plan). Light v (p .given)) (eqb (commandOf req) 301) (assign-light t count v (assignmentOf t seen req))
-        (either (λ (p : Plan). Light v (p .given)) (eqb (commandOf req) 302) (plain-light v _ (carried-plain t count _ _ _))
+        (either (λ (p : Plan). Light v (p .given)) (eqb (commandOf req) 302) (carried-light v t count _ _ _)
         (challenge-light v _ _ _ (unused-sendable v (dataSeen seen userName) _ vectors (omega arith)))))
 
 -- "answer buffer under 36,864 bytes" is refused: no answer is longer
