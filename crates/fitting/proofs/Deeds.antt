@@ -12,28 +12,25 @@ use Rattle.vectors.specs.declared.choice.Sent.{Sent}
 use Rattle.lookup.specs.Find.{findPublic}
 use Rattle.lookup.specs.declared.Found.{Found}
 use Rattle.lookup.specs.declared.Found.the-variants.{At, Nothing}
-use Rattle.reading.specs.Kinds.{userName, publicIdentity, visitedNetwork, serverName, authorizationType, numberAuthItems}
+use Rattle.reading.specs.Kinds.{publicIdentity, serverName}
 use Rattle.reading.specs.Rules.{Seen}
 use Rattle.requests.specs.Judged.{fine}
 use Rattle.diameter.specs.Message.{commandOf}
-use Rattle.requests.specs.Request.{readRequest, dataSeen, valueSeen, schemeOf}
+use Rattle.requests.specs.Request.{readRequest, dataSeen}
 use Rattle.requests.proofs.Kept.{server-most, server-least}
 use Rattle.choices.specs.Challenges.{claimOf, challengeOf}
-use Rattle.choices.specs.Plans.{deedOf, planOf, only}
+use Rattle.choices.specs.Plans.{deedOf, planOf}
 use Rattle.choices.specs.Types.{effectOf}
 use Rattle.choices.specs.declared.types.Effect.{Effect}
 use Rattle.choices.specs.declared.plan.Finding.{Finding}
 use Rattle.choices.specs.declared.plan.Finding.the-variants.{Denied, Fine}
 use Rattle.choices.specs.declared.plan.Deed.the-variants.{Leave, Settle}
 use Rattle.choices.specs.declared.plan.Plan.{Plan}
-use Rattle.choices.specs.declared.Given.{Given}
 use Rattle.decisions.specs.Authentication.{claimedOf, authenticateFound, authenticate}
-use Rattle.decisions.specs.Authorization.{authorize}
-use Rattle.decisions.specs.Location.{locate}
 use Rattle.decisions.proofs.Among.{public-among}
 use Rattle.assignment.specs.Assignment.{Assignment, assign, storedName}
 use Rattle.assignment.proofs.Rows.{Decided, alone, owned, named, assign-decided, row-fits}
-use Rattle.fitting.specs.Decide.{assignmentOf, planRead}
+use Rattle.fitting.specs.Decide.{assignmentOf, uarPlan, sarPlan, lirPlan, marPlan, planRead}
 use Rattle.fitting.specs.Deeds.{DeedFits}
 
 -- A SAR.
@@ -71,27 +68,24 @@ module _ (req t : List ℕ) (count : ℕ) (v : List ℕ) (seen : Seen) (sound : 
   abbrev server : List ℕ
   server = dataSeen seen serverName
 
-  sar-fits : commandOf req ≡ 301 → DeedFits count server (assign t count (assignmentOf t seen req) .deed)
+  sar-fits : commandOf req ≡ 301 → DeedFits count server (sarPlan req t count seen .deed)
+  unfolding sarPlan
   sar-fits c = assign-fits count server (server-least req seen is (inl c)) (server-most req seen is) t (assignmentOf t seen req)
 
-  mar-fits : (commandOf req ≡ 300 → ⊥) → (commandOf req ≡ 301 → ⊥) → (commandOf req ≡ 302 → ⊥) → (user public asked : List ℕ) (number : ℕ)
-      → DeedFits count server (authenticate t count v user public asked number .deed)
-  unfolding authenticate
-  mar-fits a b c user public asked number =
-      found-fits count server (server-least req seen is (inr (a, b, c))) (server-most req seen is) t user asked _ (findPublic t count public)
+  mar-fits : (commandOf req ≡ 300 → ⊥) → (commandOf req ≡ 301 → ⊥) → (commandOf req ≡ 302 → ⊥) → DeedFits count server (marPlan t count v seen .deed)
+  unfolding marPlan authenticate
+  mar-fits a b c =
+      let public = dataSeen seen publicIdentity in
+      found-fits count server (server-least req seen is (inr (a, b, c))) (server-most req seen is) t _ _ _ (findPublic t count public)
       (λ k e. (public-among t count public refl .from k e, public-among t count public refl .to k e))
 
   pub plan-fits : DeedFits count server (planRead req t count v seen .deed)
-  unfolding planRead
-  plan-fits =
-      go (eqb (commandOf req) 300) (eqb (commandOf req) 301) (eqb (commandOf req) 302)
-      (authorize t count (dataSeen seen userName) (dataSeen seen publicIdentity) (dataSeen seen visitedNetwork) (valueSeen seen authorizationType))
-      (locate t count (dataSeen seen publicIdentity)) refl refl refl
+  unfolding planRead uarPlan lirPlan
+  plan-fits = go (eqb (commandOf req) 300) (eqb (commandOf req) 301) (eqb (commandOf req) 302) refl refl refl
     where
-      go : (x y z : Bool) (uar lir : Given) → eqb (commandOf req) 300 ≡ x → eqb (commandOf req) 301 ≡ y → eqb (commandOf req) 302 ≡ z
-          → DeedFits count server (cond x (only uar) (cond y (assign t count (assignmentOf t seen req)) (cond z (only lir)
-          (authenticate t count v (dataSeen seen userName) (dataSeen seen publicIdentity) (schemeOf seen) (valueSeen seen numberAuthItems)))) .deed)
-      go true y z uar lir a b c = tt
-      go false true z uar lir a b c = sar-fits (eqb-true _ _ b)
-      go false false true uar lir a b c = tt
-      go false false false uar lir a b c = mar-fits (eqb-false _ _ a) (eqb-false _ _ b) (eqb-false _ _ c) _ _ _ _
+      go : (x y z : Bool) → eqb (commandOf req) 300 ≡ x → eqb (commandOf req) 301 ≡ y → eqb (commandOf req) 302 ≡ z
+          → DeedFits count server (cond x (uarPlan t count seen) (cond y (sarPlan req t count seen) (cond z (lirPlan t count seen) (marPlan t count v seen))) .deed)
+      go true y z a b c = tt
+      go false true z a b c = sar-fits (eqb-true _ _ b)
+      go false false true a b c = tt
+      go false false false a b c = mar-fits (eqb-false _ _ a) (eqb-false _ _ b) (eqb-false _ _ c)

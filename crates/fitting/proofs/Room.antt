@@ -39,7 +39,7 @@ use Rattle.parts.specs.Profile.{profileAt}
 use Rattle.parts.proofs.Fields as parts
 use Rattle.reply.specs.Answer.{failedPart, answerBytes}
 use Rattle.reply.proofs.Lengths.{answer-length}
-use Rattle.fitting.specs.Decide.{assignmentOf, planRead, performed, decideJudged, decide}
+use Rattle.fitting.specs.Decide.{assignmentOf, uarPlan, sarPlan, lirPlan, marPlan, planRead, performed, decideJudged, decide}
 use Rattle.fitting.proofs.Blameless.{Blameless, Plain, carried-plain, plan-plain}
 use Rattle.fitting.proofs.Tests.{either}
 
@@ -82,7 +82,7 @@ challenge-light v (Denied r) k sent h = (inl refl, none-sendable v)
 challenge-light v Fine k sent h = (inl refl, h)
 
 pub decide-light : (req t : List ℕ) (count : ℕ) (v : List ℕ) → SoundVectors v → Light v (decide req t count v .given)
-unfolding decide decideJudged performed planRead authorize authorizeFound locate locateFound authenticate authenticateFound toSend
+unfolding decide decideJudged performed planRead uarPlan sarPlan lirPlan marPlan authorize authorizeFound locate locateFound authenticate authenticateFound toSend
 decide-light req t count v vectors = go (readRequest req)
   where
     go : (j : Judged) → Light v (decideJudged req t count v j .given)

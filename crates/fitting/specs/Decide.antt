@@ -54,14 +54,28 @@ assignmentOf t seen req =
       places = placesFrom 20 (bodyOf req);
     }
 
+-- the plan of each command
+unfoldable pub uarPlan : List ℕ → ℕ → Seen → Plan
+uarPlan t count seen =
+    only (authorize t count (dataSeen seen userName) (dataSeen seen publicIdentity) (dataSeen seen visitedNetwork) (valueSeen seen authorizationType))
+
+unfoldable pub sarPlan : List ℕ → List ℕ → ℕ → Seen → Plan
+sarPlan req t count seen = assign t count (assignmentOf t seen req)
+
+unfoldable pub lirPlan : List ℕ → ℕ → Seen → Plan
+lirPlan t count seen = only (locate t count (dataSeen seen publicIdentity))
+
+unfoldable pub marPlan : List ℕ → ℕ → List ℕ → Seen → Plan
+marPlan t count v seen =
+    authenticate t count v (dataSeen seen userName) (dataSeen seen publicIdentity) (schemeOf seen) (valueSeen seen numberAuthItems)
+
 -- UAR 300, SAR 301, LIR 302, MAR 303
 unfoldable pub planRead : List ℕ → List ℕ → ℕ → List ℕ → Seen → Plan
 planRead req t count v seen =
-    cond (eqb (commandOf req) 300)
-    (only (authorize t count (dataSeen seen userName) (dataSeen seen publicIdentity) (dataSeen seen visitedNetwork) (valueSeen seen authorizationType)))
-    (cond (eqb (commandOf req) 301) (assign t count (assignmentOf t seen req))
-    (cond (eqb (commandOf req) 302) (only (locate t count (dataSeen seen publicIdentity)))
-    (authenticate t count v (dataSeen seen userName) (dataSeen seen publicIdentity) (schemeOf seen) (valueSeen seen numberAuthItems))))
+    cond (eqb (commandOf req) 300) (uarPlan t count seen)
+    (cond (eqb (commandOf req) 301) (sarPlan req t count seen)
+    (cond (eqb (commandOf req) 302) (lirPlan t count seen)
+    (marPlan t count v seen)))
 
 -- what a plan comes to once it is carried out
 unfoldable pub performed : List ℕ → ℕ → List ℕ → Assignment → Plan → Decision

@@ -1,6 +1,6 @@
 -- The table after an effect, by its blocks: for any change that keeps what every effect keeps.
 use Prim.Native.Nat.{ℕ, suc, _+_, _*_, _<_, _≤_}
-use mathlib.Core.Bool.{Bool, true, false, cond}
+use mathlib.Core.Bool.{Bool, true, false, cond, _||_}
 use mathlib.Core.Path.{_≡_, refl, sym, _∙_}
 use mathlib.Core.List.{List}
 use native.Mathlib.Omega.{arith}
@@ -8,7 +8,7 @@ use lib.Dec.{eqb}
 use borrow.Author.Tests.{eqb-true, eqb-false, ne-eqb}
 use lib.ListN.{length}
 use Rattle.table.specs.Blocks.{blockOf}
-use Rattle.table.proofs.Blocks.{block-length, table-same}
+use Rattle.table.proofs.Blocks.{block-length, table-is, table-same}
 use Rattle.lookup.specs.Find.{firstFrom}
 use Rattle.lookup.specs.declared.Found.{Found}
 use Rattle.lookup.specs.declared.Found.the-variants.{At, Nothing}
@@ -106,3 +106,14 @@ module _ (t : List ℕ) (count : ℕ) (change : List ℕ → List ℕ) (size : l
     unfolding changedFound
     found-keeping p (At k) e = let s : FirstAt p count 1 k = first-stands p count 1 k e in in-keeping k (s .from) (omega (arith, s .to))
     found-keeping p Nothing e = keeping-same t count
+
+    -- the one that is chosen
+    pub one-after : (k : ℕ) → k ≤ count → (chosen : ℕ → Bool) → ((j : ℕ) → chosen j ≡ (eqb j k || false)) → changedIn t k change ≡ afterOf t count chosen change
+    unfolding afterOf changedAll changedAt
+    one-after k b chosen is =
+        table-is (changedIn t k change) (suc count) (in-length t k change (keeps-whole keeps) (omega arith) ∙ omega arith)
+        ∙ table-same (blockOf (changedIn t k change)) (changedAt t chosen change) (suc count) (λ j l. go j (eqb j k) refl)
+      where
+        go : (j : ℕ) (x : Bool) → eqb j k ≡ x → blockOf (changedIn t k change) j ≡ changedAt t chosen change j
+        go j true e = let q : j ≡ k = eqb-true j k e in rw (is j, e) (rw q (in-here t k change (keeps-whole keeps) (omega arith)))
+        go j false e = rw (is j, e) (in-other t k change (keeps-whole keeps) (omega arith) j (eqb-false j k e))

@@ -1,7 +1,7 @@
 use Rattle.deciding.proofs.Deciding.{table-whole, sar-planned}
 use borrow.Author.Needs.{needs}
-use Rattle.deciding.proofs.plan_sar.Statement.{statement}
-use Rattle.deciding.proofs.plan_sar.Tie as tie
+use Rattle.deciding.proofs.planning.plan_sar.Statement.{statement}
+use Rattle.deciding.proofs.planning.plan_sar.Tie as tie
 
 pub plan-sar-spec : {M : Type 1} → statement M
 plan-sar-spec =

@@ -1,7 +1,7 @@
 use Rattle.deciding.proofs.Deciding.{numbers-read}
 use borrow.Author.Needs.{needs}
-use Rattle.deciding.proofs.numbers.Statement.{statement}
-use Rattle.deciding.proofs.numbers.Tie as tie
+use Rattle.deciding.proofs.planning.numbers.Statement.{statement}
+use Rattle.deciding.proofs.planning.numbers.Tie as tie
 
 pub numbers-spec : {M : Type 1} → statement M
 numbers-spec =

@@ -1,7 +1,7 @@
 use Rattle.assignment.specs.Assignment.{storedName}
 use borrow.Author.Needs.{needs}
-use Rattle.deciding.proofs.stored.Statement.{statement}
-use Rattle.deciding.proofs.stored.Tie as tie
+use Rattle.deciding.proofs.doing.stored.Statement.{statement}
+use Rattle.deciding.proofs.doing.stored.Tie as tie
 
 returns : tie.Need-returns
 unfolding storedName

@@ -1,7 +1,7 @@
 use Rattle.deciding.proofs.Deciding.{keep-read}
 use borrow.Author.Needs.{needs}
-use Rattle.deciding.proofs.keep.Statement.{statement}
-use Rattle.deciding.proofs.keep.Tie as tie
+use Rattle.deciding.proofs.planning.keep.Statement.{statement}
+use Rattle.deciding.proofs.planning.keep.Tie as tie
 
 pub keep-spec : {M : Type 1} → statement M
 keep-spec =

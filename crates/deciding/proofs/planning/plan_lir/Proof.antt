@@ -1,7 +1,7 @@
 use Rattle.deciding.proofs.Deciding.{lir-planned}
 use borrow.Author.Needs.{needs}
-use Rattle.deciding.proofs.plan_lir.Statement.{statement}
-use Rattle.deciding.proofs.plan_lir.Tie as tie
+use Rattle.deciding.proofs.planning.plan_lir.Statement.{statement}
+use Rattle.deciding.proofs.planning.plan_lir.Tie as tie
 
 pub plan-lir-spec : {M : Type 1} → statement M
 plan-lir-spec =
