@@ -55,6 +55,9 @@ module _ (req t : List ℕ) (count : ℕ) (v : List ℕ) (seen : Seen) (is : rea
   pub plan-fits : SoundTable t count → DeedFits count (dataSeen seen serverName) (p .deed)
   plan-fits sound = rw plans (deeds.plan-fits req t count v seen sound is)
 
+  pub plan-sendable : SoundTable t count → SoundVectors v → Sendable v (p .given .sent)
+  plan-sendable sound vectors = rw plan-given (decide-light req t count v vectors .1)
+
 -- What is given, where that is the decision's, can be sent.
 pub given-sendable : (req t o : List ℕ) (count : ℕ) (v : List ℕ) (g : Given) → Passed req o → SoundTable t count → SoundVectors v
     → g ≡ decide req t count v .given → Sendable v (g .sent)

@@ -2,6 +2,7 @@
 use assignment::naming;
 use assignment::owned;
 use choices::plan::Deed;
+use choices::plan::Plan;
 use choices::plan::Settling;
 use reading::kinds;
 use requests::places;
@@ -52,7 +53,7 @@ fn challenge(t: &mut [u8], count: usize, req: &[u8], found: [usize; kinds::KINDS
 }
 
 // The records.
-pub fn carry_out(t: &mut [u8], count: usize, req: &[u8], found: [usize; kinds::KINDS], d: Deed)
+fn carry_out(t: &mut [u8], count: usize, req: &[u8], found: [usize; kinds::KINDS], d: Deed)
     requires { ⌜ SoundTable (now t) count × DeedFits count (dataSeen (seenOf (now req) found) serverName) d ⌝ }
     ensures { λ _. ⌜ now (t .exit) ≡ carriedOut (now (t .entry)) count
         (assignmentOf (now (t .entry)) (seenOf (now (req .entry)) found) (now (req .entry))) d ⌝ }
@@ -65,7 +66,7 @@ pub fn carry_out(t: &mut [u8], count: usize, req: &[u8], found: [usize; kinds::K
 }
 
 // The vectors.
-pub fn spend(v: &mut [u8], sent: Sent, d: Deed)
+fn spend(v: &mut [u8], sent: Sent, d: Deed)
     requires { ⌜ SoundVectors (now v) × Sendable (now v) sent ⌝ }
     ensures { λ _. ⌜ now (v .exit) ≡ spentBy (now (v .entry)) sent d ⌝ }
 {
@@ -74,4 +75,26 @@ pub fn spend(v: &mut [u8], sent: Sent, d: Deed)
         Deed::Settle(_) => {}
         Deed::Challenge(_) => mark::spend(v, sent),
     }
+}
+
+// Both.
+pub fn carry(
+    t: &mut [u8],
+    count: usize,
+    v: &mut [u8],
+    req: &[u8],
+    found: [usize; kinds::KINDS],
+    p: Plan,
+)
+    requires { ⌜ SoundTable (now t) count × SoundVectors (now v) × DeedFits count (dataSeen (seenOf (now req) found) serverName) (p .deed)
+        × Sendable (now v) (p .given .sent) ⌝ }
+    ensures { λ _. ⌜ (now (t .exit) ≡ carriedOut (now (t .entry)) count
+        (assignmentOf (now (t .entry)) (seenOf (now (req .entry)) found) (now (req .entry))) (p .deed))
+        × (now (v .exit) ≡ spentBy (now (v .entry)) (p .given .sent) (p .deed)) ⌝ }
+{
+    let d = p.deed;
+    let g = p.given;
+    let sent = g.sent;
+    carry_out(t, count, req, found, d);
+    spend(v, sent, d);
 }

@@ -28,7 +28,9 @@ fn answer_fault(
 ) -> usize
     requires { ⌜ Passed (now req) (now out) × SoundTable (now t) count × SoundVectors (now v) × (readRequest (now req) ≡ bad f) ⌝ }
     ensures { λ r. ⌜ (r ≤ 36864)
-        × Answers (now (req .entry)) (now (t .entry)) count (now (file .entry)) (now (v .entry)) (now (out .entry)) (now (out .exit)) r ⌝ }
+        × Answers (now (req .entry)) (now (t .entry)) count (now (file .entry)) (now (v .entry)) (now (out .entry)) (now (out .exit)) r
+        × (now (t .entry) ≡ decide (now (req .entry)) (now (t .entry)) count (now (v .entry)) .table)
+        × (now (v .entry) ≡ decide (now (req .entry)) (now (t .entry)) count (now (v .entry)) .vectors) ⌝ }
 {
     answering::answer(out, req, t, file, v, count, giving::faulty(f))
 }
@@ -49,13 +51,10 @@ fn answer_read(
         × (now (t .exit) ≡ decide (now (req .entry)) (now (t .entry)) count (now (v .entry)) .table)
         × (now (v .exit) ≡ decide (now (req .entry)) (now (t .entry)) count (now (v .entry)) .vectors) ⌝ }
 {
-    let p = planning::plan_read(req, t, count, v, found);
+    let p = planning::plan_fitting(req, t, count, v, found);
     let g = p.given;
-    let d = p.deed;
-    let sent = g.sent;
     let n = answering::answer(out, req, t, file, v, count, g);
-    doing::carry_out(t, count, req, found, d);
-    doing::spend(v, sent, d);
+    doing::carry(t, count, v, req, found, p);
     n
 }
 

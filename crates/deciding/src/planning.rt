@@ -17,10 +17,15 @@ ghost use lib.Dec.{eqb};
 ghost use Rattle.record.specs.Fields.{keepOf};
 ghost use Rattle.table.specs.Blocks.{blockOf};
 ghost use Rattle.table.specs.SoundTable.{SoundTable};
+ghost use Rattle.vectors.specs.Chosen.{Sendable};
 ghost use Rattle.vectors.specs.VectorFile.{SoundVectors};
 ghost use Rattle.diameter.specs.Message.{commandOf};
+ghost use Rattle.reading.specs.Kinds.{serverName};
 ghost use Rattle.reading.specs.Places.{seenOf};
+ghost use Rattle.requests.specs.Judged.{fine};
+ghost use Rattle.requests.specs.Request.{readRequest, dataSeen};
 ghost use Rattle.fitting.specs.Decide.{numbersIn, uarPlan, sarPlan, lirPlan, marPlan, planRead};
+ghost use Rattle.fitting.specs.Deeds.{DeedFits};
 
 // Whether the header says that names are kept.
 fn keep(t: &[u8]) -> bool
@@ -99,7 +104,7 @@ fn plan_mar(req: &[u8], t: &[u8], count: usize, v: &[u8], found: [usize; kinds::
 }
 
 // No other command is read than these four.
-pub fn plan_read(req: &[u8], t: &[u8], count: usize, v: &[u8], found: [usize; kinds::KINDS]) -> Plan
+fn plan_read(req: &[u8], t: &[u8], count: usize, v: &[u8], found: [usize; kinds::KINDS]) -> Plan
     requires { ⌜ SoundTable (now t) count × SoundVectors (now v) × (20 ≤ length (now req)) ⌝ }
     ensures { λ r. ⌜ r ≡ planRead (now (req .entry)) (now (t .entry)) count (now (v .entry)) (seenOf (now (req .entry)) found) ⌝ }
 {
@@ -114,4 +119,19 @@ pub fn plan_read(req: &[u8], t: &[u8], count: usize, v: &[u8], found: [usize; ki
         return plan_lir(req, t, count, found);
     }
     plan_mar(req, t, count, v, found)
+}
+
+// The same, of a request that reading let pass: what is planned fits the table, and what is to be sent is there.
+pub fn plan_fitting(
+    req: &[u8],
+    t: &[u8],
+    count: usize,
+    v: &[u8],
+    found: [usize; kinds::KINDS],
+) -> Plan
+    requires { ⌜ SoundTable (now t) count × SoundVectors (now v) × (20 ≤ length (now req)) × (readRequest (now req) ≡ fine (seenOf (now req) found)) ⌝ }
+    ensures { λ r. ⌜ (r ≡ planRead (now (req .entry)) (now (t .entry)) count (now (v .entry)) (seenOf (now (req .entry)) found))
+        × DeedFits count (dataSeen (seenOf (now (req .entry)) found) serverName) (r .deed) × Sendable (now (v .entry)) (r .given .sent) ⌝ }
+{
+    plan_read(req, t, count, v, found)
 }

@@ -73,9 +73,5 @@ pub fn authenticate(
     let f = lookup::find_public(t, count, public);
     let sent = to_send(v, user, number);
     let claimed = claim(t, count, user, scheme, 0 < sent.count, f);
-    challenge::challenge_of(
-        challenge::claim_of(claimed),
-        carrying::block_found(f),
-        sent,
-    )
+    challenge::challenge_of(challenge::claim_of(claimed), carrying::block_found(f), sent)
 }

@@ -39,8 +39,11 @@ module _ (count : ℕ) (server : List ℕ) (least : 1 ≤ length server) (most :
   unfolding planOf deedOf
   row-deed s first all = go (effectOf (s .numbers .kind) (s .numbers .keep) .write)
     where
-      go : (x : Bool) → DeedFits count server (cond x (Settle (record { owned = all; state = effectOf (s .numbers .kind) (s .numbers .keep) .state;
-          named = effectOf (s .numbers .kind) (s .numbers .keep) .named })) Leave)
+      go : (x : Bool) → DeedFits count server (cond x (Settle (record {
+        owned = all;
+        state = effectOf (s .numbers .kind) (s .numbers .keep) .state;
+        named = effectOf (s .numbers .kind) (s .numbers .keep) .named;
+      })) Leave)
       go true = row-fits server least most (s .numbers .kind) (s .numbers .keep)
       go false = tt
 

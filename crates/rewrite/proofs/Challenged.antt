@@ -56,8 +56,8 @@ module _ (name : List ℕ) (least : 1 ≤ length name) (most : length name ≤ 9
           others = λ i l e. renewed-other b (stateOf b) (pendingSet (bitsOf b)) name i e;
           bits = rw (renewed-bits b (stateOf b) (pendingSet (bitsOf b)) name whole) (omega arith);
           sound =
-            λ k networks file s.
-            renewed-sound b (stateOf b) (pendingSet (bitsOf b)) name whole (two k networks file s) (omega arith) most served k networks file s;
+              λ k networks file s.
+              renewed-sound b (stateOf b) (pendingSet (bitsOf b)) name whole (two k networks file s) (omega arith) most served k networks file s;
         }
 
     challenged-kept : Kept b (challenged name b)

@@ -1,4 +1,4 @@
-use Rattle.deciding.proofs.Answering.{plan-given, plan-table, plan-vectors, plan-fits, given-room, given-sendable, answers, answers-most}
+use Rattle.deciding.proofs.Answering.{plan-given, plan-table, plan-vectors, given-room, answers, answers-most}
 use borrow.Author.Needs.{needs}
 use Rattle.deciding.proofs.answer_read.Statement.{statement}
 use Rattle.deciding.proofs.answer_read.Tie as tie
@@ -8,9 +8,8 @@ answer-read-spec =
     tie.close
     (tie.spec
     (λ c κs. search needs)
-    (λ c κs. search (needs, given-room, given-sendable, plan-given))
-    (λ c κs. search (needs, plan-fits))
-    (λ c κs. search (needs, given-sendable, plan-given))
+    (λ c κs. search (needs, given-room, plan-given))
+    (λ c κs. search needs)
     (λ c. search needs)
     (λ c. search needs)
     (λ c. search needs)
