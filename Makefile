@@ -119,8 +119,9 @@ ifndef SEED
 SEED := $(shell od -An -N4 -tu4 /dev/urandom | tr -d ' ')
 endif
 DRIVER = $(RUN) target/c99/driver
-KINDS := tables calls demand3
+KINDS := tables vectors calls demand3
 COUNT_tables := 200000
+COUNT_vectors := 100000
 COUNT_calls := 100000
 COUNT_demand3 := 20000
 
@@ -139,14 +140,14 @@ differential: target/c99/driver $(BINARY)
 noticed: target/c99/overstep $(BINARY)
 	tests/noticed.sh $(BINARY) $(RUN) target/c99/overstep
 
-# 5,000,000 tables and as many calls. Each round has the next seed: with SEED=N ROUNDS=M a run that was stopped goes on.
+# 5,000,000 tables, and as many vector files and calls. Each round has the next seed: with SEED=N ROUNDS=M a run that was stopped goes on.
 ROUNDS := 50
 COUNT_round := 100000
 #: soak               5,000,000 tables and as many calls compared, 8 minutes; SEED=N ROUNDS=M goes on where it was stopped
 soak: target/c99/driver $(BINARY)
 	@for ((round = 0; round < $(ROUNDS); round++)); do \
 	    echo "soak: SEED=$$(($(SEED) + round)) ROUNDS=$$(($(ROUNDS) - round))"; \
-	    for kind in tables calls; do \
+	    for kind in tables vectors calls; do \
 	        $(BINARY) compare --kind $$kind --seed $$(($(SEED) + round)) --count $(COUNT_round) -- $(DRIVER); \
 	    done; \
 	done
@@ -162,6 +163,7 @@ mutants: $(BINARY)
 stats: $(BINARY)
 	@echo "stats: seed $(SEED)"
 	$(BINARY) stats --kind tables --seed $(SEED) --count $(COUNT_tables)
+	$(BINARY) stats --kind vectors --seed $(SEED) --count $(COUNT_vectors)
 	$(BINARY) stats --kind calls --seed $(SEED) --count $(COUNT_calls)
 
 # The definitions beside the independent program: antt computes each case, which takes seconds; 24 make a quick trial.

@@ -7,11 +7,11 @@ use std::slice::{from_raw_parts, from_raw_parts_mut};
 /// `table` is `table_len` bytes.
 #[no_mangle]
 pub unsafe extern "C" fn reference_check(table: *const u8, table_len: usize, profile_len: usize) -> u64 {
-    reference::serve::check_word(reference::table::check(from_raw_parts(table, table_len), profile_len))
+    reference::serve::check_word(5, reference::table::check(from_raw_parts(table, table_len), profile_len))
 }
 
 /// # Safety
-/// Each pointer is as many bytes as its length says; those of `table` and `answer` may be written.
+/// Without vectors. Each pointer is as many bytes as its length says; those of `table` and `answer` may be written.
 #[no_mangle]
 pub unsafe extern "C" fn reference_serve(
     request: *const u8,
@@ -26,5 +26,6 @@ pub unsafe extern "C" fn reference_serve(
     let request = from_raw_parts(request, request_len);
     let table = from_raw_parts_mut(table, table_len);
     let profile = from_raw_parts(profile, profile_len);
-    reference::serve::serve(request, table, profile, from_raw_parts_mut(answer, answer_len), Slip::NONE).0
+    let answer = from_raw_parts_mut(answer, answer_len);
+    reference::serve::serve(request, table, profile, &mut [], answer, Slip::NONE).0
 }

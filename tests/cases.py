@@ -4,7 +4,7 @@
 Both are the independent program's: it makes the cases and says their outcomes. Chosen are small cases: for each of its deliberate
 faults one that shows it; of each result one, and then more: a refusal with what it returns besides; a command with its result; of a
 SAR past the reading rules also its type, and where it succeeds or meets a wrong state also keep, the state and whether it names many
-identities. After them stand the requests of real software in captured/, each over the table that their heads describe. Nothing here
+identities; of a MAR that succeeds the state and whether the record changes. After them stand the requests of real software in captured/, each over the table that their heads describe. Nothing here
 is random: a second run writes the same bytes."""
 import collections, pathlib, struct, sys
 
@@ -14,7 +14,7 @@ from streams import answer, avps, made, outcomes, run
 MOST = 649_500  # bytes of cases
 CX = 10415
 RULES = tuple(('B', n) for n in (5001, 5004, 5014, 3009, 5011, 3008, 3001, 3007))
-KNOWN = {(n, 0) for n in (263, 260, 277, 264, 296, 293, 283, 1, 284, 282)} | {(n, CX) for n in (601, 600, 623, 602, 614, 624)}
+KNOWN = {(n, 0) for n in (263, 260, 277, 264, 296, 293, 283, 1, 284, 282)} | {(n, CX) for n in (601, 600, 623, 602, 614, 624, 607, 612)}
 EFFECTS = ('B', 2001), ('X', 2004), ('X', 5007)
 
 
@@ -30,8 +30,8 @@ def state(table, public):
 
 def row(case, outcome):
     """What a case comes to, and what its answer carries."""
-    if outcome.word >> 48 or case.entry == 1:
-        several = case.entry == 1 or outcome.word >> 48 == 5  # a bad block has many causes
+    if outcome.word >> 48 or case.entry != 2:
+        several = case.entry != 2 or outcome.word >> 48 >= 5  # a bad block has many causes
         return (case.entry, outcome.word, streams.sizes(case).get('request', 0) > 16384), case.fill % 6 if several else 0
     held = streams.slices(case)
     asked, table = held['request'], held['table']
@@ -43,34 +43,39 @@ def row(case, outcome):
             said = 'X', number(dict(avps(data))[298, 0])
         elif kind == (279, 0):
             carried.append((279, next((k if k in KNOWN else 0 for k, _ in avps(data)), None)))
-        elif kind[0] in (1, 602, 603, 606):
+        elif kind[0] in (1, 602, 603, 606, 612):
             carried.append(kind)
     command, given = int.from_bytes(asked[5:8], 'big'), list(avps(asked[20:]))
-    result = command if command in (300, 301, 302) else 0, said
+    result = command if command in (300, 301, 302, 303) else 0, said
     if command == 301 and said not in RULES:
         names = [data for kind, data in given if kind == (601, CX)]
         result += (next((number(data) for kind, data in given if kind == (614, CX)), None),)
         if said in EFFECTS:
             result += len(names) > 1, table[12], state(table, names[0]) if names else None
+    if command == 303 and said == ('B', 2001):
+        result += state(table, dict(given)[601, CX]), streams.changes(case, outcome)['table'][1] == b''
     return result, tuple(carried)
 
 
 def fits(case):
-    """Whether the program has room for a case, 40,000 bytes for a slice and 65,536 for all, and the table is of few records."""
+    """Whether the program has room for a case, 40,000 bytes for a slice and 65,536 for all, and records and vectors are few: 18 vectors show
+    that at most 16 are sent."""
     sizes = streams.sizes(case)
-    return max(sizes.values()) <= 40000 and sum(sizes.values()) <= 65536 and sizes['table'] <= 4096
+    few = sizes.get('table', 0) <= 4096 and sizes.get('vectors', 0) <= 18 * 512
+    return max(sizes.values()) <= 40000 and sum(sizes.values()) <= 65536 and few
 
 
 def small(case):
     sizes = streams.sizes(case)
     request = sizes.get('request', 0)
-    return sizes['table'] <= 2048 and sizes['profile'] <= 700 and (request <= 900 or request > 16384)
+    files = max(sizes.get('table', 0), sizes.get('vectors', 0)) <= 2048 and sizes.get('profile', 0) <= 700
+    return files and (request <= 900 or request > 16384)
 
 
 def fitting(reference):
     """Cases that fit, the smallest first."""
     found = []
-    for kind, seeds, count in (('tables', (1,), 4000), ('calls', range(1, 6), 20000)):
+    for kind, seeds, count in (('tables', (1,), 4000), ('vectors', (1,), 4000), ('calls', range(1, 6), 20000)):
         for seed in seeds:
             found += [case for case in streams.cases(made(reference, kind, seed, count)) if fits(case)]
     return sorted(found, key=lambda case: len(case.whole))
@@ -151,7 +156,7 @@ def real(folder):
     for path in sorted(folder.glob('*.hex')):
         lines = [line for line in path.read_text().splitlines() if not line.startswith('#')]
         request = bytes.fromhex(''.join(lines))
-        yield streams.case(2, 0, request, table, profile, 36864)
+        yield streams.case(2, 0, request, table, profile, b'', 36864)
 
 
 def main():

@@ -14,12 +14,13 @@ ends() { # STATUS KIND DRIVER..
     tried=$((tried + 1))
 }
 
-for kind in tables calls demand3; do
+for kind in tables vectors calls demand3; do
     ends 0 "$kind" "$reference" outcomes
     ends 1 "$kind" true
 done
-for of in tables:EqualIdentitiesTaken tables:PrefixTaken calls:PendingStays calls:RestOfBufferCleared calls:BaseForUserUnknown \
-    demand3:MarkIgnored demand3:ReservedFlagsOfUnknownIgnored; do
+for of in tables:EqualIdentitiesTaken tables:PrefixTaken vectors:XresOf3Taken vectors:LastBadVectorTold calls:PendingStays calls:RestOfBufferCleared \
+    calls:BaseForUserUnknown calls:UsedSentAgain calls:VectorCheckWordStays demand3:MarkIgnored demand3:ReservedFlagsOfUnknownIgnored \
+    demand3:FaultyRequestUsesVector; do
     ends 1 "${of%:*}" "$reference" outcomes --fault "${of#*:}"
 done
 OVERSTEP=nowhere ends 0 tables "${driver[@]}"

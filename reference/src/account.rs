@@ -16,6 +16,8 @@ pub fn word(entry: Entry, outcome: &Outcome) -> String {
     match (entry, number) {
         (Entry::Check, 0) => format!("sound, {value} records{place}"),
         (Entry::Check, 5) => format!("block {value} is bad{place}"),
+        (Entry::CheckVectors, 0) => format!("sound, {value} vectors{place}"),
+        (Entry::CheckVectors, 6) => format!("vector block {value} is bad{place}"),
         (Entry::Decide, 0) => format!("answered with {value} bytes{place}"),
         (_, number) => format!("refused {number}, value {value}{place}"),
     }
@@ -76,7 +78,11 @@ fn changed(name: &str, before: &[u8], own: &Change, given: &Change) {
             return;
         }
     };
-    let place = if name == "table" { format!(" (block {}, byte {})", at / BLOCK, at % BLOCK) } else { String::new() };
+    let place = if ["table", "vectors"].contains(&name) {
+        format!(" (block {}, byte {})", at / BLOCK, at % BLOCK)
+    } else {
+        String::new()
+    };
     println!(
         "  {name}: at byte {at}{place} this program has {:02x}, the driver {:02x}, before the call {:02x}",
         ours[at], theirs[at], before[at]

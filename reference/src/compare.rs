@@ -97,6 +97,7 @@ struct Figures {
     cases: u64,
     done: u64,
     rewritten: u64,
+    marked: u64,
     /// By the refusal's number.
     refused: BTreeMap<u64, u64>,
     table_bytes: u64,
@@ -110,17 +111,18 @@ impl Figures {
             0 => self.done += 1,
             number => *self.refused.entry(number).or_insert(0) += 1,
         }
-        if expected.entry.rewrote(&expected.outcome) {
-            self.rewritten += 1;
-        }
+        self.rewritten += expected.entry.changed(&expected.outcome, Slice::Table) as u64;
+        self.marked += expected.entry.changed(&expected.outcome, Slice::Vectors) as u64;
     }
 
     fn print(&self, began: Instant) {
         println!(
-            "{} cases agree: {} sound or answered ({} with a table rewritten), refused {:?}; {} MiB of tables; {:.1} s",
+            "{} cases agree: {} sound or answered ({} with a table rewritten, {} with vectors sent), refused {:?}; \
+             {} MiB of tables; {:.1} s",
             self.cases,
             self.done,
             self.rewritten,
+            self.marked,
             self.refused,
             self.table_bytes >> 20,
             began.elapsed().as_secs_f64()

@@ -15,7 +15,7 @@ use reference::slip::{self, Slip};
 use reference::stats;
 
 const USAGE: &str = "\
-reference check                                             check `table` against `profile`
+reference check                                             check `table` against `profile`, and `vectors`
 reference answer                                            answer the request on standard input
 reference show                                              an answer on standard input, in words
 reference gen      --kind K --seed S [--from F] --count N   write cases
@@ -24,7 +24,7 @@ reference compare  --kind K --seed S [--from F] --count N -- DRIVER [ARGUMENT ..
 reference stats    --kind K --seed S [--from F] --count N   histogram
 reference faults                                            list the deliberate faults
 reference mutants  --seed S [--from F] --count N            whether each deliberate fault is noticed
-kinds: tables, calls; compare alone: demand3";
+kinds: tables, vectors, calls; compare alone: demand3";
 
 fn main() -> ExitCode {
     let arguments: Vec<String> = std::env::args().skip(1).collect();

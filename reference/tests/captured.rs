@@ -79,13 +79,78 @@ fn assignment_of_one_unregistered() {
 }
 
 #[test]
-fn a_command_that_is_not_served() {
+fn authentication_of_one_who_has_no_vector() {
     let answer = captured!("scscf-20-mar");
-    assert_eq!(result(&answer), "B3001");
-    assert_eq!(answer[4], 0x60);
+    assert_eq!(result(&answer), "B5012");
+    assert_eq!(answer[4], 0x40);
 }
 
 #[test]
 fn assignment_from_a_restarted_server() {
     assert_eq!(result(&captured!("scscf_incident-03-sar")), "X5007");
+}
+
+/// A MAR over a table where Bob is registered, Carol is held by another server in state 2, and each has 18 vectors.
+fn authentication(captured: &str) -> Done {
+    let bob = RecordModel { state: 1, server_name: SCSCF1.to_vec(), ..person("bob") };
+    let carol = RecordModel { state: 2, server_name: b"sip:scscf3.isle:6060".to_vec(), ..person("carol") };
+    let users = ["user0", "user1", "user2", "erin"].map(person);
+    let table = isle([&users[..], &[bob, carol]].concat()).encode();
+    let names = ["user0", "user1", "user2", "erin", "bob", "carol"];
+    let vectors: Vec<Vec<u8>> =
+        (0..18).flat_map(|n| names.map(|name| vector(0, &format!("{name}@isle"), n, &[n; 8]))).collect();
+    let hex: String = captured.lines().filter(|line| !line.starts_with('#')).collect();
+    let done = call_with_vectors(&bytes(&hex), &table, &vectors.concat());
+    assert_eq!(done.number, 0);
+    done
+}
+
+macro_rules! authentication {
+    ($name:literal) => {
+        authentication(include_str!(concat!("captured/", $name, ".hex")))
+    };
+}
+
+/// The blocks that are marked used.
+fn marked(done: &Done) -> Vec<usize> {
+    done.vectors.chunks(512).enumerate().filter(|(_, block)| block[1] == 1).map(|(number, _)| number).collect()
+}
+
+#[test]
+fn authentication_gets_one_vector() {
+    for (done, block) in
+        [(authentication!("mar-01"), 0), (authentication!("mar-33"), 3), (authentication!("mar-23"), 5)]
+    {
+        assert_eq!(result(&done.answer), "B2001");
+        assert_eq!(find(&done.answer, 607), Some(vec![0, 0, 0, 1]));
+        assert_eq!(marked(&done), [block]);
+    }
+}
+
+#[test]
+fn with_the_challenge_the_name_goes_over() {
+    for (done, block, state) in [(authentication!("mar-23"), 2, 2), (authentication!("mar-29"), 1, 1)] {
+        let record = &done.table[block * 512..][..512];
+        assert_eq!((record[8], record[9] & 1), (state, 1));
+        assert_ne!(&record[272..292], if state == 1 { SCSCF1 } else { b"sip:scscf3.isle:6060" });
+    }
+}
+
+#[test]
+fn twenty_asked_and_sixteen_sent() {
+    let done = authentication!("mar-29");
+    assert_eq!(find(&done.answer, 607), Some(vec![0, 0, 0, 16]));
+    assert_eq!(marked(&done), (0..16).map(|n| 6 * n + 4).collect::<Vec<usize>>());
+}
+
+#[test]
+fn another_scheme_and_other_members_use_no_vector() {
+    for (done, expected) in [
+        (authentication!("mar-09"), "X5006"),
+        (authentication!("mar-14"), "B5004"),
+        (authentication!("mar-16"), "B5004"),
+    ] {
+        assert_eq!(result(&done.answer), expected);
+        assert!(marked(&done).is_empty());
+    }
 }

@@ -10,6 +10,7 @@ mod names;
 pub mod request;
 mod tables;
 pub mod twists;
+pub mod vectors;
 
 pub use calls::MIXED;
 pub use made::{Made, Stream};
@@ -22,6 +23,7 @@ pub fn make(stream: Stream, seed: u64, number: u64) -> Made {
     let mut rng = Rng::for_case(seed, number);
     match stream {
         Stream::Tables => checks::case(&mut rng),
+        Stream::Vectors => vectors::case(&mut rng),
         Stream::Calls => calls::case(&mut rng),
     }
 }
