@@ -119,17 +119,18 @@ ifndef SEED
 SEED := $(shell od -An -N4 -tu4 /dev/urandom | tr -d ' ')
 endif
 DRIVER = $(RUN) target/c99/driver
-KINDS := tables vectors calls demand3
+KINDS := tables vectors calls demand3 runs
 COUNT_tables := 200000
 COUNT_vectors := 100000
 COUNT_calls := 100000
 COUNT_demand3 := 20000
+COUNT_runs := 2000
 
 #: cited              whether what README and manual pages of an installation cite is installed, and its trial works
 cited: $(ARCHIVE) $(PROGRAMS)
 	RUN='$(RUN)' tests/cited.sh target/test/cited $(X86_CC)
 
-#: differential       the library beside the independent program on 320,000 new cases; SEED=N runs a seed again
+#: differential       the library beside the independent program on 420,000 new cases and 2,000 runs of calls; SEED=N runs a seed again
 differential: target/c99/driver $(BINARY)
 	@for of in $(foreach kind,$(KINDS),$(kind):$(COUNT_$(kind))); do \
 	    echo "differential run: seed $(SEED), $${of#*:} $${of%:*}"; \
@@ -143,7 +144,7 @@ noticed: target/c99/overstep $(BINARY)
 # 5,000,000 tables, and as many vector files and calls. Each round has the next seed: with SEED=N ROUNDS=M a run that was stopped goes on.
 ROUNDS := 50
 COUNT_round := 100000
-#: soak               5,000,000 tables and as many calls compared, 8 minutes; SEED=N ROUNDS=M goes on where it was stopped
+#: soak               5,000,000 tables, and as many vector files and calls, compared, 12 minutes; SEED=N ROUNDS=M goes on where it was stopped
 soak: target/c99/driver $(BINARY)
 	@for ((round = 0; round < $(ROUNDS); round++)); do \
 	    echo "soak: SEED=$$(($(SEED) + round)) ROUNDS=$$(($(ROUNDS) - round))"; \
@@ -154,7 +155,7 @@ soak: target/c99/driver $(BINARY)
 
 # After how many cases each deliberate fault of the independent program shows; what the cases are made of.
 COUNT_mutants := 100000
-#: mutants            whether 259 deliberate faults would be noticed, and after how many cases
+#: mutants            whether 422 deliberate faults would be noticed, and after how many cases
 mutants: $(BINARY)
 	@echo "mutants: seed $(SEED)"
 	$(BINARY) mutants --seed $(SEED) --count $(COUNT_mutants)
@@ -219,7 +220,7 @@ target/c99/driver: tests/driver.c $(HEADER) $(ARCHIVE)
 
 target/c99/overstep: tests/overstep.c tests/driver.c $(HEADER) $(ARCHIVE)
 	mkdir -p $(@D)
-	$(X86_CC) -std=c99 $(STRICT) -Wl,--wrap=ndushavire_check -o $@ tests/overstep.c tests/driver.c $(ARCHIVE)
+	$(X86_CC) -std=c99 $(STRICT) -Wl,--wrap=ndushavire_check,--wrap=ndushavire_check_vectors -o $@ tests/overstep.c tests/driver.c $(ARCHIVE)
 
 target/c99/%: examples/%.c examples/load.h $(HEADER) $(ARCHIVE)
 	mkdir -p $(@D)

@@ -8,23 +8,26 @@ driver=("${@:2}")
 tried=0
 
 ends() { # STATUS KIND DRIVER..
-    local status=0
-    "$reference" compare --kind "$2" --seed 1 --count 2000 -- "${@:3}" >/dev/null 2>&1 || status=$?
+    local status=0 count=2000
+    [ "$2" != runs ] || count=50 # of some 25 calls each
+    "$reference" compare --kind "$2" --seed 1 --count "$count" -- "${@:3}" >/dev/null 2>&1 || status=$?
     [ "$status" = "$1" ] || { echo "noticed.sh: compare --kind $2 -- ${*:3} ends with status $status instead of $1" >&2; exit 1; }
     tried=$((tried + 1))
 }
 
-for kind in tables vectors calls demand3; do
+for kind in tables vectors calls demand3 runs; do
     ends 0 "$kind" "$reference" outcomes
     ends 1 "$kind" true
 done
 for of in tables:EqualIdentitiesTaken tables:PrefixTaken vectors:XresOf3Taken vectors:LastBadVectorTold calls:PendingStays calls:RestOfBufferCleared \
     calls:BaseForUserUnknown calls:UsedSentAgain calls:VectorCheckWordStays demand3:MarkIgnored demand3:ReservedFlagsOfUnknownIgnored \
-    demand3:FaultyRequestUsesVector; do
+    demand3:FaultyRequestUsesVector runs:UsedSentAgain runs:RewritingFreesVectors; do
     ends 1 "${of%:*}" "$reference" outcomes --fault "${of#*:}"
 done
-OVERSTEP=nowhere ends 0 tables "${driver[@]}"
-for which in before behind inside; do
-    OVERSTEP=$which ends 1 tables "${driver[@]}"
+for kind in tables vectors; do
+    OVERSTEP=nowhere ends 0 "$kind" "${driver[@]}"
+    for which in before behind inside; do
+        OVERSTEP=$which ends 1 "$kind" "${driver[@]}"
+    done
 done
 echo "noticed.sh: $tried comparisons, each ended as it should"

@@ -25,8 +25,13 @@ pub fn word(entry: Entry, outcome: &Outcome) -> String {
 
 /// How to make a case again, and what it is.
 pub fn case(stream: Stream, seed: u64, number: u64, made: &Made) {
-    let case = &made.case;
     println!("case {number} of seed {seed} (gen --kind {} --seed {seed} --from {number} --count 1)", stream.name());
+    slices(made);
+}
+
+/// What the case was made by, and what it lends.
+pub fn slices(made: &Made) {
+    let case = &made.case;
     println!("  made by: {}", made.notes.join(", "));
     for (lent, held) in case.entry.lent().iter().zip(&case.slices) {
         println!("  {} of {} bytes", lent.slice().name(), held.length());
@@ -43,9 +48,13 @@ pub fn case(stream: Stream, seed: u64, number: u64, made: &Made) {
 pub fn difference(stream: Stream, seed: u64, number: u64, made: &Made, own: &Outcome, given: &Outcome) {
     println!("a difference");
     case(stream, seed, number, made);
-    println!("  this program: {}", word(made.case.entry, own));
-    println!("  the driver:   {}", word(made.case.entry, given));
-    let case = &made.case;
+    outcomes(&made.case, own, given);
+}
+
+/// Two outcomes of a case, and where they differ.
+pub fn outcomes(case: &Case, own: &Outcome, given: &Outcome) {
+    println!("  this program: {}", word(case.entry, own));
+    println!("  the driver:   {}", word(case.entry, given));
     for (place, lent) in case.entry.lent().iter().enumerate() {
         let (slice, (around, itself)) = (lent.slice(), altered_bits(place));
         if given.altered & around != 0 {

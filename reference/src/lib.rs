@@ -41,3 +41,4 @@ pub mod stats;
 pub mod compare;
 
 pub mod demand3;
+pub mod runs;

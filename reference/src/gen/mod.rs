@@ -8,12 +8,14 @@ mod made;
 pub mod model;
 mod names;
 pub mod request;
+mod runs;
 mod tables;
 pub mod twists;
 pub mod vectors;
 
 pub use calls::MIXED;
 pub use made::{Made, Stream};
+pub use runs::{run, Step};
 pub use tables::FAR;
 
 use crate::rng::Rng;

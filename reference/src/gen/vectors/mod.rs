@@ -4,7 +4,7 @@ pub mod damage;
 pub mod model;
 mod sound;
 
-pub use sound::beside;
+pub use sound::{beside, of_people};
 
 use super::made::Made;
 use crate::cases::Case;

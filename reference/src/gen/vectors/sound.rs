@@ -50,6 +50,15 @@ pub fn beside(rng: &mut Rng, table: &TableModel, asked: Option<&[u8]>) -> Vec<Ve
     vectors
 }
 
+/// A file for a run: of the private identities of a table, of names near them and of one in no record.
+pub fn of_people(rng: &mut Rng, table: &TableModel) -> Vec<VectorModel> {
+    let mut names: Vec<Vec<u8>> = table.records.iter().map(|record| record.private.clone()).collect();
+    let (near, unknown) = (near(rng, &names[0]), names::any(rng, LONGEST_IDENTITY));
+    names.extend([near, unknown]);
+    let count = rng.between(1, 90);
+    (0..count).map(|_| VectorModel { used: rng.once_in(8), ..vector_of(rng, &names) }).collect()
+}
+
 /// As often none, one, about 16 and any other number.
 fn unused_wanted(rng: &mut Rng) -> usize {
     match rng.below(10) {
