@@ -6,11 +6,12 @@ set -euo pipefail
 reference=$1
 driver=("${@:2}")
 tried=0
+# A fault shows once in 1,600 pairs; a run has some 25 calls.
+declare -A count=([tables]=2000 [vectors]=2000 [calls]=2000 [demand3]=8000 [runs]=50)
 
 ends() { # STATUS KIND DRIVER..
-    local status=0 count=2000
-    [ "$2" != runs ] || count=50 # of some 25 calls each
-    "$reference" compare --kind "$2" --seed 1 --count "$count" -- "${@:3}" >/dev/null 2>&1 || status=$?
+    local status=0
+    "$reference" compare --kind "$2" --seed 1 --count "${count[$2]}" -- "${@:3}" >/dev/null 2>&1 || status=$?
     [ "$status" = "$1" ] || { echo "noticed.sh: compare --kind $2 -- ${*:3} ends with status $status instead of $1" >&2; exit 1; }
     tried=$((tried + 1))
 }
