@@ -4,14 +4,14 @@
 Both are the independent program's: it makes the cases and says their outcomes. Chosen are small cases: for each of its deliberate
 faults one that shows it; of each result one, and then more: a refusal with what it returns besides; a command with its result; of a
 SAR past the reading rules also its type, and where it succeeds or meets a wrong state also keep, the state and whether it names many
-identities; of a MAR that succeeds the state and whether the record changes. After them stand the requests of real software in captured/, each over the table that their heads describe. Nothing here
-is random: a second run writes the same bytes."""
+identities; of a MAR that succeeds the state and whether the record changes. After them stand the requests of real software in captured/,
+each over the table and the vectors that their heads describe. Nothing here is random: a second run writes the same bytes."""
 import collections, pathlib, struct, sys
 
 import streams
 from streams import answer, avps, made, outcomes, run
 
-MOST = 649_500  # bytes of cases
+MOST = 700_000  # bytes of cases
 CX = 10415
 RULES = tuple(('B', n) for n in (5001, 5004, 5014, 3009, 5011, 3008, 3001, 3007))
 KNOWN = {(n, 0) for n in (263, 260, 277, 264, 296, 293, 283, 1, 284, 282)} | {(n, CX) for n in (601, 600, 623, 602, 614, 624, 607, 612)}
@@ -143,20 +143,39 @@ def record(number, name, state=0, bits=0, mandatory=(), optional=(), server=b'',
     return summed((fields + names + words + struct.pack('>IH', *profile)).ljust(508, b'\0'))
 
 
+def vector(name, fill):
+    """An unused vector, its RAND, AUTN, XRES of 8 bytes and keys all of one byte."""
+    private = name + b'@isle'
+    fields = struct.pack('>BBBB', 3, 0, 8, len(private)) + private.ljust(128, b'\0')
+    return summed((fields + bytes([fill]) * 32 + (bytes([fill]) * 8).ljust(16, b'\0') + bytes([fill]) * 32).ljust(508, b'\0'))
+
+
+def vectors(request):
+    """A MAR finds a foreign vector and one of its User-Name: Bob, of whom 20 are asked, has 17 and User3 none. Other requests find no vector."""
+    name = dict(avps(request[20:])).get((1, 0), b'').replace(b'@isle', b'')
+    if int.from_bytes(request[5:8], 'big') != 303:
+        return b''
+    count = {b'bob': 17, b'user3': 0}.get(name, 1)
+    return vector(b'alice', 99) + b''.join(vector(name, n + 1) for n in range(count))
+
+
 def real(folder):
-    """Alice was never registered, Bob is, Erin has unregistered services."""
+    """Alice was never registered, Bob is, Carol is held by another server in state 2, Erin has unregistered services."""
     table = b''.join((
-        header(5, (b'isle', b'guest.example')),
+        header(8, (b'isle', b'guest.example')),
         record(1, b'alice', mandatory=(1, 2), optional=(3,)),
         record(2, b'bob', state=1, server=b'sip:scscf1.isle:6060'),
-        record(3, b'erin', bits=4, mandatory=(1, 2), profile=(0, 432)),
-        record(4, b'user0', profile=(432, 434)),
-        record(5, b'user3')))
+        record(3, b'carol', state=2, server=b'sip:scscf3.isle:6060'),
+        record(4, b'erin', bits=4, mandatory=(1, 2), profile=(0, 432)),
+        record(5, b'user0', profile=(432, 434)),
+        record(6, b'user1'),
+        record(7, b'user2'),
+        record(8, b'user3')))
     profile = b'0' * 866
     for path in sorted(folder.glob('*.hex')):
         lines = [line for line in path.read_text().splitlines() if not line.startswith('#')]
         request = bytes.fromhex(''.join(lines))
-        yield streams.case(2, 0, request, table, profile, b'', 36864)
+        yield streams.case(2, 0, request, table, profile, vectors(request), 36864)
 
 
 def main():
