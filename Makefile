@@ -7,7 +7,7 @@ SHELL := /bin/bash
 .DELETE_ON_ERROR:
 .NOTPARALLEL:
 export PYTHONDONTWRITEBYTECODE := 1
-.PHONY: help run test clean fmt kit pages header examples tables texts aims stores programs reference installs cited bench stack installable install uninstall
+.PHONY: help run test clean fmt kit pages header examples tables texts aims stores programs unsound reference installs cited bench stack installable install uninstall
 .PHONY: differential noticed soak mutants stats definitions-check cases
 
 MACHINE := $(shell uname -m)
@@ -59,7 +59,7 @@ target/bin/%: $(PROVED)
 	touch $@
 
 #: test               every test from fmt to differential below, some 3 minutes once the library is proved
-test: fmt kit pages header examples tables texts aims stores programs reference installs cited noticed differential
+test: fmt kit pages header examples tables texts aims stores programs unsound reference installs cited noticed differential
 
 #: fmt                whether crates/ is in the kit's layout
 fmt:
@@ -105,6 +105,10 @@ stores: target/c/store target/c++/store target/c/maketable $(ARCHIVE)
 #: programs           arguments of the programs answer and tablecheck
 programs: target/bin/answer target/bin/tablecheck target/c/maketable
 	tests/programs.sh target/test/programs target/c/maketable target/bin $(PROGRAM)
+
+#: unsound            vector files bad in one place: the check names the block, every decision is refused by 6
+unsound: target/c99/unsound
+	$(RUN) $<
 
 #: reference          the independent program's own tests
 reference:
@@ -221,6 +225,10 @@ target/c99/driver: tests/driver.c $(HEADER) $(ARCHIVE)
 target/c99/overstep: tests/overstep.c tests/driver.c $(HEADER) $(ARCHIVE)
 	mkdir -p $(@D)
 	$(X86_CC) -std=c99 $(STRICT) -Wl,--wrap=ndushavire_check,--wrap=ndushavire_check_vectors -o $@ tests/overstep.c tests/driver.c $(ARCHIVE)
+
+target/c99/unsound: tests/unsound.c bench/requests.h $(HEADER) $(ARCHIVE)
+	mkdir -p $(@D)
+	$(X86_CC) -std=c99 $(STRICT) -o $@ $< $(ARCHIVE)
 
 target/c99/%: examples/%.c examples/load.h $(HEADER) $(ARCHIVE)
 	mkdir -p $(@D)
