@@ -22,12 +22,6 @@ def number(data):
     return struct.unpack('>I', data)[0] if len(data) == 4 else None
 
 
-def state(table, public):
-    """The state of a public identity's record."""
-    blocks = (table[at:at + 512] for at in range(512, len(table), 512))
-    return next((b[8] for b in blocks if b[16:16 + b[13]] == public), None)
-
-
 def row(case, outcome):
     """What a case comes to, and what its answer carries."""
     if outcome.word >> 48 or case.entry != 2:
@@ -51,9 +45,9 @@ def row(case, outcome):
         names = [data for kind, data in given if kind == (601, CX)]
         result += (next((number(data) for kind, data in given if kind == (614, CX)), None),)
         if said in EFFECTS:
-            result += len(names) > 1, table[12], state(table, names[0]) if names else None
+            result += len(names) > 1, table[12], streams.state(table, names[0]) if names else None
     if command == 303 and said == ('B', 2001):
-        result += state(table, dict(given)[601, CX]), streams.changes(case, outcome)['table'][1] == b''
+        result += streams.state(table, dict(given)[601, CX]), streams.changes(case, outcome)['table'][1] == b''
     return result, tuple(carried)
 
 

@@ -81,6 +81,12 @@ def answer(case, outcome):
     return bytes(said)
 
 
+def state(table, public):
+    """The state of a public identity's record."""
+    blocks = (table[at:at + 512] for at in range(512, len(table), 512))
+    return next((b[8] for b in blocks if b[16:16 + b[13]] == public), None)
+
+
 def avps(body):
     """Code and vendor (0 without V), and data, of each AVP up to one whose length is wrong."""
     at = 0
