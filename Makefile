@@ -251,10 +251,11 @@ DECIDED := 1-short 16-short 300-short 4096-short 1-tiny 16-tiny 300-tiny 4096-ti
 # A program's arguments: each table, its profile file and how its names are.
 samples = $(foreach size,$(1),target/bench/$(size).table target/bench/$(size).profile $(word 2,$(subst -, ,$(size))))
 
-#: bench              times beside the aims, a minute once its parts are made; a missed aim is marked
-bench: $(addprefix target/bench/,check decide) $(patsubst %,target/bench/%.table,$(sort $(CHECKED) $(DECIDED)))
+#: bench              times beside the aims, a minute once their parts are made; a missed aim is marked
+bench: $(addprefix target/bench/,check vectors decide) $(patsubst %,target/bench/%.table,$(sort $(CHECKED) $(DECIDED)))
 	@{ $(CC) --version | head -n 1; \
 	   target/bench/check $(call samples,$(CHECKED)); \
+	   target/bench/vectors $(call samples,$(CHECKED)); \
 	   target/bench/decide $(call samples,$(DECIDED)); } | tee target/bench/report
 	@bench/summary.sh target/bench/report
 
@@ -265,16 +266,25 @@ stack: target/c99/stack $(DECIDED:%=target/bench/%.table)
 target/native/libndushavire.a: bench/native-lib $(PROVED)
 	bench/native-lib ndushavire
 
-target/bench/check: bench/check.c bench/aims.h bench/sum.c bench/samples.h bench/timing.h examples/load.h $(HEADER) $(TIMED) target/bench/libreference_c.a
-	$(CC) -O3 -DSUM=sum_plain -c -o target/bench/sum-plain.o bench/sum.c
-	$(CC) -O3 $(TUNE) -DSUM=sum_native -c -o target/bench/sum-native.o bench/sum.c
-	$(CC) -std=c99 $(STRICT) -o $@ bench/check.c target/bench/sum-plain.o target/bench/sum-native.o $(TIMED) \
-	    target/bench/libreference_c.a -lpthread -ldl -lm
+# The least that a check of a file can do, for any x86-64 or Arm and for this machine's own processor.
+target/bench/sum-plain.o: bench/sum.c
+	mkdir -p $(@D)
+	$(CC) -O3 -DSUM=sum_plain -c -o $@ $<
 
-target/bench/decide: bench/decide.c bench/aims.h bench/requests.h bench/samples.h bench/timing.h examples/load.h $(HEADER) $(TIMED) target/bench/libreference_c.a
-	$(CC) -std=c99 $(STRICT) -o $@ bench/decide.c $(TIMED) target/bench/libreference_c.a -lpthread -ldl -lm
+target/bench/sum-native.o: bench/sum.c
+	mkdir -p $(@D)
+	$(CC) -O3 $(TUNE) -DSUM=sum_native -c -o $@ $<
 
-target/c99/stack: bench/stack.c bench/requests.h bench/samples.h examples/load.h $(HEADER) $(ARCHIVE)
+TIMER := bench/aims.h bench/requests.h bench/samples.h bench/timing.h bench/vectors.h examples/load.h $(HEADER) $(TIMED) target/bench/libreference_c.a
+SUMS := target/bench/sum-plain.o target/bench/sum-native.o
+
+target/bench/check target/bench/vectors: target/bench/%: bench/%.c $(TIMER) $(SUMS)
+	$(CC) -std=c99 $(STRICT) -o $@ $< $(SUMS) $(TIMED) target/bench/libreference_c.a -lpthread -ldl -lm
+
+target/bench/decide: bench/decide.c $(TIMER)
+	$(CC) -std=c99 $(STRICT) -o $@ $< $(TIMED) target/bench/libreference_c.a -lpthread -ldl -lm
+
+target/c99/stack: bench/stack.c bench/requests.h bench/samples.h bench/vectors.h examples/load.h $(HEADER) $(ARCHIVE)
 	mkdir -p $(@D)
 	$(X86_CC) -std=c99 $(STRICT) -o $@ $< $(ARCHIVE)
 
