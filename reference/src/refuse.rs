@@ -3,7 +3,7 @@
 use crate::block::BLOCK;
 use crate::kinds::Command;
 use crate::message::{Message, R};
-use crate::read::read;
+use crate::read::{read, read_header};
 use crate::slip::{Fault, Slip};
 use crate::table::{self, Table};
 use crate::vectors::{self, Vector, Vectors};
@@ -31,7 +31,8 @@ pub fn refusal(lent: &Lent, slip: Slip) -> Option<(u32, u32)> {
         Some(Fault::VectorsBeforeRequest) => [1, 6, 2, 3, 4, 5],
         _ => [1, 2, 3, 4, 5, 6],
     };
-    order.into_iter().find_map(|number| Some((number, besides(number, lent, slip)?)))
+    let told = |number| if number == 6 && slip.is(Fault::UnsoundVectorsAreFive) { 5 } else { number };
+    order.into_iter().find_map(|number| Some((told(number), besides(number, lent, slip)?)))
 }
 
 /// What refusal `number` returns besides, if it is given. Those of 3 and 4 look at a header, which is there after 2.
@@ -87,6 +88,7 @@ fn bad_vectors(lent: &Lent, slip: Slip) -> Option<u32> {
         Some(Fault::VectorsNotAsked) => true,
         Some(Fault::VectorsOnlyForAuthentication) => message.command() != Command::MultimediaAuth.code(),
         Some(Fault::VectorsOnlyForDecisions) => read(message, slip).is_err(),
+        Some(Fault::VectorsNotForHeaderFaults) => read_header(message, slip).is_err(),
         _ => false,
     };
     if overlooked {

@@ -82,8 +82,9 @@ pub struct Finding<'a> {
 /// What an authentication request is given.
 pub struct Authentication<'a> {
     pub public: &'a [u8],
-    /// How many were asked for.
+    /// How many were asked for, and how many unused ones there are.
     pub asked: u32,
+    pub unused: usize,
     pub vectors: Vec<Vector<'a>>,
 }
 

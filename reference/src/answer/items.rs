@@ -5,15 +5,17 @@ use crate::kinds::{
     Kind, CONFIDENTIALITY_KEY, INTEGRITY_KEY, SCHEME, SIP_AUTHENTICATE, SIP_AUTHENTICATION_SCHEME, SIP_AUTHORIZATION,
     SIP_ITEM_NUMBER, VENDOR,
 };
+use crate::message::{padded, M};
 use crate::slip::{Fault, Slip};
 use crate::vectors::{vector, Vector};
 use crate::verdict::{Authentication, Verdict};
 
-/// Public-Identity, the number sent, and the items.
-pub fn write(avps: &mut Avps, authentication: &Authentication) {
+/// Public-Identity, the number sent, and the items, behind the User-Name at `name_at`.
+pub fn write(avps: &mut Avps, authentication: &Authentication, name_at: usize) {
     let slip = avps.slip;
     let number = match slip.0 {
         Some(Fault::AskedNumberTold) => authentication.asked,
+        Some(Fault::UnusedNumberTold) => authentication.unused as u32,
         _ => authentication.vectors.len() as u32,
     };
     let first = avps.bytes.len();
@@ -22,18 +24,29 @@ pub fn write(avps: &mut Avps, authentication: &Authentication) {
     }
     let items_at = avps.bytes.len();
     if !slip.is(Fault::NumberLeftOut) {
-        avps.own_kind(Kind::SipNumberAuthItems, &number.to_be_bytes());
+        own(avps, Kind::SipNumberAuthItems, &number.to_be_bytes());
     }
     let number_ends = avps.bytes.len();
     for (n, vector) in authentication.vectors.iter().enumerate() {
         let data = item(*vector, n, authentication.vectors.len(), slip);
-        avps.own_kind(Kind::SipAuthDataItem, &data);
+        let at = avps.bytes.len();
+        own(avps, Kind::SipAuthDataItem, &data);
+        if slip.is(Fault::ItemLengthWithoutPadding) {
+            avps.bytes[at + 7] -= (padded(vector.xres().len()) - vector.xres().len()) as u8;
+        }
     }
     match slip.0 {
         Some(Fault::ItemsBeforeNumber) => avps.bytes[items_at..].rotate_left(number_ends - items_at),
         Some(Fault::NumberBeforeIdentity) => avps.bytes[first..number_ends].rotate_left(items_at - first),
+        Some(Fault::IdentityBeforeUserName) => avps.bytes[name_at..items_at].rotate_left(first - name_at),
         _ => {}
     }
+}
+
+/// 607 or 612.
+fn own(avps: &mut Avps, kind: Kind, data: &[u8]) {
+    let vendor = if avps.slip.is(Fault::ItemsWithoutVendor) { None } else { kind.vendor() };
+    avps.own(vendor, kind.code(), data);
 }
 
 /// A faulty answer may lack the User-Name.
@@ -70,7 +83,11 @@ fn item(vector: Vector, n: usize, count: usize, slip: Slip) -> Vec<u8> {
     let mut group = Avps::new(slip);
     for (code, data) in members {
         let vendor = if slip.is(Fault::ItemMembersWithoutVendor) { None } else { Some(VENDOR) };
+        let at = group.bytes.len();
         group.own(vendor, code, &data);
+        if slip.is(Fault::ItemMembersUnmarked) {
+            group.bytes[at + 4] &= !M;
+        }
         if slip.is(Fault::ItemMembersUnpadded) {
             let padding = (4 - data.len() % 4) % 4;
             group.bytes.truncate(group.bytes.len() - padding);

@@ -24,11 +24,12 @@ pub fn answer(message: Message, header: Header, verdict: &Verdict, slip: Slip) -
     avps.own_number(None, Kind::AuthSessionState.code(), 1);
     avps.own_kind(Kind::OriginHost, header.host());
     avps.own_kind(Kind::OriginRealm, header.realm());
+    let name_at = avps.bytes.len();
     if let (Some(name), false) = (verdict.user_name, items::without_user_name(verdict, slip)) {
         avps.own_kind(Kind::UserName, name);
     }
-    if let Some(authentication) = &verdict.authentication {
-        items::write(&mut avps, authentication);
+    if let (Some(authentication), false) = (&verdict.authentication, slip.is(Fault::ItemsLast)) {
+        items::write(&mut avps, authentication, name_at);
     }
     if let Some(name) = verdict.server_name {
         avps.own_kind(Kind::ServerName, name);
@@ -43,8 +44,10 @@ pub fn answer(message: Message, header: Header, verdict: &Verdict, slip: Slip) -
         failed_avp(&mut avps, &verdict.failed, slip);
     }
     proxy_infos(&mut avps, message, verdict, slip);
-    if slip.is(Fault::FailedAvpLast) {
-        failed_avp(&mut avps, &verdict.failed, slip);
+    match (slip.0, &verdict.authentication) {
+        (Some(Fault::FailedAvpLast), _) => failed_avp(&mut avps, &verdict.failed, slip),
+        (Some(Fault::ItemsLast), Some(authentication)) => items::write(&mut avps, authentication, name_at),
+        _ => {}
     }
 
     let mut answer = answer_header(message, verdict.result, avps.bytes.len(), slip);

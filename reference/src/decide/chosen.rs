@@ -62,9 +62,26 @@ fn is_of_name(vector: Vector, request: &Request, slip: Slip) -> bool {
         Some(Fault::VectorNameWithoutCase) => stored.eq_ignore_ascii_case(asked),
         Some(Fault::VectorNamePrefixTaken) => asked.starts_with(stored),
         Some(Fault::LongerVectorNameTaken) => stored.starts_with(asked),
+        Some(Fault::VectorNameEndsAtZero) => before_zero(stored) == before_zero(asked),
+        Some(Fault::VectorNameByField) => without_zeros(stored) == without_zeros(asked),
         Some(Fault::VectorOfPublicIdentity) => stored == request.identities[0].data,
         _ => stored == asked,
     }
+}
+
+fn before_zero(name: &[u8]) -> Option<&[u8]> {
+    name.split(|byte| *byte == 0).next()
+}
+
+fn without_zeros(name: &[u8]) -> &[u8] {
+    let zeros = name.iter().rev().take_while(|byte| **byte == 0).count();
+    &name[..name.len() - zeros]
+}
+
+/// The blocks of the unused vectors of the request's User-Name.
+pub fn unused(request: &Request, vectors: Vectors) -> Vec<usize> {
+    let of_name = vectors.all().filter(|(_, vector)| Some(vector.private()) == request.user_name);
+    of_name.filter(|(_, vector)| !vector.is_used()).map(|(block, _)| block).collect()
 }
 
 /// The blocks that are marked used: those that are sent.

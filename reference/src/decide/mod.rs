@@ -48,7 +48,7 @@ pub fn decide<'a>(request: &Request<'a>, files: Files<'a>, slip: Slip) -> Verdic
         keep: table.header().keep(),
         records: asked.len(),
         stored: first.map(|record| stored(record.server_name(), request.server_name)),
-        vectors: (request.number_asked, unused(request, files.vectors), verdict.marked.len()),
+        vectors: (request.number_asked, chosen::unused(request, files.vectors).len(), verdict.marked.len()),
         result: Some(verdict.result),
     });
     verdict
@@ -69,9 +69,4 @@ fn stored(name: &[u8], given: &[u8]) -> Stored {
         _ if name.starts_with(given) || given.starts_with(name) => Stored::Prefix,
         _ => Stored::Another,
     }
-}
-
-/// How many unused vectors there are of the request's User-Name.
-fn unused(request: &Request, vectors: Vectors) -> usize {
-    vectors.all().filter(|(_, vector)| Some(vector.private()) == request.user_name && !vector.is_used()).count()
 }

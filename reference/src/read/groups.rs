@@ -5,8 +5,11 @@ use crate::kinds::{
     APPLICATION, AUTH_APPLICATION_ID, SCHEME, SIP_AUTHENTICATION_SCHEME, SIP_AUTHORIZATION, SIP_ITEM_NUMBER, VENDOR,
     VENDOR_ID,
 };
-use crate::message::{first_avp, padded, Avp, M};
+use crate::message::{first_avp, padded, Avp, M, V};
 use crate::slip::{Fault, Slip};
+
+/// The flag P of an AVP, which is free.
+const PROTECTED: u8 = 0x20;
 
 /// 260: one or more Vendor-Id of 10415 and one Auth-Application-Id of 16777216, in any order, and no other.
 pub fn application_is_good(data: &[u8], slip: Slip) -> bool {
@@ -56,10 +59,11 @@ pub fn scheme(data: &[u8], slip: Slip) -> Option<&[u8]> {
         let (member, after) = match first_avp(rest, slip) {
             Ok(read) => read,
             Err(_) if slip.is(Fault::ItemTailTaken) && rest.len() < 8 => break,
+            Err(_) if slip.is(Fault::MemberCutAtEnd) => return cut_scheme(rest).filter(|_| schemes.is_empty()),
             Err(_) => return None,
         };
         let padding = &rest[member.whole.len()..rest.len() - after.len()];
-        rest = after;
+        rest = if slip.is(Fault::FirstMemberAlone) { &[] } else { after };
         if member.has_reserved_flags() && !slip.is(Fault::ItemReservedFlagsTaken) {
             return None;
         }
@@ -86,14 +90,26 @@ pub fn scheme(data: &[u8], slip: Slip) -> Option<&[u8]> {
     (counts && judged).then_some(scheme)
 }
 
+/// What is there of a 608 whose length passes the group's end.
+fn cut_scheme(data: &[u8]) -> Option<&[u8]> {
+    let whole = data.len() > 12 && word_at(data, 0) == SIP_AUTHENTICATION_SCHEME && word_at(data, 8) == VENDOR;
+    let passes = whole && data[4] & V != 0 && (word_at(data, 4) & 0xFF_FFFF) as usize > data.len();
+    passes.then(|| &data[12..])
+}
+
 fn is_scheme(member: Avp, slip: Slip) -> bool {
     let of_vendor = match slip.0 {
         Some(Fault::SchemeWithoutVendor) => member.vendor.is_none() || member.vendor == Some(VENDOR),
         Some(Fault::SchemeOfAnyVendor) => member.vendor.is_some(),
         _ => member.vendor == Some(VENDOR),
     };
-    let marked = member.flags & M != 0 || !slip.is(Fault::SchemeMustBeMarked);
-    member.code == SIP_AUTHENTICATION_SCHEME && of_vendor && marked
+    let flags = match slip.0 {
+        Some(Fault::SchemeMustBeMarked) => member.flags & M != 0,
+        Some(Fault::SchemePFlagReserved) => member.flags & PROTECTED == 0,
+        _ => true,
+    };
+    let code = if slip.is(Fault::SchemeCodeIn16Bits) { member.code & 0xFFFF } else { member.code };
+    code == SIP_AUTHENTICATION_SCHEME && of_vendor && flags
 }
 
 /// Whether a member that is no 608 is overlooked.

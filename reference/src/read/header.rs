@@ -6,7 +6,10 @@ use crate::slip::{Fault, Slip};
 use crate::verdict::{Failed, Finding, Why};
 
 pub fn read_header<'a>(message: Message, slip: Slip) -> Result<Command, Finding<'a>> {
-    let command = Command::of(message.command());
+    let command = match message.command() {
+        304 if slip.is(Fault::Command304Taken) => Some(Command::MultimediaAuth),
+        code => Command::of(code),
+    };
     let reserved = slip.is(Fault::ReservedHeaderBitsAsked) && message.flags() & 0x0F != 0;
     let unserved = slip.is(Fault::AuthenticationNotServed) && command == Some(Command::MultimediaAuth);
     let mut faults = [

@@ -76,8 +76,13 @@ fn judge<'a>(
         if slip.is(Fault::MarkedUnnamedFails) && avp.is_marked() {
             return Err(whole(5001, 'd', "unknown and marked"));
         }
-        if !slip.is(Fault::UnnamedJudged) {
-            return Ok(None);
+        let again = before.iter().any(|(it, _)| *it == kind);
+        match slip.0 {
+            Some(Fault::UnnamedOnce) if again => return Err(whole(5009, 'f', kind.name())),
+            // Kept to be counted; nobody asks for it.
+            Some(Fault::UnnamedOnce) => return Ok(Some(kind)),
+            Some(Fault::UnnamedJudged) => {}
+            _ => return Ok(None),
         }
     }
     let content = judge_content(avp, kind, command, slip);
@@ -122,8 +127,11 @@ fn unnamed(command: Command) -> Kind {
 /// Whether the command names it.
 fn is_named(kind: Kind, command: Command, slip: Slip) -> bool {
     let assigned = matches!(kind, Kind::ServerAssignmentType | Kind::UserDataAlreadyAvailable);
+    let authorized = matches!(kind, Kind::VisitedNetworkIdentifier | Kind::UserAuthorizationType);
+    let in_authentication = command == Command::MultimediaAuth;
     kind.is_named_in(command)
-        || (slip.is(Fault::AssignmentNamedInAuthentication) && command == Command::MultimediaAuth && assigned)
+        || (slip.is(Fault::AssignmentNamedInAuthentication) && in_authentication && assigned)
+        || (slip.is(Fault::AuthorizationNamedInAuthentication) && in_authentication && authorized)
         || (slip.is(Fault::NumberNamedEverywhere) && kind == Kind::SipNumberAuthItems)
         || (slip.is(Fault::ItemNamedEverywhere) && kind == Kind::SipAuthDataItem)
 }
@@ -157,6 +165,8 @@ fn may_repeat(kind: Kind, command: Command, slip: Slip) -> bool {
         (Some(Fault::IdentityRepeatsEverywhere), Kind::PublicIdentity) => true,
         (Some(Fault::SessionIdRepeats), Kind::SessionId) => true,
         (Some(Fault::IdentityRepeatsInAuthentication), Kind::PublicIdentity) => command != Command::UserAuthorization,
+        (Some(Fault::UserNameRepeatsInAuthentication), Kind::UserName) => command == Command::MultimediaAuth,
+        (Some(Fault::ServerNameRepeatsInAuthentication), Kind::ServerName) => command == Command::MultimediaAuth,
         (Some(Fault::ItemRepeats), Kind::SipAuthDataItem) => true,
         (Some(Fault::NumberRepeats), Kind::SipNumberAuthItems) => true,
         _ => kind.may_repeat_in(command),

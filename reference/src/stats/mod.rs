@@ -11,6 +11,7 @@ use crate::cases::{Case, Outcome, Slice};
 use crate::gen::{self, Made, Stream, FAR};
 use crate::kinds::{Command, Kind, EXPERIMENTAL_RESULT, FAILED_AVP, RESULT_CODE, SERVER_CAPABILITIES, USER_DATA};
 use crate::message::{sound_avps, Avp, Message};
+use crate::read::read_header;
 use crate::slip::Slip;
 use crate::table::LONGEST_PROFILE;
 use crate::verdict::{Code, Decision, Why};
@@ -76,6 +77,7 @@ impl Histogram {
         }
         let row = match why {
             Why::Checked(_) | Why::CheckedVectors(_) => return,
+            Why::Refused(6) => format!("refused 6 to {}", asker(&made.case.held(Slice::Request))),
             Why::Refused(number) => format!("refused {number}"),
             Why::Header(code) => format!("header: B{code}"),
             Why::Rule(letter, what) => format!("rule ({letter}): {what}"),
@@ -197,6 +199,17 @@ impl Histogram {
     }
 }
 
+/// What a call that is refused by 6 would be answered as.
+fn asker(request: &[u8]) -> &'static str {
+    match read_header(Message(request), Slip::NONE) {
+        Ok(Command::UserAuthorization) => "a UAR",
+        Ok(Command::ServerAssignment) => "a SAR",
+        Ok(Command::LocationInfo) => "a LIR",
+        Ok(Command::MultimediaAuth) => "a MAR",
+        Err(_) => "a header fault",
+    }
+}
+
 /// How many records, in few classes.
 fn size(records: usize) -> String {
     match records {
@@ -206,6 +219,11 @@ fn size(records: usize) -> String {
         256..=4095 => "256 to 4,095".to_string(),
         _ => "4,096".to_string(),
     }
+}
+
+/// How each row begins that the cases of a stream must show.
+pub fn required_rows(stream: Stream) -> Vec<String> {
+    required::rows(stream).into_iter().map(|(row, _)| row).collect()
 }
 
 pub fn code_name(code: Code) -> String {

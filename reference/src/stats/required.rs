@@ -69,7 +69,9 @@ fn of_calls() -> Vec<(String, u64)> {
     wanted.push("request: 16,384 bytes".to_string());
     wanted.push("request: over 65,536 bytes".to_string());
     wanted.extend(twists().map(|twist| twist.name).chain(MIXED).map(|name| format!("made by: {name}")));
+    wanted.extend(["UAR", "SAR", "LIR", "MAR"].map(|command| format!("refused 6 to a {command}")));
     let mut rows: Vec<(String, u64)> = wanted.into_iter().map(|row| (row, ONE_IN)).collect();
+    rows.push(("refused 6 to a header fault".to_string(), 10 * ONE_IN));
     rows.extend(authentication::wanted().into_iter().map(|(row, times)| (row, times * ONE_IN)));
     for size in ["13 to 255", "256 to 4,095", "4,096"] {
         rows.push((format!("decided over {size} records"), 5 * ONE_IN));

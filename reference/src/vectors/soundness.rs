@@ -69,6 +69,7 @@ fn vector_is_sound(block: &[u8], slip: Slip) -> bool {
     (sum(block) == 0 || slip.is(Fault::VectorSumNotAsked))
         && (block[0] == KIND || slip.is(Fault::VectorKindNotAsked))
         && (block[vector::USED] <= 1 || slip.is(Fault::UsedNotLimited))
+        && (block[vector::USED] == 1 || !slip.is(Fault::VectorEditionAsked))
         && xres_fits(block, slip)
         && private_fits(block, slip)
         && (zero(&block[vector::REST..CHECK_WORD]) || slip.is(Fault::VectorRestNotAsked))
