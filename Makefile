@@ -148,7 +148,7 @@ noticed: target/c99/overstep $(BINARY)
 # 5,000,000 tables, and as many vector files and calls. Each round has the next seed: with SEED=N ROUNDS=M a run that was stopped goes on.
 ROUNDS := 50
 COUNT_round := 100000
-#: soak               5,000,000 tables, and as many vector files and calls, compared, 12 minutes; SEED=N ROUNDS=M goes on where it was stopped
+#: soak               5,000,000 tables, and as many vector files and calls, compared, 10 minutes; SEED=N ROUNDS=M goes on where it was stopped
 soak: target/c99/driver $(BINARY)
 	@for ((round = 0; round < $(ROUNDS); round++)); do \
 	    echo "soak: SEED=$$(($(SEED) + round)) ROUNDS=$$(($(ROUNDS) - round))"; \
@@ -179,7 +179,7 @@ definitions-check: $(BINARY)
 
 # Writes crates/cases/stdin and stdout anew: what the gate's program `cases` runs, and what the independent program says
 # of it.
-#: cases              chooses anew the cases that the gate runs, a minute
+#: cases              chooses anew the cases that the gate runs, two minutes
 cases: $(BINARY)
 	tests/cases.py $(BINARY) crates/cases
 
