@@ -83,13 +83,14 @@ examples: $(foreach mode,c99 cxx,$(addprefix target/$(mode)/,check decide)) targ
 	RUN='$(RUN)' tests/decide.sh target/test/decide target/c/maketable target/c99/decide target/cxx/decide
 	RUN='$(RUN)' tests/captured.sh target/test/captured target/c/maketable $(BINARY) target/c99/decide target/cxx/decide
 
-#: tables             tables made from text, damaged ones, and the switch to a new one as tablecheck(1) has it
+#: tables             tables and vector files made from text, damaged ones, and the switch to new ones as the manual pages have it
 tables: examples target/c/showtable
 	RUN='$(RUN)' tests/tables.sh target/test/tables target/c/maketable target/c/showtable target/c99/check target/cxx/check
+	RUN='$(RUN)' tests/vectors.sh target/test/vectors target/c/maketable target/c/showtable target/c99/check target/cxx/check
 	RUN='$(RUN)' tests/switch.sh target/test/switch target/c/maketable target/c99/check
 
 COUNT_texts := 2000
-#: texts              from a table to text and back, over 2,000 random tables; half a minute
+#: texts              from a table or a vector file to text and back, over 2,000 random ones of each; half a minute
 texts: target/c/maketable target/c/showtable target/c/texts
 	tests/texts.sh target/test/texts target/c/maketable target/c/showtable target/c/texts $(SEED) $(COUNT_texts)
 
