@@ -88,6 +88,7 @@ tables: examples target/c/showtable
 	RUN='$(RUN)' tests/tables.sh target/test/tables target/c/maketable target/c/showtable target/c99/check target/cxx/check
 	RUN='$(RUN)' tests/vectors.sh target/test/vectors target/c/maketable target/c/showtable target/c99/check target/cxx/check
 	RUN='$(RUN)' tests/switch.sh target/test/switch target/c/maketable target/c99/check
+	RUN='$(RUN)' tests/refill.sh target/test/refill target/c/maketable target/c/showtable target/c99/check
 
 COUNT_texts := 2000
 #: texts              from a table or a vector file to text and back, over 2,000 random ones of each; half a minute

@@ -352,7 +352,8 @@ static int try_faults(Fault first, Fault second, int forgets) {
         if (model->cut && !power_back()) return 0;
     }
     if (model->broken == NULL && model->answered < REQUESTS) model->broken = "the peer was never answered";
-    if (model->broken == NULL && !rotten && lives == 1 && many_used() != many_sent()) model->broken = "a vector was used and not sent, though the daemon lived on";
+    if (model->broken == NULL && !rotten && lives == 1 && many_used() != many_sent())
+        model->broken = "a vector was used and not sent, though the daemon lived on";
     if (model->broken == NULL) return 1;
     fprintf(stderr, "daemon: %s: call %u %s, call %u %s, on a disk that %s\n", model->broken, first.call, ways[first.way], second.call,
             ways[second.way], forgets ? "forgets" : "does not forget");
