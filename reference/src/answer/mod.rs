@@ -1,61 +1,18 @@
 //! Writing the answer.
 
+mod avps;
+mod items;
+
+use avps::Avps;
+
 use crate::kinds::{
     Kind, APPLICATION, AUTH_APPLICATION_ID, EXPERIMENTAL_RESULT, EXPERIMENTAL_RESULT_CODE, FAILED_AVP,
     MANDATORY_CAPABILITY, OPTIONAL_CAPABILITY, RESULT_CODE, SERVER_CAPABILITIES, USER_DATA, VENDOR, VENDOR_ID,
 };
-use crate::message::{first_avp, padded, sound_avps, Avp, Message, E, M, P, V};
+use crate::message::{first_avp, sound_avps, Avp, Message, E, P};
 use crate::slip::{Fault, Slip};
 use crate::table::{Header, Record};
 use crate::verdict::{Code, Failed, Verdict, Why};
-
-/// AVPs one after another, each with its padding.
-struct Avps {
-    bytes: Vec<u8>,
-    slip: Slip,
-}
-
-impl Avps {
-    fn new(slip: Slip) -> Avps {
-        Avps { bytes: Vec::new(), slip }
-    }
-
-    /// One of the server's own.
-    fn own(&mut self, vendor: Option<u32>, code: u32, data: &[u8]) {
-        let v = if vendor.is_some() { V } else { 0 };
-        let m = if self.slip.is(Fault::OwnWithoutMark) { 0 } else { M };
-        let length = 8 + 4 * vendor.is_some() as usize + data.len();
-        self.bytes.extend(code.to_be_bytes());
-        self.bytes.extend((u32::from(v | m) << 24 | length as u32).to_be_bytes());
-        if let Some(vendor) = vendor {
-            self.bytes.extend(vendor.to_be_bytes());
-        }
-        self.bytes.extend(data);
-        self.pad();
-    }
-
-    fn own_kind(&mut self, kind: Kind, data: &[u8]) {
-        self.own(kind.vendor(), kind.code(), data);
-    }
-
-    fn own_number(&mut self, vendor: Option<u32>, code: u32, number: u32) {
-        self.own(vendor, code, &number.to_be_bytes());
-    }
-
-    /// A copy keeps header and data; its padding is zero.
-    fn copy(&mut self, whole: &[u8]) {
-        let at = self.bytes.len();
-        self.bytes.extend(whole);
-        if self.slip.is(Fault::CopiedFlagsReset) {
-            self.bytes[at + 4] = whole[4] & V | M;
-        }
-        self.pad();
-    }
-
-    fn pad(&mut self) {
-        self.bytes.resize(padded(self.bytes.len()), 0);
-    }
-}
 
 pub fn answer(message: Message, header: Header, verdict: &Verdict, slip: Slip) -> Vec<u8> {
     let mut avps = Avps::new(slip);
@@ -67,8 +24,12 @@ pub fn answer(message: Message, header: Header, verdict: &Verdict, slip: Slip) -
     avps.own_number(None, Kind::AuthSessionState.code(), 1);
     avps.own_kind(Kind::OriginHost, header.host());
     avps.own_kind(Kind::OriginRealm, header.realm());
-    if let Some(name) = verdict.user_name {
+    let name_at = avps.bytes.len();
+    if let (Some(name), false) = (verdict.user_name, items::without_user_name(verdict, slip)) {
         avps.own_kind(Kind::UserName, name);
+    }
+    if let (Some(authentication), false) = (&verdict.authentication, slip.is(Fault::ItemsLast)) {
+        items::write(&mut avps, authentication, name_at);
     }
     if let Some(name) = verdict.server_name {
         avps.own_kind(Kind::ServerName, name);
@@ -83,8 +44,10 @@ pub fn answer(message: Message, header: Header, verdict: &Verdict, slip: Slip) -
         failed_avp(&mut avps, &verdict.failed, slip);
     }
     proxy_infos(&mut avps, message, verdict, slip);
-    if slip.is(Fault::FailedAvpLast) {
-        failed_avp(&mut avps, &verdict.failed, slip);
+    match (slip.0, &verdict.authentication) {
+        (Some(Fault::FailedAvpLast), _) => failed_avp(&mut avps, &verdict.failed, slip),
+        (Some(Fault::ItemsLast), Some(authentication)) => items::write(&mut avps, authentication, name_at),
+        _ => {}
     }
 
     let mut answer = answer_header(message, verdict.result, avps.bytes.len(), slip);
@@ -169,7 +132,13 @@ fn failed_avp(avps: &mut Avps, failed: &Failed, slip: Slip) {
         Failed::Whole(avp) => group.copy(avp.whole),
         Failed::Header(header) => group.copy(header),
         Failed::Example(kind) => {
-            let length = if kind.is_four_bytes() != slip.is(Fault::ExampleDataTurned) { 4 } else { 0 };
+            let turned = match slip.0 {
+                Some(Fault::ExampleDataTurned) => true,
+                Some(Fault::NumberExampleEmpty) => *kind == Kind::SipNumberAuthItems,
+                Some(Fault::ItemExampleOf4) => *kind == Kind::SipAuthDataItem,
+                _ => false,
+            };
+            let length = if kind.is_four_bytes() != turned { 4 } else { 0 };
             let vendor = if slip.is(Fault::ExampleWithoutVendor) { None } else { kind.vendor() };
             group.own(vendor, kind.code(), &[0; 4][..length]);
         }

@@ -1,21 +1,29 @@
 //! Right requests, each aimed at some decision over a table.
 
+mod authentication;
+mod people;
+
+pub use authentication::{item, number_asked, other_scheme, scheme};
+pub use people::{unknown_private, unknown_public, ABSENT};
+
 use super::model::{RecordModel, TableModel};
 use super::names;
 use super::request::{application, Piece, RequestModel};
 use crate::kinds::{Command, Kind, APPLICATION};
 use crate::message::{P, R};
 use crate::rng::Rng;
-use crate::table::{LONGEST_IDENTITY, LONGEST_SERVER_NAME, NOT_REGISTERED, PENDING};
+use crate::table::{LONGEST_SERVER_NAME, NOT_REGISTERED, PENDING};
+use authentication::multimedia_auth;
+use people::{other_private, some_record};
 
-pub const ABSENT: &[u8] = b"sip:nobody@isle";
 pub const REMOVALS: [u32; 6] = [4, 5, 6, 7, 8, 11];
 
 /// A request of any command. The table may be changed to suit it.
 pub fn any(rng: &mut Rng, table: &mut TableModel) -> RequestModel {
-    let command = match rng.below(20) {
+    let command = match rng.below(23) {
         0..=5 => Command::UserAuthorization,
         6..=8 => Command::LocationInfo,
+        9 | 10 => Command::MultimediaAuth,
         _ => Command::ServerAssignment,
     };
     if rng.once_in(8) {
@@ -24,6 +32,7 @@ pub fn any(rng: &mut Rng, table: &mut TableModel) -> RequestModel {
     let mut own = match command {
         Command::UserAuthorization => user_authorization(rng, table),
         Command::LocationInfo => location_info(rng, table),
+        Command::MultimediaAuth => multimedia_auth(rng, table),
         Command::ServerAssignment => {
             let asked_type = rng.below(12) as u32;
             server_assignment(rng, table, asked_type)
@@ -37,6 +46,12 @@ pub fn user_data(rng: &mut Rng, table: &mut TableModel) -> RequestModel {
     let asked_type = rng.below(4) as u32;
     let mut own = server_assignment(rng, table, asked_type);
     surround(rng, Command::ServerAssignment, &mut own)
+}
+
+/// A MAR.
+pub fn authentication(rng: &mut Rng, table: &TableModel) -> RequestModel {
+    let mut own = multimedia_auth(rng, table);
+    surround(rng, Command::MultimediaAuth, &mut own)
 }
 
 /// The AVPs that every request has, around the command's own.
@@ -89,42 +104,6 @@ fn text(rng: &mut Rng, text: &str) -> Vec<u8> {
         data.clear();
     }
     data
-}
-
-fn some_record(rng: &mut Rng, table: &TableModel) -> RecordModel {
-    match table.records.len() {
-        0 => RecordModel { public: ABSENT.to_vec(), private: ABSENT.to_vec(), ..RecordModel::default() },
-        count => table.records[rng.below(count)].clone(),
-    }
-}
-
-/// A public identity that is in no record, mostly; near a real one.
-pub fn unknown_public(rng: &mut Rng, record: &RecordModel) -> Vec<u8> {
-    match rng.below(5) {
-        0 => vec![],
-        1 => ABSENT.to_vec(),
-        2 => vec![b'x'; rng.between(127, 300)],
-        3 => names::alike(rng, &record.public, LONGEST_IDENTITY),
-        _ => names::near(rng, &record.public, LONGEST_IDENTITY),
-    }
-}
-
-/// The private identity of some other subscription, if there is one.
-fn other_private(rng: &mut Rng, table: &TableModel, than: &[u8]) -> Vec<u8> {
-    let others: Vec<&RecordModel> = table.records.iter().filter(|record| record.private != than).collect();
-    if others.is_empty() {
-        return ABSENT.to_vec();
-    }
-    rng.pick(&others).private.clone()
-}
-
-pub fn unknown_private(rng: &mut Rng, private: &[u8]) -> Vec<u8> {
-    match rng.below(4) {
-        0 => vec![],
-        1 => ABSENT.to_vec(),
-        2 => names::alike(rng, private, LONGEST_IDENTITY),
-        _ => names::near(rng, private, LONGEST_IDENTITY),
-    }
 }
 
 fn user_authorization(rng: &mut Rng, table: &TableModel) -> Vec<Piece> {
@@ -266,6 +245,9 @@ fn agree(rng: &mut Rng, table: &mut TableModel) {
 fn removed(rng: &mut Rng, table: &TableModel, record: &RecordModel) -> Vec<Vec<u8>> {
     let same: Vec<Vec<u8>> =
         table.records.iter().filter(|it| it.private == record.private).map(|it| it.public.clone()).collect();
+    if rng.once_in(24) {
+        return vec![unknown_public(rng, record)];
+    }
     let mut identities = match rng.below(6) {
         0 => vec![],
         1 | 2 => vec![record.public.clone()],
