@@ -154,6 +154,14 @@ for block in 0 2 5 8; do
     says "$bad" "the byte behind the name of block $block"
     changed "$block" 3 $((name - 1))
     says "$bad" "the name of block $block a byte shorter, and its last byte still there"
+    changed "$block" 3 0
+    dd if=/dev/zero of="$vectors" bs=1 seek=$((512 * block + 4)) count=128 conv=notrunc status=none
+    mend "$vectors" "$block"
+    says "$bad" "no name in block $block"
+    changed "$block" 2 3
+    dd if=/dev/zero of="$vectors" bs=1 seek=$((512 * block + 167)) count=13 conv=notrunc status=none
+    mend "$vectors" "$block"
+    says "$bad" "an XRES of 3 bytes in block $block, and zeros behind it"
     if [ "$xres" -gt 4 ]; then
         changed "$block" 2 $((xres - 1))
         says "$bad" "the XRES of block $block a byte shorter, and its last byte still there"
@@ -186,6 +194,18 @@ for length in 0 1 511 512 513 1023 1024 $((512 * blocks - 1)); do
     truncate -s "$length" "$vectors"
     if [ $((length % 512)) = 0 ]; then expected="vectors sound, $((length / 512)) blocks"; else expected="vector block $((length / 512)) is bad"; fi
     says "$expected" "the first $length bytes alone"
+done
+# A block that ends in zeros, its check word too, and is cut off there: the zeros must be in the file.
+fresh
+set -- $(od -An -v -tu4 --endian=big -j $((512 * 8 + 208)) -N 4 "$vectors") $(od -An -v -tu4 --endian=big -j $((512 * 8 + 508)) -N 4 "$vectors")
+for place in 0 1 2 3; do
+    set_byte "$vectors" $((512 * 8 + 208 + place)) $((($1 + $2) >> (24 - 8 * place) & 255))
+    set_byte "$vectors" $((512 * 8 + 508 + place)) 0
+done
+says "$all" 'a block with a check word of 0'
+for length in 1 4 100 300; do
+    truncate -s $((512 * 9 - length)) "$vectors"
+    says 'vector block 8 is bad' "a block without its last $length bytes, which are zeros"
 done
 fresh
 flip "$vectors" $((512 * 6 + 200)) 1
