@@ -37,17 +37,18 @@ REFERENCE := $(shell find reference -path reference/target -prune -o -name '*.rs
 help:
 	@sed -n 's/^#: //p' $(firstword $(MAKEFILE_LIST))
 
-# The sample, and three answers of the program answer over it in a form to read: to a header alone, to the question where
-# bob is, and to an assignment of erin's line. A program of the kit runs with the kit's own loader and C library, on either
+# The sample, and four answers of the program answer over it in a form to read: to a header alone, to the question where bob is, to an
+# assignment of erin's line, and to a challenge of her card. A program of the kit runs with the kit's own loader and C library, on either
 # machine.
 PROGRAM = $(RUN) $(KIT)/toolchain/lib/ld-linux-x86-64.so.2 --library-path $(KIT)/toolchain/lib
-SHOWN := examples/no-avps tests/captured/icscf-20-lir tests/captured/scscf-12-sar
-#: run                the sample table, checked, and three answers from it in a form to read
+SHOWN := examples/no-avps $(addprefix tests/captured/,icscf-20-lir scscf-12-sar mar-33)
+#: run                the sample table and vectors, checked, and four answers from them in a form to read
 run: target/c/maketable target/c99/check target/bin/answer $(BINARY)
 	@mkdir -p target/run
 	target/c/maketable table examples/households.txt >target/run/table
 	target/c/maketable profile examples/households.txt >target/run/profile
-	$(RUN) target/c99/check target/run/table target/run/profile
+	target/c/maketable vectors examples/vectors.txt >target/run/vectors
+	$(RUN) target/c99/check target/run/table target/run/profile target/run/vectors
 	@for request in $(SHOWN); do \
 	    printf '\n%s\n' "$$request.hex: $$(sed -n 's/^# asked: //p' $$request.hex)"; \
 	    printf %b "$$(sed '/^#/d; s/ //g; s/../\\x&/g' $$request.hex | tr -d '\n')" | \
@@ -83,13 +84,15 @@ examples: $(foreach mode,c99 cxx,$(addprefix target/$(mode)/,check decide)) targ
 	RUN='$(RUN)' tests/decide.sh target/test/decide target/c/maketable target/c99/decide target/cxx/decide
 	RUN='$(RUN)' tests/captured.sh target/test/captured target/c/maketable $(BINARY) target/c99/decide target/cxx/decide
 
-#: tables             tables made from text, damaged ones, and the switch to a new one as tablecheck(1) has it
+#: tables             tables and vector files made from text, damaged ones, and the switch to new ones as the manual pages have it
 tables: examples target/c/showtable
 	RUN='$(RUN)' tests/tables.sh target/test/tables target/c/maketable target/c/showtable target/c99/check target/cxx/check
+	RUN='$(RUN)' tests/vectors.sh target/test/vectors target/c/maketable target/c/showtable target/c99/check target/cxx/check
 	RUN='$(RUN)' tests/switch.sh target/test/switch target/c/maketable target/c99/check
+	RUN='$(RUN)' tests/refill.sh target/test/refill target/c/maketable target/c/showtable target/c99/check
 
 COUNT_texts := 2000
-#: texts              from a table to text and back, over 2,000 random tables; half a minute
+#: texts              from a table or a vector file to text and back, over 2,000 random ones of each; half a minute
 texts: target/c/maketable target/c/showtable target/c/texts
 	tests/texts.sh target/test/texts target/c/maketable target/c/showtable target/c/texts $(SEED) $(COUNT_texts)
 
