@@ -41,7 +41,8 @@ marked-whole b h = marked-length b ∙ h
 marked-twice : (b : List ℕ) → length b ≡ 512 → marked (marked b) ≡ marked b
 unfolding marked
 marked-twice b h =
-    seal-alike (set (sealed (set b 1 1)) 1 1) (set b 1 1) (length-set (sealed (set b 1 1)) 1 1 ∙ marked-whole b h) (length-set b 1 1 ∙ h) (λ i l. go i l (eqb i 1) refl)
+    seal-alike (set (sealed (set b 1 1)) 1 1) (set b 1 1) (length-set (sealed (set b 1 1)) 1 1 ∙ marked-whole b h) (length-set b 1 1 ∙ h)
+    (λ i l. go i l (eqb i 1) refl)
   where
     go : (i : ℕ) → i < 508 → (x : Bool) → eqb i 1 ≡ x → getD (set (sealed (set b 1 1)) 1 1) i 0 ≡ getD (set b 1 1) i 0
     go i l true e =
