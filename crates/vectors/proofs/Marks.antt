@@ -7,7 +7,7 @@ use mathlib.Core.List.{List, [], _∷_, _++_}
 use native.Mathlib.Omega.{arith}
 use native.Mathlib.Numerals.{add-one}
 use lib.ListN.{length, getD, set, take, length-set}
-use lib.Seq.{getD-set-same, getD-set-other}
+use lib.Seq.{take-suc, getD-set-same, getD-set-other}
 use lib.Dec.{eqb}
 use borrow.Author.Tests.{eqb-true, eqb-false, eq-eqb, ne-eqb}
 use borrow.Rule.Slice.PartMut.{midOf, putMid}
@@ -74,11 +74,6 @@ sent-more (i ∷ ks) k j = go (eqb j i) (sent-more ks k j)
     go : (x : Bool) → isSent (ks ++ (k ∷ [])) j ≡ (isSent ks j || eqb j k) → (x || isSent (ks ++ (k ∷ [])) j) ≡ ((x || isSent ks j) || eqb j k)
     go true e = refl
     go false e = e
-
-take-next : (l : List ℕ) (n : ℕ) → n < length l → take (suc n) l ≡ take n l ++ (getD l n 0 ∷ [])
-take-next [] n h = absurd (omega arith)
-take-next (x ∷ l) zero h = refl
-take-next (x ∷ l) (suc n) h = ap (x ∷_) (take-next l n (omega arith))
 
 module _ (v : List ℕ) (whole : length v % 512 ≡ 0) where
   size : length v ≡ 512 * (length v / 512)
@@ -153,7 +148,7 @@ module _ (v : List ℕ) (s : Sent) (sendable : Sendable v s) (whole : length v %
         let k = getD (s .blocks) i 0 in
         let q : y ≡ spent v (take (suc i) (s .blocks)) =
         e ∙ ap (λ (z : List ℕ). changedIn z k marked) (so .is) ∙ spent-one v whole (take i (s .blocks)) k (sendable .within i h)
-        ∙ ap (spent v) (sym (take-next (s .blocks) i (spend-room h))) in
+        ∙ ap (spent v) (sym (take-suc (s .blocks) i 0 (spend-room h))) in
         record { is = rw (add-one i) q; size = ap length q ∙ spent-length v whole (take (suc i) (s .blocks)) }
 
     pub spend-end : s .count ≤ i → i ≤ s .count → x ≡ spent v (sentOf s)
