@@ -1,11 +1,11 @@
 -- The blocks of the vector file after one call: each that was sent is marked, and every other is as it was.
-use Prim.Native.Nat.{ℕ, _+_, _*_, _/_, _%_, _<_, _≤_, min}
+use Prim.Native.Nat.{ℕ, _*_, _/_, _%_, _<_, _≤_, min}
 use mathlib.Core.List.{List, []}
 use mathlib.Core.Bool.{Bool, true, false, true≢false}
 use mathlib.Core.Path.{_≡_, refl, sym, ap, _∙_}
 use mathlib.Core.Logic.{_⊎_, inl, inr, _≢_}
 use native.Mathlib.Omega.{arith}
-use lib.ListN.{length, getD, take, drop, drop-of-length-le}
+use lib.ListN.{length, getD, drop-of-length-le}
 use lib.Dec.{eqb, ltb}
 use borrow.Author.Tests.{eqb-true, ltb-true, ltb-false}
 use Rattle.octets.specs.Name.{same}
@@ -16,7 +16,7 @@ use Rattle.table.proofs.Blocks.{block-length}
 use Rattle.vectors.specs.Chosen.{unusedHere, unusedAt, unusedOf, isSent, Rising}
 use Rattle.vectors.specs.Marked.{marked, spent}
 use Rattle.vectors.specs.VectorBlock.{vectorOf, cardOf}
-use Rattle.vectors.specs.VectorFile.{checkVectors, SoundVectors}
+use Rattle.vectors.specs.VectorFile.{checkVectors}
 use Rattle.vectors.proofs.Marks.{marked-other, marked-used, spent-length}
 use Rattle.vectors.proofs.Sound.{whole-blocks, block-fits}
 use Rattle.vectors.proofs.Spent.{spent-kept, spent-marked, spent-sound}

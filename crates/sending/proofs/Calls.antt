@@ -1,34 +1,22 @@
 -- One call and the vector file: it sends nothing and leaves the file as it came, or it marks what it sends.
-use Prim.Native.Nat.{ℕ, _+_, _*_, _/_, _%_, _<_, _≤_, min}
+use Prim.Native.Nat.{ℕ, _<_, min}
 use mathlib.Core.List.{List, [], _∷_}
 use mathlib.Core.Bool.{Bool, true, false, cond, _||_, true≢false}
-use mathlib.Core.Path.{_≡_, refl, sym, ap, _∙_}
-use mathlib.Core.Logic.{_⊎_, inl, inr, _≢_}
-use native.Mathlib.Omega.{arith}
-use lib.ListN.{length, drop, drop-of-length-le}
-use lib.Dec.{eqb, ltb}
-use borrow.Author.Tests.{eqb-true, ltb-true, ltb-false}
-use Rattle.octets.proofs.All.{and-left, and-right}
-use Rattle.octets.proofs.Names.{same-eq}
-use Rattle.table.specs.Blocks.{blockOf}
+use mathlib.Core.Path.{_≡_, refl, sym, _∙_}
+use mathlib.Core.Logic.{_⊎_, inl, inr}
+use lib.ListN.{length}
 use Rattle.table.specs.declared.Checked.{Checked}
 use Rattle.table.specs.declared.Checked.the-variants.{Sound, Bad}
-use Rattle.vectors.specs.Chosen.{unusedHere, unusedAt, unusedOf, isSent, sentOf}
-use Rattle.vectors.specs.Marked.{marked, spent}
-use Rattle.vectors.specs.VectorBlock.{vectorOf, cardOf}
+use Rattle.vectors.specs.Chosen.{unusedOf, sentOf}
+use Rattle.vectors.specs.Marked.{spent}
 use Rattle.vectors.specs.VectorFile.{checkVectors, SoundVectors}
-use Rattle.vectors.proofs.Marks.{spent-length}
-use Rattle.vectors.proofs.Sound.{whole-blocks}
-use Rattle.vectors.proofs.Spent.{spent-kept, spent-marked}
-use Rattle.vectors.proofs.Unused.{ones-hold}
-use Rattle.reading.specs.declared.Outcome.the-variants.{Base}
 use Rattle.ndushavire.specs.Lent.{Lent}
 use Rattle.ndushavire.specs.Trial.{Trial, tried, anyHolds}
 use Rattle.ndushavire.specs.Serve.{smallBuffer, wrongSize, wrongLength, noRequest, isBad, checkOf, trials, refused, answered, serve}
 use Rattle.ndushavire.specs.Word.{checkValue}
 use Rattle.fitting.proofs.Tests.{neither}
-use Rattle.sending.specs.Sent.{decided, resultOf, sentBy, Challenges, userOf, askedBy}
-use Rattle.sending.proofs.Cases.{Other, Success, Cases, other, success, decide-cases}
+use Rattle.sending.specs.Sent.{decided, sentBy, Challenges, userOf, askedBy}
+use Rattle.sending.proofs.Cases.{Cases, other, success, decide-cases}
 
 -- Trials in order: none holds, or one does and is given.
 tried-none : {X : Type 0} (give : Trial → X) (o : X) (rs : List Trial) → anyHolds rs ≡ false → tried give o rs ≡ o

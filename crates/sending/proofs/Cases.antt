@@ -1,15 +1,15 @@
 -- What a decision does to the vector file: nothing, and it sends nothing; or it is a MAR's success, which marks what it sends.
-use Prim.Native.Nat.{ℕ, _+_, _-_, _/_, _<_, _≤_, min}
-use mathlib.Core.List.{List, [], _∷_, _++_}
+use Prim.Native.Nat.{ℕ, _-_, _<_, _≤_, min}
+use mathlib.Core.List.{List, []}
 use mathlib.Core.Bool.{Bool, true, false, cond, not, true≢false}
 use mathlib.Core.Path.{_≡_, refl, sym, ap, _∙_}
 use mathlib.Core.Logic.{_⊎_, inl, inr, _≢_}
 use native.Mathlib.Omega.{arith}
-use lib.ListN.{length, take, replicate}
+use lib.ListN.{length, replicate}
 use lib.Seq.{take-append-seam}
-use lib.Dec.{eqb, ltb}
+use lib.Dec.{eqb}
 use borrow.Author.Tests.{eqb-true, eqb-false, ltb-true}
-use Rattle.vectors.specs.Chosen.{unusedOf, noneSent, packed, sentOf}
+use Rattle.vectors.specs.Chosen.{unusedOf, packed, sentOf}
 use Rattle.vectors.specs.Marked.{spent}
 use Rattle.vectors.specs.declared.choice.Sent.{Sent}
 use Rattle.lookup.specs.Find.{findPublic}
@@ -29,21 +29,18 @@ use Rattle.choices.specs.Types.{effectOf}
 use Rattle.choices.specs.declared.Given.{Given}
 use Rattle.choices.specs.declared.challenge.Claimed.{Claimed}
 use Rattle.choices.specs.declared.choice.Choice.{Choice}
-use Rattle.choices.specs.declared.plan.Deed.{Deed}
-use Rattle.choices.specs.declared.plan.Deed.the-variants.{Leave, Settle, Challenge}
-use Rattle.choices.specs.declared.plan.Finding.{Finding}
+use Rattle.choices.specs.declared.plan.Deed.the-variants.{Leave, Settle}
 use Rattle.choices.specs.declared.plan.Finding.the-variants.{Denied, Fine}
 use Rattle.choices.specs.declared.plan.Plan.{Plan}
 use Rattle.decisions.specs.Authentication.{claimedAt, claimedOf, toSend, authenticateFound, authenticate}
 use Rattle.decisions.specs.Authorization.{authorizeFound, authorize}
-use Rattle.decisions.specs.Carried.{carried, blockFound}
+use Rattle.decisions.specs.Carried.{carried}
 use Rattle.decisions.specs.Location.{locateFound, locate}
 use Rattle.assignment.specs.Assignment.{Assignment, found, firstOf, assign}
 use Rattle.assignment.proofs.Rows.{Decided, alone, owned, named, assign-decided}
 use Rattle.fitting.specs.Decide.{Decision, assignmentOf, uarPlan, sarPlan, lirPlan, marPlan, planRead, performed, decideJudged, decide}
 use Rattle.fitting.specs.Deeds.{spentBy}
 use Rattle.fitting.proofs.Blameless.{Plain, carried-plain, plan-plain}
-use Rattle.fitting.proofs.Tests.{either}
 use Rattle.sending.proofs.Faults.{read-fails, read-command}
 
 -- nothing is sent, and the file is as it was
@@ -193,7 +190,8 @@ module _ (req t : List ℕ) (count : ℕ) (v : List ℕ) where
         → Cases
     unfolding uarPlan sarPlan lirPlan authorize authorizeFound locate locateFound
     command-case true y z a b c d = quiet-case _ d (carried-quiet v t count _ _ _) (λ e. absurd (omega (arith, eqb-true (commandOf req) 300 a)))
-    command-case false true z a b c d = quiet-case _ d (assign-quiet v t count (assignmentOf t seen req)) (λ e. absurd (omega (arith, eqb-true (commandOf req) 301 b)))
+    command-case false true z a b c d =
+        quiet-case _ d (assign-quiet v t count (assignmentOf t seen req)) (λ e. absurd (omega (arith, eqb-true (commandOf req) 301 b)))
     command-case false false true a b c d = quiet-case _ d (carried-quiet v t count _ _ _) (λ e. absurd (omega (arith, eqb-true (commandOf req) 302 c)))
     command-case false false false a b c d =
         let n = commandOf req in

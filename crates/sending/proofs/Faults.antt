@@ -1,18 +1,16 @@
 -- A fault of reading is no success, and a request that can be read is of one of the four commands.
 use Prim.Native.Nat.{ℕ, _+_, _/_, _%_, _≤_}
 use mathlib.Core.List.{List, [], _∷_}
-use mathlib.Core.Option.{none}
-use mathlib.Core.Bool.{Bool, true, false, cond, not, _&&_, true≢false}
-use mathlib.Core.Path.{_≡_, refl, sym, _∙_}
+use mathlib.Core.Bool.{Bool, true, false, cond, not, _&&_}
+use mathlib.Core.Path.{_≡_, refl}
 use native.Mathlib.Omega.{arith}
-use lib.ListN.{length, getD}
+use lib.ListN.{length}
 use lib.Dec.{eqb, leb}
 use borrow.Author.Tests.{eqb-true, eqb-false, leb-true}
 use Rattle.octets.proofs.Chains.{chain-says}
 use Rattle.diameter.specs.Avp.{padded, avpFlags, avpHead, dataOf, valueOf, reserved, marked}
 use Rattle.diameter.specs.Walk.{Walk, ended, faulty, avp, walk}
 use Rattle.diameter.specs.Message.{versionOf, messageFlags, commandOf, applicationOf, bodyOf}
-use Rattle.diameter.specs.Reader.{present}
 use Rattle.reading.specs.declared.Content.{Content}
 use Rattle.reading.specs.declared.Content.the-variants.{Free, Number, Sized, Members}
 use Rattle.reading.specs.declared.Dialect.{Dialect}
@@ -77,7 +75,9 @@ of-use Repeated earlier flags fault h = of-content fault h
 
 rule-fails : (d : Dialect) (seen : Seen) (a : List ℕ) → Rules (rule d seen a)
 unfolding rule ruleBy
-rule-fails d seen a = either Rules (not (eqb (reserved (avpFlags a)) 0)) {a = Fault 3009} (omega arith) (of-use (useOf d a) _ (avpFlags a) _ (content-fails d (rowOf (kindOf a) .content) a))
+rule-fails d seen a =
+    either Rules (not (eqb (reserved (avpFlags a)) 0)) {a = Fault 3009} (omega arith)
+    (of-use (useOf d a) _ (avpFlags a) _ (content-fails d (rowOf (kindOf a) .content) a))
 
 judge-fails : (d : Dialect) (at : ℕ) (w : Walk) (seen : Seen) → Fails (judge d at w seen)
 unfolding judge numberOf

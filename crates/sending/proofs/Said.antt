@@ -1,17 +1,15 @@
 -- What an answer says of the vectors that are sent: their number, and of each its item, in this order.
-use Prim.Native.Nat.{ℕ, zero, suc, _+_, _≤_, _<_}
+use Prim.Native.Nat.{ℕ, zero, suc, _+_, _≤_}
 use mathlib.Core.List.{List, [], _∷_, _++_, append-nil, append-assoc}
 use mathlib.Core.Bool.{false}
-use mathlib.Core.Path.{_≡_, refl, sym, ap, _∙_}
+use mathlib.Core.Path.{_≡_, refl, sym, ap}
 use native.Mathlib.Omega.{arith}
 use lib.ListN.{length, getD, take}
 use lib.Seq.{take-suc, length-take-le}
-use lib.Dec.{ltb}
 use Rattle.octets.specs.Run.{over}
 use Rattle.table.specs.Blocks.{blockOf}
 use Rattle.vectors.specs.Chosen.{sentOf, Sendable}
 use Rattle.vectors.specs.declared.choice.Sent.{Sent}
-use Rattle.pen.specs.Bytes.{vendorNumber, ifThere}
 use Rattle.items.specs.Items.{itemBytes, itemsBytes, numberedBytes, sentBytes}
 use Rattle.reply.specs.Answer.{givenBytes, restBytes, bodyBytes, answerBytes}
 use Rattle.fitting.proofs.Room.{decide-light}

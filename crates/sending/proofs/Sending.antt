@@ -1,11 +1,10 @@
 -- What becomes of the vector file, as theorems about `serve`, which is what the exported call is promised to leave (ndushavire/specs/Promise), for anything
 -- lent. What the words below mean is in specs/Sent (one call) and specs/Row (a row of calls).
-use Prim.Native.Nat.{ℕ, _+_, _/_, _<_, min}
+use Prim.Native.Nat.{ℕ, _/_, _<_, min}
 use mathlib.Core.List.{List, [], _∷_, _++_}
 use mathlib.Core.Bool.{true, false, true≢false}
-use mathlib.Core.Path.{_≡_, refl, sym, ap, _∙_}
+use mathlib.Core.Path.{_≡_, sym, _∙_}
 use mathlib.Core.Logic.{_⊎_, inl, inr, _≢_}
-use native.Mathlib.Omega.{arith}
 use lib.ListN.{length, getD}
 use borrow.Author.Tests.{lt-ltb}
 use Rattle.octets.specs.Run.{over}
