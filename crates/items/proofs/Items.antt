@@ -71,7 +71,14 @@ module _ (b : List ℕ) (e : length b ≡ 512) (h : vectorOf b .xres ≤ 16) whe
 
   pub item-long : (i : ℕ) → length (itemBytes i b) ≡ itemSize b
   unfolding itemBytes
-  item-long i = omega (arith, vendorGroup-length 612 (challengeBytes i b ++ keyBytes b), length-append (challengeBytes i b) (keyBytes b), challenge-long i, key-long)
+  item-long i =
+      omega (
+        arith,
+        vendorGroup-length 612 (challengeBytes i b ++ keyBytes b),
+        length-append (challengeBytes i b) (keyBytes b),
+        challenge-long i,
+        key-long,
+      )
 
 -- The turns of the loop over the blocks.
 module _ (v blocks : List ℕ) where
@@ -80,7 +87,8 @@ module _ (v blocks : List ℕ) where
   items-none o = record { count = refl; bytes = refl }
 
   -- what is written up to one block, with it, is no longer than all
-  pub items-room : (n i : ℕ) → i < n → length (itemsBytes v blocks i) + length (itemBytes (suc i) (blockOf v (getD blocks i 0))) ≤ length (itemsBytes v blocks n)
+  pub items-room : (n i : ℕ) → i < n
+      → length (itemsBytes v blocks i) + length (itemBytes (suc i) (blockOf v (getD blocks i 0))) ≤ length (itemsBytes v blocks n)
   unfolding itemsBytes
   items-room zero i h = absurd (omega arith)
   items-room (suc n) i h = go (ltb i n) refl (λ l. items-room n i l)

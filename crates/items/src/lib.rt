@@ -10,7 +10,8 @@ ghost use Rattle.vectors.specs.Chosen.{Sendable};
 ghost use Rattle.vectors.specs.VectorBlock.{vectorOf};
 ghost use Rattle.items.specs.Items.{challengeBytes, keyBytes, keySize, itemBytes, itemSize, itemsBytes, numberedBytes, sentBytes};
 
-// The codes: SIP-Number-Auth-Items, SIP-Auth-Data-Item, its number, SIP-Authentication-Scheme, SIP-Authenticate, SIP-Authorization, Confidentiality-Key, Integrity-Key.
+// The codes: SIP-Number-Auth-Items, SIP-Auth-Data-Item, its number, SIP-Authentication-Scheme, SIP-Authenticate, SIP-Authorization, Confidentiality-Key,
+// Integrity-Key.
 const NUMBER_AUTH_ITEMS: u32 = 607;
 
 const AUTH_DATA_ITEM: u32 = 612;

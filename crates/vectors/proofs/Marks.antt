@@ -1,5 +1,5 @@
 -- Vectors marked: a block with its mark, and the file with those that are sent marked, one after the other.
-use Prim.Native.Nat.{ℕ, zero, suc, _+_, _-_, _*_, _/_, _%_, _<_, _≤_}
+use Prim.Native.Nat.{ℕ, suc, _+_, _-_, _*_, _/_, _%_, _<_, _≤_}
 use mathlib.Core.Bool.{Bool, true, false, cond, _||_}
 use mathlib.Core.Path.{_≡_, refl, sym, _∙_, ap}
 use mathlib.Core.Logic.{_≢_}
@@ -7,9 +7,9 @@ use mathlib.Core.List.{List, [], _∷_, _++_}
 use native.Mathlib.Omega.{arith}
 use native.Mathlib.Numerals.{add-one}
 use lib.ListN.{length, getD, set, take, length-set}
-use lib.Seq.{getD-set-same, getD-set-other}
+use lib.Seq.{take-suc, getD-set-same, getD-set-other}
 use lib.Dec.{eqb}
-use borrow.Author.Tests.{eqb-true, eqb-false, eq-eqb, ne-eqb}
+use borrow.Author.Tests.{eqb-true, eqb-false}
 use borrow.Rule.Slice.PartMut.{midOf, putMid}
 use Rattle.table.specs.Blocks.{blockOf}
 use Rattle.table.proofs.Blocks.{block-length, table-is, table-same}
@@ -41,7 +41,8 @@ marked-whole b h = marked-length b ∙ h
 marked-twice : (b : List ℕ) → length b ≡ 512 → marked (marked b) ≡ marked b
 unfolding marked
 marked-twice b h =
-    seal-alike (set (sealed (set b 1 1)) 1 1) (set b 1 1) (length-set (sealed (set b 1 1)) 1 1 ∙ marked-whole b h) (length-set b 1 1 ∙ h) (λ i l. go i l (eqb i 1) refl)
+    seal-alike (set (sealed (set b 1 1)) 1 1) (set b 1 1) (length-set (sealed (set b 1 1)) 1 1 ∙ marked-whole b h) (length-set b 1 1 ∙ h)
+    (λ i l. go i l (eqb i 1) refl)
   where
     go : (i : ℕ) → i < 508 → (x : Bool) → eqb i 1 ≡ x → getD (set (sealed (set b 1 1)) 1 1) i 0 ≡ getD (set b 1 1) i 0
     go i l true e =
@@ -73,11 +74,6 @@ sent-more (i ∷ ks) k j = go (eqb j i) (sent-more ks k j)
     go : (x : Bool) → isSent (ks ++ (k ∷ [])) j ≡ (isSent ks j || eqb j k) → (x || isSent (ks ++ (k ∷ [])) j) ≡ ((x || isSent ks j) || eqb j k)
     go true e = refl
     go false e = e
-
-take-next : (l : List ℕ) (n : ℕ) → n < length l → take (suc n) l ≡ take n l ++ (getD l n 0 ∷ [])
-take-next [] n h = absurd (omega arith)
-take-next (x ∷ l) zero h = refl
-take-next (x ∷ l) (suc n) h = ap (x ∷_) (take-next l n (omega arith))
 
 module _ (v : List ℕ) (whole : length v % 512 ≡ 0) where
   size : length v ≡ 512 * (length v / 512)
@@ -152,7 +148,7 @@ module _ (v : List ℕ) (s : Sent) (sendable : Sendable v s) (whole : length v %
         let k = getD (s .blocks) i 0 in
         let q : y ≡ spent v (take (suc i) (s .blocks)) =
         e ∙ ap (λ (z : List ℕ). changedIn z k marked) (so .is) ∙ spent-one v whole (take i (s .blocks)) k (sendable .within i h)
-        ∙ ap (spent v) (sym (take-next (s .blocks) i (spend-room h))) in
+        ∙ ap (spent v) (sym (take-suc (s .blocks) i 0 (spend-room h))) in
         record { is = rw (add-one i) q; size = ap length q ∙ spent-length v whole (take (suc i) (s .blocks)) }
 
     pub spend-end : s .count ≤ i → i ≤ s .count → x ≡ spent v (sentOf s)

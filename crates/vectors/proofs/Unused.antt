@@ -17,8 +17,10 @@ module _ (p : ℕ → Bool) where
   ones-many (suc n) k zero = omega arith
   ones-many (suc n) k (suc most) = go (p k) (ones-many n (suc k) most) (ones-many n (suc k) (suc most))
     where
-      go : (x : Bool) → length (firstOnes p n (suc k) most) ≡ min most (howMany p n (suc k)) → length (firstOnes p n (suc k) (suc most)) ≡ min (suc most) (howMany p n (suc k))
-          → length (cond x (k ∷ firstOnes p n (suc k) most) (firstOnes p n (suc k) (suc most))) ≡ min (suc most) (cond x (suc (howMany p n (suc k))) (howMany p n (suc k)))
+      go : (x : Bool) → length (firstOnes p n (suc k) most) ≡ min most (howMany p n (suc k))
+          → length (firstOnes p n (suc k) (suc most)) ≡ min (suc most) (howMany p n (suc k))
+          → length (cond x (k ∷ firstOnes p n (suc k) most) (firstOnes p n (suc k) (suc most)))
+          ≡ min (suc most) (cond x (suc (howMany p n (suc k))) (howMany p n (suc k)))
       go true a b = omega arith
       go false a b = omega arith
 
@@ -57,12 +59,14 @@ module _ (p : ℕ → Bool) where
       go true f false g h a b = widen (a (rw g at h))
 
   -- none that the test holds of is passed over: one that is not chosen comes after all that are
-  pub ones-first : (n k most j i : ℕ) → k ≤ j → j < k + n → p j ≡ true → isSent (firstOnes p n k most) j ≡ false → isSent (firstOnes p n k most) i ≡ true → i < j
+  pub ones-first : (n k most j i : ℕ) → k ≤ j → j < k + n → p j ≡ true → isSent (firstOnes p n k most) j ≡ false
+      → isSent (firstOnes p n k most) i ≡ true → i < j
   unfolding firstOnes isSent
   ones-first zero k most j i l h e f g = absurd (true≢false (sym g))
   ones-first (suc n) k zero j i l h e f g = absurd (true≢false (sym g))
   ones-first (suc n) k (suc most) j i l h e f g =
-      go (p k) refl (eqb j k) refl (eqb i k) refl f g (λ m. ones-first n (suc k) most j i m (omega arith) e) (λ m. ones-first n (suc k) (suc most) j i m (omega arith) e)
+      go (p k) refl (eqb j k) refl (eqb i k) refl f g (λ m. ones-first n (suc k) most j i m (omega arith) e)
+      (λ m. ones-first n (suc k) (suc most) j i m (omega arith) e)
     where
       go : (x : Bool) → p k ≡ x → (y : Bool) → eqb j k ≡ y → (z : Bool) → eqb i k ≡ z
           → isSent (cond x (k ∷ firstOnes p n (suc k) most) (firstOnes p n (suc k) (suc most))) j ≡ false
