@@ -14,7 +14,7 @@ use Rattle.lookup.specs.Find.{firstFrom, publicIs, findPublic}
 use Rattle.lookup.specs.declared.Found.{Found}
 use Rattle.lookup.specs.declared.Found.the-variants.{At, Nothing}
 use Rattle.lookup.proofs.First.{FirstAt, first-stands}
-use Rattle.blocks.specs.Changed.{changedAt, changedIn}
+use Rattle.blocks.specs.Changed.{changedAt, changedIn, isOne}
 use Rattle.blocks.proofs.Changed.{in-here, in-other}
 use Rattle.rewrite.specs.Change.{afterOf, changedFound, Keeps, differ, alteredUpTo}
 use Rattle.rewrite.specs.Renew.{settled, Fitting}
@@ -38,7 +38,7 @@ use Rattle.requests.specs.declared.identities.Next.the-variants as next
 use Rattle.requests.proofs.Naming.{no-place, first-place, named-none, named-first}
 use Rattle.choices.specs.declared.types.AssignmentType.{AssignmentType}
 use Rattle.choices.specs.declared.plan.Survey.{Survey}
-use Rattle.assignment.specs.Assignment.{meantBy, isOne, findAll, numbersOf}
+use Rattle.assignment.specs.Assignment.{meantBy, findAll, numbersOf}
 use Rattle.assignment.specs.Survey.{clean, both, lookFound, foundSurvey}
 use Rattle.assignment.specs.declared.Meant.the-variants.{Fault, Owned, Listed}
 use Rattle.assignment.proofs.Surveys.{survey-cons, both-assoc, both-clean}

@@ -10,14 +10,14 @@ use lib.ListN.{length}
 use lib.Dec.{eqb, leb, ltb}
 use borrow.Author.Tests.{eqb-true, eqb-false, ltb-true, ltb-false, le-leb, lt-leb, ne-eqb}
 use Rattle.table.specs.Blocks.{blockOf}
-use Rattle.blocks.specs.Changed.{changedAt, changedIn}
+use Rattle.blocks.specs.Changed.{changedAt, changedIn, isOne}
 use Rattle.blocks.proofs.Changed.{in-length, in-here, in-other}
 use Rattle.rewrite.specs.Change.{afterOf, Keeps, differ, alteredUpTo}
 use Rattle.rewrite.specs.Renew.{settled, Fitting}
 use Rattle.rewrite.proofs.Counts.{if-counts, sum-few}
 use Rattle.rewrite.proofs.Settled.{settled-keeps}
 use Rattle.rewrite.proofs.Tables.{keeps-whole, after-same, after-none, at-same}
-use Rattle.assignment.specs.Assignment.{isOne, ownedHere, ownedUpTo}
+use Rattle.assignment.specs.Assignment.{ownedHere, ownedUpTo}
 
 -- a subscription's records not in state 0, from a block on
 unfoldable pub ownedFrom : List ℕ → List ℕ → ℕ → ℕ → Bool

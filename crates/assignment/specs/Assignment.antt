@@ -24,7 +24,7 @@ use Rattle.decisions.specs.Carried.{blockFound}
 use Rattle.assignment.specs.declared.Meant.{Meant}
 use Rattle.assignment.specs.declared.Meant.the-variants.{Fault, Owned, Listed}
 
--- What a SAR says: its numbers, its server name, the User-Name (empty where none is given), the identities (the AVPs themselves) and their places
+-- What a SAR says (a MAR has its server name there too): its numbers, its server name, the User-Name (empty where none is given), the identities (the AVPs themselves) and their places
 pub record Assignment : Type 0 where
   pub numbers : Sar
   pub server : List ℕ
@@ -43,10 +43,6 @@ meantBy removal named (p ∷ (q ∷ others)) = cond removal (Listed p) (Fault (f
 unfoldable pub every : {X : Type 0} → (X → Bool) → List X → Bool
 every p [] = true
 every p (x ∷ xs) = p x && every p xs
-
-unfoldable pub isOne : List ℕ → ℕ → Bool
-isOne [] j = false
-isOne (k ∷ ks) j = eqb j k || isOne ks j
 
 abbrev pub isEmpty : {X : Type 0} → List X → Bool
 isEmpty [] = true

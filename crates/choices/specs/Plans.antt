@@ -1,4 +1,4 @@
--- "SAR.": what it comes to, by what was seen of its records, and the plan then.
+-- What is planned; and "SAR.": what it comes to, by what was seen of its records, and the plan then.
 use Prim.Native.Nat.{ℕ}
 use mathlib.Core.Bool.{Bool, cond, not, _&&_}
 use lib.Dec.{eqb}

@@ -2,7 +2,6 @@
 use crate::Given;
 use reading::Outcome;
 use reading::Verdict;
-use vectors::choice;
 use vectors::choice::Sent;
 ghost use mathlib.Core.Path.{_≡_};
 ghost use Rattle.choices.specs.Given.{blameless, givenOf, givenFault, givenPlain, givenServer, givenCapable, givenUser, givenSent};
@@ -18,7 +17,7 @@ fn given(verdict: Verdict, user: u32, server: u32, capable: u32, profile: u32) -
         server,
         capable,
         profile,
-        sent: choice::none(),
+        sent: vectors::choice::none(),
     }
 }
 

@@ -1,4 +1,4 @@
-// "SAR.": what it comes to, by what was seen of its records, and the plan then.
+// What is found and planned; and "SAR.": what it comes to, by what was seen of its records, and the plan then.
 use crate::Given;
 use crate::giving;
 use crate::types;
@@ -27,7 +27,7 @@ pub struct Survey {
     pub right: bool,
 }
 
-// What a survey comes to.
+// What the questions of a SAR or a MAR come to.
 pub enum Finding {
     Denied(Outcome),
     Fine,

@@ -11,7 +11,7 @@ use Rattle.record.specs.Fields.{keepOf}
 use Rattle.table.specs.Blocks.{blockOf}
 use Rattle.table.specs.SoundTable.{SoundTable}
 use Rattle.table.proofs.Sound.{sound-size, sound-block}
-use Rattle.blocks.specs.Changed.{changedIn}
+use Rattle.blocks.specs.Changed.{changedIn, isOne}
 use Rattle.vectors.specs.Chosen.{sentOf}
 use Rattle.vectors.specs.Marked.{spent}
 use Rattle.vectors.specs.declared.choice.Sent.{Sent}
@@ -35,7 +35,7 @@ use Rattle.choices.specs.declared.plan.Plan.{Plan}
 use Rattle.decisions.specs.Authentication.{authenticate}
 use Rattle.decisions.specs.Authorization.{authorize}
 use Rattle.decisions.specs.Location.{locate}
-use Rattle.assignment.specs.Assignment.{isOne, findAll, numbersOf, ownedUpTo, assign, storedName, plannedRecords}
+use Rattle.assignment.specs.Assignment.{findAll, numbersOf, ownedUpTo, assign, storedName, plannedRecords}
 use Rattle.assignment.specs.Survey.{sarOf}
 use Rattle.fitting.specs.Decide.{numbersIn, assignmentOf, uarPlan, sarPlan, lirPlan, marPlan, planRead}
 use Rattle.fitting.specs.Deeds.{carriedOut, spentBy, DeedFits}

@@ -47,7 +47,8 @@ use Rattle.choices.specs.declared.plan.Finding.the-variants.{Denied, Fine}
 use Rattle.choices.specs.declared.plan.Plan.{Plan}
 use Rattle.decisions.specs.Authentication.{claimedAt, claimedOf, authenticateFound, authenticate}
 use Rattle.decisions.proofs.Among.{public-among}
-use Rattle.assignment.specs.Assignment.{Assignment, meantBy, every, isOne, findAll, numbersOf, firstOf, ownedUpTo, ownAt, surveyOf, userKnown, ownerBy}
+use Rattle.assignment.specs.Assignment.{Assignment, meantBy, every, findAll, numbersOf, firstOf, ownedUpTo, ownAt, surveyOf, userKnown, ownerBy}
+use Rattle.blocks.specs.Changed.{isOne}
 use Rattle.assignment.specs.Assignment.{namedSurvey, ownedSurvey, assign, storedName, plannedRecords}
 use Rattle.assignment.specs.declared.Meant.the-variants.{Fault, Owned, Listed}
 use Rattle.assignment.proofs.OwnTurns.{no-zero}

@@ -16,7 +16,7 @@ use Rattle.rewrite.specs.Change.{alterable, Kept}
 use Rattle.rewrite.proofs.Sound.{keeping-sound}
 use Rattle.rewrite.proofs.Tables.{Keeping, keeping-same, kept-same, after-frame, after-keeping}
 use Rattle.diameter.specs.Message.{commandOf}
-use Rattle.assignment.specs.Assignment.{isOne}
+use Rattle.blocks.specs.Changed.{isOne}
 use Rattle.fitting.specs.Decide.{Decision}
 use Rattle.ndushavire.specs.Lent.{Lent}
 use Rattle.ndushavire.specs.Word.{checkValue}

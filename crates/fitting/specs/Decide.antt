@@ -69,7 +69,7 @@ unfoldable pub marPlan : List ℕ → ℕ → List ℕ → Seen → Plan
 marPlan t count v seen =
     authenticate t count v (dataSeen seen userName) (dataSeen seen publicIdentity) (schemeOf seen) (valueSeen seen numberAuthItems)
 
--- UAR 300, SAR 301, LIR 302, MAR 303
+-- UAR 300, SAR 301, LIR 302, MAR 303: no other command is read without a fault of the header
 unfoldable pub planRead : List ℕ → List ℕ → ℕ → List ℕ → Seen → Plan
 planRead req t count v seen =
     cond (eqb (commandOf req) 300) (uarPlan t count seen)

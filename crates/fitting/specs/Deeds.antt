@@ -9,9 +9,10 @@ use Rattle.rewrite.specs.Change.{afterOf}
 use Rattle.rewrite.specs.Renew.{settled, challenged, Fitting}
 use Rattle.choices.specs.declared.plan.Deed.{Deed}
 use Rattle.choices.specs.declared.plan.Deed.the-variants.{Leave, Settle, Challenge}
-use Rattle.assignment.specs.Assignment.{Assignment, isOne, storedName, plannedRecords}
+use Rattle.assignment.specs.Assignment.{Assignment, storedName, plannedRecords}
+use Rattle.blocks.specs.Changed.{isOne}
 
--- "Effects": a row of the table of effects, on each of the records meant; "The Server-Name is stored if different", by the one record
+-- "Effects": a row of the table of effects, on each of the records meant; "The Server-Name is stored if different", in the one record
 unfoldable pub carriedOut : List ℕ → ℕ → Assignment → Deed → List ℕ
 carriedOut t count s Leave = t
 carriedOut t count s (Settle w) = afterOf t count (isOne (plannedRecords t count s (w .owned))) (settled (w .state) (storedName (w .named) (s .server)))

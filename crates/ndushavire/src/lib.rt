@@ -73,7 +73,7 @@ pub extern "C" fn ndushavire_check(table: &[u8], profile: &[u8]) -> u64
     check_word(UNSOUND, table::check(table, profile.len()))
 }
 
-// The same of a vector file: a call that it is refused for says no block.
+// The check of a vector file, our own entry: refusal 6 of a call does not say which block is bad, and this does.
 #[no_mangle]
 pub extern "C" fn ndushavire_check_vectors(vectors: &[u8]) -> u64
     ensures { λ r. ⌜ CheckVectorsPromise (now (vectors .entry)) r ⌝ }

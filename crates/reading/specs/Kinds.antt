@@ -124,7 +124,7 @@ kindBy flags vendor code = kindFrom known 1 flags vendor code
 abbrev pub kindOf : List ℕ → ℕ
 kindOf a = kindBy (avpFlags a) (vendorOf a) (avpCode a)
 
--- what a dialect makes of a kind, by its command: UAR 300, SAR 301, LIR 302, MAR 303; and of an AVP
+-- what a dialect makes of a kind, by its command: UAR 300, SAR 301, LIR 302, MAR 303 (no other passes the header's test); and of an AVP
 unfoldable pub useIn : Dialect → Kind → Use
 useIn d k =
     cond (eqb (d .command) 300) (k .uar)

@@ -44,7 +44,7 @@ originBytes h = avpBytes 264 (hostOf h) ++ avpBytes 296 (realmOf h)
 unfoldable pub topBytes : List ℕ → List ℕ → Outcome → List ℕ
 topBytes req t result = frontBytes (sessionOf (bodyOf req)) result ++ originBytes (blockOf t 0)
 
--- "User-Name, Public-Identity" of an authentication request; "User-Name ..; Server-Name where a decision gives one"
+-- "User-Name ..", of a SAR and a MAR, and a MAR's "Public-Identity"; "Server-Name where a decision gives one"
 unfoldable pub identityBytes : List ℕ → Given → List ℕ
 identityBytes t g = namedBytes 1 (ofBlock privateOf t (g .user)) ++ vendorNamed 601 (ofBlock publicOf t (g .public))
 

@@ -1,4 +1,4 @@
-// Records written anew: another state, pending cleared, another server name, a new check word.
+// Records written anew: another state, pending cleared or set, another server name, a new check word.
 use lookup::Found;
 use octets::name;
 use octets::run;

@@ -13,8 +13,9 @@ use Rattle.octets.proofs.All.{and-left, and-right}
 use Rattle.octets.proofs.Names.{same-eq}
 use Rattle.table.specs.Blocks.{blockOf}
 use Rattle.table.proofs.Blocks.{block-length}
-use Rattle.vectors.specs.Chosen.{unusedHere, unusedAt, unusedOf, isSent, Rising}
-use Rattle.vectors.specs.Marked.{marked, spent}
+use Rattle.vectors.specs.Chosen.{unusedHere, unusedAt, unusedOf, Rising}
+use Rattle.blocks.specs.Changed.{isOne}
+use Rattle.vectors.specs.Marked.{markedUsed, spent}
 use Rattle.vectors.specs.VectorBlock.{vectorOf, cardOf}
 use Rattle.vectors.specs.VectorFile.{checkVectors}
 use Rattle.vectors.proofs.Marks.{marked-other, marked-used, spent-length}
@@ -41,8 +42,8 @@ past : (t u : List ℕ) (k : ℕ) → length u ≡ length t → length t % 512 �
 unfolding blockOf
 past t u k e w h = rw (drop-of-length-le t {i = 512 * k} (omega arith), drop-of-length-le u {i = 512 * k} (omega arith))
 
-none-listed : (ks : List ℕ) (k : ℕ) → ks ≡ [] → isSent ks k ≡ true → ⊥
-unfolding isSent
+none-listed : (ks : List ℕ) (k : ℕ) → ks ≡ [] → isOne ks k ≡ true → ⊥
+unfolding isOne
 none-listed ks k e f = true≢false (sym f ∙ rw e)
 
 module _ (x : Lent) where
@@ -59,17 +60,17 @@ module _ (x : Lent) where
   record Sent (k : ℕ) : Type 0 where
     within : k < count
     unused : unusedAt v (userOf x) k ≡ true
-    marks : blockOf after k ≡ marked (blockOf v k)
+    marks : blockOf after k ≡ markedUsed (blockOf v k)
 
   module _ (s : Sending x) where
-    listed-sent : (k : ℕ) → isSent (sentBy x) k ≡ true → Sent k
+    listed-sent : (k : ℕ) → isOne (sentBy x) k ≡ true → Sent k
     unfolding unusedOf
     listed-sent k e =
         let h = ones-hold (unusedAt v (userOf x)) count 0 (min (askedBy x) 16) k (rw (s .first) at e) in
         let l : k < count = omega (arith, h .1) in
         record { within = l; unused = h .2; marks = rw (s .marks) (spent-marked v (whole-blocks v (s .sound)) (sentBy x) k l e) }
 
-    unlisted-kept : (k : ℕ) → isSent (sentBy x) k ≡ false → blockOf after k ≡ blockOf v k
+    unlisted-kept : (k : ℕ) → isOne (sentBy x) k ≡ false → blockOf after k ≡ blockOf v k
     unlisted-kept k e = rw (s .marks) (go (ltb k count) refl)
       where
         w : length v % 512 ≡ 0
@@ -79,7 +80,7 @@ module _ (x : Lent) where
         go true f = spent-kept v w (sentBy x) k (ltb-true k count f) e
         go false f = past v (spent v (sentBy x)) k (spent-length v w (sentBy x)) w (ltb-false k count f)
 
-  sent-case : (k : ℕ) → isSent (sentBy x) k ≡ true → Sent k
+  sent-case : (k : ℕ) → isOne (sentBy x) k ≡ true → Sent k
   sent-case k e = go (call-cases x)
     where
       go : Quiet x ⊎ Sending x → Sent k
@@ -87,7 +88,7 @@ module _ (x : Lent) where
       go (inr s) = listed-sent s k e
 
   -- a block that is not sent stays
-  pub unsent-kept : (k : ℕ) → isSent (sentBy x) k ≡ false → blockOf after k ≡ blockOf v k
+  pub unsent-kept : (k : ℕ) → isOne (sentBy x) k ≡ false → blockOf after k ≡ blockOf v k
   unsent-kept k e = go (call-cases x)
     where
       go : Quiet x ⊎ Sending x → blockOf after k ≡ blockOf v k
@@ -95,7 +96,7 @@ module _ (x : Lent) where
       go (inr s) = unlisted-kept s k e
 
   -- one that is sent is a block of the file, of the User-Name, unused before and used afterwards
-  module _ (k : ℕ) (e : isSent (sentBy x) k ≡ true) where
+  module _ (k : ℕ) (e : isOne (sentBy x) k ≡ true) where
     pub sent-within : k < count
     sent-within = sent-case k e .within
 
@@ -116,9 +117,9 @@ module _ (x : Lent) where
 
   -- of another name: it is none of those sent
   pub other-kept : (k : ℕ) → cardOf (blockOf v k) ≢ userOf x → blockOf after k ≡ blockOf v k
-  other-kept k n = go (isSent (sentBy x) k) refl
+  other-kept k n = go (isOne (sentBy x) k) refl
     where
-      go : (y : Bool) → isSent (sentBy x) k ≡ y → blockOf after k ≡ blockOf v k
+      go : (y : Bool) → isOne (sentBy x) k ≡ y → blockOf after k ≡ blockOf v k
       go true e = absurd (n (sent-name k e))
       go false e = unsent-kept k e
 
@@ -159,7 +160,7 @@ module _ (x : Lent) where
     unfolding remaining unusedOf
     success-number = ap length (success-sends .first) ∙ ones-many (unusedAt v (userOf x)) count 0 (min (askedBy x) 16) ∙ omega arith
 
-    pub success-first : (j k : ℕ) → k < count → unusedAt v (userOf x) k ≡ true → isSent (sentBy x) k ≡ false → isSent (sentBy x) j ≡ true → j < k
+    pub success-first : (j k : ℕ) → k < count → unusedAt v (userOf x) k ≡ true → isOne (sentBy x) k ≡ false → isOne (sentBy x) j ≡ true → j < k
     unfolding unusedOf
     success-first j k h u e f =
         let first = success-sends .first in

@@ -7,7 +7,8 @@ use native.Mathlib.Omega.{arith}
 use lib.ListN.{length, getD}
 use lib.Dec.{eqb}
 use borrow.Author.Tests.{eq-eqb, ne-eqb}
-use Rattle.vectors.specs.Chosen.{isSent, Rising}
+use Rattle.vectors.specs.Chosen.{Rising}
+use Rattle.blocks.specs.Changed.{isOne}
 use Rattle.vectors.specs.VectorFile.{checkVectors}
 use Rattle.ndushavire.specs.Lent.{Lent}
 use Rattle.ndushavire.specs.Serve.{serve}
@@ -16,8 +17,8 @@ use Rattle.sending.specs.Row.{Turn, lending, leftBy, sentOver, Once}
 use Rattle.sending.proofs.Blocks.{unsent-kept, sent-unused, sent-used, length-kept, check-kept, rising}
 
 -- Numbers that rise are there once; so are those of two rows that have none in common.
-below : (from : ℕ) (ks : List ℕ) → Rising from ks → (j : ℕ) → j < from → isSent ks j ≡ false
-unfolding isSent
+below : (from : ℕ) (ks : List ℕ) → Rising from ks → (j : ℕ) → j < from → isOne ks j ≡ false
+unfolding isOne
 below from [] r j h = refl
 below from (k ∷ ks) r j h = rw (ne-eqb j k (omega (arith, r .0))) (below (suc k) ks (r .1) j (omega (arith, r .0)))
 
@@ -25,28 +26,28 @@ rising-once : (from : ℕ) (ks : List ℕ) → Rising from ks → Once ks
 rising-once from [] r = tt
 rising-once from (k ∷ ks) r = (below (suc k) ks (r .1) k (omega arith), rising-once (suc k) ks (r .1))
 
-listed-join : (is js : List ℕ) (k : ℕ) → isSent (is ++ js) k ≡ (isSent is k || isSent js k)
-unfolding isSent
+listed-join : (is js : List ℕ) (k : ℕ) → isOne (is ++ js) k ≡ (isOne is k || isOne js k)
+unfolding isOne
 listed-join [] js k = refl
 listed-join (i ∷ is) js k = go (eqb k i) (listed-join is js k)
   where
-    go : (x : Bool) → isSent (is ++ js) k ≡ (isSent is k || isSent js k) → (x || isSent (is ++ js) k) ≡ ((x || isSent is k) || isSent js k)
+    go : (x : Bool) → isOne (is ++ js) k ≡ (isOne is k || isOne js k) → (x || isOne (is ++ js) k) ≡ ((x || isOne is k) || isOne js k)
     go true e = refl
     go false e = e
 
-head-listed : (k : ℕ) (ks : List ℕ) → isSent (k ∷ ks) k ≡ true
-unfolding isSent
+head-listed : (k : ℕ) (ks : List ℕ) → isOne (k ∷ ks) k ≡ true
+unfolding isOne
 head-listed k ks = rw (eq-eqb k k refl)
 
-tail-listed : (i : ℕ) (is : List ℕ) (k : ℕ) → isSent is k ≡ true → isSent (i ∷ is) k ≡ true
-unfolding isSent
+tail-listed : (i : ℕ) (is : List ℕ) (k : ℕ) → isOne is k ≡ true → isOne (i ∷ is) k ≡ true
+unfolding isOne
 tail-listed i is k e = go (eqb k i)
   where
-    go : (x : Bool) → (x || isSent is k) ≡ true
+    go : (x : Bool) → (x || isOne is k) ≡ true
     go true = refl
     go false = e
 
-once-join : (is js : List ℕ) → Once is → Once js → ((k : ℕ) → isSent is k ≡ true → isSent js k ≡ false) → Once (is ++ js)
+once-join : (is js : List ℕ) → Once is → Once js → ((k : ℕ) → isOne is k ≡ true → isOne js k ≡ false) → Once (is ++ js)
 once-join [] js a b h = b
 once-join (i ∷ is) js a b h =
     (rw (listed-join is js i, a .0) (h i (head-listed i is)), once-join is js (a .1) b (λ k e. h k (tail-listed i is k e)))
@@ -54,16 +55,16 @@ once-join (i ∷ is) js a b h =
 -- One call: what is used stays used, and what is unused afterwards was so before.
 module _ (x : Lent) (k : ℕ) where
   call-used : usedAt (x .vectors) k ≡ 1 → usedAt (serve x .vectors) k ≡ 1
-  call-used e = go (isSent (sentBy x) k) refl
+  call-used e = go (isOne (sentBy x) k) refl
     where
-      go : (y : Bool) → isSent (sentBy x) k ≡ y → usedAt (serve x .vectors) k ≡ 1
+      go : (y : Bool) → isOne (sentBy x) k ≡ y → usedAt (serve x .vectors) k ≡ 1
       go true f = sent-used x k f
       go false f = ap (λ (b : List ℕ). getD b 1 0) (unsent-kept x k f) ∙ e
 
   call-unused : usedAt (serve x .vectors) k ≡ 0 → usedAt (x .vectors) k ≡ 0
-  call-unused e = go (isSent (sentBy x) k) refl
+  call-unused e = go (isOne (sentBy x) k) refl
     where
-      go : (y : Bool) → isSent (sentBy x) k ≡ y → usedAt (x .vectors) k ≡ 0
+      go : (y : Bool) → isOne (sentBy x) k ≡ y → usedAt (x .vectors) k ≡ 0
       go true f = sent-unused x k f
       go false f = ap (λ (b : List ℕ). getD b 1 0) (sym (unsent-kept x k f)) ∙ e
 
@@ -74,10 +75,10 @@ row-used v [] k e = e
 row-used v (c ∷ cs) k e = row-used (serve (lending v c) .vectors) cs k (call-used (lending v c) k e)
 
 -- of a row that begins with a call: sent by it, or by those after it
-sent-first : (v : List ℕ) (c : Turn) (cs : List Turn) (k : ℕ) (P : Type 0) → isSent (sentOver v (c ∷ cs)) k ≡ true
-    → (isSent (sentBy (lending v c)) k ≡ true → P) → (isSent (sentOver (serve (lending v c) .vectors) cs) k ≡ true → P) → P
+sent-first : (v : List ℕ) (c : Turn) (cs : List Turn) (k : ℕ) (P : Type 0) → isOne (sentOver v (c ∷ cs)) k ≡ true
+    → (isOne (sentBy (lending v c)) k ≡ true → P) → (isOne (sentOver (serve (lending v c) .vectors) cs) k ≡ true → P) → P
 unfolding sentOver
-sent-first v c cs k P e f g = go (isSent is k) refl (sym (listed-join is js k) ∙ e)
+sent-first v c cs k P e f g = go (isOne is k) refl (sym (listed-join is js k) ∙ e)
   where
     is : List ℕ
     is = sentBy (lending v c)
@@ -85,29 +86,29 @@ sent-first v c cs k P e f g = go (isSent is k) refl (sym (listed-join is js k) �
     js : List ℕ
     js = sentOver (serve (lending v c) .vectors) cs
 
-    go : (x : Bool) → isSent is k ≡ x → (x || isSent js k) ≡ true → P
+    go : (x : Bool) → isOne is k ≡ x → (x || isOne js k) ≡ true → P
     go true a b = f a
     go false a b = g b
 
-pub row-sent-unused : (v : List ℕ) (cs : List Turn) (k : ℕ) → isSent (sentOver v cs) k ≡ true → usedAt v k ≡ 0
-unfolding isSent sentOver
+pub row-sent-unused : (v : List ℕ) (cs : List Turn) (k : ℕ) → isOne (sentOver v cs) k ≡ true → usedAt v k ≡ 0
+unfolding isOne sentOver
 row-sent-unused v [] k e = absurd (true≢false (sym e))
 row-sent-unused v (c ∷ cs) k e =
     let after = serve (lending v c) .vectors in
     sent-first v c cs k (usedAt v k ≡ 0) e (sent-unused (lending v c) k) (λ f. call-unused (lending v c) k (row-sent-unused after cs k f))
 
-pub row-sent-used : (v : List ℕ) (cs : List Turn) (k : ℕ) → isSent (sentOver v cs) k ≡ true → usedAt (leftBy v cs) k ≡ 1
-unfolding isSent sentOver leftBy
+pub row-sent-used : (v : List ℕ) (cs : List Turn) (k : ℕ) → isOne (sentOver v cs) k ≡ true → usedAt (leftBy v cs) k ≡ 1
+unfolding isOne sentOver leftBy
 row-sent-used v [] k e = absurd (true≢false (sym e))
 row-sent-used v (c ∷ cs) k e =
     let after = serve (lending v c) .vectors in
     sent-first v c cs k (usedAt (leftBy after cs) k ≡ 1) e (λ f. row-used after cs k (sent-used (lending v c) k f)) (row-sent-used after cs k)
 
 -- what is used is not sent
-pub row-never : (v : List ℕ) (cs : List Turn) (k : ℕ) → usedAt v k ≡ 1 → isSent (sentOver v cs) k ≡ false
-row-never v cs k e = go (isSent (sentOver v cs) k) refl
+pub row-never : (v : List ℕ) (cs : List Turn) (k : ℕ) → usedAt v k ≡ 1 → isOne (sentOver v cs) k ≡ false
+row-never v cs k e = go (isOne (sentOver v cs) k) refl
   where
-    go : (x : Bool) → isSent (sentOver v cs) k ≡ x → x ≡ false
+    go : (x : Bool) → isOne (sentOver v cs) k ≡ x → x ≡ false
     go true f = absurd (omega (arith, e, row-sent-unused v cs k f))
     go false f = refl
 

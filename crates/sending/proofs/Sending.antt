@@ -9,7 +9,8 @@ use lib.ListN.{length, getD}
 use borrow.Author.Tests.{lt-ltb}
 use Rattle.octets.specs.Run.{over}
 use Rattle.table.specs.Blocks.{blockOf}
-use Rattle.vectors.specs.Chosen.{unusedAt, isSent, Rising}
+use Rattle.vectors.specs.Chosen.{unusedAt, Rising}
+use Rattle.blocks.specs.Changed.{isOne}
 use Rattle.vectors.specs.VectorBlock.{cardOf}
 use Rattle.vectors.specs.VectorFile.{checkVectors}
 use Rattle.pen.specs.Bytes.{vendorNumber, ifThere}
@@ -63,16 +64,16 @@ module _ (x : Lent) where
   others-stay = blocks.other-kept x
 
   -- So does every one that is not sent.
-  pub unsent-stay : (k : ℕ) → isSent (sentBy x) k ≡ false → blockOf (serve x .vectors) k ≡ blockOf (x .vectors) k
+  pub unsent-stay : (k : ℕ) → isOne (sentBy x) k ≡ false → blockOf (serve x .vectors) k ≡ blockOf (x .vectors) k
   unsent-stay = blocks.unsent-kept x
 
   -- One that is sent is one of the file's, is of the User-Name, was unused, and is used afterwards ..
-  pub sent-mark : (k : ℕ) → isSent (sentBy x) k ≡ true
+  pub sent-mark : (k : ℕ) → isOne (sentBy x) k ≡ true
       → (k < length (x .vectors) / 512) × (cardOf (blockOf (x .vectors) k) ≡ userOf x) × (usedAt (x .vectors) k ≡ 0) × (usedAt (serve x .vectors) k ≡ 1)
   sent-mark k e = (blocks.sent-within x k e, blocks.sent-name x k e, blocks.sent-unused x k e, blocks.sent-used x k e)
 
   -- .. and of its bytes only byte 1 and the check word, 508 to 511, are others.
-  pub sent-bytes : (k : ℕ) → isSent (sentBy x) k ≡ true → (i : ℕ) → i ≢ 1 → i < 508
+  pub sent-bytes : (k : ℕ) → isOne (sentBy x) k ≡ true → (i : ℕ) → i ≢ 1 → i < 508
       → getD (blockOf (serve x .vectors) k) i 0 ≡ getD (blockOf (x .vectors) k) i 0
   sent-bytes = blocks.sent-byte x
 
@@ -95,8 +96,8 @@ module _ (x : Lent) where
   sent-some c = blocks.success-sends x c .some
 
   -- .. and they are the first: an unused one of that name that is not sent stands behind each that is.
-  pub sent-first : Challenges x → (j k : ℕ) → k < length (x .vectors) / 512 → unusedAt (x .vectors) (userOf x) k ≡ true → isSent (sentBy x) k ≡ false
-      → isSent (sentBy x) j ≡ true → j < k
+  pub sent-first : Challenges x → (j k : ℕ) → k < length (x .vectors) / 512 → unusedAt (x .vectors) (userOf x) k ≡ true → isOne (sentBy x) k ≡ false
+      → isOne (sentBy x) j ≡ true → j < k
   sent-first = blocks.success-first x
 
   -- THE ANSWER of a call that is not refused says these vectors, from the file as it came, and no others.
@@ -118,22 +119,22 @@ module _ (v : List ℕ) where
   sent-once = rows.row-once v
 
   -- A block that is sent, by any of them, was unused in the file as it came, and is used in the file as they left it.
-  pub sent-over : (cs : List Turn) (k : ℕ) → isSent (sentOver v cs) k ≡ true → (usedAt v k ≡ 0) × (usedAt (leftBy v cs) k ≡ 1)
+  pub sent-over : (cs : List Turn) (k : ℕ) → isOne (sentOver v cs) k ≡ true → (usedAt v k ≡ 0) × (usedAt (leftBy v cs) k ≡ 1)
   sent-over cs k e = (rows.row-sent-unused v cs k e, rows.row-sent-used v cs k e)
 
   -- The call `c` after `cs`: a block that it sends is unused when it comes, ..
-  pub sent-before : (cs : List Turn) (c : Turn) (k : ℕ) → isSent (sentBy (lending (leftBy v cs) c)) k ≡ true → usedAt (leftBy v cs) k ≡ 0
+  pub sent-before : (cs : List Turn) (c : Turn) (k : ℕ) → isOne (sentBy (lending (leftBy v cs) c)) k ≡ true → usedAt (leftBy v cs) k ≡ 0
   sent-before cs c k e = blocks.sent-unused (lending (leftBy v cs) c) k e
 
   -- .. used after it and ever after, whatever calls `ds` follow, ..
-  pub sent-after : (cs : List Turn) (c : Turn) (ds : List Turn) (k : ℕ) → isSent (sentBy (lending (leftBy v cs) c)) k ≡ true
+  pub sent-after : (cs : List Turn) (c : Turn) (ds : List Turn) (k : ℕ) → isOne (sentBy (lending (leftBy v cs) c)) k ≡ true
       → usedAt (leftBy v (cs ++ (c ∷ ds))) k ≡ 1
   unfolding leftBy
   sent-after cs c ds k e = rw (rows.left-join v cs (c ∷ ds)) (rows.row-used _ ds k (blocks.sent-used (lending (leftBy v cs) c) k e))
 
   -- .. and sent by none of them.
-  pub sent-never : (cs : List Turn) (c : Turn) (ds : List Turn) (k : ℕ) → isSent (sentBy (lending (leftBy v cs) c)) k ≡ true
-      → isSent (sentOver (leftBy v (cs ++ (c ∷ []))) ds) k ≡ false
+  pub sent-never : (cs : List Turn) (c : Turn) (ds : List Turn) (k : ℕ) → isOne (sentBy (lending (leftBy v cs) c)) k ≡ true
+      → isOne (sentOver (leftBy v (cs ++ (c ∷ []))) ds) k ≡ false
   sent-never cs c ds k e = rows.row-never (leftBy v (cs ++ (c ∷ []))) ds k (sent-after cs c [] k e)
 
   -- The file has as many bytes as at first, and is sound if it was, with as many blocks.

@@ -3,7 +3,7 @@ use Prim.Native.Nat.{ℕ}
 use mathlib.Core.List.{List, [], _∷_, _++_}
 use mathlib.Core.Bool.{false}
 use mathlib.Core.Path.{_≡_}
-use Rattle.vectors.specs.Chosen.{isSent}
+use Rattle.blocks.specs.Changed.{isOne}
 use Rattle.ndushavire.specs.Lent.{Lent, lent}
 use Rattle.ndushavire.specs.Serve.{serve}
 use Rattle.sending.specs.Sent.{sentBy}
@@ -32,4 +32,4 @@ sentOver v (c ∷ cs) = sentBy (lending v c) ++ sentOver (serve (lending v c) .v
 -- no number is there twice
 abbrev pub Once : List ℕ → Type 0
 Once [] = Unit
-Once (k ∷ ks) = (isSent ks k ≡ false) × Once ks
+Once (k ∷ ks) = (isOne ks k ≡ false) × Once ks

@@ -10,20 +10,21 @@ use borrow.Author.Tests.{eq-eqb}
 use Rattle.table.specs.Blocks.{blockOf}
 use Rattle.vectors.specs.VectorBlock.{vectorOf}
 use Rattle.vectors.specs.VectorFile.{SoundVectors}
-use Rattle.vectors.specs.Chosen.{firstOnes, unusedAt, unusedOf, noneSent, packed, isSent, howMany, Sendable}
+use Rattle.vectors.specs.Chosen.{firstOnes, unusedAt, unusedOf, noneSent, packed, howMany, Sendable}
+use Rattle.blocks.specs.Changed.{isOne}
 use Rattle.vectors.proofs.Sound.{block-fits, sound-xres}
 use Rattle.vectors.proofs.Unused.{ones-many, ones-hold}
 
 pub none-sendable : (v : List ℕ) → Sendable v noneSent
 none-sendable v = record { few = omega arith; room = refl; within = λ i h. absurd (omega arith); short = λ i h. absurd (omega arith) }
 
-listed : (ks : List ℕ) (i : ℕ) → i < length ks → isSent ks (getD ks i 0) ≡ true
-unfolding isSent
+listed : (ks : List ℕ) (i : ℕ) → i < length ks → isOne ks (getD ks i 0) ≡ true
+unfolding isOne
 listed [] i h = absurd (omega arith)
 listed (k ∷ ks) zero h = rw (eq-eqb k k refl)
 listed (k ∷ ks) (suc i) h = go (eqb (getD ks i 0) k) (listed ks i (omega arith))
   where
-    go : (x : Bool) → isSent ks (getD ks i 0) ≡ true → (x || isSent ks (getD ks i 0)) ≡ true
+    go : (x : Bool) → isOne ks (getD ks i 0) ≡ true → (x || isOne ks (getD ks i 0)) ≡ true
     go true e = refl
     go false e = e
 

@@ -7,7 +7,8 @@ use native.Mathlib.Omega.{arith}
 use lib.ListN.{length}
 use lib.Dec.{eqb}
 use borrow.Author.Tests.{eqb-true, eqb-false, eq-eqb, ne-eqb}
-use Rattle.vectors.specs.Chosen.{firstOnes, howMany, isSent, Rising}
+use Rattle.vectors.specs.Chosen.{firstOnes, howMany, Rising}
+use Rattle.blocks.specs.Changed.{isOne}
 
 module _ (p : ℕ → Bool) where
   -- as many as asked or as remain
@@ -41,8 +42,8 @@ module _ (p : ℕ → Bool) where
       go false a b = lower (firstOnes p n (suc k) (suc most)) b
 
   -- each is one of the file's, and the test holds of it
-  pub ones-hold : (n k most j : ℕ) → isSent (firstOnes p n k most) j ≡ true → (k ≤ j) × (j < k + n) × (p j ≡ true)
-  unfolding firstOnes isSent
+  pub ones-hold : (n k most j : ℕ) → isOne (firstOnes p n k most) j ≡ true → (k ≤ j) × (j < k + n) × (p j ≡ true)
+  unfolding firstOnes isOne
   ones-hold zero k most j e = absurd (true≢false (sym e))
   ones-hold (suc n) k zero j e = absurd (true≢false (sym e))
   ones-hold (suc n) k (suc most) j e = go (p k) refl (eqb j k) refl e (ones-hold n (suc k) most j) (ones-hold n (suc k) (suc most) j)
@@ -50,18 +51,18 @@ module _ (p : ℕ → Bool) where
       widen : (suc k ≤ j) × (j < suc k + n) × (p j ≡ true) → (k ≤ j) × (j < k + suc n) × (p j ≡ true)
       widen (a, b, c) = (omega arith, omega arith, c)
 
-      go : (x : Bool) → p k ≡ x → (y : Bool) → eqb j k ≡ y → isSent (cond x (k ∷ firstOnes p n (suc k) most) (firstOnes p n (suc k) (suc most))) j ≡ true
-          → (isSent (firstOnes p n (suc k) most) j ≡ true → (suc k ≤ j) × (j < suc k + n) × (p j ≡ true))
-          → (isSent (firstOnes p n (suc k) (suc most)) j ≡ true → (suc k ≤ j) × (j < suc k + n) × (p j ≡ true))
+      go : (x : Bool) → p k ≡ x → (y : Bool) → eqb j k ≡ y → isOne (cond x (k ∷ firstOnes p n (suc k) most) (firstOnes p n (suc k) (suc most))) j ≡ true
+          → (isOne (firstOnes p n (suc k) most) j ≡ true → (suc k ≤ j) × (j < suc k + n) × (p j ≡ true))
+          → (isOne (firstOnes p n (suc k) (suc most)) j ≡ true → (suc k ≤ j) × (j < suc k + n) × (p j ≡ true))
           → (k ≤ j) × (j < k + suc n) × (p j ≡ true)
       go false f y g h a b = widen (b h)
       go true f true g h a b = let q : j ≡ k = eqb-true _ _ g in (omega arith, omega arith, rw q f)
       go true f false g h a b = widen (a (rw g at h))
 
   -- none that the test holds of is passed over: one that is not chosen comes after all that are
-  pub ones-first : (n k most j i : ℕ) → k ≤ j → j < k + n → p j ≡ true → isSent (firstOnes p n k most) j ≡ false
-      → isSent (firstOnes p n k most) i ≡ true → i < j
-  unfolding firstOnes isSent
+  pub ones-first : (n k most j i : ℕ) → k ≤ j → j < k + n → p j ≡ true → isOne (firstOnes p n k most) j ≡ false
+      → isOne (firstOnes p n k most) i ≡ true → i < j
+  unfolding firstOnes isOne
   ones-first zero k most j i l h e f g = absurd (true≢false (sym g))
   ones-first (suc n) k zero j i l h e f g = absurd (true≢false (sym g))
   ones-first (suc n) k (suc most) j i l h e f g =
@@ -69,10 +70,10 @@ module _ (p : ℕ → Bool) where
       (λ m. ones-first n (suc k) (suc most) j i m (omega arith) e)
     where
       go : (x : Bool) → p k ≡ x → (y : Bool) → eqb j k ≡ y → (z : Bool) → eqb i k ≡ z
-          → isSent (cond x (k ∷ firstOnes p n (suc k) most) (firstOnes p n (suc k) (suc most))) j ≡ false
-          → isSent (cond x (k ∷ firstOnes p n (suc k) most) (firstOnes p n (suc k) (suc most))) i ≡ true
-          → (suc k ≤ j → isSent (firstOnes p n (suc k) most) j ≡ false → isSent (firstOnes p n (suc k) most) i ≡ true → i < j)
-          → (suc k ≤ j → isSent (firstOnes p n (suc k) (suc most)) j ≡ false → isSent (firstOnes p n (suc k) (suc most)) i ≡ true → i < j)
+          → isOne (cond x (k ∷ firstOnes p n (suc k) most) (firstOnes p n (suc k) (suc most))) j ≡ false
+          → isOne (cond x (k ∷ firstOnes p n (suc k) most) (firstOnes p n (suc k) (suc most))) i ≡ true
+          → (suc k ≤ j → isOne (firstOnes p n (suc k) most) j ≡ false → isOne (firstOnes p n (suc k) most) i ≡ true → i < j)
+          → (suc k ≤ j → isOne (firstOnes p n (suc k) (suc most)) j ≡ false → isOne (firstOnes p n (suc k) (suc most)) i ≡ true → i < j)
           → i < j
       go false d true c z w f g a b = let q : j ≡ k = eqb-true _ _ c in absurd (true≢false (sym (rw q at e) ∙ d))
       go false d false c z w f g a b = b (omega (arith, eqb-false j k c)) f g

@@ -40,11 +40,6 @@ sentOf s = take (s .count) (s .blocks)
 unfoldable pub sentAlso : Sent → Bool → ℕ → Sent
 sentAlso s chosen k = cond chosen (record { blocks = set (s .blocks) (s .count) k; count = s .count + 1 }) s
 
--- one of the numbers
-unfoldable pub isSent : List ℕ → ℕ → Bool
-isSent [] j = false
-isSent (k ∷ ks) j = eqb j k || isSent ks j
-
 -- how many of the n numbers from k on a test holds of
 unfoldable pub howMany : (ℕ → Bool) → ℕ → ℕ → ℕ
 howMany p zero k = 0

@@ -6,11 +6,11 @@ ghost use Prim.Native.Nat.{_+_, _*_, _≤_, _%_};
 ghost use lib.ListN.{length};
 ghost use Rattle.blocks.specs.Changed.{changedIn};
 ghost use Rattle.vectors.specs.Chosen.{sentOf, Sendable};
-ghost use Rattle.vectors.specs.Marked.{marked, spent};
+ghost use Rattle.vectors.specs.Marked.{markedUsed, spent};
 
 fn mark(b: &mut [u8])
     requires { ⌜ length (now b) ≡ 512 ⌝ }
-    ensures { λ _. ⌜ now (b .exit) ≡ marked (now (b .entry)) ⌝ }
+    ensures { λ _. ⌜ now (b .exit) ≡ markedUsed (now (b .entry)) ⌝ }
 {
     b[Vector::USED_AT] = 1;
     blocks::seal(b);
@@ -19,7 +19,7 @@ fn mark(b: &mut [u8])
 // Block k of a file.
 fn mark_at(v: &mut [u8], k: usize)
     requires { ⌜ 512 * k + 512 ≤ length (now v) ⌝ }
-    ensures { λ _. ⌜ now (v .exit) ≡ changedIn (now (v .entry)) k marked ⌝ }
+    ensures { λ _. ⌜ now (v .exit) ≡ changedIn (now (v .entry)) k markedUsed ⌝ }
 {
     let at = table::BLOCK * k;
     mark(&mut v[at..at + table::BLOCK]);

@@ -6,7 +6,8 @@ ghost use Prim.Native.Nat.{_+_, _≤_};
 ghost use lib.ListN.{length, take, drop};
 ghost use Rattle.vectors.specs.VectorBlock.{vectorOf, soundLimits, soundRest, soundVector, cardOf, randAutnOf, xresOf, confidentialityOf, integrityOf};
 
-// The numbers of a vector block. Its name, its challenge and its keys stay in the file.
+// The numbers of a vector block: kind, used, and the lengths of XRES and of the private identity. Its name, its challenge and its keys stay in the
+// file.
 pub struct Vector {
     pub kind: u8,
     pub used: u8,

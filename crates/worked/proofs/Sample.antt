@@ -16,13 +16,13 @@ use Rattle.table.specs.Blocks.{blockOf, tableOf, publicAt, privateAt}
 use Rattle.table.specs.Check.{risesAt, soundAt, firstBad, checkRecords, checkTable}
 use Rattle.lookup.specs.Find.{firstFrom, publicIs, findPublic, privateIs, findPrivate, serverHere, servesAt, findServer}
 use Rattle.lookup.specs.Network.{networkIs, seek, networkNumber, roamsIn, mayRoam}
-use Rattle.blocks.specs.Changed.{changedAt, changedAll}
+use Rattle.blocks.specs.Changed.{changedAt, changedAll, isOne}
 use Rattle.blocks.specs.Sealed.{negated, sealed}
 use Rattle.vectors.specs.VectorBlock.{vectorOf, soundVector, cardOf, randAutnOf, xresOf, confidentialityOf, integrityOf}
 use Rattle.vectors.specs.VectorFile.{piecesOf, soundPiece, checkVectors}
-use Rattle.vectors.specs.Chosen.{firstOnes, unusedHere, unusedAt, unusedOf, packed, isSent}
+use Rattle.vectors.specs.Chosen.{firstOnes, unusedHere, unusedAt, unusedOf, packed}
 use Rattle.vectors.specs.Scheme.{scheme}
-use Rattle.vectors.specs.Marked.{marked, spent}
+use Rattle.vectors.specs.Marked.{markedUsed, spent}
 use Rattle.rewrite.specs.Change.{afterOf}
 use Rattle.rewrite.specs.Renew.{renewed, settled, challenged}
 use Rattle.diameter.specs.Avp.{padded, headOf, vendorOf, valueOf, sound}
@@ -46,7 +46,7 @@ use Rattle.decisions.specs.Authentication.{claimedAt, claimedOf, toSend, authen
 use Rattle.decisions.specs.Authorization.{askedAt, askedOf, authorizeFound, authorize}
 use Rattle.decisions.specs.Location.{soughtAt, soughtOf, locateFound, locate}
 use Rattle.requests.specs.Identity.{placesFrom}
-use Rattle.assignment.specs.Assignment.{meantBy, every, isOne, findAll, numbersOf, ownedHere, ownedUpTo, ownAt, storesAt, fitsAt, rightAt, surveyOf, userKnown}
+use Rattle.assignment.specs.Assignment.{meantBy, every, findAll, numbersOf, ownedHere, ownedUpTo, ownAt, storesAt, fitsAt, rightAt, surveyOf, userKnown}
 use Rattle.assignment.specs.Assignment.{ownerBy, namedSurvey, ownedSurvey, assignMeant, assign, storedName, plannedRecords}
 use Rattle.fitting.specs.Deeds.{carriedOut, spentBy}
 use Rattle.fitting.specs.Decide.{assignmentOf, uarPlan, sarPlan, lirPlan, marPlan, planRead, performed, decideJudged, decide}
@@ -158,7 +158,7 @@ unfolding host realm block header subscriber person vector request reply answer 
     privateOf serverOf headerOf soundHeader networkOf usedPlace soundPlace sameByte otherPlace newPlace soundNetworks recordOf soundRecord blockOf tableOf
     publicAt privateAt risesAt soundAt firstBad checkRecords checkTable firstFrom publicIs findPublic privateIs findPrivate serverHere servesAt findServer
     networkIs seek networkNumber roamsIn negated sealed renewed settled challenged changedAt changedAll afterOf vectorOf soundVector cardOf randAutnOf
-    xresOf confidentialityOf integrityOf piecesOf soundPiece checkVectors firstOnes unusedHere unusedAt unusedOf packed isSent marked spent padded headOf
+    xresOf confidentialityOf integrityOf piecesOf soundPiece checkVectors firstOnes unusedHere unusedAt unusedOf packed isOne markedUsed spent padded headOf
     vendorOf valueOf sound walkFrom walk avpOf padding vendorHead copied avpBytes vendorBytes numberBytes vendorNumber group vendorGroup ifThere
     vendorApplication experimental failed vendorNumbers capabilities known kindFrom kindBy rowOf useIn numberFault plainFault applicationMembers itemMembers
     membersOf isOf fits unlike onlyOf countOf enough enoughAt gathers contentFault nothing ruleBy rule judge headerFault headPart alone failedOf sample
