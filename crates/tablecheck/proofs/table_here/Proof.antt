@@ -1,10 +1,10 @@
 use Rattle.files.proofs.Counts.{got-within, got-front}
 use borrow.Author.Needs.{needs}
-use Rattle.tablecheck.proofs.check_here.Statement.{statement}
-use Rattle.tablecheck.proofs.check_here.Tie as tie
+use Rattle.tablecheck.proofs.table_here.Statement.{statement}
+use Rattle.tablecheck.proofs.table_here.Tie as tie
 
-pub check-here-spec : {M : Type 1} → statement M
-check-here-spec =
+pub table-here-spec : {M : Type 1} → statement M
+table-here-spec =
     tie.close
     (tie.spec
     (λ c κs. search needs)
