@@ -54,8 +54,8 @@ pub mark-put : (b : List ℕ) {y : List ℕ} → y ≡ sealed (set b 1 1) → y 
 unfolding markedUsed
 mark-put b e = e
 
-pub mark-kept : (b : List ℕ) {y : List ℕ} → y ≡ sealed (set b 1 1) → length y ≡ length b
-mark-kept b e = ap length e ∙ sealed-length (set b 1 1) ∙ length-set b 1 1
+pub mark-kept : (b : List ℕ) (i n : ℕ) {y : List ℕ} → y ≡ sealed (set b i n) → length y ≡ length b
+mark-kept b i n e = ap length e ∙ sealed-length (set b i n) ∙ length-set b i n
 
 pub mark-lent : (v : List ℕ) (k : ℕ) {y : List ℕ} → y ≡ markedUsed (midOf (512 * k) (512 * k + 512 - 512 * k) v)
     → putMid (512 * k) (512 * k + 512 - 512 * k) v y ≡ changedIn v k markedUsed
