@@ -164,7 +164,7 @@ unfolding host realm block header subscriber person vector request reply answer 
     membersOf isOf fits unlike onlyOf countOf enough enoughAt gathers contentFault nothing ruleBy rule judge headerFault headPart alone failedOf sample
     exampleOf failedBy missingFrom missing complete readWalk readIn identities placesFrom mandatoryOf optionalOf profileOf mayRoam serverIf authorization
     location findingOf grant deedOf planOf claimOf challengeOf typeOf carried askedAt askedOf authorizeFound authorize soughtAt soughtOf locateFound locate
-    claimedAt claimedOf toSend authenticateFound authenticate meantBy every isOne findAll numbersOf ownedHere ownedUpTo ownAt storesAt fitsAt rightAt
+    claimedAt claimedOf toSend authenticateFound authenticate meantBy every findAll numbersOf ownedHere ownedUpTo ownAt storesAt fitsAt rightAt
     surveyOf userKnown ownerBy namedSurvey ownedSurvey assignMeant assign storedName plannedRecords carriedOut spentBy assignmentOf uarPlan sarPlan lirPlan
     marPlan planRead performed decideJudged decide numberOf resultBytes frontBytes originBytes topBytes identityBytes nameBytes dataBytes givenBytes proxy
     proxies endBytes challengeBytes keyBytes itemBytes itemsBytes numberedBytes sentBytes restBytes bodyBytes flagsOf headerBytes answerBytes tried
