@@ -98,9 +98,11 @@ module _ (change : List ℕ → List ℕ) (keeps : Keeps change) (x : List ℕ) 
       go : (j : ℕ) → j ≤ count → (u : Bool) → eqb j k ≡ u → changedAt (changedIn x k change) (isOne ks) change j ≡ changedAt x (isOne (k ∷ ks)) change j
       go j l true e =
           let q : j ≡ k = eqb-true j k e in
-          rw q (at-twice (changedIn x k change) x (isOne ks) (isOne (k ∷ ks)) change k keeps (in-here x k change (keeps-whole keeps) fits) (rw (eq-eqb k k refl))
+          rw q (at-twice (changedIn x k change) x (isOne ks) (isOne (k ∷ ks)) change k keeps
+          (in-here x k change (keeps-whole keeps) fits) (rw (eq-eqb k k refl))
           (block-length x k fits))
-      go j l false e = at-same (changedIn x k change) x (isOne ks) (isOne (k ∷ ks)) change j (in-other x k change (keeps-whole keeps) fits j (eqb-false j k e)) (rw e)
+      go j l false e =
+          at-same (changedIn x k change) x (isOne ks) (isOne (k ∷ ks)) change j (in-other x k change (keeps-whole keeps) fits j (eqb-false j k e)) (rw e)
 
   found-turn : (p : ℕ → Bool) (f : Found) → firstFrom p count 1 ≡ f → (fs : List Found)
       → afterOf (changedFound x f change) count (isOne (numbersOf fs)) change ≡ afterOf x count (isOne (numbersOf (f ∷ fs))) change

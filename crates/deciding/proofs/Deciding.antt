@@ -117,7 +117,8 @@ module _ (t : List ℕ) (count : ℕ) (req : List ℕ) (seen : Seen) where
     unfolding carriedOut
     done-leave e = rw e
 
-    pub done-settle : (w : Settling) {y : List ℕ} → d ≡ Settle w → y ≡ carriedOut t count (assignmentOf t seen req) (Settle w) → y ≡ carriedOut t count (assignmentOf t seen req) d
+    pub done-settle : (w : Settling) {y : List ℕ} → d ≡ Settle w → y ≡ carriedOut t count (assignmentOf t seen req) (Settle w)
+        → y ≡ carriedOut t count (assignmentOf t seen req) d
     done-settle w e f = rw e f
 
     pub done-challenge : (k : ℕ) {y : List ℕ} → d ≡ Challenge k → y ≡ carriedOut t count (assignmentOf t seen req) (Challenge k)

@@ -87,7 +87,8 @@ module _ (req t : List ℕ) (count : ℕ) (v : List ℕ) (seen : Seen) (sound : 
   plan-fits = go (eqb (commandOf req) 300) (eqb (commandOf req) 301) (eqb (commandOf req) 302) refl refl refl
     where
       go : (x y z : Bool) → eqb (commandOf req) 300 ≡ x → eqb (commandOf req) 301 ≡ y → eqb (commandOf req) 302 ≡ z
-          → DeedFits count server (cond x (uarPlan t count seen) (cond y (sarPlan req t count seen) (cond z (lirPlan t count seen) (marPlan t count v seen))) .deed)
+          → DeedFits count server (cond x (uarPlan t count seen) (cond y (sarPlan req t count seen)
+          (cond z (lirPlan t count seen) (marPlan t count v seen))) .deed)
       go true y z a b c = tt
       go false true z a b c = sar-fits (eqb-true _ _ b)
       go false false true a b c = tt

@@ -82,7 +82,8 @@ challenge-light v (Denied r) k sent h = (inl refl, none-sendable v)
 challenge-light v Fine k sent h = (inl refl, h)
 
 pub decide-light : (req t : List ℕ) (count : ℕ) (v : List ℕ) → SoundVectors v → Light v (decide req t count v .given)
-unfolding decide decideJudged performed planRead uarPlan sarPlan lirPlan marPlan authorize authorizeFound locate locateFound authenticate authenticateFound toSend
+unfolding decide decideJudged performed planRead uarPlan sarPlan lirPlan marPlan authorize authorizeFound locate locateFound
+    authenticate authenticateFound toSend
 decide-light req t count v vectors = go (readRequest req)
   where
     go : (j : Judged) → Light v (decideJudged req t count v j .given)

@@ -18,7 +18,8 @@ fn put_number(out: &mut [u8], n: u32) -> usize
 // Words, the digits of n, and words.
 pub fn put_words(out: &mut [u8], before: &[u8], n: u32, after: &[u8]) -> usize
     requires { ⌜ length (now before) + 10 + length (now after) ≤ length (now out) ⌝ }
-    ensures { λ r. ⌜ (r ≤ length (now (before .entry)) + 10 + length (now (after .entry))) × Words (now (before .entry)) n (now (after .entry)) (now (out .entry)) (now (out .exit)) r ⌝ }
+    ensures { λ r. ⌜ (r ≤ length (now (before .entry)) + 10 + length (now (after .entry)))
+        × Words (now (before .entry)) n (now (after .entry)) (now (out .entry)) (now (out .exit)) r ⌝ }
 {
     let a = before.len();
     run::copy(out, before);

@@ -7,7 +7,8 @@ ghost use Prim.Native.Nat.{_+_, _*_, _/_, _≤_};
 ghost use lib.ListN.{length};
 ghost use lib.Dec.{ltb};
 ghost use Rattle.octets.specs.Run.{Wrote};
-ghost use Rattle.pen.specs.Bytes.{wordBytes, headBytes, vendorHead, copied, copiedSize, avpBytes, avpSize, vendorBytes, vendorSize, numberBytes, vendorNumber, ifThere};
+ghost use Rattle.pen.specs.Bytes.{wordBytes, headBytes, vendorHead, copied, copiedSize, avpBytes, avpSize, vendorBytes, vendorSize};
+ghost use Rattle.pen.specs.Bytes.{numberBytes, vendorNumber, ifThere};
 
 // "Own AVPs have flags 0x40, or 0xC0 with vendor 10415"
 pub const FLAGS: u8 = 64;

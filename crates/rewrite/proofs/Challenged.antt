@@ -39,7 +39,8 @@ module _ (name : List ℕ) (least : 1 ≤ length name) (most : length name ≤ 9
 
     served : serverFits (length name) (stateOf b) (pendingSet (bitsOf b)) ≡ true
     served =
-        rw (ne-eqb (length name) 0 (omega arith), lt-ltb 0 (length name) (omega arith), eq-eqb (pendingSet (bitsOf b) % 2) 1 (omega arith)) (go (ltb 0 (stateOf b)))
+        rw (ne-eqb (length name) 0 (omega arith), lt-ltb 0 (length name) (omega arith), eq-eqb (pendingSet (bitsOf b) % 2) 1 (omega arith))
+        (go (ltb 0 (stateOf b)))
       where
         go : (x : Bool) → (x || true) ≡ true
         go true = refl

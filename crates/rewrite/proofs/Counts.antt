@@ -76,7 +76,9 @@ module _ (change : List ℕ → List ℕ) (keeps : Keeps change) (x : List ℕ) 
 
     stays : blockOf (afterOf next count chosen change) k ≡ blockOf next k
     unfolding changedAt
-    stays = after-block next count change (in-length x k change (keeps-whole keeps) fits ∙ size) chosen keeps k b ∙ rw (in-here x k change (keeps-whole keeps) fits) (go (chosen k))
+    stays =
+        after-block next count change (in-length x k change (keeps-whole keeps) fits ∙ size) chosen keeps k b
+        ∙ rw (in-here x k change (keeps-whole keeps) fits) (go (chosen k))
       where
         go : (u : Bool) → cond u (change (change (blockOf x k))) (change (blockOf x k)) ≡ change (blockOf x k)
         go true = keeps .twice (blockOf x k) (block-length x k fits)

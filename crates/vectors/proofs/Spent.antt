@@ -53,7 +53,8 @@ module _ (b : List ℕ) (whole : length b ≡ 512) (sound : soundVector b ≡ tr
 
   pub marked-sound : soundVector (markedUsed b) ≡ true
   unfolding markedUsed
-  marked-sound = vector-holds (markedUsed b) (record { sum = sealed-zero (set b 1 1) (length-set b 1 1 ∙ whole); limits = limits; rest = rest-same ∙ was .rest })
+  marked-sound =
+      vector-holds (markedUsed b) (record { sum = sealed-zero (set b 1 1) (length-set b 1 1 ∙ whole); limits = limits; rest = rest-same ∙ was .rest })
 
   pub marked-card : cardOf (markedUsed b) ≡ cardOf b
   unfolding cardOf vectorOf
