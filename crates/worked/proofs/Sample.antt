@@ -157,9 +157,8 @@ z = 0x7A ∷ []
 
 -- all that a case opens
 unfoldable pub opened : ℕ
-<<<<<<< HEAD
-unfolding host realm block header subscriber person vector request reply answer common assignment digest authenticationOf authentication item challenges one
-    waiting two s z allBelow orderOf alikeAt same be16At be24At be32At putBe24 putBe32 zeros zeroBetween putName over sumWords hostOf realmOf publicOf
+unfolding host realm block header subscriber person vector room request reply answer common assignment digest authenticationOf authentication item challenges
+    one waiting two s z allBelow orderOf alikeAt same be16At be24At be32At putBe24 putBe32 zeros zeroBetween putName over sumWords hostOf realmOf publicOf
     privateOf serverOf headerOf soundHeader networkOf usedPlace soundPlace sameByte otherPlace newPlace soundNetworks recordOf soundRecord blockOf tableOf
     publicAt privateAt risesAt soundAt firstBad checkRecords checkTable firstFrom publicIs findPublic privateIs findPrivate serverHere servesAt findServer
     networkIs seek networkNumber roamsIn negated sealed renewed settled challenged changedAt changedAll afterOf vectorOf soundVector cardOf randAutnOf
@@ -174,22 +173,4 @@ unfolding host realm block header subscriber person vector request reply answer 
     marPlan planRead performed decideJudged decide numberOf resultBytes frontBytes originBytes topBytes identityBytes nameBytes dataBytes givenBytes proxy
     proxies endBytes challengeBytes keyBytes itemBytes itemsBytes numberedBytes sentBytes restBytes bodyBytes flagsOf headerBytes answerBytes tried
     wrongLength refused answered serve
-=======
-unfolding host realm block header subscriber person vector room request reply answer common assignment digest authenticationOf authentication item
-    challenges one waiting two s z allBelow orderOf alikeAt same be16At be24At be32At putBe24 putBe32 zeros zeroBetween putName over sumWords hostOf realmOf
-    publicOf privateOf serverOf headerOf soundHeader networkOf usedPlace soundPlace sameByte otherPlace newPlace soundNetworks recordOf soundRecord blockOf
-    tableOf publicAt privateAt risesAt soundAt firstBad checkRecords checkTable firstFrom publicIs findPublic privateIs findPrivate serverHere servesAt
-    findServer networkIs seek networkNumber roamsIn negated sealed renewed settled challenged changedAt changedAll afterOf vectorOf soundVector cardOf
-    randAutnOf xresOf confidentialityOf integrityOf piecesOf soundPiece checkVectors firstOnes unusedHere unusedAt unusedOf packed isOne marked spent
-    padded headOf vendorOf valueOf sound walkFrom walk avpOf padding vendorHead copied avpBytes vendorBytes numberBytes vendorNumber group vendorGroup
-    ifThere vendorApplication experimental failed vendorNumbers capabilities known kindFrom kindBy rowOf useIn numberFault plainFault applicationMembers
-    itemMembers membersOf isOf fits unlike onlyOf countOf enough enoughAt gathers contentFault nothing ruleBy rule judge headerFault headPart alone failedOf
-    sample exampleOf failedBy missingFrom missing complete readWalk readIn identities placesFrom mandatoryOf optionalOf profileOf mayRoam serverIf
-    authorization location findingOf grant deedOf planOf claimOf challengeOf typeOf carried askedAt askedOf authorizeFound authorize soughtAt soughtOf
-    locateFound locate claimedAt claimedOf toSend authenticateFound authenticate meantBy every isOne findAll numbersOf ownedHere ownedUpTo ownAt storesAt
-    fitsAt rightAt surveyOf userKnown ownerBy namedSurvey ownedSurvey assignMeant assign storedName plannedRecords carriedOut spentBy assignmentOf uarPlan
-    sarPlan lirPlan marPlan planRead performed decideJudged decide numberOf resultBytes frontBytes originBytes topBytes identityBytes nameBytes dataBytes
-    givenBytes proxy proxies endBytes challengeBytes keyBytes itemBytes itemsBytes numberedBytes sentBytes restBytes bodyBytes flagsOf headerBytes
-    answerBytes tried wrongLength refused answered serve
->>>>>>> worked
 opened = 0
