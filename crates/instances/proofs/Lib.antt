@@ -1,1 +1,4 @@
-pub mod Instances
+pub mod Asked
+pub mod Calls
+pub mod Challenges
+pub mod Insertions
