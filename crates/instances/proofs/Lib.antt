@@ -2,3 +2,4 @@ pub mod Asked
 pub mod Calls
 pub mod Challenges
 pub mod Insertions
+pub mod Run
