@@ -8,7 +8,7 @@ SHELL := /bin/bash
 .NOTPARALLEL:
 export PYTHONDONTWRITEBYTECODE := 1
 .PHONY: help run test clean fmt kit pages header examples tables texts aims stores programs reference installs cited bench stack installable install uninstall
-.PHONY: differential noticed soak mutants stats definitions-check cases
+.PHONY: unsound differential noticed soak mutants stats definitions-check cases
 
 MACHINE := $(shell uname -m)
 ifeq ($(MACHINE),x86_64)
@@ -37,17 +37,18 @@ REFERENCE := $(shell find reference -path reference/target -prune -o -name '*.rs
 help:
 	@sed -n 's/^#: //p' $(firstword $(MAKEFILE_LIST))
 
-# The sample, and three answers of the program answer over it in a form to read: to a header alone, to the question where
-# bob is, and to an assignment of erin's line. A program of the kit runs with the kit's own loader and C library, on either
+# The sample, and four answers of the program answer over it in a form to read: to a header alone, to the question where bob is, to an
+# assignment of erin's line, and to a challenge of her card. A program of the kit runs with the kit's own loader and C library, on either
 # machine.
 PROGRAM = $(RUN) $(KIT)/toolchain/lib/ld-linux-x86-64.so.2 --library-path $(KIT)/toolchain/lib
-SHOWN := examples/no-avps tests/captured/icscf-20-lir tests/captured/scscf-12-sar
-#: run                the sample table, checked, and three answers from it in a form to read
+SHOWN := examples/no-avps $(addprefix tests/captured/,icscf-20-lir scscf-12-sar mar-33)
+#: run                the sample table and vectors, checked, and four answers from them in a form to read
 run: target/c/maketable target/c99/check target/bin/answer $(BINARY)
 	@mkdir -p target/run
 	target/c/maketable table examples/households.txt >target/run/table
 	target/c/maketable profile examples/households.txt >target/run/profile
-	$(RUN) target/c99/check target/run/table target/run/profile
+	target/c/maketable vectors examples/vectors.txt >target/run/vectors
+	$(RUN) target/c99/check target/run/table target/run/profile target/run/vectors
 	@for request in $(SHOWN); do \
 	    printf '\n%s\n' "$$request.hex: $$(sed -n 's/^# asked: //p' $$request.hex)"; \
 	    printf %b "$$(sed '/^#/d; s/ //g; s/../\\x&/g' $$request.hex | tr -d '\n')" | \
@@ -59,7 +60,7 @@ target/bin/%: $(PROVED)
 	touch $@
 
 #: test               every test from fmt to differential below, some 3 minutes once the library is proved
-test: fmt kit pages header examples tables texts aims stores programs reference installs cited noticed differential
+test: fmt kit pages header examples tables texts aims stores programs unsound reference installs cited noticed differential
 
 #: fmt                whether crates/ is in the kit's layout
 fmt:
@@ -83,13 +84,15 @@ examples: $(foreach mode,c99 cxx,$(addprefix target/$(mode)/,check decide)) targ
 	RUN='$(RUN)' tests/decide.sh target/test/decide target/c/maketable target/c99/decide target/cxx/decide
 	RUN='$(RUN)' tests/captured.sh target/test/captured target/c/maketable $(BINARY) target/c99/decide target/cxx/decide
 
-#: tables             tables made from text, damaged ones, and the switch to a new one as tablecheck(1) has it
+#: tables             tables and vector files made from text, damaged ones, and the switch to new ones as the manual pages have it
 tables: examples target/c/showtable
 	RUN='$(RUN)' tests/tables.sh target/test/tables target/c/maketable target/c/showtable target/c99/check target/cxx/check
+	RUN='$(RUN)' tests/vectors.sh target/test/vectors target/c/maketable target/c/showtable target/c99/check target/cxx/check
 	RUN='$(RUN)' tests/switch.sh target/test/switch target/c/maketable target/c99/check
+	RUN='$(RUN)' tests/refill.sh target/test/refill target/c/maketable target/c/showtable target/c99/check
 
 COUNT_texts := 2000
-#: texts              from a table to text and back, over 2,000 random tables; half a minute
+#: texts              from a table or a vector file to text and back, over 2,000 random ones of each; half a minute
 texts: target/c/maketable target/c/showtable target/c/texts
 	tests/texts.sh target/test/texts target/c/maketable target/c/showtable target/c/texts $(SEED) $(COUNT_texts)
 
@@ -106,6 +109,10 @@ stores: target/c/store target/c++/store target/c/maketable $(ARCHIVE)
 programs: target/bin/answer target/bin/tablecheck target/c/maketable
 	tests/programs.sh target/test/programs target/c/maketable target/bin $(PROGRAM)
 
+#: unsound            vector files bad in one place: the check names the block, every decision is refused by 6
+unsound: target/c99/unsound
+	$(RUN) $<
+
 #: reference          the independent program's own tests
 reference:
 	cd reference && cargo test --offline --quiet
@@ -119,16 +126,18 @@ ifndef SEED
 SEED := $(shell od -An -N4 -tu4 /dev/urandom | tr -d ' ')
 endif
 DRIVER = $(RUN) target/c99/driver
-KINDS := tables calls demand3
+KINDS := tables vectors calls demand3 runs
 COUNT_tables := 200000
+COUNT_vectors := 100000
 COUNT_calls := 100000
 COUNT_demand3 := 20000
+COUNT_runs := 2000
 
 #: cited              whether what README and manual pages of an installation cite is installed, and its trial works
 cited: $(ARCHIVE) $(PROGRAMS)
 	RUN='$(RUN)' tests/cited.sh target/test/cited $(X86_CC)
 
-#: differential       the library beside the independent program on 320,000 new cases; SEED=N runs a seed again
+#: differential       the library beside the independent program on 420,000 new cases and 2,000 runs of calls; SEED=N runs a seed again
 differential: target/c99/driver $(BINARY)
 	@for of in $(foreach kind,$(KINDS),$(kind):$(COUNT_$(kind))); do \
 	    echo "differential run: seed $(SEED), $${of#*:} $${of%:*}"; \
@@ -139,21 +148,21 @@ differential: target/c99/driver $(BINARY)
 noticed: target/c99/overstep $(BINARY)
 	tests/noticed.sh $(BINARY) $(RUN) target/c99/overstep
 
-# 5,000,000 tables and as many calls. Each round has the next seed: with SEED=N ROUNDS=M a run that was stopped goes on.
+# 5,000,000 tables, and as many vector files and calls. Each round has the next seed: with SEED=N ROUNDS=M a run that was stopped goes on.
 ROUNDS := 50
 COUNT_round := 100000
-#: soak               5,000,000 tables and as many calls compared, 8 minutes; SEED=N ROUNDS=M goes on where it was stopped
+#: soak               5,000,000 tables, and as many vector files and calls, compared, 10 minutes; SEED=N ROUNDS=M goes on where it was stopped
 soak: target/c99/driver $(BINARY)
 	@for ((round = 0; round < $(ROUNDS); round++)); do \
 	    echo "soak: SEED=$$(($(SEED) + round)) ROUNDS=$$(($(ROUNDS) - round))"; \
-	    for kind in tables calls; do \
+	    for kind in tables vectors calls; do \
 	        $(BINARY) compare --kind $$kind --seed $$(($(SEED) + round)) --count $(COUNT_round) -- $(DRIVER); \
 	    done; \
 	done
 
 # After how many cases each deliberate fault of the independent program shows; what the cases are made of.
 COUNT_mutants := 100000
-#: mutants            whether 259 deliberate faults would be noticed, and after how many cases
+#: mutants            whether 454 deliberate faults would be noticed, and after how many cases
 mutants: $(BINARY)
 	@echo "mutants: seed $(SEED)"
 	$(BINARY) mutants --seed $(SEED) --count $(COUNT_mutants)
@@ -162,6 +171,7 @@ mutants: $(BINARY)
 stats: $(BINARY)
 	@echo "stats: seed $(SEED)"
 	$(BINARY) stats --kind tables --seed $(SEED) --count $(COUNT_tables)
+	$(BINARY) stats --kind vectors --seed $(SEED) --count $(COUNT_vectors)
 	$(BINARY) stats --kind calls --seed $(SEED) --count $(COUNT_calls)
 
 # The definitions beside the independent program: antt computes each case, which takes seconds; 24 make a quick trial.
@@ -172,7 +182,7 @@ definitions-check: $(BINARY)
 
 # Writes crates/cases/stdin and stdout anew: what the gate's program `cases` runs, and what the independent program says
 # of it.
-#: cases              chooses anew the cases that the gate runs, a minute
+#: cases              chooses anew the cases that the gate runs, two minutes
 cases: $(BINARY)
 	tests/cases.py $(BINARY) crates/cases
 
@@ -217,7 +227,11 @@ target/c99/driver: tests/driver.c $(HEADER) $(ARCHIVE)
 
 target/c99/overstep: tests/overstep.c tests/driver.c $(HEADER) $(ARCHIVE)
 	mkdir -p $(@D)
-	$(X86_CC) -std=c99 $(STRICT) -Wl,--wrap=ndushavire_check -o $@ tests/overstep.c tests/driver.c $(ARCHIVE)
+	$(X86_CC) -std=c99 $(STRICT) -Wl,--wrap=ndushavire_check,--wrap=ndushavire_check_vectors -o $@ tests/overstep.c tests/driver.c $(ARCHIVE)
+
+target/c99/unsound: tests/unsound.c bench/requests.h $(HEADER) $(ARCHIVE)
+	mkdir -p $(@D)
+	$(X86_CC) -std=c99 $(STRICT) -o $@ $< $(ARCHIVE)
 
 target/c99/%: examples/%.c examples/load.h $(HEADER) $(ARCHIVE)
 	mkdir -p $(@D)
@@ -240,10 +254,11 @@ DECIDED := 1-short 16-short 300-short 4096-short 1-tiny 16-tiny 300-tiny 4096-ti
 # A program's arguments: each table, its profile file and how its names are.
 samples = $(foreach size,$(1),target/bench/$(size).table target/bench/$(size).profile $(word 2,$(subst -, ,$(size))))
 
-#: bench              times beside the aims, a minute once its parts are made; a missed aim is marked
-bench: $(addprefix target/bench/,check decide) $(patsubst %,target/bench/%.table,$(sort $(CHECKED) $(DECIDED)))
+#: bench              times beside the aims, a minute once their parts are made; a missed aim is marked
+bench: $(addprefix target/bench/,check vectors decide) $(patsubst %,target/bench/%.table,$(sort $(CHECKED) $(DECIDED)))
 	@{ $(CC) --version | head -n 1; \
 	   target/bench/check $(call samples,$(CHECKED)); \
+	   target/bench/vectors $(call samples,$(CHECKED)); \
 	   target/bench/decide $(call samples,$(DECIDED)); } | tee target/bench/report
 	@bench/summary.sh target/bench/report
 
@@ -254,16 +269,25 @@ stack: target/c99/stack $(DECIDED:%=target/bench/%.table)
 target/native/libndushavire.a: bench/native-lib $(PROVED)
 	bench/native-lib ndushavire
 
-target/bench/check: bench/check.c bench/aims.h bench/sum.c bench/samples.h bench/timing.h examples/load.h $(HEADER) $(TIMED) target/bench/libreference_c.a
-	$(CC) -O3 -DSUM=sum_plain -c -o target/bench/sum-plain.o bench/sum.c
-	$(CC) -O3 $(TUNE) -DSUM=sum_native -c -o target/bench/sum-native.o bench/sum.c
-	$(CC) -std=c99 $(STRICT) -o $@ bench/check.c target/bench/sum-plain.o target/bench/sum-native.o $(TIMED) \
-	    target/bench/libreference_c.a -lpthread -ldl -lm
+# The least that a check of a file can do, for any x86-64 or Arm and for this machine's own processor.
+target/bench/sum-plain.o: bench/sum.c
+	mkdir -p $(@D)
+	$(CC) -O3 -DSUM=sum_plain -c -o $@ $<
 
-target/bench/decide: bench/decide.c bench/aims.h bench/requests.h bench/samples.h bench/timing.h examples/load.h $(HEADER) $(TIMED) target/bench/libreference_c.a
-	$(CC) -std=c99 $(STRICT) -o $@ bench/decide.c $(TIMED) target/bench/libreference_c.a -lpthread -ldl -lm
+target/bench/sum-native.o: bench/sum.c
+	mkdir -p $(@D)
+	$(CC) -O3 $(TUNE) -DSUM=sum_native -c -o $@ $<
 
-target/c99/stack: bench/stack.c bench/requests.h bench/samples.h examples/load.h $(HEADER) $(ARCHIVE)
+TIMER := bench/aims.h bench/requests.h bench/samples.h bench/timing.h bench/vectors.h examples/load.h $(HEADER) $(TIMED) target/bench/libreference_c.a
+SUMS := target/bench/sum-plain.o target/bench/sum-native.o
+
+target/bench/check target/bench/vectors: target/bench/%: bench/%.c $(TIMER) $(SUMS)
+	$(CC) -std=c99 $(STRICT) -o $@ $< $(SUMS) $(TIMED) target/bench/libreference_c.a -lpthread -ldl -lm
+
+target/bench/decide: bench/decide.c $(TIMER)
+	$(CC) -std=c99 $(STRICT) -o $@ $< $(TIMED) target/bench/libreference_c.a -lpthread -ldl -lm
+
+target/c99/stack: bench/stack.c bench/requests.h bench/samples.h bench/vectors.h examples/load.h $(HEADER) $(ARCHIVE)
 	mkdir -p $(@D)
 	$(X86_CC) -std=c99 $(STRICT) -o $@ $< $(ARCHIVE)
 

@@ -1,4 +1,4 @@
-//! The reference's table check and decision for C to call, so that one program times all.
+//! The reference's checks and its decision for C to call, so that one program times all.
 
 use reference::slip::Slip;
 use std::slice::{from_raw_parts, from_raw_parts_mut};
@@ -7,11 +7,18 @@ use std::slice::{from_raw_parts, from_raw_parts_mut};
 /// `table` is `table_len` bytes.
 #[no_mangle]
 pub unsafe extern "C" fn reference_check(table: *const u8, table_len: usize, profile_len: usize) -> u64 {
-    reference::serve::check_word(reference::table::check(from_raw_parts(table, table_len), profile_len))
+    reference::serve::check_word(5, reference::table::check(from_raw_parts(table, table_len), profile_len))
 }
 
 /// # Safety
-/// Each pointer is as many bytes as its length says; those of `table` and `answer` may be written.
+/// `vectors` is `vectors_len` bytes.
+#[no_mangle]
+pub unsafe extern "C" fn reference_check_vectors(vectors: *const u8, vectors_len: usize) -> u64 {
+    reference::serve::check_word(6, reference::vectors::check(from_raw_parts(vectors, vectors_len)))
+}
+
+/// # Safety
+/// Each pointer is as many bytes as its length says; those of `table`, `vectors` and `answer` may be written.
 #[no_mangle]
 pub unsafe extern "C" fn reference_serve(
     request: *const u8,
@@ -20,11 +27,15 @@ pub unsafe extern "C" fn reference_serve(
     table_len: usize,
     profile: *const u8,
     profile_len: usize,
+    vectors: *mut u8,
+    vectors_len: usize,
     answer: *mut u8,
     answer_len: usize,
 ) -> u64 {
     let request = from_raw_parts(request, request_len);
     let table = from_raw_parts_mut(table, table_len);
     let profile = from_raw_parts(profile, profile_len);
-    reference::serve::serve(request, table, profile, from_raw_parts_mut(answer, answer_len), Slip::NONE).0
+    let vectors = from_raw_parts_mut(vectors, vectors_len);
+    let answer = from_raw_parts_mut(answer, answer_len);
+    reference::serve::serve(request, table, profile, vectors, answer, Slip::NONE).0
 }

@@ -21,34 +21,34 @@ typedef struct {
 } Name;
 
 /* A name of a block: where its length stands, and where its bytes begin. */
-static Name name_at(const uint8_t *block, size_t length_at, size_t at) {
+static inline Name name_at(const uint8_t *block, size_t length_at, size_t at) {
     const Name name = {block + at, block[length_at]};
     return name;
 }
 
-static Name public_of(const uint8_t *block) { return name_at(block, 13, 16); }
-static Name private_of(const uint8_t *block) { return name_at(block, 14, 144); }
-static Name server_of(const uint8_t *block) { return name_at(block, 15, 272); }
-static Name network_of(const uint8_t *header) { return name_at(header, 144, 145); }
+static inline Name public_of(const uint8_t *block) { return name_at(block, 13, 16); }
+static inline Name private_of(const uint8_t *block) { return name_at(block, 14, 144); }
+static inline Name server_of(const uint8_t *block) { return name_at(block, 15, 272); }
+static inline Name network_of(const uint8_t *header) { return name_at(header, 144, 145); }
 
 /* The last record in a state, or the last of all if none is. */
-static const uint8_t *last_in(const uint8_t *table, size_t records, unsigned state) {
+static inline const uint8_t *last_in(const uint8_t *table, size_t records, unsigned state) {
     for (size_t k = records; k > 0; k--)
         if (table[k * NDUSHAVIRE_BLOCK + 8] == state) return table + k * NDUSHAVIRE_BLOCK;
     return table + records * NDUSHAVIRE_BLOCK;
 }
 
-static void spell(uint8_t *to, uint32_t n) {
+static inline void spell(uint8_t *to, uint32_t n) {
     for (int i = 0; i < 4; i++) to[i] = (uint8_t)(n >> (24 - 8 * i));
 }
 
-static void put_number(Request *r, uint32_t n) {
+static inline void put_number(Request *r, uint32_t n) {
     if (r->length + 4 > sizeof r->bytes) abort();
     spell(r->bytes + r->length, n);
     r->length += 4;
 }
 
-static void put(Request *r, uint32_t code, uint32_t vendor, Name data) {
+static inline void put(Request *r, uint32_t code, uint32_t vendor, Name data) {
     const size_t padded = (data.length + 3) / 4 * 4;
     put_number(r, code);
     put_number(r, (vendor != 0 ? 0xC000000Cu : 0x40000008u) + (uint32_t)data.length);
@@ -59,12 +59,12 @@ static void put(Request *r, uint32_t code, uint32_t vendor, Name data) {
     r->length += padded;
 }
 
-static void put_text(Request *r, uint32_t code, const char *text) {
+static inline void put_text(Request *r, uint32_t code, const char *text) {
     const Name data = {text, strlen(text)};
     put(r, code, 0, data);
 }
 
-static void put_word(Request *r, uint32_t code, uint32_t vendor, uint32_t value) {
+static inline void put_word(Request *r, uint32_t code, uint32_t vendor, uint32_t value) {
     uint8_t bytes[4];
     const Name data = {bytes, 4};
     spell(bytes, value);
@@ -72,7 +72,7 @@ static void put_word(Request *r, uint32_t code, uint32_t vendor, uint32_t value)
 }
 
 /* The header, and the AVPs that every request has. */
-static void begin(Request *r, uint32_t command) {
+static inline void begin(Request *r, uint32_t command) {
     r->length = 0;
     put_number(r, 0);
     put_number(r, 0xC0000000u + command);
@@ -91,10 +91,10 @@ static void begin(Request *r, uint32_t command) {
 }
 
 /* Version 1 and the length. */
-static void end(Request *r) { spell(r->bytes, 0x01000000u + (uint32_t)r->length); }
+static inline void end(Request *r) { spell(r->bytes, 0x01000000u + (uint32_t)r->length); }
 
 /* May this line register in the first network? */
-static void ask_authorization(Request *r, const uint8_t *table, const uint8_t *record) {
+static inline void ask_authorization(Request *r, const uint8_t *table, const uint8_t *record) {
     begin(r, 300);
     put(r, 1, 0, private_of(record));
     put(r, 601, VENDOR, public_of(record));
@@ -103,14 +103,14 @@ static void ask_authorization(Request *r, const uint8_t *table, const uint8_t *r
 }
 
 /* Where is this line? */
-static void ask_location(Request *r, const uint8_t *record) {
+static inline void ask_location(Request *r, const uint8_t *record) {
     begin(r, 302);
     put(r, 601, VENDOR, public_of(record));
     end(r);
 }
 
 /* The same, filled up with Route-Records of 12 bytes to at most so many bytes. */
-static void ask_long_location(Request *r, const uint8_t *record, size_t most) {
+static inline void ask_long_location(Request *r, const uint8_t *record, size_t most) {
     ask_location(r, record);
     while (r->length + 12 <= most) put_text(r, 282, "r.is");
     end(r);
@@ -118,13 +118,28 @@ static void ask_long_location(Request *r, const uint8_t *record, size_t most) {
 
 /* An assignment of a type to so many lines: the record's last, before it lines from all over the table. The server is
  * the record's. */
-static void ask_assignment(Request *r, const uint8_t *table, size_t records, const uint8_t *record, uint32_t type, size_t lines) {
+static inline void ask_assignment(Request *r, const uint8_t *table, size_t records, const uint8_t *record, uint32_t type, size_t lines) {
     begin(r, 301);
     for (size_t i = 1; i < lines; i++) put(r, 601, VENDOR, public_of(table + (1 + i * 7919 % records) * NDUSHAVIRE_BLOCK));
     put(r, 601, VENDOR, public_of(record));
     put(r, 602, VENDOR, server_of(record));
     put_word(r, 614, VENDOR, type);
     put_word(r, 624, VENDOR, 0);
+    end(r);
+}
+
+/* Vectors for this line: so many, from a server of this name. */
+static inline void ask_authentication(Request *r, const uint8_t *record, uint32_t number, const char *server) {
+    const Name scheme = {"Digest-AKAv1-MD5", 16}, name = {server, strlen(server)};
+    begin(r, 303);
+    put(r, 1, 0, private_of(record));
+    put(r, 601, VENDOR, public_of(record));
+    put_number(r, 612);
+    put_number(r, 0xC0000000u + 12 + 28);
+    put_number(r, VENDOR);
+    put(r, 608, VENDOR, scheme);
+    put_word(r, 607, VENDOR, number);
+    put(r, 602, VENDOR, name);
     end(r);
 }
 

@@ -4,22 +4,23 @@
 #define _XOPEN_SOURCE 600
 #include <ucontext.h>
 
-#include "requests.h"
-#include "samples.h"
+#include "vectors.h"
 
 enum { STACK = 1 << 20, PATTERN = 0xA5, AIM = 48 * 1024 };
 
 static const Sample *s;
 static Request request;
+static Vectors vectors; /* a vector for each record */
 static uint64_t word;
 static ucontext_t here, there;
 
 static void nothing(void) { word = 0; }
 static void check(void) { word = ndushavire_check(s->table, s->table_len, s->profile, s->profile_len); }
+static void check_vectors(void) { word = ndushavire_check_vectors(vectors.bytes, vectors.length); }
 static void decide(void) {
     static uint8_t answer[NDUSHAVIRE_ANSWER_ROOM];
-    word = ndushavire_decide(request.bytes, request.length, s->table, s->table_len, s->profile, s->profile_len, answer,
-                             sizeof answer);
+    word = ndushavire_decide(request.bytes, request.length, s->table, s->table_len, s->profile, s->profile_len, vectors.bytes,
+                             vectors.length, answer, sizeof answer);
 }
 
 /* How many bytes of the stack a call alters. */
@@ -47,10 +48,17 @@ static int within(void (*call)(void), const char *what) {
     return bytes <= AIM;
 }
 
-static int measure(const Sample *sample) {
-    s = sample;
-    const uint8_t *registered = last_in(s->table, s->records, REGISTERED);
+/* Whether the first and the last of the vectors that an answer can send are marked: another answer would tell little. */
+static int all_sent(void) {
+    const uint8_t *end = vectors.bytes + vectors.length;
+    const int sent = end[1 - SENT_MOST * NDUSHAVIRE_BLOCK] == 1 && end[1 - NDUSHAVIRE_BLOCK] == 1;
+    if (!sent) fprintf(stderr, "stack: the MAR does not send 16 items\n");
+    return sent;
+}
+
+static int measure_all(const uint8_t *registered) {
     int passes = within(check, "check");
+    passes &= within(check_vectors, "vector check");
     if (strcmp(s->names, "tiny") == 0) {
         ask_assignment(&request, s->table, s->records, registered, 6, 1);
         passes &= within(decide, "removal of 1");
@@ -66,9 +74,21 @@ static int measure(const Sample *sample) {
     passes &= within(decide, "LIR of 16 KiB");
     ask_assignment(&request, s->table, s->records, registered, 1, 1);
     passes &= within(decide, "SAR type 1");
+    /* Another server's name, so that the record is rewritten too. */
+    ask_authentication(&request, registered, SENT_MOST, "sip:another.isle:6060");
+    passes &= within(decide, "MAR, 16 items") & all_sent();
     request.length = NDUSHAVIRE_REQUEST_MIN;
     end(&request);
     return passes & within(decide, "a header alone");
+}
+
+static int measure(const Sample *sample) {
+    s = sample;
+    const uint8_t *registered = last_in(s->table, s->records, REGISTERED);
+    vectors = make_vectors(s, registered);
+    const int passes = measure_all(registered);
+    free(vectors.bytes);
+    return passes;
 }
 
 int main(int argc, char **argv) {

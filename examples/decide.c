@@ -1,8 +1,9 @@
-/* decide TABLE PROFILE REQUEST: answers one request, and shows what the call returned and changed.
- * REQUEST is text: hexadecimal digits, blanks between bytes as you like, and comments from # to the line's end.
- * The files stay as they are. A daemon stores the whole table before it sends the answer, as store.h does: in a new
- * file, flushed, renamed over the old one, and the folder flushed. Blocks written in place are not enough, since a
- * removal that is half on disk is a sound table.
+/* decide TABLE PROFILE VECTORS REQUEST: answers one request, and shows what the call returned and changed.
+ * VECTORS may be /dev/null: there are no vectors then. REQUEST is text: hexadecimal digits, blanks between bytes as you like,
+ * and comments from # to the line's end.
+ * The files stay as they are, so that a vector is sent again by the next run: this is no server. A daemon stores the vector file
+ * and then the table, each whole, before it sends the answer, as store.h does: in a new file, flushed, renamed over the old
+ * one, and the folder flushed. Blocks written in place are not enough, since a removal that is half on disk is a sound table.
  * Exit status: 0 answered, 1 refused, 2 a file cannot be read, standard output cannot be written, or the arguments are others. */
 #include <ctype.h>
 
@@ -43,35 +44,66 @@ static void print_hex(const uint8_t *bytes, size_t length) {
     }
 }
 
+/* A file as it is lent, and as it was. */
+typedef struct {
+    uint8_t *lent, *before;
+    size_t length;
+} File;
+
+static File load_twice(const char *path) {
+    File file;
+    file.lent = load(path, &file.length);
+    file.before = (uint8_t *)malloc(file.length + 1);
+    if (file.before == NULL) {
+        fprintf(stderr, "decide: no memory\n");
+        exit(2);
+    }
+    memcpy(file.before, file.lent, file.length);
+    return file;
+}
+
+static void print_changes(File file, const char *what, const char *how) {
+    for (size_t at = 0; at < file.length; at += NDUSHAVIRE_BLOCK)
+        if (memcmp(file.lent + at, file.before + at, NDUSHAVIRE_BLOCK) != 0)
+            printf("%s %lu %s\n", what, (unsigned long)(at / NDUSHAVIRE_BLOCK), how);
+}
+
+static void free_both(File file) {
+    free(file.lent);
+    free(file.before);
+}
+
 int main(int argc, char **argv) {
-    if (argc != 4) {
-        fprintf(stderr, "usage: decide TABLE PROFILE REQUEST\n");
+    if (argc != 5) {
+        fprintf(stderr, "usage: decide TABLE PROFILE VECTORS REQUEST\n");
         return 2;
     }
-    size_t table_len, before_len, profile_len, request_len;
-    uint8_t *table = load(argv[1], &table_len);
-    uint8_t *before = load(argv[1], &before_len);
+    size_t profile_len, request_len;
+    const File table = load_twice(argv[1]), vectors = load_twice(argv[3]);
     uint8_t *profile = load(argv[2], &profile_len);
-    uint8_t *request = load(argv[3], &request_len);
+    uint8_t *request = load(argv[4], &request_len);
     static uint8_t answer[NDUSHAVIRE_ANSWER_ROOM];
     request_len = from_hex(request, request_len);
 
-    uint64_t word = ndushavire_decide(request, request_len, table, table_len, profile, profile_len, answer, sizeof answer);
+    uint64_t word = ndushavire_decide(request, request_len, table.lent, table.length, profile, profile_len, vectors.lent, vectors.length,
+                                      answer, sizeof answer);
     const unsigned long value = ndushavire_value(word);
-    if (ndushavire_answered(word)) {
+    if (ndushavire_answered(word)) { /* so both files are whole blocks */
         printf("answered, %lu bytes\n", value);
         print_hex(answer, value);
-        for (size_t at = 0; at + NDUSHAVIRE_BLOCK <= table_len && at + NDUSHAVIRE_BLOCK <= before_len; at += NDUSHAVIRE_BLOCK)
-            if (memcmp(table + at, before + at, NDUSHAVIRE_BLOCK) != 0)
-                printf("block %lu rewritten\n", (unsigned long)(at / NDUSHAVIRE_BLOCK));
+        print_changes(table, "block", "rewritten");
+        print_changes(vectors, "vector block", "used");
     } else if (ndushavire_number(word) == NDUSHAVIRE_TABLE_UNSOUND) {
         printf("refused 5, block %lu is bad\n", value);
+    } else if (ndushavire_number(word) == NDUSHAVIRE_VECTORS_UNSOUND) {
+        word = ndushavire_check_vectors(vectors.lent, vectors.length); /* which block, a decision does not say */
+        printf("refused 6, vector block %lu is bad\n", (unsigned long)ndushavire_value(word));
     } else {
         printf("refused %lu\n", (unsigned long)ndushavire_number(word));
     }
 
-    free(table);
-    free(before);
+    free_both(table);
+    free_both(vectors);
     free(profile);
     free(request);
     if (!printed()) return 2;

@@ -1,19 +1,21 @@
 /* maketable table TEXT, maketable profile TEXT: the table that a text describes, or its profile file, on standard output.
- * It writes no file. Never send its output over a table in use, as with `> table`: the shell empties that file before
- * this program has read a line. Send both into a new folder, check them there and switch; tablecheck(1) shows how.
+ * maketable vectors TEXT: the vector file that a text describes, which is another text.
+ * It writes no file. Never send its output over a file in use, as with `> table`: the shell empties that file before
+ * this program has read a line. Send it into a new one, check that and switch; tablecheck(1) and ndushavire-check(1) show how.
  *
- * TABLE.md among the documents says how the text is written ("As text") and what stands in the blocks; households.txt is an
- * example. showtable goes the other way.
+ * TABLE.md among the documents says how the texts are written ("As text") and what stands in the blocks; households.txt and
+ * vectors.txt are examples. showtable goes the other way.
  *
- * Exit status: 0 written; 1 the text is refused with its line, since no sound table can be made from it; 2 wrong use, a
- * file that cannot be read, or no memory, or standard output fails. Nothing is written of a text that is refused.
- * This program stands apart from the library and reads the table's rules for itself, so that each tests the other. */
+ * Exit status: 0 written; 1 the text is refused with its line, since no sound file can be made from it, or since a vector
+ * stands there twice; 2 wrong use, a file that cannot be read, or no memory, or standard output fails. Nothing is written of a
+ * text that is refused.
+ * This program stands apart from the library and reads the rules of both files for itself, so that each tests the other. */
 #include <ctype.h>
 #include <stdarg.h>
 
 #include "load.h"
 
-enum { BLOCK = 512, RECORDS = 4096, NETWORKS = 8, CAPABILITIES = 4 };
+enum { BLOCK = 512, RECORDS = 4096, NETWORKS = 8, CAPABILITIES = 4, VECTORS = 4096, KEY = 16, XRES_LEAST = 4, XRES_MOST = 16 };
 static const uint64_t PLACE_MOST = 1000000000000000; /* a place in the profile file; a record's has 32 bits */
 static const uint64_t LEFT_MOST = 4096 * 4096;       /* bytes that nobody names: no more records can have been taken out */
 
@@ -43,6 +45,15 @@ typedef struct {
     Capabilities mandatory, optional;
 } Record;
 
+/* An authentication vector. Its bytes stand in the text as digits. */
+typedef struct {
+    size_t line;
+    Name private_identity;
+    uint8_t rand[KEY], autn[KEY], xres[XRES_MOST], confidentiality[KEY], integrity[KEY];
+    size_t xres_length;
+    unsigned used;
+} Vector;
+
 static struct {
     Name host, realm, network[NETWORKS];
     unsigned keep, networks;
@@ -50,6 +61,8 @@ static struct {
 
 static Record records[RECORDS];
 static size_t count;
+static Vector vectors[VECTORS];
+static size_t vector_count;
 static Part *unused;
 static size_t unused_count;
 static const char *text_name;
@@ -76,6 +89,7 @@ typedef enum {
     HOST, REALM, KEEP, NETWORK,
     PUBLIC, PRIVATE, STATE, PENDING, BARRED, SERVICES, ROAMING, MANDATORY, OPTIONAL, SERVER, PROFILE,
     PROFILE_AT, UNUSED,
+    RAND, AUTN, XRES, CONFIDENTIALITY, INTEGRITY, USED,
     KEYS
 } Key;
 
@@ -101,6 +115,12 @@ static const struct {
     [PROFILE] = {"profile", 0, 0, 0, 4096},
     [PROFILE_AT] = {"profile-at", 0, 0, 0, 4096},
     [UNUSED] = {"unused", 0, 0, 1, 4096},
+    [RAND] = {"rand", 0, 0, 0, 4096},
+    [AUTN] = {"autn", 0, 0, 0, 4096},
+    [XRES] = {"xres", 0, 0, 0, 4096},
+    [CONFIDENTIALITY] = {"confidentiality", 0, 0, 0, 4096},
+    [INTEGRITY] = {"integrity", 0, 0, 0, 4096},
+    [USED] = {"used", 1, 0, 0, 0},
 };
 
 typedef struct {
@@ -242,6 +262,23 @@ static Capabilities capabilities(const Word *word) {
     }
 }
 
+/* A value of hexadecimal digits, two for a byte; gives how many bytes there are. */
+static size_t hexadecimal(const Word *word, uint8_t *to, size_t least, size_t most) {
+    const size_t length = word->value.length / 2;
+    int right = word->value.length % 2 == 0 && length >= least && length <= most;
+    for (size_t i = 0; right && i < length; i++) {
+        const int high = hex_digit(word->value.bytes[2 * i]), low = hex_digit(word->value.bytes[2 * i + 1]);
+        right = high >= 0 && low >= 0;
+        to[i] = (uint8_t)(high * 16 + low);
+    }
+    if (!right && least == most)
+        refuse(word->line, "%s is %lu hexadecimal digits", keys[word->key].name, (unsigned long)(2 * most));
+    if (!right)
+        refuse(word->line, "%s is %lu to %lu hexadecimal digits, two for a byte", keys[word->key].name, (unsigned long)(2 * least),
+               (unsigned long)(2 * most));
+    return length;
+}
+
 static void header_word(const Word *word) {
     static const char *const keeps[] = {"0", "1"};
     switch (word->key) {
@@ -279,6 +316,19 @@ static void record_word(Record *record, const Word *word) {
         record->profile.start = place(word);
         break;
     default: refuse(word->line, "%s is no word of a record", keys[word->key].name);
+    }
+}
+
+static void vector_word(Vector *vector, const Word *word) {
+    switch (word->key) {
+    case PRIVATE: vector->private_identity = word->value; break;
+    case RAND: hexadecimal(word, vector->rand, KEY, KEY); break;
+    case AUTN: hexadecimal(word, vector->autn, KEY, KEY); break;
+    case XRES: vector->xres_length = hexadecimal(word, vector->xres, XRES_LEAST, XRES_MOST); break;
+    case CONFIDENTIALITY: hexadecimal(word, vector->confidentiality, KEY, KEY); break;
+    case INTEGRITY: hexadecimal(word, vector->integrity, KEY, KEY); break;
+    case USED: vector->used = 1; break;
+    default: refuse(word->line, "%s is no word of a vector", keys[word->key].name);
     }
 }
 
@@ -339,13 +389,39 @@ static Word read_unused(Text *text, Word word) {
     return word;
 }
 
-static void read_text(Text *text) {
-    Word word = next_word(text);
-    if (word.kind == GAP) word = next_word(text);
-    word = read_header(text, word);
+static Word read_vector(Text *text, Word word) {
+    static const Key wanted[] = {PRIVATE, RAND, AUTN, XRES, CONFIDENTIALITY, INTEGRITY};
+    if (vector_count == VECTORS) refuse(word.line, "there are more than %d vectors", VECTORS);
+    Vector *vector = &vectors[vector_count++];
+    vector->line = word.line;
+    unsigned seen = 0;
+    for (; word.kind == WORD; word = next_word(text)) {
+        note(&seen, &word);
+        vector_word(vector, &word);
+    }
+    for (size_t i = 0; i < sizeof wanted / sizeof wanted[0]; i++) want(seen, wanted[i], vector->line);
+    return word;
+}
+
+/* The word that the text begins with, or its end. */
+static Word first_word(Text *text) {
+    const Word word = next_word(text);
+    return word.kind == GAP ? next_word(text) : word;
+}
+
+static void read_table(Text *text) {
+    Word word = read_header(text, first_word(text));
     while (word.kind == GAP) {
         word = next_word(text);
         word = word.key == UNUSED ? read_unused(text, word) : read_record(text, word);
+    }
+}
+
+static void read_vectors(Text *text) {
+    Word word = first_word(text);
+    while (word.kind == WORD) {
+        word = read_vector(text, word);
+        if (word.kind == GAP) word = next_word(text);
     }
 }
 
@@ -365,6 +441,36 @@ static void sort_records(void) {
             const size_t a = records[i - 1].line, b = records[i].line;
             refuse(a < b ? b : a, "its public identity stands at line %lu already", (unsigned long)(a < b ? a : b));
         }
+}
+
+/* ---- vectors that stand there twice */
+
+static int by_challenge(const void *left, const void *right) {
+    const Vector *a = *(const Vector *const *)left, *b = *(const Vector *const *)right;
+    const Name m = a->private_identity, n = b->private_identity;
+    int order = (m.length > n.length) - (m.length < n.length);
+    if (order == 0) order = memcmp(m.bytes, n.bytes, m.length);
+    if (order == 0) order = memcmp(a->rand, b->rand, KEY);
+    if (order == 0) order = memcmp(a->autn, b->autn, KEY);
+    return order != 0 ? order : (a > b) - (a < b);
+}
+
+static int twins(const Vector *a, const Vector *b) {
+    return same(a->private_identity, b->private_identity) && memcmp(a->rand, b->rand, KEY) == 0 && memcmp(a->autn, b->autn, KEY) == 0;
+}
+
+/* A vector that stands there twice would be sent twice, and a card takes none a second time. */
+static void refuse_twins(void) {
+    static const Vector *sorted[VECTORS];
+    const Vector *first = NULL, *again = NULL;
+    for (size_t i = 0; i < vector_count; i++) sorted[i] = &vectors[i];
+    qsort(sorted, vector_count, sizeof sorted[0], by_challenge);
+    for (size_t i = 1; i < vector_count; i++)
+        if (twins(sorted[i - 1], sorted[i]) && (again == NULL || sorted[i] < again)) {
+            first = sorted[i - 1];
+            again = sorted[i];
+        }
+    if (again != NULL) refuse(again->line, "this vector stands at line %lu already", (unsigned long)first->line);
 }
 
 /* ---- the profile file */
@@ -422,7 +528,7 @@ static void put_profile(uint8_t *profile, size_t length) {
     free(taken);
 }
 
-/* ---- the table's blocks */
+/* ---- the blocks */
 
 static void put_name(uint8_t *to, Name name) {
     if (name.length > 0) memcpy(to, name.bytes, name.length);
@@ -482,24 +588,30 @@ static void put_record(uint8_t *block, const Record *record, uint32_t number) {
     seal(block);
 }
 
+static void put_vector(uint8_t *block, const Vector *vector) {
+    block[0] = 3;
+    block[1] = (uint8_t)vector->used;
+    block[2] = (uint8_t)vector->xres_length;
+    block[3] = (uint8_t)vector->private_identity.length;
+    put_name(block + 4, vector->private_identity);
+    memcpy(block + 132, vector->rand, KEY);
+    memcpy(block + 148, vector->autn, KEY);
+    memcpy(block + 164, vector->xres, vector->xres_length);
+    memcpy(block + 180, vector->confidentiality, KEY);
+    memcpy(block + 196, vector->integrity, KEY);
+    seal(block);
+}
+
 static int print(const uint8_t *bytes, size_t length) {
     if (fwrite(bytes, 1, length, stdout) == length && fflush(stdout) == 0) return 1;
     fprintf(stderr, "maketable: standard output: %s\n", strerror(errno));
     return 0;
 }
 
-int main(int argc, char **argv) {
-    const int profile_wanted = argc == 3 && strcmp(argv[1], "profile") == 0;
-    if (argc != 3 || (!profile_wanted && strcmp(argv[1], "table") != 0)) {
-        fprintf(stderr, "usage: maketable table|profile TEXT\n");
-        return 2;
-    }
-    size_t length;
-    uint8_t *bytes = load(text_name = argv[2], &length);
-    Text text = {bytes, bytes + length, 1, 1};
-    read_text(&text);
+/* Each of these writes a file of a text. */
+static int make_pair(Text *text, int profile_wanted) {
+    read_table(text);
     sort_records();
-
     const size_t profile_length = lay_out();
     uint8_t *table = (uint8_t *)got(calloc(count + 1, BLOCK)), *profile = (uint8_t *)got(calloc(profile_length + 1, 1));
     put_header(table);
@@ -509,6 +621,31 @@ int main(int argc, char **argv) {
     free(table);
     free(profile);
     free(unused);
+    return printed;
+}
+
+static int make_vectors(Text *text) {
+    read_vectors(text);
+    refuse_twins();
+    uint8_t *file = (uint8_t *)got(calloc(vector_count + 1, BLOCK));
+    for (size_t i = 0; i < vector_count; i++) put_vector(file + BLOCK * i, &vectors[i]);
+    const int printed = print(file, BLOCK * vector_count);
+    free(file);
+    return printed;
+}
+
+int main(int argc, char **argv) {
+    static const char *const files[] = {"table", "profile", "vectors"};
+    int file = 0;
+    while (file < 3 && argc == 3 && strcmp(argv[1], files[file]) != 0) file++;
+    if (argc != 3 || file == 3) {
+        fprintf(stderr, "usage: maketable table|profile|vectors TEXT\n");
+        return 2;
+    }
+    size_t length;
+    uint8_t *bytes = load(text_name = argv[2], &length);
+    Text text = {bytes, bytes + length, 1, 1};
+    const int printed = file == 2 ? make_vectors(&text) : make_pair(&text, file == 1);
     free(bytes);
     return printed ? 0 : 2;
 }

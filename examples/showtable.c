@@ -1,22 +1,27 @@
 /* showtable TABLE PROFILE: a table and its profile file as the text that maketable reads, on standard output. maketable makes
  * the same two files of it again, byte for byte, so a line can be edited and the next table made with nothing lost:
  * states, names of servers and whatever bytes a name or a profile has.
+ * showtable --vectors VECTORS: a vector file as text, in the same way.
+ * showtable --unused TABLE PROFILE VECTORS: a line for each private identity, with how many of its vectors are unused: those of
+ * the table with the fewest first, and then those that have vectors and no record. A vector that stands there twice is named on
+ * standard error.
  *
- * TABLE.md among the documents says how the text is written ("As text") and what stands in the blocks. The text is plain
+ * TABLE.md among the documents says how the texts are written ("As text") and what stands in the blocks. They are plain
  * ASCII, with \xHH for every other byte, so that no editor alters what it does not show.
  *
- * Exit status: 0 written; 1 the table is unsound, and its first bad block is named on standard error; 2 wrong use, a file
- * that cannot be read, or no memory, or standard output fails. Nothing is written of a table that is unsound.
- * This program stands apart from the library and reads the table's rules for itself, so that each tests the other. */
+ * Exit status: 0 written; 1 a file is unsound, and its first bad block is named on standard error, or under --unused a vector
+ * stands there twice; 2 wrong use, a file that cannot be read, or no memory, or standard output fails. Nothing is written of a
+ * file that is unsound.
+ * This program stands apart from the library and reads the rules of both files for itself, so that each tests the other. */
 #include "load.h"
 
-enum { BLOCK = 512, RECORDS = 4096, NETWORKS = 8, NETWORK = 32, CAPABILITIES = 4, PART = 4096 };
+enum { BLOCK = 512, RECORDS = 4096, NETWORKS = 8, NETWORK = 32, CAPABILITIES = 4, PART = 4096, VECTORS = 4096, KEY = 16, XRES = 16 };
 
 static uint32_t number_at(const uint8_t *at) {
     return (uint32_t)at[0] << 24 | (uint32_t)at[1] << 16 | (uint32_t)at[2] << 8 | at[3];
 }
 
-/* ---- whether the table is sound */
+/* ---- whether table and vector file are sound */
 
 static int zeros(const uint8_t *bytes, size_t from, size_t to) {
     while (from < to && bytes[from] == 0) from++;
@@ -28,10 +33,14 @@ static int sound_name(const uint8_t *field, size_t length, size_t least, size_t 
     return length >= least && length <= room && zeros(field, length, room);
 }
 
-static int sound_start(const uint8_t *block, unsigned kind, uint32_t number) {
+static int sound_sum(const uint8_t *block) {
     uint32_t sum = 0;
     for (size_t at = 0; at < BLOCK; at += 4) sum += number_at(block + at);
-    return sum == 0 && block[0] == kind && block[1] == 1 && zeros(block, 2, 4) && number_at(block + 4) == number;
+    return sum == 0;
+}
+
+static int sound_start(const uint8_t *block, unsigned kind, uint32_t number) {
+    return sound_sum(block) && block[0] == kind && block[1] == 1 && zeros(block, 2, 4) && number_at(block + 4) == number;
 }
 
 static int sound_networks(const uint8_t *header) {
@@ -85,6 +94,18 @@ static int sound_table(const uint8_t *table, size_t table_len, size_t profile_le
         if (!sound_record(block, (uint32_t)*bad, table[15], profile_len)) return 0;
         if (*bad > 1 && !rises(block - BLOCK, block)) return 0;
     }
+    return 1;
+}
+
+static int sound_vector(const uint8_t *block) {
+    return sound_sum(block) && block[0] == 3 && block[1] <= 1 && sound_name(block + 4, block[3], 1, 128) &&
+           sound_name(block + 164, block[2], 4, XRES) && zeros(block, 212, BLOCK - 4);
+}
+
+/* Whether the vector file is sound; if not, `bad` is its first bad block. */
+static int sound_vectors(const uint8_t *vectors, size_t length, size_t *bad) {
+    for (*bad = 0; BLOCK * *bad < length; ++*bad)
+        if (*bad == VECTORS || length - BLOCK * *bad < BLOCK || !sound_vector(vectors + BLOCK * *bad)) return 0;
     return 1;
 }
 
@@ -205,30 +226,174 @@ static void put_all_unused(const uint8_t *table, size_t count, const uint8_t *pr
     put_unused(profile, reached, profile_len);
 }
 
-int main(int argc, char **argv) {
-    if (argc != 3) {
-        fprintf(stderr, "usage: showtable TABLE PROFILE\n");
-        return 2;
+static void put_bytes(const char *key, const uint8_t *bytes, size_t length) {
+    put_word(key);
+    putchar('=');
+    for (size_t i = 0; i < length; i++) printf("%02x", bytes[i]);
+}
+
+/* `used` has a line of its own, for a script to find. */
+static void put_vector(const uint8_t *vector) {
+    put_name("private", vector + 4, vector[3]);
+    new_line();
+    put_bytes("rand", vector + 132, KEY);
+    put_bytes("autn", vector + 148, KEY);
+    new_line();
+    put_bytes("xres", vector + 164, vector[2]);
+    put_bytes("confidentiality", vector + 180, KEY);
+    put_bytes("integrity", vector + 196, KEY);
+    new_line();
+    if (vector[1] == 1) put_word("used");
+}
+
+/* ---- how many vectors are unused */
+
+typedef struct {
+    const uint8_t *name;
+    size_t length;
+    int in_table;
+    unsigned long unused, used;
+} Holder;
+
+static int by_name(const void *left, const void *right) {
+    const Holder *a = (const Holder *)left, *b = (const Holder *)right;
+    const int order = memcmp(a->name, b->name, a->length < b->length ? a->length : b->length);
+    return order != 0 ? order : (a->length > b->length) - (a->length < b->length);
+}
+
+/* Those of the table first, and of these the ones with the fewest. */
+static int by_need(const void *left, const void *right) {
+    const Holder *a = (const Holder *)left, *b = (const Holder *)right;
+    if (a->in_table != b->in_table) return b->in_table - a->in_table;
+    if (a->unused != b->unused) return a->unused < b->unused ? -1 : 1;
+    return by_name(left, right);
+}
+
+/* Makes one of all that have a name, and gives how many there are then. */
+static size_t join_holders(Holder *holders, size_t many) {
+    size_t last = 0;
+    qsort(holders, many, sizeof holders[0], by_name);
+    for (size_t i = 1; i < many; i++)
+        if (by_name(&holders[last], &holders[i]) == 0) {
+            holders[last].in_table |= holders[i].in_table;
+            holders[last].unused += holders[i].unused;
+            holders[last].used += holders[i].used;
+        } else {
+            holders[++last] = holders[i];
+        }
+    return many == 0 ? 0 : last + 1;
+}
+
+static void put_unused_vectors(const uint8_t *table, const uint8_t *vectors, size_t vectors_len) {
+    static Holder holders[RECORDS + VECTORS];
+    size_t many = 0;
+    for (size_t k = 1; k <= number_at(table + 8); k++) {
+        const uint8_t *record = table + BLOCK * k;
+        const Holder holder = {record + 144, record[14], 1, 0, 0};
+        holders[many++] = holder;
     }
-    size_t table_len, profile_len;
-    uint8_t *table = load(argv[1], &table_len);
-    uint8_t *profile = load(argv[2], &profile_len);
-    size_t bad;
-    const int sound = sound_table(table, table_len, profile_len, &bad);
-    int printed = 1;
-    if (sound) {
-        const size_t count = number_at(table + 8);
-        const int placed = !laid_in_order(table, count, profile_len);
-        put_header(table);
-        for (size_t k = 1; k <= count; k++) put_record(table, table + BLOCK * k, profile, placed);
-        if (placed) put_all_unused(table, count, profile, profile_len);
+    for (size_t at = 0; at < vectors_len; at += BLOCK) {
+        const uint8_t *vector = vectors + at;
+        const Holder holder = {vector + 4, vector[3], 0, vector[1] == 0, vector[1] == 1};
+        holders[many++] = holder;
+    }
+    many = join_holders(holders, many);
+    qsort(holders, many, sizeof holders[0], by_need);
+    for (size_t i = 0; i < many; i++) {
+        printf("%lu unused, %lu used,%s ", holders[i].unused, holders[i].used, holders[i].in_table ? "" : " in no record,");
+        gap = "";
+        put_name("private", holders[i].name, holders[i].length);
         putchar('\n');
-        printed = fflush(stdout) == 0 && !ferror(stdout);
-        if (!printed) fprintf(stderr, "showtable: standard output: %s\n", strerror(errno));
-    } else {
-        fprintf(stderr, "showtable: %s: block %lu is bad\n", argv[1], (unsigned long)bad);
     }
+}
+
+/* By the length of the name, the name, RAND and AUTN, which stand one behind the other. */
+static int by_challenge(const void *left, const void *right) {
+    const uint8_t *a = *(const uint8_t *const *)left, *b = *(const uint8_t *const *)right;
+    const int order = memcmp(a + 3, b + 3, 164 - 3);
+    return order != 0 ? order : (a > b) - (a < b);
+}
+
+/* Names each vector that stands there again, and says whether there is none. */
+static int without_twins(const char *name, const uint8_t *vectors, size_t vectors_len) {
+    static const uint8_t *sorted[VECTORS], *earlier[VECTORS];
+    const size_t many = vectors_len / BLOCK;
+    int twins = 0;
+    for (size_t i = 0; i < many; i++) sorted[i] = vectors + BLOCK * i;
+    qsort(sorted, many, sizeof sorted[0], by_challenge);
+    for (size_t i = 1; i < many; i++)
+        if (memcmp(sorted[i - 1] + 3, sorted[i] + 3, 164 - 3) == 0) earlier[(size_t)(sorted[i] - vectors) / BLOCK] = sorted[i - 1];
+    for (size_t i = 0; i < many; i++)
+        if (earlier[i] != NULL) {
+            fprintf(stderr, "showtable: %s: block %lu has the vector of block %lu again\n", name, (unsigned long)i,
+                    (unsigned long)((size_t)(earlier[i] - vectors) / BLOCK));
+            twins++;
+        }
+    return twins == 0;
+}
+
+/* ---- what is asked for; each gives a status */
+
+static int unsound(const char *name, size_t bad) {
+    fprintf(stderr, "showtable: %s: block %lu is bad\n", name, (unsigned long)bad);
+    return 1;
+}
+
+static int shown(void) {
+    if (fflush(stdout) == 0 && !ferror(stdout)) return 0;
+    fprintf(stderr, "showtable: standard output: %s\n", strerror(errno));
+    return 2;
+}
+
+static int show_table(const char *table_name, const char *profile_name) {
+    size_t table_len, profile_len, bad;
+    uint8_t *table = load(table_name, &table_len);
+    uint8_t *profile = load(profile_name, &profile_len);
+    if (!sound_table(table, table_len, profile_len, &bad)) return unsound(table_name, bad);
+    const size_t count = number_at(table + 8);
+    const int placed = !laid_in_order(table, count, profile_len);
+    put_header(table);
+    for (size_t k = 1; k <= count; k++) put_record(table, table + BLOCK * k, profile, placed);
+    if (placed) put_all_unused(table, count, profile, profile_len);
+    putchar('\n');
     free(table);
     free(profile);
-    return !printed ? 2 : sound ? 0 : 1;
+    return shown();
+}
+
+static int show_vectors(const char *name) {
+    size_t length, bad;
+    uint8_t *vectors = load(name, &length);
+    if (!sound_vectors(vectors, length, &bad)) return unsound(name, bad);
+    for (size_t at = 0; at < length; at += BLOCK) {
+        if (at > 0) new_paragraph();
+        put_vector(vectors + at);
+    }
+    if (length > 0) putchar('\n');
+    free(vectors);
+    return shown();
+}
+
+static int show_unused(const char *table_name, const char *profile_name, const char *name) {
+    size_t table_len, profile_len, length, bad;
+    uint8_t *table = load(table_name, &table_len);
+    uint8_t *profile = load(profile_name, &profile_len);
+    uint8_t *vectors = load(name, &length);
+    if (!sound_table(table, table_len, profile_len, &bad)) return unsound(table_name, bad);
+    if (!sound_vectors(vectors, length, &bad)) return unsound(name, bad);
+    put_unused_vectors(table, vectors, length);
+    const int failed = shown(), single = without_twins(name, vectors, length);
+    free(table);
+    free(profile);
+    free(vectors);
+    return failed ? failed : single ? 0 : 1;
+}
+
+int main(int argc, char **argv) {
+    const char *first = argc > 1 ? argv[1] : "";
+    if (argc == 3 && strcmp(first, "--vectors") == 0) return show_vectors(argv[2]);
+    if (argc == 5 && strcmp(first, "--unused") == 0) return show_unused(argv[2], argv[3], argv[4]);
+    if (argc == 3 && first[0] != '-') return show_table(argv[1], argv[2]);
+    fprintf(stderr, "usage: showtable TABLE PROFILE\n       showtable --vectors VECTORS\n       showtable --unused TABLE PROFILE VECTORS\n");
+    return 2;
 }

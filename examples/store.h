@@ -1,6 +1,8 @@
-/* store.h: how a daemon stores its table, and how it knows at its start that the table is stored. Whatever fails, the file
- * of that name is a whole one, the old or the new. The daemon asks settled before it answers anything, calls store after a
- * decision that rewrote the table, and sends the answer only when it is STORED.
+/* store.h: how a daemon stores its table and its vector file, and how it knows at its start that they are stored. Whatever
+ * fails, the file of that name is a whole one, the old or the new. The daemon asks settled before it answers anything, calls
+ * store after a decision for each file that it altered, and sends the answer only when each is STORED.
+ * The vector file is stored first and then the table: a power cut between the two wastes vectors and does nothing else. What was
+ * sent stays used: an older vector file is never stored again, since its vectors would be sent a second time.
  * POSIX.1-2008: under -std=c99 define _POSIX_C_SOURCE as 200809L before anything is included. */
 #ifndef STORE_H
 #define STORE_H
@@ -69,8 +71,8 @@ static int make_fresh(int folder, const char *name, const char *fresh) {
     return -1;
 }
 
-/* Writes NAME.new, flushes it, renames it to NAME and flushes the folder. The folder is open, and is the one that table
- * and profile were read from: a link that was switched since then does not matter. One call at a time for one name. */
+/* Writes NAME.new, flushes it, renames it to NAME and flushes the folder. The folder is open, and is the one that
+ * the file was read from: a link that was switched since then does not matter. One call at a time for one name. */
 static Stored store(int folder, const char *name, const uint8_t *bytes, size_t length) {
     char fresh[256];
     const int letters = snprintf(fresh, sizeof fresh, "%s.new", name);

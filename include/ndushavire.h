@@ -1,23 +1,28 @@
-/* ndushavire.h: decides Diameter Cx requests over a subscriber table.
+/* ndushavire.h: decides Diameter Cx requests over a subscriber table and a vector file.
  *
- * Who owns what. The caller owns every byte. All four slices (request, table, profile, answer) are lent for the
+ * Who owns what. The caller owns every byte. All slices (request, table, profile, vectors, answer) are lent for the
  * length of the call and none is kept: the library has no state of its own, opens no file, takes no memory and
  * starts nothing. The slices of one call must not overlap. Every pointer is non-null, also where its length is 0.
- * Only the answer, and in ndushavire_decide the table, are written to; what must outlive the process is for the
+ * Only ndushavire_decide writes: to the answer, the table and the vectors. What must outlive the process is for the
  * caller to store.
  *
- * Threads. A call is reentrant; it sets no errno and raises no signal. Calls on different tables may run at once and
- * share one profile. While ndushavire_decide runs, no one else may read or write its table or its answer. Checks of
- * one table may run beside each other.
+ * Threads. A call is reentrant; it sets no errno and raises no signal. Calls on different tables and vectors may run at
+ * once and share one profile. While ndushavire_decide runs, no one else may read or write its table, its vectors or its
+ * answer. Checks of one table, or of one vector file, may run beside each other.
  *
  * The profile file is what call servers are sent of each line: bytes without a structure of their own, into which the
  * table's records point. Table and profile file are a pair, made, checked and kept together.
  *
+ * The vector file has the authentication vectors of the subscribers' cards, a block for each: of a private identity, and
+ * used or not. A call that sends vectors marks their blocks as used, and no block is sent twice. It is stored before the
+ * answer goes out, and an older one is never lent again: it would send vectors a second time. A file of no bytes (length 0)
+ * has no vectors; a daemon for lines without cards lends that.
+ *
  * Stack. A call takes under 48 KiB (some 37 KiB measured). The archive has no unwind tables: a debugger's backtrace
  * ends at the call.
  *
- * What comes here. User-Authorization, Server-Assignment and Location-Info requests. The base protocol's own
- * (Capabilities-Exchange, Device-Watchdog, Disconnect-Peer) are the daemon's: a call would answer each with B3001.
+ * What comes here. User-Authorization, Server-Assignment, Location-Info and Multimedia-Auth requests. The base protocol's
+ * own (Capabilities-Exchange, Device-Watchdog, Disconnect-Peer) are the daemon's: a call would answer each with B3001.
  *
  * Versions. Before 1.0.0 a new minor version may add parameters, functions and numbers: compile the daemon anew with
  * the header that came with the archive, since the linker cannot tell one from another. A new patch version changes
@@ -32,34 +37,42 @@
 extern "C" {
 #endif
 
-#define NDUSHAVIRE_VERSION "0.1.0"
-#define NDUSHAVIRE_VERSION_NUMBER 100 /* the same to compare: major x 10,000 + minor x 100 + patch */
+#define NDUSHAVIRE_VERSION "0.2.0"
+#define NDUSHAVIRE_VERSION_NUMBER 200 /* the same to compare: major x 10,000 + minor x 100 + patch */
 
-#define NDUSHAVIRE_ANSWER_ROOM 36864 /* the least answer buffer, in bytes: no answer is longer */
-#define NDUSHAVIRE_REQUEST_MIN 20    /* the shortest request, a Diameter header alone */
-#define NDUSHAVIRE_REQUEST_MAX 16384 /* the longest request */
-#define NDUSHAVIRE_BLOCK 512         /* a table is a header block and a block for each record */
-#define NDUSHAVIRE_RECORDS_MAX 4096  /* the most records of a table */
-#define NDUSHAVIRE_TABLE_MAX 2097664 /* the longest table, in bytes: the header and the most records */
+#define NDUSHAVIRE_ANSWER_ROOM 36864       /* the least answer buffer, in bytes: no answer is longer */
+#define NDUSHAVIRE_REQUEST_MIN 20          /* the shortest request, a Diameter header alone */
+#define NDUSHAVIRE_REQUEST_MAX 16384       /* the longest request */
+#define NDUSHAVIRE_BLOCK 512               /* a block: a table's header, each of its records, each vector of a vector file */
+#define NDUSHAVIRE_RECORDS_MAX 4096        /* the most records of a table */
+#define NDUSHAVIRE_TABLE_MAX 2097664       /* the longest table, in bytes: the header and the most records */
+#define NDUSHAVIRE_VECTORS_MAX 4096        /* the most vectors of a vector file */
+#define NDUSHAVIRE_VECTOR_FILE_MAX 2097152 /* the longest vector file, in bytes */
 
-/* Both functions return a word. Keep it in a uint64_t: an int loses the number, and a refusal then looks like a short
+/* Each function returns a word. Keep it in a uint64_t: an int loses the number, and a refusal then looks like a short
  * answer. Its number is 0, or why the call was refused; a refused call has written nothing. Later versions add
  * numbers: every one but 0, known or not, is a refusal. */
-#define NDUSHAVIRE_DONE 0           /* answered; of ndushavire_check, sound */
-#define NDUSHAVIRE_ANSWER_SHORT 1   /* the answer buffer is under NDUSHAVIRE_ANSWER_ROOM */
-#define NDUSHAVIRE_REQUEST_SIZE 2   /* the request is under or over its limits */
-#define NDUSHAVIRE_REQUEST_LENGTH 3 /* its header's length is not its own, or no multiple of 4 */
-#define NDUSHAVIRE_NO_REQUEST 4     /* the R bit is clear */
-#define NDUSHAVIRE_TABLE_UNSOUND 5  /* the value is the first bad block */
+#define NDUSHAVIRE_DONE 0            /* answered; of a check, sound */
+#define NDUSHAVIRE_ANSWER_SHORT 1    /* the answer buffer is under NDUSHAVIRE_ANSWER_ROOM */
+#define NDUSHAVIRE_REQUEST_SIZE 2    /* the request is under or over its limits */
+#define NDUSHAVIRE_REQUEST_LENGTH 3  /* its header's length is not its own, or no multiple of 4 */
+#define NDUSHAVIRE_NO_REQUEST 4      /* the R bit is clear */
+#define NDUSHAVIRE_TABLE_UNSOUND 5   /* the value is the first bad block */
+#define NDUSHAVIRE_VECTORS_UNSOUND 6 /* the value is 0; of ndushavire_check_vectors it is the first bad block */
 
-/* Answers one request, and rewrites the records that it changes. The word's value is the answer's length; the
- * buffer's bytes past it stay as they were. */
+/* Answers one request, rewrites the records that it changes, and marks the vectors that it sends. The word's value is the
+ * answer's length; the buffer's bytes past it stay as they were. The vectors must be sound whatever is asked. */
 uint64_t ndushavire_decide(const uint8_t *request, size_t request_len, uint8_t *table, size_t table_len,
-                           const uint8_t *profile, size_t profile_len, uint8_t *answer, size_t answer_len);
+                           const uint8_t *profile, size_t profile_len, uint8_t *vectors, size_t vectors_len,
+                           uint8_t *answer, size_t answer_len);
 
 /* Checks a table against its profile file. The word's number is 0 and its value the record count, or 5 and the first
  * bad block. */
 uint64_t ndushavire_check(const uint8_t *table, size_t table_len, const uint8_t *profile, size_t profile_len);
+
+/* Checks a vector file. The word's number is 0 and its value the number of blocks, or 6 and the first bad block, from 0; a
+ * last piece under a block, and a block past NDUSHAVIRE_VECTORS_MAX, are bad blocks. */
+uint64_t ndushavire_check_vectors(const uint8_t *vectors, size_t vectors_len);
 
 /* The parts of a word: number << 48 | place << 32 | value. */
 static inline uint32_t ndushavire_number(uint64_t word) { return (uint32_t)(word >> 48); }
@@ -72,7 +85,7 @@ static inline uint32_t ndushavire_value(uint64_t word) { return (uint32_t)(word 
 /* Of ndushavire_decide: whether there is an answer. */
 static inline int ndushavire_answered(uint64_t word) { return ndushavire_number(word) == NDUSHAVIRE_DONE; }
 
-/* Of ndushavire_check: whether the table is sound. */
+/* Of ndushavire_check and ndushavire_check_vectors: whether the file is sound. */
 static inline int ndushavire_sound(uint64_t word) { return ndushavire_number(word) == NDUSHAVIRE_DONE; }
 
 #ifdef __cplusplus

@@ -34,8 +34,8 @@ docdir=$(absolute DOCDIR "${DOCDIR:-$prefix/share/doc/ndushavire}")
 below=${DESTDIR-}
 note=$docdir/installed
 
-# ---- what goes where: a file of the tree, its place and its mode. Two captured requests go with the examples, to be tried.
-requests=(tests/captured/icscf-20-lir.hex tests/captured/scscf-12-sar.hex)
+# ---- what goes where: a file of the tree, its place and its mode. Three captured requests go with the examples, to be tried.
+requests=(tests/captured/{icscf-20-lir,scscf-12-sar,mar-33}.hex)
 sources=() places=() modes=()
 goes() { # SOURCE PLACE MODE
     sources+=("$1") places+=("$2") modes+=("$3")
@@ -95,7 +95,7 @@ install_all() { # ARCHIVE PROGRAM..
         noted file "${places[i]}"
         install -m "${modes[i]}" "${sources[i]}" "$below${places[i]}"
     done
-    for i in check decide; do
+    for i in check check_vectors decide; do
         noted file "$mandir/man3/ndushavire_$i.3"
         ln -sf ndushavire.3 "$below$mandir/man3/ndushavire_$i.3"
     done

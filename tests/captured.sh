@@ -1,7 +1,7 @@
 #!/usr/bin/env bash
 # captured.sh ROOM MAKETABLE REFERENCE DECIDE..: each request in captured/, as real software sent it, gets from each DECIDE
-# what the independent program answers, with the result that its head names, and rewrites the block that it should and no
-# other. An address in a request has a word in its head. RUN, if set, is the emulator that runs a DECIDE.
+# what the independent program answers, with the result that its head names, rewrites the block that it should and uses the vectors
+# that it should, and no other. An address in a request has a word in its head. RUN, if set, is the emulator that runs a DECIDE.
 set -euo pipefail
 room=$1 maketable=$2 reference=$(cd "$(dirname "$3")" && pwd)/${3##*/}
 shift 3
@@ -23,17 +23,36 @@ public=sip:alice@isle private=alice@isle roaming=isle mandatory=1,2 optional=3
 
 public=sip:bob@isle private=bob@isle roaming=isle state=registered server=sip:scscf1.isle:6060
 
+public=sip:carol@isle private=carol@isle roaming=isle state=unregistered server=sip:scscf3.isle:6060
+
 public=sip:erin@isle private=erin@isle roaming=isle unregistered-services mandatory=1,2 profile=$(many 432)
 
 public=sip:user0@isle private=user0@isle roaming=isle profile=$(many 434)
+
+public=sip:user1@isle private=user1@isle roaming=isle
+
+public=sip:user2@isle private=user2@isle roaming=isle
 
 public=sip:user3@isle private=user3@isle roaming=isle
 END
 "$maketable" table "$room/text" >"$room/table"
 "$maketable" profile "$room/text" >"$room/profile"
 
-# The block that a request has rewritten: user0's and erin's.
-declare -A rewritten=([scscf-03-sar]=4 [scscf-12-sar]=3)
+# Eighteen vectors for each of these, whose turns come round; alice and user3 have none. XRES has every length from 4 to 16.
+people=(bob carol erin user0 user1 user2)
+number=0
+for turn in $(seq 18); do
+    for name in "${people[@]}"; do
+        number=$((number + 1))
+        printf 'private=%s@isle rand=%032x autn=%032x xres=%0*x confidentiality=%032x integrity=%032x\n\n' \
+            "$name" $((number + 0xa000)) $((number + 0xb000)) $((2 * (4 + turn % 13))) $((number + 0xc000)) $((number + 0xd000)) $((number + 0xe000))
+    done
+done >"$room/vectors.text"
+"$maketable" vectors "$room/vectors.text" >"$room/vectors"
+
+# The block that a request has rewritten, and the vectors that it uses: bob's are 0, 6, 12 .., carol's 1, erin's 2, user0's 3 and so on.
+declare -A rewritten=([scscf-03-sar]=5 [scscf-12-sar]=4 [mar-01]=5 [mar-23]=3 [mar-29]=2 [mar-33]=4)
+declare -A used=([mar-01]=3 [mar-23]=1 [mar-29]=$(seq -s ' ' 0 6 90) [mar-33]=2)
 
 for request in "$(dirname "$0")"/captured/*.hex; do
     name=$(basename "$request" .hex)
@@ -49,9 +68,10 @@ for request in "$(dirname "$0")"/captured/*.hex; do
         echo "answered, $(stat -c %s "$room/answer") bytes"
         od -An -v -tx4 --endian=big -w32 "$room/answer" | sed 's/^ //' | tr a-f A-F
         [ -z "${rewritten[$name]-}" ] || echo "block ${rewritten[$name]} rewritten"
+        for block in ${used[$name]-}; do echo "vector block $block used"; done
     } >"$room/expected"
     for decide in "$@"; do
-        ${RUN:+"$RUN"} "$decide" "$room/table" "$room/profile" "$request" >"$room/said" || fail "$name: $decide does not answer"
+        ${RUN:+"$RUN"} "$decide" "$room/table" "$room/profile" "$room/vectors" "$request" >"$room/said" || fail "$name: $decide does not answer"
         diff "$room/expected" "$room/said" >&2 || fail "$name: $decide does otherwise than the independent program"
     done
     tried=$((tried + 1))

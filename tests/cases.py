@@ -4,17 +4,17 @@
 Both are the independent program's: it makes the cases and says their outcomes. Chosen are small cases: for each of its deliberate
 faults one that shows it; of each result one, and then more: a refusal with what it returns besides; a command with its result; of a
 SAR past the reading rules also its type, and where it succeeds or meets a wrong state also keep, the state and whether it names many
-identities. After them stand the requests of real software in captured/, each over the table that their heads describe. Nothing here
-is random: a second run writes the same bytes."""
+identities; of a MAR that succeeds the state and whether the record changes. After them stand the requests of real software in captured/,
+each over the table and the vectors that their heads describe. Nothing here is random: a second run writes the same bytes."""
 import collections, pathlib, struct, sys
 
 import streams
 from streams import answer, avps, made, outcomes, run
 
-MOST = 649_500  # bytes of cases
+MOST = 750_000  # bytes of cases
 CX = 10415
 RULES = tuple(('B', n) for n in (5001, 5004, 5014, 3009, 5011, 3008, 3001, 3007))
-KNOWN = {(n, 0) for n in (263, 260, 277, 264, 296, 293, 283, 1, 284, 282)} | {(n, CX) for n in (601, 600, 623, 602, 614, 624)}
+KNOWN = {(n, 0) for n in (263, 260, 277, 264, 296, 293, 283, 1, 284, 282)} | {(n, CX) for n in (601, 600, 623, 602, 614, 624, 607, 612)}
 EFFECTS = ('B', 2001), ('X', 2004), ('X', 5007)
 
 
@@ -22,16 +22,10 @@ def number(data):
     return struct.unpack('>I', data)[0] if len(data) == 4 else None
 
 
-def state(table, public):
-    """The state of a public identity's record."""
-    blocks = (table[at:at + 512] for at in range(512, len(table), 512))
-    return next((b[8] for b in blocks if b[16:16 + b[13]] == public), None)
-
-
 def row(case, outcome):
     """What a case comes to, and what its answer carries."""
-    if outcome.word >> 48 or case.entry == 1:
-        several = case.entry == 1 or outcome.word >> 48 == 5  # a bad block has many causes
+    if outcome.word >> 48 or case.entry != 2:
+        several = case.entry != 2 or outcome.word >> 48 >= 5  # a bad block has many causes
         return (case.entry, outcome.word, streams.sizes(case).get('request', 0) > 16384), case.fill % 6 if several else 0
     held = streams.slices(case)
     asked, table = held['request'], held['table']
@@ -43,34 +37,39 @@ def row(case, outcome):
             said = 'X', number(dict(avps(data))[298, 0])
         elif kind == (279, 0):
             carried.append((279, next((k if k in KNOWN else 0 for k, _ in avps(data)), None)))
-        elif kind[0] in (1, 602, 603, 606):
+        elif kind[0] in (1, 602, 603, 606, 612):
             carried.append(kind)
     command, given = int.from_bytes(asked[5:8], 'big'), list(avps(asked[20:]))
-    result = command if command in (300, 301, 302) else 0, said
+    result = command if command in (300, 301, 302, 303) else 0, said
     if command == 301 and said not in RULES:
         names = [data for kind, data in given if kind == (601, CX)]
         result += (next((number(data) for kind, data in given if kind == (614, CX)), None),)
         if said in EFFECTS:
-            result += len(names) > 1, table[12], state(table, names[0]) if names else None
+            result += len(names) > 1, table[12], streams.state(table, names[0]) if names else None
+    if command == 303 and said == ('B', 2001):
+        result += streams.state(table, dict(given)[601, CX]), streams.changes(case, outcome)['table'][1] == b''
     return result, tuple(carried)
 
 
 def fits(case):
-    """Whether the program has room for a case, 40,000 bytes for a slice and 65,536 for all, and the table is of few records."""
+    """Whether the program has room for a case, 40,000 bytes for a slice and 65,536 for all, and records and vectors are few: 18 vectors show
+    that at most 16 are sent."""
     sizes = streams.sizes(case)
-    return max(sizes.values()) <= 40000 and sum(sizes.values()) <= 65536 and sizes['table'] <= 4096
+    few = sizes.get('table', 0) <= 4096 and sizes.get('vectors', 0) <= 18 * 512
+    return max(sizes.values()) <= 40000 and sum(sizes.values()) <= 65536 and few
 
 
 def small(case):
     sizes = streams.sizes(case)
     request = sizes.get('request', 0)
-    return sizes['table'] <= 2048 and sizes['profile'] <= 700 and (request <= 900 or request > 16384)
+    files = max(sizes.get('table', 0), sizes.get('vectors', 0)) <= 2048 and sizes.get('profile', 0) <= 700
+    return files and (request <= 900 or request > 16384)
 
 
 def fitting(reference):
     """Cases that fit, the smallest first."""
     found = []
-    for kind, seeds, count in (('tables', (1,), 4000), ('calls', range(1, 6), 20000)):
+    for kind, seeds, count in (('tables', (1,), 4000), ('vectors', (1,), 4000), ('calls', range(1, 6), 20000)):
         for seed in seeds:
             found += [case for case in streams.cases(made(reference, kind, seed, count)) if fits(case)]
     return sorted(found, key=lambda case: len(case.whole))
@@ -138,20 +137,39 @@ def record(number, name, state=0, bits=0, mandatory=(), optional=(), server=b'',
     return summed((fields + names + words + struct.pack('>IH', *profile)).ljust(508, b'\0'))
 
 
+def vector(name, fill):
+    """An unused vector, its RAND, AUTN, XRES of 8 bytes and keys all of one byte."""
+    private = name + b'@isle'
+    fields = struct.pack('>BBBB', 3, 0, 8, len(private)) + private.ljust(128, b'\0')
+    return summed((fields + bytes([fill]) * 32 + (bytes([fill]) * 8).ljust(16, b'\0') + bytes([fill]) * 32).ljust(508, b'\0'))
+
+
+def vectors(request):
+    """A MAR finds a foreign vector and one of its User-Name: Bob, of whom 20 are asked, has 17 and User3 none. Other requests find no vector."""
+    name = dict(avps(request[20:])).get((1, 0), b'').replace(b'@isle', b'')
+    if int.from_bytes(request[5:8], 'big') != 303:
+        return b''
+    count = {b'bob': 17, b'user3': 0}.get(name, 1)
+    return vector(b'alice', 99) + b''.join(vector(name, n + 1) for n in range(count))
+
+
 def real(folder):
-    """Alice was never registered, Bob is, Erin has unregistered services."""
+    """Alice was never registered, Bob is, Carol is held by another server in state 2, Erin has unregistered services."""
     table = b''.join((
-        header(5, (b'isle', b'guest.example')),
+        header(8, (b'isle', b'guest.example')),
         record(1, b'alice', mandatory=(1, 2), optional=(3,)),
         record(2, b'bob', state=1, server=b'sip:scscf1.isle:6060'),
-        record(3, b'erin', bits=4, mandatory=(1, 2), profile=(0, 432)),
-        record(4, b'user0', profile=(432, 434)),
-        record(5, b'user3')))
+        record(3, b'carol', state=2, server=b'sip:scscf3.isle:6060'),
+        record(4, b'erin', bits=4, mandatory=(1, 2), profile=(0, 432)),
+        record(5, b'user0', profile=(432, 434)),
+        record(6, b'user1'),
+        record(7, b'user2'),
+        record(8, b'user3')))
     profile = b'0' * 866
     for path in sorted(folder.glob('*.hex')):
         lines = [line for line in path.read_text().splitlines() if not line.startswith('#')]
         request = bytes.fromhex(''.join(lines))
-        yield streams.case(2, 0, request, table, profile, 36864)
+        yield streams.case(2, 0, request, table, profile, vectors(request), 36864)
 
 
 def main():

@@ -1,9 +1,9 @@
-/* daemon FOLDER TABLE PROFILE QUESTION ASSIGNMENT: the daemon of ndushavire(3), example.c, on a disk that fails. Its system
- * calls fail or are its last, one by one and two by two; it is started again, and its peer asks until it is answered. No answer
- * may go out while a power cut could bring back another table than the one it was given from.
- * The disk is a model: what is in the folder is what every reader sees, and only what was flushed is on disk. */
-#define _DEFAULT_SOURCE /* MAP_ANONYMOUS */
-#define _POSIX_C_SOURCE 200809L
+/* daemon FOLDER TABLE PROFILE VECTORS QUESTION ASSIGNMENT CHALLENGE: the daemon of ndushavire(3), example.c, on a disk that fails. Its
+ * system calls fail, or are its last, or the last before a power cut, one by one and two by two; it is started again, and its peer asks
+ * until it is answered. No answer may go out while a power cut could bring back another table or vector file than it was given from, and
+ * no vector twice.
+ * The disk is a model: what is in the folders is what every reader sees, and only what was flushed is on disk. */
+#define _GNU_SOURCE /* memmem, MAP_ANONYMOUS */
 #include <stdarg.h>
 #include <errno.h>
 #include <fcntl.h>
@@ -16,22 +16,29 @@
 #include <sys/wait.h>
 #include <unistd.h>
 
-enum { ROOM = 16 * 512, FILES = 4, FAULTS = 2, LIVES = 8, REQUESTS = 4, KILLED = 9 };
+enum { ROOM = 16 * 512, FILES = 8, FAULTS = 2, LIVES = 8, REQUESTS = 6, ANOTHER = REQUESTS, BLOCKS = 16, ENDED = 9 };
+
+/* The files that are stored; each lies in a folder of its own. */
+enum { TABLE, VECTORS, NAMES };
+static const char *const names[NAMES] = {"table", "vectors"}, *const fresh_names[NAMES] = {"table.new", "vectors.new"};
+static int folders[NAMES];
 
 typedef struct {
     uint8_t bytes[ROOM];
     size_t length;
 } Bytes;
 
+typedef enum { FAILS, KILLS, CUTS, WAYS } Way; /* the call fails; it is the daemon's last; it is the last before a power cut */
+
 typedef struct {
     unsigned call; /* the number of the call that goes wrong, or 0 */
-    int kills;     /* 1: it is the daemon's last; 0: it fails */
+    Way way;
 } Fault;
 
 /* What outlives a daemon: the disk, the faults to come, the peer. */
 static struct Model {
-    Bytes on_disk;             /* what has the name `table` after a power cut */
-    int renamed;               /* whether the folder has a change that is not on disk, and that a flush would write */
+    Bytes on_disk[NAMES];      /* what has the name after a power cut */
+    int renamed[NAMES];        /* whether the name has a change that is not on disk, and that a flush of its folder would write */
     int forgets;               /* whether what a failed flush should have written is not written by the next one either */
     struct {
         ino_t number;          /* 0: free */
@@ -39,7 +46,9 @@ static struct Model {
     } file[FILES];
     unsigned calls;
     Fault fault[FAULTS];
+    int cut;                   /* whether the power went */
     unsigned answered;         /* how many requests the peer has answers for */
+    int sent[BLOCKS];          /* which vectors it has got */
     const char *broken;        /* the rule that was broken */
 } *model;
 
@@ -67,36 +76,64 @@ static ino_t number_at(int folder, const char *name) {
     return fstatat(folder, name, &found, AT_SYMLINK_NOFOLLOW) == 0 ? found.st_ino : 0;
 }
 
-static void flush_file(int folder, ino_t number) {
-    static const char *const names[] = {"table", "table.new"};
+static ino_t number_of(int file) {
+    struct stat found;
+    return fstat(file, &found) == 0 ? found.st_ino : 0;
+}
+
+static void flush_as(int folder, const char *name, ino_t number) {
+    if (number_at(folder, name) != number) return;
+    const unsigned slot = slot_of(0); /* there is one: a file that loses its name is forgotten */
+    const int file = openat(folder, name, O_RDONLY);
+    slurp(file, &model->file[slot].flushed);
+    model->file[slot].number = number;
+    close(file);
+}
+
+static void flush_file(ino_t number) {
     forget_file(number);
-    for (int i = 0; i < 2; i++) {
-        const unsigned slot = slot_of(0); /* there is one: a file that loses its name is forgotten */
-        if (number_at(folder, names[i]) != number) continue;
-        const int file = openat(folder, names[i], O_RDONLY);
-        slurp(file, &model->file[slot].flushed);
-        model->file[slot].number = number;
-        close(file);
+    for (int i = 0; i < NAMES; i++) {
+        flush_as(folders[i], names[i], number);
+        flush_as(folders[i], fresh_names[i], number);
     }
 }
 
-static void flush_folder(int folder) {
-    const ino_t number = number_at(folder, "table");
+static void flush_name(int i) {
+    const ino_t number = number_at(folders[i], names[i]);
     const unsigned slot = slot_of(number);
-    if (!model->renamed) return;
-    model->renamed = 0;
-    model->on_disk.length = 0; /* a file whose bytes were not flushed may be empty */
-    if (number != 0 && slot < FILES) model->on_disk = model->file[slot].flushed;
+    if (!model->renamed[i]) return;
+    model->renamed[i] = 0;
+    model->on_disk[i].length = 0; /* a file whose bytes were not flushed may be empty */
+    if (number != 0 && slot < FILES) model->on_disk[i] = model->file[slot].flushed;
+}
+
+/* The file of a name as it is given, on disk and to see. */
+static int lay_down(int i, const Bytes *bytes) {
+    unlinkat(folders[i], fresh_names[i], 0);
+    unlinkat(folders[i], names[i], 0);
+    const int file = openat(folders[i], names[i], O_RDWR | O_CREAT | O_TRUNC, 0600);
+    if (file < 0 || write(file, bytes->bytes, bytes->length) != (ssize_t)bytes->length) return 0;
+    flush_file(number_of(file));
+    close(file);
+    model->renamed[i] = 1;
+    flush_name(i);
+    return 1;
+}
+
+/* The power comes back: what every reader sees is what is on disk. */
+static int power_back(void) {
+    const Bytes disk[NAMES] = {model->on_disk[TABLE], model->on_disk[VECTORS]};
+    memset(model->file, 0, sizeof model->file);
+    model->cut = 0;
+    return lay_down(TABLE, &disk[TABLE]) && lay_down(VECTORS, &disk[VECTORS]);
 }
 
 /* ---- the calls that store.h makes */
 
-static int the_folder;
-
 static int fails(void) {
     model->calls++;
     for (int i = 0; i < FAULTS; i++)
-        if (model->fault[i].call == model->calls && !model->fault[i].kills) {
+        if (model->fault[i].call == model->calls && model->fault[i].way == FAILS) {
             errno = EIO;
             return 1;
         }
@@ -105,7 +142,10 @@ static int fails(void) {
 
 static int done(int result) {
     for (int i = 0; i < FAULTS; i++)
-        if (model->fault[i].call == model->calls && model->fault[i].kills) _exit(KILLED);
+        if (model->fault[i].call == model->calls && model->fault[i].way != FAILS) {
+            model->cut = model->fault[i].way == CUTS;
+            _exit(ENDED);
+        }
     return result;
 }
 
@@ -131,10 +171,13 @@ static ssize_t disk_write(int file, const void *bytes, size_t length) {
 static int disk_fsync(int file) {
     struct stat about;
     const int failed = fails(), folder = fstat(file, &about) == 0 && S_ISDIR(about.st_mode);
-    if (failed && folder && model->forgets) model->renamed = 0;
+    for (int i = 0; folder && i < NAMES; i++) {
+        if (number_of(folders[i]) != about.st_ino) continue;
+        if (failed && model->forgets) model->renamed[i] = 0;
+        if (!failed) flush_name(i);
+    }
     if (failed) return -1;
-    if (folder) flush_folder(file);
-    else flush_file(the_folder, about.st_ino);
+    if (!folder) flush_file(about.st_ino);
     return done(0);
 }
 
@@ -142,10 +185,9 @@ static int disk_renameat(int from_folder, const char *from, int to_folder, const
     if (fails()) return -1;
     const ino_t number = number_at(to_folder, to);
     const int result = renameat(from_folder, from, to_folder, to);
-    if (result == 0) {
-        model->renamed = 1;
-        if (number != 0) forget_file(number);
-    }
+    for (int i = 0; i < NAMES; i++)
+        if (result == 0 && strcmp(to, names[i]) == 0) model->renamed[i] = 1;
+    if (result == 0 && number != 0) forget_file(number);
     return done(result);
 }
 
@@ -189,10 +231,12 @@ static int disk_close(int file) {
 
 /* ---- the peer */
 
-static Bytes old_table, new_table, old_profile, question, assignment;
+static Bytes old_file[NAMES], old_profile, question, assignment, challenge;
 
-/* A question, the assignment, a question, and the assignment that finds its work done. */
-static const Bytes *const asked[REQUESTS] = {&question, &assignment, &question, &assignment};
+/* A line that nobody has registered is challenged, assigned, challenged anew; the last assignment finds its work done. */
+static const Bytes *const asked[REQUESTS] = {&question, &challenge, &assignment, &challenge, &question, &assignment};
+static Bytes expected[REQUESTS + 1]; /* the table before the first request and after each */
+static int rotten;                   /* whether the vector file is unsound */
 
 static int same(const Bytes *a, const uint8_t *b, size_t length) { return a->length == length && memcmp(a->bytes, b, length) == 0; }
 
@@ -208,48 +252,93 @@ int refused(int peer, uint64_t word) {
     return 0;
 }
 
+static int used_on_disk(size_t block) { return model->on_disk[VECTORS].length > 512 * block && model->on_disk[VECTORS].bytes[512 * block + 1] == 1; }
+
+static size_t many_used(void) {
+    size_t many = 0;
+    for (size_t block = 0; block < BLOCKS; block++) many += used_on_disk(block) != 0;
+    return many;
+}
+
+static size_t many_sent(void) {
+    size_t many = 0;
+    for (size_t block = 0; block < BLOCKS; block++) many += model->sent[block] != 0;
+    return many;
+}
+
+/* How many vectors an answer has, none of which the peer may have got before. RAND and AUTN tell one from another. */
+static int vectors_in(const uint8_t *bytes, size_t length) {
+    int many = 0;
+    for (size_t block = 0; 512 * block < old_file[VECTORS].length; block++) {
+        if (memmem(bytes, length, old_file[VECTORS].bytes + 512 * block + 132, 32) == NULL) continue;
+        if (model->sent[block]) broken("a vector was sent twice");
+        if (!used_on_disk(block)) broken("a vector was sent that is unused after a power cut");
+        model->sent[block] = 1;
+        many++;
+    }
+    return many;
+}
+
+/* Whether the file that every reader sees, which the disk may have written of itself, is this. */
+static int seen(int i, const uint8_t *bytes, size_t length) {
+    static Bytes now;
+    const int file = openat(folders[i], names[i], O_RDONLY);
+    slurp(file, &now);
+    close(file);
+    return same(&now, bytes, length);
+}
+
 int send_all(int peer, const uint8_t *bytes, size_t length) {
-    (void)bytes;
-    (void)length;
-    if (!same(&model->on_disk, table, table_len)) broken("an answer went out that a power cut takes back");
-    if (asked[peer] == &assignment && !same(&new_table, table, table_len)) broken("an assignment was answered and not made");
+    if (!same(&model->on_disk[TABLE], table.bytes, table.length)) broken("an answer went out that a power cut takes back");
+    if (!seen(TABLE, table.bytes, table.length)) broken("an answer went out, and the disk may have more than it was given from");
+    for (size_t at = 0; at < vectors.length; at += 512)
+        if (vectors.bytes[at + 1] == 1 && !used_on_disk(at / 512)) broken("an answer went out, and a vector is used in memory alone");
+    if (peer == ANOTHER) return 1;
+    if (!same(&expected[peer + 1], table.bytes, table.length)) broken("a request was answered and not carried out");
+    if (vectors_in(bytes, length) != (asked[peer] == &challenge && !rotten)) broken("an answer has more vectors or fewer than were asked for");
     model->answered++;
     return 1;
 }
 
-/* One life of the daemon: it serves until all is answered, or ends. */
+/* One life of the daemon: it serves until all is answered, or ends. Another peer asks a question where the first gets no answer. */
 static void live(void) {
-    start(".");
+    start("live", ".");
     for (int tries = 0; model->answered < REQUESTS && tries < LIVES * REQUESTS; tries++) {
-        const Bytes *request = asked[model->answered];
-        serve((int)model->answered, request->bytes, request->length);
+        const unsigned now = model->answered;
+        serve((int)now, asked[now]->bytes, asked[now]->length);
+        if (model->answered == now) serve(ANOTHER, question.bytes, question.length);
     }
+}
+
+/* What may be on disk between two lives: the last answer's work, or the next one's; never a challenge's name without its vectors. */
+static const char *disk_is_wrong(void) {
+    const Bytes *disk = &model->on_disk[TABLE], *next = &expected[model->answered < REQUESTS ? model->answered + 1 : REQUESTS];
+    for (size_t block = 0; block < BLOCKS; block++)
+        if (model->sent[block] && !used_on_disk(block)) return "a vector that was sent is unused on disk";
+    if (same(disk, expected[model->answered].bytes, expected[model->answered].length)) return NULL;
+    if (!same(disk, next->bytes, next->length)) return "an answered request was lost";
+    if (!rotten && asked[model->answered] == &challenge && many_used() == many_sent()) return "the table has a challenge's name, and no vector was used for it";
+    return NULL;
 }
 
 /* ---- the trials */
 
 static int nowhere; /* /dev/null, for what a daemon says that ends */
 
-/* The table as it was, on disk, and the faults to come. */
+/* The files as they were, on disk, and the faults to come. */
 static int prepare(Fault first, Fault second, int forgets) {
     memset(model, 0, sizeof *model);
     model->forgets = forgets;
     model->fault[0] = first;
     model->fault[1] = second;
-    unlinkat(the_folder, "table.new", 0);
-    const int file = openat(the_folder, "table", O_RDWR | O_CREAT | O_TRUNC, 0600);
-    struct stat about;
-    if (file < 0 || write(file, old_table.bytes, old_table.length) != (ssize_t)old_table.length || fstat(file, &about) != 0) return 0;
-    close(file);
-    flush_file(the_folder, about.st_ino);
-    model->renamed = 1;
-    flush_folder(the_folder);
-    return 1;
+    return lay_down(TABLE, &old_file[TABLE]) && lay_down(VECTORS, &old_file[VECTORS]);
 }
 
 static int try_faults(Fault first, Fault second, int forgets) {
+    static const char *const ways[WAYS] = {"failed", "was the last", "was the last before a power cut"};
+    int lives = 0;
     if (!prepare(first, second, forgets)) return 0;
-    for (int lives = 0; lives < LIVES && model->answered < REQUESTS && model->broken == NULL; lives++) {
+    for (; lives < LIVES && model->answered < REQUESTS && model->broken == NULL; lives++) {
         int status;
         const pid_t child = fork();
         if (child == 0) {
@@ -259,12 +348,15 @@ static int try_faults(Fault first, Fault second, int forgets) {
         }
         if (child < 0 || waitpid(child, &status, 0) != child) return 0;
         if (!WIFEXITED(status)) model->broken = "the daemon crashed";
-        if (model->answered > 1 && !same(&model->on_disk, new_table.bytes, new_table.length)) model->broken = "an answered assignment was lost";
+        if (model->broken == NULL) model->broken = disk_is_wrong();
+        if (model->cut && !power_back()) return 0;
     }
     if (model->broken == NULL && model->answered < REQUESTS) model->broken = "the peer was never answered";
+    if (model->broken == NULL && !rotten && lives == 1 && many_used() != many_sent())
+        model->broken = "a vector was used and not sent, though the daemon lived on";
     if (model->broken == NULL) return 1;
-    fprintf(stderr, "daemon: %s: call %u %s, call %u %s, on a disk that %s\n", model->broken, first.call, first.kills ? "was the last" : "failed",
-            second.call, second.kills ? "was the last" : "failed", forgets ? "forgets" : "does not forget");
+    fprintf(stderr, "daemon: %s: call %u %s, call %u %s, on a disk that %s\n", model->broken, first.call, ways[first.way], second.call,
+            ways[second.way], forgets ? "forgets" : "does not forget");
     return 0;
 }
 
@@ -278,46 +370,84 @@ static void read_all(const char *path, Bytes *to) {
     close(file);
 }
 
+/* The table after each request, by calls whose vectors are lent as the daemon should lend them. */
+static int expect(void) {
+    static Bytes lent;
+    lent = old_file[VECTORS];
+    if (rotten) lent.length = 0;
+    expected[0] = old_file[TABLE];
+    for (int i = 0; i < REQUESTS; i++) {
+        Bytes *to = &expected[i + 1];
+        *to = expected[i];
+        if (!ndushavire_answered(ndushavire_decide(asked[i]->bytes, asked[i]->length, to->bytes, to->length, old_profile.bytes,
+                                                   old_profile.length, lent.bytes, lent.length, answer, sizeof answer)))
+            return 0;
+    }
+    return !same(&expected[2], expected[3].bytes, expected[3].length) && (rotten || !same(&expected[1], expected[2].bytes, expected[2].length));
+}
+
+/* Every fault by itself and with every later one; gives how many runs that were, or 0 if a rule was broken. */
+static unsigned try_all(unsigned whole) {
+    const Fault none = {0, FAILS};
+    unsigned runs = 0;
+    for (int way = 0; way < WAYS; way++)
+        for (unsigned call = 1; call <= whole; call++) {
+            const Fault first = {call, (Way)way};
+            if (!try_faults(first, none, 1)) return 0;
+            runs++;
+            for (int later_way = 0; later_way < WAYS; later_way++)
+                for (unsigned later = call + 1, most = model->calls; later <= most; later++) {
+                    const Fault second = {later, (Way)later_way};
+                    if (!try_faults(first, second, 0)) return 0;
+                    runs++;
+                }
+        }
+    return runs;
+}
+
+/* A vector file that is unsound: everything but challenges is answered as ever, and the file stays for whoever mends it. */
+static int try_rotten(void) {
+    const Fault none = {0, FAILS};
+    uint8_t *byte = &old_file[VECTORS].bytes[512 + 200];
+    *byte ^= 1;
+    rotten = 1;
+    const int right = expect() && try_faults(none, none, 0) && same(&model->on_disk[VECTORS], old_file[VECTORS].bytes, old_file[VECTORS].length);
+    *byte ^= 1;
+    rotten = 0;
+    if (!right) fprintf(stderr, "daemon: an unsound vector file is not served around, or was written to\n");
+    return right;
+}
+
 int main(int argc, char **argv) {
-    if (argc != 6) {
-        fprintf(stderr, "usage: daemon FOLDER TABLE PROFILE QUESTION ASSIGNMENT\n");
+    if (argc != 8) {
+        fprintf(stderr, "usage: daemon FOLDER TABLE PROFILE VECTORS QUESTION ASSIGNMENT CHALLENGE\n");
         return 2;
     }
-    read_all(argv[2], &old_table);
+    read_all(argv[2], &old_file[TABLE]);
     read_all(argv[3], &old_profile);
-    read_all(argv[4], &question);
-    read_all(argv[5], &assignment);
-    new_table = old_table;
-    if (!ndushavire_answered(ndushavire_decide(assignment.bytes, assignment.length, new_table.bytes, new_table.length, old_profile.bytes,
-                                               old_profile.length, answer, sizeof answer)) ||
-        same(&old_table, new_table.bytes, new_table.length)) {
-        fprintf(stderr, "daemon: the assignment alters nothing\n");
-        return 2;
-    }
-    the_folder = chdir(argv[1]) == 0 ? open(".", O_RDONLY | O_DIRECTORY) : -1;
+    read_all(argv[4], &old_file[VECTORS]);
+    read_all(argv[5], &question);
+    read_all(argv[6], &assignment);
+    read_all(argv[7], &challenge);
+    folders[VECTORS] = chdir(argv[1]) == 0 ? open(".", O_RDONLY | O_DIRECTORY) : -1;
+    folders[TABLE] = open("live", O_RDONLY | O_DIRECTORY);
     model = (struct Model *)mmap(NULL, sizeof *model, PROT_READ | PROT_WRITE, MAP_SHARED | MAP_ANONYMOUS, -1, 0);
-    if (the_folder < 0 || model == MAP_FAILED) {
+    if (folders[VECTORS] < 0 || folders[TABLE] < 0 || model == MAP_FAILED) {
         perror(argv[1]);
         return 2;
     }
     nowhere = open("/dev/null", O_WRONLY);
-    const Fault none = {0, 0};
-    unsigned runs = 0;
+    const Fault none = {0, FAILS};
+    if (!try_rotten()) return 1;
+    if (!expect()) {
+        fprintf(stderr, "daemon: the assignment or the challenge alters nothing\n");
+        return 2;
+    }
     if (!try_faults(none, none, 0) || !prepare(none, none, 0)) return 1;
     live(); /* not forked, so that an emulator has translated it all */
-    const unsigned whole = model->calls;
-    for (int kills = 0; kills < 2; kills++)
-        for (unsigned call = 1; call <= whole; call++) {
-            const Fault first = {call, kills};
-            if (!try_faults(first, none, 1)) return 1;
-            runs++;
-            for (int kills_too = 0; kills_too < 2; kills_too++)
-                for (unsigned later = call + 1, most = model->calls; later <= most; later++) {
-                    const Fault second = {later, kills_too};
-                    if (!try_faults(first, second, 0)) return 1;
-                    runs++;
-                }
-        }
-    printf("daemon: %u calls, %u runs with a fault or two, and no answer that was not on disk\n", whole, runs);
+    if (fchdir(folders[VECTORS]) != 0) return 2;
+    const unsigned whole = model->calls, runs = try_all(whole);
+    if (runs == 0) return 1;
+    printf("daemon: %u calls, %u runs with a fault or two, no answer that was not on disk and no vector sent twice\n", whole, runs);
     return 0;
 }

@@ -1,6 +1,6 @@
 #!/usr/bin/env bash
-# decide.sh ROOM MAKETABLE DECIDE..: each DECIDE gives the worked answer over the sample, and the refusals that a request
-# or a table can bring about. RUN, if set, is the emulator that runs a DECIDE.
+# decide.sh ROOM MAKETABLE DECIDE..: each DECIDE gives the worked answer over the sample, the refusals that a request, a table
+# or a vector file can bring about, and says which vectors were used. RUN, if set, is the emulator that runs a DECIDE.
 set -euo pipefail
 shopt -s lastpipe
 room=$1 maketable=$2
@@ -10,9 +10,10 @@ run=(${RUN:+"$RUN"})
 examples=$(dirname "$0")/../examples
 rm -rf "$room"
 mkdir -p "$room"
-table=$room/table profile=$room/profile request=$room/request
+table=$room/table profile=$room/profile vectors=$room/vectors request=$room/request
 "$maketable" table "$examples/households.txt" >"$table"
 "$maketable" profile "$examples/households.txt" >"$profile"
+"$maketable" vectors "$examples/vectors.txt" >"$vectors"
 tried=0
 
 # The request on standard input gets what the file EXPECTED has, and DECIDE ends with STATUS.
@@ -21,7 +22,7 @@ gets() { # EXPECTED STATUS ABOUT
     cat >"$request"
     for decide in "${decides[@]}"; do
         status=0
-        "${run[@]}" "$decide" "$table" "$profile" "$request" >"$room/said" 2>"$room/errors" || status=$?
+        "${run[@]}" "$decide" "$table" "$profile" "$vectors" "$request" >"$room/said" 2>"$room/errors" || status=$?
         cmp -s "$room/said" "$1" || { echo "decide.sh: $3: $decide says"; cat "$room/said"; echo 'and should say'; cat "$1"; exit 1; } >&2
         [ "$status" = "$2" ] || { echo "decide.sh: $3: $decide ends with status $status instead of $2"; cat "$room/errors"; exit 1; } >&2
     done
@@ -47,14 +48,39 @@ echo 01000014 C000012E 01000000 00000001 0000000G | unread 'no hexadecimal digit
 echo 01000014 C000012E 01000000 00000001 0000000 | unread 'half a byte'
 for decide in "${decides[@]}"; do
     status=0
-    "${run[@]}" "$decide" "$table" "$profile" "$examples/no-avps.hex" >/dev/full 2>"$room/errors" || status=$?
+    "${run[@]}" "$decide" "$table" "$profile" "$vectors" "$examples/no-avps.hex" >/dev/full 2>"$room/errors" || status=$?
     [ "$status" = 2 ] && grep -q '^standard output: ' "$room/errors" ||
         { echo "decide.sh: $decide with nowhere to write ends with status $status" >&2; exit 1; }
     tried=$((tried + 1))
 done
+# A MAR for erin: one vector is asked for and used, and her record gets the call server's name. Of bob's, who asks for twenty and has
+# a used one, both that are left go out. What the answer carries is compared in captured.sh.
+uses() { # NAME LINE..
+    local decide
+    for decide in "${decides[@]}"; do
+        "${run[@]}" "$decide" "$table" "$profile" "$vectors" "$captured/$1.hex" >"$room/said"
+        [ "$(sed -n '/^[a-z]/p' "$room/said" | sed 1d)" = "$(printf '%s\n' "${@:2}")" ] ||
+            { echo "decide.sh: $1: $decide says"; cat "$room/said"; exit 1; } >&2
+    done
+    tried=$((tried + 1))
+}
+captured=$(dirname "$0")/captured
+uses mar-33 'block 6 rewritten' 'vector block 5 used'
+uses mar-29 'block 4 rewritten' 'vector block 3 used' 'vector block 4 used'
+uses icscf-20-lir
+: >"$vectors"
+uses mar-33
+"$maketable" vectors "$examples/vectors.txt" >"$vectors"
+truncate -s -1 "$vectors"
+refused '6, vector block 8 is bad' 'a vector file cut short, whatever is asked' <"$examples/no-avps.hex"
+echo 01000014 4000012E 01000000 00000001 00000002 | refused 4 'an answer, and a vector file cut short'
 truncate -s -512 "$table"
 echo 01000014 4000012E 01000000 00000001 00000002 | refused 4 'an answer, and a table cut short'
-refused '5, block 0 is bad' 'a table cut short' <"$examples/no-avps.hex"
+refused '5, block 0 is bad' 'a table and a vector file cut short' <"$examples/no-avps.hex"
+"$maketable" table "$examples/households.txt" >"$table"
+mv "$vectors" "$room/moved"
+unread 'no vector file' <"$examples/no-avps.hex"
+mv "$room/moved" "$vectors"
 rm "$table"
 unread 'no table' <"$examples/no-avps.hex"
 

@@ -1,8 +1,8 @@
 #!/usr/bin/env python3
 """definitions.py REFERENCE SEED COUNT: do the definitions say what the independent program says?
 
-Takes calls that the independent program made and its outcomes of them, picks COUNT that show every refusal, every result
-and every assignment type, and writes them as a crate with one statement, which antt computes from the definitions alone.
+Takes calls that the independent program made and its outcomes of them, picks COUNT that show every refusal, every result,
+every assignment type and every step of an authentication, and writes them as a crate with one statement, which antt computes from the definitions alone.
 The crate stands in a folder outside the repository, beside copies of the crates that crates/worked stands on. What the
 cases open is read from crates/worked/proofs/Sample.antt, so that there is one list of it.
 """
@@ -13,26 +13,48 @@ import streams
 GENERATED = 40000  # of which the small ones are about a quarter
 IN_A_PART = 12
 # Longer ones take antt minutes and show nothing that short ones do not; a request that is refused 2 may be long.
-MOST_REQUEST, MOST_TABLE, MOST_PROFILE = 900, 4 * 512, 1200
+MOST_REQUEST, MOST_TABLE, MOST_PROFILE, MOST_VECTORS = 900, 4 * 512, 1200, 4 * 512
 
 BASE = '2001 3001 3007 3008 3009 5001 5003 5004 5005 5009 5011 5012 5014'
-EXPERIMENTAL = '2001 2002 2003 2004 5001 5002 5003 5004 5005 5007'
-WANTED = {'refused %d' % n for n in range(1, 6)} | {'B' + n for n in BASE.split()} | {'X' + n for n in EXPERIMENTAL.split()} | {
-    'type %d done' % n for n in range(12)}
+EXPERIMENTAL = '2001 2002 2003 2004 5001 5002 5003 5004 5005 5006 5007'
+# Of a MAR: its steps in their order, what becomes of the record, and the faults in reading that it alone has.
+STEPS = ['X5001', 'X5002', 'X5006', 'B5012 zero asked', 'B5012 none unused', 'B2001 as many as asked', 'B2001 as many as remain', 'B2001 two or more']
+STEPS += ['B2001 in state %d, %s' % (state, name) for state in range(3) for name in ('the name stored', 'the record as it was')]
+STEPS += ['B5005 %d' % code for code in (1, 601, 612, 607, 602)] + ['B5004 612', 'B5014 607']
+WANTED = {'refused %d' % n for n in range(1, 7)} | {'B' + n for n in BASE.split()} | {'X' + n for n in EXPERIMENTAL.split()} | {
+    'type %d done' % n for n in range(12)} | {'MAR ' + step for step in STEPS}
 
-Case = collections.namedtuple('Case', 'request table profile room word at changed answer')
+Case = collections.namedtuple('Case', 'request table profile vectors room word at changed vectorsAt vectorsChanged answer')
 
 
 def read(made, told):
     for case, outcome in zip(streams.cases(made), streams.outcomes(told)):
         held, changes = streams.slices(case), streams.changes(case, outcome)
-        yield Case(held['request'], held['table'], held['profile'], len(held['buffer']), outcome.word, *changes['table'],
-                   streams.answer(case, outcome))
+        yield Case(held['request'], held['table'], held['profile'], held['vectors'], len(held['buffer']), outcome.word, *changes['table'],
+                   *changes['vectors'], streams.answer(case, outcome))
 
 
 def small(case):
     long = len(case.request) > (20000 if case.word >> 48 == 2 else MOST_REQUEST)
-    return not long and len(case.table) <= MOST_TABLE and len(case.profile) <= MOST_PROFILE
+    return not long and len(case.table) <= MOST_TABLE and len(case.profile) <= MOST_PROFILE and len(case.vectors) <= MOST_VECTORS
+
+
+def asked(case):
+    """The AVPs of its request by kind."""
+    return dict(streams.avps(case.request[20:]))
+
+
+def steps(case, result, found):
+    """What a MAR shows."""
+    if result == 'B5012':
+        return {'B5012 ' + ('none unused' if any(asked(case)[607, 10415]) else 'zero asked')}
+    if result != 'B2001':
+        return {result, '%s %d' % (result, int.from_bytes(found.get((279, 0), b'')[:4], 'big'))}
+    number, sent = (int.from_bytes(avps[607, 10415], 'big') for avps in (asked(case), found))
+    kept = 'the record as it was' if case.changed == b'' else 'the name stored'
+    many = {'B2001 two or more'} if sent > 1 else set()
+    state = streams.state(case.table, found[601, 10415])
+    return many | {'B2001 as many as ' + ('asked' if sent == number else 'remain'), 'B2001 in state %d, %s' % (state, kept)}
 
 
 def shows(case):
@@ -46,9 +68,11 @@ def shows(case):
     shown = {result}
     if command == 301 and (result[0] == 'X' or result in ('B2001', 'B5012')):  # decided, so all AVPs are sound
         done = 'done' if result in ('B2001', 'X2004') else result
-        shown.add('type %d %s' % (dict(streams.avps(case.request[20:]))[614, 10415][3], done))
+        shown.add('type %d %s' % (asked(case)[614, 10415][3], done))
+    if command == 303:
+        shown |= {'MAR ' + step for step in steps(case, result, found)}
     missing = found[279, 0][:4] if result == 'B5005' else None
-    return shown, (frozenset(shown), min(command, 303), missing, frozenset(found), case.changed == b'')
+    return shown, (frozenset(shown), min(command, 304), missing, frozenset(found), case.changed == b'', case.vectorsChanged == b'')
 
 
 def pick(cases, count):
@@ -96,21 +120,25 @@ unfoldable pub opened : ℕ
 unfolding %s
 opened = 0
 
--- A call with a buffer of zeros: its word, what changed in the table and where, the answer.
+-- A call with a buffer of zeros: its word, what changed in table and vectors and where, the answer.
 pub record Case : Type 0 where
   pub request : List ℕ
   pub table : List ℕ
   pub profile : List ℕ
+  pub vectors : List ℕ
   pub room : ℕ
   pub word : ℕ
   pub at : ℕ
   pub changed : List ℕ
+  pub vectorsAt : ℕ
+  pub vectorsChanged : List ℕ
   pub answer : List ℕ
 
 abbrev pub Agrees : Case → Type 0
 Agrees c =
-    serve (lent (c .request) (c .table) (c .profile) (replicate (c .room) 0))
-    ≡ record { call = callIn (c .word); table = sets (c .table) (c .at) (c .changed); buffer = over (c .answer) (replicate (c .room) 0) }
+    serve (lent (c .request) (c .table) (c .profile) (c .vectors) (replicate (c .room) 0))
+    ≡ record { call = callIn (c .word); table = sets (c .table) (c .at) (c .changed);
+               vectors = sets (c .vectors) (c .vectorsAt) (c .vectorsChanged); buffer = over (c .answer) (replicate (c .room) 0) }
 
 abbrev pub Agree : List Case → Type 0
 Agree [] = Unit
@@ -186,7 +214,7 @@ def main():
     cases, missing, kinds = pick([case for case in read(made, told) if small(case)], count)
     print('definitions: seed %s, %d cases of %d kinds' % (seed, len(cases), kinds), flush=True)
     if count < len(WANTED):
-        print('too few to show every refusal, result and assignment type: a trial', flush=True)
+        print('too few to show every refusal, result, assignment type and step: a trial', flush=True)
     elif len(cases) < count or missing:
         sys.exit('definitions.py: this seed has %d cases, and none of: %s' % (len(cases), ', '.join(sorted(missing))))
     with tempfile.TemporaryDirectory() as folder:

@@ -45,7 +45,12 @@ static uint64_t check(const struct lent *lent)
 
 static uint64_t decide(const struct lent *lent)
 {
-    return ndushavire_decide(SLICE(0), SLICE(1), SLICE(2), SLICE(3));
+    return ndushavire_decide(SLICE(0), SLICE(1), SLICE(2), SLICE(3), SLICE(4));
+}
+
+static uint64_t check_vectors(const struct lent *lent)
+{
+    return ndushavire_check_vectors(SLICE(0));
 }
 
 /* The entries by their number in the streams, from 1 on: a letter for each slice, r if it is lent to be read and w if
@@ -56,7 +61,8 @@ static const struct entry {
     uint64_t (*call)(const struct lent *lent);
 } entries[] = {
     {"rr", 0, check},
-    {"rwrw", 0, decide},
+    {"rwrww", 0, decide},
+    {"r", 0, check_vectors},
 };
 
 struct bytes {

@@ -20,7 +20,8 @@ int main(void) {
           "NDUSHAVIRE_VERSION_NUMBER is not that of NDUSHAVIRE_VERSION");
     holds(NDUSHAVIRE_TABLE_MAX == NDUSHAVIRE_BLOCK * (NDUSHAVIRE_RECORDS_MAX + 1),
           "NDUSHAVIRE_TABLE_MAX is not the header and the most records");
-#if NDUSHAVIRE_VERSION_NUMBER < 100 || NDUSHAVIRE_TABLE_MAX < 2
+    holds(NDUSHAVIRE_VECTOR_FILE_MAX == NDUSHAVIRE_BLOCK * NDUSHAVIRE_VECTORS_MAX, "NDUSHAVIRE_VECTOR_FILE_MAX is not the most vectors");
+#if NDUSHAVIRE_VERSION_NUMBER < 200 || NDUSHAVIRE_TABLE_MAX < 2 || NDUSHAVIRE_VECTOR_FILE_MAX < 2 || NDUSHAVIRE_VECTORS_UNSOUND != 6
     holds(0, "a number is no number to the preprocessor");
 #endif
     const uint64_t word = (uint64_t)5 << 48 | (uint64_t)0xFFFF << 32 | 0x89ABCDEFu;

@@ -28,9 +28,9 @@ quiet() { make -s -C "$top" "$@"; }
 # What should be there under a prefix; of documents, pages and examples whatever the tree has.
 {
     printf '%s\n' "${programs[@]}" include/ndushavire.h lib/libndushavire.a lib/pkgconfig/ndushavire.pc \
-        share/man/man3/ndushavire_{check,decide}.3 share/doc/ndushavire/{README.md,installed}
+        share/man/man3/ndushavire_{check,check_vectors,decide}.3 share/doc/ndushavire/{README.md,installed}
     (cd "$top" && printf 'share/doc/ndushavire/%s\n' docs/*.md | sed 's|/docs/|/|')
-    (cd "$top" && printf 'share/doc/ndushavire/%s\n' examples/* examples/{icscf-20-lir,scscf-12-sar}.hex)
+    (cd "$top" && printf 'share/doc/ndushavire/%s\n' examples/* examples/{icscf-20-lir,scscf-12-sar,mar-33}.hex)
     (cd "$top" && printf '%s\n' man/* | sed 's|^man/\(.*\)\.\(.\)$|share/man/man\2/\1.\2|')
 } | sed '/^$/d' | sort >"$room/expected"
 for name in share/man/man1/{answer,tablecheck,ndushavire-check}.1 share/man/man3/ndushavire.3 share/doc/ndushavire/examples/store.h; do
@@ -136,23 +136,24 @@ built() { # PREFIX
 says() { # PROGRAM ARGUMENT..
     local said
     said=$("$@") || fail "$1 fails"
-    [ "$said" = 'sound, 9 records' ] || fail "$1 says '$said'"
+    [ "$said" = $'sound, 9 records\nvectors sound, 9 blocks' ] || fail "$1 says '$said'"
     tried=$((tried + 1))
 }
 built "$room/prefix"
 cd "$room/new"
 "$maketable" table households.txt >table
 "$maketable" profile households.txt >profile
-says ${RUN:+"$RUN"} ./check table profile
+"$maketable" vectors vectors.txt >vectors
+says ${RUN:+"$RUN"} ./check table profile vectors
 if [ ${#programs[@]} -gt 0 ]; then
     says "$room/prefix/bin/tablecheck"
-    says "$room/prefix/bin/ndushavire-check" table profile
+    says "$room/prefix/bin/ndushavire-check" table profile vectors
     refused=$(head -c 19 /dev/zero | "$room/prefix/bin/answer")
     [ "$refused" = 'refused 2' ] || fail "answer says '$refused' of 19 bytes"
 fi
 quiet install "PREFIX=$odd" DESTDIR=
 built "$odd"
-says ${RUN:+"$RUN"} ./check table profile
+says ${RUN:+"$RUN"} ./check table profile vectors
 uninstalled "$odd" "PREFIX=$odd" DESTDIR=
 
 # Where others have files too, or had the folder first, these stay.

@@ -6,24 +6,29 @@ set -euo pipefail
 reference=$1
 driver=("${@:2}")
 tried=0
+# A fault shows once in 1,600 pairs; a run has some 25 calls.
+declare -A count=([tables]=2000 [vectors]=2000 [calls]=2000 [demand3]=8000 [runs]=50)
 
 ends() { # STATUS KIND DRIVER..
     local status=0
-    "$reference" compare --kind "$2" --seed 1 --count 2000 -- "${@:3}" >/dev/null 2>&1 || status=$?
+    "$reference" compare --kind "$2" --seed 1 --count "${count[$2]}" -- "${@:3}" >/dev/null 2>&1 || status=$?
     [ "$status" = "$1" ] || { echo "noticed.sh: compare --kind $2 -- ${*:3} ends with status $status instead of $1" >&2; exit 1; }
     tried=$((tried + 1))
 }
 
-for kind in tables calls demand3; do
+for kind in tables vectors calls demand3 runs; do
     ends 0 "$kind" "$reference" outcomes
     ends 1 "$kind" true
 done
-for of in tables:EqualIdentitiesTaken tables:PrefixTaken calls:PendingStays calls:RestOfBufferCleared calls:BaseForUserUnknown \
-    demand3:MarkIgnored demand3:ReservedFlagsOfUnknownIgnored; do
+for of in tables:EqualIdentitiesTaken tables:PrefixTaken vectors:XresOf3Taken vectors:LastBadVectorTold calls:PendingStays calls:RestOfBufferCleared \
+    calls:BaseForUserUnknown calls:UsedSentAgain calls:VectorCheckWordStays demand3:MarkIgnored demand3:ReservedFlagsOfUnknownIgnored \
+    demand3:FaultyRequestUsesVector runs:UsedSentAgain runs:RewritingFreesVectors; do
     ends 1 "${of%:*}" "$reference" outcomes --fault "${of#*:}"
 done
-OVERSTEP=nowhere ends 0 tables "${driver[@]}"
-for which in before behind inside; do
-    OVERSTEP=$which ends 1 tables "${driver[@]}"
+for kind in tables vectors; do
+    OVERSTEP=nowhere ends 0 "$kind" "${driver[@]}"
+    for which in before behind inside; do
+        OVERSTEP=$which ends 1 "$kind" "${driver[@]}"
+    done
 done
 echo "noticed.sh: $tried comparisons, each ended as it should"

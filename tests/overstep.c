@@ -1,6 +1,6 @@
 /*
- * A library that oversteps: it stands between the driver and the table check, says what the check says, and alters a
- * byte that is not its to alter. OVERSTEP in the environment says which; the driver must tell of it.
+ * A library that oversteps: it stands between the driver and the two checks, says what each says, and alters a byte that
+ * is not its to alter, around or inside of the last slice. OVERSTEP in the environment says which; the driver must tell of it.
  */
 #include <stddef.h>
 #include <stdint.h>
@@ -10,18 +10,34 @@
 /* By these names the linker's option --wrap puts one function before another. */
 uint64_t __real_ndushavire_check(const uint8_t *table, size_t table_len, const uint8_t *profile, size_t profile_len);
 uint64_t __wrap_ndushavire_check(const uint8_t *table, size_t table_len, const uint8_t *profile, size_t profile_len);
+uint64_t __real_ndushavire_check_vectors(const uint8_t *vectors, size_t vectors_len);
+uint64_t __wrap_ndushavire_check_vectors(const uint8_t *vectors, size_t vectors_len);
 
-uint64_t __wrap_ndushavire_check(const uint8_t *table, size_t table_len, const uint8_t *profile, size_t profile_len)
+static void overstep(const uint8_t *slice, size_t length)
 {
-    uint64_t word = __real_ndushavire_check(table, table_len, profile, profile_len);
     const char *which = getenv("OVERSTEP");
-    uint8_t *at = (uint8_t *)profile;
+    uint8_t *at = (uint8_t *)slice;
 
     if (which != NULL && strcmp(which, "before") == 0)
         at[-1] ^= 1;
     if (which != NULL && strcmp(which, "behind") == 0)
-        at[profile_len] ^= 1;
-    if (which != NULL && strcmp(which, "inside") == 0 && profile_len > 0)
-        at[profile_len - 1] ^= 1;
+        at[length] ^= 1;
+    if (which != NULL && strcmp(which, "inside") == 0 && length > 0)
+        at[length - 1] ^= 1;
+}
+
+uint64_t __wrap_ndushavire_check(const uint8_t *table, size_t table_len, const uint8_t *profile, size_t profile_len)
+{
+    uint64_t word = __real_ndushavire_check(table, table_len, profile, profile_len);
+
+    overstep(profile, profile_len);
+    return word;
+}
+
+uint64_t __wrap_ndushavire_check_vectors(const uint8_t *vectors, size_t vectors_len)
+{
+    uint64_t word = __real_ndushavire_check_vectors(vectors, vectors_len);
+
+    overstep(vectors, vectors_len);
     return word;
 }

@@ -1,6 +1,7 @@
 #!/usr/bin/env bash
-# programs.sh ROOM MAKETABLE FOLDER RUN..: the programs answer and tablecheck of FOLDER, run by the words RUN, look at ./table and
-# ./profile alone, answer --help and --version, and refuse every other argument with a line on standard error.
+# programs.sh ROOM MAKETABLE FOLDER RUN..: the programs answer and tablecheck of FOLDER, run by the words RUN, look at ./table,
+# ./profile and, where it is there, ./vectors alone, answer --help and --version, and refuse every other argument with a line on
+# standard error. They write to no file.
 set -euo pipefail
 room=$1 maketable=$(realpath "$2") folder=$(realpath "$3")
 shift 3
@@ -54,4 +55,69 @@ for program in tablecheck answer; do
     "${run[@]}" "$folder/$program" --help 2>errors >/dev/full || fail "$program --help, nowhere to write: status $?"
     grep -q '^standard output: ' errors || fail "$program --help, nowhere to write: says '$(cat errors)'"
 done
+
+# In $said the answer to a request that real software sent, or what is said instead, in hex.
+answers() { # REQUEST
+    printf %b "$(sed '/^#/d; s/ //g; s/../\\x&/g' "$top/tests/captured/$1.hex" | tr -d '\n')" >request
+    "${run[@]}" "$folder/answer" <request >out 2>errors || fail "answer to $1: status $?"
+    said=$(od -An -v -tx1 out | tr -d ' \n')
+    tried=$((tried + 1))
+}
+result() { printf '0000010c4000000c%08x' "$1"; } # the Result-Code of this number
+told() { # EXPECTED
+    runs tablecheck
+    [ "$(cat out)" = "$1" ] && [ ! -s errors ] || fail "tablecheck says '$(cat out errors)' and should say '$1'"
+}
+refuses() { # REQUEST..
+    for request in "$@"; do
+        answers "$request"
+        [ "$(cat out)" = 'refused 6' ] && [ ! -s errors ] || fail "$request over a bad vector file: '$(cat out errors)'"
+    done
+}
+# Nothing but a message on standard error.
+fails() { # ABOUT
+    for request in mar-33 icscf-20-lir; do
+        answers "$request"
+        [ -z "$said" ] && [ -s errors ] || fail "$1: answer writes something, or does not say why not"
+    done
+}
+
+# Erin's server asks for one vector. Without a vector file there is none.
+answers mar-33
+[[ $said = *$(result 5012)* ]] || fail 'a MAR without vectors is not B5012'
+"$maketable" vectors "$top/examples/vectors.txt" >vectors
+blocks=$(($(stat -c %s vectors) / 512))
+told "sound, 9 records"$'\n'"vectors sound, $blocks blocks"
+cp table profile vectors other/
+answers mar-33
+first=$said
+[[ $first = *$(result 2001)* && $first = *00000264c0* ]] || fail 'a MAR with vectors is not B2001 with an item'
+# The file is not written to, so that the same vector is sent again: answer is no server.
+answers mar-33
+[ "$said" = "$first" ] || fail 'the same MAR again gets another answer'
+for file in table profile vectors; do cmp "$file" "other/$file" >&2 || fail "$file was written to"; done
+
+: >vectors
+told "sound, 9 records"$'\n'"vectors sound, 0 blocks"
+answers mar-33
+[[ $said = *$(result 5012)* ]] || fail 'a MAR with an empty vector file is not B5012'
+{ cat other/vectors; head -c 512 /dev/zero; } >vectors
+told "sound, 9 records"$'\n'"vector block $blocks is bad"
+refuses mar-33 icscf-20-lir scscf-12-sar icscf-02-uar
+head -c 700 other/vectors >vectors
+told "sound, 9 records"$'\n'"vector block 1 is bad"
+refuses mar-33 icscf-20-lir
+
+# At most 65,536 bytes, which are 128 blocks.
+head -c 512 other/vectors >one
+for ((n = 0; n < 128; n++)); do cat one; done >vectors
+answers icscf-20-lir
+[[ $said = *$(result 2001)* ]] || fail '128 vectors are not taken'
+cat one >>vectors
+fails '129 vectors'
+rm vectors
+mkdir vectors
+fails 'a folder for vectors'
+runs tablecheck
+[ -s errors ] && ! grep -q vectors out || fail "tablecheck, a folder for vectors: says '$(cat out errors)'"
 echo "programs.sh: $tried runs, each as it should be"

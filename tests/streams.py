@@ -2,7 +2,7 @@
 import collections, struct, subprocess
 
 # The slices that each entry takes, with a star behind those that it may write to.
-ENTRIES = {1: 'table profile'.split(), 2: 'request table* profile buffer*'.split()}
+ENTRIES = {1: 'table profile'.split(), 2: 'request table* profile vectors* buffer*'.split(), 3: ['vectors']}
 WRITTEN, NOISY = 1 << 31, 1 << 30  # beside a slice's length
 # What a slice of noise holds before the call, from any of its first 256 bytes on.
 NOISE = bytes(((n * 2654435761) & 0xFFFFFFFF) >> 24 for n in range(256 + 65536))
@@ -79,6 +79,12 @@ def answer(case, outcome):
     said = bytearray(NOISE[case.fill:case.fill + (0 if outcome.word >> 48 else outcome.word)])
     said[first:first + len(written)] = written
     return bytes(said)
+
+
+def state(table, public):
+    """The state of a public identity's record."""
+    blocks = (table[at:at + 512] for at in range(512, len(table), 512))
+    return next((b[8] for b in blocks if b[16:16 + b[13]] == public), None)
 
 
 def avps(body):

@@ -11,6 +11,7 @@ rm -rf "$room"
 mkdir -p "$room"
 text=$room/text table=$room/table profile=$room/profile
 tried=0
+. "$(dirname "$0")/blocks.sh"
 
 fail() {
     echo "tables.sh: $*" >&2
@@ -117,30 +118,18 @@ whole=$room/whole whole_profile=$room/whole-profile
 make_both "$(dirname "$0")/../examples/households.txt" "$whole" "$whole_profile"
 blocks=$(($(stat -c %s "$whole") / 512))
 fresh() { cp "$whole" "$table" && cp "$whole_profile" "$profile"; }
-set_byte() { printf %b "\\x$(printf %02x "$2")" | dd of="$table" bs=1 seek="$1" conv=notrunc status=none; } # PLACE BYTE
-get_byte() { od -An -tu1 -j "$1" -N 1 "$table" | tr -d ' '; }
-flip() { set_byte "$1" $(($(get_byte "$1") ^ $2)); } # PLACE BITS
-copy_block() { dd if="$whole" of="$table" bs=512 skip="$1" seek="$2" count=1 conv=notrunc status=none; } # FROM TO
-
-# Gives a block the check word that it should have, so that only another rule can find it bad.
-mend() { # BLOCK
-    local word sum=0 place
-    for word in $(od -An -v -tu4 --endian=big -j $((512 * $1)) -N 508 "$table"); do sum=$((sum + word)); done
-    for place in 0 1 2 3; do set_byte $((512 * $1 + 508 + place)) $((-sum >> (24 - 8 * place) & 255)); done
-}
-
 fresh
 says "sound, $((blocks - 1)) records" 'the sample'
 for block in $(seq 0 $((blocks - 1))); do
     for place in 0 1 3 7 8 15 16 400 507 511; do
         fresh
-        flip $((512 * block + place)) 1
+        flip "$table" $((512 * block + place)) 1
         says "block $block is bad" "a bit of byte $place of block $block changed"
     done
     for place in 0 1 3 7 450; do # kind, edition, unused, block number, unused
         fresh
-        flip $((512 * block + place)) 1
-        mend "$block"
+        flip "$table" $((512 * block + place)) 1
+        mend "$table" "$block"
         says "block $block is bad" "a bit of byte $place of block $block changed, and its check word mended"
     done
     fresh
@@ -148,23 +137,23 @@ for block in $(seq 0 $((blocks - 1))); do
     says "block $block is bad" "block $block all zero"
     [ "$block" -ge 1 ] || continue
     fresh
-    flip $((512 * block + 9)) 2
-    mend "$block"
+    flip "$table" $((512 * block + 9)) 2
+    mend "$table" "$block"
     says "sound, $((blocks - 1)) records" "block $block barred or no longer, and its check word mended"
     [ "$block" -ge 2 ] || continue
     fresh
-    copy_block "$block" $((block - 1))
-    copy_block $((block - 1)) "$block"
+    copy_block "$whole" "$table" "$block" $((block - 1))
+    copy_block "$whole" "$table" $((block - 1)) "$block"
     says "block $((block - 1)) is bad" "blocks $((block - 1)) and $block changed over"
     for number in $((block - 1)) "$block"; do
-        set_byte $((512 * number + 7)) "$number"
-        mend "$number"
+        set_byte "$table" $((512 * number + 7)) "$number"
+        mend "$table" "$number"
     done
     says "block $block is bad" "the records of blocks $((block - 1)) and $block changed over: their order"
     fresh
-    copy_block $((block - 1)) "$block"
-    set_byte $((512 * block + 7)) "$block"
-    mend "$block"
+    copy_block "$whole" "$table" $((block - 1)) "$block"
+    set_byte "$table" $((512 * block + 7)) "$block"
+    mend "$table" "$block"
     says "block $block is bad" "the record of block $((block - 1)) twice"
 done
 for length in 0 1 511 512 $((512 * (blocks - 1))) $((512 * blocks - 1)); do
@@ -200,7 +189,7 @@ for check in "${checks[@]}"; do
     ends 2 "${run[@]}" "$check" "$room" "$profile"
     ends 2 "${run[@]}" "$check"
     ends 2 "${run[@]}" "$check" "$table"
-    ends 2 "${run[@]}" "$check" "$table" "$profile" "$profile"
+    ends 2 "${run[@]}" "$check" "$table" "$profile" /dev/null /dev/null
     ends 2 "${run[@]}" "$check" --version "$profile"
     ends 2 bash -c '"$@" >/dev/full' - "${run[@]}" "$check" "$table" "$profile"
     ends 2 bash -c '"$@" >&-' - "${run[@]}" "$check" "$table" "$profile"

@@ -1,9 +1,9 @@
-/* texts ROOM MAKETABLE SHOWTABLE SEED COUNT: from tables to texts and back, over random sound tables in ROOM. Of each
- *   - the text that showtable writes makes the same table and profile file again, byte for byte;
- *   - the same table in another text (words and records in any order, comments, blanks, quotes, escapes) makes them too,
- *     and is shown as the first text again;
- *   - a damaged copy is refused, with a status and nothing written, or makes itself again: maketable makes no unsound table,
- *     so whatever showtable wrongly takes shows here.
+/* texts ROOM MAKETABLE SHOWTABLE SEED COUNT: from tables and vector files to texts and back, over random sound ones in ROOM. Of each
+ *   - the text that showtable writes makes the same table and profile file, or vector file, again, byte for byte;
+ *   - the same in another text (words and records in any order, comments, blanks, quotes, escapes) makes them too, and is shown as
+ *     the first text again;
+ *   - a damaged copy is refused, with a status and nothing written, or makes itself again: maketable makes no unsound file, so
+ *     whatever showtable wrongly takes shows here.
  * Exit status: 0 all as it should be, 1 not so, 2 wrong use or no means. The tables that failed stay in ROOM. */
 #define _XOPEN_SOURCE 700
 #include <fcntl.h>
@@ -14,7 +14,7 @@
 
 #include "../examples/load.h"
 
-enum { BLOCK = 512, RECORDS = 4096, PART = 4096, DAMAGES = 2 };
+enum { BLOCK = 512, RECORDS = 4096, PART = 4096, VECTORS = 4096, DAMAGES = 2 };
 
 typedef struct {
     uint8_t *bytes;
@@ -167,7 +167,29 @@ static Bytes put_table(Bytes *profile) {
     return made;
 }
 
-/* ---- the same table in another text */
+/* ---- a random sound vector file, in which no vector stands twice */
+
+static void put_vector(uint8_t *block, uint32_t k) {
+    block[0] = 3;
+    block[1] = (uint8_t)below(2);
+    block[2] = (uint8_t)(4 + below(13));
+    block[3] = put_name(block + 4, 1, one_in(2) ? 3 : 128);
+    put_bytes(block + 132, 32);
+    put32(block + 132 + 4 * below(8), k);
+    put_bytes(block + 164, block[2]);
+    put_bytes(block + 180, 32);
+    seal(block);
+}
+
+static Bytes put_vectors(void) {
+    const size_t many = one_in(300) ? VECTORS : one_in(20) ? below(300) : below(12);
+    const Bytes made = {(uint8_t *)calloc(many + 1, BLOCK), BLOCK * many};
+    if (made.bytes == NULL) stop("no memory");
+    for (size_t k = 0; k < many; k++) put_vector(made.bytes + BLOCK * k, (uint32_t)k);
+    return made;
+}
+
+/* ---- the same in another text */
 
 static void loose_gap(FILE *to) { fputs(one_in(6) ? " # a comment \"\n" : one_in(3) ? "\n\t" : one_in(3) ? " \r  " : " ", to); }
 
@@ -243,6 +265,38 @@ static void loose_text(const char *path, Bytes table, Bytes profile) {
     if (fclose(to) != 0) stop(path);
 }
 
+static void loose_digits(FILE *to, const char *key, const uint8_t *bytes, size_t length) {
+    const int quoted = one_in(3);
+    fprintf(to, quoted ? "%s=\"" : "%s=", key);
+    for (size_t i = 0; i < length; i++) fprintf(to, one_in(2) ? "%02x" : "%02X", bytes[i]);
+    if (quoted) fputc('"', to);
+    loose_gap(to);
+}
+
+static void loose_vector(FILE *to, const uint8_t *vector) {
+    const uint32_t first = below(7);
+    for (uint32_t i = 0; i < 7; i++) switch ((first + i) % 7) {
+        case 0: loose_value(to, "private", vector + 4, vector[3]); break;
+        case 1: loose_digits(to, "rand", vector + 132, 16); break;
+        case 2: loose_digits(to, "autn", vector + 148, 16); break;
+        case 3: loose_digits(to, "xres", vector + 164, vector[2]); break;
+        case 4: loose_digits(to, "confidentiality", vector + 180, 16); break;
+        case 5: loose_digits(to, "integrity", vector + 196, 16); break;
+        default: fputs(vector[1] ? "used " : "", to);
+        }
+}
+
+/* Of vectors the order is the file's. */
+static void loose_vectors(const char *path, Bytes vectors) {
+    FILE *to = fopen(path, "wb");
+    if (to == NULL) stop(path);
+    for (size_t at = 0; at < vectors.length; at += BLOCK) {
+        fputs(at > 0 ? "\n\n" : one_in(2) ? "\n# a text\n\n" : "", to);
+        loose_vector(to, vectors.bytes + at);
+    }
+    if (fclose(to) != 0) stop(path);
+}
+
 /* ---- running the two programs */
 
 static void write_file(const char *path, Bytes b) {
@@ -284,6 +338,10 @@ static void makes(const char *text, Bytes table, Bytes profile, const char *what
     if (!holds("made-table", table) || !holds("made-profile", profile)) fail(what);
 }
 
+static void makes_vectors(const char *text, Bytes vectors, const char *what) {
+    if (run(maketable, "vectors", text, "made-vectors") != 0 || !is_empty("errors") || !holds("made-vectors", vectors)) fail(what);
+}
+
 static void shows(const char *text, const char *what) {
     if (run(showtable, "table", "profile", text) != 0 || !is_empty("errors")) fail(what);
 }
@@ -314,11 +372,16 @@ static void damage(Bytes table) {
     if (!one_in(4)) seal(block);
 }
 
+static Bytes copy_of(Bytes b) {
+    const Bytes copy = {(uint8_t *)malloc(b.length + 1), b.length};
+    if (copy.bytes == NULL) stop("no memory");
+    memcpy(copy.bytes, b.bytes, b.length);
+    return copy;
+}
+
 /* Whether a damaged copy was refused. */
 static int damaged(Bytes table, Bytes profile) {
-    const Bytes copy = {(uint8_t *)malloc(table.length), table.length};
-    if (copy.bytes == NULL) stop("no memory");
-    memcpy(copy.bytes, table.bytes, table.length);
+    const Bytes copy = copy_of(table);
     damage(copy);
     write_file("table", copy);
     const int status = run(showtable, "table", "profile", "text");
@@ -327,6 +390,45 @@ static int damaged(Bytes table, Bytes profile) {
     if (status == 1 && (!is_empty("text") || is_empty("errors"))) fail("a damaged table: something was written, or nothing said");
     free(copy.bytes);
     return status;
+}
+
+/* Damages a block of a vector file, or cuts it; mends the check word more often than not. */
+static void damage_vectors(Bytes *vectors) {
+    static const uint8_t places[] = {0, 1, 2, 3, 4, 131, 132, 163, 164, 179, 180, 211, 212};
+    uint8_t *block = vectors->bytes + BLOCK * below((uint32_t)(vectors->length / BLOCK));
+    uint8_t *at = block + (one_in(3) ? below(BLOCK) : places[below(sizeof places)]);
+    if (one_in(10)) vectors->length -= 1 + below(BLOCK - 1);
+    *at = (uint8_t)(one_in(2) ? *at ^ 1u << below(8) : one_in(2) ? 0 : below(256));
+    if (!one_in(4)) seal(block);
+}
+
+static int damaged_vectors(Bytes vectors) {
+    if (vectors.length == 0) return 0;
+    Bytes copy = copy_of(vectors);
+    damage_vectors(&copy);
+    write_file("vectors", copy);
+    const int status = run(showtable, "--vectors", "vectors", "text");
+    if (status != 0 && status != 1) fail("a damaged vector file: another status than 0 and 1");
+    if (status == 0) makes_vectors("text", copy, "a damaged vector file was shown and is not made again");
+    if (status == 1 && (!is_empty("text") || is_empty("errors"))) fail("a damaged vector file: something was written, or nothing said");
+    free(copy.bytes);
+    return status;
+}
+
+/* Shown and made again from that text and from another; gives how many damaged copies were refused. */
+static unsigned long there_and_back(Bytes vectors) {
+    unsigned long refused = 0;
+    Bytes text;
+    write_file("vectors", vectors);
+    if (run(showtable, "--vectors", "vectors", "text") != 0 || !is_empty("errors")) fail("a sound vector file is not shown");
+    makes_vectors("text", vectors, "what showtable wrote makes another vector file");
+    loose_vectors("loose", vectors);
+    makes_vectors("loose", vectors, "another text of the vector file makes another one");
+    text.bytes = load("text", &text.length);
+    if (run(showtable, "--vectors", "made-vectors", "again") != 0 || !holds("again", text)) fail("the made vector file is shown otherwise");
+    free(text.bytes);
+    for (int i = 0; i < DAMAGES; i++) refused += (unsigned long)damaged_vectors(vectors);
+    return refused;
 }
 
 static const char *absolute(const char *path) {
@@ -344,7 +446,7 @@ int main(int argc, char **argv) {
     showtable = absolute(argv[3]);
     if (chdir(argv[1]) != 0) stop(argv[1]);
     const unsigned long seed = strtoul(argv[4], NULL, 10), count = strtoul(argv[5], NULL, 10);
-    unsigned long refused = 0, records = 0;
+    unsigned long refused = 0, records = 0, refused_vectors = 0, blocks = 0;
     for (number = 0; number < count; number++) {
         chance = (seed + number + 1) * 0x9E3779B97F4A7C15u | 1;
         for (int i = 0; i < 8; i++) below(2);
@@ -363,9 +465,15 @@ int main(int argc, char **argv) {
         for (int i = 0; i < DAMAGES; i++) refused += (unsigned long)damaged(table, profile);
         free(table.bytes);
         free(profile.bytes);
+        const Bytes vectors = put_vectors();
+        blocks += vectors.length / BLOCK;
+        refused_vectors += there_and_back(vectors);
+        free(vectors.bytes);
     }
     if (count > 100 && (refused == 0 || refused == DAMAGES * count)) fail("no damaged table was refused, or each");
+    if (count > 100 && (refused_vectors == 0 || refused_vectors == DAMAGES * count)) fail("no damaged vector file was refused, or each");
     printf("texts: %lu tables of %lu records to text and back, byte for byte; %lu of %lu damaged ones refused (seed %lu)\n", count,
            records, refused, DAMAGES * count, seed);
+    printf("texts: as many vector files of %lu blocks, likewise; %lu damaged ones refused\n", blocks, refused_vectors);
     return 0;
 }

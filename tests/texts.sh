@@ -1,6 +1,6 @@
 #!/usr/bin/env bash
 # texts.sh ROOM MAKETABLE SHOWTABLE TEXTS SEED COUNT: from a table to text and back. The sample first, a household put into it
-# and one taken out with nothing else changed; profile files of every shape; what is refused; then TEXTS over COUNT random tables.
+# and one taken out with nothing else changed; profile files of every shape; what is refused; then TEXTS over COUNT random tables and vector files.
 set -euo pipefail
 shopt -s lastpipe
 room=$1 maketable=$2 showtable=$3 texts=$4 seed=$5 count=$6

@@ -1,6 +1,6 @@
 #!/usr/bin/env bash
-# worked-table.sh ROOM MAKETABLE SHOWTABLE: the worked table of docs/TABLE.md. Its text makes the blocks that stand there, byte for byte,
-# showtable writes that text again, and the sum that the page works out is right.
+# worked-table.sh ROOM MAKETABLE SHOWTABLE: the worked table and vector of docs/TABLE.md. Their texts make the blocks that stand there, byte
+# for byte, showtable writes these texts again, the sum that the page works out is right, and the sample's vectors are counted as it says.
 set -euo pipefail
 room=$1 maketable=$2 showtable=$3
 page=$(dirname "$0")/../docs/TABLE.md
@@ -13,11 +13,15 @@ fail() {
 }
 sed -n '/^## A worked table/,/^## As text/p' "$page" >"$room/section"
 sed -n '/^    host=/,/^    profile=/s/^    //p; /^$/p' "$room/section" | sed -n '/^host=/,/^profile=/p' >"$room/text"
-sed -n 's/^    \([0-9]\{4\}\( [0-9a-f]\{2\}\)\{16\}\) .*/\1/p' "$room/section" >"$room/blocks"
+blocks_in() { sed -n 's/^    \([0-9]\{4\}\( [0-9a-f]\{2\}\)\{16\}\) .*/\1/p'; }
+sed '/^A vector/,$d' "$room/section" | blocks_in >"$room/blocks"
+sed -n '/^A vector/,$p' "$room/section" >"$room/vector-section"
+blocks_in <"$room/vector-section" >"$room/vector-blocks"
+sed -n '/^    private=/,/^$/s/^    //p' "$room/vector-section" >"$room/vector-text"
 "$maketable" table "$room/text" >"$room/table"
 "$maketable" profile "$room/text" >"$room/profile"
-od -A d -v -t x1 -w16 "$room/table" | sed -n 's/^0*\([0-9]\{4\} .*\)/\1/p' | grep -v -E '^[0-9]{4}( 00){16}$' >"$room/made"
-diff "$room/blocks" "$room/made" >&2 || fail 'the blocks on the page are not those of its text'
+shown() { od -A d -v -t x1 -w16 "$1" | sed -n 's/^0*\([0-9]\{4\} .*\)/\1/p' | grep -v -E '^[0-9]{4}( 00){16}$'; }
+shown "$room/table" | diff "$room/blocks" - >&2 || fail 'the blocks on the page are not those of its text'
 [ "$(stat -c %s "$room/table")" = 1024 ] || fail 'the table has another length'
 "$showtable" "$room/table" "$room/profile" | diff "$room/text" - >&2 || fail 'the text is shown otherwise'
 
@@ -26,4 +30,15 @@ for word in $(od -A n -v -t u4 --endian=big -j 512 -N 508 "$room/table"); do sum
 sum=$(printf %08x $((sum & 0xffffffff)))
 check=$(od -A n -t x4 --endian=big -j 1020 "$room/table" | tr -d ' ')
 grep -q -x -F "The record's first 127 words sum to $sum, and $sum + $check = 2^32." "$room/section" || fail "the page does not say that $sum is the sum"
-echo "worked-table.sh: the worked table of TABLE.md, $(wc -l <"$room/blocks") lines of it, is what maketable makes"
+"$maketable" vectors "$room/vector-text" >"$room/vectors"
+shown "$room/vectors" | diff "$room/vector-blocks" - >&2 || fail 'the vector on the page is not that of its text'
+[ "$(stat -c %s "$room/vectors")" = 512 ] || fail 'the vector file has another length'
+"$showtable" --vectors "$room/vectors" | diff "$room/vector-text" - >&2 || fail 'the text of the vector is shown otherwise'
+
+examples=$(dirname "$0")/../examples
+"$maketable" table "$examples/households.txt" >"$room/table"
+"$maketable" profile "$examples/households.txt" >"$room/profile"
+"$maketable" vectors "$examples/vectors.txt" >"$room/vectors"
+sed -n '/^    \$ showtable --unused/,/^$/s/^    \([0-9]\)/\1/p' "$page" >"$room/counted"
+"$showtable" --unused "$room/table" "$room/profile" "$room/vectors" | diff "$room/counted" - >&2 || fail 'what is unused of the sample is counted otherwise'
+echo "worked-table.sh: the worked table and vector of TABLE.md, $(cat "$room/blocks" "$room/vector-blocks" | wc -l) lines of them, are what maketable makes"

@@ -16,6 +16,8 @@ pub fn word(entry: Entry, outcome: &Outcome) -> String {
     match (entry, number) {
         (Entry::Check, 0) => format!("sound, {value} records{place}"),
         (Entry::Check, 5) => format!("block {value} is bad{place}"),
+        (Entry::CheckVectors, 0) => format!("sound, {value} vectors{place}"),
+        (Entry::CheckVectors, 6) => format!("vector block {value} is bad{place}"),
         (Entry::Decide, 0) => format!("answered with {value} bytes{place}"),
         (_, number) => format!("refused {number}, value {value}{place}"),
     }
@@ -23,8 +25,13 @@ pub fn word(entry: Entry, outcome: &Outcome) -> String {
 
 /// How to make a case again, and what it is.
 pub fn case(stream: Stream, seed: u64, number: u64, made: &Made) {
-    let case = &made.case;
     println!("case {number} of seed {seed} (gen --kind {} --seed {seed} --from {number} --count 1)", stream.name());
+    slices(made);
+}
+
+/// What the case was made by, and what it lends.
+pub fn slices(made: &Made) {
+    let case = &made.case;
     println!("  made by: {}", made.notes.join(", "));
     for (lent, held) in case.entry.lent().iter().zip(&case.slices) {
         println!("  {} of {} bytes", lent.slice().name(), held.length());
@@ -41,9 +48,13 @@ pub fn case(stream: Stream, seed: u64, number: u64, made: &Made) {
 pub fn difference(stream: Stream, seed: u64, number: u64, made: &Made, own: &Outcome, given: &Outcome) {
     println!("a difference");
     case(stream, seed, number, made);
-    println!("  this program: {}", word(made.case.entry, own));
-    println!("  the driver:   {}", word(made.case.entry, given));
-    let case = &made.case;
+    outcomes(&made.case, own, given);
+}
+
+/// Two outcomes of a case, and where they differ.
+pub fn outcomes(case: &Case, own: &Outcome, given: &Outcome) {
+    println!("  this program: {}", word(case.entry, own));
+    println!("  the driver:   {}", word(case.entry, given));
     for (place, lent) in case.entry.lent().iter().enumerate() {
         let (slice, (around, itself)) = (lent.slice(), altered_bits(place));
         if given.altered & around != 0 {
@@ -76,7 +87,11 @@ fn changed(name: &str, before: &[u8], own: &Change, given: &Change) {
             return;
         }
     };
-    let place = if name == "table" { format!(" (block {}, byte {})", at / BLOCK, at % BLOCK) } else { String::new() };
+    let place = if ["table", "vectors"].contains(&name) {
+        format!(" (block {}, byte {})", at / BLOCK, at % BLOCK)
+    } else {
+        String::new()
+    };
     println!(
         "  {name}: at byte {at}{place} this program has {:02x}, the driver {:02x}, before the call {:02x}",
         ours[at], theirs[at], before[at]

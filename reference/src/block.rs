@@ -27,3 +27,7 @@ pub fn mend(block: &mut [u8]) {
 pub fn name(block: &[u8], length_at: usize, at: usize) -> &[u8] {
     &block[at..][..block[length_at] as usize]
 }
+
+pub fn zero(bytes: &[u8]) -> bool {
+    bytes.iter().fold(0, |all, byte| all | byte) == 0
+}

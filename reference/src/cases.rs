@@ -3,10 +3,11 @@
 use std::borrow::Cow;
 
 use self::Lent::{Read, Written};
-use self::Slice::{Buffer, Profile, Request, Table};
+use self::Slice::{Buffer, Profile, Request, Table, Vectors};
 use crate::serve;
 use crate::slip::Slip;
 use crate::table;
+use crate::vectors;
 use crate::verdict::Why;
 
 /// An entry, under its number in the streams.
@@ -14,6 +15,7 @@ use crate::verdict::Why;
 pub enum Entry {
     Check = 1,
     Decide = 2,
+    CheckVectors = 3,
 }
 
 #[derive(Clone, Copy, PartialEq, Eq, Debug)]
@@ -21,6 +23,7 @@ pub enum Slice {
     Request,
     Table,
     Profile,
+    Vectors,
     Buffer,
 }
 
@@ -32,9 +35,10 @@ pub enum Lent {
 }
 
 /// Each entry, the slices that it takes, and how many numbers come behind them.
-const ENTRIES: [(Entry, &[Lent], usize); 2] = [
+const ENTRIES: [(Entry, &[Lent], usize); 3] = [
     (Entry::Check, &[Read(Table), Read(Profile)], 0),
-    (Entry::Decide, &[Read(Request), Written(Table), Read(Profile), Written(Buffer)], 0),
+    (Entry::Decide, &[Read(Request), Written(Table), Read(Profile), Written(Vectors), Written(Buffer)], 0),
+    (Entry::CheckVectors, &[Read(Vectors)], 0),
 ];
 
 /// What a slice holds before the call.
@@ -125,9 +129,9 @@ impl Entry {
         outcome.changes.get(place)
     }
 
-    /// Whether an outcome says that the table was rewritten.
-    pub fn rewrote(self, outcome: &Outcome) -> bool {
-        self.change(outcome, Table).map_or(false, |change| !change.bytes.is_empty())
+    /// Whether an outcome says that a slice was changed.
+    pub fn changed(self, outcome: &Outcome, slice: Slice) -> bool {
+        self.change(outcome, slice).map_or(false, |change| !change.bytes.is_empty())
     }
 }
 
@@ -184,9 +188,21 @@ impl Case {
         Case { entry: Entry::Check, fill, slices: vec![Held::Bytes(table), Held::Bytes(profile)], numbers: vec![] }
     }
 
-    pub fn decide(fill: u8, request: Vec<u8>, table: Vec<u8>, profile: Vec<u8>, buffer: usize) -> Case {
-        let slices = vec![Held::Bytes(request), Held::Bytes(table), Held::Bytes(profile), Held::Noise(buffer)];
+    pub fn decide(
+        fill: u8,
+        request: Vec<u8>,
+        table: Vec<u8>,
+        profile: Vec<u8>,
+        vectors: Vec<u8>,
+        buffer: usize,
+    ) -> Case {
+        let mut slices: Vec<Held> = [request, table, profile, vectors].into_iter().map(Held::Bytes).collect();
+        slices.push(Held::Noise(buffer));
         Case { entry: Entry::Decide, fill, slices, numbers: vec![] }
+    }
+
+    pub fn check_vectors(fill: u8, vectors: Vec<u8>) -> Case {
+        Case { entry: Entry::CheckVectors, fill, slices: vec![Held::Bytes(vectors)], numbers: vec![] }
     }
 
     fn place(&self, slice: Slice) -> Option<usize> {
@@ -198,12 +214,11 @@ impl Case {
         self.place(slice).map_or(Cow::Borrowed(&[]), |place| self.slices[place].bytes(self.fill))
     }
 
-    /// The same case with other bytes in a slice.
-    pub fn with(mut self, slice: Slice, bytes: Vec<u8>) -> Case {
+    /// Puts other bytes into a slice.
+    pub fn put(&mut self, slice: Slice, bytes: Vec<u8>) {
         if let Some(place) = self.place(slice) {
             self.slices[place] = Held::Bytes(bytes);
         }
-        self
     }
 
     /// The bytes of a slice after the call, if the outcome's change lies within it.
@@ -225,10 +240,14 @@ impl Case {
         let (word, why) = match (self.entry, &mut lent[..]) {
             (Entry::Check, [table, profile]) => {
                 let found = table::check_with(table, profile.len(), slip);
-                (serve::check_word(found), Why::Checked(found))
+                (serve::check_word(5, found), Why::Checked(found))
             }
-            (Entry::Decide, [request, table, profile, buffer]) => {
-                serve::serve(request, table.to_mut(), profile, buffer.to_mut(), slip)
+            (Entry::Decide, [request, table, profile, vectors, buffer]) => {
+                serve::serve(request, table.to_mut(), profile, vectors.to_mut(), buffer.to_mut(), slip)
+            }
+            (Entry::CheckVectors, [vectors]) => {
+                let found = vectors::check_with(vectors, slip);
+                (serve::check_word(6, found), Why::CheckedVectors(found))
             }
             _ => unreachable!("a case has the slices that its entry takes"),
         };

@@ -97,32 +97,34 @@ struct Figures {
     cases: u64,
     done: u64,
     rewritten: u64,
+    marked: u64,
     /// By the refusal's number.
     refused: BTreeMap<u64, u64>,
-    table_bytes: u64,
+    file_bytes: u64,
 }
 
 impl Figures {
     fn count(&mut self, expected: &Expected) {
         self.cases += 1;
-        self.table_bytes += expected.table as u64;
+        self.file_bytes += expected.files as u64;
         match expected.outcome.parts().0 {
             0 => self.done += 1,
             number => *self.refused.entry(number).or_insert(0) += 1,
         }
-        if expected.entry.rewrote(&expected.outcome) {
-            self.rewritten += 1;
-        }
+        self.rewritten += expected.entry.changed(&expected.outcome, Slice::Table) as u64;
+        self.marked += expected.entry.changed(&expected.outcome, Slice::Vectors) as u64;
     }
 
     fn print(&self, began: Instant) {
         println!(
-            "{} cases agree: {} sound or answered ({} with a table rewritten), refused {:?}; {} MiB of tables; {:.1} s",
+            "{} cases agree: {} sound or answered ({} with a table rewritten, {} with vectors sent), refused {:?}; \
+             {} MiB of files; {:.1} s",
             self.cases,
             self.done,
             self.rewritten,
+            self.marked,
             self.refused,
-            self.table_bytes >> 20,
+            self.file_bytes >> 20,
             began.elapsed().as_secs_f64()
         );
     }
@@ -161,18 +163,18 @@ pub fn compare(stream: Stream, seed: u64, numbers: Range<u64>, command: &[String
     Ok(true)
 }
 
-/// What is kept of each case: its entry, its table's length and this program's outcome.
+/// What is kept of each case: its entry, the length of table and vector file, and this program's outcome.
 struct Expected {
     entry: Entry,
-    table: usize,
+    files: usize,
     outcome: Outcome,
 }
 
 fn start(stream: Stream, seed: u64, numbers: Range<u64>, command: &[String]) -> io::Result<Fed<Expected>> {
     Fed::start(command, numbers, move |number| {
         let case = gen::make(stream, seed, number).case;
-        let (entry, table) = (case.entry, case.held(Slice::Table).len());
-        let expected = Expected { entry, table, outcome: case.outcome(Slip::NONE) };
+        let files = case.held(Slice::Table).len() + case.held(Slice::Vectors).len();
+        let expected = Expected { entry: case.entry, files, outcome: case.outcome(Slip::NONE) };
         (vec![case], expected)
     })
 }

@@ -14,8 +14,8 @@ use crate::gen::{self, Stream};
 use crate::kinds::Kind;
 use crate::message::{padded, sound_avps, Message, HEADER, M};
 use crate::read::{read_header, walk};
+use crate::refuse::MOST_REQUEST;
 use crate::rng::Rng;
-use crate::serve::MOST_REQUEST;
 use crate::slip::Slip;
 use crate::table::Table;
 use crate::verdict::{Failed, Finding, Verdict, Why};
@@ -23,11 +23,11 @@ use crate::verdict::{Failed, Finding, Verdict, Why};
 /// How the second of two outcomes relates to the first.
 #[derive(Clone, PartialEq, Debug)]
 enum Relation {
-    /// None is marked: word, table and buffer are the same.
+    /// None is marked: word, table, vectors and buffer are the same.
     Unmarked,
     /// A fault before the first marked one: the answer given without them.
     FaultBefore,
-    /// The table as it was, and this answer.
+    /// Table and vectors as they were, and this answer.
     Marked(Vec<u8>),
 }
 
@@ -51,7 +51,8 @@ pub fn compare(seed: u64, numbers: Range<u64>, command: &[String]) -> io::Result
         let pair = pair(seed, number);
         (vec![pair.without, pair.with], pair.relation)
     })?;
-    let (mut unmarked, mut before, mut marked, mut rewritten) = (0u64, 0u64, 0u64, 0u64);
+    let (mut unmarked, mut before, mut marked) = (0u64, 0u64, 0u64);
+    let (mut rewritten, mut sent) = (0u64, 0u64);
     let count = numbers.end - numbers.start;
     for number in numbers {
         let relation = match fed.told.recv() {
@@ -77,14 +78,15 @@ pub fn compare(seed: u64, numbers: Range<u64>, command: &[String]) -> io::Result
             Relation::FaultBefore => before += 1,
             Relation::Marked(_) => marked += 1,
         }
-        rewritten += Entry::Decide.rewrote(&without) as u64;
+        rewritten += Entry::Decide.changed(&without, Slice::Table) as u64;
+        sent += Entry::Decide.changed(&without, Slice::Vectors) as u64;
     }
     if !fed.end()? || unmarked + before + marked != count {
         return Ok(false);
     }
     println!(
         "{count} pairs relate: {unmarked} unmarked, {marked} marked, {before} marked with a fault before; \
-         {rewritten} with a table rewritten; {:.1} s",
+         {rewritten} with a table rewritten, {sent} with vectors sent; {:.1} s",
         began.elapsed().as_secs_f64()
     );
     Ok(true)
@@ -104,8 +106,10 @@ fn relates(seed: u64, number: u64, relation: &Relation, without: &Outcome, with:
             }
         }
         Relation::Marked(expected) => {
-            if Entry::Decide.rewrote(with) {
-                return Err("the table was changed".to_string());
+            for slice in [Slice::Table, Slice::Vectors] {
+                if Entry::Decide.changed(with, slice) {
+                    return Err(format!("the {} was changed", slice.name()));
+                }
             }
             if with.word != expected.len() as u64 {
                 return Err(format!("the answer should have {} bytes", expected.len()));
@@ -196,7 +200,8 @@ fn put_in(rng: &mut Rng, without: Case, starts: &[usize]) -> Option<Pair> {
     }
     let length = request.len() as u32;
     request[1..4].copy_from_slice(&length.to_be_bytes()[1..]);
-    let with = without.clone().with(Slice::Request, request);
+    let mut with = without.clone();
+    with.put(Slice::Request, request);
     let relation = relation(&with, first_marked);
     Some(Pair { without, with, relation })
 }

@@ -2,6 +2,8 @@
 
 pub const VENDOR: u32 = 10415;
 pub const APPLICATION: u32 = 16_777_216;
+/// The one authentication scheme that is served.
+pub const SCHEME: &[u8] = b"Digest-AKAv1-MD5";
 
 /// AVPs of the answer and of groups; at a request's top level these are unknown kinds.
 pub const AUTH_APPLICATION_ID: u32 = 258;
@@ -14,15 +16,23 @@ pub const SERVER_CAPABILITIES: u32 = 603;
 pub const MANDATORY_CAPABILITY: u32 = 604;
 pub const OPTIONAL_CAPABILITY: u32 = 605;
 pub const USER_DATA: u32 = 606;
+pub const SIP_AUTHENTICATION_SCHEME: u32 = 608;
+pub const SIP_AUTHENTICATE: u32 = 609;
+pub const SIP_AUTHORIZATION: u32 = 610;
+pub const SIP_ITEM_NUMBER: u32 = 613;
+pub const CONFIDENTIALITY_KEY: u32 = 625;
+pub const INTEGRITY_KEY: u32 = 626;
 
 #[derive(Clone, Copy, PartialEq, Eq, Debug)]
 pub enum Command {
     UserAuthorization = 300,
     ServerAssignment = 301,
     LocationInfo = 302,
+    MultimediaAuth = 303,
 }
 
-pub const COMMANDS: [Command; 3] = [Command::UserAuthorization, Command::ServerAssignment, Command::LocationInfo];
+pub const COMMANDS: [Command; 4] =
+    [Command::UserAuthorization, Command::ServerAssignment, Command::LocationInfo, Command::MultimediaAuth];
 
 impl Command {
     pub fn of(code: u32) -> Option<Command> {
@@ -68,6 +78,8 @@ kinds! {
     ServerName = 602 "Server-Name",
     ServerAssignmentType = 614 "Server-Assignment-Type",
     UserDataAlreadyAvailable = 624 "User-Data-Already-Available",
+    SipNumberAuthItems = 607 "SIP-Number-Auth-Items",
+    SipAuthDataItem = 612 "SIP-Auth-Data-Item",
 }
 
 use Kind::*;
@@ -91,7 +103,14 @@ impl Kind {
     }
 
     pub fn is_four_bytes(self) -> bool {
-        matches!(self, AuthSessionState | UserAuthorizationType | ServerAssignmentType | UserDataAlreadyAvailable)
+        matches!(
+            self,
+            AuthSessionState
+                | UserAuthorizationType
+                | ServerAssignmentType
+                | UserDataAlreadyAvailable
+                | SipNumberAuthItems
+        )
     }
 
     /// Whether the request of this command names it.
@@ -109,7 +128,9 @@ impl Kind {
             UserName => command != Command::LocationInfo,
             PublicIdentity => true,
             VisitedNetworkIdentifier | UserAuthorizationType => command == Command::UserAuthorization,
-            ServerName | ServerAssignmentType | UserDataAlreadyAvailable => command == Command::ServerAssignment,
+            ServerName => matches!(command, Command::ServerAssignment | Command::MultimediaAuth),
+            ServerAssignmentType | UserDataAlreadyAvailable => command == Command::ServerAssignment,
+            SipNumberAuthItems | SipAuthDataItem => command == Command::MultimediaAuth,
         }
     }
 
@@ -129,11 +150,12 @@ pub fn needed(command: Command) -> Vec<Kind> {
         Command::UserAuthorization => &[UserName, PublicIdentity, VisitedNetworkIdentifier][..],
         Command::ServerAssignment => &[ServerName, ServerAssignmentType, UserDataAlreadyAvailable],
         Command::LocationInfo => &[PublicIdentity],
+        Command::MultimediaAuth => &[UserName, PublicIdentity, SipAuthDataItem, SipNumberAuthItems, ServerName],
     });
     needed
 }
 
-/// The name of an AVP that document 01 knows or writes, or that real requests carry.
+/// The name of an AVP that the documents know or write, or that real requests carry.
 pub fn name_of(vendor: Option<u32>, code: u32) -> Option<&'static str> {
     if let Some(kind) = Kind::of(vendor, code) {
         return Some(kind.name());
@@ -151,6 +173,12 @@ pub fn name_of(vendor: Option<u32>, code: u32) -> Option<&'static str> {
         (Some(VENDOR), MANDATORY_CAPABILITY) => "Mandatory-Capability",
         (Some(VENDOR), OPTIONAL_CAPABILITY) => "Optional-Capability",
         (Some(VENDOR), USER_DATA) => "User-Data",
+        (Some(VENDOR), SIP_AUTHENTICATION_SCHEME) => "SIP-Authentication-Scheme",
+        (Some(VENDOR), SIP_AUTHENTICATE) => "SIP-Authenticate",
+        (Some(VENDOR), SIP_AUTHORIZATION) => "SIP-Authorization",
+        (Some(VENDOR), SIP_ITEM_NUMBER) => "SIP-Item-Number",
+        (Some(VENDOR), CONFIDENTIALITY_KEY) => "Confidentiality-Key",
+        (Some(VENDOR), INTEGRITY_KEY) => "Integrity-Key",
         (Some(VENDOR), 633) => "Originating-Request",
         (Some(VENDOR), 637) => "UAR-Flags",
         _ => return None,

@@ -1,4 +1,5 @@
-//! An independent program for document 01: it decides requests, checks tables, makes cases and compares.
+//! An independent program for documents 01 and 02: it decides requests, checks tables and vector files, makes cases and
+//! compares.
 //! The modules stand in levels: each uses those of earlier levels alone.
 
 // Nothing is below these.
@@ -7,9 +8,11 @@ pub mod kinds;
 pub mod rng;
 pub mod slip;
 
-// What is lent: the table, and a message.
+// What is lent: a message, the table, the vector file.
 pub mod message;
 pub mod table;
+
+pub mod vectors;
 
 // What comes of a request, and how it does.
 pub mod verdict;
@@ -18,6 +21,7 @@ pub mod read;
 
 pub mod answer;
 pub mod decide;
+pub mod refuse;
 
 pub mod serve;
 
@@ -37,3 +41,4 @@ pub mod stats;
 pub mod compare;
 
 pub mod demand3;
+pub mod runs;

@@ -10,12 +10,13 @@ use reference::demand3;
 use reference::gen::{self, Stream};
 use reference::mutants;
 use reference::program;
+use reference::runs;
 use reference::show;
 use reference::slip::{self, Slip};
 use reference::stats;
 
 const USAGE: &str = "\
-reference check                                             check `table` against `profile`
+reference check                                             check `table` against `profile`, and `vectors`
 reference answer                                            answer the request on standard input
 reference show                                              an answer on standard input, in words
 reference gen      --kind K --seed S [--from F] --count N   write cases
@@ -24,7 +25,7 @@ reference compare  --kind K --seed S [--from F] --count N -- DRIVER [ARGUMENT ..
 reference stats    --kind K --seed S [--from F] --count N   histogram
 reference faults                                            list the deliberate faults
 reference mutants  --seed S [--from F] --count N            whether each deliberate fault is noticed
-kinds: tables, calls; compare alone: demand3";
+kinds: tables, vectors, calls; compare alone: demand3, runs";
 
 fn main() -> ExitCode {
     let arguments: Vec<String> = std::env::args().skip(1).collect();
@@ -65,6 +66,7 @@ fn run(arguments: &[String]) -> Result<bool, String> {
             let (seed, numbers, command) = (options.seed, options.numbers()?, &options.command);
             match options.kind.as_deref() {
                 Some("demand3") => demand3::compare(seed, numbers, command),
+                Some("runs") => runs::compare(seed, numbers, command),
                 _ => compare::compare(options.stream()?, seed, numbers, command),
             }
             .map_err(told)

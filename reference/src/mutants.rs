@@ -9,7 +9,7 @@ use crate::slip::{Fault, Slip, FAULTS};
 pub fn mutants(seed: u64, numbers: Range<u64>) -> bool {
     let mut noticed: Vec<Option<(Stream, u64)>> = vec![None; FAULTS.len()];
     for (tried, number) in (1..).zip(numbers) {
-        for stream in [Stream::Calls, Stream::Tables] {
+        for stream in [Stream::Calls, Stream::Tables, Stream::Vectors] {
             let case = make(stream, seed, number).case;
             let truly = case.outcome(Slip::NONE);
             for (place, (fault, _)) in noticed.iter_mut().zip(FAULTS) {

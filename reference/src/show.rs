@@ -47,7 +47,8 @@ fn refusal_name(number: u32) -> &'static str {
         3 => "header length differs from the request's, or is no multiple of 4",
         4 => "R bit clear",
         5 => "table unsound",
-        _ => "a number that document 01 does not have",
+        6 => "vector file unsound",
+        _ => "a number that the documents do not have",
     }
 }
 
@@ -66,9 +67,11 @@ fn command_name(command: u32, flags: u8) -> &'static str {
         (300, false) => "User-Authorization-Answer",
         (301, false) => "Server-Assignment-Answer",
         (302, false) => "Location-Info-Answer",
+        (303, false) => "Multimedia-Auth-Answer",
         (300, true) => "User-Authorization-Request",
         (301, true) => "Server-Assignment-Request",
         (302, true) => "Location-Info-Request",
+        (303, true) => "Multimedia-Auth-Request",
         _ => "(not known)",
     }
 }
@@ -122,7 +125,8 @@ const P_OF_AVP: u8 = 0x20;
 fn is_group(avp: Avp) -> bool {
     matches!(
         (avp.vendor, avp.code),
-        (None, 260 | kinds::FAILED_AVP | 284 | kinds::EXPERIMENTAL_RESULT) | (Some(VENDOR), kinds::SERVER_CAPABILITIES)
+        (None, 260 | kinds::FAILED_AVP | 284 | kinds::EXPERIMENTAL_RESULT)
+            | (Some(VENDOR), kinds::SERVER_CAPABILITIES | 612)
     )
 }
 
@@ -134,7 +138,7 @@ fn value(avp: Avp, experimental: bool) -> String {
             format!(" = X{code} {}", experimental_name(code))
         }
         (None, 258 | 259 | 266 | 277 | 278 | 298, Some(number))
-        | (Some(VENDOR), 604 | 605 | 614 | 623 | 624, Some(number)) => format!(" = {number}"),
+        | (Some(VENDOR), 604 | 605 | 607 | 613 | 614 | 623 | 624, Some(number)) => format!(" = {number}"),
         _ if avp.data.is_empty() => String::new(),
         _ if avp.data.iter().all(|byte| (0x20..0x7F).contains(byte)) => {
             format!(" = \"{}\"", String::from_utf8_lossy(avp.data))
@@ -173,6 +177,7 @@ pub fn experimental_name(code: u32) -> &'static str {
         5003 => "identity not registered",
         5004 => "roaming not allowed",
         5005 => "identity already registered",
+        5006 => "authentication scheme not supported",
         5007 => "error in assignment type",
         _ => "(not known)",
     }

@@ -120,7 +120,7 @@ mod tests {
     use super::*;
 
     fn decide() -> Case {
-        Case::decide(9, vec![1, 2, 3], vec![4; 512], vec![], 36_864)
+        Case::decide(9, vec![1, 2, 3], vec![4; 512], vec![], vec![7; 5], 36_864)
     }
 
     fn written(case: &Case) -> Vec<u8> {
@@ -132,8 +132,8 @@ mod tests {
     #[test]
     fn cases_and_outcomes_come_back_as_written() {
         let stream = written(&decide());
-        let head = [2, 9, 4, 0, 0, 0, 0, 3, 0x80, 0, 2, 0, 0, 0, 0, 0, 0xC0, 0, 0x90, 0];
-        assert_eq!((&stream[..20], stream.len()), (&head[..], 20 + 3 + 512));
+        let head = [2, 9, 5, 0, 0, 0, 0, 3, 0x80, 0, 2, 0, 0, 0, 0, 0, 0x80, 0, 0, 5, 0xC0, 0, 0x90, 0];
+        assert_eq!((&stream[..24], stream.len()), (&head[..], 24 + 3 + 512 + 5));
         let mut from = &stream[..];
         assert_eq!(Case::read(&mut from).unwrap(), Some(decide()));
         assert_eq!(Case::read(&mut from).unwrap(), None);
@@ -151,7 +151,7 @@ mod tests {
 
     #[test]
     fn a_case_is_read_only_as_its_entry_takes_it() {
-        for (at, byte) in [(0, 1), (0, 9), (2, 3), (3, 1), (4, 0x80), (8, 0), (4, 0x20)] {
+        for (at, byte) in [(0, 1), (0, 9), (2, 4), (3, 1), (4, 0x80), (8, 0), (16, 0), (4, 0x20)] {
             let mut stream = written(&decide());
             stream[at] = byte;
             assert!(Case::read(&mut &stream[..]).is_err(), "byte {at} is {byte}");

@@ -4,6 +4,7 @@
 use crate::kinds::{Command, Kind};
 use crate::message::Avp;
 use crate::table::{Record, Rewriting};
+use crate::vectors::Vector;
 
 /// Results of the two families; they share numbers and never stand for one another.
 #[derive(Clone, Copy, PartialEq, Eq, PartialOrd, Ord, Debug)]
@@ -31,6 +32,7 @@ pub enum Failed<'a> {
 #[derive(Clone, PartialEq, Debug)]
 pub enum Why {
     Checked(Result<u32, u32>),
+    CheckedVectors(Result<u32, u32>),
     Refused(u32),
     /// A fault of the header, with its result.
     Header(u32),
@@ -38,6 +40,16 @@ pub enum Why {
     Rule(char, &'static str),
     Missing(Kind),
     Decided(Decision),
+}
+
+/// How a stored server name stands to the request's.
+#[derive(Clone, Copy, PartialEq, Eq, Debug)]
+pub enum Stored {
+    None,
+    Same,
+    /// One begins with the other.
+    Prefix,
+    Another,
 }
 
 /// What a decision was about, for the histogram.
@@ -52,6 +64,10 @@ pub struct Decision {
     pub keep: bool,
     /// How many records were asked for.
     pub records: usize,
+    /// How its stored server name stands to the request's.
+    pub stored: Option<Stored>,
+    /// How many vectors were asked for, how many unused ones the name has, and how many are sent.
+    pub vectors: (u32, usize, usize),
     pub result: Option<Code>,
 }
 
@@ -63,6 +79,15 @@ pub struct Finding<'a> {
     pub why: Why,
 }
 
+/// What an authentication request is given.
+pub struct Authentication<'a> {
+    pub public: &'a [u8],
+    /// How many were asked for, and how many unused ones there are.
+    pub asked: u32,
+    pub unused: usize,
+    pub vectors: Vec<Vector<'a>>,
+}
+
 /// A decision: the result, what the answer carries, and what becomes of the records.
 pub struct Verdict<'a> {
     pub result: Code,
@@ -72,8 +97,11 @@ pub struct Verdict<'a> {
     /// The record whose capabilities the answer carries.
     pub capabilities: Option<Record<'a>>,
     pub user_data: Option<&'a [u8]>,
+    pub authentication: Option<Authentication<'a>>,
     /// By block number.
     pub rewritings: Vec<(usize, Rewriting)>,
+    /// The blocks of the vector file that are marked used.
+    pub marked: Vec<usize>,
     pub why: Why,
 }
 
@@ -86,7 +114,9 @@ impl<'a> Verdict<'a> {
             server_name: None,
             capabilities: None,
             user_data: None,
+            authentication: None,
             rewritings: Vec::new(),
+            marked: Vec::new(),
             why: Why::Decided(Decision::default()),
         }
     }

@@ -43,8 +43,8 @@ fn requests_of_19_20_and_16388_bytes() {
 #[test]
 fn buffers_of_36863_and_36864_bytes() {
     let table = isle(vec![]).encode();
-    assert_eq!(call_with_buffer(&bytes(EMPTY_LIR), &table, b"", 36_863).number, 1);
-    assert_eq!(call_with_buffer(&bytes(EMPTY_LIR), &table, b"", 36_864).number, 0);
+    assert_eq!(call_with_buffer(&bytes(EMPTY_LIR), &table, b"", b"", 36_863).number, 1);
+    assert_eq!(call_with_buffer(&bytes(EMPTY_LIR), &table, b"", b"", 36_864).number, 0);
 }
 
 #[test]
@@ -56,7 +56,7 @@ fn refusals_in_their_order() {
     bad[3] = 0x18;
     assert_eq!(call(&bad, &[], b"").number, 3);
     assert_eq!(call(&bad[..19], &[], b"").number, 2);
-    assert_eq!(call_with_buffer(&bad[..19], &[], b"", 0).number, 1);
+    assert_eq!(call_with_buffer(&bad[..19], &[], b"", b"", 0).number, 1);
     let done = call(&bytes(EMPTY_LIR), &table[..511], b"");
     assert_eq!((done.number, done.value), (5, 0));
     let mut bad = isle(vec![alice(0, "")]).encode();

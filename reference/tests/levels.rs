@@ -69,6 +69,19 @@ fn a_module_uses_those_of_earlier_levels_alone() {
 }
 
 #[test]
+fn the_readme_shows_the_levels() {
+    let readme = include_str!("../README.md");
+    let groups = include_str!("../src/lib.rs").split("\n\n").map(|group| {
+        let names = group.lines().filter_map(|line| line.strip_prefix("pub mod "));
+        names.map(|name| format!("`{}`", name.trim_end_matches(';'))).collect::<Vec<String>>().join(", ")
+    });
+    for (level, modules) in groups.filter(|modules| !modules.is_empty()).enumerate() {
+        let row = format!("| {} | {modules} |", level + 1);
+        assert!(readme.lines().any(|line| line == row), "{row}");
+    }
+}
+
+#[test]
 fn no_file_stands_in_a_circle() {
     let files = files();
     let mut left: BTreeMap<&String, Vec<String>> = files.keys().map(|module| (module, named(module, &files))).collect();

@@ -186,7 +186,11 @@ fn a_rewriting_touches_its_fields_and_the_check_word() {
         ..one(b"a")
     }];
     let mut bytes = model.encode();
-    rewrite(&mut bytes[BLOCK..], &Rewriting { state: UNREGISTERED, server_name: Some(b"short".to_vec()) }, Slip::NONE);
+    rewrite(
+        &mut bytes[BLOCK..],
+        &Rewriting { state: UNREGISTERED, pending: false, server_name: Some(b"short".to_vec()) },
+        Slip::NONE,
+    );
     model.records[0].state = UNREGISTERED;
     model.records[0].bits = BARRED;
     model.records[0].server_name = b"short".to_vec();

@@ -13,7 +13,7 @@ use Rattle.demands.proofs.Demands.{demand-1-word, demand-1-within}
 use Rattle.answer.specs.Said.{SaidFits, Said, SaidTo}
 
 -- An answer that a call says lies within the buffer that it leaves.
-pub promise-fits : (x : Lent) (w : ℕ) {t' o' : List ℕ} → DecidePromise x w t' o' → length o' ≡ length (x .buffer) → SaidFits w (length o')
+pub promise-fits : (x : Lent) (w : ℕ) {t' v' o' : List ℕ} → DecidePromise x w t' v' o' → length o' ≡ length (x .buffer) → SaidFits w (length o')
 promise-fits x w p l =
     let r = rw (← p .word-is) at (demand-1-word x) in
     record { within = λ e. (let h = demand-1-within x (sym (r .number) ∙ e) in omega (arith, h, r .value, l)) }
@@ -29,5 +29,5 @@ pub said-refusal : (w : ℕ) {r : ℕ} {o o' : List ℕ} → (numberIn w ≡ 0 �
     → Words (114 ∷ 101 ∷ 102 ∷ 117 ∷ 115 ∷ 101 ∷ 100 ∷ 32 ∷ []) (numberIn w) (10 ∷ []) o o' r → Said w o o' r
 said-refusal w f h = record { said = rw (ne-eqb (numberIn w) 0 f) h }
 
-pub said-served : (x : Lent) (w : ℕ) {t' o' p : List ℕ} {r : ℕ} → DecidePromise x w t' o' → Said w o' p r → SaidTo x p r
+pub said-served : (x : Lent) (w : ℕ) {t' v' o' p : List ℕ} {r : ℕ} → DecidePromise x w t' v' o' → Said w o' p r → SaidTo x p r
 said-served x w d s = rw (← d .word-is, ← d .buffer-is) s

@@ -22,11 +22,11 @@ fn put_said(out: &mut [u8], w: u64) -> usize
 }
 
 // What is said to a request, at the front of out.
-pub fn answer_to(out: &mut [u8], req: &[u8], t: &mut [u8], file: &[u8]) -> usize
+pub fn answer_to(out: &mut [u8], req: &[u8], t: &mut [u8], file: &[u8], v: &mut [u8]) -> usize
     requires { ⌜ 30 ≤ length (now out) ⌝ }
     ensures { λ r. ⌜ (r ≤ length (now (out .exit)))
-        × SaidTo (lent (now (req .entry)) (now (t .entry)) (now (file .entry)) (now (out .entry))) (now (out .exit)) r ⌝ }
+        × SaidTo (lent (now (req .entry)) (now (t .entry)) (now (file .entry)) (now (v .entry)) (now (out .entry))) (now (out .exit)) r ⌝ }
 {
-    let w = ndushavire::ndushavire_decide(req, t, file, out);
+    let w = ndushavire::ndushavire_decide(req, t, file, v, out);
     put_said(out, w)
 }

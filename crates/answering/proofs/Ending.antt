@@ -49,19 +49,19 @@ unfolding endBytes
 wrote-end req v p q = then p q
 
 -- What depends on the decision, and the end.
-module _ (req t file : List ℕ) (g : Given) where
-  pub given-room : {m : ℕ} → length (restBytes req t file g) ≤ m → length (givenBytes t file g) ≤ m
+module _ (req t file v : List ℕ) (g : Given) where
+  pub given-room : {m : ℕ} → length (restBytes req t file v g) ≤ m → length (givenBytes t file v g) ≤ m
   unfolding restBytes
-  given-room h = room-left (givenBytes t file g) (endBytes req (g .verdict)) h
+  given-room h = room-left (givenBytes t file v g) (endBytes req (g .verdict)) h
 
-  module _ {b xs : List ℕ} {n : ℕ} (p : Wrote (givenBytes t file g) b xs n) where
-    pub end-room : length (restBytes req t file g) ≤ length b
+  module _ {b xs : List ℕ} {n : ℕ} (p : Wrote (givenBytes t file v g) b xs n) where
+    pub end-room : length (restBytes req t file v g) ≤ length b
         → length (failedPart (failedBy req (g .verdict))) + length (proxies (bodyOf req)) ≤ length (lent n xs)
     unfolding restBytes endBytes
     end-room h =
-        let k = room-right (givenBytes t file g) (endBytes req (g .verdict)) p h in
+        let k = room-right (givenBytes t file v g) (endBytes req (g .verdict)) p h in
         rw length-append at k
 
-    pub wrote-rest : {ys : List ℕ} {r : ℕ} → Wrote (endBytes req (g .verdict)) (lent n xs) ys r → Wrote (restBytes req t file g) b (back n xs ys) (n + r)
+    pub wrote-rest : {ys : List ℕ} {r : ℕ} → Wrote (endBytes req (g .verdict)) (lent n xs) ys r → Wrote (restBytes req t file v g) b (back n xs ys) (n + r)
     unfolding restBytes
     wrote-rest q = then p q

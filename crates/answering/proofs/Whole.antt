@@ -11,31 +11,31 @@ use Rattle.reply.specs.Answer.{topBytes, restBytes, bodyBytes, headerBytes, ans
 use Rattle.reply.proofs.Rooms.{room-left, room-right}
 use Rattle.reply.proofs.Lengths.{header-length}
 
-module _ (req t file : List ℕ) (g : Given) where
-  pub top-room : {m : ℕ} → length (bodyBytes req t file g) ≤ m → length (topBytes req t (g .verdict .result)) ≤ m
+module _ (req t file v : List ℕ) (g : Given) where
+  pub top-room : {m : ℕ} → length (bodyBytes req t file v g) ≤ m → length (topBytes req t (g .verdict .result)) ≤ m
   unfolding bodyBytes
-  top-room h = room-left (topBytes req t (g .verdict .result)) (restBytes req t file g) h
+  top-room h = room-left (topBytes req t (g .verdict .result)) (restBytes req t file v g) h
 
   module _ {b xs : List ℕ} {n : ℕ} (p : Wrote (topBytes req t (g .verdict .result)) b xs n) where
-    pub rest-room : length (bodyBytes req t file g) ≤ length b → length (restBytes req t file g) ≤ length (lent n xs)
+    pub rest-room : length (bodyBytes req t file v g) ≤ length b → length (restBytes req t file v g) ≤ length (lent n xs)
     unfolding bodyBytes
-    rest-room h = room-right (topBytes req t (g .verdict .result)) (restBytes req t file g) p h
+    rest-room h = room-right (topBytes req t (g .verdict .result)) (restBytes req t file v g) p h
 
-    pub wrote-body : {ys : List ℕ} {r : ℕ} → Wrote (restBytes req t file g) (lent n xs) ys r → Wrote (bodyBytes req t file g) b (back n xs ys) (n + r)
+    pub wrote-body : {ys : List ℕ} {r : ℕ} → Wrote (restBytes req t file v g) (lent n xs) ys r → Wrote (bodyBytes req t file v g) b (back n xs ys) (n + r)
     unfolding bodyBytes
     wrote-body q = then p q
 
   -- the body was written first, and then the header with the length
-  pub wrote-answer : {b ys zs : List ℕ} {r : ℕ} → 20 + length (bodyBytes req t file g) ≤ length b → Wrote (bodyBytes req t file g) (lent 20 b) ys r
-      → Wrote (headerBytes req (g .verdict .result) (20 + r)) (back 20 b ys) zs 20 → Wrote (answerBytes req t file g) b zs (20 + r)
+  pub wrote-answer : {b ys zs : List ℕ} {r : ℕ} → 20 + length (bodyBytes req t file v g) ≤ length b → Wrote (bodyBytes req t file v g) (lent 20 b) ys r
+      → Wrote (headerBytes req (g .verdict .result) (20 + r)) (back 20 b ys) zs 20 → Wrote (answerBytes req t file v g) b zs (20 + r)
   unfolding answerBytes
   wrote-answer room p q = named (rw (p .count)) refl (then-front (omega arith) p q)
 
-  pub answer-room : {m : ℕ} → 20 ≤ length req → length (answerBytes req t file g) ≤ m → 20 + length (bodyBytes req t file g) ≤ m
+  pub answer-room : {m : ℕ} → 20 ≤ length req → length (answerBytes req t file v g) ≤ m → 20 + length (bodyBytes req t file v g) ≤ m
   unfolding answerBytes
   answer-room whole h =
       let k = rw length-append at h in
-      omega (arith, header-length req (g .verdict .result) (20 + length (bodyBytes req t file g)) whole)
+      omega (arith, header-length req (g .verdict .result) (20 + length (bodyBytes req t file v g)) whole)
 
 -- What was written in one place is copied to another.
 pub copy-room : (xs : List ℕ) {n m : ℕ} → n ≤ 36864 → 36864 ≤ m → length (take n xs) ≤ m

@@ -10,6 +10,7 @@ ghost use Prim.Native.Nat.{_+_, _≤_};
 ghost use lib.ListN.{length};
 ghost use Rattle.octets.specs.Run.{Wrote};
 ghost use Rattle.table.specs.SoundTable.{SoundTable};
+ghost use Rattle.vectors.specs.Chosen.{Sendable};
 ghost use Rattle.diameter.specs.Reader.{ownOf, Here};
 ghost use Rattle.diameter.specs.Message.{bodyOf};
 ghost use Rattle.failed.specs.Failing.{failedBy};
@@ -70,12 +71,21 @@ fn put_end(out: &mut [u8], req: &[u8], v: Verdict) -> usize
 }
 
 // What depends on the decision, and the end.
-pub fn put_rest(out: &mut [u8], req: &[u8], t: &[u8], file: &[u8], count: usize, g: Given) -> usize
-    requires { ⌜ SoundTable (now t) count × (length (restBytes (now req) (now t) (now file) g) ≤ length (now out)) ⌝ }
+pub fn put_rest(
+    out: &mut [u8],
+    req: &[u8],
+    t: &[u8],
+    file: &[u8],
+    v: &[u8],
+    count: usize,
+    g: Given,
+) -> usize
+    requires { ⌜ SoundTable (now t) count × Sendable (now v) (g .sent)
+        × (length (restBytes (now req) (now t) (now file) (now v) g) ≤ length (now out)) ⌝ }
     ensures { λ r. ⌜ (r ≤ length (now (out .entry)))
-        × Wrote (restBytes (now (req .entry)) (now (t .entry)) (now (file .entry)) g) (now (out .entry)) (now (out .exit)) r ⌝ }
+        × Wrote (restBytes (now (req .entry)) (now (t .entry)) (now (file .entry)) (now (v .entry)) g) (now (out .entry)) (now (out .exit)) r ⌝ }
 {
-    let v = g.verdict;
-    let a = given::put_given(out, t, file, count, g);
-    a + put_end(&mut out[a..], req, v)
+    let verdict = g.verdict;
+    let a = given::put_given(out, t, file, v, count, g);
+    a + put_end(&mut out[a..], req, verdict)
 }

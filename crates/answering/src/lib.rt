@@ -9,45 +9,72 @@ ghost use Prim.Native.Nat.{_+_, _≤_};
 ghost use lib.ListN.{length};
 ghost use Rattle.octets.specs.Run.{Wrote};
 ghost use Rattle.table.specs.SoundTable.{SoundTable};
+ghost use Rattle.vectors.specs.Chosen.{Sendable};
 ghost use Rattle.reply.specs.Answer.{bodyBytes, answerBytes};
 
 // "answer buffer under 36,864 bytes" is refused: no answer needs more.
 const MOST: usize = 36864;
 
 // All after the header.
-fn put_body(out: &mut [u8], req: &[u8], t: &[u8], file: &[u8], count: usize, g: Given) -> usize
-    requires { ⌜ SoundTable (now t) count × (length (bodyBytes (now req) (now t) (now file) g) ≤ length (now out)) ⌝ }
+fn put_body(
+    out: &mut [u8],
+    req: &[u8],
+    t: &[u8],
+    file: &[u8],
+    v: &[u8],
+    count: usize,
+    g: Given,
+) -> usize
+    requires { ⌜ SoundTable (now t) count × Sendable (now v) (g .sent)
+        × (length (bodyBytes (now req) (now t) (now file) (now v) g) ≤ length (now out)) ⌝ }
     ensures { λ r. ⌜ (r ≤ length (now (out .entry)))
-        × Wrote (bodyBytes (now (req .entry)) (now (t .entry)) (now (file .entry)) g) (now (out .entry)) (now (out .exit)) r ⌝ }
+        × Wrote (bodyBytes (now (req .entry)) (now (t .entry)) (now (file .entry)) (now (v .entry)) g) (now (out .entry)) (now (out .exit)) r ⌝ }
 {
-    let v = g.verdict;
-    let result = v.result;
+    let verdict = g.verdict;
+    let result = verdict.result;
     let a = front::put_top(out, req, t, count, result);
-    a + last::put_rest(&mut out[a..], req, t, file, count, g)
+    a + last::put_rest(&mut out[a..], req, t, file, v, count, g)
 }
 
 // The answer to a request, over a sound table of so many records, with what a decision gives it to carry: the body first, since its length stands in
 // the header.
-fn put_answer(out: &mut [u8], req: &[u8], t: &[u8], file: &[u8], count: usize, g: Given) -> usize
-    requires { ⌜ (20 ≤ length (now req)) × SoundTable (now t) count × (20 + length (bodyBytes (now req) (now t) (now file) g) ≤ length (now out)) ⌝ }
+fn put_answer(
+    out: &mut [u8],
+    req: &[u8],
+    t: &[u8],
+    file: &[u8],
+    v: &[u8],
+    count: usize,
+    g: Given,
+) -> usize
+    requires { ⌜ (20 ≤ length (now req)) × SoundTable (now t) count × Sendable (now v) (g .sent)
+        × (20 + length (bodyBytes (now req) (now t) (now file) (now v) g) ≤ length (now out)) ⌝ }
     ensures { λ r. ⌜ (r ≤ length (now (out .entry)))
-        × Wrote (answerBytes (now (req .entry)) (now (t .entry)) (now (file .entry)) g) (now (out .entry)) (now (out .exit)) r ⌝ }
+        × Wrote (answerBytes (now (req .entry)) (now (t .entry)) (now (file .entry)) (now (v .entry)) g) (now (out .entry)) (now (out .exit)) r ⌝ }
 {
-    let v = g.verdict;
-    let result = v.result;
-    let n = 20 + put_body(&mut out[20..], req, t, file, count, g);
+    let verdict = g.verdict;
+    let result = verdict.result;
+    let n = 20 + put_body(&mut out[20..], req, t, file, v, count, g);
     header::put_header(out, req, result, n);
     n
 }
 
 // The answer built in an array of its own, and then copied to the lent buffer.
-pub fn answer(out: &mut [u8], req: &[u8], t: &[u8], file: &[u8], count: usize, g: Given) -> usize
-    requires { ⌜ (20 ≤ length (now req)) × SoundTable (now t) count × (length (answerBytes (now req) (now t) (now file) g) ≤ 36864)
-        × (36864 ≤ length (now out)) ⌝ }
-    ensures { λ r. ⌜ Wrote (answerBytes (now (req .entry)) (now (t .entry)) (now (file .entry)) g) (now (out .entry)) (now (out .exit)) r ⌝ }
+pub fn answer(
+    out: &mut [u8],
+    req: &[u8],
+    t: &[u8],
+    file: &[u8],
+    v: &[u8],
+    count: usize,
+    g: Given,
+) -> usize
+    requires { ⌜ (20 ≤ length (now req)) × SoundTable (now t) count × Sendable (now v) (g .sent)
+        × (length (answerBytes (now req) (now t) (now file) (now v) g) ≤ 36864) × (36864 ≤ length (now out)) ⌝ }
+    ensures { λ r. ⌜ Wrote (answerBytes (now (req .entry)) (now (t .entry)) (now (file .entry)) (now (v .entry)) g) (now (out .entry)) (now (out .exit)) r ⌝ }
 {
     let mut scratch = [0u8; MOST];
-    let n = put_answer(&mut scratch, req, t, file, count, g);
+    let n = put_answer(&mut scratch, req, t, file, v, count, g);
     run::copy(out, &scratch[..n]);
     n
 }

@@ -14,13 +14,14 @@ use Rattle.lookup.specs.Find.{firstFrom, publicIs, findPublic}
 use Rattle.lookup.specs.declared.Found.{Found}
 use Rattle.lookup.specs.declared.Found.the-variants.{At, Nothing}
 use Rattle.lookup.proofs.First.{FirstAt, first-stands}
-use Rattle.rewrite.specs.Change.{changedAt, afterOf, changedIn, changedFound, Keeps, differ, alteredUpTo}
+use Rattle.blocks.specs.Changed.{changedAt, changedIn, isOne}
+use Rattle.blocks.proofs.Changed.{in-here, in-other}
+use Rattle.rewrite.specs.Change.{afterOf, changedFound, Keeps, differ, alteredUpTo}
 use Rattle.rewrite.specs.Renew.{settled, Fitting}
-use Rattle.rewrite.proofs.Blocks.{in-here, in-other}
 use Rattle.rewrite.proofs.Counts.{found-counts, sum-few}
 use Rattle.rewrite.proofs.Settled.{settled-keeps}
 use Rattle.rewrite.proofs.Sound.{keeping-says, keeping-found}
-use Rattle.rewrite.proofs.Tables.{after-same, after-none, at-same, at-twice, Keeping, found-keeping}
+use Rattle.rewrite.proofs.Tables.{keeps-whole, after-same, after-none, at-same, at-twice, Keeping, found-keeping}
 use Rattle.diameter.specs.Avp.{dataOf}
 use Rattle.diameter.specs.Walk.{walk}
 use Rattle.diameter.specs.Reader.{dataAt}
@@ -37,7 +38,7 @@ use Rattle.requests.specs.declared.identities.Next.the-variants as next
 use Rattle.requests.proofs.Naming.{no-place, first-place, named-none, named-first}
 use Rattle.choices.specs.declared.types.AssignmentType.{AssignmentType}
 use Rattle.choices.specs.declared.plan.Survey.{Survey}
-use Rattle.assignment.specs.Assignment.{meantBy, isOne, findAll, numbersOf}
+use Rattle.assignment.specs.Assignment.{meantBy, findAll, numbersOf}
 use Rattle.assignment.specs.Survey.{clean, both, lookFound, foundSurvey}
 use Rattle.assignment.specs.declared.Meant.the-variants.{Fault, Owned, Listed}
 use Rattle.assignment.proofs.Surveys.{survey-cons, both-assoc, both-clean}
@@ -97,9 +98,11 @@ module _ (change : List ℕ → List ℕ) (keeps : Keeps change) (x : List ℕ) 
       go : (j : ℕ) → j ≤ count → (u : Bool) → eqb j k ≡ u → changedAt (changedIn x k change) (isOne ks) change j ≡ changedAt x (isOne (k ∷ ks)) change j
       go j l true e =
           let q : j ≡ k = eqb-true j k e in
-          rw q (at-twice (changedIn x k change) x (isOne ks) (isOne (k ∷ ks)) change k keeps (in-here x k change keeps fits) (rw (eq-eqb k k refl))
+          rw q (at-twice (changedIn x k change) x (isOne ks) (isOne (k ∷ ks)) change k keeps
+          (in-here x k change (keeps-whole keeps) fits) (rw (eq-eqb k k refl))
           (block-length x k fits))
-      go j l false e = at-same (changedIn x k change) x (isOne ks) (isOne (k ∷ ks)) change j (in-other x k change keeps fits j (eqb-false j k e)) (rw e)
+      go j l false e =
+          at-same (changedIn x k change) x (isOne ks) (isOne (k ∷ ks)) change j (in-other x k change (keeps-whole keeps) fits j (eqb-false j k e)) (rw e)
 
   found-turn : (p : ℕ → Bool) (f : Found) → firstFrom p count 1 ≡ f → (fs : List Found)
       → afterOf (changedFound x f change) count (isOne (numbersOf fs)) change ≡ afterOf x count (isOne (numbersOf (f ∷ fs))) change

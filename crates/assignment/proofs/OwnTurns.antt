@@ -10,13 +10,14 @@ use lib.ListN.{length}
 use lib.Dec.{eqb, leb, ltb}
 use borrow.Author.Tests.{eqb-true, eqb-false, ltb-true, ltb-false, le-leb, lt-leb, ne-eqb}
 use Rattle.table.specs.Blocks.{blockOf}
-use Rattle.rewrite.specs.Change.{changedAt, changedIn, afterOf, Keeps, differ, alteredUpTo}
+use Rattle.blocks.specs.Changed.{changedAt, changedIn, isOne}
+use Rattle.blocks.proofs.Changed.{in-length, in-here, in-other}
+use Rattle.rewrite.specs.Change.{afterOf, Keeps, differ, alteredUpTo}
 use Rattle.rewrite.specs.Renew.{settled, Fitting}
-use Rattle.rewrite.proofs.Blocks.{in-length, in-here, in-other}
 use Rattle.rewrite.proofs.Counts.{if-counts, sum-few}
 use Rattle.rewrite.proofs.Settled.{settled-keeps}
-use Rattle.rewrite.proofs.Tables.{after-same, after-none, at-same}
-use Rattle.assignment.specs.Assignment.{isOne, ownedHere, ownedUpTo}
+use Rattle.rewrite.proofs.Tables.{keeps-whole, after-same, after-none, at-same}
+use Rattle.assignment.specs.Assignment.{ownedHere, ownedUpTo}
 
 -- a subscription's records not in state 0, from a block on
 unfoldable pub ownedFrom : List ℕ → List ℕ → ℕ → ℕ → Bool
@@ -92,11 +93,11 @@ module _ (change : List ℕ → List ℕ) (keeps : Keeps change) (x : List ℕ) 
   turn j l = go (eqb j k) refl
     where
       here : (v : Bool) → u ≡ v → blockOf y k ≡ cond v (change (blockOf x k)) (blockOf x k)
-      here true g = rw (put, g) (in-here x k change keeps (omega arith))
+      here true g = rw (put, g) (in-here x k change (keeps-whole keeps) (omega arith))
       here false g = rw (put, g)
 
       there : (v : Bool) → u ≡ v → j ≢ k → blockOf y j ≡ blockOf x j
-      there true g n = rw (put, g) (in-other x k change keeps (omega arith) j n)
+      there true g n = rw (put, g) (in-other x k change (keeps-whole keeps) (omega arith) j n)
       there false g n = rw (put, g)
 
       go : (v : Bool) → eqb j k ≡ v → changedAt y (ownedFrom y user (k + 1)) change j ≡ changedAt x (ownedFrom x user k) change j
@@ -110,7 +111,7 @@ module _ (change : List ℕ → List ℕ) (keeps : Keeps change) (x : List ℕ) 
   turned-size = go u refl
     where
       go : (v : Bool) → u ≡ v → length y ≡ 512 * (count + 1)
-      go true g = rw (put, g) (in-length x k change keeps (omega arith) ∙ size)
+      go true g = rw (put, g) (in-length x k change (keeps-whole keeps) (omega arith) ∙ size)
       go false g = rw (put, g) size
 
   turned-counts : 1 ≤ k → {whole : List ℕ} → afterOf y count (ownedFrom y user (k + 1)) change ≡ whole

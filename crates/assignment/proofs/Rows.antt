@@ -91,14 +91,3 @@ module _ (server : List ℕ) (least : 1 ≤ length server) (most : length server
   row-fits StoringRemoval true = fits-named 2 server (omega arith) (omega arith) least most
   row-fits StoringRemoval false = fits-none
   row-fits Failure keep = fits-none
-
-pub assign-fits : (t : List ℕ) (count : ℕ) (s : Assignment) {p : Plan} → p ≡ assign t count s → 1 ≤ length (s .server) → length (s .server) ≤ 96
-    → p .write ≡ true
-    → Fitting (p .state) (storedName (p .named) (s .server))
-unfolding planOf
-assign-fits t count s {p} e least most w = rw e (go (assign t count s) (assign-decided t count s) (rw e at w))
-  where
-    go : (q : Plan) → Decided t count s q → q .write ≡ true → Fitting (q .state) (storedName (q .named) (s .server))
-    go q (alone v) h = absurd (true≢false (sym h))
-    go q (owned m c) h = row-fits (s .server) least most (s .numbers .kind) (s .numbers .keep)
-    go q (named place m c) h = row-fits (s .server) least most (s .numbers .kind) (s .numbers .keep)

@@ -9,8 +9,6 @@ use Rattle.table.specs.Blocks.{blockOf, privateAt}
 use Rattle.lookup.specs.Find.{isAt, findPublic, findPrivate}
 use Rattle.lookup.specs.declared.Found.{Found}
 use Rattle.lookup.specs.declared.Found.the-variants.{At, Nothing}
-use Rattle.rewrite.specs.Change.{afterOf}
-use Rattle.rewrite.specs.Renew.{settled}
 use Rattle.diameter.specs.Avp.{dataOf}
 use Rattle.reading.specs.Kinds.{publicIdentity}
 use Rattle.reading.specs.Verdicts.{faultAt}
@@ -26,7 +24,8 @@ use Rattle.decisions.specs.Carried.{blockFound}
 use Rattle.assignment.specs.declared.Meant.{Meant}
 use Rattle.assignment.specs.declared.Meant.the-variants.{Fault, Owned, Listed}
 
--- What a SAR says: its numbers, its server name, the User-Name (empty where none is given), the identities (the AVPs themselves) and their places
+-- What a SAR says (a MAR has its server name there too): its numbers, its server name, the User-Name (empty where none is given), the identities (the
+-- AVPs themselves) and their places
 pub record Assignment : Type 0 where
   pub numbers : Sar
   pub server : List ℕ
@@ -45,10 +44,6 @@ meantBy removal named (p ∷ (q ∷ others)) = cond removal (Listed p) (Fault (f
 unfoldable pub every : {X : Type 0} → (X → Bool) → List X → Bool
 every p [] = true
 every p (x ∷ xs) = p x && every p xs
-
-unfoldable pub isOne : List ℕ → ℕ → Bool
-isOne [] j = false
-isOne (k ∷ ks) j = eqb j k || isOne ks j
 
 abbrev pub isEmpty : {X : Type 0} → List X → Bool
 isEmpty [] = true
@@ -130,12 +125,9 @@ module _ (t : List ℕ) (count : ℕ) (s : Assignment) where
   unfoldable pub assign : Plan
   assign = assignMeant (meantBy (isRemoval (s .numbers .kind)) (s .numbers .named) (s .places))
 
--- The table after a plan: the records that it means, each once, after the effect
+-- What is written: the name that a record gets, and the records that the SAR means, each once
 unfoldable pub storedName : Bool → List ℕ → List ℕ
 storedName named server = cond named server []
 
-unfoldable pub plannedRecords : List ℕ → ℕ → Assignment → Plan → List ℕ
-plannedRecords t count s p = cond (p .owned) (ownedUpTo t (s .user) count) (numbersOf (findAll t count (s .identities)))
-
-unfoldable pub carriedOut : List ℕ → ℕ → Assignment → Plan → List ℕ
-carriedOut t count s p = cond (p .write) (afterOf t count (isOne (plannedRecords t count s p)) (settled (p .state) (storedName (p .named) (s .server)))) t
+unfoldable pub plannedRecords : List ℕ → ℕ → Assignment → Bool → List ℕ
+plannedRecords t count s owned = cond owned (ownedUpTo t (s .user) count) (numbersOf (findAll t count (s .identities)))

@@ -18,7 +18,8 @@ ghost use Rattle.rewrite.specs.Renew.{settled, Fitting};
 ghost use Rattle.diameter.specs.Message.{bodyOf};
 ghost use Rattle.requests.specs.Request.{identities};
 ghost use Rattle.requests.specs.Identity.{placesFrom};
-ghost use Rattle.assignment.specs.Assignment.{meantBy, isOne, findAll, numbersOf};
+ghost use Rattle.assignment.specs.Assignment.{meantBy, findAll, numbersOf};
+ghost use Rattle.blocks.specs.Changed.{isOne};
 ghost use Rattle.assignment.specs.Survey.{foundSurvey};
 
 // "Others need exactly one identity"; "A removal without identity needs a User-Name".

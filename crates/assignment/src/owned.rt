@@ -11,7 +11,8 @@ ghost use lib.ListN.{length};
 ghost use Rattle.table.specs.SoundTable.{SoundTable};
 ghost use Rattle.rewrite.specs.Change.{afterOf, alteredUpTo};
 ghost use Rattle.rewrite.specs.Renew.{settled, Fitting};
-ghost use Rattle.assignment.specs.Assignment.{isOne, ownedHere, ownedUpTo, surveyOf};
+ghost use Rattle.assignment.specs.Assignment.{ownedHere, ownedUpTo, surveyOf};
+ghost use Rattle.blocks.specs.Changed.{isOne};
 ghost use Rattle.assignment.specs.Survey.{glimpsed};
 
 fn owned(b: &[u8], user: &[u8]) -> bool

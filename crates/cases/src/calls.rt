@@ -10,20 +10,33 @@ fn check(given: &[u8], w: &[u8; 64]) -> bool {
 
 fn decide(given: &[u8], w: &[u8; 64]) -> bool {
     let table = words::slice(given, w, 1);
-    let buffer = words::slice(given, w, 3);
+    let vectors = words::slice(given, w, 3);
+    let buffer = words::slice(given, w, 4);
     let mut t = [0u8; 40000];
+    let mut v = [0u8; 40000];
     let mut out = [0u8; 40000];
     run::copy(&mut t, table);
+    run::copy(&mut v, vectors);
     run::copy(&mut out, buffer);
     let n = table.len();
+    let m = vectors.len();
     let room = buffer.len();
     let word = ndushavire::ndushavire_decide(
         words::slice(given, w, 0),
         &mut t[..n],
         words::slice(given, w, 2),
+        &mut v[..m],
         &mut out[..room],
     );
-    outcome::put(word, 2) & outcome::put_change(table, &t) & outcome::put_change(buffer, &out)
+    outcome::put(word, 3)
+        & outcome::put_change(table, &t)
+        & outcome::put_change(vectors, &v)
+        & outcome::put_change(buffer, &out)
+}
+
+fn check_vectors(given: &[u8], w: &[u8; 64]) -> bool {
+    let word = ndushavire::ndushavire_check_vectors(words::slice(given, w, 0));
+    outcome::put(word, 0)
 }
 
 // Calls an entry by its number in the streams.
@@ -31,6 +44,7 @@ pub fn call(entry: u8, given: &[u8], w: &[u8; 64]) -> bool {
     match entry {
         1 => check(given, w),
         2 => decide(given, w),
+        3 => check_vectors(given, w),
         _ => false,
     }
 }

@@ -56,9 +56,10 @@ fn put_changed(before: &[u8], after: &[u8]) -> bool
     io::write_all(STDOUT_FILENO, &bytes) & io::write_all(STDOUT_FILENO, &after[first..past])
 }
 
-// What changed in a slice, which lies at the front of after.
-pub fn put_change(before: &[u8], after: &[u8; 40000]) -> bool
-    requires { ⌜ length (now before) ≤ 40000 ⌝ }
-{
+// What changed in a slice, which lies at the front of after and has room there.
+pub fn put_change(before: &[u8], after: &[u8; 40000]) -> bool {
+    if after.len() < before.len() {
+        return false;
+    }
     put_changed(before, after)
 }

@@ -7,7 +7,7 @@ use Rattle.reading.specs.declared.Outcome.{Outcome}
 use Rattle.reading.specs.declared.Outcome.the-variants.{Base, Experimental}
 use Rattle.choices.specs.Types.{asksOnly, carriesUser, effectOf}
 use Rattle.choices.specs.Given.{givenPlain, givenUser}
-use Rattle.choices.specs.Plans.{findingOf, grant, only, planOf}
+use Rattle.choices.specs.Plans.{findingOf, grant, only, deedOf, planOf}
 use Rattle.choices.specs.declared.Given.{Given}
 use Rattle.choices.specs.declared.types.AssignmentType.{AssignmentType}
 use Rattle.choices.specs.declared.types.Effect.{Effect}
@@ -15,6 +15,8 @@ use Rattle.choices.specs.declared.plan.Sar.{Sar}
 use Rattle.choices.specs.declared.plan.Survey.{Survey}
 use Rattle.choices.specs.declared.plan.Finding.{Finding}
 use Rattle.choices.specs.declared.plan.Finding.the-variants.{Denied, Fine}
+use Rattle.choices.specs.declared.plan.Deed.{Deed}
+use Rattle.choices.specs.declared.plan.Deed.the-variants.{Leave, Settle}
 use Rattle.choices.specs.declared.plan.Plan.{Plan}
 
 -- What a survey comes to.
@@ -81,7 +83,17 @@ module _ (s : Sar) (first : ℕ) (owned : Bool) where
   pub plan-fine : (f : Finding) {p : Plan} → f ≡ Fine → p ≡ planOf Fine s first owned → p ≡ planOf f s first owned
   plan-fine f e a = rw e a
 
-  pub plan-made : {e : Effect} {g : Given} → e ≡ effectOf (s .kind) (s .keep) → g ≡ grant s first (e .result)
-      → record { given = g; write = e .write; owned = owned; state = e .state; named = e .named } ≡ planOf Fine s first owned
+  pub plan-made : {e : Effect} {g : Given} {d : Deed} → e ≡ effectOf (s .kind) (s .keep) → g ≡ grant s first (e .result) → d ≡ deedOf e owned
+      → record { given = g; deed = d } ≡ planOf Fine s first owned
   unfolding planOf
-  plan-made e g = rw (g, e)
+  plan-made e g d = rw (g, d, e)
+
+-- What a row has to be written.
+module _ (e : Effect) (owned : Bool) where
+  pub deed-settle : e .write ≡ true → Settle (record { owned = owned; state = e .state; named = e .named }) ≡ deedOf e owned
+  unfolding deedOf
+  deed-settle h = rw h
+
+  pub deed-nothing : e .write ≡ false → Leave ≡ deedOf e owned
+  unfolding deedOf
+  deed-nothing h = rw h

@@ -1,3 +1,4 @@
+pub mod Challenges
 pub mod Choices
 pub mod Given
 pub mod Plans

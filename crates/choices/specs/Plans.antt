@@ -1,6 +1,6 @@
--- "SAR.": what it comes to, by what was seen of its records, and the plan then.
+-- What is planned; and "SAR.": what it comes to, by what was seen of its records, and the plan then.
 use Prim.Native.Nat.{ℕ}
-use mathlib.Core.Bool.{Bool, false, cond, not, _&&_}
+use mathlib.Core.Bool.{Bool, cond, not, _&&_}
 use lib.Dec.{eqb}
 use Rattle.reading.specs.declared.Outcome.{Outcome}
 use Rattle.reading.specs.declared.Outcome.the-variants.{Base, Experimental}
@@ -8,10 +8,13 @@ use Rattle.choices.specs.Types.{asksOnly, carriesUser, effectOf}
 use Rattle.choices.specs.Given.{givenPlain, givenUser}
 use Rattle.choices.specs.declared.Given.{Given}
 use Rattle.choices.specs.declared.types.AssignmentType.{AssignmentType}
+use Rattle.choices.specs.declared.types.Effect.{Effect}
 use Rattle.choices.specs.declared.plan.Sar.{Sar}
 use Rattle.choices.specs.declared.plan.Survey.{Survey}
 use Rattle.choices.specs.declared.plan.Finding.{Finding}
 use Rattle.choices.specs.declared.plan.Finding.the-variants.{Denied, Fine}
+use Rattle.choices.specs.declared.plan.Deed.{Deed}
+use Rattle.choices.specs.declared.plan.Deed.the-variants.{Leave, Settle}
 use Rattle.choices.specs.declared.plan.Plan.{Plan}
 
 -- "any named identity, or a User-Name given, unknown: X5001. All in one subscription, the User-Name's if given, else X5002. Type 0: stored name equal to the
@@ -32,15 +35,13 @@ grant s first r = cond (carriesUser (s .kind)) (givenUser r first (cond (eqb (s 
 
 -- nothing is written
 abbrev pub only : Given → Plan
-only g = record { given = g; write = false; owned = false; state = 0; named = false }
+only g = record { given = g; deed = Leave }
+
+-- what a row of the table of effects has to be written, of the User-Name's records or of the named ones
+unfoldable pub deedOf : Effect → Bool → Deed
+deedOf e owned = cond (e .write) (Settle (record { owned = owned; state = e .state; named = e .named })) Leave
 
 unfoldable pub planOf : Finding → Sar → ℕ → Bool → Plan
 planOf (Denied r) s first owned = only (givenPlain r)
 planOf Fine s first owned =
-    record {
-      given = grant s first (effectOf (s .kind) (s .keep) .result);
-      write = effectOf (s .kind) (s .keep) .write;
-      owned = owned;
-      state = effectOf (s .kind) (s .keep) .state;
-      named = effectOf (s .kind) (s .keep) .named;
-    }
+    record { given = grant s first (effectOf (s .kind) (s .keep) .result); deed = deedOf (effectOf (s .kind) (s .keep)) owned }

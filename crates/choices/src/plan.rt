@@ -1,11 +1,12 @@
-// "SAR.": what it comes to, by what was seen of its records, and the plan then.
+// What is found and planned; and "SAR.": what it comes to, by what was seen of its records, and the plan then.
 use crate::Given;
 use crate::giving;
 use crate::types;
 use crate::types::AssignmentType;
+use crate::types::Effect;
 use reading::Outcome;
 ghost use mathlib.Core.Path.{_≡_};
-ghost use Rattle.choices.specs.Plans.{findingOf, grant, only, planOf};
+ghost use Rattle.choices.specs.Plans.{findingOf, grant, only, deedOf, planOf};
 
 // The numbers of a SAR: its type, 624, whether a User-Name is given; and the header's keep.
 pub struct Sar {
@@ -26,20 +27,31 @@ pub struct Survey {
     pub right: bool,
 }
 
-// What a survey comes to.
+// What the questions of a SAR or a MAR come to.
 pub enum Finding {
     Denied(Outcome),
     Fine,
 }
 
-// A decision that is still to be carried out: what the answer carries, and the effect, if there is one, on the User-Name's records that are not in
-// state 0 or on those of the named identities.
-pub struct Plan {
-    pub given: Given,
-    pub write: bool,
+// A row of the table of effects on the User-Name's records that are not in state 0 or on those of the named identities: the state that each gets, and
+// whether it has the request's server name then.
+pub struct Settling {
     pub owned: bool,
     pub state: u8,
     pub named: bool,
+}
+
+// What is to be written: nothing; a row of the table of effects; the request's server name into the record of a block, with the vectors sent marked.
+pub enum Deed {
+    Leave,
+    Settle(Settling),
+    Challenge(u32),
+}
+
+// A decision that is still to be carried out: what the answer carries, and what is to be written.
+pub struct Plan {
+    pub given: Given,
+    pub deed: Deed,
 }
 
 // The first that is at fault, in the document's order.
@@ -87,11 +99,22 @@ pub fn reply_only(given: Given) -> Plan
 {
     Plan {
         given,
-        write: false,
-        owned: false,
-        state: 0,
-        named: false,
+        deed: Deed::Leave,
     }
+}
+
+// What a row of the table of effects has to be written.
+fn deed_of(e: Effect, owned: bool) -> Deed
+    ensures { λ r. ⌜ r ≡ deedOf e owned ⌝ }
+{
+    if e.write {
+        return Deed::Settle(Settling {
+            owned,
+            state: e.state,
+            named: e.named,
+        });
+    }
+    Deed::Leave
 }
 
 // The row of the type in the table of effects is to be carried out.
@@ -103,10 +126,7 @@ fn effecting(s: Sar, first: u32, owned: bool) -> Plan
     let result = e.result;
     Plan {
         given: granted(s, first, result),
-        write: e.write,
-        owned,
-        state: e.state,
-        named: e.named,
+        deed: deed_of(e, owned),
     }
 }
 

@@ -6,48 +6,71 @@ use native.Mathlib.Omega.{arith}
 use lib.ListN.{length}
 use Rattle.octets.specs.Run.{Wrote}
 use Rattle.table.specs.SoundTable.{SoundTable}
+use Rattle.vectors.specs.Chosen.{Sendable}
+use Rattle.vectors.specs.VectorFile.{SoundVectors}
+use Rattle.reading.specs.Kinds.{serverName}
 use Rattle.reading.specs.Rules.{Seen}
 use Rattle.requests.specs.Judged.{bad, fine}
-use Rattle.requests.specs.Request.{readRequest}
+use Rattle.requests.specs.Request.{readRequest, dataSeen}
 use Rattle.reading.specs.declared.Verdict.{Verdict}
 use Rattle.choices.specs.Given.{givenFault}
 use Rattle.choices.specs.declared.Given.{Given}
 use Rattle.choices.specs.declared.plan.Plan.{Plan}
-use Rattle.assignment.specs.Assignment.{carriedOut}
 use Rattle.reply.specs.Answer.{answerBytes}
-use Rattle.fitting.specs.Decide.{assignmentOf, planRead, decideJudged, decide}
-use Rattle.fitting.proofs.Room.{answer-most}
+use Rattle.fitting.specs.Decide.{assignmentOf, planRead, performed, decideJudged, decide}
+use Rattle.fitting.specs.Deeds.{carriedOut, spentBy, DeedFits}
+use Rattle.fitting.proofs.Deeds as deeds
+use Rattle.fitting.proofs.Room.{answer-most, decide-light}
 use Rattle.deciding.specs.Passed.{Passed}
 use Rattle.deciding.specs.Answers.{Answers}
 
--- A fault: its verdict is given, and the table stays.
-module _ (req t : List ℕ) (count : ℕ) (v : Verdict) (is : readRequest req ≡ bad v) where
-  pub fault-given : (g : Given) → g ≡ givenFault v → g ≡ decide req t count .given
+-- A fault: its verdict is given, and table and vectors stay.
+module _ (req t : List ℕ) (count : ℕ) (v : List ℕ) (f : Verdict) (is : readRequest req ≡ bad f) where
+  pub fault-given : (g : Given) → g ≡ givenFault f → g ≡ decide req t count v .given
   unfolding decide decideJudged
   fault-given g e = e ∙ rw is
 
-  pub fault-table : t ≡ decide req t count .table
+  pub fault-table : t ≡ decide req t count v .table
   unfolding decide decideJudged
   fault-table = rw is
 
--- No fault: what is given and the table are the plan's.
-module _ (req t : List ℕ) (count : ℕ) (seen : Seen) (is : readRequest req ≡ fine seen) (p : Plan) (plans : p ≡ planRead req t count seen) where
-  pub plan-given : p .given ≡ decide req t count .given
+  pub fault-vectors : v ≡ decide req t count v .vectors
   unfolding decide decideJudged
+  fault-vectors = rw is
+
+-- No fault: what is given, the table and the vectors are the plan's.
+module _ (req t : List ℕ) (count : ℕ) (v : List ℕ) (seen : Seen) (is : readRequest req ≡ fine seen) (p : Plan) (plans : p ≡ planRead req t count v seen) where
+  pub plan-given : p .given ≡ decide req t count v .given
+  unfolding decide decideJudged performed
   plan-given = rw (plans, is)
 
-  pub plan-table : {y : List ℕ} → y ≡ carriedOut t count (assignmentOf t seen req) p → y ≡ decide req t count .table
-  unfolding decide decideJudged
+  pub plan-table : {y : List ℕ} → y ≡ carriedOut t count (assignmentOf t seen req) (p .deed) → y ≡ decide req t count v .table
+  unfolding decide decideJudged performed
   plan-table e = e ∙ rw (plans, is)
 
+  pub plan-vectors : {y : List ℕ} → y ≡ spentBy v (p .given .sent) (p .deed) → y ≡ decide req t count v .vectors
+  unfolding decide decideJudged performed
+  plan-vectors e = e ∙ rw (plans, is)
+
+  pub plan-fits : SoundTable t count → DeedFits count (dataSeen seen serverName) (p .deed)
+  plan-fits sound = rw plans (deeds.plan-fits req t count v seen sound is)
+
+  pub plan-sendable : SoundTable t count → SoundVectors v → Sendable v (p .given .sent)
+  plan-sendable sound vectors = rw plan-given (decide-light req t count v vectors .1)
+
+-- What is given, where that is the decision's, can be sent.
+pub given-sendable : (req t o : List ℕ) (count : ℕ) (v : List ℕ) (g : Given) → Passed req o → SoundTable t count → SoundVectors v
+    → g ≡ decide req t count v .given → Sendable v (g .sent)
+given-sendable req t o count v g p s vectors is = rw is (decide-light req t count v vectors .1)
+
 -- The answer of what is given, where that is the decision's.
-module _ (req t file : List ℕ) (count : ℕ) (g : Given) (is : g ≡ decide req t count .given) where
-  pub answers : (before after : List ℕ) (r : ℕ) → Wrote (answerBytes req t file g) before after r → Answers req t count file before after r
+module _ (req t file : List ℕ) (count : ℕ) (v : List ℕ) (g : Given) (is : g ≡ decide req t count v .given) where
+  pub answers : (before after : List ℕ) (r : ℕ) → Wrote (answerBytes req t file v g) before after r → Answers req t count file v before after r
   answers before after r w = rw is at w
 
-  pub given-room : (o : List ℕ) → Passed req o → SoundTable t count → length (answerBytes req t file g) ≤ 36864
-  given-room o p s = rw is (answer-most t file count s req (p .least) (p .most) (p .fours))
+  pub given-room : (o : List ℕ) → Passed req o → SoundTable t count → SoundVectors v → length (answerBytes req t file v g) ≤ 36864
+  given-room o p s vectors = rw is (answer-most t file count s v vectors req (p .least) (p .most) (p .fours))
 
-  pub answers-most : (o : List ℕ) → Passed req o → SoundTable t count → (before after : List ℕ) (r : ℕ) → Wrote (answerBytes req t file g) before after r
-      → r ≤ 36864
-  answers-most o p s before after r w = omega (arith, w .count, given-room o p s)
+  pub answers-most : (o : List ℕ) → Passed req o → SoundTable t count → SoundVectors v → (before after : List ℕ) (r : ℕ)
+      → Wrote (answerBytes req t file v g) before after r → r ≤ 36864
+  answers-most o p s vectors before after r w = omega (arith, w .count, given-room o p s vectors)

@@ -1,36 +1,44 @@
 -- The plan of each command, and what carrying it out leaves.
-use Prim.Native.Nat.{ℕ, _≤_}
-use mathlib.Core.List.{List}
-use mathlib.Core.Bool.{Bool, true, false, cond, true≢false}
+use Prim.Native.Nat.{ℕ, _+_, _*_, _≤_}
+use mathlib.Core.List.{List, [], _∷_}
+use mathlib.Core.Bool.{Bool, true, false}
 use mathlib.Core.Path.{_≡_, refl, sym, _∙_}
 use native.Mathlib.Omega.{arith}
 use lib.ListN.{length}
 use lib.Dec.{eqb}
-use borrow.Author.Tests.{eq-eqb, ne-eqb, eqb-true}
+use borrow.Author.Tests.{ne-eqb}
 use Rattle.record.specs.Fields.{keepOf}
 use Rattle.table.specs.Blocks.{blockOf}
-use Rattle.table.proofs.Sound.{sound-size}
+use Rattle.table.specs.SoundTable.{SoundTable}
+use Rattle.table.proofs.Sound.{sound-size, sound-block}
+use Rattle.blocks.specs.Changed.{changedIn, isOne}
+use Rattle.vectors.specs.Chosen.{sentOf}
+use Rattle.vectors.specs.Marked.{spent}
+use Rattle.vectors.specs.declared.choice.Sent.{Sent}
 use Rattle.rewrite.specs.Change.{afterOf}
-use Rattle.rewrite.specs.Renew.{settled, Fitting}
-use Rattle.reading.specs.Kinds.{userName, publicIdentity, visitedNetwork, serverName, assignmentType, dataAvailable, authorizationType}
+use Rattle.rewrite.specs.Renew.{settled, challenged, Fitting}
+use Rattle.rewrite.proofs.Challenged.{challenged-keeps}
+use Rattle.rewrite.proofs.Tables.{one-after}
+use Rattle.reading.specs.Kinds.{userName, publicIdentity, visitedNetwork, serverName, assignmentType, dataAvailable, authorizationType, numberAuthItems}
 use Rattle.reading.specs.Rules.{Seen}
-use Rattle.requests.specs.Judged.{fine}
 use Rattle.diameter.specs.Message.{commandOf, bodyOf}
-use Rattle.requests.specs.Request.{readRequest, given, dataSeen, valueSeen, identities}
-use Rattle.requests.proofs.Kept.{server-most, server-least}
+use Rattle.requests.specs.Request.{given, dataSeen, valueSeen, schemeOf, identities}
 use Rattle.choices.specs.Types.{typeOf}
 use Rattle.choices.specs.Plans.{only}
 use Rattle.choices.specs.declared.Given.{Given}
 use Rattle.choices.specs.declared.types.AssignmentType.{AssignmentType}
 use Rattle.choices.specs.declared.plan.Sar.{Sar}
+use Rattle.choices.specs.declared.plan.Settling.{Settling}
+use Rattle.choices.specs.declared.plan.Deed.{Deed}
+use Rattle.choices.specs.declared.plan.Deed.the-variants.{Leave, Settle, Challenge}
 use Rattle.choices.specs.declared.plan.Plan.{Plan}
+use Rattle.decisions.specs.Authentication.{authenticate}
 use Rattle.decisions.specs.Authorization.{authorize}
 use Rattle.decisions.specs.Location.{locate}
-use Rattle.table.specs.SoundTable.{SoundTable}
-use Rattle.assignment.specs.Assignment.{isOne, findAll, numbersOf, ownedUpTo, assign, storedName, plannedRecords, carriedOut}
+use Rattle.assignment.specs.Assignment.{findAll, numbersOf, ownedUpTo, assign, storedName, plannedRecords}
 use Rattle.assignment.specs.Survey.{sarOf}
-use Rattle.assignment.proofs.Rows.{assign-fits}
-use Rattle.fitting.specs.Decide.{numbersIn, assignmentOf, planRead}
+use Rattle.fitting.specs.Decide.{numbersIn, assignmentOf, uarPlan, sarPlan, lirPlan, marPlan, planRead}
+use Rattle.fitting.specs.Deeds.{carriedOut, spentBy, DeedFits}
 
 pub numbers-read : (t : List ℕ) (seen : Seen) {n already : ℕ} {kind : AssignmentType} {named keep : Bool} → n ≡ valueSeen seen assignmentType → kind ≡ typeOf n
     → already ≡ valueSeen seen dataAvailable → named ≡ given seen userName → keep ≡ eqb (keepOf (blockOf t 0)) 1
@@ -40,60 +48,113 @@ numbers-read t seen a b c d e = rw (b, a, c, d, e)
 pub keep-read : (t : List ℕ) {h : List ℕ} → h ≡ blockOf t 0 → eqb (keepOf h) 1 ≡ eqb (keepOf (blockOf t 0)) 1
 keep-read t e = rw e
 
-module _ (req t : List ℕ) (count : ℕ) (seen : Seen) {p : Plan} where
-  pub uar-planned : {user public network : List ℕ} {kind : ℕ} {g : Given} → commandOf req ≡ 300 → user ≡ dataSeen seen userName
-      → public ≡ dataSeen seen publicIdentity
+-- The plan of each command.
+module _ (req t : List ℕ) (count : ℕ) (v : List ℕ) (seen : Seen) {p : Plan} where
+  pub uar-planned : {user public network : List ℕ} {kind : ℕ} {g : Given} → user ≡ dataSeen seen userName → public ≡ dataSeen seen publicIdentity
       → network ≡ dataSeen seen visitedNetwork → kind ≡ valueSeen seen authorizationType → g ≡ authorize t count user public network kind → p ≡ only g
-      → p ≡ planRead req t count seen
-  unfolding planRead
-  uar-planned c a b d e g q = q ∙ rw (eq-eqb (commandOf req) 300 c, g, a, b, d, e)
+      → p ≡ uarPlan t count seen
+  unfolding uarPlan
+  uar-planned a b d e g q = q ∙ rw (g, a, b, d, e)
 
-  pub lir-planned : {public : List ℕ} {g : Given} → (commandOf req ≡ 300 → ⊥) → (commandOf req ≡ 301 → ⊥) → public ≡ dataSeen seen publicIdentity
-      → g ≡ locate t count public → p ≡ only g → p ≡ planRead req t count seen
-  unfolding planRead
-  lir-planned c d b g q = q ∙ rw (ne-eqb (commandOf req) 300 c, ne-eqb (commandOf req) 301 d, g, b)
+  pub lir-planned : {public : List ℕ} {g : Given} → public ≡ dataSeen seen publicIdentity → g ≡ locate t count public → p ≡ only g
+      → p ≡ lirPlan t count seen
+  unfolding lirPlan
+  lir-planned b g q = q ∙ rw (g, b)
 
-  pub sar-planned : {s : Sar} {server user : List ℕ} → commandOf req ≡ 301 → s ≡ numbersIn t seen → server ≡ dataSeen seen serverName
-      → user ≡ dataSeen seen userName
-      → p ≡ assign t count (sarOf req s server user) → p ≡ planRead req t count seen
-  unfolding planRead assignmentOf
-  sar-planned c a b d q = let z : commandOf req ≡ 300
-      → ⊥ = λ e. omega (arith, c, e) in q ∙ rw (ne-eqb (commandOf req) 300 z, eq-eqb (commandOf req) 301 c, a, b, d)
+  pub sar-planned : {s : Sar} {server user : List ℕ} → s ≡ numbersIn t seen → server ≡ dataSeen seen serverName → user ≡ dataSeen seen userName
+      → p ≡ assign t count (sarOf req s server user) → p ≡ sarPlan req t count seen
+  unfolding sarPlan assignmentOf
+  sar-planned a b d q = q ∙ rw (a, b, d)
 
--- What a plan writes fits a record: a SAR has a Server-Name.
-pub plan-fits : (req t : List ℕ) (count : ℕ) (seen : Seen) (p : Plan) → readRequest req ≡ fine seen → p ≡ planRead req t count seen → p .write ≡ true
-    → Fitting (p .state) (storedName (p .named) (dataSeen seen serverName))
-unfolding planRead assignmentOf
-plan-fits req t count seen p is e = go (eqb (commandOf req) 300) (eqb (commandOf req) 301) _ _ refl e
-  where
-    go : (x y : Bool) (g h : Given) → eqb (commandOf req) 301 ≡ y → p ≡ cond x (only g) (cond y (assign t count (assignmentOf t seen req)) (only h))
-        → p .write ≡ true
-        → Fitting (p .state) (storedName (p .named) (dataSeen seen serverName))
-    go true y g h c d w = absurd (true≢false (sym (rw d at w)))
-    go false true g h c d w = assign-fits t count (assignmentOf t seen req) d (server-least req seen is (eqb-true _ _ c)) (server-most req seen is) w
-    go false false g h c d w = absurd (true≢false (sym (rw d at w)))
+  pub mar-planned : {user public scheme : List ℕ} {number : ℕ} → user ≡ dataSeen seen userName → public ≡ dataSeen seen publicIdentity
+      → scheme ≡ schemeOf seen → number ≡ valueSeen seen numberAuthItems → p ≡ authenticate t count v user public scheme number → p ≡ marPlan t count v seen
+  unfolding marPlan
+  mar-planned a b d e q = q ∙ rw (a, b, d, e)
+
+  -- by the command
+  module _ {c : ℕ} (command : c ≡ commandOf req) where
+    pub plan-uar : c ≡ 300 → p ≡ uarPlan t count seen → p ≡ planRead req t count v seen
+    unfolding planRead
+    plan-uar a q = rw (← command, a) q
+
+    pub plan-sar : c ≡ 301 → p ≡ sarPlan req t count seen → p ≡ planRead req t count v seen
+    unfolding planRead
+    plan-sar a q = rw (← command, a) q
+
+    pub plan-lir : c ≡ 302 → p ≡ lirPlan t count seen → p ≡ planRead req t count v seen
+    unfolding planRead
+    plan-lir a q = rw (← command, a) q
+
+    pub plan-mar : (c ≡ 300 → ⊥) → (c ≡ 301 → ⊥) → (c ≡ 302 → ⊥) → p ≡ marPlan t count v seen → p ≡ planRead req t count v seen
+    unfolding planRead
+    plan-mar a b d q = rw (← command, ne-eqb c 300 a, ne-eqb c 301 b, ne-eqb c 302 d) q
 
 -- What is left of the table.
-module _ (t : List ℕ) (count : ℕ) (req : List ℕ) (seen : Seen) (p : Plan) where
-  pub carried-owned : {name server user y : List ℕ} → name ≡ dataSeen seen serverName → server ≡ storedName (p .named) name → user ≡ dataSeen seen userName
-      → p .write ≡ true → p .owned ≡ true → y ≡ afterOf t count (isOne (ownedUpTo t user count)) (settled (p .state) server)
-      → y ≡ carriedOut t count (assignmentOf t seen req) p
-  unfolding carriedOut plannedRecords assignmentOf
-  carried-owned a b c d e f = rw (d, e) (f ∙ rw (b, a, c))
+module _ (t : List ℕ) (count : ℕ) (req : List ℕ) (seen : Seen) where
+  module _ (w : Settling) where
+    pub settled-owned : {name server user y : List ℕ} → name ≡ dataSeen seen serverName → server ≡ storedName (w .named) name → user ≡ dataSeen seen userName
+        → w .owned ≡ true → y ≡ afterOf t count (isOne (ownedUpTo t user count)) (settled (w .state) server)
+        → y ≡ carriedOut t count (assignmentOf t seen req) (Settle w)
+    unfolding carriedOut plannedRecords assignmentOf
+    settled-owned a b c e f = rw e (f ∙ rw (b, a, c))
 
-  pub carried-named : {name server y : List ℕ} → name ≡ dataSeen seen serverName → server ≡ storedName (p .named) name → p .write ≡ true → p .owned ≡ false
-      → y ≡ afterOf t count (isOne (numbersOf (findAll t count (identities (bodyOf req))))) (settled (p .state) server)
-      → y ≡ carriedOut t count (assignmentOf t seen req) p
-  unfolding carriedOut plannedRecords assignmentOf
-  carried-named a b d e f = rw (d, e) (f ∙ rw (b, a))
+    pub settled-named : {name server y : List ℕ} → name ≡ dataSeen seen serverName → server ≡ storedName (w .named) name → w .owned ≡ false
+        → y ≡ afterOf t count (isOne (numbersOf (findAll t count (identities (bodyOf req))))) (settled (w .state) server)
+        → y ≡ carriedOut t count (assignmentOf t seen req) (Settle w)
+    unfolding carriedOut plannedRecords assignmentOf
+    settled-named a b e f = rw e (f ∙ rw (b, a))
 
-  pub carried-nothing : p .write ≡ false → t ≡ carriedOut t count (assignmentOf t seen req) p
-  unfolding carriedOut
-  carried-nothing d = rw d
+  pub challenged-one : (k : ℕ) {name y : List ℕ} → SoundTable t count → DeedFits count (dataSeen seen serverName) (Challenge k)
+      → name ≡ dataSeen seen serverName → y ≡ changedIn t k (challenged name) → y ≡ carriedOut t count (assignmentOf t seen req) (Challenge k)
+  unfolding carriedOut assignmentOf isOne
+  challenged-one k sound (a, b, least, most) e f =
+      f ∙ rw e (one-after t count (challenged (dataSeen seen serverName)) (sound-size t count sound)
+      (challenged-keeps (dataSeen seen serverName) least most) k b (isOne (k ∷ [])) (λ j. refl))
 
-pub stored-fits : (seen : Seen) (state : ℕ) (write named : Bool) (name server : List ℕ) → name ≡ dataSeen seen serverName → server ≡ storedName named name
-    → (write ≡ true → Fitting state (storedName named (dataSeen seen serverName))) → write ≡ true → Fitting state server
-stored-fits seen state write named name server a b f w = rw (b, a) (f w)
+  -- by the deed
+  module _ (d : Deed) where
+    pub done-leave : d ≡ Leave → t ≡ carriedOut t count (assignmentOf t seen req) d
+    unfolding carriedOut
+    done-leave e = rw e
+
+    pub done-settle : (w : Settling) {y : List ℕ} → d ≡ Settle w → y ≡ carriedOut t count (assignmentOf t seen req) (Settle w)
+        → y ≡ carriedOut t count (assignmentOf t seen req) d
+    done-settle w e f = rw e f
+
+    pub done-challenge : (k : ℕ) {y : List ℕ} → d ≡ Challenge k → y ≡ carriedOut t count (assignmentOf t seen req) (Challenge k)
+        → y ≡ carriedOut t count (assignmentOf t seen req) d
+    done-challenge k e f = rw e f
+
+pub deed-settles : (count : ℕ) (server : List ℕ) (d : Deed) (w : Settling) → d ≡ Settle w → DeedFits count server d
+    → Fitting (w .state) (storedName (w .named) server)
+deed-settles count server d w e f = rw e at f
+
+pub deed-challenges : (count : ℕ) (server : List ℕ) (d : Deed) (k : ℕ) → d ≡ Challenge k → DeedFits count server d → DeedFits count server (Challenge k)
+deed-challenges count server d k e f = rw e at f
+
+pub stored-fits : (seen : Seen) (w : Settling) (name server : List ℕ) → name ≡ dataSeen seen serverName → server ≡ storedName (w .named) name
+    → Fitting (w .state) (storedName (w .named) (dataSeen seen serverName)) → Fitting (w .state) server
+stored-fits seen w name server a b f = rw (b, a) f
+
+pub challenge-room : (t : List ℕ) (count : ℕ) (server : List ℕ) (k : ℕ) → SoundTable t count → DeedFits count server (Challenge k) → 512 * k + 512 ≤ length t
+challenge-room t count server k sound (a, b, least, most) = sound-block t count sound k b
+
+pub challenge-name : (count : ℕ) (server : List ℕ) (k : ℕ) {name : List ℕ} → DeedFits count server (Challenge k) → name ≡ server → length name ≤ 96
+challenge-name count server k (a, b, least, most) e = rw e most
 
 pub table-whole : (t : List ℕ) (count : ℕ) → SoundTable t count → 512 ≤ length t
 table-whole t count sound = omega (arith, sound-size t count sound)
+
+-- What is left of the vectors.
+module _ (v : List ℕ) (sent : Sent) (d : Deed) where
+  pub spent-leave : d ≡ Leave → v ≡ spentBy v sent d
+  unfolding spentBy
+  spent-leave e = rw e
+
+  pub spent-settle : (w : Settling) → d ≡ Settle w → v ≡ spentBy v sent d
+  unfolding spentBy
+  spent-settle w e = rw e
+
+  pub spent-challenge : (k : ℕ) {y : List ℕ} → d ≡ Challenge k → y ≡ spent v (sentOf sent) → y ≡ spentBy v sent d
+  unfolding spentBy
+  spent-challenge k e f = rw e f

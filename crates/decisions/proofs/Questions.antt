@@ -1,19 +1,26 @@
--- What each function of a UAR or a LIR says of what its callees said.
-use Prim.Native.Nat.{ℕ, _+_, _*_, _≤_}
+-- What each function of a UAR, a LIR or a MAR says of what its callees said.
+use Prim.Native.Nat.{ℕ, _+_, _*_, _≤_, min}
 use mathlib.Core.Bool.{Bool, false}
 use mathlib.Core.Path.{_≡_, refl}
 use mathlib.Core.List.{List}
 use native.Mathlib.Omega.{arith}
 use lib.ListN.{length}
+use lib.Dec.{ltb}
 use Rattle.record.specs.Fields.{privateOf}
 use Rattle.table.specs.Blocks.{blockOf, privateAt}
+use Rattle.vectors.specs.Chosen.{unusedOf, packed}
+use Rattle.vectors.specs.declared.choice.Sent.{Sent}
 use Rattle.lookup.specs.Find.{isAt, findPublic, findPrivate, findServer}
 use Rattle.lookup.specs.declared.Found.{Found}
 use Rattle.lookup.specs.declared.Found.the-variants.{At, Nothing}
 use Rattle.reading.specs.declared.Outcome.{Outcome}
 use Rattle.choices.specs.Choices.{authorization, location}
 use Rattle.choices.specs.Given.{givenPlain, givenServer, givenCapable}
+use Rattle.choices.specs.Challenges.{claimOf, challengeOf}
 use Rattle.choices.specs.declared.Given.{Given}
+use Rattle.choices.specs.declared.challenge.Claimed.{Claimed}
+use Rattle.choices.specs.declared.plan.Finding.{Finding}
+use Rattle.choices.specs.declared.plan.Plan.{Plan}
 use Rattle.choices.specs.declared.choice.Asked.{Asked}
 use Rattle.choices.specs.declared.choice.Sought.{Sought}
 use Rattle.choices.specs.declared.choice.Choice.{Choice}
@@ -21,6 +28,7 @@ use Rattle.choices.specs.declared.choice.Choice.the-variants.{Alone, Server, Ca
 use Rattle.decisions.specs.Carried.{blockFound, servedBy, carried}
 use Rattle.table.specs.SoundTable.{SoundTable}
 use Rattle.decisions.specs.Authorization.{askedAt, askedOf, authorizeFound, authorize}
+use Rattle.decisions.specs.Authentication.{claimedAt, claimedOf, toSend, authenticateFound, authenticate}
 use Rattle.decisions.specs.Location.{soughtAt, soughtOf, locateFound, locate}
 use Rattle.table.proofs.Sound.{sound-block}
 use Rattle.decisions.proofs.Among.{public-among}
@@ -83,6 +91,28 @@ module _ (t : List ℕ) (f : Found) where
       → b ≡ blockOf t k → owner ≡ privateOf b → a ≡ soughtOf t f → c ≡ location a → g ≡ carried t count owner k c → g ≡ locate t count public
   unfolding locate locateFound privateAt
   located count public found at block owns asks chooses s = rw (← found, ← at, ← block, ← owns, ← asks, ← chooses) s
+
+-- A MAR.
+module _ (t : List ℕ) (count : ℕ) (user asked : List ℕ) (f : Found) where
+  pub claimed-known : (some : Bool) (k : ℕ) {b : List ℕ} {x : Bool} {a : Claimed} → f ≡ At k → b ≡ blockOf t k → x ≡ isAt (findPrivate t count user)
+      → a ≡ claimedAt b x user asked some → a ≡ claimedOf t count user asked some f
+  unfolding claimedOf
+  claimed-known some k e block known s = rw (e, ← block, ← known) s
+
+  pub claimed-nothing : (some : Bool) → f ≡ Nothing
+      → record { known = false; together = false; served = false; some = false } ≡ claimedOf t count user asked some f
+  unfolding claimedOf
+  claimed-nothing some e = rw e
+
+  pub authenticated : (v public : List ℕ) (number : ℕ) {sent : Sent} {a : Claimed} {k : ℕ} {c : Finding} {p : Plan} → f ≡ findPublic t count public
+      → sent ≡ toSend v user number → a ≡ claimedOf t count user asked (ltb 0 (sent .count)) f
+      → k ≡ blockFound f → c ≡ claimOf a → p ≡ challengeOf c k sent → p ≡ authenticate t count v user public asked number
+  unfolding authenticate authenticateFound
+  authenticated v public number found sends asks at claims s = rw (← found, ← sends, ← asks, ← at, ← claims) s
+
+pub sends : (v user : List ℕ) (number : ℕ) {m : ℕ} {s : Sent} → m ≡ min number 16 → s ≡ packed (unusedOf v user m) → s ≡ toSend v user number
+unfolding toSend
+sends v user number e f = rw (← e) f
 
 -- The block of a record that was found is there, and so is block 0.
 pub found-room : (t : List ℕ) (count : ℕ) (name : List ℕ) (f : Found) (k : ℕ) → SoundTable t count → f ≡ findPublic t count name → k ≡ blockFound f

@@ -1,4 +1,5 @@
 pub mod Among
+pub mod Authentication
 pub mod Authorization
 pub mod Carried
 pub mod Location

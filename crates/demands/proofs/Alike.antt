@@ -20,16 +20,25 @@ use Rattle.requests.proofs.Naming.{Stood, identities-at, places-stand}
 use Rattle.failed.specs.Failing.{failedBy}
 use Rattle.failed.proofs.Fronts.{failed-at}
 use Rattle.choices.specs.Types.{isRemoval}
-use Rattle.choices.specs.Plans.{findingOf, only}
+use Rattle.choices.specs.Given.{givenFault}
+use Rattle.choices.specs.Plans.{findingOf}
+use Rattle.choices.specs.Challenges.{challengeOf}
 use Rattle.choices.specs.declared.Given.{Given}
+use Rattle.choices.specs.declared.plan.Finding.{Finding}
+use Rattle.choices.specs.declared.plan.Finding.the-variants.{Denied, Fine}
+use Rattle.choices.specs.declared.plan.Deed.{Deed}
+use Rattle.choices.specs.declared.plan.Deed.the-variants.{Leave, Settle, Challenge}
 use Rattle.choices.specs.declared.plan.Plan.{Plan}
+use Rattle.vectors.specs.declared.choice.Sent.{Sent}
+use Rattle.decisions.specs.Authentication.{authenticateFound, authenticate}
 use Rattle.decisions.specs.Authorization.{authorizeFound, authorize}
 use Rattle.decisions.specs.Location.{locateFound, locate}
-use Rattle.assignment.specs.Assignment.{Assignment, meantBy, found, firstOf, namedSurvey, ownedSurvey, assignMeant, assign, plannedRecords, carriedOut}
+use Rattle.assignment.specs.Assignment.{Assignment, meantBy, found, firstOf, namedSurvey, ownedSurvey, assignMeant, assign, plannedRecords}
 use Rattle.assignment.specs.declared.Meant.{Meant}
 use Rattle.assignment.specs.declared.Meant.the-variants.{Fault, Owned, Listed}
-use Rattle.fitting.specs.Decide.{Decision, assignmentOf, planRead}
-use Rattle.fitting.proofs.Blameless.{Blameless, carried-blameless, plan-blameless}
+use Rattle.fitting.specs.Decide.{Decision, assignmentOf, uarPlan, sarPlan, lirPlan, marPlan, planRead, performed}
+use Rattle.fitting.specs.Deeds.{carriedOut, spentBy}
+use Rattle.fitting.proofs.Blameless.{Blameless, carried-plain, plan-plain}
 use Rattle.demands.proofs.Moved.{failed-there}
 
 -- of what is given the same is answered
@@ -37,19 +46,27 @@ pub record SameGiven (long short : List ℕ) (g h : Given) : Type 0 where
   pub result : g .verdict .result ≡ h .verdict .result
   pub failed : failedBy long (g .verdict) ≡ failedBy short (h .verdict)
   pub user : g .user ≡ h .user
+  pub public : g .public ≡ h .public
   pub server : g .server ≡ h .server
   pub capable : g .capable ≡ h .capable
   pub profile : g .profile ≡ h .profile
+  pub sent : g .sent ≡ h .sent
 
 pub record SameDecision (long short : List ℕ) (d e : Decision) : Type 0 where
   pub given : SameGiven long short (d .given) (e .given)
   pub table : d .table ≡ e .table
+  pub vectors : d .vectors ≡ e .vectors
 
 module _ (long short : List ℕ) where
   -- no AVP is at fault
   blameless-same : (g : Given) → Blameless g → SameGiven long short g g
   unfolding failedBy
-  blameless-same g b = record { result = refl; failed = rw (b .0, b .1); user = refl; server = refl; capable = refl; profile = refl }
+  blameless-same g b =
+      record { result = refl; failed = rw (b .0, b .1); user = refl; public = refl; server = refl; capable = refl; profile = refl; sent = refl }
+
+  -- a verdict alone
+  pub fault-same : (v w : Verdict) → v .result ≡ w .result → failedBy long v ≡ failedBy short w → SameGiven long short (givenFault v) (givenFault w)
+  fault-same v w e f = record { result = e; failed = f; user = refl; public = refl; server = refl; capable = refl; profile = refl; sent = refl }
 
   -- whom a SAR means, by the places of its identities
   pub data SameMeant : Meant → Meant → Type 0 where
@@ -87,59 +104,95 @@ module _ (long short : List ℕ) where
       go true = named p q
       go false = second-same o r (a .1 .0) (b .1 .0) (ap (λ (l : List (List ℕ)). getD l 1 []) e)
 
-  module _ (t : List ℕ) (count : ℕ) where
-    abbrev planned : Assignment → Plan → Decision
-    planned s p = record { given = p .given; table = carriedOut t count s p }
-
+  module _ (t : List ℕ) (count : ℕ) (v : List ℕ) where
     meant-same : (s : Assignment) (m n : Meant) → SameMeant m n
-        → SameDecision long short (planned s (assignMeant t count s m)) (planned s (assignMeant t count s n))
-    unfolding assignMeant carriedOut
-    meant-same s m n (fault v w e f) =
-        record { given = record { result = e; failed = f; user = refl; server = refl; capable = refl; profile = refl }; table = refl }
+        → SameDecision long short (performed t count v s (assignMeant t count s m)) (performed t count v s (assignMeant t count s n))
+    unfolding assignMeant performed carriedOut spentBy
+    meant-same s m n (fault x y e f) = record { given = fault-same x y e f; table = refl; vectors = refl }
     meant-same s m n owned =
-        record { given = blameless-same _ (plan-blameless (findingOf (ownedSurvey t count s) (s .numbers .kind)) (s .numbers) 0 true); table = refl }
+        record {
+          given = blameless-same _ (plan-plain (findingOf (ownedSurvey t count s) (s .numbers .kind)) (s .numbers) 0 true .0);
+          table = refl;
+          vectors = refl;
+        }
     meant-same s m n (named p q) =
         record {
-          given = blameless-same _ (plan-blameless (findingOf (namedSurvey t count s) (s .numbers .kind)) (s .numbers) (firstOf (found t count s)) false);
+          given = blameless-same _ (plan-plain (findingOf (namedSurvey t count s) (s .numbers .kind)) (s .numbers) (firstOf (found t count s)) false .0);
           table = refl;
+          vectors = refl;
         }
 
     module _ (seen : Seen) (named-same : identities (bodyOf long) ≡ identities (bodyOf short)) where
-      places-alike : SameMeant
-          (meantBy (isRemoval (assignmentOf t seen long .numbers .kind)) (assignmentOf t seen long .numbers .named) (placesFrom 20 (bodyOf long)))
-          (meantBy (isRemoval (assignmentOf t seen long .numbers .kind)) (assignmentOf t seen long .numbers .named) (placesFrom 20 (bodyOf short)))
+      abbrev longer : Assignment
+      longer = assignmentOf t seen long
+
+      abbrev shorter : Assignment
+      shorter = assignmentOf t seen short
+
+      -- a plan is carried out alike
+      carried-alike : (d : Deed) → carriedOut t count longer d ≡ carriedOut t count shorter d
+      unfolding carriedOut plannedRecords assignmentOf
+      carried-alike Leave = refl
+      carried-alike (Settle w) = rw named-same
+      carried-alike (Challenge k) = refl
+
+      performed-alike : (p : Plan) → performed t count v longer p ≡ performed t count v shorter p
+      unfolding performed
+      performed-alike p = rw (carried-alike (p .deed))
+
+      plan-alike : (p : Plan) → Blameless (p .given) → SameDecision long short (performed t count v longer p) (performed t count v shorter p)
+      unfolding performed
+      plan-alike p b = rw (← performed-alike p) (record { given = blameless-same (p .given) b; table = refl; vectors = refl })
+
+      -- the same SAR but for the places
+      meant-alike : (m : Meant) → assignMeant t count longer m ≡ assignMeant t count shorter m
+      unfolding assignmentOf assignMeant ownedSurvey namedSurvey
+      meant-alike (Fault f) = refl
+      meant-alike Owned = refl
+      meant-alike (Listed place) = rw named-same
+
+      places-alike : SameMeant (meantBy (isRemoval (longer .numbers .kind)) (longer .numbers .named) (longer .places))
+          (meantBy (isRemoval (shorter .numbers .kind)) (shorter .numbers .named) (shorter .places))
+      unfolding assignmentOf
       places-alike =
           places-same _ _ (placesFrom 20 (bodyOf long)) (placesFrom 20 (bodyOf short)) (identities-at long 20 ∙ named-same ∙ sym (identities-at short 20))
           (places-stand long 20)
           (places-stand short 20)
 
-      -- the same SAR but for the places
-      meant-alike : (m : Meant) → planned (assignmentOf t seen long) (assignMeant t count (assignmentOf t seen long) m)
-          ≡ planned (assignmentOf t seen short) (assignMeant t count (assignmentOf t seen short) m)
-      unfolding assignmentOf assignMeant ownedSurvey namedSurvey carriedOut plannedRecords
-      meant-alike (Fault v) = refl
-      meant-alike Owned = rw named-same
-      meant-alike (Listed place) = rw named-same
+      sar-same : SameDecision long short (performed t count v longer (sarPlan long t count seen)) (performed t count v shorter (sarPlan short t count seen))
+      unfolding sarPlan assign
+      sar-same = rw (performed-alike _, meant-alike _) (meant-same shorter _ _ places-alike)
 
-      sar-same : SameDecision long short (planned (assignmentOf t seen long) (assign t count (assignmentOf t seen long)))
-          (planned (assignmentOf t seen short) (assign t count (assignmentOf t seen short)))
-      unfolding assign assignmentOf
-      sar-same = rw (← meant-alike _) (meant-same (assignmentOf t seen long) _ _ places-alike)
+      challenge-blameless : (f : Finding) (k : ℕ) (sent : Sent) → Blameless (challengeOf f k sent .given)
+      unfolding challengeOf
+      challenge-blameless (Denied r) k sent = (refl, refl)
+      challenge-blameless Fine k sent = (refl, refl)
+
+      uar-blameless : Blameless (uarPlan t count seen .given)
+      unfolding uarPlan authorize authorizeFound
+      uar-blameless = carried-plain t count _ _ _ .0
+
+      lir-blameless : Blameless (lirPlan t count seen .given)
+      unfolding lirPlan locate locateFound
+      lir-blameless = carried-plain t count _ _ _ .0
+
+      mar-blameless : Blameless (marPlan t count v seen .given)
+      unfolding marPlan authenticate authenticateFound
+      mar-blameless = challenge-blameless _ _ _
 
       pub plan-same : commandOf long ≡ commandOf short
-          → SameDecision long short (planned (assignmentOf t seen long) (planRead long t count seen))
-          (planned (assignmentOf t seen short) (planRead short t count seen))
-      unfolding planRead authorize authorizeFound locate locateFound carriedOut
+          → SameDecision long short (performed t count v longer (planRead long t count v seen)) (performed t count v shorter (planRead short t count v seen))
+      unfolding planRead
       plan-same e =
-          rw e (go (eqb (commandOf short) 300) (eqb (commandOf short) 301) _ _ (carried-blameless t count _ _ _) (carried-blameless t count _ _ _))
+          rw e (go (eqb (commandOf short) 300) (eqb (commandOf short) 301) (eqb (commandOf short) 302))
         where
-          alone : (g : Given) → Blameless g
-              → SameDecision long short (planned (assignmentOf t seen long) (only g)) (planned (assignmentOf t seen short) (only g))
-          alone g b = record { given = blameless-same g b; table = refl }
-
-          go : (x y : Bool) (uar lir : Given) → Blameless uar → Blameless lir
-              → SameDecision long short (planned (assignmentOf t seen long) (cond x (only uar) (cond y (assign t count (assignmentOf t seen long)) (only lir))))
-              (planned (assignmentOf t seen short) (cond x (only uar) (cond y (assign t count (assignmentOf t seen short)) (only lir))))
-          go true y uar lir a b = alone uar a
-          go false true uar lir a b = sar-same
-          go false false uar lir a b = alone lir b
+          go : (x y z : Bool)
+              → SameDecision long short
+              (performed t count v longer
+              (cond x (uarPlan t count seen) (cond y (sarPlan long t count seen) (cond z (lirPlan t count seen) (marPlan t count v seen)))))
+              (performed t count v shorter
+              (cond x (uarPlan t count seen) (cond y (sarPlan short t count seen) (cond z (lirPlan t count seen) (marPlan t count v seen)))))
+          go true y z = plan-alike (uarPlan t count seen) uar-blameless
+          go false true z = sar-same
+          go false false true = plan-alike (lirPlan t count seen) lir-blameless
+          go false false false = plan-alike (marPlan t count v seen) mar-blameless

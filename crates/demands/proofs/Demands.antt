@@ -1,4 +1,4 @@
--- The three demands, as theorems about `serve`: what a call comes to, the table and the buffer afterwards, for anything lent.
+-- The three demands, as theorems about `serve`: what a call comes to, the table, the vectors and the buffer afterwards, for anything lent.
 -- What the words below mean is in specs/Call, specs/Frame and specs/Insertion.
 use Prim.Native.Nat.{ℕ, _/_, _%_, _<_, _≤_}
 use mathlib.Core.List.{List, _∷_}
@@ -11,6 +11,7 @@ use Rattle.octets.specs.Run.{over}
 use Rattle.table.specs.Blocks.{blockOf, privateAt}
 use Rattle.table.specs.Check.{checkTable}
 use Rattle.table.specs.declared.Checked.the-variants.{Sound, Bad}
+use Rattle.vectors.specs.VectorFile.{checkVectors, SoundVectors}
 use Rattle.diameter.specs.Avp.{sound}
 use Rattle.diameter.specs.Put.{Piece, Whole, All}
 use Rattle.diameter.specs.Message.{commandOf}
@@ -20,8 +21,8 @@ use Rattle.ndushavire.specs.Lent.{Lent, asking}
 use Rattle.ndushavire.specs.Serve.{wrongSize, wrongLength, checkOf, trials, answered, decision, serve}
 use Rattle.ndushavire.specs.Word.{callNumber, callValue, callWord}
 use Rattle.ndushavire.specs.Reads.{callIn, Reads, ReadsCheck}
-use Rattle.ndushavire.specs.Promise.{CheckPromise, DecidePromise}
-use Rattle.demands.proofs.Firm.{check-said}
+use Rattle.ndushavire.specs.Promise.{CheckPromise, CheckVectorsPromise, DecidePromise}
+use Rattle.demands.proofs.Firm.{check-said, check-vectors-said}
 use Rattle.reading.specs.declared.Dialect.{Dialect}
 use Rattle.requests.specs.Request.{dialectOf, cx}
 use Rattle.demands.specs.Call.{turnedAway, answerTo, Exactly}
@@ -30,31 +31,36 @@ use Rattle.demands.specs.Insertion.{requestOf, Foreign, Quiet, Inserted,
 use Rattle.demands.proofs.Refusals.{refusals, number-most, besides-none, besides-block, answer-long, answer-within, word-reads, refused-kept}
 use Rattle.demands.proofs.Refusals.{answered-is, buffer-length, buffer-past}
 use Rattle.demands.proofs.Fitting.{fits}
-use Rattle.demands.proofs.Frame.{question-kept, failure-kept, others-kept, header-kept, bytes-kept, bits-kept, size-kept, sound-kept}
+use Rattle.demands.proofs.Frame.{failure-kept, others-kept, header-kept, bytes-kept, bits-kept, size-kept, sound-kept, question-kept, vectors-kept}
 use Rattle.demands.proofs.Insertions.{unmarked-same, marked-kept, mark-answered, fault-first}
 use Rattle.demands.proofs.Longer.{marked-or-not, longer-newer}
 use Rattle.demands.proofs.Cuts.{every-request}
 
--- THE CALL. What the exported call is promised to return and to leave is `serve`: the call that its word says, the table, the buffer. So each theorem below
--- is one about it.
-pub promised : (x : Lent) {r : ℕ} {t' o' : List ℕ} → DecidePromise x r t' o' → serve x ≡ record { call = callIn r; table = t'; buffer = o' }
-promised x p = rw (p .word-is, p .table-is, p .buffer-is, word-reads x (fits x) .call)
+-- THE CALL. What the exported call is promised to return and to leave is `serve`: the call that its word says, the table, the vectors, the buffer. So each
+-- theorem below is one about it.
+pub promised : (x : Lent) {r : ℕ} {t' v' o' : List ℕ} → DecidePromise x r t' v' o'
+    → serve x ≡ record { call = callIn r; table = t'; vectors = v'; buffer = o' }
+promised x p = rw (p .word-is, p .table-is, p .vectors-is, p .buffer-is, word-reads x (fits x) .call)
 
--- THE CHECK. Out of its word the caller reads number 0 and the count of records, or 5 and the first bad block; bits 32 to 47 are 0.
-pub checked : (t file : List ℕ) {r : ℕ} → CheckPromise t file r → ReadsCheck (checkTable t (length file)) r
+-- THE CHECKS. Out of the word of the table's check the caller reads number 0 and the count of records, or 5 and the first bad block; out of that of the
+-- vector file's number 0 and the count of blocks, or 6 and the first bad block. Bits 32 to 47 are 0.
+pub checked : (t file : List ℕ) {r : ℕ} → CheckPromise t file r → ReadsCheck 5 (checkTable t (length file)) r
 checked t file p = check-said t file p
 
--- DEMAND 1. Every call ends in an answer or in exactly one of five refusals, each given exactly when the paper says, tried in its order.
+pub checked-vectors : (v : List ℕ) {r : ℕ} → CheckVectorsPromise v r → ReadsCheck 6 (checkVectors v) r
+checked-vectors v p = check-vectors-said v p
+
+-- DEMAND 1. Every call ends in an answer or in exactly one of six refusals, each given exactly when the papers say, tried in their order.
 module _ (x : Lent) where
   -- The call's number is that of one of `trials x` exactly where this one holds and none earlier does, and 0 exactly where none holds.
   pub demand-1 : Exactly (trials x) (callNumber (serve x .call))
   demand-1 = refusals x
 
-  pub demand-1-number : callNumber (serve x .call) ≤ 5
+  pub demand-1-number : callNumber (serve x .call) ≤ 6
   demand-1-number = number-most x
 
-  -- Refusals 1 to 4 return 0 besides, refusal 5 the first bad block, and an answer returns its length.
-  pub demand-1-none : (n k : ℕ) → serve x .call ≡ Refused n k → n ≤ 4 → k ≡ 0
+  -- Refusals 1 to 4 and 6 return 0 besides, refusal 5 the first bad block, and an answer returns its length.
+  pub demand-1-none : (n k : ℕ) → serve x .call ≡ Refused n k → n ≢ 5 → k ≡ 0
   demand-1-none = besides-none x
 
   pub demand-1-block : (k : ℕ) → serve x .call ≡ Refused 5 k → checkOf x ≡ Bad k
@@ -65,7 +71,7 @@ module _ (x : Lent) where
 
   -- No answer is longer than the smallest buffer that is taken: it lies within the buffer.
   pub demand-1-fits : wrongSize (x .request) ≡ false → wrongLength (x .request) ≡ false → (count : ℕ) → checkOf x ≡ Sound count
-      → length (answerTo x count) ≤ 36864
+      → SoundVectors (x .vectors) → length (answerTo x count) ≤ 36864
   demand-1-fits = fits x
 
   pub demand-1-within : callNumber (serve x .call) ≡ 0 → callValue (serve x .call) ≤ length (x .buffer)
@@ -75,22 +81,23 @@ module _ (x : Lent) where
   pub demand-1-word : Reads (serve x .call) (callWord (serve x .call))
   demand-1-word = word-reads x (fits x)
 
-  -- A refusal leaves the table and the buffer as they came.
-  pub demand-1-kept : turnedAway x ≡ true → (serve x .table ≡ x .table) × (serve x .buffer ≡ x .buffer)
+  -- A refusal leaves the table, the vectors and the buffer as they came.
+  pub demand-1-kept : turnedAway x ≡ true → (serve x .table ≡ x .table) × (serve x .vectors ≡ x .vectors) × (serve x .buffer ≡ x .buffer)
   demand-1-kept = refused-kept x
 
--- DEMAND 2. Over a sound table of `count` records a call that is not refused is document 01's decision: the call says the length of its answer, the table
--- is the decision's, and the buffer is the answer's bytes over the buffer as it came.
+-- DEMAND 2. Over a sound table of `count` records a call that is not refused is the decision of documents 01 and 02: the call says the length of its answer,
+-- the table and the vectors are the decision's, and the buffer is the answer's bytes over the buffer as it came.
 module _ (x : Lent) (count : ℕ) (sound : checkOf x ≡ Sound count) where
   pub demand-2 : turnedAway x ≡ false
       → (serve x .call ≡ Answered (record { length = length (answerTo x count) }))
       × (serve x .table ≡ decision x count .table)
+      × (serve x .vectors ≡ decision x count .vectors)
       × (serve x .buffer ≡ over (answerTo x count) (x .buffer))
   unfolding answered
-  demand-2 e = let s = answered-is x count sound e in (rw s, rw s, rw s)
+  demand-2 e = let s = answered-is x count sound e in (rw s, rw s, rw s, rw s)
 
-  -- A result that is no success leaves the table as it was.
-  pub demand-2-failure : succeeds (decision x count .given .verdict .result) ≡ false → serve x .table ≡ x .table
+  -- A result that is no success leaves the table and the vectors as they were.
+  pub demand-2-failure : succeeds (decision x count .given .verdict .result) ≡ false → (serve x .table ≡ x .table) × (serve x .vectors ≡ x .vectors)
   demand-2-failure = failure-kept x count sound
 
   -- A block whose private identity is not that of the subscription asked about is as it was, and so is the header.
@@ -116,9 +123,12 @@ module _ (x : Lent) (count : ℕ) (sound : checkOf x ≡ Sound count) where
   demand-2-sound = sound-kept x count sound
 
 module _ (x : Lent) where
-  -- A UAR or a LIR alters nothing: only a SAR does, if any.
-  pub demand-2-question : commandOf (x .request) ≢ 301 → serve x .table ≡ x .table
+  -- A UAR or a LIR alters nothing: only a SAR or a MAR does, if any; and the vectors are altered by no other than a MAR.
+  pub demand-2-question : commandOf (x .request) ≢ 301 → commandOf (x .request) ≢ 303 → (serve x .table ≡ x .table) × (serve x .vectors ≡ x .vectors)
   demand-2-question = question-kept x
+
+  pub demand-2-vectors : commandOf (x .request) ≢ 303 → serve x .vectors ≡ x .vectors
+  demand-2-vectors = vectors-kept x
 
   -- The buffer has as many bytes as it had, and past the answer they are as they came.
   pub demand-2-room : length (serve x .buffer) ≡ length (x .buffer)
@@ -128,24 +138,27 @@ module _ (x : Lent) where
   demand-2-past = buffer-past x
 
 -- DEMAND 3. Let `longer` be a request with AVPs of unknown kinds put in after its first, at one place or at several, so that it stays within 16,384 bytes.
--- A call with `longer` comes to what it comes to with the request, and leaves the same table and the same buffer; but if one of those put in is marked M,
--- the table is as it was, and the answer is the one of B5001 with the first such in Failed-AVP, unless the call is refused or the header or an AVP before
--- that one breaks a reading rule. Before the first AVP there is no place, for (b) wants a Session-Id there; nor does this speak of AVPs with reserved
--- flags, which (c) calls B3009.
+-- A call with `longer` comes to what it comes to with the request, and leaves the same table, the same vectors and the same buffer; but if one of those put
+-- in is marked M, the table is as it was, no vector is used, and the answer is the one of B5001 with the first such in Failed-AVP, unless the call is refused
+-- or the header or an AVP before that one breaks a reading rule. Before the first AVP there is no place, for (b) wants a Session-Id there; nor does this
+-- speak of AVPs with reserved flags, which (c) calls B3009.
 pub demand-3 : (x : Lent) (longer : List ℕ) (l : Longer (x .request) longer) → Newer x longer l
 demand-3 = longer-newer
 
 -- Case by case: a request is a header, a row of AVPs that pass (a), `q` and then `qs`, and any bytes behind them; the longer one has the row `q` and then `rs`.
 module _ (head : List ℕ) (twenty : length head ≡ 20) (q : Piece) (qs rs : List Piece) (whole : All Whole (q ∷ qs)) (tail : List ℕ) (fours : length tail % 4 ≡ 0)
     (most : length (requestOf head (q ∷ rs) tail) ≤ 16384) (x : Lent) where
-  -- If none of them is marked M, the call comes to the same, and leaves the same table and the same buffer.
+  -- If none of them is marked M, the call comes to the same, and leaves the same table, the same vectors and the same buffer.
   pub demand-3-unmarked : Inserted (Quiet (dialectOf cx head)) qs rs
       → serve (asking x (requestOf head (q ∷ rs) tail)) ≡ serve (asking x (requestOf head (q ∷ qs) tail))
   demand-3-unmarked i = unmarked-same head twenty q qs rs whole tail fours most i x
 
-  -- If one is, the table is as it was ..
+  -- If one is, the table is as it was, and no vector is used ..
   pub demand-3-table : FirstMarked (dialectOf cx head) qs rs → serve (asking x (requestOf head (q ∷ rs) tail)) .table ≡ x .table
-  demand-3-table m = marked-kept head twenty q qs rs whole tail fours most m x
+  demand-3-table m = marked-kept head twenty q qs rs whole tail fours most m x .0
+
+  pub demand-3-vectors : FirstMarked (dialectOf cx head) qs rs → serve (asking x (requestOf head (q ∷ rs) tail)) .vectors ≡ x .vectors
+  demand-3-vectors m = marked-kept head twenty q qs rs whole tail fours most m x .1
 
   -- .. and the answer is the one of B5001 with the first marked one in Failed-AVP (before a missing AVP, and before a SAR's own B5005 and B5009) ..
   pub demand-3-marked : (m : FirstMarked (dialectOf cx head) qs rs) → faultIn head (q ∷ m .front) ≡ false

@@ -14,19 +14,26 @@ use Rattle.table.specs.Blocks.{blockOf}
 use Rattle.table.specs.Check.{soundAt, firstBad, checkRecords, checkTable}
 use Rattle.table.specs.declared.Checked.{Checked}
 use Rattle.table.specs.declared.Checked.the-variants.{Sound, Bad}
+use Rattle.vectors.specs.VectorFile.{piecesOf, soundPiece, checkVectors}
+use Rattle.vectors.proofs.Pieces.{piece-near}
 use Rattle.ndushavire.specs.declared.Call.the-variants.{Answered, Refused}
 use Rattle.ndushavire.specs.Lent.{Lent}
 use Rattle.ndushavire.specs.Word.{word, checkWord, checkValue, callWord}
 use Rattle.ndushavire.specs.Reads.{numberIn, placeIn, valueIn, Reads, ReadsCheck}
-use Rattle.ndushavire.specs.Promise.{CheckPromise, DecidePromise}
+use Rattle.ndushavire.specs.Promise.{CheckPromise, CheckVectorsPromise, DecidePromise}
 
 -- Any two returns that meet the promise are equal.
 pub check-unique : (table profile : List ℕ) (r s : ℕ) → CheckPromise table profile r → CheckPromise table profile s → r ≡ s
 check-unique table profile r s p q = p .answer ∙ sym (q .answer)
 
--- So are any two outcomes of a decision: the word, the table and the buffer.
-pub decide-unique : (x : Lent) (r s : ℕ) (t u o q : List ℕ) → DecidePromise x r t o → DecidePromise x s u q → (r ≡ s) × (t ≡ u) × (o ≡ q)
-decide-unique x r s t u o q a b = (a .word-is ∙ sym (b .word-is), a .table-is ∙ sym (b .table-is), a .buffer-is ∙ sym (b .buffer-is))
+pub check-vectors-unique : (vectors : List ℕ) (r s : ℕ) → CheckVectorsPromise vectors r → CheckVectorsPromise vectors s → r ≡ s
+check-vectors-unique vectors r s p q = p .answer ∙ sym (q .answer)
+
+-- So are any two outcomes of a decision: the word, the table, the vectors and the buffer.
+pub decide-unique : (x : Lent) (r s : ℕ) (t u v w o q : List ℕ) → DecidePromise x r t v o → DecidePromise x s u w q
+    → (r ≡ s) × (t ≡ u) × (v ≡ w) × (o ≡ q)
+decide-unique x r s t u v w o q a b =
+    (a .word-is ∙ sym (b .word-is), a .table-is ∙ sym (b .table-is), a .vectors-is ∙ sym (b .vectors-is), a .buffer-is ∙ sym (b .buffer-is))
 
 -- What is put into a word is read out of it: the number, no place, the value.
 record Parts (number value : ℕ) : Type 0 where
@@ -56,15 +63,19 @@ refusal-reads number besides l h =
       call = rw (ne-eqb (numberIn (word number besides)) 0 other, p .number-is, p .value-is);
     }
 
--- So is the check's answer, if what it carries stays below 2^32.
-check-reads : (c : Checked) → checkValue c < 4294967296 → ReadsCheck c (checkWord c)
-check-reads (Sound count) h =
-    let p = parts 0 count h in
-    record { number = p .number-is; place = p .place-is; value = p .value-is; answer = rw (eq-eqb (numberIn (word 0 count)) 0 (p .number-is), p .value-is) }
-check-reads (Bad block) h =
-    let p = parts 5 block h in
-    let other : numberIn (word 5 block) ≢ 0 = λ q. omega (arith, p .number-is, q) in
-    record { number = p .number-is; place = p .place-is; value = p .value-is; answer = rw (ne-eqb (numberIn (word 5 block)) 0 other, p .value-is) }
+-- So is a check's answer, if what it carries stays below 2^32; n is the number of its refusal.
+module _ (n : ℕ) (some : 1 ≤ n) where
+  check-reads : (c : Checked) → checkValue c < 4294967296 → ReadsCheck n c (checkWord n c)
+  check-reads (Sound count) h =
+      let p = parts 0 count h in
+      record { number = p .number-is; place = p .place-is; value = p .value-is; answer = rw (eq-eqb (numberIn (word 0 count)) 0 (p .number-is), p .value-is) }
+  check-reads (Bad block) h =
+      let p = parts n block h in
+      let other : numberIn (word n block) ≢ 0 = λ q. omega (arith, p .number-is, q) in
+      record { number = p .number-is; place = p .place-is; value = p .value-is; answer = rw (ne-eqb (numberIn (word n block)) 0 other, p .value-is) }
+
+  word-decides : (c d : Checked) → checkValue c ≤ 4096 → checkValue d ≤ 4096 → checkWord n c ≡ checkWord n d → c ≡ d
+  word-decides c d h k e = sym (check-reads c (omega arith) .answer) ∙ rw e (check-reads d (omega arith) .answer)
 
 -- It does: no table has more than 4,096 records.
 first-most : (good : ℕ → Bool) (count n k most : ℕ) → count ≤ most → k + n ≤ most + 1 → checkValue (firstBad good count n k) ≤ most
@@ -89,11 +100,33 @@ check-most t file = go (leb 512 (length t)) (soundHeader (blockOf t 0)) (eqb (le
     go true false z e = omega arith
     go false y z e = omega arith
 
--- What the check is promised to return is read back, and so decides its answer.
-pub check-said : (table profile : List ℕ) {r : ℕ} → CheckPromise table profile r → ReadsCheck (checkTable table (length profile)) r
-check-said table profile p = rw (p .answer) (check-reads (checkTable table (length profile)) (omega (arith, check-most table (length profile))))
+-- Nor has a vector file more than 4,096 blocks before its first bad one.
+near-most : (good : ℕ → Bool) (most : ℕ) → ((j : ℕ) → good j ≡ true → j < most) → (count n k : ℕ) → count ≡ k + n → k ≤ most
+    → checkValue (firstBad good count n k) ≤ most
+unfolding firstBad
+near-most good most near count zero k e h = omega arith
+near-most good most near count (suc n) k e h = go (good k) refl (near-most good most near count n (suc k) (omega arith))
+  where
+    go : (x : Bool) → good k ≡ x → (suc k ≤ most → checkValue (firstBad good count n (suc k)) ≤ most)
+        → checkValue (cond x (firstBad good count n (suc k)) (Bad k)) ≤ most
+    go true g r = r (omega (arith, near k g))
+    go false g r = h
 
-pub check-decides : (t u : List ℕ) (file other : ℕ) → checkWord (checkTable t file) ≡ checkWord (checkTable u other) → checkTable t file ≡ checkTable u other
-check-decides t u file other e =
-    sym (check-reads (checkTable t file) (omega (arith, check-most t file)) .answer)
-    ∙ rw e (check-reads (checkTable u other) (omega (arith, check-most u other)) .answer)
+vectors-most : (v : List ℕ) → checkValue (checkVectors v) ≤ 4096
+unfolding checkVectors
+vectors-most v = near-most (soundPiece v) 4096 (piece-near v) (piecesOf v) (piecesOf v) 0 (omega arith) (omega arith)
+
+-- What each check is promised to return is read back, and so decides its answer.
+pub check-said : (table profile : List ℕ) {r : ℕ} → CheckPromise table profile r → ReadsCheck 5 (checkTable table (length profile)) r
+check-said table profile p =
+    rw (p .answer) (check-reads 5 (omega arith) (checkTable table (length profile)) (omega (arith, check-most table (length profile))))
+
+pub check-vectors-said : (vectors : List ℕ) {r : ℕ} → CheckVectorsPromise vectors r → ReadsCheck 6 (checkVectors vectors) r
+check-vectors-said vectors p = rw (p .answer) (check-reads 6 (omega arith) (checkVectors vectors) (omega (arith, vectors-most vectors)))
+
+pub check-decides : (t u : List ℕ) (file other : ℕ) → checkWord 5 (checkTable t file) ≡ checkWord 5 (checkTable u other)
+    → checkTable t file ≡ checkTable u other
+check-decides t u file other = word-decides 5 (omega arith) (checkTable t file) (checkTable u other) (check-most t file) (check-most u other)
+
+pub check-vectors-decides : (v w : List ℕ) → checkWord 6 (checkVectors v) ≡ checkWord 6 (checkVectors w) → checkVectors v ≡ checkVectors w
+check-vectors-decides v w = word-decides 6 (omega arith) (checkVectors v) (checkVectors w) (vectors-most v) (vectors-most w)

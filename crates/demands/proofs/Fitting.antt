@@ -7,7 +7,7 @@ use Rattle.fitting.proofs.Room.{answer-most}
 use Rattle.demands.specs.Call.{Fits}
 
 pub fits : (x : Lent) → Fits x
-fits x size right count sound =
+fits x size right count sound vectors =
     let req = x .request in
-    answer-most (x .table) (x .profile) count (record { file = length (x .profile); checked = sound }) req (size-least req size) (size-most req size)
-    (length-even req refl right)
+    answer-most (x .table) (x .profile) count (record { file = length (x .profile); checked = sound }) (x .vectors) vectors req (size-least req size)
+    (size-most req size) (length-even req refl right)

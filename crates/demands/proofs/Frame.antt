@@ -1,159 +1,110 @@
 -- Demand 2: what a call leaves alone, and that a sound table stays sound.
 use Prim.Native.Nat.{ℕ, zero, suc, _+_, _*_, _/_, _≤_, _<_}
-use mathlib.Core.List.{List, [], _∷_}
-use mathlib.Core.Option.{none, some, Option·some-ne-none}
-use mathlib.Core.Bool.{Bool, true, false, cond, not, _&&_, _||_, true≢false}
-use mathlib.Core.Path.{_≡_, refl, sym, ap, _∙_}
+use mathlib.Core.List.{List}
+use mathlib.Core.Option.{Option, some}
+use mathlib.Core.Bool.{Bool, true, false, true≢false}
+use mathlib.Core.Path.{_≡_, refl, sym, _∙_}
 use mathlib.Core.Logic.{_⊎_, inl, inr, _≢_}
 use native.Mathlib.Omega.{arith}
 use lib.ListN.{length, getD}
-use lib.Dec.{eqb, leb, ltb}
-use borrow.Author.Tests.{eqb-true, eqb-false, ne-eqb, ltb-false, leb-false}
-use Rattle.octets.proofs.All.{and-left, and-right}
-use Rattle.octets.proofs.Names.{same-eq}
-use Rattle.record.specs.Fields.{keepOf}
 use Rattle.table.specs.Blocks.{blockOf, privateAt}
 use Rattle.table.specs.Check.{checkTable}
 use Rattle.table.specs.declared.Checked.the-variants.{Sound}
 use Rattle.table.specs.SoundTable.{SoundTable}
 use Rattle.table.proofs.Sound.{sound-size}
-use Rattle.lookup.specs.Find.{isAt, findPublic, findPrivate}
-use Rattle.lookup.specs.declared.Found.{Found}
-use Rattle.lookup.specs.declared.Found.the-variants.{At, Nothing}
-use Rattle.rewrite.specs.Change.{alterable, Kept, Keeps}
-use Rattle.rewrite.specs.Renew.{settled}
-use Rattle.rewrite.proofs.Settled.{settled-keeps}
+use Rattle.rewrite.specs.Change.{alterable, Kept}
 use Rattle.rewrite.proofs.Sound.{keeping-sound}
 use Rattle.rewrite.proofs.Tables.{Keeping, keeping-same, kept-same, after-frame, after-keeping}
-use Rattle.diameter.specs.Avp.{dataOf}
-use Rattle.reading.specs.declared.Outcome.{Outcome}
-use Rattle.reading.specs.declared.Outcome.the-variants.{Base, Experimental}
-use Rattle.reading.specs.Verdicts.{numberOf}
 use Rattle.diameter.specs.Message.{commandOf}
-use Rattle.requests.proofs.Kept.{server-most, server-least}
-use Rattle.choices.specs.Types.{effectOf}
-use Rattle.choices.specs.declared.types.AssignmentType.{AssignmentType}
-use Rattle.choices.specs.declared.types.AssignmentType.the-variants.{NoAssignment, Registration, ReRegistration, UnregisteredUser, Removal, StoringRemoval}
-use Rattle.choices.specs.declared.types.AssignmentType.the-variants.{Failure}
-use Rattle.choices.specs.declared.types.Effect.{Effect}
-use Rattle.assignment.specs.Assignment.{Assignment, every, isOne, ownAt, storedName}
-use Rattle.assignment.proofs.Rows.{row-fits}
-use Rattle.fitting.specs.Decide.{assignmentOf, decide}
+use Rattle.blocks.specs.Changed.{isOne}
+use Rattle.fitting.specs.Decide.{Decision}
 use Rattle.ndushavire.specs.Lent.{Lent}
 use Rattle.ndushavire.specs.Word.{checkValue}
-use Rattle.ndushavire.specs.Serve.{checkOf, answered, serve}
+use Rattle.ndushavire.specs.Serve.{checkOf, answered, decision, serve}
 use Rattle.demands.specs.Call.{turnedAway}
-use Rattle.demands.specs.Frame.{succeeds, ownerAt, firstOwner, askedIn, subscriptionOf}
+use Rattle.demands.specs.Frame.{succeeds, subscriptionOf}
 use Rattle.demands.proofs.Refusals.{refused-kept, answered-is, taken}
-use Rattle.demands.proofs.Effects.{Assigned, decide-cases}
+use Rattle.demands.proofs.Effects.{Altered, Does, decide-does}
 
--- a test of all the records holds of each; block 0 is none of them
-one-holds : (p : ℕ → Bool) (ks : List ℕ) (k : ℕ) → every p ks ≡ true → isOne ks k ≡ true → p k ≡ true
-unfolding every isOne
-one-holds p [] k a e = absurd (true≢false (sym e))
-one-holds p (j ∷ ks) k a e = go (eqb k j) refl e (one-holds p ks k (and-right (p j) (every p ks) a))
-  where
-    go : (x : Bool) → eqb k j ≡ x → (x || isOne ks k) ≡ true → (isOne ks k ≡ true → p k ≡ true) → p k ≡ true
-    go true f g next = rw (eqb-true k j f) (and-left (p j) (every p ks) a)
-    go false f g next = next g
+-- What an effect leaves: of the table what every effect keeps, and the blocks of another subscription.
+module _ (command : ℕ) (t : List ℕ) (count : ℕ) (v : List ℕ) (subscription : Option (List ℕ)) (d : Decision) (size : length t ≡ 512 * (count + 1))
+    (a : Altered command t count v subscription d) where
+  altered-keeping : Keeping t (d .table) count
+  altered-keeping = rw (a .table) (after-keeping t count (a .change) size (isOne (a .records)) (a .keeps) (a .later))
 
--- each row of the effects is a success
-row-good : (kind : AssignmentType) (keep : Bool) → succeeds (effectOf kind keep .result) ≡ true
-unfolding numberOf
-row-good NoAssignment keep = refl
-row-good Registration keep = refl
-row-good ReRegistration keep = refl
-row-good UnregisteredUser keep = refl
-row-good Removal keep = refl
-row-good StoringRemoval true = refl
-row-good StoringRemoval false = refl
-row-good Failure keep = refl
+  altered-others : (k : ℕ) → k ≤ count → some (privateAt t k) ≢ subscription → blockOf (d .table) k ≡ blockOf t k
+  altered-others k h n = go (isOne (a .records) k) refl
+    where
+      go : (x : Bool) → isOne (a .records) k ≡ x → blockOf (d .table) k ≡ blockOf t k
+      go true e = absurd (n (a .owned k e))
+      go false e = rw (a .table) (after-frame t count (a .change) size (isOne (a .records)) (a .keeps) k h e)
 
--- the blocks of the table after a decision
-module _ (req t : List ℕ) (count : ℕ) (size : length t ≡ 512 * (count + 1)) (a : Assigned req t count) where
-  abbrev asked : Assignment
-  asked = assignmentOf t (a .seen) req
-
-  abbrev chosen : ℕ → Bool
-  chosen = isOne (a .altered .records)
-
-  abbrev effect : Effect
-  effect = effectOf (asked .numbers .kind) (asked .numbers .keep)
-
-  abbrev change : List ℕ → List ℕ
-  change = settled (effect .state) (storedName (effect .named) (asked .server))
-
-  keeps : Keeps change
-  unfolding assignmentOf
-  keeps =
-      settled-keeps _ _
-      (row-fits (asked .server) (server-least req (a .seen) (a .read) (a .command)) (server-most req (a .seen) (a .read)) (asked .numbers .kind)
-      (asked .numbers .keep))
-
-  assigned-keeping : Keeping t (decide req t count .table) count
-  assigned-keeping = rw (a .altered .table) (after-keeping t count change size chosen keeps (a .altered .later))
-
-  assigned-stays : (k : ℕ) → k ≤ count → chosen k ≡ false → blockOf (decide req t count .table) k ≡ blockOf t k
-  assigned-stays k h e = rw (a .altered .table) (after-frame t count change size chosen keeps k h e)
-
-  assigned-owner : (k : ℕ) → chosen k ≡ true → some (privateAt t k) ≡ subscriptionOf req t count
-  unfolding subscriptionOf askedIn assignmentOf ownAt
-  assigned-owner k e =
-      let own = one-holds (ownAt t (a .altered .owner)) (a .altered .records) k (a .altered .owned) e in
-      ap some (same-eq (privateAt t k) (a .altered .owner) own) ∙ a .altered .asked ∙ rw (a .read)
-
-  assigned-good : succeeds (decide req t count .given .verdict .result) ≡ true
-  assigned-good = rw (a .altered .result) (row-good (asked .numbers .kind) (asked .numbers .keep))
-
--- what holds of the table as it came, and of the table that an effect leaves, holds after every call
+-- What holds of the table and the vectors as they came, and of those that an effect leaves, holds after every call.
 module _ (x : Lent) (count : ℕ) (sound : checkOf x ≡ Sound count) where
-  abbrev req : List ℕ
-  req = x .request
-
   abbrev t : List ℕ
   t = x .table
 
-  abbrev file : List ℕ
-  file = x .profile
+  abbrev v : List ℕ
+  v = x .vectors
 
-  module _ (P : List ℕ → Type 0) where
-    after-decision : P t → (Assigned req t count → P (decide req t count .table)) → P (decide req t count .table)
-    after-decision p q = go (decide-cases req t count)
-      where
-        go : (decide req t count .table ≡ t) ⊎ Assigned req t count → P (decide req t count .table)
-        go (inl e) = rw e p
-        go (inr a) = q a
+  abbrev asked : Option (List ℕ)
+  asked = subscriptionOf (x .request) t count
 
-    after-call : P t → (Assigned req t count → P (decide req t count .table)) → P (serve x .table)
-    unfolding answered
-    after-call p q = go (turnedAway x) refl
-      where
-        go : (y : Bool) → turnedAway x ≡ y → P (serve x .table)
-        go true e = rw (refused-kept x e .0) p
-        go false e = rw (answered-is x count sound e) (after-decision p q)
+  abbrev Wrote : Type 0
+  Wrote = Altered (commandOf (x .request)) t count v asked (decision x count)
+
+  after-call : (P : List ℕ → List ℕ → Type 0) → P t v → (Wrote → P (decision x count .table) (decision x count .vectors))
+      → P (serve x .table) (serve x .vectors)
+  unfolding answered
+  after-call P p q = go (turnedAway x) refl
+    where
+      decided : Does (x .request) t count v (decision x count) → P (decision x count .table) (decision x count .vectors)
+      decided (inl (e, f)) = rw (e, f) p
+      decided (inr a) = q a
+
+      go : (y : Bool) → turnedAway x ≡ y → P (serve x .table) (serve x .vectors)
+      go true e = rw (refused-kept x e .0, refused-kept x e .1) p
+      go false e = rw (answered-is x count sound e) (decided (decide-does (x .request) t count v))
+
+  -- where none is made, both are as they came
+  abbrev Left : Type 0
+  Left = (serve x .table ≡ t) × (serve x .vectors ≡ v)
+
+  none-wrote : (Wrote → ⊥) → Left
+  none-wrote n = after-call (λ y z. (y ≡ t) × (z ≡ v)) (refl, refl) (λ a. absurd (n a))
+
+  pub failure-kept : succeeds (decision x count .given .verdict .result) ≡ false → Left
+  failure-kept e = none-wrote (λ a. true≢false (sym (a .good) ∙ e))
+
+  question-left : commandOf (x .request) ≢ 301 → commandOf (x .request) ≢ 303 → Left
+  question-left m n = none-wrote (λ a. go (a .by))
+    where
+      go : ((commandOf (x .request) ≡ 301) × (decision x count .vectors ≡ v)) ⊎ (commandOf (x .request) ≡ 303) → ⊥
+      go (inl (e, f)) = m e
+      go (inr e) = n e
+
+  vectors-left : commandOf (x .request) ≢ 303 → serve x .vectors ≡ v
+  vectors-left n = after-call (λ y z. z ≡ v) refl (λ a. go (a .by))
+    where
+      go : ((commandOf (x .request) ≡ 301) × (decision x count .vectors ≡ v)) ⊎ (commandOf (x .request) ≡ 303) → decision x count .vectors ≡ v
+      go (inl (e, f)) = f
+      go (inr e) = absurd (n e)
 
   abbrev says : SoundTable t count
-  says = record { file = length file; checked = sound }
+  says = record { file = length (x .profile); checked = sound }
 
   size : length t ≡ 512 * (count + 1)
   size = sound-size t count says
 
-  pub failure-kept : succeeds (decide req t count .given .verdict .result) ≡ false → serve x .table ≡ t
-  failure-kept e =
-      after-call (λ (y : List ℕ). y ≡ t) refl
-      (λ a. absurd (true≢false (sym (assigned-good req t count size a) ∙ e)))
-
-  pub others-kept : (k : ℕ) → k ≤ count → some (privateAt t k) ≢ subscriptionOf req t count → blockOf (serve x .table) k ≡ blockOf t k
-  others-kept k h n = after-call (λ (y : List ℕ). blockOf y k ≡ blockOf t k) refl (λ a. stays a (isOne (a .altered .records) k) refl)
-    where
-      stays : (a : Assigned req t count) (x : Bool) → isOne (a .altered .records) k ≡ x
-          → blockOf (decide req t count .table) k ≡ blockOf t k
-      stays a true e = absurd (n (assigned-owner req t count size a k e))
-      stays a false e = assigned-stays req t count size a k h e
+  pub others-kept : (k : ℕ) → k ≤ count → some (privateAt t k) ≢ asked → blockOf (serve x .table) k ≡ blockOf t k
+  others-kept k h n =
+      after-call (λ y z. blockOf y k ≡ blockOf t k) refl (λ a. altered-others (commandOf (x .request)) t count v asked (decision x count) size a k h n)
 
   -- what every effect keeps is kept by every call
   call-keeping : Keeping t (serve x .table) count
-  call-keeping = after-call (λ (y : List ℕ). Keeping t y count) (keeping-same t count) (λ a. assigned-keeping req t count size a)
+  call-keeping =
+      after-call (λ y z. Keeping t y count) (keeping-same t count)
+      (λ a. altered-keeping (commandOf (x .request)) t count v asked (decision x count) size a)
 
   pub header-kept : blockOf (serve x .table) 0 ≡ blockOf t 0
   header-kept = call-keeping .header
@@ -171,13 +122,21 @@ module _ (x : Lent) (count : ℕ) (sound : checkOf x ≡ Sound count) where
   pub size-kept : length (serve x .table) ≡ length t
   size-kept = call-keeping .size
 
-  pub sound-kept : checkTable (serve x .table) (length file) ≡ Sound count
+  pub sound-kept : checkTable (serve x .table) (length (x .profile)) ≡ Sound count
   sound-kept = keeping-sound t (serve x .table) count call-keeping says
 
--- a question: no SAR, no effect
-pub question-kept : (x : Lent) → commandOf (x .request) ≢ 301 → serve x .table ≡ x .table
-question-kept x n = go (turnedAway x) refl
-  where
-    go : (y : Bool) → turnedAway x ≡ y → serve x .table ≡ x .table
-    go true e = refused-kept x e .0
-    go false e = after-call x (checkValue (checkOf x)) (taken x e .table) (λ (y : List ℕ). y ≡ x .table) refl (λ a. absurd (n (a .command)))
+-- whatever the table: a question alters nothing, and none but a MAR alters the vectors
+module _ (x : Lent) where
+  pub question-kept : commandOf (x .request) ≢ 301 → commandOf (x .request) ≢ 303 → (serve x .table ≡ x .table) × (serve x .vectors ≡ x .vectors)
+  question-kept m n = go (turnedAway x) refl
+    where
+      go : (y : Bool) → turnedAway x ≡ y → (serve x .table ≡ x .table) × (serve x .vectors ≡ x .vectors)
+      go true e = (refused-kept x e .0, refused-kept x e .1)
+      go false e = question-left x (checkValue (checkOf x)) (taken x e .table) m n
+
+  pub vectors-kept : commandOf (x .request) ≢ 303 → serve x .vectors ≡ x .vectors
+  vectors-kept n = go (turnedAway x) refl
+    where
+      go : (y : Bool) → turnedAway x ≡ y → serve x .vectors ≡ x .vectors
+      go true e = refused-kept x e .1
+      go false e = vectors-left x (checkValue (checkOf x)) (taken x e .table) n

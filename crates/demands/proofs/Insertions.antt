@@ -28,7 +28,8 @@ use Rattle.failed.specs.Failing.{failedBy}
 use Rattle.failed.proofs.Fronts.{failed-piece, failed-whole}
 use Rattle.choices.specs.Given.{givenFault}
 use Rattle.fitting.specs.Decide.{unaltered, decideJudged, decide}
-use Rattle.reply.specs.Answer.{nameBytes, dataBytes, givenBytes, proxy, proxies, endBytes, restBytes, bodyBytes, answerBytes}
+use Rattle.items.specs.Items.{sentBytes}
+use Rattle.reply.specs.Answer.{identityBytes, nameBytes, dataBytes, givenBytes, proxy, proxies, endBytes, restBytes, bodyBytes, answerBytes}
 use Rattle.ndushavire.specs.Lent.{Lent, asking}
 use Rattle.ndushavire.specs.Word.{checkValue}
 use Rattle.ndushavire.specs.Serve.{noRequest, checkOf, answered, decision, serve}
@@ -155,12 +156,13 @@ module _ {long short : List ℕ} {more : ℕ → ℕ} (none : more 0 ≡ 0) wher
   fault-decides head true false k l (same seen) e = absurd (true≢false (sym e))
 
   fault-keeps : (head : List ℕ) (h f : Bool) {from : ℕ} {i j : Judged} (k : Seen → Judged) → Moved long short from more i j → (not h || f || isFault j) ≡ true
-      → (req t : List ℕ) (count : ℕ) → decideJudged req t count (readFrom head h f i k) .table ≡ t
+      → (req t : List ℕ) (count : ℕ) (v : List ℕ)
+      → (decideJudged req t count v (readFrom head h f i k) .table ≡ t) × (decideJudged req t count v (readFrom head h f i k) .vectors ≡ v)
   unfolding readFrom andThen complete decideJudged
-  fault-keeps head false f k m e req t count = refl
-  fault-keeps head true true k m e req t count = refl
-  fault-keeps head true false k (faults x y m) e req t count = refl
-  fault-keeps head true false k (same seen) e req t count = absurd (true≢false (sym e))
+  fault-keeps head false f k m e req t count v = (refl, refl)
+  fault-keeps head true true k m e req t count v = (refl, refl)
+  fault-keeps head true false k (faults x y m) e req t count v = (refl, refl)
+  fault-keeps head true false k (same seen) e req t count v = absurd (true≢false (sym e))
 
   none-decides : (head : List ℕ) (h f : Bool) {from : ℕ} {i j : Judged} (k : Seen → Judged) (v : Verdict) → Moved long short from more i j
       → (not h || f || isFault j) ≡ false
@@ -389,17 +391,18 @@ module _ (head : List ℕ) (twenty : length head ≡ 20) (q : Piece) (qs rs : Li
       (ap some (failed-whole (m .mark) 5001 (m .foreign .whole) refl))
 
   -- its answer: nothing is given but the verdict
-  marked-body : (t file : List ℕ) → bodyBytes longer t file (givenFault (faultAt 5001 markPlace)) ≡ unsupportedBody longer t (m .mark)
-  unfolding bodyBytes restBytes givenBytes nameBytes dataBytes endBytes capabilities ifThere
-  marked-body t file = rw mark-failed
+  marked-body : (t file v : List ℕ) → bodyBytes longer t file v (givenFault (faultAt 5001 markPlace)) ≡ unsupportedBody longer t (m .mark)
+  unfolding bodyBytes restBytes givenBytes nameBytes identityBytes sentBytes dataBytes endBytes capabilities ifThere
+  marked-body t file v = rw mark-failed
 
-  marked-bytes : (t file : List ℕ) → answerBytes longer t file (givenFault (faultAt 5001 markPlace)) ≡ unsupportedBytes longer t (m .mark)
+  marked-bytes : (t file v : List ℕ) → answerBytes longer t file v (givenFault (faultAt 5001 markPlace)) ≡ unsupportedBytes longer t (m .mark)
   unfolding answerBytes
-  marked-bytes t file = rw (marked-body t file)
+  marked-bytes t file v = rw (marked-body t file v)
 
-  mark-decides : faultIn head (q ∷ m .front) ≡ false → (t : List ℕ) (count : ℕ) → decide longer t count ≡ unaltered t (givenFault (faultAt 5001 markPlace))
+  mark-decides : faultIn head (q ∷ m .front) ≡ false → (t : List ℕ) (count : ℕ) (v : List ℕ)
+      → decide longer t count v ≡ unaltered t v (givenFault (faultAt 5001 markPlace))
   unfolding decide decideJudged
-  mark-decides e t count = rw (mark-read e)
+  mark-decides e t count v = rw (mark-read e)
 
   pub mark-answered : faultIn head (q ∷ m .front) ≡ false → (x : Lent) → turnedAway (asking x shorter) ≡ false
       → serve (asking x longer) ≡ unsupported (asking x longer) (m .mark)
@@ -408,14 +411,14 @@ module _ (head : List ℕ) (twenty : length head ≡ 20) (q : Piece) (qs rs : Li
       let f : turnedAway (asking x longer) ≡ false = turned-same head twenty q qs rs whole tail fours most i x ∙ away in
       let count = checkValue (checkOf x) in
       answered-is (asking x longer) count (taken (asking x longer) f .table) f
-      ∙ ap (answered (asking x longer)) (mark-decides e (x .table) count)
-      ∙ rw (marked-bytes (x .table) (x .profile))
+      ∙ ap (answered (asking x longer)) (mark-decides e (x .table) count (x .vectors))
+      ∙ rw (marked-bytes (x .table) (x .profile) (x .vectors))
 
-  long-decides : (t : List ℕ) (count : ℕ) → decide longer t count ≡ decideJudged longer t count longRead
+  long-decides : (t : List ℕ) (count : ℕ) (v : List ℕ) → decide longer t count v ≡ decideJudged longer t count v longRead
   unfolding decide
-  long-decides t count = rw (message-read head twenty (bytesOf (q ∷ rs) ++ tail), long-read)
+  long-decides t count v = rw (message-read head twenty (bytesOf (q ∷ rs) ++ tail), long-read)
 
-  pub marked-kept : (x : Lent) → serve (asking x longer) .table ≡ x .table
+  pub marked-kept : (x : Lent) → (serve (asking x longer) .table ≡ x .table) × (serve (asking x longer) .vectors ≡ x .vectors)
   unfolding answered faultIn
   marked-kept x = go (turnedAway (asking x longer)) refl (faultIn head (q ∷ m .front)) refl
     where
@@ -425,10 +428,11 @@ module _ (head : List ℕ) (twenty : length head ≡ 20) (q : Piece) (qs rs : Li
       answers : turnedAway (asking x longer) ≡ false → serve (asking x longer) ≡ answered (asking x longer) (decision (asking x longer) count)
       answers e = answered-is (asking x longer) count (taken (asking x longer) e .table) e
 
-      go : (y : Bool) → turnedAway (asking x longer) ≡ y → (z : Bool) → faultIn head (q ∷ m .front) ≡ z → serve (asking x longer) .table ≡ x .table
-      go true e z f = refused-kept (asking x longer) e .0
+      go : (y : Bool) → turnedAway (asking x longer) ≡ y → (z : Bool) → faultIn head (q ∷ m .front) ≡ z
+          → (serve (asking x longer) .table ≡ x .table) × (serve (asking x longer) .vectors ≡ x .vectors)
+      go true e z f = let k = refused-kept (asking x longer) e in (k .0, k .1)
       go false e true f =
-          rw (answers e, long-decides (x .table) count)
+          rw (answers e, long-decides (x .table) count (x .vectors))
           (fault-keeps (none-before q (m .quiet)) head headed (frontOther q (m .front)) (behind markPlace (m .mark ∷ m .after)) front-moved f longer (x .table)
-          count)
-      go false e false f = rw (answers e, mark-decides f (x .table) count)
+          count (x .vectors))
+      go false e false f = rw (answers e, mark-decides f (x .table) count (x .vectors)) (refl, refl)

@@ -1,7 +1,7 @@
 -- Demand 3 about two requests as bytes: those put in are unmarked, or one of them is the first that is marked, and each case is a law.
 use Prim.Native.Nat.{ℕ, _%_, _≤_}
 use mathlib.Core.List.{List, [], _∷_}
-use mathlib.Core.Option.{Option, none, some, Option·none-ne-some}
+use mathlib.Core.Option.{none, some, Option·none-ne-some}
 use mathlib.Core.Bool.{Bool, true, false, cond, _||_}
 use mathlib.Core.Path.{_≡_, refl, sym, ap, _∙_}
 use mathlib.Core.Logic.{_⊎_, inl, inr}
@@ -11,7 +11,7 @@ use Rattle.diameter.specs.Put.{Piece, Whole, All}
 use Rattle.reading.specs.declared.Dialect.{Dialect}
 use Rattle.requests.specs.Request.{dialectOf, cx}
 use Rattle.ndushavire.specs.Lent.{Lent, asking}
-use Rattle.ndushavire.specs.Serve.{answered, serve}
+use Rattle.ndushavire.specs.Serve.{serve}
 use Rattle.demands.specs.Call.{turnedAway}
 use Rattle.demands.specs.Insertion.{requestOf, Foreign, isMarked, Quiet, Inserted, ending, keep, put, FirstMarked, faultIn, unsupported, Longer, Mark}
 use Rattle.demands.specs.Insertion.{behind, firstMark, newer, Newer}
@@ -116,7 +116,7 @@ module _ (head : List ℕ) (twenty : length head ≡ 20) (q : Piece) (qs rs : Li
   row-newer (inl (e, j)) = rw e (unmarked-same head twenty q qs rs whole tail fours most j x)
   row-newer (inr f) = rw (f .is) (marked-newer (f .first) (turnedAway short) (faultIn head (q ∷ f .first .front)) refl refl)
 
-  row-kept : Split i → (m : Mark) → firstMark i ≡ some m → serve long .table ≡ x .table
+  row-kept : Split i → (m : Mark) → firstMark i ≡ some m → (serve long .table ≡ x .table) × (serve long .vectors ≡ x .vectors)
   row-kept (inl (e, j)) m g = absurd (Option·none-ne-some m (sym e ∙ g))
   row-kept (inr f) m g = marked-kept head twenty q qs rs whole tail fours most (f .first) x
 
@@ -128,13 +128,14 @@ longer-newer x longer l =
     let most : length long ≤ 16384 = omega (arith, l .most, ap length (l .bytes)) in
     let same : serve (asking x longer) ≡ serve (asking x long) = ap (λ (y : List ℕ). serve (asking x y)) (l .bytes) in
     let m = firstMark (l .inserted) in
+    let kept =
+    row-kept (c .head) (c .twenty) (c .first) (c .rest) (l .row) (c .whole) (c .tail) (c .fours) most x (l .inserted) (split (l .inserted)) in
     record {
       comes =
           same
           ∙ row-newer (c .head) (c .twenty) (c .first) (c .rest) (l .row) (c .whole) (c .tail) (c .fours) most x (l .inserted) (split (l .inserted))
           ∙ ap (λ (y : List ℕ). newer (asking x y) long (c .head) (c .first) m) (sym (c .joined))
           ∙ ap (λ (y : List ℕ). newer x y (c .head) (c .first) m) (sym (l .bytes));
-      table =
-          λ n e. rw same (row-kept (c .head) (c .twenty) (c .first) (c .rest) (l .row) (c .whole) (c .tail) (c .fours) most x (l .inserted)
-          (split (l .inserted)) n e);
+      table = λ n e. rw same (kept n e .0);
+      vectors = λ n e. rw same (kept n e .1);
     }

@@ -1,7 +1,6 @@
 -- A request of a header and a body: what is read out of it, and that a call looks at the header and the walk over the body alone.
 use Prim.Native.Nat.{ℕ, _+_, _/_, _%_, _<_, _≤_}
 use mathlib.Core.List.{List}
-use mathlib.Core.Option.{none}
 use mathlib.Core.Bool.{false, cond}
 use mathlib.Core.Path.{_≡_, refl, sym, _∙_}
 use mathlib.Core.Logic.{_≢_}
@@ -20,12 +19,12 @@ use Rattle.reading.specs.Verdicts.{faultOf}
 use Rattle.requests.specs.Request.{dialectOf, cx, headerFault, readWalk, readIn, readRequest, identities, sessionOf}
 use Rattle.choices.specs.declared.Given.{Given}
 use Rattle.fitting.specs.Decide.{Decision, decideJudged, decide}
-use Rattle.reply.specs.Answer.{topBytes, nameBytes, dataBytes, givenBytes, proxies, endBytes, restBytes, bodyBytes, headerBytes, answerBytes}
+use Rattle.reply.specs.Answer.{topBytes, identityBytes, nameBytes, dataBytes, givenBytes, proxies, endBytes, restBytes, bodyBytes, headerBytes, answerBytes}
 use Rattle.ndushavire.specs.Lent.{Lent, asking}
 use Rattle.ndushavire.specs.Word.{checkValue}
 use Rattle.ndushavire.specs.Serve.{wrongSize, wrongLength, checkOf, refused, answered, decision, serve}
 use Rattle.demands.specs.Insertion.{message}
-use Rattle.demands.proofs.Alike.{SameGiven, SameDecision, plan-same}
+use Rattle.demands.proofs.Alike.{SameGiven, SameDecision, fault-same, plan-same}
 use Rattle.demands.proofs.Moved.{Moved, faults, same}
 
 -- a header with another length field
@@ -143,9 +142,9 @@ module _ (head : List ℕ) (twenty : length head ≡ 20) (b c : List ℕ) (alike
   abbrev short : List ℕ
   short = message head c
 
-  body-same : (t file : List ℕ) (g h : Given) → SameGiven long short g h → bodyBytes long t file g ≡ bodyBytes short t file h
-  unfolding bodyBytes topBytes restBytes givenBytes nameBytes dataBytes endBytes
-  body-same t file g h s =
+  body-same : (t file v : List ℕ) (g h : Given) → SameGiven long short g h → bodyBytes long t file v g ≡ bodyBytes short t file v h
+  unfolding bodyBytes topBytes restBytes givenBytes nameBytes identityBytes dataBytes endBytes
+  body-same t file v g h s =
       rw (
         s .failed,
         message-body head twenty b,
@@ -154,16 +153,18 @@ module _ (head : List ℕ) (twenty : length head ≡ 20) (b c : List ℕ) (alike
         alike .copies,
         s .result,
         s .user,
+        s .public,
         s .server,
         s .capable,
         s .profile,
+        s .sent,
       )
 
-  answer-same : (t file : List ℕ) (g h : Given) → SameGiven long short g h → answerBytes long t file g ≡ answerBytes short t file h
+  answer-same : (t file v : List ℕ) (g h : Given) → SameGiven long short g h → answerBytes long t file v g ≡ answerBytes short t file v h
   unfolding answerBytes headerBytes
-  answer-same t file g h s =
+  answer-same t file v g h s =
       rw (
-        body-same t file g h s,
+        body-same t file v g h s,
         s .result,
         message-flags head twenty b,
         message-flags head twenty c,
@@ -173,27 +174,23 @@ module _ (head : List ℕ) (twenty : length head ≡ 20) (b c : List ℕ) (alike
 
   pub answered-same : (x : Lent) (d e : Decision) → SameDecision long short d e → answered (asking x long) d ≡ answered (asking x short) e
   unfolding answered
-  answered-same x d e s = rw (answer-same (x .table) (x .profile) (d .given) (e .given) (s .given), s .table)
+  answered-same x d e s = rw (answer-same (x .table) (x .profile) (x .vectors) (d .given) (e .given) (s .given), s .table, s .vectors)
 
   module _ {from : ℕ} {more : ℕ → ℕ} (read : Moved long short from more (readBody head (walk b)) (readBody head (walk c)))
       (named : identities (walk b) ≡ identities (walk c)) where
     both-named : identities (bodyOf long) ≡ identities (bodyOf short)
     both-named = rw (message-body head twenty b, message-body head twenty c) named
 
-    judged-same : (t : List ℕ) (count : ℕ) {j k : Judged} → Moved long short from more j k
-        → SameDecision long short (decideJudged long t count j) (decideJudged short t count k)
+    judged-same : (t : List ℕ) (count : ℕ) (v : List ℕ) {j k : Judged} → Moved long short from more j k
+        → SameDecision long short (decideJudged long t count v j) (decideJudged short t count v k)
     unfolding decideJudged
-    judged-same t count (faults v w l) =
-        record {
-          given = record { result = l .result; failed = l .failed; user = refl; server = refl; capable = refl; profile = refl };
-          table = refl;
-        }
-    judged-same t count (same seen) =
-        plan-same long short t count seen both-named (message-command head twenty b ∙ sym (message-command head twenty c))
+    judged-same t count v (faults f g l) = record { given = fault-same long short f g (l .result) (l .failed); table = refl; vectors = refl }
+    judged-same t count v (same seen) =
+        plan-same long short t count v seen both-named (message-command head twenty b ∙ sym (message-command head twenty c))
 
-    decide-same : (t : List ℕ) (count : ℕ) → SameDecision long short (decide long t count) (decide short t count)
+    decide-same : (t : List ℕ) (count : ℕ) (v : List ℕ) → SameDecision long short (decide long t count v) (decide short t count v)
     unfolding decide
-    decide-same t count = rw (message-read head twenty b, message-read head twenty c) (judged-same t count read)
+    decide-same t count v = rw (message-read head twenty b, message-read head twenty c) (judged-same t count v read)
 
     pub served-same : (x : Lent) → Fit b → Fit c → serve (asking x (message head b)) ≡ serve (asking x (message head c))
     unfolding serve refused
@@ -201,7 +198,7 @@ module _ (head : List ℕ) (twenty : length head ≡ 20) (b c : List ℕ) (alike
         let k = checkValue (checkOf x) in
         let answers : answered (asking x (message head b)) (decision (asking x (message head b)) k)
         ≡ answered (asking x (message head c)) (decision (asking x (message head c)) k) =
-        answered-same x (decision (asking x (message head b)) k) (decision (asking x (message head c)) k) (decide-same (x .table) k) in
+        answered-same x (decision (asking x (message head b)) k) (decision (asking x (message head c)) k) (decide-same (x .table) k (x .vectors)) in
         rw (
           size-right head twenty b f,
           size-right head twenty c g,

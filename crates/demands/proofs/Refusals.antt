@@ -1,8 +1,9 @@
--- Demand 1: an answer, or exactly one of five refusals. What a refused call leaves, and what an answered one writes.
+-- Demand 1: an answer, or exactly one of six refusals. What a refused call leaves, and what an answered one writes.
 use Prim.Native.Nat.{ℕ, _≤_}
 use mathlib.Core.List.{List}
-use mathlib.Core.Bool.{Bool, true, false, _||_, true≢false}
+use mathlib.Core.Bool.{Bool, true, false, true≢false}
 use mathlib.Core.Path.{_≡_, refl, sym, ap, _∙_}
+use mathlib.Core.Logic.{_≢_}
 use native.Mathlib.Omega.{arith}
 use lib.ListN.{length, drop}
 use lib.Seq.{drop-at}
@@ -11,12 +12,14 @@ use Rattle.octets.specs.Run.{over}
 use Rattle.octets.proofs.Writes.{over-length}
 use Rattle.table.specs.declared.Checked.{Checked}
 use Rattle.table.specs.declared.Checked.the-variants.{Sound, Bad}
+use Rattle.vectors.specs.VectorFile.{checkVectors, SoundVectors}
 use Rattle.diameter.specs.Put.{All}
 use Rattle.ndushavire.specs.declared.Call.{Call}
 use Rattle.ndushavire.specs.declared.Call.the-variants.{Answered, Refused}
 use Rattle.ndushavire.specs.Lent.{Lent, asking}
-use Rattle.ndushavire.specs.Trial.{Trial, tried, anyHolds}
-use Rattle.ndushavire.specs.Serve.{Served, smallBuffer, wrongSize, wrongLength, noRequest, isBad, checkOf, trials, refused, answered, decision, serve}
+use Rattle.ndushavire.specs.Trial.{Trial, anyHolds}
+use Rattle.ndushavire.specs.Serve.{Served, smallBuffer, wrongSize, wrongLength, noRequest, isBad, unsound, checkOf, trials, refused, answered, decision}
+use Rattle.ndushavire.specs.Serve.{serve}
 use Rattle.ndushavire.specs.Word.{callNumber, callValue, callWord, checkValue}
 use Rattle.ndushavire.specs.Reads.{Reads}
 use Rattle.fitting.proofs.Tests.{neither}
@@ -24,7 +27,7 @@ use Rattle.demands.specs.Call.{turnedAway, answerTo, Fits, Exactly}
 use Rattle.demands.proofs.Firm.{check-most, answer-reads, refusal-reads}
 use Rattle.demands.proofs.Trials.{tried-by, tried-alike, exactly}
 
--- a sound table's count, and an unsound one's first bad block
+-- a sound file's count, and an unsound one's first bad block
 sound-count : (c : Checked) → isBad c ≡ false → c ≡ Sound (checkValue c)
 sound-count (Sound count) e = refl
 sound-count (Bad block) e = absurd (true≢false e)
@@ -42,6 +45,20 @@ module _ (x : Lent) where
   abbrev answer : Served
   answer = answered x (decision x (checkValue (checkOf x)))
 
+  -- What holds of the fifth, and of each that returns 0 besides, holds of all six.
+  six : (Q : Trial → Type 0) → ((h : Bool) (n : ℕ) → 1 ≤ n → n ≤ 6 → n ≢ 5 → Q (record { holds = h; number = n; besides = 0 })) → Q (unsound (checkOf x))
+      → All Q (trials x)
+  six Q o f = (
+    o _ 1 (omega arith) (omega arith) (omega arith),
+    (
+      o _ 2 (omega arith) (omega arith) (omega arith),
+      (
+        o _ 3 (omega arith) (omega arith) (omega arith),
+        (o _ 4 (omega arith) (omega arith) (omega arith), (f, (o _ 6 (omega arith) (omega arith) (omega arith), tt))),
+      ),
+    ),
+  )
+
   -- What holds of every refusal and of the answer holds of the call.
   call-by : (P : Bool → Served → Type 0) (Q : Trial → Type 0) → All Q (trials x) → ((r : Trial) → Q r → r .holds ≡ true → P true (refused x r))
       → P false answer → P (turnedAway x) (serve x)
@@ -50,46 +67,49 @@ module _ (x : Lent) where
 
   -- What holds of any refusal at all, and of the answer, does.
   any-call : (P : Bool → Served → Type 0) → ((r : Trial) → P true (refused x r)) → P false answer → P (turnedAway x) (serve x)
-  any-call P f o = call-by P (λ r. Unit) (tt, (tt, (tt, (tt, (tt, tt))))) (λ r q h. f r) o
+  any-call P f o = call-by P (λ r. Unit) (six (λ r. Unit) (λ h n a b c. tt) tt) (λ r q h. f r) o
 
   pub refusals : Exactly (trials x) (callNumber (serve x .call))
   unfolding serve refused answered
   refusals =
-      exactly (refused x) answer (λ (s : Served). callNumber (s .call)) (λ r. refl) refl (trials x)
-      (refl, (refl, (refl, (refl, (refl, tt)))), (refl, (refl, (refl, (refl, tt))), (refl, (refl, (refl, tt)), (refl, (refl, tt), (refl, tt, tt)))))
+      exactly (refused x) answer (λ (s : Served). callNumber (s .call)) (λ r. refl) refl (trials x) (
+        refl,
+        (refl, (refl, (refl, (refl, (refl, tt))))),
+        (
+          refl,
+          (refl, (refl, (refl, (refl, tt)))),
+          (refl, (refl, (refl, (refl, tt))), (refl, (refl, (refl, tt)), (refl, (refl, tt), (refl, tt, tt)))),
+        ),
+      )
 
-  pub number-most : callNumber (serve x .call) ≤ 5
+  pub number-most : callNumber (serve x .call) ≤ 6
   unfolding refused answered
   number-most =
-      call-by (λ b s. callNumber (s .call) ≤ 5) (λ r. r .number ≤ 5) (omega arith, (omega arith, (omega arith, (omega arith, (omega arith, tt)))))
-      (λ r h e. h) (omega arith)
+      call-by (λ b s. callNumber (s .call) ≤ 6) (λ r. r .number ≤ 6) (six (λ r. r .number ≤ 6) (λ h n a b c. b) (omega arith)) (λ r h e. h) (omega arith)
 
-  -- Refusals 1 to 4 return 0 besides, refusal 5 the first bad block, an answer its length.
+  -- Refusal 5 returns the first bad block besides, every other refusal 0, an answer its length.
   record Besides (c : Call) : Type 0 where
-    none : (n k : ℕ) → c ≡ Refused n k → n ≤ 4 → k ≡ 0
+    none : (n k : ℕ) → c ≡ Refused n k → n ≢ 5 → k ≡ 0
     block : (k : ℕ) → c ≡ Refused 5 k → checkOf x ≡ Bad k
     long : (n : ℕ) → c ≡ Answered (record { length = n }) → n ≡ length (answerTo x (checkValue (checkOf x)))
 
   record Right (r : Trial) : Type 0 where
-    none : r .number ≤ 4 → r .besides ≡ 0
+    none : r .number ≢ 5 → r .besides ≡ 0
     block : r .holds ≡ true → r .number ≡ 5 → checkOf x ≡ Bad (r .besides)
 
-  early : (h : Bool) (n : ℕ) → n ≤ 4 → Right (record { holds = h; number = n; besides = 0 })
-  early h n l = record { none = λ i. refl; block = λ i e. absurd (omega arith) }
+  other : (h : Bool) (n : ℕ) → n ≢ 5 → Right (record { holds = h; number = n; besides = 0 })
+  other h n l = record { none = λ i. refl; block = λ i e. absurd (l e) }
+
+  fifth : Right (unsound (checkOf x))
+  fifth = record { none = λ i. absurd (i refl); block = λ h e. bad-block (checkOf x) h }
 
   besides : Besides (serve x .call)
   unfolding refused answered isAnswer
   besides =
-      call-by (λ b s. Besides (s .call)) Right (
-        early _ 1 (omega arith),
-        (
-          early _ 2 (omega arith),
-          (early _ 3 (omega arith), (early _ 4 (omega arith), (record { none = λ i. absurd (omega arith); block = λ h e. bad-block (checkOf x) h }, tt))),
-        ),
-      )
+      call-by (λ b s. Besides (s .call)) Right (six Right (λ h n a b c. other h n c) fifth)
       (λ r q h.
       record {
-        none = λ n k e l. sym (ap callValue e) ∙ q .none (omega (arith, ap callNumber e, l));
+        none = λ n k e l. sym (ap callValue e) ∙ q .none (λ i. l (sym (ap callNumber e) ∙ i));
         block = λ k e. q .block h (ap callNumber e) ∙ ap Bad (ap callValue e);
         long = λ n e. absurd (omega (arith, ap isAnswer e));
       })
@@ -99,7 +119,7 @@ module _ (x : Lent) where
         long = λ n e. sym (ap callValue e);
       })
 
-  pub besides-none : (n k : ℕ) → serve x .call ≡ Refused n k → n ≤ 4 → k ≡ 0
+  pub besides-none : (n k : ℕ) → serve x .call ≡ Refused n k → n ≢ 5 → k ≡ 0
   besides-none = besides .none
 
   pub besides-block : (k : ℕ) → serve x .call ≡ Refused 5 k → checkOf x ≡ Bad k
@@ -108,11 +128,12 @@ module _ (x : Lent) where
   pub answer-long : (n : ℕ) → serve x .call ≡ Answered (record { length = n }) → (count : ℕ) → checkOf x ≡ Sound count → n ≡ length (answerTo x count)
   answer-long n e count s = besides .long n e ∙ ap (λ (c : Checked). length (answerTo x (checkValue c))) s
 
-  -- What is refused leaves the table and the buffer; what is not is answered.
-  pub refused-kept : turnedAway x ≡ true → (serve x .table ≡ x .table) × (serve x .buffer ≡ x .buffer)
+  -- What is refused leaves the table, the vectors and the buffer; what is not is answered.
+  pub refused-kept : turnedAway x ≡ true → (serve x .table ≡ x .table) × (serve x .vectors ≡ x .vectors) × (serve x .buffer ≡ x .buffer)
   unfolding refused
   refused-kept =
-      any-call (λ b s. b ≡ true → (s .table ≡ x .table) × (s .buffer ≡ x .buffer)) (λ r e. (refl, refl)) (λ e. absurd (true≢false (sym e)))
+      any-call (λ b s. b ≡ true → (s .table ≡ x .table) × (s .vectors ≡ x .vectors) × (s .buffer ≡ x .buffer)) (λ r e. (refl, refl, refl))
+      (λ e. absurd (true≢false (sym e)))
 
   answer-is : turnedAway x ≡ false → serve x ≡ answer
   answer-is = any-call (λ b s. b ≡ false → s ≡ answer) (λ r e. absurd (true≢false e)) (λ e. refl)
@@ -120,12 +141,13 @@ module _ (x : Lent) where
   pub answered-is : (count : ℕ) → checkOf x ≡ Sound count → turnedAway x ≡ false → serve x ≡ answered x (decision x count)
   answered-is count s e = answer-is e ∙ ap (λ (c : Checked). answered x (decision x (checkValue c))) s
 
-  -- what holds where none of the five does
+  -- what holds where none of the six does
   pub record Taken : Type 0 where
     pub room : 36864 ≤ length (x .buffer)
     pub size : wrongSize (x .request) ≡ false
     pub lengths : wrongLength (x .request) ≡ false
     pub table : checkOf x ≡ Sound (checkValue (checkOf x))
+    pub vectors : SoundVectors (x .vectors)
 
   pub taken : turnedAway x ≡ false → Taken
   unfolding anyHolds
@@ -135,23 +157,25 @@ module _ (x : Lent) where
       let c = neither (wrongLength (x .request)) _ (b .1) in
       let d = neither (noRequest (x .request)) _ (c .1) in
       let f = neither (isBad (checkOf x)) _ (d .1) in
-      record { room = ltb-false _ _ (a .0); size = b .0; lengths = c .0; table = sound-count (checkOf x) (f .0) }
+      let g = neither (isBad (checkVectors (x .vectors))) _ (f .1) in
+      record {
+        room = ltb-false _ _ (a .0);
+        size = b .0;
+        lengths = c .0;
+        table = sound-count (checkOf x) (f .0);
+        vectors = record { count = checkValue (checkVectors (x .vectors)); checked = sound-count (checkVectors (x .vectors)) (g .0) };
+      }
 
   -- The word of a call is read back: what it carries is short.
   module _ (fits : Fits x) where
     abbrev short : (turnedAway x ≡ false) → length (answerTo x (checkValue (checkOf x))) ≤ 36864
-    short e = let h = taken e in fits (h .size) (h .lengths) (checkValue (checkOf x)) (h .table)
+    short e = let h = taken e in fits (h .size) (h .lengths) (checkValue (checkOf x)) (h .table) (h .vectors)
 
     pub word-reads : Reads (serve x .call) (callWord (serve x .call))
     unfolding refused answered
     word-reads =
-        call-by (λ b s. turnedAway x ≡ b → Reads (s .call) (callWord (s .call))) (λ r. (1 ≤ r .number) × (r .besides ≤ 4096)) (
-          (omega arith, omega arith),
-          (
-            (omega arith, omega arith),
-            ((omega arith, omega arith), ((omega arith, omega arith), ((omega arith, check-most (x .table) (length (x .profile))), tt))),
-          ),
-        )
+        call-by (λ b s. turnedAway x ≡ b → Reads (s .call) (callWord (s .call))) (λ r. (1 ≤ r .number) × (r .besides ≤ 4096))
+        (six (λ r. (1 ≤ r .number) × (r .besides ≤ 4096)) (λ h n a b c. (a, omega arith)) (omega arith, check-most (x .table) (length (x .profile))))
         (λ r q h e. refusal-reads (r .number) (r .besides) (q .0) (omega (arith, q .1)))
         (λ e. answer-reads (length (answerTo x (checkValue (checkOf x)))) (omega (arith, short e))) refl
 
@@ -159,7 +183,7 @@ module _ (x : Lent) where
     unfolding refused answered
     answer-within =
         call-by (λ b s. turnedAway x ≡ b → callNumber (s .call) ≡ 0 → callValue (s .call) ≤ length (x .buffer)) (λ r. 1 ≤ r .number)
-        (omega arith, (omega arith, (omega arith, (omega arith, (omega arith, tt))))) (λ r q h e z. absurd (omega (arith, q, z)))
+        (six (λ r. 1 ≤ r .number) (λ h n a b c. a) (omega arith)) (λ r q h e z. absurd (omega (arith, q, z)))
         (λ e z. omega (arith, short e, taken e .room)) refl
 
     pub buffer-length : length (serve x .buffer) ≡ length (x .buffer)

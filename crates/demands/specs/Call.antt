@@ -6,6 +6,7 @@ use mathlib.Core.Bool.{Bool, false, not, _&&_}
 use lib.ListN.{length}
 use lib.Dec.{eqb}
 use Rattle.table.specs.declared.Checked.the-variants.{Sound}
+use Rattle.vectors.specs.VectorFile.{SoundVectors}
 use Rattle.ndushavire.specs.Lent.{Lent}
 use Rattle.ndushavire.specs.Trial.{Trial, anyHolds}
 use Rattle.ndushavire.specs.Serve.{wrongSize, wrongLength, checkOf, trials, answerOf, decision}
@@ -14,12 +15,14 @@ use Rattle.ndushavire.specs.Serve.{wrongSize, wrongLength, checkOf, trials, ans
 abbrev pub turnedAway : Lent → Bool
 turnedAway x = anyHolds (trials x)
 
--- the answer over a sound table of so many records; it fits into the smallest buffer that is taken
+-- the answer over a sound table of so many records; if the vector file is sound too, it fits into the smallest buffer that is taken
 abbrev pub answerTo : Lent → ℕ → List ℕ
 answerTo x count = answerOf x (decision x count)
 
 abbrev pub Fits : Lent → Type 0
-Fits x = wrongSize (x .request) ≡ false → wrongLength (x .request) ≡ false → (count : ℕ) → checkOf x ≡ Sound count → length (answerTo x count) ≤ 36864
+Fits x =
+    wrongSize (x .request) ≡ false → wrongLength (x .request) ≡ false → (count : ℕ) → checkOf x ≡ Sound count → SoundVectors (x .vectors)
+    → length (answerTo x count) ≤ 36864
 
 -- "Given exactly when", "tried in this order": the number is a trial's exactly when that one holds and none earlier does, and 0 exactly when none holds
 pub record Exactly (rs : List Trial) (n : ℕ) : Type 0 where

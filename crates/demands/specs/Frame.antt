@@ -29,7 +29,8 @@ unfoldable pub firstOwner : List ℕ → ℕ → List (List ℕ) → Option (Lis
 firstOwner t count [] = none
 firstOwner t count (a ∷ avps) = ownerAt t (findPublic t count (dataOf a))
 
--- the subscription that a request asks about, by its private identity: the User-Name if given, else that of the first Public-Identity
+-- the subscription that a request asks about, by its private identity: the User-Name if given, as a MAR's always is, else that of the first
+-- Public-Identity
 unfoldable pub askedIn : List ℕ → List ℕ → ℕ → Judged → Option (List ℕ)
 askedIn req t count (bad v) = none
 askedIn req t count (fine seen) = cond (given seen userName) (some (dataSeen seen userName)) (firstOwner t count (identities (bodyOf req)))

@@ -77,7 +77,7 @@ faultIn head qs =
     not (eqb (headerFault (dialectOf cx head) head) 0) || firstOther (glue (avpsOf qs) ended) || isFault
     (judge (dialectOf cx head) 20 (glue (avpsOf qs) ended) nothing)
 
--- (d) "kind unknown: with M B5001": the answer, byte by byte, with the AVP in Failed-AVP; the table is as it was
+-- (d) "kind unknown: with M B5001": the answer, byte by byte, with the AVP in Failed-AVP; the table and the vectors are as they were
 abbrev pub unsupportedBody : List ℕ → List ℕ → Piece → List ℕ
 unsupportedBody req t m = topBytes req t (Base 5001) ++ (failed (m .avp) ++ proxies (bodyOf req))
 
@@ -89,6 +89,7 @@ unsupported x m =
     record {
       call = Answered (record { length = length (unsupportedBytes (x .request) (x .table) m) });
       table = x .table;
+      vectors = x .vectors;
       buffer = over (unsupportedBytes (x .request) (x .table) m) (x .buffer);
     }
 
@@ -133,7 +134,8 @@ unfoldable pub newer : (x : Lent) → List ℕ → List ℕ → Piece → Option
 newer x longer head q none = serve x
 newer x longer head q (some m) = cond (turnedAway x || faultIn head (q ∷ m .front)) (serve x) (unsupported (asking x longer) (m .mark))
 
--- and if one is marked, the table is as it was
+-- and if one is marked, the table is as it was, and no vector is used
 pub record Newer (x : Lent) (longer : List ℕ) (l : Longer (x .request) longer) : Type 0 where
   pub comes : serve (asking x longer) ≡ newer x longer (l .cut .head) (l .cut .first) (firstMark (l .inserted))
   pub table : (m : Mark) → firstMark (l .inserted) ≡ some m → serve (asking x longer) .table ≡ x .table
+  pub vectors : (m : Mark) → firstMark (l .inserted) ≡ some m → serve (asking x longer) .vectors ≡ x .vectors

@@ -8,7 +8,7 @@ use lib.Dec.{eqb, leb, ltb}
 use Rattle.diameter.specs.Avp.{avpHead, avpLen}
 use Rattle.pen.specs.Bytes.{avpBytes, vendorBytes}
 use Rattle.reading.specs.declared.Content.{Content}
-use Rattle.reading.specs.declared.Content.the-variants.{Free, Number, Sized, Application}
+use Rattle.reading.specs.declared.Content.the-variants.{Free, Number, Sized, Members}
 use Rattle.reading.specs.declared.Kind.{Kind}
 use Rattle.reading.specs.declared.Verdict.{Verdict}
 use Rattle.reading.specs.Kinds.{rowOf}
@@ -26,12 +26,13 @@ alone h = set (set (set h 5 0) 6 0) 7 (length h)
 unfoldable pub failedOf : ℕ → List ℕ → List ℕ
 failedOf n t = cond (eqb n 5014) (alone (headPart t)) (take (avpLen t) t)
 
--- "for B5005 an example with zero data, 4 bytes for 4-byte kinds, else none"; "277, 623, 614 and 624 are the 4-byte kinds"
+-- "for B5005 an example with zero data, 4 bytes for 4-byte kinds, else none"; "277, 623, 614 and 624 are the 4-byte kinds";
+-- "607, a 4-byte kind"
 abbrev pub isFour : Content → Bool
 isFour Free = false
 isFour (Number least most) = true
 isFour (Sized least most) = false
-isFour Application = false
+isFour (Members g) = false
 
 abbrev pub exampleSize : Bool → ℕ
 exampleSize four = cond four 4 0

@@ -74,7 +74,7 @@ pub fn put_faulty(out: &mut [u8], req: &[u8], at: usize, n: u32) -> usize
     group::put_failed(out, whole(req, at))
 }
 
-// "277, 623, 614 and 624 are the 4-byte kinds."
+// "277, 623, 614 and 624 are the 4-byte kinds"; "607, a 4-byte kind"
 fn is_four(c: Content) -> bool
     ensures { λ r. ⌜ r ≡ isFour c ⌝ }
 {
@@ -82,7 +82,7 @@ fn is_four(c: Content) -> bool
         Content::Free => false,
         Content::Number(_, _) => true,
         Content::Sized(_, _) => false,
-        Content::Application => false,
+        Content::Members(_) => false,
     }
 }
 

@@ -51,6 +51,16 @@ fn count(fd: i32, piece: &mut [u8]) -> Got
     Got::Nothing
 }
 
+// Whether a file is there. Of one that cannot be opened for another reason reading says what is wrong.
+pub fn is_there(path: &[u8]) -> bool {
+    let fd = os::open_read(path);
+    if fd < 0 {
+        return os::errno() != libc::ENOENT;
+    }
+    libc::close(fd);
+    true
+}
+
 // A file's first bytes, as many as out has room for.
 pub fn load(path: &[u8], out: &mut [u8]) -> Got
     ensures { λ r. ⌜ gotten r ≤ length (now (out .exit)) ⌝ }

@@ -1,4 +1,4 @@
--- Where a decision, and no reading rule, says the result, no AVP of the request is at fault.
+-- Where a decision, and no reading rule, says the result, no AVP of the request is at fault; and what is sent can be sent.
 use Prim.Native.Nat.{ℕ}
 use mathlib.Core.List.{List}
 use mathlib.Core.Bool.{Bool}
@@ -16,27 +16,32 @@ use Rattle.choices.specs.declared.plan.Sar.{Sar}
 use Rattle.choices.specs.declared.plan.Finding.{Finding}
 use Rattle.choices.specs.declared.plan.Finding.the-variants.{Denied, Fine}
 use Rattle.decisions.specs.Carried.{servedBy, carried}
+use Rattle.vectors.specs.Chosen.{noneSent}
 use Rattle.fitting.proofs.Tests.{either}
 
 abbrev pub Blameless : Given → Type 0
 Blameless g = (g .verdict .place ≡ 0) × (g .verdict .lacks ≡ 0)
 
-pub carried-blameless : (t : List ℕ) (count : ℕ) (user : List ℕ) (k : ℕ) (c : Choice) → Blameless (carried t count user k c)
+-- nor is a vector sent
+abbrev pub Plain : Given → Type 0
+Plain g = Blameless g × (g .sent ≡ noneSent)
+
+pub carried-plain : (t : List ℕ) (count : ℕ) (user : List ℕ) (k : ℕ) (c : Choice) → Plain (carried t count user k c)
 unfolding carried
-carried-blameless t count user k (Alone r) = (refl, refl)
-carried-blameless t count user k (Server r) = (refl, refl)
-carried-blameless t count user k (Capabilities r) = (refl, refl)
-carried-blameless t count user k (First r other) = go (findServer t count user)
+carried-plain t count user k (Alone r) = ((refl, refl), refl)
+carried-plain t count user k (Server r) = ((refl, refl), refl)
+carried-plain t count user k (Capabilities r) = ((refl, refl), refl)
+carried-plain t count user k (First r other) = go (findServer t count user)
   where
-    go : (f : Found) → Blameless (servedBy f r other k)
-    go (At j) = (refl, refl)
-    go Nothing = (refl, refl)
+    go : (f : Found) → Plain (servedBy f r other k)
+    go (At j) = ((refl, refl), refl)
+    go Nothing = ((refl, refl), refl)
 
-grant-blameless : (s : Sar) (first : ℕ) (r : Outcome) → Blameless (grant s first r)
+grant-plain : (s : Sar) (first : ℕ) (r : Outcome) → Plain (grant s first r)
 unfolding grant
-grant-blameless s first r = either Blameless (carriesUser (s .kind)) (refl, refl) (refl, refl)
+grant-plain s first r = either Plain (carriesUser (s .kind)) ((refl, refl), refl) ((refl, refl), refl)
 
-pub plan-blameless : (f : Finding) (s : Sar) (first : ℕ) (owned : Bool) → Blameless (planOf f s first owned .given)
+pub plan-plain : (f : Finding) (s : Sar) (first : ℕ) (owned : Bool) → Plain (planOf f s first owned .given)
 unfolding planOf
-plan-blameless (Denied r) s first owned = (refl, refl)
-plan-blameless Fine s first owned = grant-blameless s first _
+plan-plain (Denied r) s first owned = ((refl, refl), refl)
+plan-plain Fine s first owned = grant-plain s first _

@@ -1,3 +1,4 @@
 pub mod Blameless
+pub mod Deeds
 pub mod Room
 pub mod Tests

@@ -1,4 +1,4 @@
--- "Decisions": what one request over a sound table of count records comes to.
+-- "Decisions": what one request over a sound table of count records and a sound vector file comes to.
 use Prim.Native.Nat.{ℕ}
 use mathlib.Core.List.{List}
 use mathlib.Core.Bool.{cond}
@@ -6,10 +6,11 @@ use lib.Dec.{eqb}
 use Rattle.record.specs.Fields.{keepOf}
 use Rattle.table.specs.Blocks.{blockOf}
 use Rattle.reading.specs.Kinds.{userName, publicIdentity, visitedNetwork, serverName, assignmentType, dataAvailable, authorizationType}
+use Rattle.reading.specs.Kinds.{numberAuthItems}
 use Rattle.reading.specs.Rules.{Seen}
 use Rattle.requests.specs.Judged.{Judged, bad, fine}
 use Rattle.diameter.specs.Message.{commandOf, bodyOf}
-use Rattle.requests.specs.Request.{readRequest, given, dataSeen, valueSeen, identities}
+use Rattle.requests.specs.Request.{readRequest, given, dataSeen, valueSeen, schemeOf, identities}
 use Rattle.requests.specs.Identity.{placesFrom}
 use Rattle.choices.specs.Types.{typeOf}
 use Rattle.choices.specs.Given.{givenFault}
@@ -17,18 +18,21 @@ use Rattle.choices.specs.Plans.{only}
 use Rattle.choices.specs.declared.Given.{Given}
 use Rattle.choices.specs.declared.plan.Sar.{Sar}
 use Rattle.choices.specs.declared.plan.Plan.{Plan}
+use Rattle.decisions.specs.Authentication.{authenticate}
 use Rattle.decisions.specs.Authorization.{authorize}
 use Rattle.decisions.specs.Location.{locate}
-use Rattle.assignment.specs.Assignment.{Assignment, assign, carriedOut}
+use Rattle.assignment.specs.Assignment.{Assignment, assign}
+use Rattle.fitting.specs.Deeds.{carriedOut, spentBy}
 
--- A decision: what the answer carries, and the table afterwards
+-- A decision: what the answer carries, the table and the vector file afterwards
 pub record Decision : Type 0 where
   pub given : Given
   pub table : List ℕ
+  pub vectors : List ℕ
 
 -- nothing is altered
-abbrev pub unaltered : List ℕ → Given → Decision
-unaltered t g = record { given = g; table = t }
+abbrev pub unaltered : List ℕ → List ℕ → Given → Decision
+unaltered t v g = record { given = g; table = t; vectors = v }
 
 -- what a SAR says, and the header's keep
 abbrev pub numbersIn : List ℕ → Seen → Sar
@@ -50,18 +54,36 @@ assignmentOf t seen req =
       places = placesFrom 20 (bodyOf req);
     }
 
--- UAR 300, SAR 301, LIR 302
-unfoldable pub planRead : List ℕ → List ℕ → ℕ → Seen → Plan
-planRead req t count seen =
-    cond (eqb (commandOf req) 300)
-    (only (authorize t count (dataSeen seen userName) (dataSeen seen publicIdentity) (dataSeen seen visitedNetwork) (valueSeen seen authorizationType)))
-    (cond (eqb (commandOf req) 301) (assign t count (assignmentOf t seen req))
-    (only (locate t count (dataSeen seen publicIdentity))))
+-- the plan of each command
+unfoldable pub uarPlan : List ℕ → ℕ → Seen → Plan
+uarPlan t count seen =
+    only (authorize t count (dataSeen seen userName) (dataSeen seen publicIdentity) (dataSeen seen visitedNetwork) (valueSeen seen authorizationType))
 
-unfoldable pub decideJudged : List ℕ → List ℕ → ℕ → Judged → Decision
-decideJudged req t count (bad v) = unaltered t (givenFault v)
-decideJudged req t count (fine seen) =
-    record { given = planRead req t count seen .given; table = carriedOut t count (assignmentOf t seen req) (planRead req t count seen) }
+unfoldable pub sarPlan : List ℕ → List ℕ → ℕ → Seen → Plan
+sarPlan req t count seen = assign t count (assignmentOf t seen req)
 
-unfoldable pub decide : List ℕ → List ℕ → ℕ → Decision
-decide req t count = decideJudged req t count (readRequest req)
+unfoldable pub lirPlan : List ℕ → ℕ → Seen → Plan
+lirPlan t count seen = only (locate t count (dataSeen seen publicIdentity))
+
+unfoldable pub marPlan : List ℕ → ℕ → List ℕ → Seen → Plan
+marPlan t count v seen =
+    authenticate t count v (dataSeen seen userName) (dataSeen seen publicIdentity) (schemeOf seen) (valueSeen seen numberAuthItems)
+
+-- UAR 300, SAR 301, LIR 302, MAR 303: no other command is read without a fault of the header
+unfoldable pub planRead : List ℕ → List ℕ → ℕ → List ℕ → Seen → Plan
+planRead req t count v seen =
+    cond (eqb (commandOf req) 300) (uarPlan t count seen)
+    (cond (eqb (commandOf req) 301) (sarPlan req t count seen)
+    (cond (eqb (commandOf req) 302) (lirPlan t count seen)
+    (marPlan t count v seen)))
+
+-- what a plan comes to once it is carried out
+unfoldable pub performed : List ℕ → ℕ → List ℕ → Assignment → Plan → Decision
+performed t count v s p = record { given = p .given; table = carriedOut t count s (p .deed); vectors = spentBy v (p .given .sent) (p .deed) }
+
+unfoldable pub decideJudged : List ℕ → List ℕ → ℕ → List ℕ → Judged → Decision
+decideJudged req t count v (bad f) = unaltered t v (givenFault f)
+decideJudged req t count v (fine seen) = performed t count v (assignmentOf t seen req) (planRead req t count v seen)
+
+unfoldable pub decide : List ℕ → List ℕ → ℕ → List ℕ → Decision
+decide req t count v = decideJudged req t count v (readRequest req)

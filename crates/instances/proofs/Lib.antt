@@ -1,1 +1,5 @@
-pub mod Instances
+pub mod Asked
+pub mod Calls
+pub mod Challenges
+pub mod Insertions
+pub mod Run

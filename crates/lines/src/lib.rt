@@ -1,6 +1,6 @@
 // Words and numbers, as a line of text has them.
 use octets::run;
-ghost use Prim.Native.Nat.{_≤_};
+ghost use Prim.Native.Nat.{_+_, _≤_};
 ghost use lib.ListN.{length};
 ghost use Rattle.lines.specs.Words.{Number, Words};
 
@@ -17,8 +17,9 @@ fn put_number(out: &mut [u8], n: u32) -> usize
 
 // Words, the digits of n, and words.
 pub fn put_words(out: &mut [u8], before: &[u8], n: u32, after: &[u8]) -> usize
-    requires { ⌜ (length (now before) ≤ 10) × (length (now after) ≤ 10) × (30 ≤ length (now out)) ⌝ }
-    ensures { λ r. ⌜ (r ≤ 30) × Words (now (before .entry)) n (now (after .entry)) (now (out .entry)) (now (out .exit)) r ⌝ }
+    requires { ⌜ length (now before) + 10 + length (now after) ≤ length (now out) ⌝ }
+    ensures { λ r. ⌜ (r ≤ length (now (before .entry)) + 10 + length (now (after .entry)))
+        × Words (now (before .entry)) n (now (after .entry)) (now (out .entry)) (now (out .exit)) r ⌝ }
 {
     let a = before.len();
     run::copy(out, before);

@@ -12,6 +12,7 @@ use Rattle.table.specs.Check.{checkTable}
 use Rattle.table.specs.declared.Checked.{Checked}
 use Rattle.table.specs.declared.Checked.the-variants.{Sound, Bad}
 use Rattle.table.specs.SoundTable.{SoundTable}
+use Rattle.vectors.specs.VectorFile.{checkVectors, SoundVectors}
 use Rattle.fitting.specs.Decide.{decide}
 use Rattle.deciding.specs.Passed.{Passed}
 use Rattle.deciding.specs.Answers.{Answers}
@@ -42,50 +43,73 @@ length-even req {x} e f = go (eqb (be24At req 1) (length req)) (eqb (length req 
 pub checked-sound : (t : List ℕ) (n count : ℕ) {c : Checked} → c ≡ checkTable t n → c ≡ Sound count → SoundTable t count
 checked-sound t n count e f = record { file = n; checked = sym e ∙ f }
 
-module _ (req t file o : List ℕ) (c : Checked) where
-  pub served-bad : (k : ℕ) → c ≡ Bad k → Leaves (serveChecked (lent req t file o) c) (Refused 5 k) t o
-  unfolding serveChecked tried refused
-  served-bad k e = record { call-is = rw e; table-is = rw e; buffer-is = rw e }
+pub vectors-sound : (v : List ℕ) (n : ℕ) {d : Checked} → d ≡ checkVectors v → d ≡ Sound n → SoundVectors v
+vectors-sound v n e f = record { count = n; checked = sym e ∙ f }
 
-  pub served-sound : (count n : ℕ) {t' o' : List ℕ} → c ≡ Sound count → Answers req t count file o o' n → t' ≡ decide req t count .table
-      → Leaves (serveChecked (lent req t file o) c) (Answered (record { length = n })) t' o'
-  unfolding serveChecked tried answered
-  served-sound count n e a d =
-      record { call-is = rw e (ap (λ (m : ℕ). Answered (record { length = m })) (a .count)); table-is = d ∙ rw e; buffer-is = a .bytes ∙ rw e }
-
--- The five refusals, in their order.
-module _ (req t file o : List ℕ) where
+-- The last two refusals, and the answer.
+module _ (req t file v o : List ℕ) where
   abbrev x : Lent
-  x = lent req t file o
+  x = lent req t file v o
 
-  pub call-buffer : length o < 36864 → Leaves (serve x) (Refused 1 0) t o
+  pub served-bad : (c d : Checked) (k : ℕ) → c ≡ Bad k → Leaves (serveChecked x c d) (Refused 5 k) t v o
+  unfolding serveChecked tried refused
+  served-bad c d k e = record { call-is = rw e; table-is = rw e; vectors-is = rw e; buffer-is = rw e }
+
+  pub served-more : (c d : Checked) (count : ℕ) {r : Call} {t' v' o' : List ℕ} → c ≡ Sound count → d ≡ checkVectors v
+      → Leaves (serveChecked x (Sound count) d) r t' v' o' → Leaves (serveChecked x c (checkVectors v)) r t' v' o'
+  served-more c d count e f s = rw (e, ← f) s
+
+  module _ (count : ℕ) (d : Checked) where
+    pub served-spoilt : (k : ℕ) → d ≡ Bad k → Leaves (serveChecked x (Sound count) d) (Refused 6 0) t v o
+    unfolding serveChecked tried refused
+    served-spoilt k e = record { call-is = rw e; table-is = rw e; vectors-is = rw e; buffer-is = rw e }
+
+    pub served-sound : (m n : ℕ) {t' v' o' : List ℕ} → d ≡ Sound m → Answers req t count file v o o' n → t' ≡ decide req t count v .table
+        → v' ≡ decide req t count v .vectors → Leaves (serveChecked x (Sound count) d) (Answered (record { length = n })) t' v' o'
+    unfolding serveChecked tried answered
+    served-sound m n e a f g =
+        record {
+          call-is = rw e (ap (λ (z : ℕ). Answered (record { length = z })) (a .count));
+          table-is = f ∙ rw e;
+          vectors-is = g ∙ rw e;
+          buffer-is = a .bytes ∙ rw e;
+        }
+
+-- The first four, in their order.
+module _ (req t file v o : List ℕ) where
+  abbrev y : Lent
+  y = lent req t file v o
+
+  pub call-buffer : length o < 36864 → Leaves (serve y) (Refused 1 0) t v o
   unfolding serve tried refused
-  call-buffer a = let h = lt-ltb (length o) 36864 a in record { call-is = rw h; table-is = rw h; buffer-is = rw h }
+  call-buffer a = let h = lt-ltb (length o) 36864 a in record { call-is = rw h; table-is = rw h; vectors-is = rw h; buffer-is = rw h }
 
   module _ (room : 36864 ≤ length o) where
-    pub call-size : wrongSize req ≡ true → Leaves (serve x) (Refused 2 0) t o
+    pub call-size : wrongSize req ≡ true → Leaves (serve y) (Refused 2 0) t v o
     unfolding serve tried refused
-    call-size a = let h = le-ltb (length o) 36864 room in record { call-is = rw (h, a); table-is = rw (h, a); buffer-is = rw (h, a) }
+    call-size a =
+        let h = le-ltb (length o) 36864 room in
+        record { call-is = rw (h, a); table-is = rw (h, a); vectors-is = rw (h, a); buffer-is = rw (h, a) }
 
     module _ (fits : wrongSize req ≡ false) {w : Bool} (is : w ≡ wrongLength req) where
-      pub call-length : w ≡ true → Leaves (serve x) (Refused 3 0) t o
+      pub call-length : w ≡ true → Leaves (serve y) (Refused 3 0) t v o
       unfolding serve tried refused
       call-length a =
           let h = le-ltb (length o) 36864 room in
           let l : wrongLength req ≡ true = sym is ∙ a in
-          record { call-is = rw (h, fits, l); table-is = rw (h, fits, l); buffer-is = rw (h, fits, l) }
+          record { call-is = rw (h, fits, l); table-is = rw (h, fits, l); vectors-is = rw (h, fits, l); buffer-is = rw (h, fits, l) }
 
-      pub call-request : w ≡ false → getD req 4 0 < 128 → Leaves (serve x) (Refused 4 0) t o
+      pub call-request : w ≡ false → getD req 4 0 < 128 → Leaves (serve y) (Refused 4 0) t v o
       unfolding serve tried refused
       call-request a b =
           let h = le-ltb (length o) 36864 room in
           let l : wrongLength req ≡ false = sym is ∙ a in
           let q = lt-ltb (getD req 4 0) 128 b in
-          record { call-is = rw (h, fits, l, q); table-is = rw (h, fits, l, q); buffer-is = rw (h, fits, l, q) }
+          record { call-is = rw (h, fits, l, q); table-is = rw (h, fits, l, q); vectors-is = rw (h, fits, l, q); buffer-is = rw (h, fits, l, q) }
 
-      pub call-rest : w ≡ false → 128 ≤ getD req 4 0 → (c : Checked) → c ≡ checkTable t (length file) → {r : Call} {t' o' : List ℕ}
-          → Leaves (serveChecked x c) r t' o'
-          → Leaves (serve x) r t' o'
+      pub call-rest : w ≡ false → 128 ≤ getD req 4 0 → (c : Checked) → c ≡ checkTable t (length file) → {r : Call} {t' v' o' : List ℕ}
+          → Leaves (serveChecked y c (checkVectors v)) r t' v' o'
+          → Leaves (serve y) r t' v' o'
       unfolding serve tried serveChecked
       call-rest a b c d s =
           let h = le-ltb (length o) 36864 room in
@@ -94,8 +118,9 @@ module _ (req t file o : List ℕ) where
           rw (h, fits, l, q, ← d) s
 
 -- The call as a word.
-pub word-promised : (x : Lent) {c : Call} {w : ℕ} {t' o' : List ℕ} → Leaves (serve x) c t' o' → w ≡ callWord c → DecidePromise x w t' o'
-word-promised x s e = record { word-is = e ∙ ap callWord (s .call-is); table-is = s .table-is; buffer-is = s .buffer-is }
+pub word-promised : (x : Lent) {c : Call} {w : ℕ} {t' v' o' : List ℕ} → Leaves (serve x) c t' v' o' → w ≡ callWord c → DecidePromise x w t' v' o'
+word-promised x s e =
+    record { word-is = e ∙ ap callWord (s .call-is); table-is = s .table-is; vectors-is = s .vectors-is; buffer-is = s .buffer-is }
 
 -- a size that is not wrong
 pub size-least : (req : List ℕ) → wrongSize req ≡ false → 20 ≤ length req

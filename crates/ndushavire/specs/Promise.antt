@@ -4,16 +4,22 @@ use mathlib.Core.Path.{_≡_}
 use mathlib.Core.List.{List}
 use lib.ListN.{length}
 use Rattle.table.specs.Check.{checkTable}
+use Rattle.vectors.specs.VectorFile.{checkVectors}
 use Rattle.ndushavire.specs.Lent.{Lent}
 use Rattle.ndushavire.specs.Serve.{serve}
 use Rattle.ndushavire.specs.Word.{checkWord, callWord}
 
 -- the check of a table: "the exact count or first bad block"; of the profile file its length alone counts
 pub record CheckPromise (table profile : List ℕ) (r : ℕ) : Type 0 where
-  pub answer : r ≡ checkWord (checkTable table (length profile))
+  pub answer : r ≡ checkWord 5 (checkTable table (length profile))
 
--- the decision: the word, the table at exit and the buffer at exit are those of `serve`, for every input, refusals too
-pub record DecidePromise (x : Lent) (r : ℕ) (table' buffer' : List ℕ) : Type 0 where
+-- the check of a vector file: the number of blocks, or the first that is bad
+pub record CheckVectorsPromise (vectors : List ℕ) (r : ℕ) : Type 0 where
+  pub answer : r ≡ checkWord 6 (checkVectors vectors)
+
+-- the decision: the word, and the table, the vectors and the buffer at exit are those of `serve`, for every input, refusals too
+pub record DecidePromise (x : Lent) (r : ℕ) (table' vectors' buffer' : List ℕ) : Type 0 where
   pub word-is : r ≡ callWord (serve x .call)
   pub table-is : table' ≡ serve x .table
+  pub vectors-is : vectors' ≡ serve x .vectors
   pub buffer-is : buffer' ≡ serve x .buffer

@@ -39,8 +39,8 @@ pub record Reads (c : Call) (w : ℕ) : Type 0 where
   pub value : valueIn w ≡ callValue c
   pub call : callIn w ≡ c
 
-pub record ReadsCheck (c : Checked) (w : ℕ) : Type 0 where
-  pub number : numberIn w ≡ checkNumber c
+pub record ReadsCheck (n : ℕ) (c : Checked) (w : ℕ) : Type 0 where
+  pub number : numberIn w ≡ checkNumber n c
   pub place : placeIn w ≡ 0
   pub value : valueIn w ≡ checkValue c
   pub answer : checkIn w ≡ c

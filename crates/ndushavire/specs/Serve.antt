@@ -1,4 +1,4 @@
--- One call: what it comes to, the table and the buffer afterwards, for any bytes.
+-- One call: what it comes to, the table, the vectors and the buffer afterwards, for any bytes.
 use Prim.Native.Nat.{ℕ, _%_}
 use mathlib.Core.List.{List, [], _∷_}
 use mathlib.Core.Bool.{Bool, true, false, not, _||_}
@@ -9,6 +9,7 @@ use Rattle.octets.specs.Run.{over}
 use Rattle.table.specs.Check.{checkTable}
 use Rattle.table.specs.declared.Checked.{Checked}
 use Rattle.table.specs.declared.Checked.the-variants.{Sound, Bad}
+use Rattle.vectors.specs.VectorFile.{checkVectors}
 use Rattle.fitting.specs.Decide.{Decision, decide}
 use Rattle.reply.specs.Answer.{answerBytes}
 use Rattle.ndushavire.specs.Lent.{Lent}
@@ -21,6 +22,7 @@ use Rattle.ndushavire.specs.declared.Call.the-variants.{Answered, Refuse
 pub record Served : Type 0 where
   pub call : Call
   pub table : List ℕ
+  pub vectors : List ℕ
   pub buffer : List ℕ
 
 -- 1: "answer buffer under 36,864 bytes"
@@ -50,7 +52,11 @@ unsound c = record { holds = isBad c; number = 5; besides = checkValue c }
 abbrev pub checkOf : Lent → Checked
 checkOf x = checkTable (x .table) (length (x .profile))
 
--- "Five refusals of the call", in their order, with what each returns besides
+-- "6, vector file unsound, at every call, after 5"
+abbrev pub unsoundVectors : Checked → Trial
+unsoundVectors d = record { holds = isBad d; number = 6; besides = 0 }
+
+-- "Five refusals of the call", and the sixth, in their order, with what each returns besides
 abbrev pub trials : Lent → List Trial
 trials x =
     record { holds = smallBuffer (x .buffer); number = 1; besides = 0 }
@@ -58,22 +64,29 @@ trials x =
     ∷ record { holds = wrongLength (x .request); number = 3; besides = 0 }
     ∷ record { holds = noRequest (x .request); number = 4; besides = 0 }
     ∷ unsound (checkOf x)
+    ∷ unsoundVectors (checkVectors (x .vectors))
     ∷ []
 
--- "All leave table and buffer as they came."
+-- "All leave table and buffer as they came", and the vectors
 unfoldable pub refused : Lent → Trial → Served
-refused x r = record { call = Refused (r .number) (r .besides); table = x .table; buffer = x .buffer }
+refused x r = record { call = Refused (r .number) (r .besides); table = x .table; vectors = x .vectors; buffer = x .buffer }
 
 -- the answer of a decision; "the call returns the answer's length; buffer bytes past it stay"
 abbrev pub answerOf : Lent → Decision → List ℕ
-answerOf x d = answerBytes (x .request) (x .table) (x .profile) (d .given)
+answerOf x d = answerBytes (x .request) (x .table) (x .profile) (x .vectors) (d .given)
 
 unfoldable pub answered : Lent → Decision → Served
-answered x d = record { call = Answered (record { length = length (answerOf x d) }); table = d .table; buffer = over (answerOf x d) (x .buffer) }
+answered x d =
+    record {
+      call = Answered (record { length = length (answerOf x d) });
+      table = d .table;
+      vectors = d .vectors;
+      buffer = over (answerOf x d) (x .buffer);
+    }
 
 -- the decision over a table that is sound, of so many records
 abbrev pub decision : Lent → ℕ → Decision
-decision x count = decide (x .request) (x .table) count
+decision x count = decide (x .request) (x .table) count (x .vectors)
 
 -- "Tried in this order. .. Otherwise the call returns the answer's length"
 unfoldable pub serve : Lent → Served

@@ -8,14 +8,14 @@ use Rattle.table.specs.declared.Checked.the-variants.{Sound, Bad}
 abbrev pub word : ℕ → ℕ → ℕ
 word number value = number * 281474976710656 + value
 
--- a sound table: number 0 with the record count; an unsound one: "5", with the "first bad block"
-abbrev pub checkWord : Checked → ℕ
-checkWord (Sound count) = word 0 count
-checkWord (Bad block) = word 5 block
+-- a sound file: number 0 with the count; an unsound one: its refusal's number (the table's is 5, the vector file's 6), with the first bad block
+abbrev pub checkWord : ℕ → Checked → ℕ
+checkWord number (Sound count) = word 0 count
+checkWord number (Bad block) = word number block
 
-abbrev pub checkNumber : Checked → ℕ
-checkNumber (Sound count) = 0
-checkNumber (Bad block) = 5
+abbrev pub checkNumber : ℕ → Checked → ℕ
+checkNumber number (Sound count) = 0
+checkNumber number (Bad block) = number
 
 abbrev pub checkValue : Checked → ℕ
 checkValue (Sound count) = count

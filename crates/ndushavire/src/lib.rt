@@ -5,17 +5,19 @@ ghost use mathlib.Core.Path.{_≡_};
 ghost use Prim.Native.Nat.{_≤_};
 ghost use lib.ListN.{length};
 ghost use Rattle.table.specs.Check.{checkTable};
+ghost use Rattle.table.specs.SoundTable.{SoundTable};
+ghost use Rattle.vectors.specs.VectorFile.{checkVectors};
 ghost use Rattle.ndushavire.specs.Word.{word, checkWord, callWord};
 ghost use Rattle.deciding.specs.Passed.{Passed};
 ghost use Rattle.ndushavire.specs.Lent.{lent};
 ghost use Rattle.ndushavire.specs.Serve.{wrongLength, serve};
 ghost use Rattle.ndushavire.specs.Leaves.{Leaves, serveChecked};
-ghost use Rattle.ndushavire.specs.Promise.{CheckPromise, DecidePromise};
+ghost use Rattle.ndushavire.specs.Promise.{CheckPromise, CheckVectorsPromise, DecidePromise};
 
 // What the number of a returned word counts: 2^48.
 const NUMBER: u64 = 281474976710656;
 
-// The five refusals, by their numbers.
+// The six refusals, by their numbers.
 const SMALL_BUFFER: u16 = 1;
 
 const WRONG_SIZE: u16 = 2;
@@ -25,6 +27,8 @@ const WRONG_LENGTH: u16 = 3;
 const NO_REQUEST: u16 = 4;
 
 const UNSOUND: u16 = 5;
+
+const UNSOUND_VECTORS: u16 = 6;
 
 // "answer buffer under 36,864 bytes"; "request under 20 or over 16,384 bytes"
 const ROOM: usize = 36864;
@@ -51,13 +55,13 @@ fn word(number: u16, value: u32) -> u64
     (number as u64) * NUMBER + (value as u64)
 }
 
-// The word of the check's answer.
-fn check_word(c: Checked) -> u64
-    ensures { λ r. ⌜ r ≡ checkWord c ⌝ }
+// The word of a check's answer: a bad block has the refusal's number.
+fn check_word(number: u16, c: Checked) -> u64
+    ensures { λ r. ⌜ r ≡ checkWord number c ⌝ }
 {
     match c {
         Checked::Sound(count) => word(0, count),
-        Checked::Bad(block) => word(UNSOUND, block),
+        Checked::Bad(block) => word(number, block),
     }
 }
 
@@ -66,7 +70,15 @@ fn check_word(c: Checked) -> u64
 pub extern "C" fn ndushavire_check(table: &[u8], profile: &[u8]) -> u64
     ensures { λ r. ⌜ CheckPromise (now (table .entry)) (now (profile .entry)) r ⌝ }
 {
-    check_word(table::check(table, profile.len()))
+    check_word(UNSOUND, table::check(table, profile.len()))
+}
+
+// The check of a vector file, our own entry: refusal 6 of a call does not say which block is bad, and this does.
+#[no_mangle]
+pub extern "C" fn ndushavire_check_vectors(vectors: &[u8]) -> u64
+    ensures { λ r. ⌜ CheckVectorsPromise (now (vectors .entry)) r ⌝ }
+{
+    check_word(UNSOUND_VECTORS, vectors::file::check(vectors))
 }
 
 // The word of a call.
@@ -87,16 +99,49 @@ fn wrong_length(req: &[u8]) -> bool
     (octets::number::be24(req, message::LENGTH_AT) != req.len()) | (req.len() % 4 != 0)
 }
 
-// A request that the first four refusals let pass, over a table that was checked.
-fn call_checked(c: Checked, req: &[u8], t: &mut [u8], file: &[u8], out: &mut [u8]) -> Call
+// A request that the first five refusals let pass, over a vector file that was checked.
+fn call_sound(
+    d: Checked,
+    count: u32,
+    req: &[u8],
+    t: &mut [u8],
+    file: &[u8],
+    v: &mut [u8],
+    out: &mut [u8],
+) -> Call
+    requires { ⌜ Passed (now req) (now out) × SoundTable (now t) count × (d ≡ checkVectors (now v)) ⌝ }
+    ensures { λ r. ⌜ Leaves (serveChecked (lent (now (req .entry)) (now (t .entry)) (now (file .entry)) (now (v .entry)) (now (out .entry)))
+        (Checked.Sound count) d) r (now (t .exit)) (now (v .exit)) (now (out .exit)) ⌝ }
+{
+    match d {
+        Checked::Sound(_) => {
+            let n = deciding::answer_sound(out, req, t, file, v, count as usize);
+            Call::Answered(Answer { length: n as u32 })
+        }
+        Checked::Bad(_) => Call::Refused {
+            number: UNSOUND_VECTORS,
+            besides: 0,
+        },
+    }
+}
+
+// A request that the first four let pass, over a table that was checked.
+fn call_checked(
+    c: Checked,
+    req: &[u8],
+    t: &mut [u8],
+    file: &[u8],
+    v: &mut [u8],
+    out: &mut [u8],
+) -> Call
     requires { ⌜ Passed (now req) (now out) × (c ≡ checkTable (now t) (length (now file))) ⌝ }
-    ensures { λ r. ⌜ Leaves (serveChecked (lent (now (req .entry)) (now (t .entry)) (now (file .entry)) (now (out .entry))) c)
-        r (now (t .exit)) (now (out .exit)) ⌝ }
+    ensures { λ r. ⌜ Leaves (serveChecked (lent (now (req .entry)) (now (t .entry)) (now (file .entry)) (now (v .entry)) (now (out .entry)))
+        c (checkVectors (now (v .entry)))) r (now (t .exit)) (now (v .exit)) (now (out .exit)) ⌝ }
 {
     match c {
         Checked::Sound(count) => {
-            let n = deciding::answer_sound(out, req, t, file, count as usize);
-            Call::Answered(Answer { length: n as u32 })
+            let d = vectors::file::check(v);
+            call_sound(d, count, req, t, file, v, out)
         }
         Checked::Bad(block) => Call::Refused {
             number: UNSOUND,
@@ -105,10 +150,10 @@ fn call_checked(c: Checked, req: &[u8], t: &mut [u8], file: &[u8], out: &mut [u8
     }
 }
 
-// "Five refusals of the call. Tried in this order."
-fn one_call(req: &[u8], t: &mut [u8], file: &[u8], out: &mut [u8]) -> Call
-    ensures { λ r. ⌜ Leaves (serve (lent (now (req .entry)) (now (t .entry)) (now (file .entry)) (now (out .entry))))
-        r (now (t .exit)) (now (out .exit)) ⌝ }
+// "Five refusals of the call. Tried in this order."; "6 .. after 5"
+fn one_call(req: &[u8], t: &mut [u8], file: &[u8], v: &mut [u8], out: &mut [u8]) -> Call
+    ensures { λ r. ⌜ Leaves (serve (lent (now (req .entry)) (now (t .entry)) (now (file .entry)) (now (v .entry)) (now (out .entry))))
+        r (now (t .exit)) (now (v .exit)) (now (out .exit)) ⌝ }
 {
     if out.len() < ROOM {
         return Call::Refused {
@@ -135,19 +180,22 @@ fn one_call(req: &[u8], t: &mut [u8], file: &[u8], out: &mut [u8]) -> Call
         };
     }
     let c = table::check(t, file.len());
-    call_checked(c, req, t, file, out)
+    call_checked(c, req, t, file, v, out)
 }
 
-// "The library takes one Diameter request, the subscriber table, a profile file (read only) and an answer buffer, all lent."
+// "The library takes one Diameter request, the subscriber table, a profile file (read only) and an answer buffer, all lent"; "Vectors come in a third
+// lent file".
 #[no_mangle]
 pub extern "C" fn ndushavire_decide(
     request: &[u8],
     table: &mut [u8],
     profile: &[u8],
+    vectors: &mut [u8],
     answer: &mut [u8],
 ) -> u64
-    ensures { λ r. ⌜ DecidePromise (lent (now (request .entry)) (now (table .entry)) (now (profile .entry)) (now (answer .entry)))
-        r (now (table .exit)) (now (answer .exit)) ⌝ }
+    ensures { λ r. ⌜ DecidePromise
+        (lent (now (request .entry)) (now (table .entry)) (now (profile .entry)) (now (vectors .entry)) (now (answer .entry)))
+        r (now (table .exit)) (now (vectors .exit)) (now (answer .exit)) ⌝ }
 {
-    call_word(one_call(request, table, profile, answer))
+    call_word(one_call(request, table, profile, vectors, answer))
 }

@@ -12,7 +12,7 @@ use borrow.Author.Tests.{ltb-true, leb-true, leb-false, ne-eqb, lt-ltb}
 use Rattle.octets.specs.Number.{be16At, be32At}
 use Rattle.octets.proofs.All.{and-left, and-right}
 use Rattle.octets.proofs.Parts.{part-cut}
-use Rattle.record.specs.Fields.{mandatoryCount, optionalCount, hostOf, realmOf, privateOf, serverOf, mandatoryOf, optionalOf, profileOf}
+use Rattle.record.specs.Fields.{mandatoryCount, optionalCount, hostOf, realmOf, privateOf, publicOf, serverOf, mandatoryOf, optionalOf, profileOf}
 use Rattle.record.specs.HeaderBlock.{headerOf}
 use Rattle.record.specs.RecordBlock.{recordOf}
 use Rattle.table.specs.Blocks.{blockOf, ofBlock}
@@ -96,6 +96,10 @@ module _ (t : List ℕ) (count : ℕ) (s : SoundTable t count) where
   pub user-field : Field privateOf 128 t count
   unfolding privateOf recordOf
   user-field = record { size = sound-size t count s; nothing = refl; short = λ k a b. cut _ 128 _ (sound-limits t count s k a b .private) }
+
+  pub public-field : Field publicOf 128 t count
+  unfolding publicOf recordOf
+  public-field = record { size = sound-size t count s; nothing = refl; short = λ k a b. cut _ 128 _ (sound-limits t count s k a b .public) }
 
   pub server-field : Field serverOf 96 t count
   unfolding serverOf recordOf

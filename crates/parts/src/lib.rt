@@ -8,7 +8,7 @@ ghost use mathlib.Core.Bool.{_&&_};
 ghost use Prim.Native.Nat.{_+_, _*_, _≤_};
 ghost use lib.ListN.{length, take, drop};
 ghost use lib.Dec.{leb, ltb};
-ghost use Rattle.record.specs.Fields.{hostOf, realmOf, privateOf, serverOf, mandatoryOf, optionalOf, profileOf};
+ghost use Rattle.record.specs.Fields.{hostOf, realmOf, privateOf, publicOf, serverOf, mandatoryOf, optionalOf, profileOf};
 ghost use Rattle.table.specs.Blocks.{blockOf, ofBlock};
 ghost use Rattle.table.specs.SoundTable.{SoundTable};
 ghost use Rattle.parts.specs.Profile.{profileAt};
@@ -35,13 +35,23 @@ fn has_record(count: usize, k: usize) -> bool
     (0 < k) & (k <= count)
 }
 
-// Of record k: its private identity, its server name, its capabilities. Where k is no record's number, nothing.
+// Of record k: its private identity, its public identity, its server name, its capabilities. Where k is no record's number, nothing.
 pub fn user(t: &[u8], count: usize, k: usize) -> &[u8]
     requires { ⌜ SoundTable (now t) count ⌝ }
     ensures { λ r. ⌜ (now r ≡ ofBlock privateOf (now (t .entry)) k) × (length (now r) ≤ 128) ⌝ }
 {
     if has_record(count, k) {
         return fields::private(table::block(t, k));
+    }
+    &t[..0]
+}
+
+pub fn public(t: &[u8], count: usize, k: usize) -> &[u8]
+    requires { ⌜ SoundTable (now t) count ⌝ }
+    ensures { λ r. ⌜ (now r ≡ ofBlock publicOf (now (t .entry)) k) × (length (now r) ≤ 128) ⌝ }
+{
+    if has_record(count, k) {
+        return fields::public(table::block(t, k));
     }
     &t[..0]
 }

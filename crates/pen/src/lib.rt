@@ -7,7 +7,8 @@ ghost use Prim.Native.Nat.{_+_, _*_, _/_, _≤_};
 ghost use lib.ListN.{length};
 ghost use lib.Dec.{ltb};
 ghost use Rattle.octets.specs.Run.{Wrote};
-ghost use Rattle.pen.specs.Bytes.{wordBytes, headBytes, vendorHead, copied, copiedSize, avpBytes, avpSize, vendorBytes, vendorSize, numberBytes, ifThere};
+ghost use Rattle.pen.specs.Bytes.{wordBytes, headBytes, vendorHead, copied, copiedSize, avpBytes, avpSize, vendorBytes, vendorSize};
+ghost use Rattle.pen.specs.Bytes.{numberBytes, vendorNumber, ifThere};
 
 // "Own AVPs have flags 0x40, or 0xC0 with vendor 10415"
 pub const FLAGS: u8 = 64;
@@ -86,6 +87,15 @@ pub fn put_number(out: &mut [u8], code: u32, n: u32) -> usize
     put_head(out, code, FLAGS, 12);
     put_word(&mut out[8..], n);
     12
+}
+
+pub fn put_vendor_number(out: &mut [u8], code: u32, n: u32) -> usize
+    requires { ⌜ 16 ≤ length (now out) ⌝ }
+    ensures { λ r. ⌜ (r ≡ 16) × Wrote (vendorNumber code n) (now (out .entry)) (now (out .exit)) r ⌝ }
+{
+    put_vendor_head(out, code, 16);
+    put_word(&mut out[12..], n);
+    16
 }
 
 // An AVP, or nothing where there are no data.

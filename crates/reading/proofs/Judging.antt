@@ -15,8 +15,9 @@ use Rattle.diameter.specs.declared.Avp.{Avp}
 use Rattle.diameter.proofs.Parts.{counted, data-length}
 use Rattle.diameter.proofs.Reading.{own-flags, own-avpHead}
 use Rattle.reading.specs.declared.Content.{Content}
-use Rattle.reading.specs.declared.Content.the-variants.{Free, Number, Sized, Application}
+use Rattle.reading.specs.declared.Content.the-variants.{Free, Number, Sized, Members}
 use Rattle.reading.specs.declared.Dialect.{Dialect}
+use Rattle.reading.specs.declared.group.Group.{Group}
 use Rattle.reading.specs.declared.Kind.{Kind}
 use Rattle.reading.specs.declared.Ruled.{Ruled}
 use Rattle.reading.specs.declared.Ruled.the-variants.{Taken, Skipped, Fault}
@@ -49,9 +50,9 @@ module _ (c : Content) (a : List ℕ) where
   unfolding plainFault
   plain-free e = rw e
 
-  pub plain-group : c ≡ Application → 0 ≡ plainFault c a
+  pub plain-group : (g : Group) → c ≡ Members g → 0 ≡ plainFault c a
   unfolding plainFault
-  plain-group e = rw e
+  plain-group g e = rw e
 
   pub plain-number : (least most r : ℕ) → c ≡ Number least most → r ≡ numberFault least most a → r ≡ plainFault c a
   unfolding plainFault
@@ -70,10 +71,10 @@ module _ (c : Content) (a : List ℕ) where
     unfolding contentFault
     content-sized least most e m = m ∙ rw e
 
-    pub content-application : (t : List ℕ) (b : Bool) → c ≡ Application → t ≡ dataOf a → b ≡ gathers (membersOf d c) (walk t) → r ≡ faultUnless b 5004
+    pub content-group : (g : Group) (t : List ℕ) (b : Bool) → c ≡ Members g → t ≡ dataOf a → b ≡ gathers (membersOf d g) (walk t) → r ≡ faultUnless b 5004
         → r ≡ contentFault d c a
     unfolding contentFault
-    content-application t b e f m g = g ∙ rw (m, e, f)
+    content-group g t b e f m n = n ∙ rw (m, e, f)
 
 -- (d), (f), (g) and (h)
 pub unknown-marked : (flags : ℕ) → flags / 64 % 2 ≡ 1 → Fault 5001 ≡ ofUnknown flags

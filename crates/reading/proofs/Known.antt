@@ -30,6 +30,8 @@ use Rattle.reading.specs.Kinds.{
   userName,
   publicIdentity,
   visitedNetwork,
+  authDataItem,
+  numberAuthItems,
   serverName,
   assignmentType,
   dataAvailable,
@@ -49,9 +51,13 @@ module _ (d : Dialect) (k : Kind) where
   unfolding useIn
   in-sar h e = rw e
 
-  pub in-lir : (d .command ≡ 300 → ⊥) → (d .command ≡ 301 → ⊥) → k .lir ≡ useIn d k
+  pub in-lir : (d .command ≡ 300 → ⊥) → (d .command ≡ 301 → ⊥) → d .command ≡ 302 → k .lir ≡ useIn d k
   unfolding useIn
-  in-lir h g = rw (ne-eqb _ _ h, ne-eqb _ _ g)
+  in-lir h g e = rw e
+
+  pub in-mar : (d .command ≡ 300 → ⊥) → (d .command ≡ 301 → ⊥) → (d .command ≡ 302 → ⊥) → k .mar ≡ useIn d k
+  unfolding useIn
+  in-mar h g f = rw (ne-eqb _ _ h, ne-eqb _ _ g, ne-eqb _ _ f)
 
 -- the row of a number, and of a number that is no known kind's
 pub row-is : (n k : ℕ) {r : Kind} → k ≡ n → r ≡ rowOf n → r ≡ rowOf k
@@ -61,16 +67,16 @@ above : {n k : ℕ} → n ≤ k → (k ≡ n → ⊥) → suc n ≤ k
 above h e = omega arith
 
 pub row-past : (k : ℕ) {r : Kind} → r ≡ unknown → (k ≡ sessionId → ⊥) → (k ≡ application → ⊥) → (k ≡ sessionState → ⊥) → (k ≡ originHost → ⊥)
-    → (k ≡ originRealm → ⊥)
-    → (k ≡ destinationRealm → ⊥) → (k ≡ userName → ⊥) → (k ≡ publicIdentity → ⊥) → (k ≡ visitedNetwork → ⊥) → (k ≡ serverName → ⊥) → (k ≡ assignmentType → ⊥)
-    → (k ≡ dataAvailable → ⊥) → (k ≡ authorizationType → ⊥) → (k ≡ destinationHost → ⊥) → (k ≡ proxyInfo → ⊥) → (k ≡ routeRecord → ⊥) → r ≡ rowOf k
+    → (k ≡ originRealm → ⊥) → (k ≡ destinationRealm → ⊥) → (k ≡ userName → ⊥) → (k ≡ publicIdentity → ⊥) → (k ≡ visitedNetwork → ⊥)
+    → (k ≡ authDataItem → ⊥) → (k ≡ numberAuthItems → ⊥) → (k ≡ serverName → ⊥) → (k ≡ assignmentType → ⊥) → (k ≡ dataAvailable → ⊥)
+    → (k ≡ authorizationType → ⊥) → (k ≡ destinationHost → ⊥) → (k ≡ proxyInfo → ⊥) → (k ≡ routeRecord → ⊥) → r ≡ rowOf k
 unfolding rowOf known
-row-past zero e a b c d f g h i j k' l m n o p q = e
-row-past (suc k) e a b c d f g h i j k' l m n o p q =
+row-past zero e a b c d f g h i j l m n o p q s t u = e
+row-past (suc k) e a b c d f g h i j l m n o p q s t u =
     let first : sessionId ≤ suc k = omega arith in
     let low : suc destinationRealm ≤ suc k = above (above (above (above (above (above first a) b) c) d) f) g in
-    let middle : suc assignmentType ≤ suc k = above (above (above (above (above low h) i) j) k') l in
-    let past : kinds ≤ suc k = above (above (above (above (above middle m) n) o) p) q in
+    let middle : suc serverName ≤ suc k = above (above (above (above (above (above low h) i) j) l) m) n in
+    let past : kinds ≤ suc k = above (above (above (above (above (above middle o) p) q) s) t) u in
     e ∙ sym (List·getD-eq-default (unknown ∷ known) unknown past)
 
 -- a code that is none of them
@@ -79,10 +85,10 @@ pub base-none : (code : ℕ) → (code ≡ 263 → ⊥) → (code ≡ 260 → �
 unfolding kindBy kindFrom known
 base-none code a b c d e f g h i j = simp (ne-eqb, and-false)
 
-pub vendor-none : (code : ℕ) → (code ≡ 601 → ⊥) → (code ≡ 600 → ⊥) → (code ≡ 602 → ⊥) → (code ≡ 614 → ⊥) → (code ≡ 624 → ⊥) → (code ≡ 623 → ⊥)
-    → 0 ≡ kindBy 128 10415 code
+pub vendor-none : (code : ℕ) → (code ≡ 601 → ⊥) → (code ≡ 600 → ⊥) → (code ≡ 612 → ⊥) → (code ≡ 607 → ⊥) → (code ≡ 602 → ⊥) → (code ≡ 614 → ⊥)
+    → (code ≡ 624 → ⊥) → (code ≡ 623 → ⊥) → 0 ≡ kindBy 128 10415 code
 unfolding kindBy kindFrom known
-vendor-none code a b c d e f = simp (ne-eqb, and-false)
+vendor-none code a b c d e f g h = simp (ne-eqb, and-false)
 
 -- without V; with V and the vendor; with V and another
 module _ (flags vendor code : ℕ) {r : ℕ} where

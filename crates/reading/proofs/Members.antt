@@ -17,47 +17,33 @@ use Rattle.diameter.specs.declared.Avp.{Avp}
 use Rattle.diameter.specs.declared.Read.{Read}
 use Rattle.diameter.specs.declared.Read.the-variants as read
 use Rattle.diameter.proofs.Reading.{own-flags, read-says, read-fault-says, walk-past}
-use Rattle.reading.specs.declared.Content.{Content}
-use Rattle.reading.specs.declared.Content.the-variants.{Free, Number, Sized, Application}
+use Rattle.reading.specs.declared.Content.the-variants.{Free, Number}
 use Rattle.reading.specs.declared.Dialect.{Dialect}
 use Rattle.reading.specs.declared.Member.{Member}
+use Rattle.reading.specs.declared.group.Group.{Group}
+use Rattle.reading.specs.declared.group.Group.the-variants.{Application, AuthDataItem}
 use Rattle.reading.specs.Contents.{plainFault}
-use Rattle.reading.specs.Groups.{member, nobody, applicationMembers, membersOf, isOf, fits, unlike, isOther, onlyOf, countOf, enough, enoughAt, gathers}
+use Rattle.reading.specs.Groups.{member, nobody, applicationMembers, itemMembers, membersOf, isOf, fits, unlike, isOther, onlyOf}
+use Rattle.reading.specs.Groups.{countOf, enough, enoughAt, gathers}
 
--- the table by the content: what is no group has no member
-module _ (d : Dialect) (c : Content) where
+-- the table by the group
+module _ (d : Dialect) (g : Group) where
   module _ (k : ℕ) (r : Member) where
-    pub member-free : c ≡ Free → r ≡ nobody → r ≡ getD (membersOf d c) k nobody
-    unfolding membersOf
-    member-free e m = m ∙ rw e
-
-    pub member-number : (least most : ℕ) → c ≡ Number least most → r ≡ nobody → r ≡ getD (membersOf d c) k nobody
-    unfolding membersOf
-    member-number least most e m = m ∙ rw e
-
-    pub member-sized : (least most : ℕ) → c ≡ Sized least most → r ≡ nobody → r ≡ getD (membersOf d c) k nobody
-    unfolding membersOf
-    member-sized least most e m = m ∙ rw e
-
-    pub member-application : c ≡ Application → r ≡ getD (applicationMembers (d .application)) k nobody → r ≡ getD (membersOf d c) k nobody
+    pub member-application : g ≡ Application → r ≡ getD (applicationMembers (d .application)) k nobody → r ≡ getD (membersOf d g) k nobody
     unfolding membersOf
     member-application e m = m ∙ rw e
 
-  pub size-free : c ≡ Free → 0 ≡ length (membersOf d c)
-  unfolding membersOf
-  size-free e = rw e
+    pub member-item : g ≡ AuthDataItem → r ≡ getD itemMembers k nobody → r ≡ getD (membersOf d g) k nobody
+    unfolding membersOf
+    member-item e m = m ∙ rw e
 
-  pub size-number : (least most : ℕ) → c ≡ Number least most → 0 ≡ length (membersOf d c)
-  unfolding membersOf
-  size-number least most e = rw e
-
-  pub size-sized : (least most : ℕ) → c ≡ Sized least most → 0 ≡ length (membersOf d c)
-  unfolding membersOf
-  size-sized least most e = rw e
-
-  pub size-application : c ≡ Application → 2 ≡ length (membersOf d c)
+  pub size-application : g ≡ Application → 2 ≡ length (membersOf d g)
   unfolding membersOf applicationMembers
   size-application e = rw e
+
+  pub size-item : g ≡ AuthDataItem → 1 ≡ length (membersOf d g)
+  unfolding membersOf itemMembers
+  size-item e = rw e
 
 -- 260's
 module _ (application k : ℕ) {r : Member} where
@@ -72,6 +58,16 @@ module _ (application k : ℕ) {r : Member} where
   pub no-member : (k ≡ 0 → ⊥) → (k ≡ 1 → ⊥) → r ≡ nobody → r ≡ getD (applicationMembers application) k nobody
   unfolding applicationMembers
   no-member e f m = let past : 2 ≤ k = omega arith in m ∙ sym (List·getD-eq-default (applicationMembers application) nobody past)
+
+-- 612's
+module _ (k : ℕ) {r : Member} where
+  pub only-member : k ≡ 0 → r ≡ member 608 10415 Free false → r ≡ getD itemMembers k nobody
+  unfolding itemMembers
+  only-member e m = m ∙ rw e
+
+  pub no-second : (k ≡ 0 → ⊥) → r ≡ nobody → r ≡ getD itemMembers k nobody
+  unfolding itemMembers
+  no-second e m = let past : 1 ≤ k = omega arith in m ∙ sym (List·getD-eq-default itemMembers nobody past)
 
 -- the loops over the table
 module _ (ms : List Member) (k : ℕ) (m : Member) (em : m ≡ getD ms k nobody) where

@@ -6,7 +6,7 @@ use lib.ListN.{length}
 use lib.Dec.{leb, eqb}
 use Rattle.diameter.specs.Avp.{avpHead, dataOf, valueOf}
 use Rattle.reading.specs.declared.Content.{Content}
-use Rattle.reading.specs.declared.Content.the-variants.{Free, Number, Sized, Application}
+use Rattle.reading.specs.declared.Content.the-variants.{Free, Number, Sized, Members}
 
 abbrev pub faultUnless : Bool → ℕ → ℕ
 faultUnless good n = cond good 0 n
@@ -21,4 +21,4 @@ unfoldable pub plainFault : Content → List ℕ → ℕ
 plainFault Free a = 0
 plainFault (Number least most) a = numberFault least most a
 plainFault (Sized least most) a = faultUnless (leb least (length (dataOf a)) && leb (length (dataOf a)) most) 5004
-plainFault Application a = 0
+plainFault (Members g) a = 0

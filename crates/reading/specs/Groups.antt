@@ -8,9 +8,11 @@ use Rattle.octets.specs.All.{allBelow}
 use Rattle.diameter.specs.Avp.{avpCode, avpFlags, vendorOf, reserved}
 use Rattle.diameter.specs.Walk.{Walk, ended, faulty, avp}
 use Rattle.reading.specs.declared.Content.{Content}
-use Rattle.reading.specs.declared.Content.the-variants.{Free, Number, Sized, Application}
+use Rattle.reading.specs.declared.Content.the-variants.{Free, Number}
 use Rattle.reading.specs.declared.Dialect.{Dialect}
 use Rattle.reading.specs.declared.Member.{Member}
+use Rattle.reading.specs.declared.group.Group.{Group}
+use Rattle.reading.specs.declared.group.Group.the-variants.{Application, AuthDataItem}
 use Rattle.reading.specs.Contents.{plainFault}
 
 -- a member: its code and vendor (0: without V), its content, and whether it may come more than once
@@ -25,12 +27,13 @@ nobody = member 0 0 Free false
 unfoldable pub applicationMembers : ℕ → List Member
 applicationMembers application = member 266 0 (Number 10415 10415) true ∷ member 258 0 (Number application application) false ∷ []
 
--- what is no group has none
-unfoldable pub membersOf : Dialect → Content → List Member
-membersOf d Free = []
-membersOf d (Number least most) = []
-membersOf d (Sized least most) = []
+-- "In a request, 612 holds exactly one 608 and nothing else": a SIP-Authentication-Scheme of any bytes
+unfoldable pub itemMembers : List Member
+itemMembers = member 608 10415 Free false ∷ []
+
+unfoldable pub membersOf : Dialect → Group → List Member
 membersOf d Application = applicationMembers (d .application)
+membersOf d AuthDataItem = itemMembers
 
 -- an AVP of such a code and vendor; such a member: it passes (c) and holds what it must
 unfoldable pub isOf : ℕ → ℕ → List ℕ → Bool

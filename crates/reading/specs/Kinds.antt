@@ -1,4 +1,5 @@
--- "Known, vendor 0 without V: .. With V and 10415: .." and "Needed everywhere: ..": one table, with a column for each command.
+-- "Known, vendor 0 without V: .. With V and 10415: .." and "Needed everywhere: ..": one table, with a column for each command. "known kinds grow by 607, a
+-- 4-byte kind, and 612".
 use Prim.Native.Nat.{ℕ, suc}
 use mathlib.Core.Bool.{Bool, true, false, cond, _&&_}
 use mathlib.Core.List.{List, [], _∷_}
@@ -6,43 +7,48 @@ use lib.ListN.{getD}
 use lib.Dec.{eqb, leb, ltb}
 use Rattle.diameter.specs.Avp.{avpFlags, avpCode, vendorOf}
 use Rattle.reading.specs.declared.Content.{Content}
-use Rattle.reading.specs.declared.Content.the-variants.{Free, Number, Sized, Application}
+use Rattle.reading.specs.declared.Content.the-variants.{Free, Number, Sized, Members}
 use Rattle.reading.specs.declared.Dialect.{Dialect}
 use Rattle.reading.specs.declared.Kind.{Kind}
+use Rattle.reading.specs.declared.group.Group.the-variants.{Application, AuthDataItem}
 use Rattle.reading.specs.declared.Use.{Use}
 use Rattle.reading.specs.declared.Use.the-variants.{Unknown, Unnamed, Needed, Optional, Repeated}
 
-abbrev pub row : ℕ → ℕ → Content → Use → Use → Use → Kind
-row code vendor content uar sar lir = record { code = code; vendor = vendor; content = content; uar = uar; sar = sar; lir = lir }
+-- code, vendor, content, and the use in a UAR, in a SAR, in a LIR and in a MAR
+abbrev pub row : ℕ → ℕ → Content → Use → Use → Use → Use → Kind
+row code vendor content uar sar lir mar =
+    record { code = code; vendor = vendor; content = content; uar = uar; sar = sar; lir = lir; mar = mar }
 
 -- The known kinds, in the order in which a missing one is looked for; a kind's number is its place here, from 1 on.
 unfoldable pub known : List Kind
 known =
-    row 263 0 Free Needed Needed Needed
-    ∷ row 260 0 Application Needed Needed Needed
-    ∷ row 277 0 (Number 1 1) Needed Needed Needed
-    ∷ row 264 0 Free Needed Needed Needed
-    ∷ row 296 0 Free Needed Needed Needed
-    ∷ row 283 0 Free Needed Needed Needed
-    ∷ row 1 0 Free Needed Optional Unnamed
-    ∷ row 601 10415 Free Needed Repeated Needed
-    ∷ row 600 10415 Free Needed Unnamed Unnamed
-    ∷ row 602 10415 (Sized 1 96) Unnamed Needed Unnamed
-    ∷ row 614 10415 (Number 0 11) Unnamed Needed Unnamed
-    ∷ row 624 10415 (Number 0 1) Unnamed Needed Unnamed
-    ∷ row 623 10415 (Number 0 2) Optional Unnamed Unnamed
-    ∷ row 293 0 Free Optional Optional Optional
-    ∷ row 284 0 Free Repeated Repeated Repeated
-    ∷ row 282 0 Free Repeated Repeated Repeated
+    row 263 0 Free Needed Needed Needed Needed
+    ∷ row 260 0 (Members Application) Needed Needed Needed Needed
+    ∷ row 277 0 (Number 1 1) Needed Needed Needed Needed
+    ∷ row 264 0 Free Needed Needed Needed Needed
+    ∷ row 296 0 Free Needed Needed Needed Needed
+    ∷ row 283 0 Free Needed Needed Needed Needed
+    ∷ row 1 0 Free Needed Optional Unnamed Needed
+    ∷ row 601 10415 Free Needed Repeated Needed Needed
+    ∷ row 600 10415 Free Needed Unnamed Unnamed Unnamed
+    ∷ row 612 10415 (Members AuthDataItem) Unnamed Unnamed Unnamed Needed
+    ∷ row 607 10415 (Number 0 4294967295) Unnamed Unnamed Unnamed Needed
+    ∷ row 602 10415 (Sized 1 96) Unnamed Needed Unnamed Needed
+    ∷ row 614 10415 (Number 0 11) Unnamed Needed Unnamed Unnamed
+    ∷ row 624 10415 (Number 0 1) Unnamed Needed Unnamed Unnamed
+    ∷ row 623 10415 (Number 0 2) Optional Unnamed Unnamed Unnamed
+    ∷ row 293 0 Free Optional Optional Optional Optional
+    ∷ row 284 0 Free Repeated Repeated Repeated Repeated
+    ∷ row 282 0 Free Repeated Repeated Repeated Repeated
     ∷ []
 
 -- Number 0 is the unknown kind's, which is so in every command.
 abbrev pub unknown : Kind
-unknown = row 0 0 Free Unknown Unknown Unknown
+unknown = row 0 0 Free Unknown Unknown Unknown Unknown
 
 -- how many kinds there are, the unknown one among them
 abbrev pub kinds : ℕ
-kinds = 17
+kinds = 19
 
 -- the row of a kind's number; that of a number past the last one's is the unknown kind's
 unfoldable pub rowOf : ℕ → Kind
@@ -76,26 +82,32 @@ publicIdentity = 8
 abbrev pub visitedNetwork : ℕ
 visitedNetwork = 9
 
+abbrev pub authDataItem : ℕ
+authDataItem = 10
+
+abbrev pub numberAuthItems : ℕ
+numberAuthItems = 11
+
 abbrev pub serverName : ℕ
-serverName = 10
+serverName = 12
 
 abbrev pub assignmentType : ℕ
-assignmentType = 11
+assignmentType = 13
 
 abbrev pub dataAvailable : ℕ
-dataAvailable = 12
+dataAvailable = 14
 
 abbrev pub authorizationType : ℕ
-authorizationType = 13
+authorizationType = 15
 
 abbrev pub destinationHost : ℕ
-destinationHost = 14
+destinationHost = 16
 
 abbrev pub proxyInfo : ℕ
-proxyInfo = 15
+proxyInfo = 17
 
 abbrev pub routeRecord : ℕ
-routeRecord = 16
+routeRecord = 18
 
 -- "kind (vendor, code)": vendor 0 is without V, and "V with vendor 0 is an unknown kind"
 abbrev pub isKind : Kind → ℕ → ℕ → ℕ → Bool
@@ -112,9 +124,13 @@ kindBy flags vendor code = kindFrom known 1 flags vendor code
 abbrev pub kindOf : List ℕ → ℕ
 kindOf a = kindBy (avpFlags a) (vendorOf a) (avpCode a)
 
--- what a dialect makes of a kind, by its command: UAR 300, SAR 301, LIR 302; and of an AVP
+-- what a dialect makes of a kind, by its command: UAR 300, SAR 301, LIR 302, MAR 303 (no other passes the header's test); and of an AVP
 unfoldable pub useIn : Dialect → Kind → Use
-useIn d k = cond (eqb (d .command) 300) (k .uar) (cond (eqb (d .command) 301) (k .sar) (k .lir))
+useIn d k =
+    cond (eqb (d .command) 300) (k .uar)
+    (cond (eqb (d .command) 301) (k .sar)
+    (cond (eqb (d .command) 302) (k .lir)
+    (k .mar)))
 
 abbrev pub useOf : Dialect → List ℕ → Use
 useOf d a = useIn d (rowOf (kindOf a))

@@ -9,7 +9,7 @@ use Rattle.diameter.specs.Avp.{avpFlags, dataOf, reserved, marked}
 use Rattle.diameter.specs.Walk.{walk}
 use Rattle.diameter.specs.Reader.{present}
 use Rattle.reading.specs.declared.Content.{Content}
-use Rattle.reading.specs.declared.Content.the-variants.{Free, Number, Sized, Application}
+use Rattle.reading.specs.declared.Content.the-variants.{Free, Number, Sized, Members}
 use Rattle.reading.specs.declared.Dialect.{Dialect}
 use Rattle.reading.specs.declared.Ruled.{Ruled}
 use Rattle.reading.specs.declared.Ruled.the-variants.{Taken, Skipped, Fault}
@@ -24,7 +24,7 @@ unfoldable pub contentFault : Dialect → Content → List ℕ → ℕ
 contentFault d Free a = plainFault Free a
 contentFault d (Number least most) a = plainFault (Number least most) a
 contentFault d (Sized least most) a = plainFault (Sized least most) a
-contentFault d Application a = faultUnless (gathers (membersOf d Application) (walk (dataOf a))) 5004
+contentFault d (Members g) a = faultUnless (gathers (membersOf d g) (walk (dataOf a))) 5004
 
 -- The state of the walk: for each kind number, the last AVP of it that was taken
 abbrev pub Seen : Type 0

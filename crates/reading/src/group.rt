@@ -10,7 +10,13 @@ ghost use mathlib.Core.Path.{_≡_};
 ghost use lib.ListN.{length, getD};
 ghost use Rattle.diameter.specs.Reader.{ownOf, Here};
 ghost use Rattle.diameter.specs.Walk.{walk};
-ghost use Rattle.reading.specs.Groups.{member, nobody, applicationMembers, membersOf, isOf, fits, isOther, onlyOf, countOf, enough, gathers};
+ghost use Rattle.reading.specs.Groups.{member, nobody, applicationMembers, itemMembers, membersOf, isOf, fits, isOther, onlyOf, countOf, enough, gathers};
+
+// The groups that a request's AVPs may be: 260 and 612.
+pub enum Group {
+    Application,
+    AuthDataItem,
+}
 
 // A member: code, vendor (0: without V), content, and whether it may come more than once.
 fn member(code: u32, vendor: u32, content: Content, many: bool) -> Member
@@ -35,26 +41,32 @@ fn application_member(application: u32, k: usize) -> Member
     }
 }
 
-// The members of a group by their numbers, and how many there are; what is no group has none.
-fn member_of(d: Dialect, c: Content, k: usize) -> Member
-    ensures { λ r. ⌜ r ≡ getD (membersOf d c) k nobody ⌝ }
+// "612 holds exactly one 608 and nothing else"
+fn item_member(k: usize) -> Member
+    ensures { λ r. ⌜ r ≡ getD itemMembers k nobody ⌝ }
 {
-    match c {
-        Content::Free => member(0, 0, Content::Free, false),
-        Content::Number(_, _) => member(0, 0, Content::Free, false),
-        Content::Sized(_, _) => member(0, 0, Content::Free, false),
-        Content::Application => application_member(d.application, k),
+    match k {
+        0 => member(608, crate::VENDOR, Content::Free, false),
+        _ => member(0, 0, Content::Free, false),
     }
 }
 
-fn size_of(d: Dialect, c: Content) -> usize
-    ensures { λ r. ⌜ r ≡ length (membersOf d c) ⌝ }
+// The members of a group by their numbers, and how many there are.
+fn member_of(d: Dialect, g: Group, k: usize) -> Member
+    ensures { λ r. ⌜ r ≡ getD (membersOf d g) k nobody ⌝ }
 {
-    match c {
-        Content::Free => 0,
-        Content::Number(_, _) => 0,
-        Content::Sized(_, _) => 0,
-        Content::Application => 2,
+    match g {
+        Group::Application => application_member(d.application, k),
+        Group::AuthDataItem => item_member(k),
+    }
+}
+
+fn size_of(d: Dialect, g: Group) -> usize
+    ensures { λ r. ⌜ r ≡ length (membersOf d g) ⌝ }
+{
+    match g {
+        Group::Application => 2,
+        Group::AuthDataItem => 1,
     }
 }
 
@@ -81,30 +93,30 @@ fn fits(m: Member, s: &[u8], a: Avp) -> bool
 }
 
 // Whether an AVP is none of a group's members.
-fn is_other(d: Dialect, c: Content, s: &[u8], a: Avp) -> bool
+fn is_other(d: Dialect, g: Group, s: &[u8], a: Avp) -> bool
     requires { ⌜ Here (now s) a ⌝ }
-    ensures { λ r. ⌜ r ≡ isOther (membersOf d c) (ownOf (now (s .entry)) a) ⌝ }
+    ensures { λ r. ⌜ r ≡ isOther (membersOf d g) (ownOf (now (s .entry)) a) ⌝ }
 {
-    let n = size_of(d, c);
+    let n = size_of(d, g);
     let mut other = true;
     let mut k = 0;
     while k < n {
-        other = other & !fits(member_of(d, c, k), s, a);
+        other = other & !fits(member_of(d, g, k), s, a);
         k += 1;
     }
     other
 }
 
 // Whether all AVPs are whole, and each is one of the members.
-fn only_of(d: Dialect, c: Content, s: &[u8]) -> bool
-    ensures { λ r. ⌜ r ≡ onlyOf (membersOf d c) (walk (now (s .entry))) ⌝ }
+fn only_of(d: Dialect, g: Group, s: &[u8]) -> bool
+    ensures { λ r. ⌜ r ≡ onlyOf (membersOf d g) (walk (now (s .entry))) ⌝ }
 {
     let mut at = 0;
     while at < s.len() {
         let Read::Avp(a) = diameter::read_avp(s, at) else {
             return false;
         };
-        if is_other(d, c, s, a) {
+        if is_other(d, g, s, a) {
             return false;
         }
         at = a.next;
@@ -142,15 +154,15 @@ fn enough(m: Member, s: &[u8]) -> bool
 }
 
 // Whether a group's data are its members.
-pub fn gathers(d: Dialect, c: Content, s: &[u8]) -> bool
-    ensures { λ r. ⌜ r ≡ gathers (membersOf d c) (walk (now (s .entry))) ⌝ }
+pub fn gathers(d: Dialect, g: Group, s: &[u8]) -> bool
+    ensures { λ r. ⌜ r ≡ gathers (membersOf d g) (walk (now (s .entry))) ⌝ }
 {
-    let n = size_of(d, c);
+    let n = size_of(d, g);
     let mut all = true;
     let mut k = 0;
     while k < n {
-        all = all & enough(member_of(d, c, k), s);
+        all = all & enough(member_of(d, g, k), s);
         k += 1;
     }
-    all & only_of(d, c, s)
+    all & only_of(d, g, s)
 }

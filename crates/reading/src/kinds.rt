@@ -3,6 +3,7 @@ use crate::Content;
 use crate::Dialect;
 use crate::Kind;
 use crate::Use;
+use crate::group::Group;
 use diameter::Avp;
 ghost use mathlib.Core.Path.{_≡_};
 ghost use Prim.Native.Nat.{_<_};
@@ -27,22 +28,26 @@ pub const PUBLIC_IDENTITY: usize = 8;
 
 pub const VISITED_NETWORK: usize = 9;
 
-pub const SERVER_NAME: usize = 10;
+pub const AUTH_DATA_ITEM: usize = 10;
 
-pub const ASSIGNMENT_TYPE: usize = 11;
+pub const NUMBER_AUTH_ITEMS: usize = 11;
 
-pub const DATA_AVAILABLE: usize = 12;
+pub const SERVER_NAME: usize = 12;
 
-pub const AUTHORIZATION_TYPE: usize = 13;
+pub const ASSIGNMENT_TYPE: usize = 13;
 
-pub const DESTINATION_HOST: usize = 14;
+pub const DATA_AVAILABLE: usize = 14;
 
-pub const PROXY_INFO: usize = 15;
+pub const AUTHORIZATION_TYPE: usize = 15;
 
-pub const ROUTE_RECORD: usize = 16;
+pub const DESTINATION_HOST: usize = 16;
+
+pub const PROXY_INFO: usize = 17;
+
+pub const ROUTE_RECORD: usize = 18;
 
 // How many kinds there are, the unknown one among them.
-pub const KINDS: usize = 17;
+pub const KINDS: usize = 19;
 
 // The uses, as the table's columns have them.
 const X: Use = Use::Unknown;
@@ -58,9 +63,12 @@ const R: Use = Use::Repeated;
 // The limits of a Server-Name: those of a record's.
 const SERVER: Content = Content::Sized(1, 96);
 
-// A row of the table: code, vendor, content, and the use in a UAR, in a SAR and in a LIR.
-fn row(code: u32, vendor: u32, content: Content, uar: Use, sar: Use, lir: Use) -> Kind
-    ensures { λ r. ⌜ r ≡ row code vendor content uar sar lir ⌝ }
+// A 4-byte number of any value.
+const NUMBER: Content = Content::Number(0, 4294967295);
+
+// A row of the table: code, vendor, content, and the use in a UAR, in a SAR, in a LIR and in a MAR.
+fn row(code: u32, vendor: u32, content: Content, uar: Use, sar: Use, lir: Use, mar: Use) -> Kind
+    ensures { λ r. ⌜ r ≡ row code vendor content uar sar lir mar ⌝ }
 {
     Kind {
         code,
@@ -69,31 +77,42 @@ fn row(code: u32, vendor: u32, content: Content, uar: Use, sar: Use, lir: Use) -
         uar,
         sar,
         lir,
+        mar,
     }
 }
 
-// "Known, vendor 0 without V: .. With V and 10415: .." and "Needed everywhere: .. UAR then .. SAR .. LIR ..": the row of a kind.
+// "Known, vendor 0 without V: .. With V and 10415: .." and "Needed everywhere: .. UAR then .. SAR .. LIR ..", and 003's grammar of a MAR: the row of a kind.
 pub fn row_of(k: usize) -> Kind
     ensures { λ r. ⌜ r ≡ rowOf k ⌝ }
 {
     match k {
-        SESSION_ID => row(263, 0, Content::Free, N, N, N),
-        APPLICATION => row(260, 0, Content::Application, N, N, N),
-        SESSION_STATE => row(277, 0, Content::Number(1, 1), N, N, N),
-        ORIGIN_HOST => row(264, 0, Content::Free, N, N, N),
-        ORIGIN_REALM => row(296, 0, Content::Free, N, N, N),
-        DESTINATION_REALM => row(283, 0, Content::Free, N, N, N),
-        USER_NAME => row(1, 0, Content::Free, N, O, U),
-        PUBLIC_IDENTITY => row(601, crate::VENDOR, Content::Free, N, R, N),
-        VISITED_NETWORK => row(600, crate::VENDOR, Content::Free, N, U, U),
-        SERVER_NAME => row(602, crate::VENDOR, SERVER, U, N, U),
-        ASSIGNMENT_TYPE => row(614, crate::VENDOR, Content::Number(0, 11), U, N, U),
-        DATA_AVAILABLE => row(624, crate::VENDOR, Content::Number(0, 1), U, N, U),
-        AUTHORIZATION_TYPE => row(623, crate::VENDOR, Content::Number(0, 2), O, U, U),
-        DESTINATION_HOST => row(293, 0, Content::Free, O, O, O),
-        PROXY_INFO => row(284, 0, Content::Free, R, R, R),
-        ROUTE_RECORD => row(282, 0, Content::Free, R, R, R),
-        _ => row(0, 0, Content::Free, X, X, X),
+        SESSION_ID => row(263, 0, Content::Free, N, N, N, N),
+        APPLICATION => row(260, 0, Content::Members(Group::Application), N, N, N, N),
+        SESSION_STATE => row(277, 0, Content::Number(1, 1), N, N, N, N),
+        ORIGIN_HOST => row(264, 0, Content::Free, N, N, N, N),
+        ORIGIN_REALM => row(296, 0, Content::Free, N, N, N, N),
+        DESTINATION_REALM => row(283, 0, Content::Free, N, N, N, N),
+        USER_NAME => row(1, 0, Content::Free, N, O, U, N),
+        PUBLIC_IDENTITY => row(601, crate::VENDOR, Content::Free, N, R, N, N),
+        VISITED_NETWORK => row(600, crate::VENDOR, Content::Free, N, U, U, U),
+        AUTH_DATA_ITEM => row(
+            612,
+            crate::VENDOR,
+            Content::Members(Group::AuthDataItem),
+            U,
+            U,
+            U,
+            N,
+        ),
+        NUMBER_AUTH_ITEMS => row(607, crate::VENDOR, NUMBER, U, U, U, N),
+        SERVER_NAME => row(602, crate::VENDOR, SERVER, U, N, U, N),
+        ASSIGNMENT_TYPE => row(614, crate::VENDOR, Content::Number(0, 11), U, N, U, U),
+        DATA_AVAILABLE => row(624, crate::VENDOR, Content::Number(0, 1), U, N, U, U),
+        AUTHORIZATION_TYPE => row(623, crate::VENDOR, Content::Number(0, 2), O, U, U, U),
+        DESTINATION_HOST => row(293, 0, Content::Free, O, O, O, O),
+        PROXY_INFO => row(284, 0, Content::Free, R, R, R, R),
+        ROUTE_RECORD => row(282, 0, Content::Free, R, R, R, R),
+        _ => row(0, 0, Content::Free, X, X, X, X),
     }
 }
 
@@ -123,6 +142,8 @@ fn vendor_kind(code: u32) -> usize
     match code {
         601 => PUBLIC_IDENTITY,
         600 => VISITED_NETWORK,
+        612 => AUTH_DATA_ITEM,
+        607 => NUMBER_AUTH_ITEMS,
         602 => SERVER_NAME,
         614 => ASSIGNMENT_TYPE,
         624 => DATA_AVAILABLE,
@@ -162,7 +183,10 @@ pub fn use_in(d: Dialect, k: Kind) -> Use
     if d.command == crate::SAR {
         return k.sar;
     }
-    k.lir
+    if d.command == crate::LIR {
+        return k.lir;
+    }
+    k.mar
 }
 
 pub fn needed(u: Use) -> bool

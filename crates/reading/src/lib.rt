@@ -6,6 +6,7 @@ pub mod kinds;
 pub mod plain;
 pub mod rules;
 
+use crate::group::Group;
 ghost use mathlib.Core.Path.{_≡_};
 ghost use Rattle.reading.specs.Verdicts.{numberOf};
 
@@ -21,6 +22,8 @@ pub const UAR: usize = 300;
 pub const SAR: usize = 301;
 
 pub const LIR: usize = 302;
+
+pub const MAR: usize = 303;
 
 pub const CX: u32 = 16777216;
 
@@ -50,12 +53,12 @@ pub struct Verdict {
     pub lacks: usize,
 }
 
-// What the data of a kind must be: anything; a 4-byte number within limits; so many bytes; the members of 260.
+// What the data of a kind must be: anything; a 4-byte number within limits; so many bytes; the members of a group.
 pub enum Content {
     Free,
     Number(u32, u32),
     Sized(usize, usize),
-    Application,
+    Members(Group),
 }
 
 // What a dialect makes of a kind of AVP.
@@ -75,6 +78,7 @@ pub struct Kind {
     pub uar: Use,
     pub sar: Use,
     pub lir: Use,
+    pub mar: Use,
 }
 
 // A member of a group: its code and vendor (0: without V), its content, and whether it may come more than once.

@@ -37,6 +37,6 @@ pub fn plain_fault(c: Content, s: &[u8], a: Avp) -> u32
             let n = a.len - a.head;
             fault_unless((least <= n) & (n <= most), faults::INVALID_AVP_VALUE)
         }
-        Content::Application => 0,
+        Content::Members(_) => 0,
     }
 }

@@ -24,8 +24,8 @@ pub fn content_fault(d: Dialect, c: Content, s: &[u8], a: Avp) -> u32
         Content::Free => plain::plain_fault(c, s, a),
         Content::Number(_, _) => plain::plain_fault(c, s, a),
         Content::Sized(_, _) => plain::plain_fault(c, s, a),
-        Content::Application => plain::fault_unless(
-            group::gathers(d, c, diameter::data_part(s, a)),
+        Content::Members(g) => plain::fault_unless(
+            group::gathers(d, g, diameter::data_part(s, a)),
             faults::INVALID_AVP_VALUE,
         ),
     }

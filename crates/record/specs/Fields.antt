@@ -1,5 +1,5 @@
 -- The fields of a block by their names: its numbers, the names that stand in it, a record's capabilities, profile and bits.
-use Prim.Native.Nat.{ℕ, _*_, _/_, _%_, _-_}
+use Prim.Native.Nat.{ℕ, _+_, _*_, _/_, _%_, _-_}
 use mathlib.Core.Bool.{Bool}
 use mathlib.Core.List.{List}
 use lib.ListN.{getD, take, drop}
@@ -92,6 +92,9 @@ barred bits = eqb (bits / 2 % 2) 1
 abbrev pub unregisteredServices : ℕ → Bool
 unregisteredServices bits = eqb (bits / 4 % 2) 1
 
--- "pending cleared"
+-- "pending cleared"; "pending is set"
 abbrev pub cleared : ℕ → ℕ
 cleared bits = bits - bits % 2
+
+abbrev pub pendingSet : ℕ → ℕ
+pendingSet bits = bits - bits % 2 + 1

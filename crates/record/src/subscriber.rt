@@ -5,7 +5,7 @@ use octets::sum;
 ghost use mathlib.Core.Path.{_≡_};
 ghost use Prim.Native.Nat.{_≤_};
 ghost use lib.ListN.{length};
-ghost use Rattle.record.specs.Fields.{pending, barred, unregisteredServices, cleared};
+ghost use Rattle.record.specs.Fields.{pending, barred, unregisteredServices, cleared, pendingSet};
 ghost use Rattle.record.specs.RecordBlock.{recordOf, isRecord, soundLimits, soundServer, soundRoaming, soundProfile, soundRest, soundRecord};
 
 // The numbers of a record block. Its names stay in the table.
@@ -135,6 +135,13 @@ impl Record {
         ensures { λ r. ⌜ r ≡ cleared (self .bits) ⌝ }
     {
         self.bits - self.bits % 2
+    }
+
+    // The bits with pending set.
+    pub fn pending_set(self) -> u8
+        ensures { λ r. ⌜ r ≡ pendingSet (self .bits) ⌝ }
+    {
+        self.bits - self.bits % 2 + 1
     }
 }
 

@@ -27,8 +27,8 @@ session-or-proxy a w = simp length-append (go (eqb (kindOf a) sessionId) (eqb (r
         → copiedSize (length (cond (x && y) a [])) + (length (ifThere (eqb (kindOf a) proxyInfo) (copied a)) + length (proxies w)) ≤ copiedSize (length a)
         + length (proxies w)
     go true true e =
-        let k : kindOf a ≡ 1 = eqb-true (kindOf a) 1 e in
-        rw (ne-eqb (kindOf a) 15 (omega arith)) (omega arith)
+        let k : kindOf a ≡ sessionId = eqb-true (kindOf a) sessionId e in
+        rw (ne-eqb (kindOf a) proxyInfo (omega arith)) (omega arith)
     go true false e = omega (arith, there-length (eqb (kindOf a) proxyInfo) (copied a), copied-length a)
     go false y e = omega (arith, there-length (eqb (kindOf a) proxyInfo) (copied a), copied-length a)
 

@@ -5,7 +5,7 @@ use mathlib.Core.Path.{_≡_}
 use native.Mathlib.Omega.{arith}
 use lib.Dec.{ltb}
 use lib.ListN.{length, length-append, length-take, length-drop}
-use Rattle.record.specs.Fields.{hostOf, realmOf, privateOf, serverOf, mandatoryOf, optionalOf}
+use Rattle.record.specs.Fields.{hostOf, realmOf, privateOf, publicOf, serverOf, mandatoryOf, optionalOf}
 use Rattle.table.specs.Blocks.{blockOf, ofBlock}
 use Rattle.table.specs.SoundTable.{SoundTable}
 use Rattle.pen.specs.Bytes.{copiedSize, avpBytes, vendorBytes}
@@ -17,10 +17,12 @@ use Rattle.reading.specs.declared.Outcome.{Outcome}
 use Rattle.reading.specs.declared.Outcome.the-variants.{Base, Experimental}
 use Rattle.failed.specs.Failing.{failedBy}
 use Rattle.choices.specs.declared.Given.{Given}
+use Rattle.vectors.specs.Chosen.{Sendable}
+use Rattle.items.proofs.Items.{sent-most}
 use Rattle.parts.specs.Profile.{profileAt}
-use Rattle.parts.proofs.Fields.{part-length, host-length, realm-length, user-field, server-field, mandatory-field, optional-field}
-use Rattle.reply.specs.Answer.{resultBytes, namedBytes, vendorNamed, frontBytes, originBytes, topBytes, nameBytes, dataBytes, givenBytes, failedPart}
-use Rattle.reply.specs.Answer.{proxies, endBytes, restBytes, bodyBytes, headerBytes, answerBytes}
+use Rattle.parts.proofs.Fields.{part-length, host-length, realm-length, user-field, public-field, server-field, mandatory-field, optional-field}
+use Rattle.reply.specs.Answer.{resultBytes, namedBytes, vendorNamed, frontBytes, originBytes, topBytes, identityBytes, nameBytes, dataBytes, givenBytes}
+use Rattle.reply.specs.Answer.{failedPart, proxies, endBytes, restBytes, bodyBytes, headerBytes, answerBytes}
 use Rattle.reply.proofs.Copies.{session-proxies}
 
 result-length : (o : Outcome) → length (resultBytes o) ≤ 32
@@ -50,15 +52,17 @@ module _ (t : List ℕ) (count : ℕ) (s : SoundTable t count) where
       let h = blockOf t 0 in
       simp length-append (omega (arith, avp-length 264 (hostOf h), avp-length 296 (realmOf h), host-length t count s, realm-length t count s))
 
-  names-length : (g : Given) → length (nameBytes t g) ≤ 244
-  unfolding nameBytes
+  names-length : (g : Given) → length (nameBytes t g) ≤ 384
+  unfolding nameBytes identityBytes
   names-length g =
       simp length-append
       (omega (
         arith,
         named-length 1 (ofBlock privateOf t (g .user)),
+        vendor-named-length 601 (ofBlock publicOf t (g .public)),
         vendor-named-length 602 (ofBlock serverOf t (g .server)),
         part-length privateOf 128 t count (user-field t count s) (g .user),
+        part-length publicOf 128 t count (public-field t count s) (g .public),
         part-length serverOf 96 t count (server-field t count s) (g .server),
       ))
 
@@ -74,20 +78,28 @@ module _ (t : List ℕ) (count : ℕ) (s : SoundTable t count) where
         part-length optionalOf 16 t count (optional-field t count s) (g .capable),
       ))
 
-  -- 616 bytes are bounded by the table's fields; the rest comes from the request and from the profile file
-  body-length : (req file : List ℕ) (g : Given)
-      → length (bodyBytes req t file g)
-      ≤ 616 + copiedSize (length (sessionOf (bodyOf req))) + copiedSize (length (profileAt t file (g .profile)))
-      + length (failedPart (failedBy req (g .verdict))) + length (proxies (bodyOf req))
-  unfolding bodyBytes topBytes restBytes givenBytes endBytes
-  body-length req file g =
-      simp length-append (omega (arith, front-length (sessionOf (bodyOf req)) (g .verdict .result), origin-length, names-length g, data-length file g))
+  -- 3,716 bytes are bounded by the table's fields and by 16 vectors; the rest comes from the request and from the profile file
+  module _ (req file v : List ℕ) (g : Given) (good : Sendable v (g .sent)) where
+    body-length : length (bodyBytes req t file v g)
+        ≤ 3716 + copiedSize (length (sessionOf (bodyOf req))) + copiedSize (length (profileAt t file (g .profile)))
+        + length (failedPart (failedBy req (g .verdict))) + length (proxies (bodyOf req))
+    unfolding bodyBytes topBytes restBytes givenBytes endBytes
+    body-length =
+        simp length-append
+        (omega (
+          arith,
+          front-length (sessionOf (bodyOf req)) (g .verdict .result),
+          origin-length,
+          names-length g,
+          sent-most v (g .sent) good,
+          data-length file g,
+        ))
 
-  -- Session-Id and every Proxy-Info are copied from different AVPs.
-  pub answer-length : (req file : List ℕ) (g : Given) → 20 ≤ length req → length req % 4 ≡ 0
-      → length (answerBytes req t file g) ≤ 616 + length req + copiedSize (length (profileAt t file (g .profile)))
-      + length (failedPart (failedBy req (g .verdict)))
-  unfolding answerBytes
-  answer-length req file g h e =
-      simp length-append
-      (omega (arith, header-length req (g .verdict .result) (20 + length (bodyBytes req t file g)) h, body-length req file g, session-proxies req h e))
+    -- Session-Id and every Proxy-Info are copied from different AVPs.
+    pub answer-length : 20 ≤ length req → length req % 4 ≡ 0
+        → length (answerBytes req t file v g) ≤ 3716 + length req + copiedSize (length (profileAt t file (g .profile)))
+        + length (failedPart (failedBy req (g .verdict)))
+    unfolding answerBytes
+    answer-length h e =
+        simp length-append
+        (omega (arith, header-length req (g .verdict .result) (20 + length (bodyBytes req t file v g)) h, body-length, session-proxies req h e))

@@ -1,13 +1,13 @@
 -- The pieces of an answer, each written by the writers of its AVPs, one after the other.
 use Prim.Native.Nat.{ℕ, _+_, _*_, _/_, _%_, _≤_}
 use mathlib.Core.Path.{_≡_, refl, sym, _∙_}
-use mathlib.Core.List.{List}
+use mathlib.Core.List.{List, _++_}
 use native.Mathlib.Omega.{arith}
 use lib.ListN.{length, getD, take, drop, length-append, length-take, length-drop}
 use borrow.Author.Tests.{eq-eqb, ne-eqb}
 use Rattle.octets.specs.Run.{Wrote}
 use Rattle.octets.proofs.Writes.{lent, back, then, named}
-use Rattle.record.specs.Fields.{hostOf, realmOf, privateOf, serverOf, mandatoryOf, optionalOf}
+use Rattle.record.specs.Fields.{hostOf, realmOf, privateOf, publicOf, serverOf, mandatoryOf, optionalOf}
 use Rattle.table.specs.Blocks.{blockOf, ofBlock}
 use Rattle.pen.specs.Bytes.{copiedSize, avpBytes, avpSize, numberBytes}
 use Rattle.pen.specs.Groups.{experimental, capabilities}
@@ -19,9 +19,10 @@ use Rattle.requests.specs.Request.{sessionOf}
 use Rattle.reading.specs.declared.Outcome.{Outcome}
 use Rattle.reading.specs.declared.Outcome.the-variants.{Base, Experimental}
 use Rattle.choices.specs.declared.Given.{Given}
+use Rattle.items.specs.Items.{sentBytes}
 use Rattle.parts.specs.Profile.{profileAt}
-use Rattle.reply.specs.Answer.{resultBytes, namedBytes, vendorNamed, frontBytes, originBytes, topBytes, nameBytes, dataBytes, givenBytes, flagsOf}
-use Rattle.reply.specs.Answer.{startBytes, headerBytes}
+use Rattle.reply.specs.Answer.{resultBytes, namedBytes, vendorNamed, frontBytes, originBytes, topBytes, identityBytes, nameBytes, dataBytes, givenBytes}
+use Rattle.reply.specs.Answer.{flagsOf, startBytes, headerBytes}
 use Rattle.reply.proofs.Rooms.{room-left, room-right, wrote-most, wrote-within}
 
 -- The result.
@@ -92,19 +93,33 @@ module _ (h x y : List ℕ) (ex : x ≡ hostOf h) where
 
 -- Two AVPs of what was found in the table.
 module _ (t x y : List ℕ) (g : Given) (ex : x ≡ ofBlock privateOf t (g .user)) where
-  pub user-room : {m : ℕ} → length (nameBytes t g) ≤ m → length (namedBytes 1 x) ≤ m
-  unfolding nameBytes
-  user-room r = rw ex (room-left (namedBytes 1 (ofBlock privateOf t (g .user))) (vendorNamed 602 (ofBlock serverOf t (g .server))) r)
+  pub user-room : {m : ℕ} → length (identityBytes t g) ≤ m → length (namedBytes 1 x) ≤ m
+  unfolding identityBytes
+  user-room r = rw ex (room-left (namedBytes 1 (ofBlock privateOf t (g .user))) (vendorNamed 601 (ofBlock publicOf t (g .public))) r)
 
-  module _ (ey : y ≡ ofBlock serverOf t (g .server)) {b xs : List ℕ} {n : ℕ} (p : Wrote (namedBytes 1 x) b xs n) where
+  module _ (ey : y ≡ ofBlock publicOf t (g .public)) {b xs : List ℕ} {n : ℕ} (p : Wrote (namedBytes 1 x) b xs n) where
+    pub public-room : length (identityBytes t g) ≤ length b → length (vendorNamed 601 y) ≤ length (lent n xs)
+    unfolding identityBytes
+    public-room r = let q = rw ex at p in rw ey
+        (room-right (namedBytes 1 (ofBlock privateOf t (g .user))) (vendorNamed 601 (ofBlock publicOf t (g .public))) q r)
+
+    pub wrote-identities : {ys : List ℕ} {r : ℕ} → Wrote (vendorNamed 601 y) (lent n xs) ys r → Wrote (identityBytes t g) b (back n xs ys) (n + r)
+    unfolding identityBytes
+    wrote-identities q = named (rw (ex, ey)) refl (then p q)
+
+module _ (t y : List ℕ) (g : Given) where
+  pub identities-room : {m : ℕ} → length (nameBytes t g) ≤ m → length (identityBytes t g) ≤ m
+  unfolding nameBytes
+  identities-room r = room-left (identityBytes t g) (vendorNamed 602 (ofBlock serverOf t (g .server))) r
+
+  module _ (ey : y ≡ ofBlock serverOf t (g .server)) {b xs : List ℕ} {n : ℕ} (p : Wrote (identityBytes t g) b xs n) where
     pub server-room : length (nameBytes t g) ≤ length b → length (vendorNamed 602 y) ≤ length (lent n xs)
     unfolding nameBytes
-    server-room r = let q = rw ex at p in rw ey
-        (room-right (namedBytes 1 (ofBlock privateOf t (g .user))) (vendorNamed 602 (ofBlock serverOf t (g .server))) q r)
+    server-room r = rw ey (room-right (identityBytes t g) (vendorNamed 602 (ofBlock serverOf t (g .server))) p r)
 
     pub wrote-names : {ys : List ℕ} {r : ℕ} → Wrote (vendorNamed 602 y) (lent n xs) ys r → Wrote (nameBytes t g) b (back n xs ys) (n + r)
     unfolding nameBytes
-    wrote-names q = named (rw (ex, ey)) refl (then p q)
+    wrote-names q = named (rw ey) refl (then p q)
 
 module _ (t file m o d : List ℕ) (g : Given) (em : m ≡ ofBlock mandatoryOf t (g .capable)) (eo : o ≡ ofBlock optionalOf t (g .capable)) where
   pub capable-room : {k : ℕ} → length (dataBytes t file g) ≤ k → length (capabilities m o) ≤ k
@@ -156,16 +171,17 @@ module _ (req t : List ℕ) (o : Outcome) where
     unfolding topBytes
     wrote-top q = then p q
 
-module _ (t file : List ℕ) (g : Given) where
-  pub names-room : {m : ℕ} → length (givenBytes t file g) ≤ m → length (nameBytes t g) ≤ m
+module _ (t file v : List ℕ) (g : Given) where
+  pub names-room : {m : ℕ} → length (givenBytes t file v g) ≤ m → length (nameBytes t g) ≤ m
   unfolding givenBytes
-  names-room r = room-left (nameBytes t g) (dataBytes t file g) r
+  names-room r = room-left (nameBytes t g) (sentBytes v (g .sent) ++ dataBytes t file g) r
 
   module _ {b xs : List ℕ} {n : ℕ} (p : Wrote (nameBytes t g) b xs n) where
-    pub rest-room : length (givenBytes t file g) ≤ length b → length (dataBytes t file g) ≤ length (lent n xs)
+    pub contents-room : length (givenBytes t file v g) ≤ length b → length (sentBytes v (g .sent) ++ dataBytes t file g) ≤ length (lent n xs)
     unfolding givenBytes
-    rest-room r = room-right _ _ p r
+    contents-room r = room-right _ _ p r
 
-    pub wrote-given : {ys : List ℕ} {r : ℕ} → Wrote (dataBytes t file g) (lent n xs) ys r → Wrote (givenBytes t file g) b (back n xs ys) (n + r)
+    pub wrote-given : {ys : List ℕ} {r : ℕ} → Wrote (sentBytes v (g .sent) ++ dataBytes t file g) (lent n xs) ys r
+        → Wrote (givenBytes t file v g) b (back n xs ys) (n + r)
     unfolding givenBytes
     wrote-given q = then p q

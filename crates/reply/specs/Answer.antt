@@ -1,11 +1,11 @@
--- "The answer", byte by byte: of the request, the table, the profile file and what a decision gives, which names blocks by their numbers.
+-- "The answer", byte by byte: of the request, the table, the profile file, the vector file and what a decision gives, which names blocks by their numbers.
 use Prim.Native.Nat.{ℕ, _+_, _*_, _/_, _%_}
 use mathlib.Core.List.{List, [], _∷_, _++_}
 use mathlib.Core.Option.{Option, none, some}
 use mathlib.Core.Bool.{cond}
 use lib.ListN.{length, getD, take, drop}
 use lib.Dec.{eqb, ltb}
-use Rattle.record.specs.Fields.{hostOf, realmOf, privateOf, serverOf, mandatoryOf, optionalOf}
+use Rattle.record.specs.Fields.{hostOf, realmOf, privateOf, publicOf, serverOf, mandatoryOf, optionalOf}
 use Rattle.table.specs.Blocks.{blockOf, ofBlock}
 use Rattle.diameter.specs.Walk.{Walk, ended, faulty, avp}
 use Rattle.pen.specs.Bytes.{copied, avpBytes, vendorBytes, numberBytes, ifThere}
@@ -19,6 +19,7 @@ use Rattle.reading.specs.declared.Outcome.the-variants.{Base, Experimental}
 use Rattle.reading.specs.declared.Verdict.{Verdict}
 use Rattle.failed.specs.Failing.{failedBy}
 use Rattle.choices.specs.declared.Given.{Given}
+use Rattle.items.specs.Items.{sentBytes}
 use Rattle.parts.specs.Profile.{profileAt}
 
 -- "Result-Code 268 or Experimental-Result 297 (266, 298)"
@@ -43,15 +44,20 @@ originBytes h = avpBytes 264 (hostOf h) ++ avpBytes 296 (realmOf h)
 unfoldable pub topBytes : List ℕ → List ℕ → Outcome → List ℕ
 topBytes req t result = frontBytes (sessionOf (bodyOf req)) result ++ originBytes (blockOf t 0)
 
--- "User-Name ..; Server-Name where a decision gives one"; "Server-Capabilities 603 ..; User-Data 606"
-unfoldable pub nameBytes : List ℕ → Given → List ℕ
-nameBytes t g = namedBytes 1 (ofBlock privateOf t (g .user)) ++ vendorNamed 602 (ofBlock serverOf t (g .server))
+-- "User-Name ..", of a SAR and a MAR, and a MAR's "Public-Identity"; "Server-Name where a decision gives one"
+unfoldable pub identityBytes : List ℕ → Given → List ℕ
+identityBytes t g = namedBytes 1 (ofBlock privateOf t (g .user)) ++ vendorNamed 601 (ofBlock publicOf t (g .public))
 
+unfoldable pub nameBytes : List ℕ → Given → List ℕ
+nameBytes t g = identityBytes t g ++ vendorNamed 602 (ofBlock serverOf t (g .server))
+
+-- "Server-Capabilities 603 ..; User-Data 606"
 unfoldable pub dataBytes : List ℕ → List ℕ → Given → List ℕ
 dataBytes t file g = capabilities (ofBlock mandatoryOf t (g .capable)) (ofBlock optionalOf t (g .capable)) ++ vendorNamed 606 (profileAt t file (g .profile))
 
-unfoldable pub givenBytes : List ℕ → List ℕ → Given → List ℕ
-givenBytes t file g = nameBytes t g ++ dataBytes t file g
+-- "After 296 the answer has User-Name, Public-Identity, the number sent, and the items"; no other answer has vectors
+unfoldable pub givenBytes : List ℕ → List ℕ → List ℕ → Given → List ℕ
+givenBytes t file v g = nameBytes t g ++ (sentBytes v (g .sent) ++ dataBytes t file g)
 
 -- "Failed-AVP 279; every Proxy-Info before the first length fault, other faults or not"
 abbrev pub failedPart : Option (List ℕ) → List ℕ
@@ -69,11 +75,11 @@ proxies (avp a w) = proxy a ++ proxies w
 unfoldable pub endBytes : List ℕ → Verdict → List ℕ
 endBytes req v = failedPart (failedBy req v) ++ proxies (bodyOf req)
 
-unfoldable pub restBytes : List ℕ → List ℕ → List ℕ → Given → List ℕ
-restBytes req t file g = givenBytes t file g ++ endBytes req (g .verdict)
+unfoldable pub restBytes : List ℕ → List ℕ → List ℕ → List ℕ → Given → List ℕ
+restBytes req t file v g = givenBytes t file v g ++ endBytes req (g .verdict)
 
-unfoldable pub bodyBytes : List ℕ → List ℕ → List ℕ → Given → List ℕ
-bodyBytes req t file g = topBytes req t (g .verdict .result) ++ restBytes req t file g
+unfoldable pub bodyBytes : List ℕ → List ℕ → List ℕ → List ℕ → Given → List ℕ
+bodyBytes req t file v g = topBytes req t (g .verdict .result) ++ restBytes req t file v g
 
 -- "Header: version 1, flags P as received and E exactly for 3xxx, no others, length its own, the rest as received."
 unfoldable pub flagsOf : ℕ → Outcome → ℕ
@@ -85,5 +91,5 @@ startBytes n flags = 1 ∷ n / 65536 % 256 ∷ n / 256 % 256 ∷ n % 256 ∷ fla
 unfoldable pub headerBytes : List ℕ → Outcome → ℕ → List ℕ
 headerBytes req result n = startBytes n (flagsOf (getD req 4 0) result) ++ take 15 (drop 5 req)
 
-unfoldable pub answerBytes : List ℕ → List ℕ → List ℕ → Given → List ℕ
-answerBytes req t file g = headerBytes req (g .verdict .result) (20 + length (bodyBytes req t file g)) ++ bodyBytes req t file g
+unfoldable pub answerBytes : List ℕ → List ℕ → List ℕ → List ℕ → Given → List ℕ
+answerBytes req t file v g = headerBytes req (g .verdict .result) (20 + length (bodyBytes req t file v g)) ++ bodyBytes req t file v g

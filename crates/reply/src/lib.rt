@@ -12,6 +12,8 @@ const ORIGIN_REALM_CODE: u32 = 296;
 
 const USER_NAME_CODE: u32 = 1;
 
+const PUBLIC_IDENTITY_CODE: u32 = 601;
+
 const SERVER_NAME_CODE: u32 = 602;
 
 const USER_DATA_CODE: u32 = 606;

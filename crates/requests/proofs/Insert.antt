@@ -29,23 +29,24 @@ stranger-kind dialect u k e f = go (eqb (kindOf u) k) refl
     go false d = d
 
 -- Public-Identity and Proxy-Info are known to each command
-known-in : (dialect : Dialect) (k : Kind) → isUnknown (k .uar) ≡ false → isUnknown (k .sar) ≡ false → isUnknown (k .lir) ≡ false
+known-in : (dialect : Dialect) (k : Kind) → isUnknown (k .uar) ≡ false → isUnknown (k .sar) ≡ false → isUnknown (k .lir) ≡ false → isUnknown (k .mar) ≡ false
     → isUnknown (useIn dialect k) ≡ false
 unfolding useIn
-known-in dialect k a b c = go (eqb (dialect .command) 300) (eqb (dialect .command) 301)
+known-in dialect k a b c d = go (eqb (dialect .command) 300) (eqb (dialect .command) 301) (eqb (dialect .command) 302)
   where
-    go : (x y : Bool) → isUnknown (cond x (k .uar) (cond y (k .sar) (k .lir))) ≡ false
-    go true y = a
-    go false true = b
-    go false false = c
+    go : (x y z : Bool) → isUnknown (cond x (k .uar) (cond y (k .sar) (cond z (k .lir) (k .mar)))) ≡ false
+    go true y z = a
+    go false true z = b
+    go false false true = c
+    go false false false = d
 
 pub identity-known : (dialect : Dialect) → isUnknown (useIn dialect (rowOf publicIdentity)) ≡ false
 unfolding rowOf known
-identity-known dialect = known-in dialect (rowOf publicIdentity) refl refl refl
+identity-known dialect = known-in dialect (rowOf publicIdentity) refl refl refl refl
 
 pub proxy-known : (dialect : Dialect) → isUnknown (useIn dialect (rowOf proxyInfo)) ≡ false
 unfolding rowOf known
-proxy-known dialect = known-in dialect (rowOf proxyInfo) refl refl refl
+proxy-known dialect = known-in dialect (rowOf proxyInfo) refl refl refl refl
 
 -- an AVP of a kind that the dialect does not know, without a reserved flag
 module _ (dialect : Dialect) (at : ℕ) (u : List ℕ) (w : Walk) (seen : Seen) (plain : reserved (avpFlags u) ≡ 0) (stranger : useOf dialect u ≡ Unknown) where

@@ -5,10 +5,11 @@ use mathlib.Core.Path.{_≡_, refl, sym, ap, _∙_}
 use mathlib.Core.List.{List, [], _∷_}
 use mathlib.Core.Option.{Option, none, some, Option·none-ne-some}
 use mathlib.Core.Bool.{Bool, true, false, not, cond, _&&_, true≢false}
+use mathlib.Core.Logic.{_⊎_, inl, inr}
 use native.Mathlib.Omega.{arith}
 use lib.ListN.{length, getD, set, replicate}
 use lib.Dec.{eqb, leb}
-use borrow.Author.Tests.{eqb-true, leb-true}
+use borrow.Author.Tests.{eqb-true, leb-true, ne-eqb}
 use Rattle.octets.proofs.All.{and-left, and-right}
 use Rattle.diameter.specs.Avp.{padded, avpFlags, dataOf, reserved, marked}
 use Rattle.diameter.specs.Walk.{Walk, ended, faulty, avp}
@@ -157,19 +158,20 @@ missing-zero dialect seen (k ∷ ks) n p e i h t =
 pub read-needed : (req : List ℕ) (seen : Seen) (k : ℕ) → readRequest req ≡ fine seen → k < kinds → isNeeded (useIn (dialectOf cx req) (rowOf k)) ≡ true
     → given seen k ≡ true
 unfolding missing rowOf known useIn
-read-needed req seen zero e h t = go (eqb (dialectOf cx req .command) 300) (eqb (dialectOf cx req .command) 301) t
+read-needed req seen zero e h t = go (eqb (commandOf req) 300) (eqb (commandOf req) 301) (eqb (commandOf req) 302) t
   where
-    go : (x y : Bool) → isNeeded (cond x Unknown (cond y Unknown Unknown)) ≡ true → given seen zero ≡ true
-    go true y d = absurd (true≢false (sym d))
-    go false true d = absurd (true≢false (sym d))
-    go false false d = absurd (true≢false (sym d))
+    go : (x y z : Bool) → isNeeded (cond x Unknown (cond y Unknown (cond z Unknown Unknown))) ≡ true → given seen zero ≡ true
+    go true y z d = absurd (true≢false (sym d))
+    go false true z d = absurd (true≢false (sym d))
+    go false false true d = absurd (true≢false (sym d))
+    go false false false d = absurd (true≢false (sym d))
 read-needed req seen (suc i) e h t =
     let d = missing-zero (dialectOf cx req) seen known 1 (omega arith) (request-fine req seen e .1) i (omega arith) t in
     let n : 1 + i ≡ suc i = omega arith in
     rw n at d
 
 -- the limits of lengths; of a kind that did not come the length is 0
-no-fault : (good : Bool) (n : ℕ) → faultUnless good (suc n) ≡ 0 → good ≡ true
+pub no-fault : (good : Bool) (n : ℕ) → faultUnless good (suc n) ≡ 0 → good ≡ true
 no-fault true n e = refl
 no-fault false n e = absurd (omega arith)
 
@@ -194,12 +196,21 @@ module _ (dialect : Dialect) (seen : Seen) (k : ℕ) (h : AllKept dialect seen) 
   pub data-least : (least most : ℕ) → rowOf k .content ≡ Sized least most → given seen k ≡ true → least ≤ length (dataSeen seen k)
   data-least least most e t = if-given (getD seen k none) least t (λ a d. leb-true _ _ (and-left (leb least (length (dataOf a))) _ (sized least most e a d)))
 
--- "Server-Name 602 (1 to 96 bytes)"
+-- "Server-Name 602 (1 to 96 bytes)", which a SAR and a MAR (none of the other three that are read) need
 module _ (req : List ℕ) (seen : Seen) (e : readRequest req ≡ fine seen) where
   pub server-most : length (dataSeen seen serverName) ≤ 96
   unfolding rowOf known
   server-most = data-most (dialectOf cx req) seen serverName (read-kept req seen e) 1 96 refl
 
-  pub server-least : commandOf req ≡ 301 → 1 ≤ length (dataSeen seen serverName)
+  server-needed : (commandOf req ≡ 301) ⊎ ((commandOf req ≡ 300 → ⊥) × (commandOf req ≡ 301 → ⊥) × (commandOf req ≡ 302 → ⊥))
+      → isNeeded (useIn (dialectOf cx req) (rowOf serverName)) ≡ true
   unfolding rowOf known useIn
-  server-least c = data-least (dialectOf cx req) seen serverName (read-kept req seen e) 1 96 refl (read-needed req seen serverName e (omega arith) (rw c))
+  server-needed (inl c) = rw c
+  server-needed (inr (a, b, c)) = rw (ne-eqb (commandOf req) 300 a, ne-eqb (commandOf req) 301 b, ne-eqb (commandOf req) 302 c)
+
+  pub server-least : (commandOf req ≡ 301) ⊎ ((commandOf req ≡ 300 → ⊥) × (commandOf req ≡ 301 → ⊥) × (commandOf req ≡ 302 → ⊥))
+      → 1 ≤ length (dataSeen seen serverName)
+  unfolding rowOf known
+  server-least c =
+      data-least (dialectOf cx req) seen serverName (read-kept req seen e) 1 96 refl
+      (read-needed req seen serverName e (omega arith) (server-needed c))

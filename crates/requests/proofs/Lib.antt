@@ -4,4 +4,5 @@ pub mod Naming
 pub mod Placed
 pub mod Refusing
 pub mod Requests
+pub mod Scheme
 pub mod Turns

@@ -8,10 +8,10 @@ use lib.Dec.{eqb, leb}
 use Rattle.diameter.specs.Avp.{dataOf, valueOf, avpFlags, reserved}
 use Rattle.diameter.specs.Walk.{Walk, ended, faulty, avp}
 use Rattle.diameter.specs.Message.{versionOf, messageFlags, commandOf, applicationOf, bodyOf}
-use Rattle.diameter.specs.Reader.{present}
+use Rattle.diameter.specs.Reader.{present, dataAt}
 use Rattle.reading.specs.declared.Dialect.{Dialect}
 use Rattle.reading.specs.declared.Kind.{Kind}
-use Rattle.reading.specs.Kinds.{known, kindOf, useIn, isNeeded, sessionId, publicIdentity}
+use Rattle.reading.specs.Kinds.{known, kindOf, useIn, isNeeded, sessionId, publicIdentity, authDataItem}
 use Rattle.reading.specs.Rules.{Seen}
 use Rattle.reading.specs.Verdicts.{faultOf, lackOf}
 use Rattle.requests.specs.Judged.{Judged, bad, fine, nothing, judge}
@@ -23,11 +23,12 @@ dialectOf application req = record { command = commandOf req; application = appl
 abbrev pub cx : ℕ
 cx = 16777216
 
--- whether the application has the command: 300 to 302 are Cx's
+-- whether the application has the command: 300 to 303 are Cx's
 abbrev pub spoken : Dialect → Bool
-spoken d = eqb (d .application) cx && leb 300 (d .command) && leb (d .command) 302
+spoken d = eqb (d .application) cx && leb 300 (d .command) && leb (d .command) 303
 
--- "Header, in order: version not 1, B5011; E bit set, B3008; command not 300 to 302, B3001; application not 16777216, B3007." 0: no fault
+-- "Header, in order: version not 1, B5011; E bit set, B3008; command not 300 to 302, B3001; application not 16777216, B3007"; "Multimedia-Auth (303)
+-- joins". 0: no fault
 unfoldable pub headerFault : Dialect → List ℕ → ℕ
 headerFault d req =
     cond (not (eqb (versionOf req) 1)) 5011
@@ -85,6 +86,10 @@ dataSeen seen k = dataIf (getD seen k none)
 
 abbrev pub valueSeen : Seen → ℕ → ℕ
 valueSeen seen k = valueIf (getD seen k none)
+
+-- the scheme that a MAR asks for: the data of the AVP in its 612, nothing where no whole one stands there
+abbrev pub schemeOf : Seen → List ℕ
+schemeOf seen = dataAt (dataSeen seen authDataItem) 0
 
 -- the Public-Identities in order, over the whole walk: a SAR may have many
 unfoldable pub identities : Walk → List (List ℕ)

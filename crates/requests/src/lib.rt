@@ -40,7 +40,7 @@ pub fn command(req: &[u8]) -> usize
 fn spoken(d: Dialect) -> bool
     ensures { λ r. ⌜ r ≡ spoken d ⌝ }
 {
-    (d.application == reading::CX) & (reading::UAR <= d.command) & (d.command <= reading::LIR)
+    (d.application == reading::CX) & (reading::UAR <= d.command) & (d.command <= reading::MAR)
 }
 
 // The header's first fault, 0 where there is none.

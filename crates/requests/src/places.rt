@@ -6,7 +6,7 @@ ghost use Prim.Native.Nat.{_≤_, _<_};
 ghost use lib.ListN.{length};
 ghost use Rattle.diameter.specs.Reader.{partAt};
 ghost use Rattle.reading.specs.Kinds.{kinds};
-ghost use Rattle.requests.specs.Request.{given, valueIf, dataSeen, valueSeen};
+ghost use Rattle.requests.specs.Request.{given, valueIf, dataSeen, valueSeen, schemeOf};
 ghost use Rattle.reading.specs.Places.{seenOf};
 
 // The number that the 4-byte AVP at a place holds, 0 where there is none.
@@ -41,4 +41,11 @@ pub fn value_of(req: &[u8], places: [usize; kinds::KINDS], k: usize) -> u32
     ensures { λ r. ⌜ r ≡ valueSeen (seenOf (now (req .entry)) places) k ⌝ }
 {
     value_of_place(req, places[k])
+}
+
+// The scheme in its 612, nothing where none came.
+pub fn scheme_of(req: &[u8], places: [usize; kinds::KINDS]) -> &[u8]
+    ensures { λ r. ⌜ (now r ≡ schemeOf (seenOf (now (req .entry)) places)) × (length (now r) ≤ length (now (req .entry))) ⌝ }
+{
+    diameter::data_at(data_of(req, places, kinds::AUTH_DATA_ITEM), 0)
 }

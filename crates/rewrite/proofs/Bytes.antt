@@ -3,45 +3,18 @@ use Prim.Native.Nat.{ℕ, _+_, _-_, _<_, _≤_}
 use mathlib.Core.Bool.{Bool, true, false, _&&_, _||_, true≢false}
 use mathlib.Core.Path.{_≡_, refl, sym, _∙_}
 use mathlib.Core.Logic.{_≢_}
-use mathlib.Core.List.{List, [], _∷_, _++_, append-nil}
+use mathlib.Core.List.{List}
 use native.Mathlib.Omega.{arith}
 use lib.Dec.{ltb, leb, eqb}
 use borrow.Author.Tests.{ltb-true, ltb-false, leb-true, leb-false, lt-leb, le-leb, le-ltb, eqb-true, eqb-false, ne-eqb}
-use lib.ListN.{length, getD, set, take, length-set, drop-of-length-le}
-use lib.Seq.{getD-set-same, getD-set-other, sets-eq}
-use Rattle.octets.specs.Number.{putBe32}
+use lib.ListN.{length, getD, set, length-set}
+use lib.Seq.{getD-set-same, getD-set-other}
 use Rattle.octets.specs.Run.{putName}
-use Rattle.octets.specs.Sum.{sumWords}
-use Rattle.octets.proofs.Parts.{part-alike}
 use Rattle.octets.proofs.Runs.{name-length, name-apart, name-here}
-use Rattle.octets.proofs.Sums.{sum-alike}
+use Rattle.blocks.specs.Sealed.{sealed}
+use Rattle.blocks.proofs.Sealed.{sealed-length, seal-before, seal-alike}
 use Rattle.rewrite.specs.Change.{alterable}
-use Rattle.rewrite.specs.Renew.{sealed, renewed}
-
--- A check word leaves the length, and what is before it.
-pub sealed-length : (b : List ℕ) → length (sealed b) ≡ length b
-unfolding sealed putBe32
-sealed-length b = simp length-set
-
-seal-before : (b : List ℕ) (i : ℕ) → i < 508 → getD (sealed b) i 0 ≡ getD b i 0
-unfolding sealed putBe32
-seal-before b i h =
-    let k0 : i ≢ 508 = omega arith in
-    let k1 : i ≢ 509 = omega arith in
-    let k2 : i ≢ 510 = omega arith in
-    let k3 : i ≢ 511 = omega arith in
-    simp getD-set-other
-
--- Blocks that are alike before their check words are alike once they are sealed.
-tail-word : (b : List ℕ) (x y z w : ℕ) → length b ≡ 512 → set (set (set (set b 508 x) 509 y) 510 z) 511 w ≡ take 508 b ++ (x ∷ y ∷ z ∷ w ∷ [])
-tail-word b x y z w h = sets-eq (x ∷ y ∷ z ∷ w ∷ []) b 508 (omega arith) ∙ rw (drop-of-length-le b {i = 512} (omega arith), append-nil)
-
-seal-alike : (b c : List ℕ) → length b ≡ 512 → length c ≡ 512 → ((i : ℕ) → i < 508 → getD b i 0 ≡ getD c i 0) → sealed b ≡ sealed c
-unfolding sealed putBe32
-seal-alike b c k l h =
-    let s : sumWords b 127 ≡ sumWords c 127 = sum-alike b c 127 (λ i m. h i (omega arith)) in
-    let p : take 508 b ≡ take 508 c = part-alike b c 0 508 (omega arith) (λ i m n. h i (omega arith)) in
-    tail-word b _ _ _ _ k ∙ rw (s, p) (sym (tail-word c _ _ _ _ l))
+use Rattle.rewrite.specs.Renew.{renewed}
 
 -- A byte that no effect may write: where it is not, and where such bytes are.
 record Apart (i : ℕ) : Type 0 where

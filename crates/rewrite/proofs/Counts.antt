@@ -15,9 +15,10 @@ use Rattle.lookup.specs.Find.{firstFrom}
 use Rattle.lookup.specs.declared.Found.{Found}
 use Rattle.lookup.specs.declared.Found.the-variants.{At, Nothing}
 use Rattle.lookup.proofs.First.{FirstAt, first-stands}
-use Rattle.rewrite.specs.Change.{changedAt, afterOf, changedIn, changedFound, Keeps, differ, alteredUpTo}
-use Rattle.rewrite.proofs.Blocks.{in-here, in-other, in-length}
-use Rattle.rewrite.proofs.Tables.{after-block}
+use Rattle.blocks.specs.Changed.{changedAt, changedIn}
+use Rattle.blocks.proofs.Changed.{in-here, in-other, in-length}
+use Rattle.rewrite.specs.Change.{afterOf, changedFound, Keeps, differ, alteredUpTo}
+use Rattle.rewrite.proofs.Tables.{keeps-whole, after-block}
 use Rattle.rewrite.proofs.Writes.{differ-same, in-differs}
 
 differ-most : (x y : List ℕ) → differ x y ≤ 1
@@ -75,7 +76,9 @@ module _ (change : List ℕ → List ℕ) (keeps : Keeps change) (x : List ℕ) 
 
     stays : blockOf (afterOf next count chosen change) k ≡ blockOf next k
     unfolding changedAt
-    stays = after-block next count change (in-length x k change keeps fits ∙ size) chosen keeps k b ∙ rw (in-here x k change keeps fits) (go (chosen k))
+    stays =
+        after-block next count change (in-length x k change (keeps-whole keeps) fits ∙ size) chosen keeps k b
+        ∙ rw (in-here x k change (keeps-whole keeps) fits) (go (chosen k))
       where
         go : (u : Bool) → cond u (change (change (blockOf x k))) (change (blockOf x k)) ≡ change (blockOf x k)
         go true = keeps .twice (blockOf x k) (block-length x k fits)
@@ -83,9 +86,9 @@ module _ (change : List ℕ → List ℕ) (keeps : Keeps change) (x : List ℕ) 
 
     in-counts : alteredUpTo x (afterOf next count chosen change) count ≡ differ x next + alteredUpTo next (afterOf next count chosen change) count
     in-counts =
-        altered-one x next (afterOf next count chosen change) k (in-other x k change keeps fits) stays count a b
+        altered-one x next (afterOf next count chosen change) k (in-other x k change (keeps-whole keeps) fits) stays count a b
         ∙ ap (λ (n : ℕ). n + alteredUpTo next (afterOf next count chosen change) count)
-        (rw (in-here x k change keeps fits) (in-differs change x k (keeps .each (blockOf x k) (block-length x k fits) .size) fits))
+        (rw (in-here x k change (keeps-whole keeps) fits) (in-differs change x k (keeps .each (blockOf x k) (block-length x k fits) .size) fits))
 
   pub found-counts : (p : ℕ → Bool) (f : Found) → firstFrom p count 1 ≡ f → (chosen : ℕ → Bool)
       → alteredUpTo x (afterOf (changedFound x f change) count chosen change) count

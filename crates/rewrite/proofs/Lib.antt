@@ -1,7 +1,6 @@
-pub mod Blocks
 pub mod Bytes
+pub mod Challenged
 pub mod Counts
-pub mod Sealed
 pub mod Settled
 pub mod Sound
 pub mod Tables

@@ -17,7 +17,7 @@ use Rattle.rewrite.specs.Change.{alterable, Kept, Keeps}
 use Rattle.rewrite.specs.Renew.{renewed, settled, Fitting}
 use Rattle.rewrite.proofs.Bytes.{kept-first, kept-low, kept-high, drafted, drafted-length, renewed-length, renewed-other, renewed-state}
 use Rattle.rewrite.proofs.Bytes.{renewed-bits, renewed-server, renewed-name, renewed-alike}
-use Rattle.rewrite.proofs.Sealed.{sealed-zero}
+use Rattle.blocks.proofs.Sealed.{sealed-zero}
 
 module _ (b : List ℕ) (state bits : ℕ) (name : List ℕ) (whole : length b ≡ 512) where
   abbrev new : List ℕ

@@ -1,6 +1,6 @@
 -- The table after an effect, by its blocks: for any change that keeps what every effect keeps.
 use Prim.Native.Nat.{ℕ, suc, _+_, _*_, _<_, _≤_}
-use mathlib.Core.Bool.{Bool, true, false, cond}
+use mathlib.Core.Bool.{Bool, true, false, cond, _||_}
 use mathlib.Core.Path.{_≡_, refl, sym, _∙_}
 use mathlib.Core.List.{List}
 use native.Mathlib.Omega.{arith}
@@ -8,22 +8,26 @@ use lib.Dec.{eqb}
 use borrow.Author.Tests.{eqb-true, eqb-false, ne-eqb}
 use lib.ListN.{length}
 use Rattle.table.specs.Blocks.{blockOf}
-use Rattle.table.proofs.Blocks.{block-length, table-same, table-is, table-length, table-block}
+use Rattle.table.proofs.Blocks.{block-length, table-is, table-same}
 use Rattle.lookup.specs.Find.{firstFrom}
 use Rattle.lookup.specs.declared.Found.{Found}
 use Rattle.lookup.specs.declared.Found.the-variants.{At, Nothing}
 use Rattle.lookup.proofs.First.{FirstAt, first-stands}
-use Rattle.rewrite.specs.Change.{changedAt, afterOf, changedIn, changedFound, Kept, Keeps}
-use Rattle.rewrite.proofs.Blocks.{in-length, in-here, in-other}
+use Rattle.blocks.specs.Changed.{changedAt, changedAll, changedIn}
+use Rattle.blocks.proofs.Changed.{Whole, in-length, in-here, in-other, all-none, all-length, all-block}
+use Rattle.rewrite.specs.Change.{afterOf, changedFound, Kept, Keeps}
 
 pub kept-same : (b c : List ℕ) → c ≡ b → Kept b c
 kept-same b c e = record { size = rw e; others = λ i l a. rw e; bits = rw e; sound = λ k networks file s. rw e s }
+
+pub keeps-whole : {change : List ℕ → List ℕ} → Keeps change → Whole change
+keeps-whole keeps b l = keeps .each b l .size ∙ l
 
 -- Two effects that leave the same blocks leave the same table.
 pub after-same : (x t : List ℕ) (count : ℕ) (p q : ℕ → Bool) (change : List ℕ → List ℕ)
     → ((k : ℕ) → k ≤ count → changedAt x p change k ≡ changedAt t q change k)
     → afterOf x count p change ≡ afterOf t count q change
-unfolding afterOf
+unfolding afterOf changedAll
 after-same x t count p q change h = table-same _ _ (suc count) (λ k l. h k (omega arith))
 
 -- Block j after an effect: as before if the choice and the block are; changed once if it was changed already.
@@ -54,25 +58,17 @@ module _ (t : List ℕ) (count : ℕ) (change : List ℕ → List ℕ) (size : l
   module _ (chosen : ℕ → Bool) where
     -- an effect on none
     pub after-none : ((k : ℕ) → k ≤ count → chosen k ≡ false) → t ≡ afterOf t count chosen change
-    unfolding afterOf changedAt
-    after-none h = table-is t (suc count) (omega arith) ∙ table-same (blockOf t) (changedAt t chosen change) (suc count) (λ k l. rw (h k (omega arith)))
+    unfolding afterOf
+    after-none h = all-none t (suc count) chosen change (omega arith) (λ k l. h k (omega arith))
 
     module _ (keeps : Keeps change) where
-      changed-whole : (k : ℕ) → k < suc count → length (changedAt t chosen change k) ≡ 512
-      unfolding changedAt
-      changed-whole k h = go (chosen k)
-        where
-          go : (x : Bool) → length (cond x (change (blockOf t k)) (blockOf t k)) ≡ 512
-          go true = keeps .each (blockOf t k) (block-length t k (omega arith)) .size ∙ block-length t k (omega arith)
-          go false = block-length t k (omega arith)
-
       after-length : length (afterOf t count chosen change) ≡ length t
       unfolding afterOf
-      after-length = table-length (changedAt t chosen change) (suc count) changed-whole ∙ omega arith
+      after-length = all-length t (suc count) chosen change (omega arith) (keeps-whole keeps)
 
       pub after-block : (k : ℕ) → k ≤ count → blockOf (afterOf t count chosen change) k ≡ changedAt t chosen change k
       unfolding afterOf
-      after-block k h = table-block (changedAt t chosen change) (suc count) changed-whole k (omega arith)
+      after-block k h = all-block t (suc count) chosen change (omega arith) (keeps-whole keeps) k (omega arith)
 
       -- the frame: a record that is not chosen stays, a chosen one is changed
       pub after-frame : (k : ℕ) → k ≤ count → chosen k ≡ false → blockOf (afterOf t count chosen change) k ≡ blockOf t k
@@ -95,18 +91,29 @@ module _ (t : List ℕ) (count : ℕ) (change : List ℕ → List ℕ) (size : l
     pub in-keeping : (k : ℕ) → 1 ≤ k → k ≤ count → Keeping t (changedIn t k change) count
     in-keeping k a b =
         record {
-          size = in-length t k change keeps (omega arith);
-          header = in-other t k change keeps (omega arith) 0 (omega arith);
+          size = in-length t k change (keeps-whole keeps) (omega arith);
+          header = in-other t k change (keeps-whole keeps) (omega arith) 0 (omega arith);
           each = λ j u v. go j v (eqb j k) refl;
         }
       where
         go : (j : ℕ) → j ≤ count → (x : Bool) → eqb j k ≡ x → Kept (blockOf t j) (blockOf (changedIn t k change) j)
         go j v true e =
             let q : j ≡ k = eqb-true j k e in
-            rw (q, in-here t k change keeps (omega arith)) (keeps .each (blockOf t k) (block-length t k (omega arith)))
-        go j v false e = kept-same _ _ (in-other t k change keeps (omega arith) j (eqb-false j k e))
+            rw (q, in-here t k change (keeps-whole keeps) (omega arith)) (keeps .each (blockOf t k) (block-length t k (omega arith)))
+        go j v false e = kept-same _ _ (in-other t k change (keeps-whole keeps) (omega arith) j (eqb-false j k e))
 
     pub found-keeping : (p : ℕ → Bool) (f : Found) → firstFrom p count 1 ≡ f → Keeping t (changedFound t f change) count
     unfolding changedFound
     found-keeping p (At k) e = let s : FirstAt p count 1 k = first-stands p count 1 k e in in-keeping k (s .from) (omega (arith, s .to))
     found-keeping p Nothing e = keeping-same t count
+
+    -- the one that is chosen
+    pub one-after : (k : ℕ) → k ≤ count → (chosen : ℕ → Bool) → ((j : ℕ) → chosen j ≡ (eqb j k || false)) → changedIn t k change ≡ afterOf t count chosen change
+    unfolding afterOf changedAll changedAt
+    one-after k b chosen is =
+        table-is (changedIn t k change) (suc count) (in-length t k change (keeps-whole keeps) (omega arith) ∙ omega arith)
+        ∙ table-same (blockOf (changedIn t k change)) (changedAt t chosen change) (suc count) (λ j l. go j (eqb j k) refl)
+      where
+        go : (j : ℕ) (x : Bool) → eqb j k ≡ x → blockOf (changedIn t k change) j ≡ changedAt t chosen change j
+        go j true e = let q : j ≡ k = eqb-true j k e in rw (is j, e) (rw q (in-here t k change (keeps-whole keeps) (omega arith)))
+        go j false e = rw (is j, e) (in-other t k change (keeps-whole keeps) (omega arith) j (eqb-false j k e))

@@ -1,41 +1,31 @@
 -- What the functions that write leave, each by what its parts left.
 use Prim.Native.Nat.{ℕ, _+_, _-_, _*_, _%_, _^_, _<_, _≤_}
-use mathlib.Core.Bool.{Bool, true, false, cond, true≢false}
+use mathlib.Core.Bool.{Bool, true, false, cond, not, _||_, true≢false}
 use mathlib.Core.Path.{_≡_, refl, sym, _∙_, ap}
 use mathlib.Core.List.{List, _++_, append-nil}
 use native.Mathlib.Omega.{arith}
-use native.Mathlib.Nat.{add-sub-cancel-left}
-use lib.Dec.{lit<}
-use lib.ListN.{length, set, take, drop, length-set, length-take, length-drop, drop-of-length-le}
+use lib.Dec.{eqb}
+use lib.ListN.{length, getD, set, take, drop, length-set, length-take, length-drop, drop-of-length-le}
 use lib.Seq.{drop-drop, drop-at, take-at, length-take-le}
 use borrow.Rule.Slice.PartMut.{midOf, putMid, put-same, mid-len}
-use Rattle.octets.specs.Number.{be32At, putBe32}
 use Rattle.octets.specs.Name.{same}
 use Rattle.octets.specs.Run.{putName, over, Wrote}
-use Rattle.octets.specs.Sum.{sumWords}
 use Rattle.octets.proofs.Names.{same-eq, same-refl, same-yes, same-no}
 use Rattle.octets.proofs.Runs.{name-length}
-use Rattle.octets.proofs.Sums.{sum-lt}
-use Rattle.record.specs.Fields.{cleared}
+use Rattle.record.specs.Fields.{stateOf, bitsOf, serverOf, cleared, pendingSet}
 use Rattle.record.specs.RecordBlock.{recordOf}
 use Rattle.record.specs.declared.subscriber.Record.{Record}
 use Rattle.table.specs.Blocks.{blockOf}
+use Rattle.blocks.specs.Sealed.{sealed}
+use Rattle.blocks.specs.Changed.{changedIn}
+use Rattle.blocks.proofs.Sealed.{sealed-length}
+use Rattle.blocks.proofs.Changed.{block-put}
 use Rattle.lookup.specs.Find.{endOf}
 use Rattle.lookup.specs.declared.Found.{Found}
 use Rattle.lookup.specs.declared.Found.the-variants.{At, Nothing}
-use Rattle.rewrite.specs.Renew.{negated, sealed, renewed, settled, Fitting}
-use Rattle.rewrite.specs.Change.{changedIn, changedFound, differ}
-use Rattle.rewrite.proofs.Bytes.{sealed-length, renewed-length}
-
--- A check word: what the other words lack, from the word that was there and the sum with it.
-negated-from : (x c s w : ℕ) → x < 2 ^ 32 → w < 2 ^ 32 → s ≡ (x + c) % 2 ^ 32 → (w + s) % 2 ^ 32 ≡ c → w ≡ negated x
-unfolding negated
-negated-from x c s w a b e f = omega arith
-
-pub seal-put : (b : List ℕ) {c s w : ℕ} {y : List ℕ} → c ≡ be32At b 508 → s ≡ sumWords b (4 * 32) → w < 2 ^ 32 → (w + s) % 2 ^ 32 ≡ c → y ≡ putBe32 b 508 w
-    → y ≡ sealed b
-unfolding sealed sumWords
-seal-put b {c} {s} {w} e f h g k = rw (← negated-from (sumWords b 127) (be32At b 508) s w (sum-lt b 127) h f (g ∙ e)) k
+use Rattle.rewrite.specs.Renew.{renewed, settled, challenged, Fitting}
+use Rattle.rewrite.specs.Change.{changedFound, differ}
+use Rattle.rewrite.proofs.Bytes.{renewed-length}
 
 -- A block: three bytes, the name's field, the check word.
 module _ (b : List ℕ) (state bits : ℕ) (name : List ℕ) (whole : length b ≡ 512) where
@@ -62,6 +52,17 @@ pub settle-block : (b : List ℕ) (state : ℕ) (name : List ℕ) {r : Record} {
 unfolding settled recordOf
 settle-block b state name d e f = f ∙ rw (e, d)
 
+-- Pending set, and the name stored.
+module _ (b name : List ℕ) {s : List ℕ} {x : Bool} (server : s ≡ serverOf b) (alike : x ≡ same s name) where
+  pub challenge-block : {r : Record} {bits : ℕ} {y : List ℕ} → (eqb (getD b 8 0) 0 || not x) ≡ true → r ≡ recordOf b → bits ≡ pendingSet (r .bits)
+      → y ≡ renewed b (getD b 8 0) bits name → y ≡ challenged name b
+  unfolding challenged recordOf
+  challenge-block c d e f = let q : (eqb (getD b 8 0) 0 || not (same (serverOf b) name)) ≡ true = rw (← server, ← alike) c in rw q (f ∙ rw (e, d))
+
+  pub challenge-none : (eqb (getD b 8 0) 0 || not x) ≡ false → b ≡ challenged name b
+  unfolding challenged
+  challenge-none c = let q : (eqb (getD b 8 0) 0 || not (same (serverOf b) name)) ≡ false = rw (← server, ← alike) c in rw q
+
 -- Whether bytes changed.
 pub differ-same : (x : List ℕ) → differ x x ≡ 0
 unfolding differ
@@ -87,10 +88,9 @@ pub block-differs : (b x y z : List ℕ) (n : ℕ) {r : ℕ} → Wrote b x y n �
 block-differs b x y z n w k l e = e ∙ ap (λ (v : List ℕ). differ v z) (copied b x y n w (l ∙ sym k))
 
 -- A block of a table, lent and come back.
-pub block-put : (change : List ℕ → List ℕ) (t : List ℕ) (k : ℕ) {y : List ℕ} → y ≡ change (midOf (512 * k) (512 * k + 512 - 512 * k) t)
-    → putMid (512 * k) (512 * k + 512 - 512 * k) t y ≡ changedIn t k change
-unfolding changedIn blockOf
-block-put change t k e = rw (e, add-sub-cancel-left, drop-drop)
+pub challenge-put : (t : List ℕ) (k : ℕ) (name : List ℕ) {y : List ℕ} → y ≡ challenged name (midOf (512 * k) (512 * k + 512 - 512 * k) t)
+    → putMid (512 * k) (512 * k + 512 - 512 * k) t y ≡ changedIn t k (challenged name)
+challenge-put t k name e = block-put (challenged name) t k e
 
 pub settle-put : (t : List ℕ) (k state : ℕ) (name : List ℕ) {y : List ℕ} → y ≡ settled state name (midOf (512 * k) (512 * k + 512 - 512 * k) t)
     → putMid (512 * k) (512 * k + 512 - 512 * k) t y ≡ changedIn t k (settled state name)
@@ -118,6 +118,22 @@ unfolding changedIn blockOf
 in-differs change t k e h =
     let n : length (take 512 (drop (512 * k) t)) ≡ 512 = rw length-take (rw length-drop (omega arith)) in
     lent-differs t (change (take 512 (drop (512 * k) t))) (512 * k) 512 (omega arith) (e ∙ n) ∙ rw drop-drop
+
+challenged-length : (name b : List ℕ) → length (challenged name b) ≡ length b
+unfolding challenged
+challenged-length name b = go (eqb (stateOf b) 0 || not (same (serverOf b) name))
+  where
+    go : (x : Bool) → length (cond x (renewed b (stateOf b) (pendingSet (bitsOf b)) name) b) ≡ length b
+    go true = renewed-length b (stateOf b) (pendingSet (bitsOf b)) name
+    go false = refl
+
+pub challenge-differs : (t : List ℕ) (k : ℕ) (name : List ℕ) {y : List ℕ} {r : ℕ} → 512 * k + 512 ≤ length t
+    → y ≡ challenged name (midOf (512 * k) (512 * k + 512 - 512 * k) t) → r ≡ differ (midOf (512 * k) (512 * k + 512 - 512 * k) t) y
+    → r ≡ differ t (putMid (512 * k) (512 * k + 512 - 512 * k) t y)
+challenge-differs t k name h e f =
+    f
+    ∙ lent-differs t _ (512 * k) (512 * k + 512 - 512 * k) (omega arith)
+    (ap length e ∙ challenged-length name _ ∙ mid-len (512 * k) (512 * k + 512) t h)
 
 pub settle-differs : (t : List ℕ) (k state : ℕ) (name : List ℕ) {y : List ℕ} {r : ℕ} → 512 * k + 512 ≤ length t
     → y ≡ settled state name (midOf (512 * k) (512 * k + 512 - 512 * k) t) → r ≡ differ (midOf (512 * k) (512 * k + 512 - 512 * k) t) y

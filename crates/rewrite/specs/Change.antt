@@ -1,28 +1,23 @@
 -- The table after an effect: a change of the chosen records' blocks, and every other block as it was.
-use Prim.Native.Nat.{ℕ, zero, suc, _+_, _*_, _/_, _<_}
+use Prim.Native.Nat.{ℕ, zero, suc, _+_, _/_, _<_}
 use mathlib.Core.Bool.{Bool, true, false, _&&_, _||_, cond}
 use mathlib.Core.Path.{_≡_}
-use mathlib.Core.List.{List, _++_}
+use mathlib.Core.List.{List}
 use lib.Dec.{eqb, leb, ltb}
-use lib.ListN.{length, getD, take, drop}
+use lib.ListN.{length, getD}
 use Rattle.octets.specs.Name.{same}
 use Rattle.record.specs.Fields.{bitsOf}
 use Rattle.record.specs.RecordBlock.{soundRecord}
-use Rattle.table.specs.Blocks.{blockOf, tableOf}
+use Rattle.table.specs.Blocks.{blockOf}
+use Rattle.blocks.specs.Changed.{changedAll, changedIn}
 use Rattle.lookup.specs.declared.Found.{Found}
 use Rattle.lookup.specs.declared.Found.the-variants.{At, Nothing}
 
--- block k after a change of the chosen records. A choice is a test of block numbers, false of 0
-unfoldable pub changedAt : List ℕ → (ℕ → Bool) → (List ℕ → List ℕ) → ℕ → List ℕ
-changedAt t chosen change k = cond (chosen k) (change (blockOf t k)) (blockOf t k)
-
+-- a choice is a test of block numbers, false of 0
 unfoldable pub afterOf : List ℕ → ℕ → (ℕ → Bool) → (List ℕ → List ℕ) → List ℕ
-afterOf t count chosen change = tableOf (changedAt t chosen change) (suc count)
+afterOf t count chosen change = changedAll t (suc count) chosen change
 
--- a table with block k changed; with a found record changed
-unfoldable pub changedIn : List ℕ → ℕ → (List ℕ → List ℕ) → List ℕ
-changedIn t k change = take (512 * k) t ++ (change (blockOf t k) ++ drop (512 * k + 512) t)
-
+-- a table with a found record changed
 unfoldable pub changedFound : List ℕ → Found → (List ℕ → List ℕ) → List ℕ
 changedFound t (At k) change = changedIn t k change
 changedFound t Nothing change = t

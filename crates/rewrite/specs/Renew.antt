@@ -1,22 +1,15 @@
 -- A record block written anew. "A rewritten record gets a new check word."
-use Prim.Native.Nat.{ℕ, _-_, _%_, _^_, _≤_}
-use mathlib.Core.Bool.{true}
+use Prim.Native.Nat.{ℕ, _≤_}
+use mathlib.Core.Bool.{true, cond, not, _||_}
 use mathlib.Core.Path.{_≡_}
 use mathlib.Core.List.{List}
 use lib.ListN.{length, set}
-use Rattle.octets.specs.Number.{putBe32}
+use lib.Dec.{eqb}
+use Rattle.octets.specs.Name.{same}
 use Rattle.octets.specs.Run.{putName}
-use Rattle.octets.specs.Sum.{sumWords}
-use Rattle.record.specs.Fields.{bitsOf, cleared}
+use Rattle.blocks.specs.Sealed.{sealed}
+use Rattle.record.specs.Fields.{stateOf, bitsOf, serverOf, cleared, pendingSet}
 use Rattle.record.specs.RecordBlock.{serverFits}
-
--- what is to be added to a sum to make it zero, wrapping at 2^32
-unfoldable pub negated : ℕ → ℕ
-negated s = (2 ^ 32 - s) % 2 ^ 32
-
--- "word 127 is the check word"
-unfoldable pub sealed : List ℕ → List ℕ
-sealed b = putBe32 b 508 (negated (sumWords b 127))
 
 -- a record block with another state, other bits and another server name, all 96 bytes of its field
 unfoldable pub renewed : List ℕ → ℕ → ℕ → List ℕ → List ℕ
@@ -25,6 +18,10 @@ renewed b state bits name = sealed (putName (set (set (set b 8 state) 9 bits) 15
 -- "Effects, pending cleared": another state and another server name, as a change of a record's block
 unfoldable pub settled : ℕ → List ℕ → List ℕ → List ℕ
 settled state name b = renewed b state (cleared (bitsOf b)) name
+
+-- "The Server-Name is stored if different; pending is set if state is 0 or the name changed." The state stays
+unfoldable pub challenged : List ℕ → List ℕ → List ℕ
+challenged name b = cond (eqb (stateOf b) 0 || not (same (serverOf b) name)) (renewed b (stateOf b) (pendingSet (bitsOf b)) name) b
 
 -- what every row of the table of effects has: a state 0 to 2, and a server name, which has room, exactly in state 1 or 2
 pub record Fitting (state : ℕ) (name : List ℕ) : Type 0 where

@@ -1,26 +1,17 @@
-// Records written anew: another state, pending cleared, another server name, a new check word.
+// Records written anew: another state, pending cleared or set, another server name, a new check word.
 use lookup::Found;
 use octets::name;
-use octets::number;
 use octets::run;
-use octets::sum;
+use record::fields;
 use record::subscriber::Record;
 ghost use mathlib.Core.Path.{_≡_};
 ghost use mathlib.Core.Bool.{cond};
 ghost use Prim.Native.Nat.{_+_, _*_, _≤_};
 ghost use lib.ListN.{length};
 ghost use Rattle.lookup.specs.Find.{endOf};
-ghost use Rattle.rewrite.specs.Change.{changedIn, changedFound, differ};
-ghost use Rattle.rewrite.specs.Renew.{sealed, renewed, settled, Fitting};
-
-// Gives a block a new check word: the old one, less what the block sums to.
-fn seal(b: &mut [u8])
-    requires { ⌜ length (now b) ≡ 512 ⌝ }
-    ensures { λ _. ⌜ now (b .exit) ≡ sealed (now (b .entry)) ⌝ }
-{
-    let w = std::num::wrapping_sub_u32(number::be32(b, Record::CHECK_AT), sum::sum_fours(b, 32));
-    number::put_be32(b, Record::CHECK_AT, w);
-}
+ghost use Rattle.blocks.specs.Changed.{changedIn};
+ghost use Rattle.rewrite.specs.Change.{changedFound, differ};
+ghost use Rattle.rewrite.specs.Renew.{renewed, settled, challenged, Fitting};
 
 // Gives a record block another state, other bits and another server name, all bytes of its field.
 fn renew(b: &mut [u8], state: u8, bits: u8, name: &[u8])
@@ -31,7 +22,7 @@ fn renew(b: &mut [u8], state: u8, bits: u8, name: &[u8])
     b[Record::BITS_AT] = bits;
     b[Record::SERVER_LENGTH_AT] = name.len() as u8;
     run::put_name(b, Record::SERVER_AT, Record::SERVER_FIELD, name);
-    seal(b);
+    blocks::seal(b);
 }
 
 // 1 if two pieces have other bytes, else 0.
@@ -41,20 +32,50 @@ fn differ(a: &[u8], b: &[u8]) -> u32
     if name::same(a, b) { 0 } else { 1 }
 }
 
-// Gives a record block another state and another server name, and clears pending. Answers 1 if it has other bytes then, else 0: a copy of the
-// block as it came tells that of any change.
-fn settle_block(b: &mut [u8], state: u8, name: &[u8]) -> u32
-    requires { ⌜ (length (now b) ≡ 512) × Fitting state (now name) ⌝ }
-    ensures { λ r. ⌜ (now (b .exit) ≡ settled state (now (name .entry)) (now (b .entry))) × (r ≡ differ (now (b .entry)) (now (b .exit))) × (r ≤ 1) ⌝ }
+// The same. Answers 1 if the block has other bytes then, else 0: a copy of it as it came tells that of any change.
+fn renew_counted(b: &mut [u8], state: u8, bits: u8, name: &[u8]) -> u32
+    requires { ⌜ (length (now b) ≡ 512) × (length (now name) ≤ 96) ⌝ }
+    ensures { λ r. ⌜ (now (b .exit) ≡ renewed (now (b .entry)) state bits (now (name .entry))) × (r ≡ differ (now (b .entry)) (now (b .exit))) × (r ≤ 1) ⌝ }
 {
     let mut before = [0u8; table::BLOCK];
     run::copy(&mut before, b);
-    let bits = Record::read(b).cleared();
     renew(b, state, bits, name);
     differ(&before, b)
 }
 
+// Gives a record block another state and another server name, and clears pending.
+fn settle_block(b: &mut [u8], state: u8, name: &[u8]) -> u32
+    requires { ⌜ (length (now b) ≡ 512) × Fitting state (now name) ⌝ }
+    ensures { λ r. ⌜ (now (b .exit) ≡ settled state (now (name .entry)) (now (b .entry))) × (r ≡ differ (now (b .entry)) (now (b .exit))) × (r ≤ 1) ⌝ }
+{
+    let bits = Record::read(b).cleared();
+    renew_counted(b, state, bits, name)
+}
+
+// "The Server-Name is stored if different; pending is set if state is 0 or the name changed."
+fn challenge_block(b: &mut [u8], name: &[u8]) -> u32
+    requires { ⌜ (length (now b) ≡ 512) × (length (now name) ≤ 96) ⌝ }
+    ensures { λ r. ⌜ (now (b .exit) ≡ challenged (now (name .entry)) (now (b .entry))) × (r ≡ differ (now (b .entry)) (now (b .exit))) × (r ≤ 1) ⌝ }
+{
+    let state = b[Record::STATE_AT];
+    if (state == 0) | !name::same(fields::server(b), name) {
+        let bits = Record::read(b).pending_set();
+        return renew_counted(b, state, bits, name);
+    }
+    0
+}
+
 // The same, of block k of a table.
+pub fn challenge(t: &mut [u8], k: usize, name: &[u8]) -> u32
+    requires { ⌜ (512 * k + 512 ≤ length (now t)) × (length (now name) ≤ 96) ⌝ }
+    ensures { λ r. ⌜ (now (t .exit) ≡ changedIn (now (t .entry)) k (challenged (now (name .entry))))
+        × (r ≡ differ (now (t .entry)) (now (t .exit))) × (r ≤ 1) ⌝ }
+{
+    let at = table::BLOCK * k;
+    challenge_block(&mut t[at..at + table::BLOCK], name)
+}
+
+// Block k of a table with another state and another server name, and pending cleared.
 fn settle(t: &mut [u8], k: usize, state: u8, name: &[u8]) -> u32
     requires { ⌜ (512 * k + 512 ≤ length (now t)) × Fitting state (now name) ⌝ }
     ensures { λ r. ⌜ (now (t .exit) ≡ changedIn (now (t .entry)) k (settled state (now (name .entry))))

@@ -16,24 +16,32 @@ pub first-all : (t : List ℕ) (count networks file : ℕ) → checkRecords t co
 unfolding checkRecords
 first-all t count networks file = rw add-sub-cancel
 
-module _ (good : ℕ → Bool) (count k : ℕ) {whole : Checked} (left : whole ≡ firstBad good count (count + 1 - k) k) where
-  pub first-bad : {x : Bool} → k ≤ count → x ≡ good k → x ≡ false → Bad k ≡ whole
+-- the loop goes from some number up to `stop`, and k is the next
+module _ (good : ℕ → Bool) (count stop k : ℕ) {whole : Checked} (left : whole ≡ firstBad good count (stop - k) k) where
+  pub first-bad : {x : Bool} → k < stop → x ≡ good k → x ≡ false → Bad k ≡ whole
   unfolding firstBad
   first-bad h e f =
-      let n : count + 1 - k ≡ suc (count - k) = omega arith in
+      let n : stop - k ≡ suc (stop - (k + 1)) = omega arith in
       let g : good k ≡ false = cc in
       rw (left, n, g)
 
-  pub first-more : {x : Bool} → k ≤ count → x ≡ good k → x ≡ true → whole ≡ firstBad good count (count + 1 - (k + 1)) (k + 1)
+  pub first-more : {x : Bool} → k < stop → x ≡ good k → x ≡ true → whole ≡ firstBad good count (stop - (k + 1)) (k + 1)
   unfolding firstBad
   first-more h e f =
-      let n : count + 1 - k ≡ suc (count + 1 - (k + 1)) = omega arith in
+      let n : stop - k ≡ suc (stop - (k + 1)) = omega arith in
       let g : good k ≡ true = cc in
       rw (left, n, g, add-one k)
 
-  pub first-none : count < k → Sound count ≡ whole
+  pub first-none : stop ≤ k → Sound count ≡ whole
   unfolding firstBad
-  first-none h = let n : count + 1 - k ≡ 0 = omega arith in rw (left, n)
+  first-none h = let n : stop - k ≡ 0 = omega arith in rw (left, n)
+
+-- the loop over the records stops behind the last one
+pub below-stop : {k count : ℕ} → k ≤ count → k < count + 1
+below-stop h = omega arith
+
+pub past-stop : {k count : ℕ} → count < k → count + 1 ≤ k
+past-stop h = omega arith
 
 -- An answer is not both.
 pub bad-sound : {A : Type 0} (c : Checked) (k n : ℕ) → c ≡ Bad k → c ≡ Sound n → A

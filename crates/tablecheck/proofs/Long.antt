@@ -1,17 +1,20 @@
--- A file that does not fit is judged by what was read of it: no table of more than 4,097 blocks is sound.
-use Prim.Native.Nat.{ℕ, _+_, _*_, _≤_, _<_}
-use mathlib.Core.Bool.{Bool, true, false, _&&_, cond}
+-- A file that does not fit is judged by what was read of it: no table of more than 4,097 blocks is sound, nor a vector file of more than 4,096, and its
+-- first bad block is among the first 4,097.
+use Prim.Native.Nat.{ℕ, zero, suc, _+_, _-_, _*_, _≤_, _<_}
+use mathlib.Core.Bool.{Bool, true, false, _&&_, cond, true≢false}
 use mathlib.Core.Path.{_≡_, refl, sym, _∙_}
-use mathlib.Core.List.{List}
+use mathlib.Core.List.{List, [], _∷_}
 use native.Mathlib.Omega.{arith}
 use lib.Dec.{leb, eqb}
-use lib.ListN.{length, take, length-take}
-use borrow.Author.Tests.{eqb-true}
+use lib.ListN.{length, take, drop, length-take}
+use borrow.Author.Tests.{eqb-true, eqb-false, le-leb}
+use lib.Seq.{length-take-le, take-take}
 use Rattle.record.specs.HeaderBlock.{headerOf, soundHeader}
 use Rattle.record.proofs.Sound.{header-count}
 use Rattle.table.specs.Blocks.{blockOf}
-use Rattle.table.specs.Check.{checkRecords, checkTable}
+use Rattle.table.specs.Check.{firstBad, checkRecords, checkTable}
 use Rattle.table.specs.declared.Checked.the-variants.{Bad}
+use Rattle.vectors.specs.VectorFile.{piecesOf, soundPiece, checkVectors}
 
 pub long-bad : (t : List ℕ) (file : ℕ) → 2097664 < length t → checkTable t file ≡ Bad 0
 unfolding checkTable
@@ -28,3 +31,51 @@ long-bad t file h = go (leb 512 (length t)) (soundHeader (blockOf t 0)) (eqb (le
 
 pub cut-alike : (t : List ℕ) (file room : ℕ) → 2097664 < room → 2097664 < length t → checkTable (take room t) file ≡ checkTable t file
 cut-alike t file room r h = long-bad (take room t) file (simp length-take (omega arith)) ∙ sym (long-bad t file h)
+
+part-front : (n at room : ℕ) (v : List ℕ) → at + n ≤ room → take n (drop at (take room v)) ≡ take n (drop at v)
+part-front n zero room v h = take-take n room v (omega arith)
+part-front n (suc at) zero v h = absurd (omega arith)
+part-front n (suc at) (suc room) [] h = refl
+part-front n (suc at) (suc room) (x ∷ v) h = part-front n at room v (omega arith)
+
+pieces-many : (v : List ℕ) → 2097664 ≤ length v → 4097 ≤ piecesOf v
+unfolding piecesOf
+pieces-many v h = omega arith
+
+-- Two rows of blocks with the same tests up to a bad one have the same first bad one.
+bad-alike : (good other : ℕ → Bool) (count others n m k j : ℕ) → k ≤ j → j < k + n → j < k + m → good j ≡ false
+    → ((i : ℕ) → i ≤ j → other i ≡ good i) → firstBad other others m k ≡ firstBad good count n k
+unfolding firstBad
+bad-alike good other count others zero m k j a b c e h = absurd (omega arith)
+bad-alike good other count others (suc n) zero k j a b c e h = absurd (omega arith)
+bad-alike good other count others (suc n) (suc m) k j a b c e h =
+    rw (h k a) (go (good k) refl (eqb k j) refl (λ l. bad-alike good other count others n m (suc k) j l (omega arith) (omega arith) e h))
+  where
+    go : (x : Bool) → good k ≡ x → (y : Bool) → eqb k j ≡ y → (suc k ≤ j → firstBad other others m (suc k) ≡ firstBad good count n (suc k))
+        → cond x (firstBad other others m (suc k)) (Bad k) ≡ cond x (firstBad good count n (suc k)) (Bad k)
+    go false f y g r = refl
+    go true f true g r = let q : k ≡ j = eqb-true k j g in absurd (true≢false (sym f ∙ rw q e))
+    go true f false g r = r (omega (arith, eqb-false k j g))
+
+module _ (v : List ℕ) (room : ℕ) (r : 2097664 ≤ room) (h : room ≤ length v) where
+  cut : length (take room v) ≡ room
+  cut = length-take-le room v h
+
+  piece-alike : (k : ℕ) → k ≤ 4096 → soundPiece (take room v) k ≡ soundPiece v k
+  unfolding soundPiece blockOf
+  piece-alike k l =
+      rw (
+        le-leb (512 * k + 512) (length (take room v)) (omega (arith, cut)),
+        le-leb (512 * k + 512) (length v) (omega arith),
+        part-front 512 (512 * k) room v (omega arith),
+      )
+
+  far : soundPiece v 4096 ≡ false
+  unfolding soundPiece
+  far = refl
+
+  pub vectors-alike : checkVectors (take room v) ≡ checkVectors v
+  unfolding checkVectors piecesOf
+  vectors-alike =
+      bad-alike (soundPiece v) (soundPiece (take room v)) (piecesOf v) (piecesOf (take room v)) (piecesOf v) (piecesOf (take room v)) 0 4096
+      (omega arith) (omega (arith, pieces-many v (omega arith))) (omega (arith, pieces-many (take room v) (omega (arith, cut)))) far piece-alike

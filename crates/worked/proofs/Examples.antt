@@ -8,7 +8,7 @@ use Rattle.octets.specs.Sum.{sumWords}
 use Rattle.table.specs.declared.Checked.{Checked}
 use Rattle.table.specs.declared.Checked.the-variants.{Sound, Bad}
 use Rattle.table.specs.Check.{checkTable}
-use Rattle.rewrite.specs.Renew.{sealed}
+use Rattle.blocks.specs.Sealed.{sealed}
 use Rattle.pen.specs.Bytes.{vendorHead, avpBytes, numberBytes}
 use Rattle.pen.specs.Groups.{experimental, failed}
 use Rattle.ndushavire.specs.declared.Call.{Call}
@@ -17,8 +17,8 @@ use Rattle.ndushavire.specs.Lent.{lent}
 use Rattle.ndushavire.specs.Serve.{serve}
 use Rattle.worked.proofs.Sample.{block, header, answer, assignment, one, two, s, z, opened}
 
--- A case: a call (a request, a table, no profile file, a buffer of zeros of so many bytes; what it comes to, the table afterwards, the answer), the check
--- of a table with its answer, or a block with the sum of its words
+-- A case: a call (a request, a table, no profile file and no vector, a buffer of zeros of so many bytes; what it comes to, the table afterwards, the answer),
+-- the check of a table with its answer, or a block with the sum of its words
 data Case : Type 0 where
   call : List ℕ → List ℕ → ℕ → Call → List ℕ → List ℕ → Case
   check : List ℕ → Checked → Case
@@ -26,7 +26,7 @@ data Case : Type 0 where
 
 abbrev Right : Case → Type 0
 Right (call req table room comes after bytes) =
-    serve (lent req table [] (replicate room 0)) ≡ record { call = comes; table = after; buffer = over bytes (replicate room 0) }
+    serve (lent req table [] [] (replicate room 0)) ≡ record { call = comes; table = after; vectors = []; buffer = over bytes (replicate room 0) }
 Right (check table answer) = checkTable table 0 ≡ answer
 Right (sum b n) = sumWords b 128 ≡ n
 

@@ -16,32 +16,44 @@ use Rattle.table.specs.Blocks.{blockOf, tableOf, publicAt, privateAt}
 use Rattle.table.specs.Check.{risesAt, soundAt, firstBad, checkRecords, checkTable}
 use Rattle.lookup.specs.Find.{firstFrom, publicIs, findPublic, privateIs, findPrivate, serverHere, servesAt, findServer}
 use Rattle.lookup.specs.Network.{networkIs, seek, networkNumber, roamsIn, mayRoam}
-use Rattle.rewrite.specs.Change.{changedAt, afterOf}
-use Rattle.rewrite.specs.Renew.{negated, sealed, renewed, settled}
+use Rattle.blocks.specs.Changed.{changedAt, changedAll, isOne}
+use Rattle.blocks.specs.Sealed.{negated, sealed}
+use Rattle.vectors.specs.VectorBlock.{vectorOf, soundVector, cardOf, randAutnOf, xresOf, confidentialityOf, integrityOf}
+use Rattle.vectors.specs.VectorFile.{piecesOf, soundPiece, checkVectors}
+use Rattle.vectors.specs.Chosen.{firstOnes, unusedHere, unusedAt, unusedOf, packed}
+use Rattle.vectors.specs.Scheme.{scheme}
+use Rattle.vectors.specs.Marked.{markedUsed, spent}
+use Rattle.rewrite.specs.Change.{afterOf}
+use Rattle.rewrite.specs.Renew.{renewed, settled, challenged}
 use Rattle.diameter.specs.Avp.{padded, headOf, vendorOf, valueOf, sound}
 use Rattle.diameter.specs.Walk.{walkFrom, walk}
+use Rattle.diameter.specs.Reader.{avpOf}
 use Rattle.pen.specs.Bytes.{padding, vendorHead, copied, avpBytes, vendorBytes, numberBytes, vendorNumber, group, vendorGroup, ifThere}
 use Rattle.pen.specs.Groups.{vendorApplication, experimental, failed, vendorNumbers, capabilities}
 use Rattle.reading.specs.Kinds.{known, kindFrom, kindBy, rowOf, useIn}
 use Rattle.reading.specs.Contents.{numberFault, plainFault}
-use Rattle.reading.specs.Groups.{applicationMembers, membersOf, isOf, fits, unlike, onlyOf, countOf, enough, enoughAt, gathers}
+use Rattle.reading.specs.Groups.{applicationMembers, itemMembers, membersOf, isOf, fits, unlike, onlyOf, countOf, enough, enoughAt, gathers}
 use Rattle.reading.specs.Rules.{contentFault, ruleBy, rule}
 use Rattle.requests.specs.Judged.{nothing, judge}
 use Rattle.requests.specs.Request.{headerFault, missingFrom, missing, complete, readWalk, readIn, identities}
+use Rattle.items.specs.Items.{challengeBytes, keyBytes, itemBytes, itemsBytes, numberedBytes, sentBytes}
+use Rattle.choices.specs.Challenges.{claimOf, challengeOf}
 use Rattle.choices.specs.Choices.{serverIf, authorization, location}
-use Rattle.choices.specs.Plans.{findingOf, grant, planOf}
+use Rattle.choices.specs.Plans.{findingOf, grant, deedOf, planOf}
 use Rattle.choices.specs.Types.{typeOf}
 use Rattle.decisions.specs.Carried.{carried}
+use Rattle.decisions.specs.Authentication.{claimedAt, claimedOf, toSend, authenticateFound, authenticate}
 use Rattle.decisions.specs.Authorization.{askedAt, askedOf, authorizeFound, authorize}
 use Rattle.decisions.specs.Location.{soughtAt, soughtOf, locateFound, locate}
 use Rattle.requests.specs.Identity.{placesFrom}
-use Rattle.assignment.specs.Assignment.{meantBy, every, isOne, findAll, numbersOf, ownedHere, ownedUpTo, ownAt, storesAt, fitsAt, rightAt, surveyOf, userKnown}
-use Rattle.assignment.specs.Assignment.{ownerBy, namedSurvey, ownedSurvey, assignMeant, assign, storedName, plannedRecords, carriedOut}
-use Rattle.fitting.specs.Decide.{assignmentOf, planRead, decideJudged, decide}
+use Rattle.assignment.specs.Assignment.{meantBy, every, findAll, numbersOf, ownedHere, ownedUpTo, ownAt, storesAt, fitsAt, rightAt, surveyOf, userKnown}
+use Rattle.assignment.specs.Assignment.{ownerBy, namedSurvey, ownedSurvey, assignMeant, assign, storedName, plannedRecords}
+use Rattle.fitting.specs.Deeds.{carriedOut, spentBy}
+use Rattle.fitting.specs.Decide.{assignmentOf, uarPlan, sarPlan, lirPlan, marPlan, planRead, performed, decideJudged, decide}
 use Rattle.reading.specs.Verdicts.{numberOf}
 use Rattle.failed.specs.Failing.{headPart, alone, failedOf, sample, exampleOf, failedBy}
-use Rattle.reply.specs.Answer.{resultBytes, frontBytes, originBytes, topBytes, nameBytes, dataBytes, givenBytes, proxy, proxies, endBytes, restBytes, bodyBytes}
-use Rattle.reply.specs.Answer.{flagsOf, headerBytes, answerBytes}
+use Rattle.reply.specs.Answer.{resultBytes, frontBytes, originBytes, topBytes, identityBytes, nameBytes, dataBytes, givenBytes, proxy, proxies, endBytes}
+use Rattle.reply.specs.Answer.{restBytes, bodyBytes, flagsOf, headerBytes, answerBytes}
 use Rattle.ndushavire.specs.Trial.{tried}
 use Rattle.ndushavire.specs.Serve.{wrongLength, refused, answered, serve}
 
@@ -59,11 +71,24 @@ block = replicate 512 0
 unfoldable pub header : ℕ → ℕ → List ℕ
 header count keep = sealed (sets (sets (sets (putBe32 (sets block 0 (1 ∷ 1 ∷ [])) 8 count) 12 (keep ∷ 8 ∷ 4 ∷ [])) 16 host) 80 realm)
 
--- record k: a public and a private identity of one byte each, a state and a server name
-unfoldable pub person : ℕ → ℕ → ℕ → ℕ → List ℕ → List ℕ
-person k public private state server =
-    let numbers = sets (sets (putBe32 (sets block 0 (2 ∷ 1 ∷ [])) 4 k) 8 (state ∷ [])) 13 (1 ∷ 1 ∷ length server ∷ []) in
+-- record k: a public and a private identity of one byte each, a state, bits and a server name; the same without a bit set
+unfoldable pub subscriber : ℕ → ℕ → ℕ → ℕ → ℕ → List ℕ → List ℕ
+subscriber k public private state bits server =
+    let numbers = sets (sets (putBe32 (sets block 0 (2 ∷ 1 ∷ [])) 4 k) 8 (state ∷ bits ∷ [])) 13 (1 ∷ 1 ∷ length server ∷ []) in
     sealed (sets (sets (sets numbers 16 (public ∷ [])) 144 (private ∷ [])) 272 server)
+
+unfoldable pub person : ℕ → ℕ → ℕ → ℕ → List ℕ → List ℕ
+person k public private state server = subscriber k public private state 0 server
+
+-- a vector, used or not, for a private identity of one byte: RAND and AUTN of the byte n, an XRES of five bytes n + 1, keys of n + 2 and of n + 3
+unfoldable pub vector : ℕ → ℕ → ℕ → List ℕ
+vector used private n =
+    let challenge = sets (sets block 0 (3 ∷ used ∷ 5 ∷ 1 ∷ private ∷ [])) 132 (replicate 32 n) in
+    sealed (sets (sets (sets challenge 164 (replicate 5 (n + 1))) 180 (replicate 16 (n + 2))) 196 (replicate 16 (n + 3)))
+
+-- a buffer of the least room
+unfoldable pub room : List ℕ
+room = replicate 36864 0
 
 -- a request of a command with a body; its header as in the worked case
 unfoldable pub request : ℕ → List ℕ → List ℕ
@@ -73,11 +98,14 @@ request command body =
     ∷ 0x00 ∷ 0x00 ∷ 0x00 ∷ 0x02 ∷ [] in
     putBe24 (putBe24 head 1 (20 + length body)) 5 command ++ body
 
--- the answer to a SAR of the Session-Id `s`: its result, and what follows the realm
-unfoldable pub answer : List ℕ → List ℕ → List ℕ
-answer result rest =
+-- the answer to a request of a command and of the Session-Id `s`: its result, and what follows the realm; to a SAR
+unfoldable pub reply : ℕ → List ℕ → List ℕ → List ℕ
+reply command result rest =
     let own = avpBytes 264 host ++ (avpBytes 296 realm ++ rest) in
-    set (request 301 (avpBytes 263 (0x73 ∷ []) ++ (vendorApplication ++ (result ++ (numberBytes 277 1 ++ own))))) 4 0x40
+    set (request command (avpBytes 263 (0x73 ∷ []) ++ (vendorApplication ++ (result ++ (numberBytes 277 1 ++ own))))) 4 0x40
+
+unfoldable pub answer : List ℕ → List ℕ → List ℕ
+answer result rest = reply 301 result rest
 
 -- what every request needs, and a SAR of a type for the identity `a` with a server name
 unfoldable pub common : List ℕ
@@ -88,9 +116,34 @@ common =
 unfoldable pub assignment : ℕ → List ℕ → List ℕ
 assignment kind server = request 301 (common ++ (vendorBytes 601 (0x61 ∷ []) ++ (vendorBytes 602 server ++ (vendorNumber 614 kind ++ vendorNumber 624 1))))
 
--- one record `a` of a state and a server name under a header that keeps names or not; two of one public identity
+-- a 608 of the one scheme that is served; a MAR of a private and a public identity of one byte each: what its 612 holds, the number asked, a server name
+unfoldable pub digest : List ℕ
+digest = vendorBytes 608 scheme
+
+unfoldable pub authenticationOf : ℕ → ℕ → List ℕ → ℕ → List ℕ → List ℕ
+authenticationOf private public held number server =
+    let asked = vendorBytes 612 held ++ (vendorNumber 607 number ++ vendorBytes 602 server) in
+    request 303 (common ++ (avpBytes 1 (private ∷ []) ++ (vendorBytes 601 (public ∷ []) ++ asked)))
+
+-- a right MAR of `p` and `a`; item i of the answer to it, from a vector of the byte n; the answer with the number sent and the items
+unfoldable pub authentication : ℕ → List ℕ → List ℕ
+authentication number server = authenticationOf 0x70 0x61 digest number server
+
+unfoldable pub item : ℕ → ℕ → List ℕ
+item i n =
+    let keys = vendorBytes 610 (replicate 5 (n + 1)) ++ (vendorBytes 625 (replicate 16 (n + 2)) ++ vendorBytes 626 (replicate 16 (n + 3))) in
+    vendorBytes 612 (vendorNumber 613 i ++ (digest ++ (vendorBytes 609 (replicate 32 n) ++ keys)))
+
+unfoldable pub challenges : ℕ → List ℕ → List ℕ
+challenges number items =
+    reply 303 (numberBytes 268 2001) (avpBytes 1 (0x70 ∷ []) ++ (vendorBytes 601 (0x61 ∷ []) ++ (vendorNumber 607 number ++ items)))
+
+-- one record `a` of a state and a server name under a header that keeps names or not; one with pending set; two of one public identity
 unfoldable pub one : ℕ → ℕ → List ℕ → List ℕ
 one keep state server = header 1 keep ++ person 1 0x61 0x70 state server
+
+unfoldable pub waiting : ℕ → List ℕ → List ℕ
+waiting state server = header 1 0 ++ subscriber 1 0x61 0x70 state 1 server
 
 unfoldable pub two : List ℕ
 two = header 2 0 ++ (person 1 0x61 0x70 0 [] ++ person 2 0x61 0x70 0 [])
@@ -104,17 +157,20 @@ z = 0x7A ∷ []
 
 -- all that a case opens
 unfoldable pub opened : ℕ
-unfolding host realm block header person request answer common assignment one two s z allBelow orderOf alikeAt same be16At be24At be32At putBe24 putBe32
-    zeros zeroBetween putName over sumWords hostOf realmOf publicOf privateOf serverOf headerOf soundHeader networkOf usedPlace soundPlace sameByte
-    otherPlace newPlace soundNetworks recordOf soundRecord blockOf tableOf publicAt privateAt risesAt soundAt firstBad checkRecords checkTable
-    firstFrom publicIs findPublic privateIs findPrivate serverHere servesAt findServer networkIs seek networkNumber roamsIn negated sealed renewed
-    settled changedAt afterOf padded headOf vendorOf valueOf sound walkFrom walk padding vendorHead copied avpBytes vendorBytes numberBytes
-    vendorNumber group vendorGroup ifThere vendorApplication experimental failed vendorNumbers capabilities known kindFrom kindBy rowOf useIn numberFault
-    plainFault applicationMembers membersOf isOf fits unlike onlyOf countOf enough enoughAt gathers contentFault nothing ruleBy rule judge headerFault
-    headPart alone failedOf sample exampleOf failedBy missingFrom missing
-    complete readWalk readIn identities placesFrom mandatoryOf optionalOf profileOf mayRoam serverIf authorization location findingOf grant planOf
-    typeOf carried askedAt askedOf authorizeFound authorize soughtAt soughtOf locateFound locate meantBy every isOne findAll numbersOf ownedHere
-    ownedUpTo ownAt storesAt fitsAt rightAt surveyOf userKnown ownerBy namedSurvey ownedSurvey assignMeant assign storedName plannedRecords carriedOut
-    assignmentOf planRead decideJudged decide numberOf resultBytes frontBytes originBytes topBytes nameBytes dataBytes givenBytes proxy proxies endBytes
-    restBytes bodyBytes flagsOf headerBytes answerBytes tried wrongLength refused answered serve
+unfolding host realm block header subscriber person vector room request reply answer common assignment digest authenticationOf authentication item challenges
+    one waiting two s z allBelow orderOf alikeAt same be16At be24At be32At putBe24 putBe32 zeros zeroBetween putName over sumWords hostOf realmOf publicOf
+    privateOf serverOf headerOf soundHeader networkOf usedPlace soundPlace sameByte otherPlace newPlace soundNetworks recordOf soundRecord blockOf tableOf
+    publicAt privateAt risesAt soundAt firstBad checkRecords checkTable firstFrom publicIs findPublic privateIs findPrivate serverHere servesAt findServer
+    networkIs seek networkNumber roamsIn negated sealed renewed settled challenged changedAt changedAll afterOf vectorOf soundVector cardOf randAutnOf
+    xresOf confidentialityOf integrityOf piecesOf soundPiece checkVectors firstOnes unusedHere unusedAt unusedOf packed isOne markedUsed spent padded headOf
+    vendorOf valueOf sound walkFrom walk avpOf padding vendorHead copied avpBytes vendorBytes numberBytes vendorNumber group vendorGroup ifThere
+    vendorApplication experimental failed vendorNumbers capabilities known kindFrom kindBy rowOf useIn numberFault plainFault applicationMembers itemMembers
+    membersOf isOf fits unlike onlyOf countOf enough enoughAt gathers contentFault nothing ruleBy rule judge headerFault headPart alone failedOf sample
+    exampleOf failedBy missingFrom missing complete readWalk readIn identities placesFrom mandatoryOf optionalOf profileOf mayRoam serverIf authorization
+    location findingOf grant deedOf planOf claimOf challengeOf typeOf carried askedAt askedOf authorizeFound authorize soughtAt soughtOf locateFound locate
+    claimedAt claimedOf toSend authenticateFound authenticate meantBy every findAll numbersOf ownedHere ownedUpTo ownAt storesAt fitsAt rightAt
+    surveyOf userKnown ownerBy namedSurvey ownedSurvey assignMeant assign storedName plannedRecords carriedOut spentBy assignmentOf uarPlan sarPlan lirPlan
+    marPlan planRead performed decideJudged decide numberOf resultBytes frontBytes originBytes topBytes identityBytes nameBytes dataBytes givenBytes proxy
+    proxies endBytes challengeBytes keyBytes itemBytes itemsBytes numberedBytes sentBytes restBytes bodyBytes flagsOf headerBytes answerBytes tried
+    wrongLength refused answered serve
 opened = 0

@@ -1,4 +1,5 @@
--- "Try these against it": document 01's five wrong servers. Each is a function here, and at an input that is computed its outcome does not meet the promise.
+-- "Try these against it": document 01's five wrong servers, and four that break document 02 [1]. Each is a function here, and at an input that is computed
+-- its outcome does not meet the promise.
 use Prim.Native.Nat.{ℕ, zero, suc, _≤_}
 use mathlib.Core.Path.{_≡_, refl, ap, _∙_}
 use mathlib.Core.Logic.{_≢_}
@@ -12,12 +13,13 @@ use Rattle.ndushavire.specs.Serve.{Served, serve}
 use Rattle.ndushavire.specs.declared.Call.the-variants.{Answered}
 use Rattle.ndushavire.specs.Word.{word, callWord}
 use Rattle.ndushavire.specs.Promise.{CheckPromise, DecidePromise}
-use Rattle.worked.proofs.Sample.{answer, assignment, one, two, s, z, opened}
+use Rattle.worked.proofs.Sample.{reply, answer, assignment, authentication, vector, item, challenges, one, waiting, two, s, z, opened}
 
 -- what a call leaves
 record Outcome : Type 0 where
   word : ℕ
   table : List ℕ
+  vectors : List ℕ
   buffer : List ℕ
 
 -- A server may count its calls: it is a function of the number of the call in its run, 0 for the first, and of what is lent.
@@ -26,28 +28,28 @@ Server = ℕ → Lent → Outcome
 
 -- Call n of a run meets the promise, given x.
 abbrev Meets : Server → ℕ → Lent → Type 0
-Meets f n x = DecidePromise x (f n x .word) (f n x .table) (f n x .buffer)
+Meets f n x = DecidePromise x (f n x .word) (f n x .table) (f n x .vectors) (f n x .buffer)
 
 -- The true server, which shows that the inputs below are no trap.
 truly : Server
-truly n x = record { word = callWord (serve x .call); table = serve x .table; buffer = serve x .buffer }
+truly n x = record { word = callWord (serve x .call); table = serve x .table; vectors = serve x .vectors; buffer = serve x .buffer }
 
 truly-meets : (n : ℕ) (x : Lent) → Meets truly n x
 unfolding truly
-truly-meets n x = record { word-is = refl; table-is = refl; buffer-is = refl }
+truly-meets n x = record { word-is = refl; table-is = refl; vectors-is = refl; buffer-is = refl }
 
 -- Two inputs over one registered line: a removal, B2001, which rewrites the record; and type 0 with another name, B5012. The word is 116 for both.
 room : List ℕ
 room = replicate 36864 0
 
 removal : Lent
-removal = lent (assignment 5 s) (one 0 1 s) [] room
+removal = lent (assignment 5 s) (one 0 1 s) [] [] room
 
 question : Lent
-question = lent (assignment 0 z) (one 0 1 s) [] room
+question = lent (assignment 0 z) (one 0 1 s) [] [] room
 
 abbrev comes : List ℕ → List ℕ → Served
-comes after bytes = record { call = Answered (record { length = 116 }); table = after; buffer = over bytes room }
+comes after bytes = record { call = Answered (record { length = 116 }); table = after; vectors = []; buffer = over bytes room }
 
 removal-served : serve removal ≡ comes (one 0 0 []) (answer (numberBytes 268 2001) [])
 unfolding opened room removal
@@ -87,23 +89,24 @@ alike-fails f n e p q = omega (arith, e, removal-result f n p, question-result f
 
 -- 1. "a server that refuses everything", with any number and anything besides, and leaves all as it came
 refusing : (Lent → ℕ) → (Lent → ℕ) → Server
-refusing number besides n x = record { word = word (number x) (besides x); table = x .table; buffer = x .buffer }
+refusing number besides n x = record { word = word (number x) (besides x); table = x .table; vectors = x .vectors; buffer = x .buffer }
 
 refusing-fails : (number besides : Lent → ℕ) → 1 ≤ number removal → (n : ℕ) → Meets (refusing number besides) n removal → ⊥
 unfolding refusing
 refusing-fails number besides h n p = omega (arith, removal-word (refusing number besides) n p)
 
--- 2. "one with a fixed answer": any word and any bytes, whatever is asked, and any table
-fixed : ℕ → List ℕ → (Lent → List ℕ) → Server
-fixed w bytes after n x = record { word = w; table = after x; buffer = over bytes (x .buffer) }
+-- 2. "one with a fixed answer": any word and any bytes, whatever is asked, and any files
+fixed : ℕ → List ℕ → (Lent → List ℕ) → (Lent → List ℕ) → Server
+fixed w bytes after spent n x = record { word = w; table = after x; vectors = spent x; buffer = over bytes (x .buffer) }
 
-fixed-fails : (w : ℕ) (bytes : List ℕ) (after : Lent → List ℕ) (n : ℕ) → Meets (fixed w bytes after) n removal → Meets (fixed w bytes after) n question → ⊥
+fixed-fails : (w : ℕ) (bytes : List ℕ) (after spent : Lent → List ℕ) (n : ℕ) → Meets (fixed w bytes after spent) n removal
+    → Meets (fixed w bytes after spent) n question → ⊥
 unfolding fixed removal question
-fixed-fails w bytes after n = alike-fails (fixed w bytes after) n refl
+fixed-fails w bytes after spent n = alike-fails (fixed w bytes after spent) n refl
 
 -- 3. "one that writes no record": any word and any buffer, and the table as it came
 unwriting : (Lent → ℕ) → (Lent → List ℕ) → Server
-unwriting word bytes n x = record { word = word x; table = x .table; buffer = bytes x }
+unwriting word bytes n x = record { word = word x; table = x .table; vectors = x .vectors; buffer = bytes x }
 
 unwriting-fails : (word : Lent → ℕ) (bytes : Lent → List ℕ) (n : ℕ) → Meets (unwriting word bytes) n removal → ⊥
 unfolding unwriting removal state opened
@@ -137,7 +140,7 @@ once-unwriting-fails word bytes n p = unwriting-fails word bytes n (once-later (
 
 -- 5. "one that invents the answer's length": any other word, beside the true table and the true answer ..
 inventing : (Lent → ℕ) → Server
-inventing word n x = record { word = word x; table = truly n x .table; buffer = truly n x .buffer }
+inventing word n x = record { word = word x; table = truly n x .table; vectors = truly n x .vectors; buffer = truly n x .buffer }
 
 inventing-fails : (word : Lent → ℕ) → word removal ≢ 116 → (n : ℕ) → Meets (inventing word) n removal → ⊥
 unfolding inventing
@@ -154,3 +157,75 @@ count-fails f h p = h (p .answer)
 block-fails : (f : Checker) → f two [] ≢ word 5 2 → CheckPromise two [] (f two []) → ⊥
 unfolding opened
 block-fails f h p = h (p .answer)
+
+-- Document 02 [1]. Over a line in state 0 that has one unused vector: a MAR for two, which gets one; and a MAR for none, B5012.
+challenge : Lent
+challenge = lent (authentication 2 s) (one 0 0 []) [] (vector 0 0x70 1) room
+
+nought : Lent
+nought = lent (authentication 0 s) (one 0 0 []) [] (vector 0 0x70 1) room
+
+challenge-served : serve challenge ≡ record {
+  call = Answered (record { length = 336 });
+  table = waiting 0 s;
+  vectors = vector 1 0x70 1;
+  buffer = over (challenges 1 (item 1 1)) room;
+}
+unfolding opened room challenge
+challenge-served = refl
+
+nought-served : serve nought ≡ record {
+  call = Answered (record { length = 116 });
+  table = one 0 0 [];
+  vectors = vector 0 0x70 1;
+  buffer = over (reply 303 (numberBytes 268 5012) []) room;
+}
+unfolding opened room nought
+nought-served = refl
+
+-- Whether the vector is used, whether the record is pending, and the number that the answer says is sent.
+used : List ℕ → ℕ
+used v = getD v 1 0
+
+bits : List ℕ → ℕ
+bits t = getD t 521 0
+
+number : List ℕ → ℕ
+number o = getD o 159 0
+
+module _ (f : Server) (n : ℕ) where
+  challenge-used : Meets f n challenge → used (f n challenge .vectors) ≡ 1
+  unfolding used opened
+  challenge-used p = ap used (p .vectors-is ∙ ap (λ (y : Served). y .vectors) challenge-served)
+
+  challenge-bits : Meets f n challenge → bits (f n challenge .table) ≡ 1
+  unfolding bits opened
+  challenge-bits p = ap bits (p .table-is ∙ ap (λ (y : Served). y .table) challenge-served)
+
+  challenge-number : Meets f n challenge → number (f n challenge .buffer) ≡ 1
+  unfolding number opened room
+  challenge-number p = ap number (p .buffer-is ∙ ap (λ (y : Served). y .buffer) challenge-served)
+
+  nought-used : Meets f n nought → used (f n nought .vectors) ≡ 0
+  unfolding used opened
+  nought-used p = ap used (p .vectors-is ∙ ap (λ (y : Served). y .vectors) nought-served)
+
+-- 6. one that sends the same vector again: it marks none, whatever else it does
+unmarking : (Lent → ℕ) → (Lent → List ℕ) → (Lent → List ℕ) → Server
+unmarking word after bytes n x = record { word = word x; table = after x; vectors = x .vectors; buffer = bytes x }
+
+unmarking-fails : (word : Lent → ℕ) (after bytes : Lent → List ℕ) (n : ℕ) → Meets (unmarking word after bytes) n challenge → ⊥
+unfolding unmarking challenge used opened
+unmarking-fails word after bytes n p = omega (arith, challenge-used (unmarking word after bytes) n p)
+
+-- 7. one that says the number asked, 2, for the number sent
+asked-fails : (f : Server) (n : ℕ) → number (f n challenge .buffer) ≡ 2 → Meets f n challenge → ⊥
+asked-fails f n e p = omega (arith, e, challenge-number f n p)
+
+-- 8. one that clears pending
+cleared-fails : (f : Server) (n : ℕ) → bits (f n challenge .table) ≡ 0 → Meets f n challenge → ⊥
+cleared-fails f n e p = omega (arith, e, challenge-bits f n p)
+
+-- 9. one that uses a vector though it answers with an error
+wasting-fails : (f : Server) (n : ℕ) → used (f n nought .vectors) ≡ 1 → Meets f n nought → ⊥
+wasting-fails f n e p = omega (arith, e, nought-used f n p)

@@ -160,7 +160,7 @@ impl<'a> Assignment<'_, 'a> {
         }
         let mut verdict = self.success(Base(2001), record);
         if slip.is(Fault::Type0ClearsPending) {
-            verdict.rewritings.push((block, Rewriting { state: record.state(), server_name: None }));
+            verdict.rewritings.push((block, Rewriting { state: record.state(), pending: false, server_name: None }));
         }
         Ok(verdict)
     }
@@ -244,8 +244,8 @@ impl<'a> Assignment<'_, 'a> {
     fn effect(&self) -> (Rewriting, Code) {
         let slip = self.slip;
         let keep = self.table.header().keep() != slip.is(Fault::KeepTurned);
-        let stored = |state| Rewriting { state, server_name: Some(self.request.server_name.to_vec()) };
-        let none = Rewriting { state: NOT_REGISTERED, server_name: Some(Vec::new()) };
+        let stored = |state| Rewriting { state, pending: false, server_name: Some(self.request.server_name.to_vec()) };
+        let none = Rewriting { state: NOT_REGISTERED, pending: false, server_name: Some(Vec::new()) };
         let keeping = |asked_type| match asked_type {
             6 | 7 => true,
             4 | 5 => slip.is(Fault::Types4And5MayKeep),
@@ -256,12 +256,12 @@ impl<'a> Assignment<'_, 'a> {
             1 | 2 => (stored(REGISTERED), Base(2001)),
             3 => (stored(if slip.is(Fault::Type3Registers) { REGISTERED } else { UNREGISTERED }), Base(2001)),
             asked_type if keeping(asked_type) && keep => {
-                (Rewriting { state: UNREGISTERED, server_name: None }, Base(2001))
+                (Rewriting { state: UNREGISTERED, pending: false, server_name: None }, Base(2001))
             }
             6 | 7 if slip.is(Fault::NotStoredIsSuccess) => (none, Base(2001)),
             6 | 7 => (none, Experimental(2004)),
             9 | 10 if slip.is(Fault::FailuresKeepName) => {
-                (Rewriting { state: NOT_REGISTERED, server_name: None }, Base(2001))
+                (Rewriting { state: NOT_REGISTERED, pending: false, server_name: None }, Base(2001))
             }
             _ => (none, Base(2001)),
         }

@@ -9,7 +9,7 @@ use crate::verdict::Code::{Base, Experimental};
 use crate::verdict::{Failed, Verdict};
 
 /// Where a base result of the same number is sent for an experimental one.
-const BASE_FOR: [(Fault, u32); 10] = [
+const BASE_FOR: [(Fault, u32); 11] = [
     (Fault::BaseForFirstRegistration, 2001),
     (Fault::BaseForSubsequentRegistration, 2002),
     (Fault::BaseForUnregisteredService, 2003),
@@ -19,6 +19,7 @@ const BASE_FOR: [(Fault, u32); 10] = [
     (Fault::BaseForNotRegistered, 5003),
     (Fault::BaseForRoamingNotAllowed, 5004),
     (Fault::BaseForAlreadyRegistered, 5005),
+    (Fault::BaseForSchemeNotSupported, 5006),
     (Fault::BaseForAssignmentType, 5007),
 ];
 

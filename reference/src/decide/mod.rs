@@ -2,7 +2,9 @@
 
 mod assignment;
 mod astray;
+mod authentication;
 mod authorization;
+mod chosen;
 mod location;
 mod lookup;
 
@@ -10,27 +12,43 @@ use crate::kinds::Command;
 use crate::read::Request;
 use crate::slip::Slip;
 use crate::table::{Record, Table};
-use crate::verdict::{Decision, Verdict, Why};
+use crate::vectors::Vectors;
+use crate::verdict::{Decision, Stored, Verdict, Why};
 
-pub fn decide<'a>(request: &Request<'a>, table: Table<'a>, profile: &'a [u8], slip: Slip) -> Verdict<'a> {
+pub use chosen::MOST_SENT;
+
+/// What a decision is made over.
+#[derive(Clone, Copy)]
+pub struct Files<'a> {
+    pub table: Table<'a>,
+    pub profile: &'a [u8],
+    pub vectors: Vectors<'a>,
+}
+
+pub fn decide<'a>(request: &Request<'a>, files: Files<'a>, slip: Slip) -> Verdict<'a> {
+    let table = files.table;
     let (asked_type, mut verdict) = match request.command {
         Command::UserAuthorization => {
             (request.authorization_type, authorization::user_authorization(request, table, slip))
         }
         Command::LocationInfo => (0, location::location_info(request, table, slip)),
         Command::ServerAssignment => {
-            (request.assignment_type, assignment::server_assignment(request, table, profile, slip))
+            (request.assignment_type, assignment::server_assignment(request, table, files.profile, slip))
         }
+        Command::MultimediaAuth => (0, authentication::multimedia_auth(request, table, files.vectors, slip)),
     };
     astray::verdict(&mut verdict, request, table, slip);
     let asked = asked_records(request, table);
+    let first = asked.first().map(|(_, record)| *record);
     verdict.why = Why::Decided(Decision {
         command: Some(request.command),
         asked_type,
-        state: asked.first().map(|(_, record)| record.state()),
-        profile_start: asked.first().map_or(0, |(_, record)| record.profile_start()),
+        state: first.map(|record| record.state()),
+        profile_start: first.map_or(0, |record| record.profile_start()),
         keep: table.header().keep(),
         records: asked.len(),
+        stored: first.map(|record| stored(record.server_name(), request.server_name)),
+        vectors: (request.number_asked, chosen::unused(request, files.vectors).len(), verdict.marked.len()),
         result: Some(verdict.result),
     });
     verdict
@@ -42,4 +60,13 @@ fn asked_records<'a>(request: &Request, table: Table<'a>) -> Vec<(usize, Record<
         return assignment::nameless(request.user_name.unwrap_or(&[]), table, Slip::NONE);
     }
     table.records().filter(|(_, record)| request.identities.iter().any(|avp| avp.data == record.public())).collect()
+}
+
+fn stored(name: &[u8], given: &[u8]) -> Stored {
+    match name {
+        [] => Stored::None,
+        _ if name == given => Stored::Same,
+        _ if name.starts_with(given) || given.starts_with(name) => Stored::Prefix,
+        _ => Stored::Another,
+    }
 }

@@ -7,6 +7,8 @@ use crate::cases::Case;
 pub enum Stream {
     /// The table check, over sound and damaged tables.
     Tables,
+    /// The vector file's check, over sound and damaged ones.
+    Vectors,
     /// The decision, over every kind of request.
     Calls,
 }
@@ -15,6 +17,7 @@ impl Stream {
     pub fn by_name(name: &str) -> Option<Stream> {
         match name {
             "tables" => Some(Stream::Tables),
+            "vectors" => Some(Stream::Vectors),
             "calls" => Some(Stream::Calls),
             _ => None,
         }
@@ -23,6 +26,7 @@ impl Stream {
     pub fn name(self) -> &'static str {
         match self {
             Stream::Tables => "tables",
+            Stream::Vectors => "vectors",
             Stream::Calls => "calls",
         }
     }

@@ -8,11 +8,14 @@ mod made;
 pub mod model;
 mod names;
 pub mod request;
+mod runs;
 mod tables;
 pub mod twists;
+pub mod vectors;
 
 pub use calls::MIXED;
 pub use made::{Made, Stream};
+pub use runs::{run, Step};
 pub use tables::FAR;
 
 use crate::rng::Rng;
@@ -22,6 +25,7 @@ pub fn make(stream: Stream, seed: u64, number: u64) -> Made {
     let mut rng = Rng::for_case(seed, number);
     match stream {
         Stream::Tables => checks::case(&mut rng),
+        Stream::Vectors => vectors::case(&mut rng),
         Stream::Calls => calls::case(&mut rng),
     }
 }

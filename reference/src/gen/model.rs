@@ -1,7 +1,7 @@
 //! A table as its maker thinks of it, and its bytes.
 
 use crate::block::{mend, put_word, BLOCK};
-use crate::table::{self, header, record, NETWORK_PLACE};
+use crate::table::{self, header, record, Record, Table, NETWORK_PLACE};
 
 #[derive(Clone, Debug)]
 pub struct TableModel {
@@ -39,6 +39,18 @@ impl TableModel {
         }
     }
 
+    /// The model of a sound table.
+    pub fn of(table: Table) -> TableModel {
+        let header = table.header();
+        TableModel {
+            keep: header.keep(),
+            host: header.host().to_vec(),
+            realm: header.realm().to_vec(),
+            networks: (0..header.networks()).map(|n| header.network(n).to_vec()).collect(),
+            records: table.records().map(|(_, record)| RecordModel::of(record)).collect(),
+        }
+    }
+
     pub fn encode(&self) -> Vec<u8> {
         let mut bytes = vec![0; BLOCK * (self.records.len() + 1)];
         self.encode_header(&mut bytes[..BLOCK]);
@@ -65,6 +77,21 @@ impl TableModel {
 }
 
 impl RecordModel {
+    fn of(record: Record) -> RecordModel {
+        RecordModel {
+            state: record.state(),
+            bits: record.0[record::BITS],
+            roaming: record.0[record::ROAMING],
+            mandatory: record.mandatory(),
+            optional: record.optional(),
+            public: record.public().to_vec(),
+            private: record.private().to_vec(),
+            server_name: record.server_name().to_vec(),
+            profile_start: record.profile_start() as u32,
+            profile_length: record.profile_length() as u16,
+        }
+    }
+
     pub fn has(&self, bit: u8) -> bool {
         self.bits & bit != 0
     }

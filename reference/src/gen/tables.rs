@@ -162,3 +162,20 @@ pub fn profile_part(rng: &mut Rng, file: usize) -> (u32, u16) {
     };
     (start as u32, length as u16)
 }
+
+#[cfg(test)]
+mod tests {
+    use crate::gen::model::TableModel;
+    use crate::gen::tables::sound;
+    use crate::rng::Rng;
+    use crate::table::Table;
+
+    #[test]
+    fn the_model_of_a_table_has_its_bytes() {
+        let mut rng = Rng::new(5);
+        for records in [0, 1, 2, 9, 40] {
+            let table = sound(&mut rng, records).model.encode();
+            assert!(TableModel::of(Table(&table)).encode() == table);
+        }
+    }
+}

@@ -1,5 +1,6 @@
 //! Histograms of a stream of cases: what was done to get them, and what came of them.
 
+mod authentication;
 mod required;
 
 use std::collections::BTreeMap;
@@ -9,7 +10,8 @@ use crate::block::{word_at, BLOCK};
 use crate::cases::{Case, Outcome, Slice};
 use crate::gen::{self, Made, Stream, FAR};
 use crate::kinds::{Command, Kind, EXPERIMENTAL_RESULT, FAILED_AVP, RESULT_CODE, SERVER_CAPABILITIES, USER_DATA};
-use crate::message::{sound_avps, Message};
+use crate::message::{sound_avps, Avp, Message};
+use crate::read::read_header;
 use crate::slip::Slip;
 use crate::table::LONGEST_PROFILE;
 use crate::verdict::{Code, Decision, Why};
@@ -25,6 +27,7 @@ impl Histogram {
         self.cases += 1;
         match (stream, why) {
             (Stream::Tables, Why::Checked(found)) => self.count_table(made, *found),
+            (Stream::Vectors, Why::CheckedVectors(found)) => self.count_vectors(made, *found),
             _ => self.count_call(made, outcome, why),
         }
     }
@@ -34,6 +37,23 @@ impl Histogram {
     }
 
     fn count_table(&mut self, made: &Made, found: Result<u32, u32>) {
+        if let Ok(records) = found {
+            self.add(format!("sound table of {} records", size(records as usize)));
+            if made.case.held(Slice::Profile).len() > FAR {
+                self.add("sound table, profile over 65,536 bytes".to_string());
+            }
+        }
+        self.count_check(made, found);
+    }
+
+    fn count_vectors(&mut self, made: &Made, found: Result<u32, u32>) {
+        if let Ok(blocks) = found {
+            self.add(format!("sound file of {} vectors", size(blocks as usize)));
+        }
+        self.count_check(made, found);
+    }
+
+    fn count_check(&mut self, made: &Made, found: Result<u32, u32>) {
         let outcome = match (found, made.damaged) {
             (Ok(_), _) => "sound",
             (Err(0), Some(0)) => "block 0, which was damaged",
@@ -43,12 +63,6 @@ impl Histogram {
             (Err(_), Some(_)) => "another block",
             (Err(_), None) => "a record",
         };
-        if let Ok(records) = found {
-            self.add(format!("sound table of {} records", size(records as usize)));
-            if made.case.held(Slice::Profile).len() > FAR {
-                self.add("sound table, profile over 65,536 bytes".to_string());
-            }
-        }
         let twice = made.notes.contains(&"a second damage");
         let mended = if made.notes.contains(&"mended") { ", mended" } else { "" };
         for note in made.notes.iter().filter(|note| note.contains(':') && !twice) {
@@ -62,13 +76,17 @@ impl Histogram {
             self.add(format!("made by: {note}"));
         }
         let row = match why {
-            Why::Checked(_) => return,
+            Why::Checked(_) | Why::CheckedVectors(_) => return,
+            Why::Refused(6) => format!("refused 6 to {}", asker(&made.case.held(Slice::Request))),
             Why::Refused(number) => format!("refused {number}"),
             Why::Header(code) => format!("header: B{code}"),
             Why::Rule(letter, what) => format!("rule ({letter}): {what}"),
             Why::Missing(kind) => format!("missing: {}", kind.name()),
             Why::Decided(decision) => {
                 self.add(format!("decided over {} records", size(made.case.held(Slice::Table).len() / BLOCK - 1)));
+                if decision.vectors.2 > 0 {
+                    self.add(format!("sent of {} vectors", size(made.case.held(Slice::Vectors).len() / BLOCK)));
+                }
                 self.decision(decision)
             }
         };
@@ -92,6 +110,10 @@ impl Histogram {
         match decision.command {
             Some(Command::UserAuthorization) => format!("UAR: type {}, {state}: {result}", decision.asked_type),
             Some(Command::LocationInfo) => format!("LIR: {state}: {result}"),
+            Some(Command::MultimediaAuth) => {
+                authentication::rows(decision).into_iter().for_each(|row| self.add(row));
+                format!("MAR: {state}: {result}")
+            }
             _ => {
                 let many = if decision.records > 1 { "many" } else { "one or none" };
                 self.add(format!("SAR of {many}: {result}"));
@@ -114,36 +136,45 @@ impl Histogram {
             self.add("answer: no Session-Id".to_string());
         }
         for avp in &avps {
-            match avp.code {
-                SERVER_CAPABILITIES => self.add("answer: Server-Capabilities".to_string()),
-                USER_DATA => {
-                    self.add("answer: User-Data".to_string());
-                    if avp.data.len() == LONGEST_PROFILE {
-                        self.add("answer: User-Data of 4,096".to_string());
-                    }
-                    if matches!(why, Why::Decided(decision) if decision.profile_start >= FAR) {
-                        self.add("answer: User-Data from past 65,536".to_string());
-                    }
-                }
-                1 => self.add("answer: User-Name".to_string()),
-                602 => self.add("answer: Server-Name".to_string()),
-                FAILED_AVP if avp.data.is_empty() => self.add("answer: Failed-AVP without data".to_string()),
-                FAILED_AVP => {
-                    self.add("answer: Failed-AVP".to_string());
-                    if copies > 0 && avp.data.starts_with(&Kind::ProxyInfo.code().to_be_bytes()) {
-                        self.add("answer: Failed-AVP with a Proxy-Info".to_string());
-                    }
-                }
-                _ => {}
-            }
+            self.count_avp(avp, copies, why);
         }
-        if case.entry.rewrote(outcome) {
+        if case.entry.changed(outcome, Slice::Table) {
             self.add("answer: records rewritten".to_string());
+        }
+        if case.entry.changed(outcome, Slice::Vectors) {
+            self.add("answer: vectors marked".to_string());
         }
         for (least, row) in [(16_384, "answer: over 16,384 bytes"), (32_000, "answer: over 32,000 bytes")] {
             if answer.len() > least {
                 self.add(row.to_string());
             }
+        }
+    }
+
+    /// An AVP of an answer with so many Proxy-Infos.
+    fn count_avp(&mut self, avp: &Avp, copies: usize, why: &Why) {
+        match avp.code {
+            SERVER_CAPABILITIES => self.add("answer: Server-Capabilities".to_string()),
+            USER_DATA => {
+                self.add("answer: User-Data".to_string());
+                if avp.data.len() == LONGEST_PROFILE {
+                    self.add("answer: User-Data of 4,096".to_string());
+                }
+                if matches!(why, Why::Decided(decision) if decision.profile_start >= FAR) {
+                    self.add("answer: User-Data from past 65,536".to_string());
+                }
+            }
+            1 => self.add("answer: User-Name".to_string()),
+            602 => self.add("answer: Server-Name".to_string()),
+            612 => self.add("answer: an item".to_string()),
+            FAILED_AVP if avp.data.is_empty() => self.add("answer: Failed-AVP without data".to_string()),
+            FAILED_AVP => {
+                self.add("answer: Failed-AVP".to_string());
+                if copies > 0 && avp.data.starts_with(&Kind::ProxyInfo.code().to_be_bytes()) {
+                    self.add("answer: Failed-AVP with a Proxy-Info".to_string());
+                }
+            }
+            _ => {}
         }
     }
 
@@ -168,6 +199,17 @@ impl Histogram {
     }
 }
 
+/// What a call that is refused by 6 would be answered as.
+fn asker(request: &[u8]) -> &'static str {
+    match read_header(Message(request), Slip::NONE) {
+        Ok(Command::UserAuthorization) => "a UAR",
+        Ok(Command::ServerAssignment) => "a SAR",
+        Ok(Command::LocationInfo) => "a LIR",
+        Ok(Command::MultimediaAuth) => "a MAR",
+        Err(_) => "a header fault",
+    }
+}
+
 /// How many records, in few classes.
 fn size(records: usize) -> String {
     match records {
@@ -177,6 +219,11 @@ fn size(records: usize) -> String {
         256..=4095 => "256 to 4,095".to_string(),
         _ => "4,096".to_string(),
     }
+}
+
+/// How each row begins that the cases of a stream must show.
+pub fn required_rows(stream: Stream) -> Vec<String> {
+    required::rows(stream).into_iter().map(|(row, _)| row).collect()
 }
 
 pub fn code_name(code: Code) -> String {

@@ -1,7 +1,9 @@
 //! The rows that a histogram must have.
 
+use super::authentication;
 use crate::gen::damage::damages;
 use crate::gen::twists::twists;
+use crate::gen::vectors::damage::{DAMAGES, OVER_THE_MOST};
 use crate::gen::{Stream, MIXED};
 use crate::kinds::{needed, Command, Kind, COMMANDS, KINDS};
 
@@ -12,6 +14,7 @@ const ONE_IN: u64 = 1000;
 pub fn rows(stream: Stream) -> Vec<(String, u64)> {
     match stream {
         Stream::Tables => of_tables(),
+        Stream::Vectors => of_vectors(),
         Stream::Calls => of_calls(),
     }
 }
@@ -35,9 +38,27 @@ fn of_tables() -> Vec<(String, u64)> {
     wanted
 }
 
+fn of_vectors() -> Vec<(String, u64)> {
+    let mut wanted = Vec::new();
+    for size in ["0", "1", "2", "3 to 12"] {
+        wanted.push((format!("sound file of {size} vectors"), ONE_IN));
+    }
+    for (size, times) in [("13 to 255", 50), ("256 to 4,095", 20), ("4,096", 50)] {
+        wanted.push((format!("sound file of {size} vectors"), times * ONE_IN));
+    }
+    for outcome in ["sound", "block 0", "the damaged block"] {
+        wanted.push((format!("all -> {outcome}"), ONE_IN));
+    }
+    for damage in DAMAGES {
+        let one_in = if OVER_THE_MOST.contains(&damage.name) { 10 * ONE_IN } else { ONE_IN };
+        wanted.push((damage.name.to_string(), one_in));
+    }
+    wanted
+}
+
 fn of_calls() -> Vec<(String, u64)> {
     let mut wanted = Vec::new();
-    wanted.extend((1..=5).map(|number| format!("refused {number}")));
+    wanted.extend((1..=6).map(|number| format!("refused {number}")));
     wanted.extend([5011, 3008, 3001, 3007].map(|code| format!("header: B{code}")));
     rules(&mut wanted);
     missing(&mut wanted);
@@ -48,9 +69,15 @@ fn of_calls() -> Vec<(String, u64)> {
     wanted.push("request: 16,384 bytes".to_string());
     wanted.push("request: over 65,536 bytes".to_string());
     wanted.extend(twists().map(|twist| twist.name).chain(MIXED).map(|name| format!("made by: {name}")));
+    wanted.extend(["UAR", "SAR", "LIR", "MAR"].map(|command| format!("refused 6 to a {command}")));
     let mut rows: Vec<(String, u64)> = wanted.into_iter().map(|row| (row, ONE_IN)).collect();
+    rows.push(("refused 6 to a header fault".to_string(), 10 * ONE_IN));
+    rows.extend(authentication::wanted().into_iter().map(|(row, times)| (row, times * ONE_IN)));
     for size in ["13 to 255", "256 to 4,095", "4,096"] {
         rows.push((format!("decided over {size} records"), 5 * ONE_IN));
+    }
+    for (size, times) in [("1", 2), ("2", 2), ("3 to 12", 1), ("13 to 255", 1), ("256 to 4,095", 10), ("4,096", 50)] {
+        rows.push((format!("sent of {size} vectors"), times * ONE_IN));
     }
     rows
 }
@@ -69,10 +96,13 @@ fn rules(wanted: &mut Vec<String>) {
         }
         if kind.is_four_bytes() {
             wanted.push(format!("rule (g): {}", kind.name()));
-            wanted.push(format!("rule (h): {}", kind.name()));
+            // The number asked is not judged.
+            if *kind != Kind::SipNumberAuthItems {
+                wanted.push(format!("rule (h): {}", kind.name()));
+            }
         }
     }
-    for kind in [Kind::ServerName, Kind::VendorSpecificApplicationId] {
+    for kind in [Kind::ServerName, Kind::VendorSpecificApplicationId, Kind::SipAuthDataItem] {
         wanted.push(format!("rule (h): {}", kind.name()));
     }
 }
@@ -90,7 +120,7 @@ fn results(wanted: &mut Vec<String>) {
     for code in [2001, 3001, 3007, 3008, 3009, 5001, 5003, 5004, 5005, 5009, 5011, 5012, 5014] {
         wanted.push(format!("result: B{code}"));
     }
-    for code in [2001, 2002, 2003, 2004, 5001, 5002, 5003, 5004, 5005, 5007] {
+    for code in [2001, 2002, 2003, 2004, 5001, 5002, 5003, 5004, 5005, 5006, 5007] {
         wanted.push(format!("result: X{code}"));
     }
 }
@@ -151,7 +181,9 @@ fn answers(wanted: &mut Vec<String>) {
         "Failed-AVP",
         "Failed-AVP without data",
         "Failed-AVP with a Proxy-Info",
+        "an item",
         "records rewritten",
+        "vectors marked",
         "over 16,384 bytes",
         "over 32,000 bytes",
     ] {

@@ -157,6 +157,7 @@ impl<'a> Table<'a> {
 #[derive(Clone, PartialEq, Debug)]
 pub struct Rewriting {
     pub state: u8,
+    pub pending: bool,
     /// The new server name, empty for none; `None` keeps the stored one.
     pub server_name: Option<Vec<u8>>,
 }
@@ -165,7 +166,7 @@ pub struct Rewriting {
 pub fn rewrite(block: &mut [u8], with: &Rewriting, slip: Slip) {
     block[record::STATE] = with.state;
     if !slip.is(Fault::PendingStays) {
-        block[record::BITS] &= !PENDING;
+        block[record::BITS] = block[record::BITS] & !PENDING | if with.pending { PENDING } else { 0 };
     }
     if let Some(name) = &with.server_name {
         block[record::SERVER_LENGTH] = name.len() as u8;

@@ -5,7 +5,7 @@ use super::layout::{
     MOST_CAPABILITIES, MOST_NETWORKS, MOST_RECORDS, NETWORK_PLACE, NOT_REGISTERED, PENDING, UNREGISTERED,
     UNREGISTERED_SERVICES,
 };
-use crate::block::{sum, word_at, BLOCK, CHECK_WORD};
+use crate::block::{sum, word_at, zero, BLOCK, CHECK_WORD};
 use crate::slip::{Fault, Slip};
 
 /// The record count of a sound table, or the number of the first bad block.
@@ -219,8 +219,4 @@ fn rises(before: &[u8], public: &[u8], slip: Slip) -> bool {
         Some(Fault::ShorterIdentityFirst) => (before.len(), before) < (public.len(), public),
         _ => before < public,
     }
-}
-
-fn zero(bytes: &[u8]) -> bool {
-    bytes.iter().fold(0, |all, byte| all | byte) == 0
 }

@@ -2,7 +2,8 @@
 #![allow(dead_code)]
 
 use reference::gen::model::{RecordModel, TableModel};
-use reference::serve::{serve, LEAST_BUFFER};
+use reference::refuse::LEAST_BUFFER;
+use reference::serve::serve;
 use reference::slip::Slip;
 
 pub fn bytes(hex: &str) -> Vec<u8> {
@@ -34,22 +35,29 @@ pub struct Done {
     pub value: u64,
     pub answer: Vec<u8>,
     pub table: Vec<u8>,
+    pub vectors: Vec<u8>,
 }
 
 pub fn call(request: &[u8], table: &[u8], profile: &[u8]) -> Done {
-    call_with_buffer(request, table, profile, LEAST_BUFFER)
+    call_with_buffer(request, table, profile, &[], LEAST_BUFFER)
+}
+
+/// A call over a vector file, without profile.
+pub fn call_with_vectors(request: &[u8], table: &[u8], vectors: &[u8]) -> Done {
+    call_with_buffer(request, table, &[], vectors, LEAST_BUFFER)
 }
 
 /// Calls, and checks that the buffer past the answer stays.
-pub fn call_with_buffer(request: &[u8], table: &[u8], profile: &[u8], buffer: usize) -> Done {
+pub fn call_with_buffer(request: &[u8], table: &[u8], profile: &[u8], vectors: &[u8], buffer: usize) -> Done {
     let mut table = table.to_vec();
+    let mut vectors = vectors.to_vec();
     let mut buffer = vec![0xA5; buffer];
-    let (word, _) = serve(request, &mut table, profile, &mut buffer, Slip::NONE);
+    let (word, _) = serve(request, &mut table, profile, &mut vectors, &mut buffer, Slip::NONE);
     let (number, value) = (word >> 48, word & 0xFFFF_FFFF);
     let written = if number == 0 { value as usize } else { 0 };
     assert!(buffer[written..].iter().all(|byte| *byte == 0xA5));
     buffer.truncate(written);
-    Done { number, value, answer: buffer, table }
+    Done { number, value, answer: buffer, table, vectors }
 }
 
 pub fn avp(code: u32, data: &[u8]) -> Vec<u8> {
@@ -109,4 +117,38 @@ pub fn find(answer: &[u8], code: u32) -> Option<Vec<u8>> {
         .iter()
         .find(|avp| avp.code == code)
         .map(|avp| avp.data.to_vec())
+}
+
+/// A block of a vector file, put together by the places that document 02 gives.
+pub fn vector(used: u8, private: &str, rand_and_autn: u8, xres: &[u8]) -> Vec<u8> {
+    let mut block = vec![0; 512];
+    block[0] = 3;
+    block[1] = used;
+    block[2] = xres.len() as u8;
+    block[3] = private.len() as u8;
+    block[4..4 + private.len()].copy_from_slice(private.as_bytes());
+    block[132..164].fill(rand_and_autn);
+    block[164..164 + xres.len()].copy_from_slice(xres);
+    block[180..196].fill(0xCC);
+    block[196..212].fill(0x11);
+    summed(block)
+}
+
+/// The block with the check word that makes its words sum to zero.
+pub fn summed(mut block: Vec<u8>) -> Vec<u8> {
+    let words = block[..508].chunks(4).map(|word| u32::from_be_bytes([word[0], word[1], word[2], word[3]]));
+    let sum = words.fold(0u32, u32::wrapping_add);
+    block[508..].copy_from_slice(&sum.wrapping_neg().to_be_bytes());
+    block
+}
+
+/// 612 with this scheme.
+pub fn item(scheme: &[u8]) -> Vec<u8> {
+    avp(612, &avp(608, scheme))
+}
+
+/// A MAR that asks for so many vectors.
+pub fn mar(private: &str, public: &str, asked: u32, server_name: &[u8]) -> Vec<u8> {
+    let identities = [avp(1, private.as_bytes()), avp(601, public.as_bytes())];
+    request(303, &[&identities[..], &[item(b"Digest-AKAv1-MD5"), number(607, asked), avp(602, server_name)]].concat())
 }

@@ -16,4 +16,5 @@ take-request-spec =
     (λ c. search (needs, got-front))
     (λ c κs. search needs)
     (λ c. search needs)
+    (λ c. search needs)
     (λ c. search needs))

@@ -1,4 +1,4 @@
-use Rattle.deciding.proofs.Answering.{fault-given, given-room, answers, answers-most}
+use Rattle.deciding.proofs.Answering.{fault-given, fault-table, fault-vectors, given-room, given-sendable, answers, answers-most}
 use borrow.Author.Needs.{needs}
 use Rattle.deciding.proofs.answer_fault.Statement.{statement}
 use Rattle.deciding.proofs.answer_fault.Tie as tie
@@ -8,6 +8,11 @@ answer-fault-spec =
     tie.close
     (tie.spec
     (λ c κs. search needs)
-    (λ c κs. search (needs, given-room, fault-given))
+    (λ c κs. search (needs, given-room, given-sendable, fault-given))
     (λ c. search needs)
-    (λ c. search (needs, answers-most, answers, fault-given)))
+    (λ c. (
+      search (needs, answers-most, fault-given),
+      search (needs, answers, fault-given),
+      search (needs, fault-table),
+      search (needs, fault-vectors),
+    )))

@@ -1,5 +1,4 @@
-use Rattle.deciding.proofs.Answering.{plan-given, plan-table, given-room, answers, answers-most}
-use Rattle.deciding.proofs.Deciding.{plan-fits}
+use Rattle.deciding.proofs.Answering.{plan-given, plan-table, plan-vectors, given-room, answers, answers-most}
 use borrow.Author.Needs.{needs}
 use Rattle.deciding.proofs.answer_read.Statement.{statement}
 use Rattle.deciding.proofs.answer_read.Tie as tie
@@ -10,7 +9,8 @@ answer-read-spec =
     (tie.spec
     (λ c κs. search needs)
     (λ c κs. search (needs, given-room, plan-given))
-    (λ c κs. search (needs, plan-fits))
+    (λ c κs. search needs)
     (λ c. search needs)
     (λ c. search needs)
-    (λ c. search (needs, answers-most, answers, plan-given, plan-table)))
+    (λ c. search needs)
+    (λ c. search (needs, answers-most, answers, plan-given, plan-table, plan-vectors)))

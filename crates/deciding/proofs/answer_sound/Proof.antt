@@ -1,5 +1,4 @@
 use Rattle.requests.proofs.Requests.{judged-fine, judged-bad}
-use Rattle.deciding.proofs.Answering.{fault-table}
 use borrow.Author.Needs.{needs}
 use Rattle.deciding.proofs.answer_sound.Statement.{statement}
 use Rattle.deciding.proofs.answer_sound.Tie as tie
@@ -13,13 +12,9 @@ answer-sound-spec =
     (λ c. search needs)
     (λ c. search needs)
     (λ c. search needs)
+    (λ c. search needs)
     (λ c κs. search (needs, judged-bad))
     (λ c. search needs)
     (λ c. search needs)
-    (λ c. (
-      search needs,
-      search needs,
-      fault-table _ _ _ (c .before .before .before .before .before .before .before .read-request .result .verdict)
-          (judged-bad _ _ _ (c .before .before .before .before .before .before .before .read-request .ensures)
-          (c .before .before .before .before .before .before .if1 .left)),
-    )))
+    (λ c. search needs)
+    (λ c. search needs))

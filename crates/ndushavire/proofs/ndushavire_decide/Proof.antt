@@ -11,4 +11,5 @@ ndushavire-decide-spec =
     (λ c κs. search needs)
     (λ c. search needs)
     (λ c. search needs)
+    (λ c. search needs)
     (λ c. search (needs, word-promised)))

@@ -15,10 +15,11 @@ one-call-spec =
     (λ c. search (needs, call-request))
     (λ c κs. search needs)
     (λ c κs. (
-      passes _ _ (search needs) (c .before .before .before .before .before .before .before .wrong-length .ensures)
-          (c .before .before .before .before .before .before .if3 .left) (search needs),
+      passes _ _ (search needs) (c .before .before .before .before .before .before .before .before .wrong-length .ensures)
+          (c .before .before .before .before .before .before .before .if3 .left) (search needs),
       search needs,
     ))
+    (λ c. search needs)
     (λ c. search needs)
     (λ c. search needs)
     (λ c. search (needs, call-rest)))

@@ -1,4 +1,4 @@
-use Rattle.rewrite.proofs.Writes.{settle-block, block-differs}
+use Rattle.rewrite.proofs.Writes.{settle-block}
 use borrow.Author.Needs.{needs}
 use Rattle.rewrite.proofs.settle_block.Statement.{statement}
 use Rattle.rewrite.proofs.settle_block.Tie as tie
@@ -7,12 +7,8 @@ pub settle-block-spec : {M : Type 1} → statement M
 settle-block-spec =
     tie.close
     (tie.spec
-    (λ c. search needs)
-    (λ c κs. search needs)
     (λ c κs. search needs)
     (λ c κs. search needs)
     (λ c κs. search needs)
     (λ c. search needs)
-    (λ c κs. search needs)
-    (λ c. search needs)
-    (λ c. (search (needs, settle-block), search (needs, block-differs), search needs)))
+    (λ c. (search (needs, settle-block), search needs, search needs)))

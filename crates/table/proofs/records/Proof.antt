@@ -1,7 +1,7 @@
 use Prim.Native.Nat.{_+_, _-_, _≤_}
 use mathlib.Core.Path.{_≡_}
 use Rattle.table.specs.Check.{soundAt, firstBad, checkRecords}
-use Rattle.table.proofs.First.{first-all, first-bad, first-more, first-none}
+use Rattle.table.proofs.First.{first-all, first-bad, first-more, first-none, below-stop, past-stop}
 use borrow.Author.Needs.{needs}
 use Rattle.table.proofs.records.Statement.{statement}
 use Rattle.table.proofs.records.Tie as tie
@@ -23,8 +23,8 @@ records-spec =
     (λ c κs. search needs)
     (λ c. search needs)
     (λ c. search needs)
-    (λ c. search (needs, first-more))
+    (λ c. search (needs, first-more, below-stop))
     (λ c. search needs)
-    (λ c. search (needs, first-bad))
+    (λ c. search (needs, first-bad, below-stop))
     (λ c. search needs)
-    (λ c. search (needs, first-none)))
+    (λ c. search (needs, first-none, past-stop)))

@@ -5,12 +5,15 @@ use crate::gen::asks;
 use crate::gen::made::Made;
 use crate::gen::request::RequestModel;
 use crate::gen::tables::{self, Sound};
+use crate::gen::vectors::{self, model::VectorModel};
+use crate::kinds::{Command, Kind};
+use crate::refuse::LEAST_BUFFER;
 use crate::rng::Rng;
-use crate::serve::LEAST_BUFFER;
 
 /// A case in the making.
 pub struct Call {
     pub sound: Sound,
+    pub vectors: Vec<VectorModel>,
     pub request: RequestModel,
     pub buffer_length: usize,
     pub notes: Vec<&'static str>,
@@ -29,12 +32,16 @@ pub fn right(rng: &mut Rng) -> Call {
 pub fn right_over(rng: &mut Rng, records: usize) -> Call {
     let mut sound = tables::sound(rng, records);
     let request = asks::any(rng, &mut sound.model);
-    Call::new(sound, request)
+    Call::new(rng, sound, request)
 }
 
 impl Call {
-    pub fn new(sound: Sound, request: RequestModel) -> Call {
-        Call { sound, request, buffer_length: LEAST_BUFFER, notes: vec![] }
+    /// The vector file suits a MAR; other requests have a small one, or none.
+    pub fn new(rng: &mut Rng, sound: Sound, request: RequestModel) -> Call {
+        let asked = request.place(Kind::UserName).filter(|_| request.command == Command::MultimediaAuth.code());
+        let asked = asked.map(|place| &request.pieces[place].data[..]);
+        let vectors = vectors::beside(rng, &sound.model, asked);
+        Call { sound, vectors, request, buffer_length: LEAST_BUFFER, notes: vec![] }
     }
 
     pub fn noted(mut self, note: &'static str) -> Call {
@@ -49,7 +56,8 @@ impl Call {
 
     pub fn with_request(self, rng: &mut Rng, request: Vec<u8>) -> Made {
         let table = self.sound.model.encode();
-        let case = Case::decide(rng.byte(), request, table, self.sound.profile, self.buffer_length);
+        let vectors = vectors::model::encode(&self.vectors);
+        let case = Case::decide(rng.byte(), request, table, self.sound.profile, vectors, self.buffer_length);
         Made { case, notes: self.notes, damaged: None }
     }
 }

@@ -10,8 +10,8 @@ use crate::gen::tables::{self, FAR};
 use crate::gen::twists;
 use crate::kinds::{Command, Kind};
 use crate::message::{padded, M};
+use crate::refuse::MOST_REQUEST;
 use crate::rng::Rng;
-use crate::serve::MOST_REQUEST;
 use crate::table::{LONGEST_PROFILE, LONGEST_SERVER_NAME, MOST_RECORDS, PENDING};
 
 /// A removal of hundreds of identities: of a subscription that has them, or of few named again and again.
@@ -97,7 +97,7 @@ pub fn table(rng: &mut Rng) -> Made {
             *place = record;
         }
     }
-    Call::new(sound, request).noted("4,096 records").finish(rng)
+    Call::new(rng, sound, request).noted("4,096 records").finish(rng)
 }
 
 /// A request brought to 16,384 bytes, or a little under or over, by AVPs that may repeat.
@@ -163,5 +163,5 @@ pub fn user_data(rng: &mut Rng) -> Made {
         record.profile_start = rng.between(from, most) as u32;
     }
     let request = asks::user_data(rng, &mut sound.model);
-    Call::new(sound, request).noted("long profile parts").finish(rng)
+    Call::new(rng, sound, request).noted("long profile parts").finish(rng)
 }

@@ -25,7 +25,7 @@ pub fn case(rng: &mut Rng) -> Made {
         _ => names_and_states(rng, &mut sound.model),
     };
     let request = asks::surround(rng, Command::ServerAssignment, &mut own);
-    Call::new(sound, request).noted(NOTES[which]).finish(rng)
+    Call::new(rng, sound, request).noted(NOTES[which]).finish(rng)
 }
 
 /// Some record, and another that is of another subscription.

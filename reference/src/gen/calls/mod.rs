@@ -1,5 +1,6 @@
 //! Cases of the decision: a request, right or twisted, over a table, sound or damaged.
 
+mod authentication;
 mod call;
 mod long;
 mod mixed;
@@ -29,6 +30,8 @@ pub fn case(rng: &mut Rng) -> Made {
         39..=40 => noise(rng),
         41..=46 => flipped(rng),
         47..=52 => mixed::case(rng),
+        53..=67 => authentication::case(rng),
+        68..=71 => refused::damaged_vectors(rng),
         _ => plain(rng),
     }
 }

@@ -1,19 +1,21 @@
 //! Calls that are refused, or only just not.
 
 use super::call::{right, right_over, Call};
+use crate::block::BLOCK;
 use crate::cases::Slice;
 use crate::gen::damage;
 use crate::gen::made::Made;
 use crate::gen::tables::FAR;
 use crate::gen::twists;
+use crate::gen::vectors;
 use crate::message::{HEADER, R};
+use crate::refuse::{LEAST_BUFFER, MOST_REQUEST};
 use crate::rng::Rng;
-use crate::serve::{LEAST_BUFFER, MOST_REQUEST};
 
 /// Several reasons to refuse at once: the first in order counts.
 pub fn several(rng: &mut Rng) -> Made {
     let mut call = right(rng).noted("several refusals");
-    let mut why = [false; 5];
+    let mut why = [false; 6];
     for it in &mut why {
         *it = rng.coin();
     }
@@ -40,10 +42,14 @@ pub fn several(rng: &mut Rng) -> Made {
             bytes[1..4].copy_from_slice(&length.to_be_bytes()[1..]);
         }
     }
-    if why[4] {
-        return damage_table(rng, call, bytes);
+    let mut made = match why[4] {
+        true => damage_table(rng, call, bytes),
+        false => call.with_request(rng, bytes),
+    };
+    if why[5] {
+        damage_vectors(rng, &mut made);
     }
-    call.with_request(rng, bytes)
+    made
 }
 
 /// Over 65,536 bytes, and in 16 bits the length of a request that would be answered.
@@ -78,14 +84,41 @@ pub fn buffers(rng: &mut Rng) -> Made {
     call.finish(rng)
 }
 
-/// A damaged table under a request that would be answered, also under one that needs no record.
+/// A damaged table under a request that would be answered, also under one that needs no record; now and then beside a
+/// damaged vector file.
 pub fn damaged(rng: &mut Rng) -> Made {
     let mut call = right(rng).noted("damaged table");
     if rng.once_in(3) {
         call.notes.push(twists::twist_once(rng, &mut call.request));
     }
     let bytes = call.request.encode();
-    damage_table(rng, call, bytes)
+    let mut made = damage_table(rng, call, bytes);
+    if rng.once_in(5) {
+        damage_vectors(rng, &mut made);
+    }
+    made
+}
+
+/// A damaged vector file under any request, also under one with a fault.
+pub fn damaged_vectors(rng: &mut Rng) -> Made {
+    let mut call = right(rng).noted("damaged vectors");
+    if rng.once_in(3) {
+        call.notes.push(twists::twist_once(rng, &mut call.request));
+    }
+    let mut made = call.finish(rng);
+    damage_vectors(rng, &mut made);
+    made
+}
+
+/// Damages the vector file; one that is empty gets a piece of a block.
+fn damage_vectors(rng: &mut Rng, made: &mut Made) {
+    let mut bytes = made.case.held(Slice::Vectors).into_owned();
+    if bytes.is_empty() {
+        bytes.resize(rng.between(1, BLOCK), 0);
+    } else {
+        vectors::damage::damage(rng, &mut bytes, &mut made.notes);
+    }
+    made.case.put(Slice::Vectors, bytes);
 }
 
 fn damage_table(rng: &mut Rng, mut call: Call, request: Vec<u8>) -> Made {
@@ -94,7 +127,8 @@ fn damage_table(rng: &mut Rng, mut call: Call, request: Vec<u8>) -> Made {
     let mut subject = damage::Subject { bytes: model.encode(), profile, model };
     let damaged = damage::damage(rng, &mut subject, &mut call.notes);
     let mut made = call.with_request(rng, request);
-    made.case = made.case.with(Slice::Table, subject.bytes).with(Slice::Profile, subject.profile);
+    made.case.put(Slice::Table, subject.bytes);
+    made.case.put(Slice::Profile, subject.profile);
     made.damaged = damaged;
     made
 }

@@ -1,6 +1,6 @@
 //! Tables damaged in one place: every field, every kind of damage, with and without a mended check word.
 
-mod fields;
+pub mod fields;
 mod header;
 mod record;
 mod shape;

@@ -2,6 +2,7 @@
 
 mod content;
 mod header;
+mod items;
 mod kinds;
 mod lengths;
 mod presence;
@@ -15,14 +16,27 @@ use crate::rng::Rng;
 
 /// Every twist.
 pub fn twists() -> impl Iterator<Item = &'static Twist> {
-    [header::TWISTS, presence::TWISTS, kinds::TWISTS, lengths::TWISTS, content::TWISTS].into_iter().flatten()
+    [header::TWISTS, presence::TWISTS, kinds::TWISTS, lengths::TWISTS, content::TWISTS, items::TWISTS]
+        .into_iter()
+        .flatten()
 }
 
 /// Does one twist, the heavier ones more often; gives its name.
 pub fn twist_once(rng: &mut Rng, request: &mut RequestModel) -> &'static str {
-    let total: usize = twists().map(|twist| twist.weight).sum();
+    let all: Vec<&Twist> = twists().collect();
+    one_of(rng, &all, request)
+}
+
+/// Does one twist of what a MAR alone has.
+pub fn twist_item(rng: &mut Rng, request: &mut RequestModel) -> &'static str {
+    let own: Vec<&Twist> = items::TWISTS.iter().collect();
+    one_of(rng, &own, request)
+}
+
+fn one_of(rng: &mut Rng, twists: &[&Twist], request: &mut RequestModel) -> &'static str {
+    let total: usize = twists.iter().map(|twist| twist.weight).sum();
     loop {
-        let twist = at_weight(rng.below(total));
+        let twist = at_weight(rng.below(total), twists);
         if twist.done(rng, request).is_some() {
             return twist.name;
         }
@@ -30,9 +44,10 @@ pub fn twist_once(rng: &mut Rng, request: &mut RequestModel) -> &'static str {
 }
 
 /// The twist at this place, if each had as many places as its weight.
-fn at_weight(place: usize) -> &'static Twist {
+fn at_weight<'a>(place: usize, twists: &[&'a Twist]) -> &'a Twist {
     let mut end = 0;
-    twists()
+    twists
+        .iter()
         .find(|twist| {
             end += twist.weight;
             place < end

@@ -34,7 +34,7 @@ pub const TWISTS: &[Twist] = &[
         again.data = rng.bytes(length);
         r.insert(rng, again);
     }),
-    if_it_fits("one of the command's own AVPs twice", 8, |rng, r| {
+    if_it_fits("one of the command's own AVPs twice", 12, |rng, r| {
         let at = some_avp(rng, r, |piece| piece.has_vendor() || piece.is(Kind::DestinationHost))?;
         let again = r.pieces[at].clone();
         r.insert(rng, again);

@@ -11,4 +11,5 @@ answer-to-spec =
     (λ c κs. search (needs, promise-fits))
     (λ c. search needs)
     (λ c. search needs)
+    (λ c. search needs)
     (λ c. search (needs, said-served)))

@@ -9,7 +9,8 @@ use Rattle.rewrite.proofs.Counts.{sum-start, sum-end}
 use Rattle.diameter.specs.Message.{bodyOf}
 use Rattle.requests.specs.Request.{identities}
 use Rattle.requests.proofs.Naming.{named-less}
-use Rattle.assignment.specs.Assignment.{isOne, findAll, numbersOf}
+use Rattle.assignment.specs.Assignment.{findAll, numbersOf}
+use Rattle.blocks.specs.Changed.{isOne}
 use Rattle.assignment.proofs.NameTurns.{restOf, settle-start, settle-none, settle-turn, settle-sound, settle-counts, settle-few, settle-end}
 use borrow.Author.Needs.{needs}
 use Rattle.assignment.proofs.naming.settle_named.Statement.{statement}

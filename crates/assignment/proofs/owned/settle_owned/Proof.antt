@@ -5,7 +5,8 @@ use Rattle.table.proofs.Sound.{sound-few, sound-size}
 use Rattle.rewrite.specs.Change.{afterOf, alteredUpTo}
 use Rattle.rewrite.specs.Renew.{settled}
 use Rattle.rewrite.proofs.Counts.{sum-start, sum-end}
-use Rattle.assignment.specs.Assignment.{isOne, ownedUpTo}
+use Rattle.assignment.specs.Assignment.{ownedUpTo}
+use Rattle.blocks.specs.Changed.{isOne}
 use Rattle.assignment.proofs.OwnTurns.{ownedFrom, owned-start, owned-turn, owned-size, owned-counts, owned-few, owned-end}
 use borrow.Author.Needs.{needs}
 use Rattle.assignment.proofs.owned.settle_owned.Statement.{statement}

@@ -10,10 +10,10 @@ use Rattle.reading.proofs.group.gathers.Statement.{statement}
 use Rattle.reading.proofs.group.gathers.Tie as tie
 
 abbrev Inv-loop : tie.InvT-loop
-Inv-loop d c s n all₀ k₀ all k = (k ≤ n) × (all ≡ allBelow (enoughAt (membersOf d c) (walk s)) k)
+Inv-loop d g s n all₀ k₀ all k = (k ≤ n) × (all ≡ allBelow (enoughAt (membersOf d g) (walk s)) k)
 
 abbrev μ-loop : tie.MeasureT-loop
-μ-loop d c s n all₀ k₀ all k = n - k
+μ-loop d g s n all₀ k₀ all k = n - k
 
 pub gathers-spec : {M : Type 1} → statement M
 gathers-spec =

@@ -10,10 +10,10 @@ use Rattle.reading.proofs.group.is_other.Statement.{statement}
 use Rattle.reading.proofs.group.is_other.Tie as tie
 
 abbrev Inv-loop : tie.InvT-loop
-Inv-loop d c s a n other₀ k₀ other k = (k ≤ n) × (other ≡ allBelow (unlike (membersOf d c) (ownOf s a)) k)
+Inv-loop d g s a n other₀ k₀ other k = (k ≤ n) × (other ≡ allBelow (unlike (membersOf d g) (ownOf s a)) k)
 
 abbrev μ-loop : tie.MeasureT-loop
-μ-loop d c s a n other₀ k₀ other k = n - k
+μ-loop d g s a n other₀ k₀ other k = n - k
 
 pub is-other-spec : {M : Type 1} → statement M
 is-other-spec =

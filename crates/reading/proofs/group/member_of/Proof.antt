@@ -1,4 +1,4 @@
-use Rattle.reading.proofs.Members.{member-free, member-number, member-sized, member-application}
+use Rattle.reading.proofs.Members.{member-application, member-item}
 use borrow.Author.Needs.{needs}
 use Rattle.reading.proofs.group.member_of.Statement.{statement}
 use Rattle.reading.proofs.group.member_of.Tie as tie
@@ -11,11 +11,5 @@ member-of-spec =
     (λ c κs. search needs)
     (λ c. search needs)
     (λ c κs. search needs)
-    (λ c. search needs)
-    (λ c κs. search needs)
-    (λ c. search needs)
-    (λ c κs. search needs)
-    (λ c. search (needs, member-free))
-    (λ c. search (needs, member-number))
-    (λ c. search (needs, member-sized))
-    (λ c. search (needs, member-application)))
+    (λ c. search (needs, member-application))
+    (λ c. search (needs, member-item)))

@@ -11,10 +11,10 @@ use Rattle.reading.proofs.group.only_of.Statement.{statement}
 use Rattle.reading.proofs.group.only_of.Tie as tie
 
 abbrev Inv-loop : tie.InvT-loop
-Inv-loop d c s at₀ at = onlyOf (membersOf d c) (walk (drop at s)) ≡ onlyOf (membersOf d c) (walk s)
+Inv-loop d g s at₀ at = onlyOf (membersOf d g) (walk (drop at s)) ≡ onlyOf (membersOf d g) (walk s)
 
 abbrev μ-loop : tie.MeasureT-loop
-μ-loop d c s at₀ at = length s - at
+μ-loop d g s at₀ at = length s - at
 
 pub only-of-spec : {M : Type 1} → statement M
 only-of-spec =

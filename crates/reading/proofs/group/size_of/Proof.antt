@@ -1,4 +1,4 @@
-use Rattle.reading.proofs.Members.{size-free, size-number, size-sized, size-application}
+use Rattle.reading.proofs.Members.{size-application, size-item}
 use borrow.Author.Needs.{needs}
 use Rattle.reading.proofs.group.size_of.Statement.{statement}
 use Rattle.reading.proofs.group.size_of.Tie as tie
@@ -9,9 +9,5 @@ size-of-spec =
     (tie.spec
     (λ c. search needs)
     (λ c. search needs)
-    (λ c. search needs)
-    (λ c. search needs)
-    (λ c. search (needs, size-free))
-    (λ c. search (needs, size-number))
-    (λ c. search (needs, size-sized))
-    (λ c. search (needs, size-application)))
+    (λ c. search (needs, size-application))
+    (λ c. search (needs, size-item)))

@@ -1,4 +1,4 @@
-use Rattle.reading.proofs.Known.{in-uar, in-sar, in-lir}
+use Rattle.reading.proofs.Known.{in-uar, in-sar, in-lir, in-mar}
 use borrow.Author.Needs.{needs}
 use Rattle.reading.proofs.kinds.use_in.Statement.{statement}
 use Rattle.reading.proofs.kinds.use_in.Tie as tie
@@ -9,4 +9,5 @@ use-in-spec =
     (tie.spec
     (λ c. search (needs, in-uar))
     (λ c. search (needs, in-sar))
-    (λ c. search (needs, in-lir)))
+    (λ c. search (needs, in-lir))
+    (λ c. search (needs, in-mar)))

@@ -15,4 +15,6 @@ vendor-kind-spec =
     (λ c. (rw (c .match .keys4), search needs))
     (λ c. (rw (c .match .keys5), search needs))
     (λ c. (rw (c .match .keys6), search needs))
+    (λ c. (rw (c .match .keys7), search needs))
+    (λ c. (rw (c .match .keys8), search needs))
     (λ c. search (needs, vendor-none)))

@@ -1,4 +1,4 @@
-use Rattle.reading.proofs.Judging.{content-free, content-number, content-sized, content-application}
+use Rattle.reading.proofs.Judging.{content-free, content-number, content-sized, content-group}
 use borrow.Author.Needs.{needs}
 use Rattle.reading.proofs.rules.content_fault.Statement.{statement}
 use Rattle.reading.proofs.rules.content_fault.Tie as tie
@@ -20,4 +20,4 @@ content-fault-spec =
     (λ c. search (needs, content-free))
     (λ c. search (needs, content-number))
     (λ c. search (needs, content-sized))
-    (λ c. search (needs, content-application)))
+    (λ c. search (needs, content-group)))

@@ -1,5 +1,5 @@
 use Rattle.reply.proofs.Rooms.{wrote-most}
-use Rattle.reply.proofs.Written.{names-room, rest-room, wrote-given}
+use Rattle.reply.proofs.Written.{names-room, contents-room, wrote-given}
 use borrow.Author.Needs.{needs}
 use Rattle.reply.proofs.given.put_given.Statement.{statement}
 use Rattle.reply.proofs.given.put_given.Tie as tie
@@ -12,7 +12,7 @@ put-given-spec =
     (λ c. search needs)
     (λ c. search needs)
     (λ c. search needs)
-    (λ c κs. search (needs, rest-room))
+    (λ c κs. search (needs, contents-room))
     (λ c. search needs)
     (λ c. search needs)
     (λ c. search (needs, wrote-most, wrote-given)))

@@ -1,5 +1,5 @@
 use Rattle.reply.proofs.Rooms.{wrote-most}
-use Rattle.reply.proofs.Written.{user-room, server-room, wrote-names}
+use Rattle.reply.proofs.Written.{identities-room, server-room, wrote-names}
 use borrow.Author.Needs.{needs}
 use Rattle.reply.proofs.given.put_names.Statement.{statement}
 use Rattle.reply.proofs.given.put_names.Tie as tie
@@ -10,9 +10,7 @@ put-names-spec =
     (tie.spec
     (λ c. search needs)
     (λ c κs. search needs)
-    (λ c. search needs)
-    (λ c κs. search needs)
-    (λ c κs. search (needs, user-room))
+    (λ c κs. search (needs, identities-room))
     (λ c. search needs)
     (λ c. search needs)
     (λ c. search needs)

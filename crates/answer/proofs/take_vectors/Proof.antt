@@ -1,0 +1,27 @@
+use Rattle.files.proofs.Counts.{got-within, got-front}
+use borrow.Author.Needs.{needs}
+use Rattle.answer.proofs.take_vectors.Statement.{statement}
+use Rattle.answer.proofs.take_vectors.Tie as tie
+
+pub take-vectors-spec : {M : Type 1} → statement M
+take-vectors-spec =
+    tie.close
+    (tie.spec
+    (λ c. search needs)
+    (λ c κs. search needs)
+    (λ c. search needs)
+    (λ c. search needs)
+    (λ c κs. search needs)
+    (λ c. search needs)
+    (λ c. search needs)
+    (λ c. search needs)
+    (λ c. search needs)
+    (λ c κs. search needs)
+    (λ c. search needs)
+    (λ c. search needs)
+    (λ c. search needs)
+    (λ c. search (needs, got-within))
+    (λ c. search (needs, got-front))
+    (λ c κs. search needs)
+    (λ c. search needs)
+    (λ c. search needs))

@@ -1,0 +1,7 @@
+use Rattle.choices.proofs.Carrying.{given-made}
+use borrow.Author.Needs.{needs}
+use Rattle.choices.proofs.giving.given.Statement.{statement}
+use Rattle.choices.proofs.giving.given.Tie as tie
+
+pub given-spec : {M : Type 1} → statement M
+given-spec = tie.close (tie.spec (λ c κs. search needs) (λ c. search (needs, given-made)))

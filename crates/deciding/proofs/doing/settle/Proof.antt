@@ -1,0 +1,18 @@
+use Rattle.deciding.proofs.Deciding.{stored-fits, settled-owned, settled-named}
+use borrow.Author.Needs.{needs}
+use Rattle.deciding.proofs.doing.settle.Statement.{statement}
+use Rattle.deciding.proofs.doing.settle.Tie as tie
+
+pub settle-spec : {M : Type 1} → statement M
+settle-spec =
+    tie.close
+    (tie.spec
+    (λ c κs. search needs)
+    (λ c κs. search needs)
+    (λ c κs. search needs)
+    (λ c κs. search (needs, stored-fits))
+    (λ c. search needs)
+    (λ c. search (needs, settled-owned))
+    (λ c κs. search (needs, stored-fits))
+    (λ c. search needs)
+    (λ c. search (needs, settled-named)))

@@ -1,0 +1,12 @@
+use Rattle.deciding.proofs.Deciding.{keep-read}
+use borrow.Author.Needs.{needs}
+use Rattle.deciding.proofs.planning.keep.Statement.{statement}
+use Rattle.deciding.proofs.planning.keep.Tie as tie
+
+pub keep-spec : {M : Type 1} → statement M
+keep-spec =
+    tie.close
+    (tie.spec
+    (λ c κs. search needs)
+    (λ c. search needs)
+    (λ c. search (needs, keep-read)))

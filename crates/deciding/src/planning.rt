@@ -1,0 +1,137 @@
+// The plan of a request that was read, by its command: nothing is written yet.
+use assignment::assigning;
+use choices::plan;
+use choices::plan::Plan;
+use choices::plan::Sar;
+use choices::types;
+use decisions::authentication;
+use decisions::authorization;
+use decisions::location;
+use reading::kinds;
+use record::header::Header;
+use requests::places;
+ghost use mathlib.Core.Path.{_≡_};
+ghost use Prim.Native.Nat.{_≤_};
+ghost use lib.ListN.{length};
+ghost use lib.Dec.{eqb};
+ghost use Rattle.record.specs.Fields.{keepOf};
+ghost use Rattle.table.specs.Blocks.{blockOf};
+ghost use Rattle.table.specs.SoundTable.{SoundTable};
+ghost use Rattle.vectors.specs.Chosen.{Sendable};
+ghost use Rattle.vectors.specs.VectorFile.{SoundVectors};
+ghost use Rattle.diameter.specs.Message.{commandOf};
+ghost use Rattle.reading.specs.Kinds.{serverName};
+ghost use Rattle.reading.specs.Places.{seenOf};
+ghost use Rattle.requests.specs.Judged.{fine};
+ghost use Rattle.requests.specs.Request.{readRequest, dataSeen};
+ghost use Rattle.fitting.specs.Decide.{numbersIn, uarPlan, sarPlan, lirPlan, marPlan, planRead};
+ghost use Rattle.fitting.specs.Deeds.{DeedFits};
+
+// Whether the header says that names are kept.
+fn keep(t: &[u8]) -> bool
+    requires { ⌜ 512 ≤ length (now t) ⌝ }
+    ensures { λ r. ⌜ r ≡ eqb (keepOf (blockOf (now (t .entry)) 0)) 1 ⌝ }
+{
+    let h = table::block(t, 0);
+    h[Header::KEEP_AT] == 1
+}
+
+fn plan_uar(req: &[u8], t: &[u8], count: usize, found: [usize; kinds::KINDS]) -> Plan
+    requires { ⌜ SoundTable (now t) count ⌝ }
+    ensures { λ r. ⌜ r ≡ uarPlan (now (t .entry)) count (seenOf (now (req .entry)) found) ⌝ }
+{
+    plan::reply_only(authorization::authorize(
+        t,
+        count,
+        places::data_of(req, found, kinds::USER_NAME),
+        places::data_of(req, found, kinds::PUBLIC_IDENTITY),
+        places::data_of(req, found, kinds::VISITED_NETWORK),
+        places::value_of(req, found, kinds::AUTHORIZATION_TYPE),
+    ))
+}
+
+// The numbers of a SAR.
+fn numbers(req: &[u8], t: &[u8], found: [usize; kinds::KINDS]) -> Sar
+    requires { ⌜ 512 ≤ length (now t) ⌝ }
+    ensures { λ r. ⌜ r ≡ numbersIn (now (t .entry)) (seenOf (now (req .entry)) found) ⌝ }
+{
+    Sar {
+        kind: types::type_of(places::value_of(req, found, kinds::ASSIGNMENT_TYPE)),
+        already: places::value_of(req, found, kinds::DATA_AVAILABLE),
+        named: places::given(req, found, kinds::USER_NAME),
+        keep: keep(t),
+    }
+}
+
+fn plan_sar(req: &[u8], t: &[u8], count: usize, found: [usize; kinds::KINDS]) -> Plan
+    requires { ⌜ SoundTable (now t) count ⌝ }
+    ensures { λ r. ⌜ r ≡ sarPlan (now (req .entry)) (now (t .entry)) count (seenOf (now (req .entry)) found) ⌝ }
+{
+    assigning::plan_sar(
+        t,
+        count,
+        req,
+        numbers(req, t, found),
+        places::data_of(req, found, kinds::SERVER_NAME),
+        places::data_of(req, found, kinds::USER_NAME),
+    )
+}
+
+fn plan_lir(req: &[u8], t: &[u8], count: usize, found: [usize; kinds::KINDS]) -> Plan
+    requires { ⌜ SoundTable (now t) count ⌝ }
+    ensures { λ r. ⌜ r ≡ lirPlan (now (t .entry)) count (seenOf (now (req .entry)) found) ⌝ }
+{
+    plan::reply_only(location::locate(
+        t,
+        count,
+        places::data_of(req, found, kinds::PUBLIC_IDENTITY),
+    ))
+}
+
+fn plan_mar(req: &[u8], t: &[u8], count: usize, v: &[u8], found: [usize; kinds::KINDS]) -> Plan
+    requires { ⌜ SoundTable (now t) count × SoundVectors (now v) ⌝ }
+    ensures { λ r. ⌜ r ≡ marPlan (now (t .entry)) count (now (v .entry)) (seenOf (now (req .entry)) found) ⌝ }
+{
+    authentication::authenticate(
+        t,
+        count,
+        v,
+        places::data_of(req, found, kinds::USER_NAME),
+        places::data_of(req, found, kinds::PUBLIC_IDENTITY),
+        places::scheme_of(req, found),
+        places::value_of(req, found, kinds::NUMBER_AUTH_ITEMS),
+    )
+}
+
+// No other command is read than these four.
+fn plan_read(req: &[u8], t: &[u8], count: usize, v: &[u8], found: [usize; kinds::KINDS]) -> Plan
+    requires { ⌜ SoundTable (now t) count × SoundVectors (now v) × (20 ≤ length (now req)) ⌝ }
+    ensures { λ r. ⌜ r ≡ planRead (now (req .entry)) (now (t .entry)) count (now (v .entry)) (seenOf (now (req .entry)) found) ⌝ }
+{
+    let command = requests::command(req);
+    if command == reading::UAR {
+        return plan_uar(req, t, count, found);
+    }
+    if command == reading::SAR {
+        return plan_sar(req, t, count, found);
+    }
+    if command == reading::LIR {
+        return plan_lir(req, t, count, found);
+    }
+    plan_mar(req, t, count, v, found)
+}
+
+// The same, of a request that reading let pass: what is planned fits the table, and what is to be sent is there.
+pub fn plan_fitting(
+    req: &[u8],
+    t: &[u8],
+    count: usize,
+    v: &[u8],
+    found: [usize; kinds::KINDS],
+) -> Plan
+    requires { ⌜ SoundTable (now t) count × SoundVectors (now v) × (20 ≤ length (now req)) × (readRequest (now req) ≡ fine (seenOf (now req) found)) ⌝ }
+    ensures { λ r. ⌜ (r ≡ planRead (now (req .entry)) (now (t .entry)) count (now (v .entry)) (seenOf (now (req .entry)) found))
+        × DeedFits count (dataSeen (seenOf (now (req .entry)) found) serverName) (r .deed) × Sendable (now (v .entry)) (r .given .sent) ⌝ }
+{
+    plan_read(req, t, count, v, found)
+}

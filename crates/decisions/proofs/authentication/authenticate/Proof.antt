@@ -1,0 +1,17 @@
+use Rattle.decisions.proofs.Questions.{authenticated}
+use Rattle.decisions.proofs.Among.{public-among}
+use borrow.Author.Needs.{needs}
+use Rattle.decisions.proofs.authentication.authenticate.Statement.{statement}
+use Rattle.decisions.proofs.authentication.authenticate.Tie as tie
+
+pub authenticate-spec : {M : Type 1} → statement M
+authenticate-spec =
+    tie.close
+    (tie.spec
+    (λ c κs. search needs)
+    (λ c κs. search needs)
+    (λ c κs. search (needs, public-among))
+    (λ c κs. search needs)
+    (λ c κs. search needs)
+    (λ c κs. search needs)
+    (λ c. search (needs, authenticated)))

@@ -1,0 +1,31 @@
+-- What is to be written, carried out: the table and the vector file afterwards.
+use Prim.Native.Nat.{ℕ, _≤_}
+use mathlib.Core.List.{List, [], _∷_}
+use lib.ListN.{length}
+use Rattle.vectors.specs.Chosen.{sentOf}
+use Rattle.vectors.specs.Marked.{spent}
+use Rattle.vectors.specs.declared.choice.Sent.{Sent}
+use Rattle.rewrite.specs.Change.{afterOf}
+use Rattle.rewrite.specs.Renew.{settled, challenged, Fitting}
+use Rattle.choices.specs.declared.plan.Deed.{Deed}
+use Rattle.choices.specs.declared.plan.Deed.the-variants.{Leave, Settle, Challenge}
+use Rattle.assignment.specs.Assignment.{Assignment, storedName, plannedRecords}
+use Rattle.blocks.specs.Changed.{isOne}
+
+-- "Effects": a row of the table of effects, on each of the records meant; "The Server-Name is stored if different", in the one record
+unfoldable pub carriedOut : List ℕ → ℕ → Assignment → Deed → List ℕ
+carriedOut t count s Leave = t
+carriedOut t count s (Settle w) = afterOf t count (isOne (plannedRecords t count s (w .owned))) (settled (w .state) (storedName (w .named) (s .server)))
+carriedOut t count s (Challenge k) = afterOf t count (isOne (k ∷ [])) (challenged (s .server))
+
+-- "marked used and sent"
+unfoldable pub spentBy : List ℕ → Sent → Deed → List ℕ
+spentBy v sent Leave = v
+spentBy v sent (Settle w) = v
+spentBy v sent (Challenge k) = spent v (sentOf sent)
+
+-- what is written fits a record: a row with its name; the name that a challenge stores in one of the records
+abbrev pub DeedFits : ℕ → List ℕ → Deed → Type 0
+DeedFits count server Leave = Unit
+DeedFits count server (Settle w) = Fitting (w .state) (storedName (w .named) server)
+DeedFits count server (Challenge k) = (1 ≤ k) × (k ≤ count) × (1 ≤ length server) × (length server ≤ 96)

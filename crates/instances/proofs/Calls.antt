@@ -1,0 +1,170 @@
+-- The promise, the checks, demands 1 and 2: their hypotheses can be met by a SAR, computed.
+use Prim.Native.Nat.{ℕ, _/_, _≤_}
+use mathlib.Core.Path.{_≡_, refl, ap}
+use mathlib.Core.List.{List, [], _∷_, _++_}
+use mathlib.Core.Option.{Option·some-injective}
+use mathlib.Core.Bool.{true}
+use native.Mathlib.Omega.{arith}
+use lib.ListN.{length, getD, take, drop}
+use lib.Dec.{eqb, lit≤, lit<}
+use Rattle.table.specs.Blocks.{blockOf}
+use Rattle.table.specs.declared.Checked.the-variants.{Sound, Bad}
+use Rattle.table.specs.Check.{checkTable}
+use Rattle.diameter.specs.Put.{bytesOf}
+use Rattle.pen.specs.Bytes.{numberBytes}
+use Rattle.ndushavire.specs.declared.Call.the-variants.{Answered, Refused}
+use Rattle.ndushavire.specs.Lent.{Lent, lent}
+use Rattle.ndushavire.specs.Serve.{Served, trials, decision, serve}
+use Rattle.ndushavire.specs.Word.{word, callNumber, callValue, callWord}
+use Rattle.ndushavire.specs.Reads.{Reads, ReadsCheck}
+use Rattle.worked.proofs.Sample.{header, request, answer, s, z}
+use Rattle.demands.specs.Call.{answerTo}
+use Rattle.demands.proofs.Demands.{promised, checked, checked-vectors, demand-1, demand-1-number, demand-1-none, demand-1-block, demand-1-length, demand-1-fits}
+use Rattle.demands.proofs.Demands.{demand-1-within, demand-1-word, demand-1-kept, demand-2, demand-2-failure, demand-2-others, demand-2-header, demand-2-bytes}
+use Rattle.demands.proofs.Demands.{demand-2-bits, demand-2-size, demand-2-sound, demand-2-question, demand-2-room, demand-2-past}
+use Rattle.instances.proofs.Asked.{table, twice, removed, room, vectors, cutOff, short, vendor, session, application, common, sar, asked, comes, all}
+
+-- the table is sound; the SAR is a success, which rewrites record 1 alone
+pub sound-table : checkTable table 0 ≡ Sound 2
+unfolding all
+sound-table = refl
+
+pub removal : serve (asked (sar s 5)) ≡ comes removed (answer (numberBytes 268 2001) [])
+unfolding all
+removal = refl
+
+-- it says 116 bytes; the word that is promised says the same
+removal-call : serve (asked (sar s 5)) .call ≡ Answered (record { length = 116 })
+unfolding all
+removal-call = ap (λ (x : Served). x .call) removal
+
+met-promised : serve (asked (sar s 5)) .call ≡ Answered (record { length = 116 })
+met-promised =
+    ap (λ (x : Served). x .call)
+    (promised (asked (sar s 5)) {r = 116} (record { word-is = rw removal-call; table-is = refl; vectors-is = refl; buffer-is = refl }))
+
+-- of the table's check: 2 records, and block 2 where two have one public identity
+met-checked : ReadsCheck 5 (Sound 2) 2
+unfolding all
+met-checked = checked table [] (record { answer = refl })
+
+met-checked-bad : ReadsCheck 5 (Bad 2) (word 5 2)
+unfolding all twice
+met-checked-bad = checked twice [] (record { answer = refl })
+
+-- of the vector file's: 2 blocks, and block 1 where it is cut off
+met-checked-vectors : ReadsCheck 6 (Sound 2) 2
+unfolding all
+met-checked-vectors = checked-vectors vectors (record { answer = refl })
+
+met-checked-cut : ReadsCheck 6 (Bad 1) (word 6 1)
+unfolding all cutOff
+met-checked-cut = checked-vectors cutOff (record { answer = refl })
+
+-- DEMAND 1: a request of 19 bytes is refusal 2, the second trial; the SAR is number 0 with the answer's length; two records of one public identity are
+-- refusal 5; a vector file that has no whole block is refusal 6, which comes after 5
+met-1 : eqb (callNumber (serve (asked (take 19 (sar s 5))) .call)) 2 ≡ true
+unfolding all
+met-1 =
+    demand-1 (asked (take 19 (sar s 5))) .given (take 1 (trials (asked (take 19 (sar s 5))))) (drop 2 (trials (asked (take 19 (sar s 5)))))
+    (record { holds = true; number = 2; besides = 0 }) refl
+
+met-1-within : 116 ≤ length room
+unfolding all
+met-1-within = demand-1-within (asked (sar s 5)) refl
+
+met-1-number : callNumber (serve (asked (sar s 5)) .call) ≤ 6
+met-1-number = demand-1-number (asked (sar s 5))
+
+met-1-length : 116 ≡ length (answerTo (asked (sar s 5)) 2)
+met-1-length = demand-1-length (asked (sar s 5)) 116 removal-call 2 sound-table
+
+met-1-fits : length (answerTo (asked (sar s 5)) 2) ≤ 36864
+unfolding all
+met-1-fits = demand-1-fits (asked (sar s 5)) refl refl 2 sound-table (record { count = 0; checked = refl })
+
+met-1-word : Reads (Answered (record { length = 116 })) (callWord (Answered (record { length = 116 })))
+met-1-word = rw removal-call at (demand-1-word (asked (sar s 5)))
+
+short-refused : serve (asked (take 19 (sar s 5))) .call ≡ Refused 2 0
+unfolding all
+short-refused = refl
+
+met-1-none : _≡_ {A = ℕ} 0 0
+met-1-none = demand-1-none (asked (take 19 (sar s 5))) 2 0 short-refused (λ e. omega arith)
+
+met-1-kept : serve (asked (take 19 (sar s 5))) .table ≡ table
+unfolding all
+met-1-kept = demand-1-kept (asked (take 19 (sar s 5))) refl .0
+
+met-1-block : checkTable twice 0 ≡ Bad 2
+unfolding all twice
+met-1-block = demand-1-block (lent (sar s 5) twice [] [] room) 2 refl
+
+-- a SAR that reads no vector, over these and over a table of no record
+spoilt : Lent
+spoilt = lent (sar s 5) (header 0 0) [] short room
+
+met-1-sixth : eqb (callNumber (serve spoilt .call)) 6 ≡ true
+unfolding all short spoilt
+met-1-sixth = demand-1 spoilt .given (take 5 (trials spoilt)) [] (record { holds = true; number = 6; besides = 0 }) refl
+
+spoilt-refused : serve spoilt .call ≡ Refused 6 0
+unfolding all short spoilt
+spoilt-refused = refl
+
+met-1-sixth-none : _≡_ {A = ℕ} 0 0
+met-1-sixth-none = demand-1-none spoilt 6 0 spoilt-refused (λ e. omega arith)
+
+met-1-sixth-kept : serve spoilt .vectors ≡ short
+unfolding all short spoilt
+met-1-sixth-kept = demand-1-kept spoilt refl .1
+
+met-1-fifth-first : serve (lent (sar s 5) [] [] short room) .call ≡ Refused 5 0
+unfolding all short
+met-1-fifth-first = refl
+
+-- DEMAND 2: the removal leaves the decision's table, and of it record 2, the header, and of record 1 the identities and the bits above pending
+met-2 : serve (asked (sar s 5)) .table ≡ decision (asked (sar s 5)) 2 .table
+unfolding all
+met-2 = demand-2 (asked (sar s 5)) 2 sound-table refl .1
+
+met-2-others : blockOf (serve (asked (sar s 5)) .table) 2 ≡ blockOf table 2
+unfolding all
+met-2-others =
+    demand-2-others (asked (sar s 5)) 2 sound-table 2 (lit≤ tt)
+    (λ e. let d : 0x71 ∷ [] ≡ 0x70 ∷ [] = Option·some-injective _ _ e in let c : _≡_ {A = ℕ} 0x71 0x70 = ap (λ (l : List ℕ). getD l 0 0) d in omega arith)
+
+met-2-header : blockOf (serve (asked (sar s 5)) .table) 0 ≡ blockOf table 0
+met-2-header = demand-2-header (asked (sar s 5)) 2 sound-table
+
+met-2-bytes : getD (blockOf (serve (asked (sar s 5)) .table) 1) 144 0 ≡ getD (blockOf table 1) 144 0
+met-2-bytes = demand-2-bytes (asked (sar s 5)) 2 sound-table 1 144 (lit≤ tt) (lit< tt) refl
+
+met-2-bits : getD (blockOf (serve (asked (sar s 5)) .table) 1) 9 0 / 2 ≡ getD (blockOf table 1) 9 0 / 2
+met-2-bits = demand-2-bits (asked (sar s 5)) 2 sound-table 1 (lit≤ tt)
+
+met-2-size : length (serve (asked (sar s 5)) .table) ≡ length table
+met-2-size = demand-2-size (asked (sar s 5)) 2 sound-table
+
+met-2-sound : checkTable (serve (asked (sar s 5)) .table) 0 ≡ Sound 2
+met-2-sound = demand-2-sound (asked (sar s 5)) 2 sound-table
+
+met-2-room : length (serve (asked (sar s 5)) .buffer) ≡ length room
+met-2-room = demand-2-room (asked (sar s 5))
+
+met-2-past : drop (callValue (serve (asked (sar s 5)) .call)) (serve (asked (sar s 5)) .buffer) ≡ drop (callValue (serve (asked (sar s 5)) .call)) room
+met-2-past = demand-2-past (asked (sar s 5))
+
+-- a name that differs is X5005 and leaves the table; so does a LIR
+met-2-failure : serve (asked (sar z 5)) .table ≡ table
+unfolding all
+met-2-failure = demand-2-failure (asked (sar z 5)) 2 sound-table refl .0
+
+lir : List ℕ
+lir = request 302 (bytesOf (session ∷ application ∷ common ++ (vendor 601 (0x61 ∷ []) ∷ [])))
+
+met-2-question : serve (asked lir) .table ≡ table
+unfolding all lir
+met-2-question =
+    demand-2-question (asked lir) (λ e. let d : _≡_ {A = ℕ} 302 301 = e in omega arith) (λ e. let d : _≡_ {A = ℕ} 302 303 = e in omega arith) .0

@@ -1,0 +1,144 @@
+-- Demands 2 and 3 over the vectors: their hypotheses can be met by a MAR, computed.
+use Prim.Native.Nat.{ℕ}
+use mathlib.Core.Path.{_≡_, refl, ap, _∙_}
+use mathlib.Core.List.{List, [], _∷_, _++_}
+use mathlib.Core.Bool.{false}
+use mathlib.Core.Option.{Option·some-injective}
+use native.Mathlib.Omega.{arith}
+use lib.ListN.{getD}
+use lib.Dec.{lit≤, lit<}
+use Rattle.table.specs.Blocks.{blockOf}
+use Rattle.table.specs.declared.Checked.the-variants.{Sound}
+use Rattle.table.specs.Check.{checkTable}
+use Rattle.diameter.specs.Put.{Piece}
+use Rattle.pen.specs.Bytes.{numberBytes}
+use Rattle.pen.specs.Groups.{failed}
+use Rattle.ndushavire.specs.Serve.{decision, serve}
+use Rattle.worked.proofs.Sample.{header, subscriber, person, vector, reply, item, challenges, s, z}
+use Rattle.requests.specs.Request.{dialectOf, cx}
+use Rattle.demands.specs.Call.{turnedAway}
+use Rattle.demands.specs.Insertion.{requestOf, Foreign, Quiet, ending, keep, put, FirstMarked, Longer, firstMark}
+use Rattle.demands.proofs.Demands.{demand-2, demand-2-failure, demand-2-others, demand-2-bytes, demand-2-sound, demand-2-vectors, demand-3, demand-3-unmarked}
+use Rattle.demands.proofs.Demands.{demand-3-vectors, demand-3-marked}
+use Rattle.instances.proofs.Asked.{table, vectors, marHead, session, application, common, sar, marOwn, marRest, mar, carded, comesTo, plain}
+use Rattle.instances.proofs.Asked.{loud, all, isWhole, allWhole, all-whole, kept}
+use Rattle.instances.proofs.Calls.{sound-table}
+
+-- The MAR for two vectors at the server `z` is a success: record 1 has that name and pending then, in the state that it had, and the one vector of that
+-- subscription is marked used and sent.
+challengedTable : List ℕ
+challengedTable = header 2 0 ++ (subscriber 1 0x61 0x70 1 1 z ++ person 2 0x62 0x71 1 (0x73 ∷ []))
+
+spentVectors : List ℕ
+spentVectors = vector 0 0x71 5 ++ vector 1 0x70 1
+
+challenge : serve (carded (mar z 2)) ≡ comesTo challengedTable spentVectors (challenges 1 (item 1 1))
+unfolding all challengedTable spentVectors
+challenge = refl
+
+taken : turnedAway (carded (mar z 2)) ≡ false
+unfolding all
+taken = refl
+
+met-2-spent : serve (carded (mar z 2)) .vectors ≡ decision (carded (mar z 2)) 2 .vectors
+met-2-spent = demand-2 (carded (mar z 2)) 2 sound-table taken .2
+
+met-2-neighbour : blockOf (serve (carded (mar z 2)) .table) 2 ≡ blockOf table 2
+unfolding all
+met-2-neighbour =
+    demand-2-others (carded (mar z 2)) 2 sound-table 2 (lit≤ tt)
+    (λ e. let d : 0x71 ∷ [] ≡ 0x70 ∷ [] = Option·some-injective _ _ e in let c : _≡_ {A = ℕ} 0x71 0x70 = ap (λ (l : List ℕ). getD l 0 0) d in omega arith)
+
+met-2-identity : getD (blockOf (serve (carded (mar z 2)) .table) 1) 144 0 ≡ getD (blockOf table 1) 144 0
+met-2-identity = demand-2-bytes (carded (mar z 2)) 2 sound-table 1 144 (lit≤ tt) (lit< tt) refl
+
+met-2-challenged : checkTable (serve (carded (mar z 2)) .table) 0 ≡ Sound 2
+met-2-challenged = demand-2-sound (carded (mar z 2)) 2 sound-table
+
+-- none asked is B5012, which marks no vector; nor does the SAR
+met-2-unmarked : serve (carded (mar z 0)) .vectors ≡ vectors
+unfolding all
+met-2-unmarked = demand-2-failure (carded (mar z 0)) 2 sound-table refl .1
+
+met-2-vectors : serve (carded (sar s 5)) .vectors ≡ vectors
+unfolding all
+met-2-vectors = demand-2-vectors (carded (sar s 5)) (λ e. let d : _≡_ {A = ℕ} 301 303 = e in omega arith)
+
+-- What is put into a SAR is of unknown kinds in a MAR too.
+foreign-plain-mar : Foreign (dialectOf cx marHead) plain
+unfolding all
+foreign-plain-mar = record { whole = record { right = refl; exact = refl; filled = refl }; plain = refl; stranger = refl }
+
+foreign-loud-mar : Foreign (dialectOf cx marHead) loud
+unfolding all
+foreign-loud-mar = record { whole = record { right = refl; exact = refl; filled = refl }; plain = refl; stranger = refl }
+
+quiet-plain-mar : Quiet (dialectOf cx marHead) plain
+unfolding all
+quiet-plain-mar = record { foreign = foreign-plain-mar; unmarked = refl }
+
+-- The MAR with one unmarked put in sends the same vector; with one marked M it is B5001, and no vector is used.
+met-3-spent : serve (carded (requestOf marHead (session ∷ application ∷ plain ∷ common ++ marOwn z 2) []))
+    ≡ comesTo challengedTable spentVectors (challenges 1 (item 1 1))
+unfolding all isWhole allWhole
+met-3-spent =
+    demand-3-unmarked marHead refl session (marRest z 2) (application ∷ plain ∷ common ++ marOwn z 2) (all-whole (session ∷ marRest z 2) refl) [] refl (lit≤ tt)
+    (carded []) (keep _ (put plain quiet-plain-mar (kept (common ++ marOwn z 2))))
+    ∙ challenge
+
+loudly : List Piece
+loudly = marRest z 2 ++ (loud ∷ [])
+
+marked-mar : FirstMarked (dialectOf cx marHead) (marRest z 2) loudly
+unfolding all loudly
+marked-mar =
+    record {
+      mark = loud;
+      front = marRest z 2;
+      back = [];
+      before = marRest z 2;
+      after = [];
+      row = refl;
+      longer = refl;
+      quiet = kept (marRest z 2);
+      foreign = foreign-loud-mar;
+      marking = refl;
+      rest = ending;
+    }
+
+met-3-vectors : serve (carded (requestOf marHead (session ∷ loudly) [])) .vectors ≡ vectors
+unfolding all isWhole allWhole loudly
+met-3-vectors =
+    demand-3-vectors marHead refl session (marRest z 2) loudly (all-whole (session ∷ marRest z 2) refl) [] refl (lit≤ tt) (carded []) marked-mar
+
+met-3-unsent : serve (carded (requestOf marHead (session ∷ loudly) [])) ≡ comesTo table vectors (reply 303 (numberBytes 268 5001) (failed (loud .avp)))
+unfolding all isWhole allWhole loudly marked-mar
+met-3-unsent =
+    demand-3-marked marHead refl session (marRest z 2) loudly (all-whole (session ∷ marRest z 2) refl) [] refl (lit≤ tt) (carded []) marked-mar
+    refl taken
+
+longer-mar : Longer (mar z 2) (requestOf marHead (session ∷ loudly) [])
+unfolding all isWhole allWhole loudly
+longer-mar =
+    record {
+      cut =
+          record {
+            head = marHead;
+            first = session;
+            rest = marRest z 2;
+            tail = [];
+            twenty = refl;
+            whole = all-whole (session ∷ marRest z 2) refl;
+            fours = refl;
+            stops = refl;
+            joined = refl;
+          };
+      row = loudly;
+      inserted = keep _ (keep _ (keep _ (keep _ (keep _ (keep _ (keep _ (keep _ (keep _ (keep _ (put loud foreign-loud-mar ending))))))))));
+      bytes = refl;
+      most = lit≤ tt;
+    }
+
+met-3-unused : serve (carded (requestOf marHead (session ∷ loudly) [])) .vectors ≡ vectors
+unfolding all loudly longer-mar firstMark kept
+met-3-unused = demand-3 (carded (mar z 2)) (requestOf marHead (session ∷ loudly) []) longer-mar .vectors _ refl

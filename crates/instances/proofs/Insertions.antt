@@ -1,0 +1,216 @@
+-- Demand 3: its hypotheses can be met by a SAR and what is put into it, computed.
+use Prim.Native.Nat.{ℕ, zero, suc, _<_}
+use mathlib.Core.Path.{_≡_, refl, _∙_}
+use mathlib.Core.List.{List, [], _∷_, _++_}
+use mathlib.Core.Option.{Option, none}
+use mathlib.Core.Logic.{_⊎_}
+use mathlib.Core.Bool.{Bool, true, _&&_}
+use lib.ListN.{getD}
+use lib.Dec.{ltb, lit≤, lit<}
+use borrow.Author.Tests.{ltb-true}
+use Rattle.octets.proofs.All.{and-left, and-right}
+use Rattle.diameter.specs.Put.{Piece}
+use Rattle.pen.specs.Bytes.{wordBytes, headBytes, vendorHead, numberBytes}
+use Rattle.pen.specs.Groups.{failed}
+use Rattle.ndushavire.specs.Lent.{Lent}
+use Rattle.ndushavire.specs.Serve.{Served, serve}
+use Rattle.worked.proofs.Sample.{answer, s}
+use Rattle.requests.specs.Request.{dialectOf, cx}
+use Rattle.demands.specs.Insertion.{requestOf, Foreign, Quiet, Inserted, ending, keep, put, FirstMarked, Cut, Longer, Mark, firstMark, newer}
+use Rattle.demands.proofs.Demands.{demand-3, demand-3-unmarked, demand-3-table, demand-3-marked, demand-3-fault, demand-3-cases, demand-3-any}
+use Rattle.instances.proofs.Asked.{table, removed, vendor, head, session, application, common, own, rest, sar, asked, comes, plain, zeroVendor, loud}
+use Rattle.instances.proofs.Asked.{all, isWhole, allWhole, all-whole, kept}
+use Rattle.instances.proofs.Calls.{removal}
+
+foreign-plain : Foreign (dialectOf cx head) plain
+unfolding all
+foreign-plain = record { whole = record { right = refl; exact = refl; filled = refl }; plain = refl; stranger = refl }
+
+foreign-zero : Foreign (dialectOf cx head) zeroVendor
+unfolding all
+foreign-zero = record { whole = record { right = refl; exact = refl; filled = refl }; plain = refl; stranger = refl }
+
+foreign-loud : Foreign (dialectOf cx head) loud
+unfolding all
+foreign-loud = record { whole = record { right = refl; exact = refl; filled = refl }; plain = refl; stranger = refl }
+
+quiet-plain : Quiet (dialectOf cx head) plain
+unfolding all
+quiet-plain = record { foreign = foreign-plain; unmarked = refl }
+
+quiet-zero : Quiet (dialectOf cx head) zeroVendor
+unfolding all
+quiet-zero = record { foreign = foreign-zero; unmarked = refl }
+
+-- two unmarked ones between, and one at the end of the SAR that succeeds: the same answer and the same table
+met-3-unmarked : serve (asked (requestOf head (session ∷ application ∷ plain ∷ zeroVendor ∷ common ++ (own s 5 ++ (plain ∷ []))) []))
+    ≡ comes removed (answer (numberBytes 268 2001) [])
+unfolding all isWhole allWhole
+met-3-unmarked =
+    demand-3-unmarked head refl session (rest s 5) (application ∷ plain ∷ zeroVendor ∷ common ++ (own s 5 ++ (plain ∷ [])))
+    (all-whole (session ∷ rest s 5) refl) [] refl (lit≤ tt) (asked [])
+    (keep _ (put plain quiet-plain (put zeroVendor quiet-zero
+    (keep _ (keep _ (keep _ (keep _ (keep _ (keep _ (keep _ (keep _ (put plain quiet-plain ending))))))))))))
+    ∙ removal
+
+-- the same before an AVP that says a length of 4, which is B5014
+cut : List ℕ
+cut = 0 ∷ 0 ∷ 0 ∷ 1 ∷ 0 ∷ 0 ∷ 0 ∷ 4 ∷ []
+
+cut-answered : serve (asked (requestOf head (session ∷ rest s 5) cut)) ≡ comes table (answer (numberBytes 268 5014) (failed (headBytes 1 0 8)))
+unfolding all cut
+cut-answered = refl
+
+met-3-tail : serve (asked (requestOf head (session ∷ application ∷ plain ∷ common ++ own s 5) cut))
+    ≡ comes table (answer (numberBytes 268 5014) (failed (headBytes 1 0 8)))
+unfolding all isWhole allWhole cut
+met-3-tail =
+    demand-3-unmarked head refl session (rest s 5) (application ∷ plain ∷ common ++ own s 5) (all-whole (session ∷ rest s 5) refl) cut refl (lit≤ tt) (asked [])
+    (keep _ (put plain quiet-plain (kept (common ++ own s 5))))
+    ∙ cut-answered
+
+-- one marked M between a front and a back
+markedAt : (front back : List Piece) → FirstMarked (dialectOf cx head) (front ++ back) (front ++ (loud ∷ back))
+unfolding all
+markedAt front back =
+    record {
+      mark = loud;
+      front = front;
+      back = back;
+      before = front;
+      after = back;
+      row = refl;
+      longer = refl;
+      quiet = kept front;
+      foreign = foreign-loud;
+      marking = refl;
+      rest = kept back;
+    }
+
+-- these are all cases
+met-3-cases : Inserted (Quiet (dialectOf cx head)) common (plain ∷ common) ⊎ FirstMarked (dialectOf cx head) common (plain ∷ common)
+met-3-cases = demand-3-cases (dialectOf cx head) common (plain ∷ common) (put plain foreign-plain (kept common))
+
+unsupported-answer : Served
+unsupported-answer = comes table (answer (numberBytes 268 5001) (failed (loud .avp)))
+
+-- type 12 is bad content, B5004. The marked one before it: B5001, and the table is as it was
+met-3-marked : serve (asked (requestOf head (session ∷ application ∷ common ++ (loud ∷ own s 12)) [])) ≡ unsupported-answer
+unfolding all isWhole allWhole unsupported-answer markedAt
+met-3-marked =
+    demand-3-marked head refl session (rest s 12) (application ∷ common ++ (loud ∷ own s 12)) (all-whole (session ∷ rest s 12) refl) [] refl (lit≤ tt)
+    (asked [])
+    (markedAt (application ∷ common) (own s 12)) refl refl
+
+-- the marked one behind it: the answer given without it
+met-3-fault : serve (asked (requestOf head (session ∷ rest s 12 ++ (loud ∷ [])) []))
+    ≡ comes table (answer (numberBytes 268 5004) (failed (vendorHead 614 16 ++ wordBytes 12)))
+unfolding all isWhole allWhole markedAt
+met-3-fault =
+    demand-3-fault head refl session (rest s 12) (rest s 12 ++ (loud ∷ [])) (all-whole (session ∷ rest s 12) refl) [] refl (lit≤ tt) (asked [])
+    (markedAt (rest s 12) []) refl
+
+-- no 624, which after the walk is B5005; two identities in a SAR of type 1, which the decision calls B5009: the marked one goes before both
+lacking624 : List Piece
+lacking624 = application ∷ common ++ (vendor 601 (0x61 ∷ []) ∷ vendor 602 s ∷ vendor 614 (wordBytes 5) ∷ [])
+
+many : List Piece
+many = application ∷ common ++ (vendor 601 (0x62 ∷ []) ∷ own s 1)
+
+met-3-missing : serve (asked (requestOf head (session ∷ lacking624 ++ (loud ∷ [])) [])) ≡ unsupported-answer
+unfolding all isWhole allWhole unsupported-answer markedAt lacking624
+met-3-missing =
+    demand-3-marked head refl session lacking624 (lacking624 ++ (loud ∷ [])) (all-whole (session ∷ lacking624) refl) [] refl (lit≤ tt) (asked [])
+    (markedAt lacking624 []) refl refl
+
+met-3-many : serve (asked (requestOf head (session ∷ many ++ (loud ∷ [])) [])) ≡ unsupported-answer
+unfolding all isWhole allWhole unsupported-answer markedAt many
+met-3-many =
+    demand-3-marked head refl session many (many ++ (loud ∷ [])) (all-whole (session ∷ many) refl) [] refl (lit≤ tt) (asked []) (markedAt many []) refl refl
+
+met-3-table : serve (asked (requestOf head (session ∷ many ++ (loud ∷ [])) [])) .table ≡ table
+unfolding all isWhole allWhole many
+met-3-table = demand-3-table head refl session many (many ++ (loud ∷ [])) (all-whole (session ∷ many) refl) [] refl (lit≤ tt) (asked []) (markedAt many [])
+
+-- the SAR as bytes is such a header and row
+allBytes : List ℕ → Bool
+allBytes [] = true
+allBytes (x ∷ l) = ltb x 256 && allBytes l
+
+are-bytes : (l : List ℕ) → allBytes l ≡ true → (i : ℕ) → getD l i 0 < 256
+unfolding allBytes
+are-bytes [] e i = lit< tt
+are-bytes (x ∷ l) e zero = ltb-true x 256 (and-left (ltb x 256) _ e)
+are-bytes (x ∷ l) e (suc i) = are-bytes l (and-right (ltb x 256) _ e) i
+
+met-3-any : Cut (sar s 5)
+unfolding all allBytes
+met-3-any = demand-3-any (sar s 5) (are-bytes (sar s 5) refl) refl refl
+
+-- In one sentence: the SAR of type 5 with two unmarked ones put in, and with a marked one behind them.
+cut-sar : Cut (sar s 5)
+unfolding all isWhole allWhole
+cut-sar =
+    record {
+      head = head;
+      first = session;
+      rest = rest s 5;
+      tail = [];
+      twenty = refl;
+      whole = all-whole (session ∷ rest s 5) refl;
+      fours = refl;
+      stops = refl;
+      joined = refl;
+    }
+
+quietly : List Piece
+quietly = application ∷ plain ∷ zeroVendor ∷ common ++ own s 5
+
+loudly : List Piece
+loudly = application ∷ plain ∷ loud ∷ common ++ own s 5
+
+longer-quietly : Longer (sar s 5) (requestOf head (session ∷ quietly) [])
+unfolding all quietly cut-sar
+longer-quietly =
+    record {
+      cut = cut-sar;
+      row = quietly;
+      inserted = keep _ (put plain foreign-plain (put zeroVendor foreign-zero (kept (common ++ own s 5))));
+      bytes = refl;
+      most = lit≤ tt;
+    }
+
+longer-loudly : Longer (sar s 5) (requestOf head (session ∷ loudly) [])
+unfolding all loudly cut-sar
+longer-loudly =
+    record {
+      cut = cut-sar;
+      row = loudly;
+      inserted = keep _ (put plain foreign-plain (put loud foreign-loud (kept (common ++ own s 5))));
+      bytes = refl;
+      most = lit≤ tt;
+    }
+
+-- none of the two is marked: what comes of the longer one is what comes of the SAR
+newer-none : (x : Lent) (longer head : List ℕ) (q : Piece) (m : Option Mark) → m ≡ none → newer x longer head q m ≡ serve x
+unfolding newer
+newer-none x longer head q m e = rw e
+
+quietly-none : firstMark (longer-quietly .inserted) ≡ none
+unfolding all quietly longer-quietly cut-sar firstMark kept
+quietly-none = refl
+
+met-3-quietly : serve (asked (requestOf head (session ∷ quietly) [])) ≡ comes removed (answer (numberBytes 268 2001) [])
+met-3-quietly =
+    demand-3 (asked (sar s 5)) (requestOf head (session ∷ quietly) []) longer-quietly .comes
+    ∙ newer-none (asked (sar s 5)) (requestOf head (session ∷ quietly) []) (longer-quietly .cut .head) (longer-quietly .cut .first)
+    (firstMark (longer-quietly .inserted)) quietly-none
+    ∙ removal
+
+met-3-loudly : serve (asked (requestOf head (session ∷ loudly) [])) ≡ unsupported-answer
+unfolding all loudly longer-loudly cut-sar firstMark newer kept unsupported-answer
+met-3-loudly = demand-3 (asked (sar s 5)) (requestOf head (session ∷ loudly) []) longer-loudly .comes
+
+met-3-left : serve (asked (requestOf head (session ∷ loudly) [])) .table ≡ table
+unfolding all loudly longer-loudly cut-sar firstMark kept
+met-3-left = demand-3 (asked (sar s 5)) (requestOf head (session ∷ loudly) []) longer-loudly .table _ refl

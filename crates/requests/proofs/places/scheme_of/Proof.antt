@@ -1,0 +1,13 @@
+use native.Mathlib.Nat.{le-trans}
+use Rattle.requests.proofs.Scheme.{scheme-placed}
+use borrow.Author.Needs.{needs}
+use Rattle.requests.proofs.places.scheme_of.Statement.{statement}
+use Rattle.requests.proofs.places.scheme_of.Tie as tie
+
+pub scheme-of-spec : {M : Type 1} → statement M
+scheme-of-spec =
+    tie.close
+    (tie.spec
+    (λ c κs. search needs)
+    (λ c κs. search needs)
+    (λ c. search (needs, scheme-placed, le-trans)))

@@ -1,0 +1,97 @@
+-- A challenge stores a name and sets pending: a change of a record's block that keeps what every effect keeps.
+use Prim.Native.Nat.{ℕ, _+_, _-_, _/_, _%_, _<_, _≤_}
+use mathlib.Core.Bool.{Bool, true, false, cond, not, _||_}
+use mathlib.Core.Path.{_≡_, refl, sym, _∙_, ap}
+use mathlib.Core.List.{List}
+use native.Mathlib.Omega.{arith}
+use lib.Dec.{eqb, ltb}
+use borrow.Author.Tests.{eqb-true, eq-eqb, ne-eqb, lt-ltb}
+use lib.ListN.{length, getD, take, drop, length-take, length-drop}
+use lib.Seq.{getD-take, getD-drop, ext-getD}
+use Rattle.octets.specs.Name.{same}
+use Rattle.octets.proofs.Names.{same-yes}
+use Rattle.record.specs.Fields.{stateOf, bitsOf, serverOf, pendingSet}
+use Rattle.record.specs.RecordBlock.{recordOf, serverFits, soundRecord}
+use Rattle.record.proofs.Tests.{RecordTests, record-says, Limits, limits-say}
+use Rattle.rewrite.specs.Change.{Kept, Keeps}
+use Rattle.rewrite.specs.Renew.{renewed, challenged}
+use Rattle.rewrite.proofs.Bytes.{renewed-length, renewed-other, renewed-state, renewed-bits, renewed-server, renewed-name, renewed-alike}
+use Rattle.rewrite.proofs.Settled.{renewed-sound}
+use Rattle.rewrite.proofs.Tables.{kept-same}
+
+-- The name that a renewed block stores.
+pub renewed-stores : (b : List ℕ) (state bits : ℕ) (name : List ℕ) → length b ≡ 512 → length name ≤ 96 → serverOf (renewed b state bits name) ≡ name
+unfolding serverOf
+renewed-stores b state bits name whole most =
+    let c = renewed b state bits name in
+    let l : length c ≡ 512 = renewed-length b state bits name ∙ whole in
+    let n : length (take (length name) (drop 272 c)) ≡ length name = simp (length-take, length-drop) (omega arith) in
+    rw (renewed-server b state bits name whole)
+    (ext-getD 0 (take (length name) (drop 272 c)) name n
+    (λ i h.
+    let k : i < length name = omega (arith, n) in
+    getD-take (length name) (drop 272 c) i 0 k ∙ getD-drop 272 c i 0 ∙ renewed-name b state bits name whole i (omega arith)))
+
+module _ (name : List ℕ) (least : 1 ≤ length name) (most : length name ≤ 96) where
+  module _ (b : List ℕ) (whole : length b ≡ 512) where
+    abbrev new : List ℕ
+    new = renewed b (stateOf b) (pendingSet (bitsOf b)) name
+
+    served : serverFits (length name) (stateOf b) (pendingSet (bitsOf b)) ≡ true
+    served =
+        rw (ne-eqb (length name) 0 (omega arith), lt-ltb 0 (length name) (omega arith), eq-eqb (pendingSet (bitsOf b) % 2) 1 (omega arith))
+        (go (ltb 0 (stateOf b)))
+      where
+        go : (x : Bool) → (x || true) ≡ true
+        go true = refl
+        go false = refl
+
+    two : (k networks file : ℕ) → soundRecord b k networks file ≡ true → stateOf b ≤ 2
+    unfolding recordOf
+    two k networks file s = limits-say (recordOf b) (record-says b k networks file s .limits) .state
+
+    new-kept : Kept b new
+    new-kept =
+        record {
+          size = renewed-length b (stateOf b) (pendingSet (bitsOf b)) name;
+          others = λ i l e. renewed-other b (stateOf b) (pendingSet (bitsOf b)) name i e;
+          bits = rw (renewed-bits b (stateOf b) (pendingSet (bitsOf b)) name whole) (omega arith);
+          sound =
+              λ k networks file s.
+              renewed-sound b (stateOf b) (pendingSet (bitsOf b)) name whole (two k networks file s) (omega arith) most served k networks file s;
+        }
+
+    challenged-kept : Kept b (challenged name b)
+    unfolding challenged
+    challenged-kept = go (eqb (stateOf b) 0 || not (same (serverOf b) name))
+      where
+        go : (x : Bool) → Kept b (cond x new b)
+        go true = new-kept
+        go false = kept-same b b refl
+
+    -- the name is stored then, so that a second challenge writes the same
+    again : challenged name new ≡ new
+    unfolding challenged
+    again =
+        let s : stateOf new ≡ stateOf b = renewed-state b (stateOf b) (pendingSet (bitsOf b)) name whole in
+        let n : same (serverOf new) name ≡ true = same-yes _ _ (renewed-stores b (stateOf b) (pendingSet (bitsOf b)) name whole most) in
+        let e : pendingSet (bitsOf new) ≡ pendingSet (bitsOf b) = rw (renewed-bits b (stateOf b) (pendingSet (bitsOf b)) name whole) (omega arith) in
+        rw (n, s) (go e (eqb (stateOf b) 0))
+      where
+        go : pendingSet (bitsOf new) ≡ pendingSet (bitsOf b) → (x : Bool) → cond (x || false) (renewed new (stateOf b) (pendingSet (bitsOf new)) name) new ≡ new
+        go e true =
+            ap (λ (z : ℕ). renewed new (stateOf b) z name) e
+            ∙ renewed-alike new b (stateOf b) (pendingSet (bitsOf b)) name (renewed-length b (stateOf b) (pendingSet (bitsOf b)) name ∙ whole) whole
+            (λ i l f. renewed-other b (stateOf b) (pendingSet (bitsOf b)) name i f)
+        go e false = refl
+
+    challenged-twice : challenged name (challenged name b) ≡ challenged name b
+    unfolding challenged
+    challenged-twice = go (eqb (stateOf b) 0 || not (same (serverOf b) name)) refl
+      where
+        go : (x : Bool) → (eqb (stateOf b) 0 || not (same (serverOf b) name)) ≡ x → challenged name (challenged name b) ≡ challenged name b
+        go true e = let q : challenged name b ≡ new = rw e in rw q again
+        go false e = let q : challenged name b ≡ b = rw e in rw q q
+
+  pub challenged-keeps : Keeps (challenged name)
+  challenged-keeps = record { each = challenged-kept; twice = challenged-twice }

@@ -1,0 +1,155 @@
+-- Vectors marked: a block with its mark, and the file with those that are sent marked, one after the other.
+use Prim.Native.Nat.{ℕ, suc, _+_, _-_, _*_, _/_, _%_, _<_, _≤_}
+use mathlib.Core.Bool.{Bool, true, false, cond, _||_}
+use mathlib.Core.Path.{_≡_, refl, sym, _∙_, ap}
+use mathlib.Core.Logic.{_≢_}
+use mathlib.Core.List.{List, [], _∷_, _++_}
+use native.Mathlib.Omega.{arith}
+use native.Mathlib.Numerals.{add-one}
+use lib.ListN.{length, getD, set, take, length-set}
+use lib.Seq.{take-suc, getD-set-same, getD-set-other}
+use lib.Dec.{eqb}
+use borrow.Author.Tests.{eqb-true, eqb-false}
+use borrow.Rule.Slice.PartMut.{midOf, putMid}
+use Rattle.table.specs.Blocks.{blockOf}
+use Rattle.table.proofs.Blocks.{block-length, table-is, table-same}
+use Rattle.blocks.specs.Sealed.{sealed}
+use Rattle.blocks.specs.Changed.{changedAt, changedAll, changedIn, isOne}
+use Rattle.blocks.proofs.Sealed.{sealed-length, seal-before, seal-alike}
+use Rattle.blocks.proofs.Changed.{Whole, block-put, in-length, in-here, in-other, all-none, all-length, all-block}
+use Rattle.vectors.specs.Chosen.{sentOf, Sendable}
+use Rattle.vectors.specs.Marked.{markedUsed, spent}
+use Rattle.vectors.specs.declared.choice.Sent.{Sent}
+
+-- A marked block: byte 1 is 1, and what is not byte 1 or the check word stays.
+pub marked-length : (b : List ℕ) → length (markedUsed b) ≡ length b
+unfolding markedUsed
+marked-length b = sealed-length (set b 1 1) ∙ length-set b 1 1
+
+pub marked-other : (b : List ℕ) (i : ℕ) → i ≢ 1 → i < 508 → getD (markedUsed b) i 0 ≡ getD b i 0
+unfolding markedUsed
+marked-other b i n h = seal-before (set b 1 1) i h ∙ getD-set-other b 1 i 1 0 n
+
+pub marked-used : (b : List ℕ) → length b ≡ 512 → getD (markedUsed b) 1 0 ≡ 1
+unfolding markedUsed
+marked-used b h = seal-before (set b 1 1) 1 (omega arith) ∙ getD-set-same b 1 1 0 (omega arith)
+
+pub marked-whole : Whole markedUsed
+marked-whole b h = marked-length b ∙ h
+
+-- marked twice is marked once
+marked-twice : (b : List ℕ) → length b ≡ 512 → markedUsed (markedUsed b) ≡ markedUsed b
+unfolding markedUsed
+marked-twice b h =
+    seal-alike (set (sealed (set b 1 1)) 1 1) (set b 1 1) (length-set (sealed (set b 1 1)) 1 1 ∙ marked-whole b h) (length-set b 1 1 ∙ h)
+    (λ i l. go i l (eqb i 1) refl)
+  where
+    go : (i : ℕ) → i < 508 → (x : Bool) → eqb i 1 ≡ x → getD (set (sealed (set b 1 1)) 1 1) i 0 ≡ getD (set b 1 1) i 0
+    go i l true e =
+        rw (eqb-true i 1 e) (getD-set-same (sealed (set b 1 1)) 1 1 0 (omega (arith, marked-whole b h)) ∙ sym (getD-set-same b 1 1 0 (omega arith)))
+    go i l false e = getD-set-other (sealed (set b 1 1)) 1 i 1 0 (eqb-false i 1 e) ∙ seal-before (set b 1 1) i l
+
+-- what the functions leave
+pub mark-put : (b : List ℕ) {y : List ℕ} → y ≡ sealed (set b 1 1) → y ≡ markedUsed b
+unfolding markedUsed
+mark-put b e = e
+
+pub mark-kept : (b : List ℕ) (i n : ℕ) {y : List ℕ} → y ≡ sealed (set b i n) → length y ≡ length b
+mark-kept b i n e = ap length e ∙ sealed-length (set b i n) ∙ length-set b i n
+
+pub mark-lent : (v : List ℕ) (k : ℕ) {y : List ℕ} → y ≡ markedUsed (midOf (512 * k) (512 * k + 512 - 512 * k) v)
+    → putMid (512 * k) (512 * k + 512 - 512 * k) v y ≡ changedIn v k markedUsed
+mark-lent v k e = block-put markedUsed v k e
+
+-- One number more among those sent.
+sent-more : (ks : List ℕ) (k j : ℕ) → isOne (ks ++ (k ∷ [])) j ≡ (isOne ks j || eqb j k)
+unfolding isOne
+sent-more [] k j = go (eqb j k)
+  where
+    go : (x : Bool) → (x || false) ≡ x
+    go true = refl
+    go false = refl
+sent-more (i ∷ ks) k j = go (eqb j i) (sent-more ks k j)
+  where
+    go : (x : Bool) → isOne (ks ++ (k ∷ [])) j ≡ (isOne ks j || eqb j k) → (x || isOne (ks ++ (k ∷ [])) j) ≡ ((x || isOne ks j) || eqb j k)
+    go true e = refl
+    go false e = e
+
+module _ (v : List ℕ) (whole : length v % 512 ≡ 0) where
+  size : length v ≡ 512 * (length v / 512)
+  size = omega arith
+
+  pub spent-length : (ks : List ℕ) → length (spent v ks) ≡ length v
+  unfolding spent
+  spent-length ks = all-length v (length v / 512) (isOne ks) markedUsed size marked-whole
+
+  pub spent-block : (ks : List ℕ) (k : ℕ) → k < length v / 512 → blockOf (spent v ks) k ≡ cond (isOne ks k) (markedUsed (blockOf v k)) (blockOf v k)
+  unfolding spent changedAt
+  spent-block ks k h = all-block v (length v / 512) (isOne ks) markedUsed size marked-whole k h
+
+  pub spent-none : v ≡ spent v []
+  unfolding spent isOne
+  spent-none = all-none v (length v / 512) (isOne []) markedUsed size (λ k h. refl)
+
+  module _ (ks : List ℕ) (k : ℕ) (fits : 512 * k + 512 ≤ length v) where
+    here : 512 * k + 512 ≤ length (spent v ks)
+    here = rw (spent-length ks) fits
+
+    block-next : (j : ℕ) → j < length v / 512 → blockOf (changedIn (spent v ks) k markedUsed) j ≡ changedAt v (isOne (ks ++ (k ∷ []))) markedUsed j
+    unfolding changedAt
+    block-next j h = go (eqb j k) refl
+      where
+        again : (x : Bool) → markedUsed (cond x (markedUsed (blockOf v k)) (blockOf v k)) ≡ markedUsed (blockOf v k)
+        again true = marked-twice (blockOf v k) (block-length v k fits)
+        again false = refl
+
+        orb : (x : Bool) → (x || true) ≡ true
+        orb true = refl
+        orb false = refl
+
+        orn : (x : Bool) → (x || false) ≡ x
+        orn true = refl
+        orn false = refl
+
+        go : (x : Bool) → eqb j k ≡ x
+            → blockOf (changedIn (spent v ks) k markedUsed) j ≡ cond (isOne (ks ++ (k ∷ [])) j) (markedUsed (blockOf v j)) (blockOf v j)
+        go true e =
+            let q : j ≡ k = eqb-true j k e in
+            rw (sent-more ks k j, e, orb (isOne ks j), q)
+            (in-here (spent v ks) k markedUsed marked-whole here ∙ ap markedUsed (spent-block ks k (omega arith)) ∙ again (isOne ks k))
+        go false e =
+            rw (sent-more ks k j, e, orn (isOne ks j))
+            (in-other (spent v ks) k markedUsed marked-whole here j (eqb-false j k e) ∙ spent-block ks j h)
+
+    spent-one : changedIn (spent v ks) k markedUsed ≡ spent v (ks ++ (k ∷ []))
+    unfolding spent changedAll
+    spent-one =
+        table-is (changedIn (spent v ks) k markedUsed) (length v / 512) (in-length (spent v ks) k markedUsed marked-whole here ∙ spent-length ks ∙ size)
+        ∙ table-same (blockOf (changedIn (spent v ks) k markedUsed)) (changedAt v (isOne (ks ++ (k ∷ []))) markedUsed) (length v / 512) block-next
+
+-- The turns of the loop: the first i of those sent are marked.
+pub record Spending (v x : List ℕ) (blocks : List ℕ) (i : ℕ) : Type 0 where
+  pub is : x ≡ spent v (take i blocks)
+  pub size : length x ≡ length v
+
+module _ (v : List ℕ) (s : Sent) (sendable : Sendable v s) (whole : length v % 512 ≡ 0) where
+  pub spend-all : Spending v v (s .blocks) 0
+  spend-all = record { is = spent-none v whole; size = refl }
+
+  module _ (x : List ℕ) (i : ℕ) (so : Spending v x (s .blocks) i) where
+    pub spend-room : i < s .count → i < length (s .blocks)
+    spend-room h = omega (arith, sendable .few, sendable .room)
+
+    pub spend-fits : i < s .count → 512 * getD (s .blocks) i 0 + 512 ≤ length x
+    spend-fits h = rw (so .size) (sendable .within i h)
+
+    pub spend-next : {y : List ℕ} → i < s .count → y ≡ changedIn x (getD (s .blocks) i 0) markedUsed → Spending v y (s .blocks) (i + 1)
+    spend-next {y} h e =
+        let k = getD (s .blocks) i 0 in
+        let q : y ≡ spent v (take (suc i) (s .blocks)) =
+        e ∙ ap (λ (z : List ℕ). changedIn z k markedUsed) (so .is) ∙ spent-one v whole (take i (s .blocks)) k (sendable .within i h)
+        ∙ ap (spent v) (sym (take-suc (s .blocks) i 0 (spend-room h))) in
+        record { is = rw (add-one i) q; size = ap length q ∙ spent-length v whole (take (suc i) (s .blocks)) }
+
+    pub spend-end : s .count ≤ i → i ≤ s .count → x ≡ spent v (sentOf s)
+    spend-end a b = let q : s .count ≡ i = omega arith in rw q (so .is)

@@ -1,0 +1,61 @@
+-- The pieces of the vector file: how many, each by the tests on the way, and the turns of the loop over them.
+use Prim.Native.Nat.{ℕ, zero, suc, _+_, _-_, _*_, _/_, _%_, _<_, _≤_}
+use mathlib.Core.Bool.{Bool, true, false, _&&_}
+use mathlib.Core.Path.{_≡_, refl}
+use mathlib.Core.List.{List, [], _∷_}
+use native.Mathlib.Omega.{arith}
+use native.Mathlib.Numerals.{add-one}
+use lib.ListN.{length}
+use lib.Dec.{ltb, leb, eqb}
+use borrow.Author.Tests.{le-leb, lt-leb, lt-ltb, le-ltb, eq-eqb, ne-eqb, ltb-true}
+use Rattle.octets.proofs.Chains.{chain-says}
+use Rattle.table.specs.Blocks.{blockOf}
+use Rattle.table.specs.Check.{firstBad}
+use Rattle.table.specs.declared.Checked.{Checked}
+use Rattle.table.specs.declared.Checked.the-variants.{Sound, Bad}
+use Rattle.octets.specs.Sum.{sumWords}
+use Rattle.vectors.specs.VectorBlock.{vectorOf, soundLimits, soundRest, soundVector}
+use Rattle.vectors.specs.declared.vector.Vector.{Vector}
+use Rattle.vectors.specs.VectorFile.{piecesOf, soundPiece, checkVectors}
+
+-- A vector's tests, all of them.
+pub vector-all : (b : List ℕ) (v : Vector) (s : ℕ) (l r : Bool) → v ≡ vectorOf b → s ≡ sumWords b 128 → l ≡ soundLimits v → r ≡ soundRest b v
+    → (eqb s 0 && l && r) ≡ soundVector b
+unfolding soundVector
+vector-all b v s l r ev es el er = rw (er, el, es, ev)
+
+module _ (v : List ℕ) where
+  pub pieces-whole : length v % 512 ≡ 0 → length v / 512 ≡ piecesOf v
+  unfolding piecesOf
+  pieces-whole e = rw (eq-eqb _ _ e) (omega arith)
+
+  pub pieces-cut : (length v % 512 ≡ 0 → ⊥) → length v / 512 + 1 ≡ piecesOf v
+  unfolding piecesOf
+  pieces-cut n = rw (ne-eqb _ _ n)
+
+  module _ (k : ℕ) where
+    pub piece-far : 4096 ≤ k → false ≡ soundPiece v k
+    unfolding soundPiece
+    piece-far h = rw (le-ltb _ _ h)
+
+    pub piece-cut : k < 4096 → length v < 512 * k + 512 → false ≡ soundPiece v k
+    unfolding soundPiece
+    piece-cut h l = rw (lt-ltb _ _ h, lt-leb _ _ l)
+
+    pub piece-whole : (b : List ℕ) {x : Bool} → k < 4096 → 512 * k + 512 ≤ length v → b ≡ blockOf v k → x ≡ soundVector b → x ≡ soundPiece v k
+    unfolding soundPiece
+    piece-whole b h l e f = rw (lt-ltb _ _ h, le-leb _ _ l, ← e) f
+
+    -- a piece that is sound is one of 4,096
+    pub piece-near : soundPiece v k ≡ true → k < 4096
+    unfolding soundPiece
+    piece-near e = let s = chain-says _ (_ ∷ _ ∷ []) e in ltb-true _ _ (s 0)
+
+-- the loop begins with all of them
+pub turn-all : (v : List ℕ) {n : ℕ} → n ≡ piecesOf v → checkVectors v ≡ firstBad (soundPiece v) n (n - 0) 0
+unfolding checkVectors
+turn-all v e = let i : piecesOf v - 0 ≡ piecesOf v = omega arith in rw (e, i)
+
+-- the next piece is one of 4,096 still
+pub turn-near : (v : List ℕ) (k : ℕ) {x : Bool} → x ≡ soundPiece v k → x ≡ true → k + 1 ≤ 4096
+turn-near v k e f = let g : soundPiece v k ≡ true = cc in omega (arith, piece-near v k g)

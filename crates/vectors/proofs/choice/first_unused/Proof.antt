@@ -1,0 +1,28 @@
+use Prim.Native.Nat.{_-_, _/_, _≤_}
+use lib.ListN.{length}
+use Rattle.vectors.proofs.Choosing.{Left, left-all, left-full, left-next, left-none}
+use Rattle.vectors.proofs.Sound.{few-all, block-fits}
+use borrow.Author.Needs.{needs}
+use Rattle.vectors.proofs.choice.first_unused.Statement.{statement}
+use Rattle.vectors.proofs.choice.first_unused.Tie as tie
+
+abbrev Inv-loop : tie.InvT-loop
+Inv-loop v name most count sent₀ k₀ sent k = (count ≤ 4096) × (k ≤ count) × Left v name most sent k
+
+abbrev μ-loop : tie.MeasureT-loop
+μ-loop v name most count sent₀ k₀ sent k = count - k
+
+pub first-unused-spec : {M : Type 1} → statement M
+first-unused-spec =
+    tie.close
+    (tie.spec
+    Inv-loop
+    μ-loop
+    (λ c. search needs)
+    (λ c. search (needs, left-all, few-all))
+    (λ c. search (needs, left-full))
+    (λ c κs. search (needs, block-fits))
+    (λ c. search needs)
+    (λ c. search needs)
+    (λ c. search (needs, left-next))
+    (λ c. search (needs, left-none)))

@@ -1,0 +1,14 @@
+use Rattle.vectors.proofs.Pieces.{vector-all}
+use borrow.Author.Needs.{needs}
+use Rattle.vectors.proofs.vector.sound.Statement.{statement}
+use Rattle.vectors.proofs.vector.sound.Tie as tie
+
+pub sound-spec : {M : Type 1} → statement M
+sound-spec =
+    tie.close
+    (tie.spec
+    (λ c κs. search needs)
+    (λ c κs. search needs)
+    (λ c κs. search needs)
+    (λ c κs. search needs)
+    (λ c. search (needs, vector-all)))

@@ -1,0 +1,5 @@
+pub mod Chosen
+pub mod Marked
+pub mod Scheme
+pub mod VectorBlock
+pub mod VectorFile

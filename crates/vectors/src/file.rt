@@ -1,0 +1,51 @@
+// The vector file, block by block.
+use crate::vector;
+use table::Checked;
+ghost use mathlib.Core.Path.{_≡_};
+ghost use Prim.Native.Nat.{_+_, _*_, _≤_};
+ghost use lib.ListN.{length};
+ghost use Rattle.vectors.specs.VectorFile.{piecesOf, soundPiece, checkVectors};
+
+// "0 to 4,096 blocks"
+const MOST: usize = 4096;
+
+// How many pieces of 512 bytes there are, the last one cut or whole.
+fn pieces(v: &[u8]) -> usize
+    ensures { λ r. ⌜ r ≡ piecesOf (now (v .entry)) ⌝ }
+{
+    if v.len() % table::BLOCK == 0 {
+        v.len() / table::BLOCK
+    } else {
+        v.len() / table::BLOCK + 1
+    }
+}
+
+// Whether piece k is one of 4,096, whole, and a sound vector.
+fn piece_sound(v: &[u8], k: usize) -> bool
+    requires { ⌜ k ≤ 4096 ⌝ }
+    ensures { λ r. ⌜ r ≡ soundPiece (now (v .entry)) k ⌝ }
+{
+    if MOST <= k {
+        return false;
+    }
+    if v.len() < table::BLOCK * k + table::BLOCK {
+        return false;
+    }
+    vector::sound(table::block(v, k))
+}
+
+// The number of blocks, or the first piece that is bad.
+pub fn check(v: &[u8]) -> Checked
+    ensures { λ r. ⌜ r ≡ checkVectors (now (v .entry)) ⌝ }
+{
+    let n = pieces(v);
+    let mut k = 0;
+    while k < n {
+        if piece_sound(v, k) {
+            k += 1;
+        } else {
+            return Checked::Bad(k as u32);
+        }
+    }
+    Checked::Sound(n as u32)
+}

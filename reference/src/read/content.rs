@@ -1,0 +1,85 @@
+//! Rules (g) and (h): what an AVP of a named kind holds.
+
+use super::groups::{application_is_good, members_have_sound_lengths, scheme};
+use crate::block::word_at;
+use crate::kinds::{Command, Kind};
+use crate::message::{first_avp, header_alone, Avp};
+use crate::slip::{Fault, Slip};
+use crate::table::LONGEST_SERVER_NAME;
+use crate::verdict::{Failed, Finding, Why};
+
+/// The value of a 4-byte kind; only a faulty program takes another length.
+pub fn number(data: &[u8], slip: Slip) -> u32 {
+    match data.len() {
+        0..=3 => 0,
+        _ if slip.is(Fault::ValuesInOneByte) => u32::from(data[3]),
+        _ => word_at(data, 0),
+    }
+}
+
+/// A Server-Name as it is used: cut, if it was taken though it is too long.
+pub fn server_name(name: &[u8], slip: Slip) -> &[u8] {
+    match slip.0 {
+        Some(Fault::ServerName97Taken | Fault::ServerNameFreeInAuthentication) => {
+            &name[..name.len().min(LONGEST_SERVER_NAME)]
+        }
+        _ => name,
+    }
+}
+
+pub fn judge_content<'a>(avp: Avp<'a>, kind: Kind, command: Command, slip: Slip) -> Result<(), Finding<'a>> {
+    if kind.is_four_bytes() && avp.data.len() != 4 {
+        return four_bytes_fault(avp, kind, slip);
+    }
+    if has_good_content(avp, kind, command, slip) {
+        return Ok(());
+    }
+    let why = Why::Rule('h', kind.name());
+    match (slip.0, kind, first_avp(avp.data, slip)) {
+        (Some(Fault::FaultyMemberAlone), Kind::SipAuthDataItem, Ok((member, _))) => {
+            Err(Finding { result: 5004, failed: Failed::Whole(member), why })
+        }
+        (Some(Fault::ItemLengthFaultTold), Kind::SipAuthDataItem, _) if !members_have_sound_lengths(avp.data, slip) => {
+            Err(Finding { result: 5014, failed: Failed::Header(header_alone(avp.header(), slip)), why })
+        }
+        _ => Err(Finding { result: 5004, failed: Failed::Whole(avp), why }),
+    }
+}
+
+/// Rule (g).
+fn four_bytes_fault<'a>(avp: Avp<'a>, kind: Kind, slip: Slip) -> Result<(), Finding<'a>> {
+    let (result, failed) = match slip.0 {
+        Some(Fault::LongerFourBytesTaken) if avp.data.len() > 4 => return Ok(()),
+        Some(Fault::NumberOfAnyLength) if kind == Kind::SipNumberAuthItems => return Ok(()),
+        Some(Fault::FourBytesAreContent) => (5004, Failed::Whole(avp)),
+        Some(Fault::FourBytesFailWhole) => (5014, Failed::Whole(avp)),
+        _ => (5014, Failed::Header(header_alone(avp.header(), slip))),
+    };
+    Err(Finding { result, failed, why: Why::Rule('g', kind.name()) })
+}
+
+/// Rule (h).
+fn has_good_content(avp: Avp, kind: Kind, command: Command, slip: Slip) -> bool {
+    let value = || number(avp.data, slip);
+    match kind {
+        Kind::AuthSessionState => value() == 1 || slip.is(Fault::SessionStateNotAsked),
+        Kind::UserAuthorizationType => value() <= 2 || slip.is(Fault::AuthorizationType3Taken),
+        Kind::ServerAssignmentType => value() <= 11 || slip.is(Fault::AssignmentType12Taken),
+        Kind::UserDataAlreadyAvailable => value() <= 1 || slip.is(Fault::Available2Taken),
+        Kind::ServerName => match slip.0 {
+            Some(Fault::EmptyServerNameTaken) => avp.data.len() <= LONGEST_SERVER_NAME,
+            Some(Fault::ServerName96Refused) => (1..LONGEST_SERVER_NAME).contains(&avp.data.len()),
+            Some(Fault::ServerName97Taken) => (1..=LONGEST_SERVER_NAME + 1).contains(&avp.data.len()),
+            Some(Fault::ServerNameFreeInAuthentication) if command == Command::MultimediaAuth => true,
+            _ => (1..=LONGEST_SERVER_NAME).contains(&avp.data.len()),
+        },
+        Kind::VendorSpecificApplicationId => application_is_good(avp.data, slip),
+        Kind::SipNumberAuthItems => match slip.0 {
+            Some(Fault::ZeroAskedIsContent) => value() != 0,
+            Some(Fault::ManyAskedIsContent) => value() <= 16,
+            _ => true,
+        },
+        Kind::SipAuthDataItem => scheme(avp.data, slip).is_some(),
+        _ => true,
+    }
+}

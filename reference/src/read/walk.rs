@@ -1,0 +1,174 @@
+//! The walk over the AVPs: rules (a) to (f) for each in turn; what it holds is judged in a file of its own.
+
+use super::content::judge_content;
+use crate::kinds::{Command, Kind, KINDS, VENDOR};
+use crate::message::{first_avp, Avp, LengthFault};
+use crate::slip::{Fault, Slip};
+use crate::verdict::{Failed, Finding, Why};
+
+/// The AVPs of kinds that the command names, if no AVP has a fault.
+pub fn walk<'a>(avps: &'a [u8], command: Command, slip: Slip) -> Result<Vec<(Kind, Avp<'a>)>, Finding<'a>> {
+    if slip.is(Fault::LengthsJudgedFirst) {
+        lengths_fit(avps, slip)?;
+    }
+    let mut found: Vec<(Kind, Avp)> = Vec::new();
+    let mut rest = avps;
+    while !rest.is_empty() {
+        let is_first = rest.len() == avps.len();
+        let (avp, after) = first_avp(rest, slip).map_err(|fault| length_fault(fault, slip))?;
+        let padding = &rest[avp.whole.len()..rest.len() - after.len()];
+        rest = after;
+        if let Some(kind) = judge(avp, is_first, command, &found, slip)? {
+            found.push((kind, avp));
+        }
+        if slip.is(Fault::PaddingMustBeZero) && padding.iter().any(|byte| *byte != 0) {
+            return Err(Finding { result: 5004, failed: Failed::Whole(avp), why: Why::Rule('h', "padding") });
+        }
+    }
+    Ok(found)
+}
+
+fn lengths_fit<'a>(avps: &[u8], slip: Slip) -> Result<(), Finding<'a>> {
+    let mut rest = avps;
+    while !rest.is_empty() {
+        (_, rest) = first_avp(rest, slip).map_err(|fault| length_fault(fault, slip))?;
+    }
+    Ok(())
+}
+
+fn length_fault<'a>(fault: LengthFault, slip: Slip) -> Finding<'a> {
+    let (failed, what) = match fault {
+        LengthFault::CutOff if slip.is(Fault::CutOffWithoutFailedAvp) => (Failed::Absent, "header cut off"),
+        LengthFault::CutOff => (Failed::Empty, "header cut off"),
+        LengthFault::Header(header) if header.len() == 12 => (Failed::Header(header), "with V"),
+        LengthFault::Header(header) => (Failed::Header(header), "without V"),
+    };
+    Finding { result: 5014, failed, why: Why::Rule('a', what) }
+}
+
+/// Rules (b) to (h) for one AVP: its kind if it is to be kept, none if it is skipped.
+fn judge<'a>(
+    avp: Avp<'a>,
+    is_first: bool,
+    command: Command,
+    before: &[(Kind, Avp<'a>)],
+    slip: Slip,
+) -> Result<Option<Kind>, Finding<'a>> {
+    let whole = |result, rule, what| Finding { result, failed: Failed::Whole(avp), why: Why::Rule(rule, what) };
+    let kind = kind_of(avp, command, slip);
+    let flags_at_fault = flags_at_fault(avp, kind, command, slip);
+    if slip.is(Fault::ReservedFlagsBeforeSessionId) && is_first && flags_at_fault {
+        return Err(whole(3009, 'c', "reserved flags"));
+    }
+    if is_first && !may_be_first(kind, slip) {
+        let why = Why::Rule('b', "no Session-Id first");
+        return Err(Finding { result: 5005, failed: Failed::Example(Kind::SessionId), why });
+    }
+    if flags_at_fault {
+        return Err(whole(3009, 'c', "reserved flags"));
+    }
+    let kind = match kind {
+        Some(kind) => kind,
+        None if avp.is_marked() && !slip.is(Fault::MarkIgnored) => return Err(whole(5001, 'd', "unknown and marked")),
+        None => return Ok(None),
+    };
+    if !is_named(kind, command, slip) {
+        if slip.is(Fault::MarkedUnnamedFails) && avp.is_marked() {
+            return Err(whole(5001, 'd', "unknown and marked"));
+        }
+        let again = before.iter().any(|(it, _)| *it == kind);
+        match slip.0 {
+            Some(Fault::UnnamedOnce) if again => return Err(whole(5009, 'f', kind.name())),
+            // Kept to be counted; nobody asks for it.
+            Some(Fault::UnnamedOnce) => return Ok(Some(kind)),
+            Some(Fault::UnnamedJudged) => {}
+            _ => return Ok(None),
+        }
+    }
+    let content = judge_content(avp, kind, command, slip);
+    if slip.is(Fault::ContentBeforeCount) {
+        content.clone()?;
+    }
+    let earlier = before.iter().find(|(it, _)| *it == kind);
+    if let (Some((_, earlier)), false) = (earlier, may_repeat(kind, command, slip)) {
+        let failed = Failed::Whole(if slip.is(Fault::FirstOfTwoFails) { *earlier } else { avp });
+        return Err(Finding { result: 5009, failed, why: Why::Rule('f', kind.name()) });
+    }
+    content?;
+    Ok(Some(kind))
+}
+
+pub fn kind_of(avp: Avp, command: Command, slip: Slip) -> Option<Kind> {
+    let exactly = Kind::of(avp.vendor, avp.code);
+    match (slip.0, exactly) {
+        (Some(Fault::UnknownByCodeAlone), _) => KINDS.iter().copied().find(|kind| kind.code() == avp.code),
+        (Some(Fault::VendorZeroIsNone), _) => Kind::of(avp.vendor.filter(|vendor| *vendor != 0), avp.code),
+        (Some(Fault::CodeIn16Bits), _) => Kind::of(avp.vendor, avp.code & 0xFFFF),
+        (Some(Fault::AuthKindsUnknownElsewhere), Some(Kind::SipNumberAuthItems | Kind::SipAuthDataItem)) => {
+            exactly.filter(|_| command == Command::MultimediaAuth)
+        }
+        (Some(Fault::ItemMembersKnown), None) => {
+            let member = avp.vendor == Some(VENDOR) && matches!(avp.code, 608..=611 | 613 | 625 | 626);
+            member.then(|| unnamed(command))
+        }
+        (Some(Fault::FeaturesKnown), None) => (avp.vendor == Some(VENDOR) && avp.code == 628).then(|| unnamed(command)),
+        _ => exactly,
+    }
+}
+
+/// A kind that the command does not name: what a faulty program takes for known is skipped as this is.
+fn unnamed(command: Command) -> Kind {
+    match command {
+        Command::MultimediaAuth => Kind::UserAuthorizationType,
+        _ => Kind::SipAuthDataItem,
+    }
+}
+
+/// Whether the command names it.
+fn is_named(kind: Kind, command: Command, slip: Slip) -> bool {
+    let assigned = matches!(kind, Kind::ServerAssignmentType | Kind::UserDataAlreadyAvailable);
+    let authorized = matches!(kind, Kind::VisitedNetworkIdentifier | Kind::UserAuthorizationType);
+    let in_authentication = command == Command::MultimediaAuth;
+    kind.is_named_in(command)
+        || (slip.is(Fault::AssignmentNamedInAuthentication) && in_authentication && assigned)
+        || (slip.is(Fault::AuthorizationNamedInAuthentication) && in_authentication && authorized)
+        || (slip.is(Fault::NumberNamedEverywhere) && kind == Kind::SipNumberAuthItems)
+        || (slip.is(Fault::ItemNamedEverywhere) && kind == Kind::SipAuthDataItem)
+}
+
+/// Rule (b).
+fn may_be_first(kind: Option<Kind>, slip: Slip) -> bool {
+    kind == Some(Kind::SessionId)
+        || slip.is(Fault::SessionIdAnywhere)
+        || (slip.is(Fault::UnknownBeforeSessionIdTaken) && kind.is_none())
+}
+
+/// Rule (c).
+fn flags_at_fault(avp: Avp, kind: Option<Kind>, command: Command, slip: Slip) -> bool {
+    match slip.0 {
+        Some(Fault::ReservedFlagsOfUnknownIgnored) if kind.is_none() => false,
+        Some(Fault::UnknownBeforeReservedFlags) if kind.is_none() && avp.is_marked() => false,
+        Some(Fault::ReservedFlagsOfUnnamedIgnored) if matches!(kind, Some(kind) if !kind.is_named_in(command)) => false,
+        Some(Fault::LowestReservedFlagIgnored) => avp.flags & 0x1E != 0,
+        Some(Fault::HighestReservedFlagIgnored) => avp.flags & 0x0F != 0,
+        Some(Fault::PFlagReserved) => avp.flags & 0x3F != 0,
+        Some(Fault::MarkNeededOnKnown) => avp.has_reserved_flags() || (kind.is_some() && !avp.is_marked()),
+        _ => avp.has_reserved_flags(),
+    }
+}
+
+/// Whether rule (f) lets a second one pass.
+fn may_repeat(kind: Kind, command: Command, slip: Slip) -> bool {
+    match (slip.0, kind) {
+        (Some(Fault::RouteRecordOnce), Kind::RouteRecord) => false,
+        (Some(Fault::ProxyInfoOnce), Kind::ProxyInfo) => false,
+        (Some(Fault::IdentityRepeatsEverywhere), Kind::PublicIdentity) => true,
+        (Some(Fault::SessionIdRepeats), Kind::SessionId) => true,
+        (Some(Fault::IdentityRepeatsInAuthentication), Kind::PublicIdentity) => command != Command::UserAuthorization,
+        (Some(Fault::UserNameRepeatsInAuthentication), Kind::UserName) => command == Command::MultimediaAuth,
+        (Some(Fault::ServerNameRepeatsInAuthentication), Kind::ServerName) => command == Command::MultimediaAuth,
+        (Some(Fault::ItemRepeats), Kind::SipAuthDataItem) => true,
+        (Some(Fault::NumberRepeats), Kind::SipNumberAuthItems) => true,
+        _ => kind.may_repeat_in(command),
+    }
+}

@@ -1,0 +1,106 @@
+//! The six refusals of a call.
+
+use crate::block::BLOCK;
+use crate::kinds::Command;
+use crate::message::{Message, R};
+use crate::read::{read, read_header};
+use crate::slip::{Fault, Slip};
+use crate::table::{self, Table};
+use crate::vectors::{self, Vector, Vectors};
+
+pub const LEAST_BUFFER: usize = 36_864;
+pub const LEAST_REQUEST: usize = 20;
+pub const MOST_REQUEST: usize = 16_384;
+
+/// What is lent to a call.
+pub struct Lent<'a> {
+    pub request: &'a [u8],
+    pub table: &'a [u8],
+    pub profile: &'a [u8],
+    pub vectors: &'a [u8],
+    pub buffer: &'a [u8],
+}
+
+/// The first refusal in their order: its number, and what is returned besides.
+pub fn refusal(lent: &Lent, slip: Slip) -> Option<(u32, u32)> {
+    let order = match slip.0 {
+        Some(Fault::RequestBeforeBuffer) => [2, 1, 3, 4, 5, 6],
+        Some(Fault::TableBeforeRequest) => [1, 5, 2, 3, 4, 6],
+        Some(Fault::RequestBitBeforeLength) => [1, 2, 4, 3, 5, 6],
+        Some(Fault::VectorsBeforeTable) => [1, 2, 3, 4, 6, 5],
+        Some(Fault::VectorsBeforeRequest) => [1, 6, 2, 3, 4, 5],
+        _ => [1, 2, 3, 4, 5, 6],
+    };
+    let told = |number| if number == 6 && slip.is(Fault::UnsoundVectorsAreFive) { 5 } else { number };
+    order.into_iter().find_map(|number| Some((told(number), besides(number, lent, slip)?)))
+}
+
+/// What refusal `number` returns besides, if it is given. Those of 3 and 4 look at a header, which is there after 2.
+fn besides(number: u32, lent: &Lent, slip: Slip) -> Option<u32> {
+    let length = lent.request.len();
+    let given = match number {
+        1 => {
+            let least = match slip.0 {
+                Some(Fault::LeastBufferRefused) => LEAST_BUFFER + 1,
+                Some(Fault::ShorterBufferTaken) => LEAST_BUFFER - 1,
+                _ => LEAST_BUFFER,
+            };
+            lent.buffer.len() < least
+        }
+        2 => {
+            let most = match slip.0 {
+                Some(Fault::MostRequestRefused) => MOST_REQUEST - 1,
+                Some(Fault::LongerRequestTaken) => MOST_REQUEST + 4,
+                _ => MOST_REQUEST,
+            };
+            length < LEAST_REQUEST || length > most
+        }
+        3 => {
+            let told = Message(lent.request).length();
+            let differs = match slip.0 {
+                Some(Fault::ShorterHeaderTaken) => told > length,
+                Some(Fault::LongerHeaderTaken) => told < length,
+                Some(Fault::HeaderLengthIn16Bits) => told & 0xFFFF != length,
+                _ => told != length,
+            };
+            differs || (told % 4 != 0 && !slip.is(Fault::MultipleOf4NotAsked))
+        }
+        4 => Message(lent.request).flags() & R == 0 && !slip.is(Fault::RequestBitNotAsked),
+        5 => return bad_block(lent, slip),
+        _ => return bad_vectors(lent, slip),
+    };
+    given.then_some(0)
+}
+
+fn bad_block(lent: &Lent, slip: Slip) -> Option<u32> {
+    let faulty = || read(Message(lent.request), slip).is_err();
+    if slip.is(Fault::TableOnlyForDecisions) && lent.table.len() >= BLOCK && faulty() {
+        return None;
+    }
+    let block = table::check_with(lent.table, lent.profile.len(), slip).err()?;
+    Some(if slip.is(Fault::UnsoundReturnsZero) { 0 } else { block })
+}
+
+/// Refusal 6, whatever the command; the block is not told here.
+fn bad_vectors(lent: &Lent, slip: Slip) -> Option<u32> {
+    let message = Message(lent.request);
+    let overlooked = match slip.0 {
+        Some(Fault::VectorsNotAsked) => true,
+        Some(Fault::VectorsOnlyForAuthentication) => message.command() != Command::MultimediaAuth.code(),
+        Some(Fault::VectorsOnlyForDecisions) => read(message, slip).is_err(),
+        Some(Fault::VectorsNotForHeaderFaults) => read_header(message, slip).is_err(),
+        _ => false,
+    };
+    if overlooked {
+        return None;
+    }
+    let unknown = |vector: Vector| Table(lent.table).records().all(|(_, record)| record.private() != vector.private());
+    match vectors::check_with(lent.vectors, slip) {
+        Err(block) if slip.is(Fault::UnsoundVectorsTellBlock) => Some(block),
+        Err(_) => Some(0),
+        Ok(_) if slip.is(Fault::VectorNameMustBeKnown) => {
+            Vectors(lent.vectors).all().any(|(_, vector)| unknown(vector)).then_some(0)
+        }
+        Ok(_) => None,
+    }
+}

@@ -1,0 +1,82 @@
+//! The programs over files: what they say of a vector file, and of one that is not there or cannot be read.
+
+mod common;
+
+use common::*;
+use std::fs;
+use std::io::Write;
+use std::path::{Path, PathBuf};
+use std::process::{Command, Output, Stdio};
+
+/// A folder with a table of Alice's and an empty profile.
+fn folder(name: &str) -> PathBuf {
+    let folder = Path::new(env!("CARGO_TARGET_TMPDIR")).join(name);
+    fs::remove_dir_all(&folder).ok();
+    fs::create_dir_all(&folder).unwrap();
+    fs::write(folder.join("table"), isle(vec![record("sip:alice@isle", "alice@isle")]).encode()).unwrap();
+    fs::write(folder.join("profile"), b"").unwrap();
+    folder
+}
+
+fn run(folder: &Path, command: &str, input: &[u8]) -> Output {
+    let mut child = Command::new(env!("CARGO_BIN_EXE_reference"))
+        .arg(command)
+        .current_dir(folder)
+        .stdin(Stdio::piped())
+        .stdout(Stdio::piped())
+        .stderr(Stdio::piped())
+        .spawn()
+        .unwrap();
+    // A program that fails before it reads hangs up.
+    child.stdin.take().unwrap().write_all(input).ok();
+    child.wait_with_output().unwrap()
+}
+
+/// On standard output, with nothing on standard error.
+fn said(folder: &Path, command: &str, input: &[u8]) -> Vec<u8> {
+    let output = run(folder, command, input);
+    assert!(output.status.success() && output.stderr.is_empty());
+    output.stdout
+}
+
+fn alice_asks() -> Vec<u8> {
+    mar("alice@isle", "sip:alice@isle", 1, b"sip:s1")
+}
+
+#[test]
+fn a_vector_file_is_read_where_it_is_there_and_never_written() {
+    let folder = folder("there");
+    assert_eq!(said(&folder, "check", b""), b"sound, 1 records\n");
+    assert_eq!(result(&said(&folder, "answer", &alice_asks())), "B5012");
+
+    let vectors = vector(0, "alice@isle", 1, b"xres");
+    fs::write(folder.join("vectors"), &vectors).unwrap();
+    assert_eq!(said(&folder, "check", b""), b"sound, 1 records\nvectors sound, 1 blocks\n");
+    for _ in 0..2 {
+        assert_eq!(result(&said(&folder, "answer", &alice_asks())), "B2001");
+        assert_eq!(fs::read(folder.join("vectors")).unwrap(), vectors);
+    }
+
+    fs::write(folder.join("vectors"), [vectors, vec![0; 512]].concat()).unwrap();
+    assert_eq!(said(&folder, "check", b""), b"sound, 1 records\nvector block 1 is bad\n");
+    assert_eq!(said(&folder, "answer", &alice_asks()), b"refused 6\n");
+    assert_eq!(said(&folder, "answer", &request(302, &[])), b"refused 6\n");
+}
+
+#[test]
+fn a_vector_file_that_is_a_folder_or_too_long_is_told() {
+    let folder = folder("unreadable");
+    let fails = |command: &str| {
+        let output = run(&folder, command, &alice_asks());
+        assert!(!output.status.success() && output.stdout.is_empty() && !output.stderr.is_empty(), "{command}");
+    };
+    fs::create_dir(folder.join("vectors")).unwrap();
+    fails("check");
+    fails("answer");
+    fs::remove_dir(folder.join("vectors")).unwrap();
+    fs::write(folder.join("vectors"), vector(0, "a", 1, b"xres").repeat(129)).unwrap();
+    fails("answer");
+    assert_eq!(said(&folder, "check", b""), b"sound, 1 records\nvectors sound, 129 blocks\n");
+    fs::write(folder.join("vectors"), vector(0, "a", 1, b"xres").repeat(128)).unwrap();
+    assert_eq!(result(&said(&folder, "answer", &alice_asks())), "B5012");
+}
