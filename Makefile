@@ -79,8 +79,9 @@ pages: target/c/maketable target/c/showtable
 header: target/c/header target/c++/header
 	for header in $^; do $$header; done
 
-#: examples           the C examples: worked answers, refusals, requests that real software sent
-examples: $(foreach mode,c99 cxx,$(addprefix target/$(mode)/,check decide)) target/c/maketable $(BINARY)
+#: examples           the C examples: worked answers, refusals, AVPs at fault, requests that real software sent
+examples: $(foreach mode,c99 cxx,$(addprefix target/$(mode)/,check decide)) target/c/fault target/c++/fault target/c/maketable $(BINARY)
+	for fault in target/c/fault target/c++/fault; do $$fault; done
 	RUN='$(RUN)' tests/decide.sh target/test/decide target/c/maketable target/c99/decide target/cxx/decide
 	RUN='$(RUN)' tests/captured.sh target/test/captured target/c/maketable $(BINARY) target/c99/decide target/cxx/decide
 
@@ -162,7 +163,7 @@ soak: target/c99/driver $(BINARY)
 
 # After how many cases each deliberate fault of the independent program shows; what the cases are made of.
 COUNT_mutants := 100000
-#: mutants            whether 454 deliberate faults would be noticed, and after how many cases
+#: mutants            whether 495 deliberate faults would be noticed, and after how many cases
 mutants: $(BINARY)
 	@echo "mutants: seed $(SEED)"
 	$(BINARY) mutants --seed $(SEED) --count $(COUNT_mutants)
@@ -213,6 +214,14 @@ target/c/texts: tests/texts.c examples/load.h
 	mkdir -p $(@D)
 	$(CC) -std=c99 $(STRICT) -o $@ $<
 
+target/c/fault: tests/fault.c examples/fault.h
+	mkdir -p $(@D)
+	$(CC) -std=c99 $(STRICT) -o $@ $<
+
+target/c++/fault: tests/fault.c examples/fault.h
+	mkdir -p $(@D)
+	$(CXX) $(STRICT) -o $@ -x c++ $<
+
 target/c/store: tests/store.c examples/store.h examples/load.h
 	mkdir -p $(@D)
 	$(CC) -std=c99 $(STRICT) -o $@ $<
@@ -233,11 +242,11 @@ target/c99/unsound: tests/unsound.c bench/requests.h $(HEADER) $(ARCHIVE)
 	mkdir -p $(@D)
 	$(X86_CC) -std=c99 $(STRICT) -o $@ $< $(ARCHIVE)
 
-target/c99/%: examples/%.c examples/load.h $(HEADER) $(ARCHIVE)
+target/c99/%: examples/%.c examples/load.h examples/fault.h $(HEADER) $(ARCHIVE)
 	mkdir -p $(@D)
 	$(X86_CC) -std=c99 $(STRICT) -o $@ $< $(ARCHIVE)
 
-target/cxx/%: examples/%.c examples/load.h $(HEADER) $(ARCHIVE)
+target/cxx/%: examples/%.c examples/load.h examples/fault.h $(HEADER) $(ARCHIVE)
 	mkdir -p $(@D)
 	$(X86_CXX) $(STRICT) -o $@ -x c++ $< -x none $(ARCHIVE)
 

@@ -1,4 +1,5 @@
-/* decide TABLE PROFILE VECTORS REQUEST: answers one request, and shows what the call returned and changed.
+/* decide TABLE PROFILE VECTORS REQUEST: answers one request, and shows what the call returned and changed, and where it hurts if an AVP
+ * of the request is at fault.
  * VECTORS may be /dev/null: there are no vectors then. REQUEST is text: hexadecimal digits, blanks between bytes as you like,
  * and comments from # to the line's end.
  * The files stay as they are, so that a vector is sent again by the next run: this is no server. A daemon stores the vector file
@@ -9,6 +10,7 @@
 
 #include <ndushavire.h>
 
+#include "fault.h"
 #include "load.h"
 
 /* Turns hexadecimal text into bytes, in place, and gives their number. */
@@ -91,6 +93,7 @@ int main(int argc, char **argv) {
     if (ndushavire_answered(word)) { /* so both files are whole blocks */
         printf("answered, %lu bytes\n", value);
         print_hex(answer, value);
+        if (ndushavire_place(word) != 0) print_fault(stdout, answer, value, request, request_len, ndushavire_place(word));
         print_changes(table, "block", "rewritten");
         print_changes(vectors, "vector block", "used");
     } else if (ndushavire_number(word) == NDUSHAVIRE_TABLE_UNSOUND) {

@@ -37,8 +37,8 @@
 extern "C" {
 #endif
 
-#define NDUSHAVIRE_VERSION "0.2.0"
-#define NDUSHAVIRE_VERSION_NUMBER 200 /* the same to compare: major x 10,000 + minor x 100 + patch */
+#define NDUSHAVIRE_VERSION "0.3.0"
+#define NDUSHAVIRE_VERSION_NUMBER 300 /* the same to compare: major x 10,000 + minor x 100 + patch */
 
 #define NDUSHAVIRE_ANSWER_ROOM 36864       /* the least answer buffer, in bytes: no answer is longer */
 #define NDUSHAVIRE_REQUEST_MIN 20          /* the shortest request, a Diameter header alone */
@@ -61,7 +61,8 @@ extern "C" {
 #define NDUSHAVIRE_VECTORS_UNSOUND 6 /* the value is 0; of ndushavire_check_vectors it is the first bad block */
 
 /* Answers one request, rewrites the records that it changes, and marks the vectors that it sends. The word's value is the
- * answer's length; the buffer's bytes past it stay as they were. The vectors must be sound whatever is asked. */
+ * answer's length; the buffer's bytes past it stay as they were. Its place says which AVP of the request is at fault, if one
+ * is: see ndushavire_place. The vectors must be sound whatever is asked. */
 uint64_t ndushavire_decide(const uint8_t *request, size_t request_len, uint8_t *table, size_t table_len,
                            const uint8_t *profile, size_t profile_len, uint8_t *vectors, size_t vectors_len,
                            uint8_t *answer, size_t answer_len);
@@ -77,9 +78,16 @@ uint64_t ndushavire_check_vectors(const uint8_t *vectors, size_t vectors_len);
 /* The parts of a word: number << 48 | place << 32 | value. */
 static inline uint32_t ndushavire_number(uint64_t word) { return (uint32_t)(word >> 48); }
 
-/* Always 0 in this version; kept for the place of an AVP at fault. */
+/* Of an answer by ndushavire_decide: the place of the AVP at fault, the byte of the request at which it begins, counted from
+ * the message's first byte, which is byte 0. So it is 20 or more, and at least 4 bytes of the request stand there, the AVP's
+ * code; the rest of its header may be cut off. It is for the log, beside the peer, the result and the bytes from there on, as
+ * examples/fault.h prints them. Of a fault within a group it is the group's place. Under B5014 the AVP before it may be the one
+ * whose length is wrong.
+ * It is 0 where no AVP of the request is at fault: under header faults, B5005, X results, whatever a decision says (B5003,
+ * B5012, the B5009 of a SAR's second identity), success; under every refusal; and of both checks. */
 static inline uint32_t ndushavire_place(uint64_t word) { return (uint32_t)(word >> 32) & 0xFFFFu; }
 
+/* The answer's length is this part alone: the word of an answer with a place is a far greater number. */
 static inline uint32_t ndushavire_value(uint64_t word) { return (uint32_t)(word & 0xFFFFFFFFu); }
 
 /* Of ndushavire_decide: whether there is an answer. */

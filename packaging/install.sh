@@ -34,8 +34,8 @@ docdir=$(absolute DOCDIR "${DOCDIR:-$prefix/share/doc/ndushavire}")
 below=${DESTDIR-}
 note=$docdir/installed
 
-# ---- what goes where: a file of the tree, its place and its mode. Three captured requests go with the examples, to be tried.
-requests=(tests/captured/{icscf-20-lir,scscf-12-sar,mar-33}.hex)
+# ---- what goes where: a file of the tree, its place and its mode. Four captured requests go with the examples, to be tried.
+requests=(tests/captured/{icscf-20-lir,scscf-12-sar,mar-33,mar-16}.hex)
 sources=() places=() modes=()
 goes() { # SOURCE PLACE MODE
     sources+=("$1") places+=("$2") modes+=("$3")

@@ -1,7 +1,7 @@
 #!/usr/bin/env bash
 # captured.sh ROOM MAKETABLE REFERENCE DECIDE..: each request in captured/, as real software sent it, gets from each DECIDE
 # what the independent program answers, with the result that its head names, rewrites the block that it should and uses the vectors
-# that it should, and no other. An address in a request has a word in its head. RUN, if set, is the emulator that runs a DECIDE.
+# that it should, and no other; and the AVP at fault is named in the two that have one. An address in a request has a word in its head. RUN, if set, is the emulator that runs a DECIDE.
 set -euo pipefail
 room=$1 maketable=$2 reference=$(cd "$(dirname "$3")" && pwd)/${3##*/}
 shift 3
@@ -54,6 +54,15 @@ done >"$room/vectors.text"
 declare -A rewritten=([scscf-03-sar]=5 [scscf-12-sar]=4 [mar-01]=5 [mar-23]=3 [mar-29]=2 [mar-33]=4)
 declare -A used=([mar-01]=3 [mar-23]=1 [mar-29]=$(seq -s ' ' 0 6 90) [mar-33]=2)
 
+# What is said of an AVP at fault.
+declare -A fault=([mar-14]='B5004 at byte 208: AVP 612 vendor 10415 flags 0xc0 length 144
+    192: 0000025F C0000010 000028AF 00000001
+    208:[00000264 C0000090 000028AF]00000260
+    224: C000001B 000028AF 48545450 5F444947' [mar-16]='B5004 at byte 208: AVP 612 vendor 10415 flags 0xc0 length 84
+    192: 0000025F C0000010 000028AF 00000001
+    208:[00000264 C0000054 000028AF]00000260
+    224: C000001C 000028AF 44696765 73742D41')
+
 for request in "$(dirname "$0")"/captured/*.hex; do
     name=$(basename "$request" .hex)
     result=$(sed -n 's/^# .* answered: \([BX][0-9]*\).*/\1/p' "$request")
@@ -67,6 +76,7 @@ for request in "$(dirname "$0")"/captured/*.hex; do
     {
         echo "answered, $(stat -c %s "$room/answer") bytes"
         od -An -v -tx4 --endian=big -w32 "$room/answer" | sed 's/^ //' | tr a-f A-F
+        [ -z "${fault[$name]-}" ] || echo "${fault[$name]}"
         [ -z "${rewritten[$name]-}" ] || echo "block ${rewritten[$name]} rewritten"
         for block in ${used[$name]-}; do echo "vector block $block used"; done
     } >"$room/expected"

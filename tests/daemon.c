@@ -1,7 +1,7 @@
-/* daemon FOLDER TABLE PROFILE VECTORS QUESTION ASSIGNMENT CHALLENGE: the daemon of ndushavire(3), example.c, on a disk that fails. Its
+/* daemon FOLDER TABLE PROFILE VECTORS QUESTION ASSIGNMENT CHALLENGE RUBBISH: the daemon of ndushavire(3), example.c, on a disk that fails. Its
  * system calls fail, or are its last, or the last before a power cut, one by one and two by two; it is started again, and its peer asks
  * until it is answered. No answer may go out while a power cut could bring back another table or vector file than it was given from, and
- * no vector twice.
+ * no vector twice. To RUBBISH, which has an AVP at fault, its log says where it hurts.
  * The disk is a model: what is in the folders is what every reader sees, and only what was flushed is on disk. */
 #define _GNU_SOURCE /* memmem, MAP_ANONYMOUS */
 #include <stdarg.h>
@@ -231,7 +231,7 @@ static int disk_close(int file) {
 
 /* ---- the peer */
 
-static Bytes old_file[NAMES], old_profile, question, assignment, challenge;
+static Bytes old_file[NAMES], old_profile, question, assignment, challenge, rubbish;
 
 /* A line that nobody has registered is challenged, assigned, challenged anew; the last assignment finds its work done. */
 static const Bytes *const asked[REQUESTS] = {&question, &challenge, &assignment, &challenge, &question, &assignment};
@@ -289,6 +289,7 @@ static int seen(int i, const uint8_t *bytes, size_t length) {
 }
 
 int send_all(int peer, const uint8_t *bytes, size_t length) {
+    if (length != ((size_t)bytes[1] << 16 | (size_t)bytes[2] << 8 | bytes[3])) broken("more or less than the answer went out");
     if (!same(&model->on_disk[TABLE], table.bytes, table.length)) broken("an answer went out that a power cut takes back");
     if (!seen(TABLE, table.bytes, table.length)) broken("an answer went out, and the disk may have more than it was given from");
     for (size_t at = 0; at < vectors.length; at += 512)
@@ -418,9 +419,35 @@ static int try_rotten(void) {
     return right;
 }
 
+/* A request with an AVP at fault is answered, and the log says where it hurts; of others it says nothing. */
+static int try_rubbish(void) {
+    static const char fault[] = "daemon: peer 6: B5004 at byte 208: AVP 612 vendor 10415 flags 0xc0 length 84\n"
+                                "    192: 0000025F C0000010 000028AF 00000001\n"
+                                "    208:[00000264 C0000054 000028AF]00000260\n"
+                                "    224: C000001C 000028AF 44696765 73742D41\n";
+    const Fault none = {0, FAILS};
+    char logged[2 * sizeof fault];
+    int status;
+    FILE *log = tmpfile();
+    if (log == NULL || !prepare(none, none, 0)) return 0;
+    const pid_t child = fork();
+    if (child == 0) {
+        dup2(fileno(log), STDERR_FILENO);
+        start("live", ".");
+        _exit(serve(ANOTHER, question.bytes, question.length) && serve(ANOTHER, rubbish.bytes, rubbish.length) ? 0 : 2);
+    }
+    if (child < 0 || waitpid(child, &status, 0) != child) return 0;
+    rewind(log);
+    logged[fread(logged, 1, sizeof logged - 1, log)] = '\0';
+    fclose(log);
+    if (WIFEXITED(status) && WEXITSTATUS(status) == 0 && strcmp(logged, fault) == 0) return 1;
+    fprintf(stderr, "daemon: %s; the log has '%s' and should have '%s'\n", model->broken != NULL ? model->broken : "an AVP at fault", logged, fault);
+    return 0;
+}
+
 int main(int argc, char **argv) {
-    if (argc != 8) {
-        fprintf(stderr, "usage: daemon FOLDER TABLE PROFILE VECTORS QUESTION ASSIGNMENT CHALLENGE\n");
+    if (argc != 9) {
+        fprintf(stderr, "usage: daemon FOLDER TABLE PROFILE VECTORS QUESTION ASSIGNMENT CHALLENGE RUBBISH\n");
         return 2;
     }
     read_all(argv[2], &old_file[TABLE]);
@@ -429,6 +456,7 @@ int main(int argc, char **argv) {
     read_all(argv[5], &question);
     read_all(argv[6], &assignment);
     read_all(argv[7], &challenge);
+    read_all(argv[8], &rubbish);
     folders[VECTORS] = chdir(argv[1]) == 0 ? open(".", O_RDONLY | O_DIRECTORY) : -1;
     folders[TABLE] = open("live", O_RDONLY | O_DIRECTORY);
     model = (struct Model *)mmap(NULL, sizeof *model, PROT_READ | PROT_WRITE, MAP_SHARED | MAP_ANONYMOUS, -1, 0);
@@ -438,7 +466,7 @@ int main(int argc, char **argv) {
     }
     nowhere = open("/dev/null", O_WRONLY);
     const Fault none = {0, FAILS};
-    if (!try_rotten()) return 1;
+    if (!try_rubbish() || !try_rotten()) return 1;
     if (!expect()) {
         fprintf(stderr, "daemon: the assignment or the challenge alters nothing\n");
         return 2;

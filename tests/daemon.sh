@@ -32,17 +32,18 @@ bytes_of() { printf %b "$(grep -v '^#' "$1" | tr -d ' \n' | sed 's/../\\x&/g')";
 bytes_of "$tests/captured/icscf-20-lir.hex" >"$room/question"
 bytes_of "$tests/captured/scscf-12-sar.hex" >"$room/assignment"
 bytes_of "$tests/captured/mar-33.hex" >"$room/challenge"
+bytes_of "$tests/captured/mar-16.hex" >"$room/rubbish"
 
 # The first display of the page's examples, as C.
 sed -n '/^\.Sh EXAMPLES/,/^\.Ed/{/^\.Bd/,/^\.Ed/p}' "$top/man/ndushavire.3" | sed '/^\./d; s/\\e/\\/g; s/\\&//g' >"$room/source/example.c"
 grep -q -F 'ndushavire_decide(' "$room/source/example.c" || fail 'the page has no daemon'
-cp "$top/examples/load.h" "$top/examples/store.h" "$room/source/"
+cp "$top"/examples/{fault,load,store}.h "$room/source/"
 
 build() { # SOURCES PROGRAM
     "${compiler[@]}" -std=c99 -O2 -Wall -Wextra -pedantic -Werror -I"$top/include" -I"$1" -o "$2" "$tests/daemon.c" "$archive"
 }
 tried() { # PROGRAM
-    "${run[@]}" "$1" "$disk" "$room/table" "$room/profile" "$room/vectors" "$room/question" "$room/assignment" "$room/challenge"
+    "${run[@]}" "$1" "$disk" "$room/table" "$room/profile" "$room/vectors" "$room/question" "$room/assignment" "$room/challenge" "$room/rubbish"
 }
 build "$room/source" "$room/daemon"
 tried "$room/daemon"
@@ -74,6 +75,9 @@ without 'vectors that are stored behind the answer' example.c -e 's/if (!durable
     -e 's/return send_all(peer, answer, ndushavire_value(word));/return send_all(peer, answer, ndushavire_value(word)) \&\& durable(\&vectors);/'
 without 'a table that is stored before the vectors' example.c 's/if (!durable(&vectors) || !durable(&table)) {/if (!durable(\&table) || !durable(\&vectors)) {/'
 without 'vectors that are unsound and lent as they are' example.c 's/vectors.length = 0;/;/'
+without 'an AVP at fault that is not logged' example.c 's/if (ndushavire_place(word) != 0) {/if (0) {/'
+without 'an AVP logged that is not at fault' example.c 's/if (ndushavire_place(word) != 0) {/{/'
+without 'a word taken for a length' example.c 's/return send_all(peer, answer, ndushavire_value(word));/return send_all(peer, answer, word);/'
 without 'a file that is not flushed' store.h 's/ \&\& flushed(file);$/;/'
 without 'a folder that is not flushed' store.h 's/return flushed(folder) ? STORED : UNSURE;/return STORED;/'
-echo "daemon.sh: the page's daemon answers from what is on disk, and each of $noticed things left out is noticed"
+echo "daemon.sh: the page's daemon answers from what is on disk and logs an AVP at fault, and each of $noticed things left out is noticed"

@@ -1,6 +1,7 @@
 #!/usr/bin/env bash
 # decide.sh ROOM MAKETABLE DECIDE..: each DECIDE gives the worked answer over the sample, the refusals that a request, a table
-# or a vector file can bring about, and says which vectors were used. RUN, if set, is the emulator that runs a DECIDE.
+# or a vector file can bring about, and says which vectors were used, and which AVP of a request is at fault. RUN, if set, is the
+# emulator that runs a DECIDE.
 set -euo pipefail
 shopt -s lastpipe
 room=$1 maketable=$2
@@ -68,6 +69,132 @@ captured=$(dirname "$0")/captured
 uses mar-33 'block 6 rewritten' 'vector block 5 used'
 uses mar-29 'block 4 rewritten' 'vector block 3 used' 'vector block 4 used'
 uses icscf-20-lir
+
+# ---- the place of the AVP at fault
+# An AVP in hexadecimal digits, filled up to four bytes; FLAGS and DATA are such digits, and VENDOR is - without V. LENGTH is its true
+# one unless it is given.
+avp() { # CODE FLAGS VENDOR DATA [LENGTH]
+    local vendor='' length
+    [ "$3" = - ] || printf -v vendor %08X "$3"
+    length=$((8 + (${#vendor} + ${#4}) / 2))
+    printf '%08X%s%06X%s%s' "$1" "$2" "${5-$length}" "$vendor" "$4"
+    printf '%*s' $((-2 * length & 7)) '' | tr ' ' 0
+}
+text() { printf %s "$1" | od -An -v -tx1 | tr -d ' \n' | tr a-f A-F; }
+many() { printf "%0$((2 * $1))d" 0; } # N bytes
+message() { printf '01%06XC0%06X%s0000000100000002%s' $((20 + ${#3} / 2)) "$1" "$2" "$3"; } # COMMAND APPLICATION AVPS
+cx=01000000 third=10415
+session=$(avp 263 40 - "$(text 'scscf1.isle;1;2')")
+both=$(avp 266 40 - 000028AF)$(avp 258 40 - $cx)
+application=$(avp 260 40 - "$both")
+stateless=$(avp 277 40 - 00000001)
+from=$(avp 264 40 - "$(text scscf1.isle)")$(avp 296 40 - "$(text isle)")
+front=$session$application$stateless$from$(avp 283 40 - "$(text isle)")
+public() { avp 601 C0 $third "$(text "$1")"; }
+private() { avp 1 40 - "$(text "$1")"; }
+visited=$(avp 600 C0 $third "$(text isle)")
+server=$(avp 602 C0 $third "$(text sip:scscf1.isle:6060)")
+scheme=$(avp 608 C0 $third "$(text Digest-AKAv1-MD5)")
+assigned() { avp 614 C0 $third "$(printf %08X "$1")"; }
+available=$(avp 624 C0 $third 00000001)
+uar=$front$(private bob@isle)$(public sip:bob@isle)
+unknown=$(avp 999 00 - "$(many 30)")
+
+# In $behind what each DECIDE says behind the bytes of its answer, and in $bytes these.
+decided() { # MESSAGE ABOUT
+    local decide length lines said
+    echo "$1" >"$request"
+    for decide in "${decides[@]}"; do
+        "${run[@]}" "$decide" "$table" "$profile" "$vectors" "$request" >"$room/said" || { echo "decide.sh: $2: $decide does not answer" >&2; exit 1; }
+        length=$(sed -n '1s/^answered, \([0-9]*\) bytes$/\1/p' "$room/said")
+        lines=$(((length + 31) / 32))
+        bytes=$(sed "1d; $((1 + lines))q" "$room/said" | tr -d ' \n')
+        said=$(sed "1,$((1 + lines))d" "$room/said")
+        [ "$decide" = "${decides[0]}" ] || [ "$said" = "$behind" ] || { echo "decide.sh: $2: $decide says '$said' and another '$behind'" >&2; exit 1; }
+        behind=$said
+    done
+    tried=$((tried + 1))
+}
+# The AVPs BEFORE are followed by one that is at fault: FAULT is what is said of it, with PLACE for its place, and HEADER how many bytes of
+# its header are there. Behind it comes AFTER. The bytes shown are those of the message, from 16 before the place to 32 behind it.
+hurts() { # ABOUT COMMAND FAULT HEADER BEFORE AVP [AFTER]
+    local place=$((20 + ${#5} / 2)) shown whole
+    whole=$(message "$2" $cx "$5$6${7-}")
+    decided "$whole" "$1"
+    [ "$(head -n 1 <<<"$behind")" = "${3/PLACE/$place}" ] || { echo "decide.sh: $1: not '${3/PLACE/$place}' but"; echo "$behind"; exit 1; } >&2
+    shown=$(sed '1d; s/^ *[0-9]*://' <<<"$behind" | tr -d ' \n')
+    [ "$shown" = "${whole:2 * (place - 16):32}[${6:0:2 * $4}]${whole:2 * (place + $4):2 * (32 - $4)}" ] ||
+        { echo "decide.sh: $1: other bytes are shown than there are:"; echo "$behind"; exit 1; } >&2
+    [ "$(sed '1d; s/^ *\([0-9]*\):.*/\1/' <<<"$behind" | tr '\n' ' ')" = "$(seq -s ' ' $((place - 16)) 16 $((${#whole} / 2 - 1)) | cut -d ' ' -f 1-3) " ] ||
+        { echo "decide.sh: $1: the lines begin elsewhere:"; echo "$behind"; exit 1; } >&2
+}
+# An answer with this RESULT, B or X, and no word on an AVP at fault.
+painless() { # ABOUT RESULT MESSAGE
+    local code=0000010C
+    decided "$3" "$1"
+    [ "${2:0:1}" = B ] || code=0000012A
+    [[ $bytes = *"${code}4000000C$(printf %08X "${2:1}")"* ]] || { echo "decide.sh: $1: not $2 but $bytes" >&2; exit 1; }
+    [ -z "$(sed '/^\(vector \)\?block /d' <<<"$behind")" ] || { echo "decide.sh: $1: an AVP is blamed:"; echo "$behind"; exit 1; } >&2
+}
+
+# (a): lengths that are too short or too long, and headers that are cut off, also by the end of the longest request and at its front.
+hurts 'a length under 8' 300 'B5014 at byte PLACE: AVP 600 flags 0x40 length 7' 8 "$uar" "$(avp 600 40 - '' 7)" "$visited"
+hurts 'a length of 0' 300 'B5014 at byte PLACE: AVP 600 flags 0x40 length 0' 8 "$uar" "$(avp 600 40 - '' 0)"
+hurts 'V and a length under 12' 300 'B5014 at byte PLACE: AVP 600 vendor 10415 flags 0xc0 length 11' 12 "$uar" "$(avp 600 C0 $third '' 11)" "$visited"
+hurts 'a length past the end' 300 'B5014 at byte PLACE: AVP 600 vendor 10415 flags 0xc0 length 17, 16 bytes left' 12 "$uar" "$(avp 600 C0 $third 69736C65 17)"
+hurts 'the greatest length' 300 'B5014 at byte PLACE: AVP 600 flags 0x40 length 16777215, 8 bytes left' 8 "$uar" "$(avp 600 40 - '' 16777215)"
+hurts 'a code alone' 300 'B5014 at byte PLACE: AVP 600, 4 bytes left' 4 "$uar" 00000258
+hurts 'V and no vendor' 300 'B5014 at byte PLACE: AVP 600 flags 0xc0 length 16, 8 bytes left' 8 "$uar" 00000258C0000010
+hurts 'V, no vendor and a length of 8' 300 'B5014 at byte PLACE: AVP 600 flags 0xc0 length 8, 8 bytes left' 8 "$uar" 00000258C0000008
+hurts 'the first AVP' 300 'B5014 at byte 20: AVP 263 flags 0x40 length 5' 8 '' "$(avp 263 40 - '' 5)" "$uar"
+hurts 'a first AVP that is a code alone' 300 'B5014 at byte 20: AVP 0, 4 bytes left' 4 '' 00000000
+long=$session$(avp 999 00 - "$(many $((16380 - 20 - ${#session} / 2 - 8)))")
+hurts 'a code at the end of the longest request' 303 'B5014 at byte 16380: AVP 4294967295, 4 bytes left' 4 "$long" FFFFFFFF
+long=$session$(avp 999 00 - "$(many $((16376 - 20 - ${#session} / 2 - 8)))")
+hurts 'a header at the end of the longest request' 303 'B3009 at byte 16376: AVP 999 flags 0x41 length 8' 8 "$long" "$(avp 999 41 - '')"
+# (c) to (h), each behind AVPs of every length and before others that are at fault too: the first one is meant.
+hurts 'a reserved flag' 300 'B3009 at byte PLACE: AVP 600 vendor 10415 flags 0xd0 length 16' 12 "$uar$unknown" "$(avp 600 D0 $third 69736C65)" 00000258
+hurts 'a reserved flag of an AVP to skip' 302 'B3009 at byte PLACE: AVP 999 flags 0x01 length 9' 8 "$front" "$(avp 999 01 - FF)" "$(public sip:bob@isle)"
+hurts 'an unknown kind with M' 302 'B5001 at byte PLACE: AVP 999 flags 0x40 length 9' 8 "$front$unknown" "$(avp 999 40 - FF)" "$(avp 998 40 - '')"
+hurts '601 without V' 302 'B5001 at byte PLACE: AVP 601 flags 0x40 length 20' 8 "$front" "$(avp 601 40 - "$(text sip:bob@isle)")"
+hurts 'an unknown vendor' 302 'B5001 at byte PLACE: AVP 601 vendor 4294967295 flags 0xc0 length 12' 12 "$front" "$(avp 601 C0 0xFFFFFFFF '')"
+hurts 'a second identity in a UAR' 300 'B5009 at byte PLACE: AVP 601 vendor 10415 flags 0xc0 length 24' 12 "$uar$unknown" "$(public sip:bob@isle)" "$visited"
+hurts 'a second Session-Id' 302 'B5009 at byte PLACE: AVP 263 flags 0x40 length 8' 8 "$front" "$(avp 263 40 - '')" "$(public sip:bob@isle)"
+hurts '277 of 3 bytes' 302 'B5014 at byte PLACE: AVP 277 flags 0x40 length 11' 8 "$session$application" "$(avp 277 40 - 000001)" "$from"
+hurts '623 of 5 bytes' 300 'B5014 at byte PLACE: AVP 623 vendor 10415 flags 0x80 length 17' 12 "$uar" "$(avp 623 80 $third 0000000000)" "$visited"
+hurts '277 of 2' 302 'B5004 at byte PLACE: AVP 277 flags 0x40 length 12' 8 "$session$application" "$(avp 277 40 - 00000002)" "$from"
+hurts '614 of 12' 301 'B5004 at byte PLACE: AVP 614 vendor 10415 flags 0xc0 length 16' 12 "$front$server" "$(assigned 12)" "$available"
+hurts 'a Server-Name of 97 bytes' 301 'B5004 at byte PLACE: AVP 602 vendor 10415 flags 0xc0 length 109' 12 "$front" \
+    "$(avp 602 C0 $third "$(many 97)")" "$(assigned 1)"
+# A fault within a group is the group's.
+hurts '260 with another member behind the two' 302 'B5004 at byte PLACE: AVP 260 flags 0x40 length 44' 8 "$session" \
+    "$(avp 260 40 - "$both$(avp 259 40 - 00000003)")" "$stateless"
+hurts '612 with 610 beside its 608' 303 'B5004 at byte PLACE: AVP 612 vendor 10415 flags 0xc0 length 56' 12 "$front$(private bob@isle)$(public sip:bob@isle)" \
+    "$(avp 612 C0 $third "$scheme$(avp 610 C0 $third FFFFFFFF)")" "$server"
+hurts '607 of 8 bytes' 303 'B5014 at byte PLACE: AVP 607 vendor 10415 flags 0xc0 length 20' 12 "$front" "$(avp 607 C0 $third "$(many 8)")" "$server"
+
+# Nobody's fault among the AVPs: success, faults of the header, B5005, what a decision says. Behind each header fault stands an AVP at fault.
+item=$(avp 612 C0 $third "$scheme")
+mar() { echo "$front$(private "$1")$(public "$2")$3$(avp 607 C0 $third "$(printf %08X "$4")")$server"; } # USER-NAME PUBLIC-IDENTITY 612 NUMBER
+bad=$session$(avp 999 41 - '')
+painless 'a LIR' B2001 "$(message 302 $cx "$front$(public sip:bob@isle)")"
+painless 'a UAR' X2002 "$(message 300 $cx "$uar$visited")"
+painless 'another version' B5011 "02$(message 302 $cx "$bad" | cut -c 3-)"
+painless 'the E bit' B3008 "$(message 302 $cx "$bad" | sed 's/^\(........\)C0/\1E0/')"
+painless 'another command' B3001 "$(message 304 $cx "$bad")"
+painless 'another application' B3007 "$(message 302 01000001 "$bad")"
+painless 'another AVP first, at fault by itself' B5005 "$(message 302 $cx "$(avp 999 5F - '')$session")"
+painless 'no Visited-Network-Identifier' B5005 "$(message 300 $cx "$uar")"
+painless 'a SAR of type 1 without identity' B5005 "$(message 301 $cx "$front$server$(assigned 1)$available")"
+painless 'a SAR of type 1 with two identities' B5009 "$(message 301 $cx "$front$server$(assigned 1)$available$(public sip:bob@isle)$(public sip:bob@isle)")"
+painless 'a SAR of type 0 from another call server' B5012 "$(message 301 $cx "$front$server$(assigned 0)$available$(public sip:desk@guests.isle)")"
+painless 'a SAR of type 2 in state 0' X5007 "$(message 301 $cx "$front$server$(assigned 2)$available$(public sip:erin@isle)")"
+painless 'a SAR of type 1' B2001 "$(message 301 $cx "$front$server$(assigned 1)$available$(public sip:erin@isle)")"
+painless 'an identity of nobody' X5001 "$(message 302 $cx "$front$(public sip:nobody@isle)")"
+painless 'a barred line' B5003 "$(message 300 $cx "$front$(private bob@isle)$(public sip:bob.fax@isle)$visited")"
+painless 'a MAR' B2001 "$(message 303 $cx "$(mar bob@isle sip:bob@isle "$item" 1)")"
+painless 'a MAR with another scheme' X5006 "$(message 303 $cx "$(mar bob@isle sip:bob@isle "$(avp 612 C0 $third "$(avp 608 C0 $third FF)")" 1)")"
+painless 'a MAR for no vectors' B5012 "$(message 303 $cx "$(mar bob@isle sip:bob@isle "$item" 0)")"
 : >"$vectors"
 uses mar-33
 "$maketable" vectors "$examples/vectors.txt" >"$vectors"

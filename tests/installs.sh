@@ -30,7 +30,7 @@ quiet() { make -s -C "$top" "$@"; }
     printf '%s\n' "${programs[@]}" include/ndushavire.h lib/libndushavire.a lib/pkgconfig/ndushavire.pc \
         share/man/man3/ndushavire_{check,check_vectors,decide}.3 share/doc/ndushavire/{README.md,installed}
     (cd "$top" && printf 'share/doc/ndushavire/%s\n' docs/*.md | sed 's|/docs/|/|')
-    (cd "$top" && printf 'share/doc/ndushavire/%s\n' examples/* examples/{icscf-20-lir,scscf-12-sar,mar-33}.hex)
+    (cd "$top" && printf 'share/doc/ndushavire/%s\n' examples/* examples/{icscf-20-lir,scscf-12-sar,mar-33,mar-16}.hex)
     (cd "$top" && printf '%s\n' man/* | sed 's|^man/\(.*\)\.\(.\)$|share/man/man\2/\1.\2|')
 } | sed '/^$/d' | sort >"$room/expected"
 for name in share/man/man1/{answer,tablecheck,ndushavire-check}.1 share/man/man3/ndushavire.3 share/doc/ndushavire/examples/store.h; do

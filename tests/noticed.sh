@@ -21,8 +21,9 @@ for kind in tables vectors calls demand3 runs; do
     ends 1 "$kind" true
 done
 for of in tables:EqualIdentitiesTaken tables:PrefixTaken vectors:XresOf3Taken vectors:LastBadVectorTold calls:PendingStays calls:RestOfBufferCleared \
-    calls:BaseForUserUnknown calls:UsedSentAgain calls:VectorCheckWordStays demand3:MarkIgnored demand3:ReservedFlagsOfUnknownIgnored \
-    demand3:FaultyRequestUsesVector runs:UsedSentAgain runs:RewritingFreesVectors; do
+    calls:BaseForUserUnknown calls:UsedSentAgain calls:VectorCheckWordStays calls:PlaceNeverTold calls:SecondIdentityPlaced \
+    demand3:MarkIgnored demand3:ReservedFlagsOfUnknownIgnored demand3:FaultyRequestUsesVector demand3:PlaceWithoutUnknown \
+    demand3:FirstUnknownPlaced demand3:LastMarkedPlaced runs:UsedSentAgain runs:RewritingFreesVectors; do
     ends 1 "${of%:*}" "$reference" outcomes --fault "${of#*:}"
 done
 for kind in tables vectors; do

@@ -96,6 +96,9 @@ first=$said
 answers mar-33
 [ "$said" = "$first" ] || fail 'the same MAR again gets another answer'
 for file in table profile vectors; do cmp "$file" "other/$file" >&2 || fail "$file was written to"; done
+# Of an AVP at fault too the answer alone is written, as long as it says itself.
+answers mar-16
+[[ $said = *$(result 5004)* ]] && [ ${#said} = $((2 * 0x${said:2:6})) ] || fail "an AVP at fault: answer writes '$said'"
 
 : >vectors
 told "sound, 9 records"$'\n'"vectors sound, 0 blocks"

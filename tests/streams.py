@@ -76,7 +76,8 @@ def changes(case, outcome):
 def answer(case, outcome):
     """The answer of a decision; nothing if it was refused."""
     first, written = changes(case, outcome)['buffer']
-    said = bytearray(NOISE[case.fill:case.fill + (0 if outcome.word >> 48 else outcome.word)])
+    length = 0 if outcome.word >> 48 else outcome.word & 0xFFFFFFFF  # above it stands the place of the AVP at fault
+    said = bytearray(NOISE[case.fill:case.fill + length])
     said[first:first + len(written)] = written
     return bytes(said)
 

@@ -261,7 +261,7 @@ impl Case {
 impl Outcome {
     /// Number, place and value of the return word.
     pub fn parts(&self) -> (u64, u64, u64) {
-        (self.word >> 48, self.word >> 32 & 0xFFFF, self.word & 0xFFFF_FFFF)
+        serve::parts(self.word)
     }
 }
 

@@ -1,5 +1,6 @@
 //! Demand 3 on the outcomes of a driver: AVPs of unknown kinds put into an answered request change nothing if none
-//! is marked, and give B5001 for the first marked one unless a fault stands before it.
+//! is marked, and give B5001 for the first marked one unless a fault stands before it. Only the place of an AVP at fault
+//! is another: it moves by what was put in before it, or is the first marked one's.
 
 use std::io;
 use std::ops::Range;
@@ -12,10 +13,11 @@ use crate::cases::{Case, Change, Entry, Outcome, Slice};
 use crate::compare::Fed;
 use crate::gen::{self, Stream};
 use crate::kinds::Kind;
-use crate::message::{padded, sound_avps, Message, HEADER, M};
+use crate::message::{padded, Message, Received, HEADER, M};
 use crate::read::{read_header, walk};
 use crate::refuse::MOST_REQUEST;
 use crate::rng::Rng;
+use crate::serve::parts;
 use crate::slip::Slip;
 use crate::table::Table;
 use crate::verdict::{Failed, Finding, Verdict, Why};
@@ -23,18 +25,38 @@ use crate::verdict::{Failed, Finding, Verdict, Why};
 /// How the second of two outcomes relates to the first.
 #[derive(Clone, PartialEq, Debug)]
 enum Relation {
-    /// None is marked: word, table, vectors and buffer are the same.
+    /// None is marked: table, vectors and buffer are the same, and the word but for its place.
     Unmarked,
     /// A fault before the first marked one: the answer given without them.
     FaultBefore,
-    /// Table and vectors as they were, and this answer.
-    Marked(Vec<u8>),
+    /// Table and vectors as they were, this answer, and the first marked one's place.
+    Marked(Vec<u8>, usize),
+}
+
+/// What is expected of a pair of outcomes.
+#[derive(Clone)]
+struct Expected {
+    relation: Relation,
+    moves: Moves,
 }
 
 struct Pair {
     without: Case,
     with: Case,
-    relation: Relation,
+    expected: Expected,
+}
+
+/// How places move: of what was put in, before which byte of the request it stands there, and how long it is.
+#[derive(Clone)]
+struct Moves(Vec<(usize, usize)>);
+
+impl Moves {
+    /// The word with its place moved; 0 stays.
+    fn word(&self, word: u64) -> u64 {
+        let place = parts(word).1 as usize;
+        let before = self.0.iter().filter(|(at, _)| place != 0 && *at <= place);
+        word + ((before.map(|(_, by)| by).sum::<usize>() as u64) << 32)
+    }
 }
 
 /// An AVP of the inserted ones, as it stands in the request.
@@ -49,14 +71,14 @@ pub fn compare(seed: u64, numbers: Range<u64>, command: &[String]) -> io::Result
     let began = Instant::now();
     let mut fed = Fed::start(command, numbers.clone(), move |number| {
         let pair = pair(seed, number);
-        (vec![pair.without, pair.with], pair.relation)
+        (vec![pair.without, pair.with], pair.expected)
     })?;
     let (mut unmarked, mut before, mut marked) = (0u64, 0u64, 0u64);
-    let (mut rewritten, mut sent) = (0u64, 0u64);
+    let (mut rewritten, mut sent, mut moved) = (0u64, 0u64, 0u64);
     let count = numbers.end - numbers.start;
     for number in numbers {
-        let relation = match fed.told.recv() {
-            Ok(relation) => relation,
+        let expected = match fed.told.recv() {
+            Ok(expected) => expected,
             Err(_) => break,
         };
         let (without, with) = match (fed.outcome(), fed.outcome()) {
@@ -67,17 +89,18 @@ pub fn compare(seed: u64, numbers: Range<u64>, command: &[String]) -> io::Result
                 return Ok(false);
             }
         };
-        if let Err(what) = relates(seed, number, &relation, &without, &with) {
+        if let Err(what) = relates(seed, number, &expected, &without, &with) {
             println!("pair {number} of seed {seed}: {what}");
             tell(&pair(seed, number), &without, &with);
             fed.abandon();
             return Ok(false);
         }
-        match relation {
+        match expected.relation {
             Relation::Unmarked => unmarked += 1,
             Relation::FaultBefore => before += 1,
-            Relation::Marked(_) => marked += 1,
+            Relation::Marked(..) => marked += 1,
         }
+        moved += (with.parts().1 != without.parts().1) as u64;
         rewritten += Entry::Decide.changed(&without, Slice::Table) as u64;
         sent += Entry::Decide.changed(&without, Slice::Vectors) as u64;
     }
@@ -86,34 +109,34 @@ pub fn compare(seed: u64, numbers: Range<u64>, command: &[String]) -> io::Result
     }
     println!(
         "{count} pairs relate: {unmarked} unmarked, {marked} marked, {before} marked with a fault before; \
-         {rewritten} with a table rewritten, {sent} with vectors sent; {:.1} s",
+         {moved} with another place, {rewritten} with a table rewritten, {sent} with vectors sent; {:.1} s",
         began.elapsed().as_secs_f64()
     );
     Ok(true)
 }
 
-fn relates(seed: u64, number: u64, relation: &Relation, without: &Outcome, with: &Outcome) -> Result<(), String> {
+fn relates(seed: u64, number: u64, expected: &Expected, without: &Outcome, with: &Outcome) -> Result<(), String> {
     if without.altered != 0 || with.altered != 0 {
         return Err("what was lent to be read was altered".to_string());
     }
     if without.parts().0 != 0 {
         return Err("the request is not answered".to_string());
     }
-    match relation {
-        Relation::Unmarked | Relation::FaultBefore => {
-            if with != without {
+    match &expected.relation {
+        relation @ (Relation::Unmarked | Relation::FaultBefore) => {
+            let moved = Outcome { word: expected.moves.word(without.word), ..without.clone() };
+            if (Outcome { word: moved.word, ..with.clone() }) != moved {
                 return Err(format!("the outcome is another one ({relation:?})"));
             }
+            placed(moved.word, with.word)?;
         }
-        Relation::Marked(expected) => {
+        Relation::Marked(expected, place) => {
             for slice in [Slice::Table, Slice::Vectors] {
                 if Entry::Decide.changed(with, slice) {
                     return Err(format!("the {} was changed", slice.name()));
                 }
             }
-            if with.word != expected.len() as u64 {
-                return Err(format!("the answer should have {} bytes", expected.len()));
-            }
+            placed((*place as u64) << 32 | expected.len() as u64, with.word)?;
             let case = pair(seed, number).with;
             let before = case.held(Slice::Buffer);
             let mut after = before.to_vec();
@@ -126,16 +149,25 @@ fn relates(seed: u64, number: u64, relation: &Relation, without: &Outcome, with:
     Ok(())
 }
 
+/// Whether the word is this one.
+fn placed(expected: u64, given: u64) -> Result<(), String> {
+    let (_, place, value) = parts(expected);
+    match given == expected {
+        true => Ok(()),
+        false => Err(format!("the answer should have {value} bytes, and the word the place {place}")),
+    }
+}
+
 fn tell(pair: &Pair, without: &Outcome, with: &Outcome) {
     println!("  request:\n{}", account::lines(&pair.without.held(Slice::Request)));
-    println!("  with AVPs put in ({:?}):\n{}", pair.relation, account::lines(&pair.with.held(Slice::Request)));
+    println!("  with AVPs put in ({:?}):\n{}", pair.expected.relation, account::lines(&pair.with.held(Slice::Request)));
     for (which, case, outcome) in [("without", &pair.without, without), ("with", &pair.with, with)] {
         println!("  {which}: {}", account::word(case.entry, outcome));
         account::answer(which, case, outcome);
     }
 }
 
-/// Pair `number`: an answered request whose AVPs all have sound lengths, without and with unknown kinds put in.
+/// Pair `number`: an answered request, without and with unknown kinds put in before its first length fault.
 fn pair(seed: u64, number: u64) -> Pair {
     let mut rng = Rng::for_case(seed ^ 0x3333, number);
     loop {
@@ -146,17 +178,18 @@ fn pair(seed: u64, number: u64) -> Pair {
     }
 }
 
-/// Where the AVPs of an answered request begin, and its end; none if a length is not sound or there is no AVP.
+/// Where the AVPs of an answered request begin and where their end is, up to the first length fault; none if there is no
+/// AVP before that.
 fn sound_starts(case: &Case) -> Option<Vec<usize>> {
     if case.outcome(Slip::NONE).parts().0 != 0 {
         return None;
     }
     let request = case.held(Slice::Request);
     let mut starts = vec![HEADER];
-    for avp in sound_avps(Message(&request).avps(), Slip::NONE) {
+    for avp in Message(&request).avps().sound(Slip::NONE) {
         starts.push(starts[starts.len() - 1] + padded(avp.whole.len()));
     }
-    (starts.len() > 1 && starts[starts.len() - 1] == request.len()).then_some(starts)
+    (starts.len() > 1).then_some(starts)
 }
 
 /// The second case of the pair, or none if the request would be too long.
@@ -198,12 +231,14 @@ fn put_in(rng: &mut Rng, without: Case, starts: &[usize]) -> Option<Pair> {
             request.extend(&bare[starts[place]..starts[place + 1]]);
         }
     }
+    request.extend(&bare[starts[own]..]);
     let length = request.len() as u32;
     request[1..4].copy_from_slice(&length.to_be_bytes()[1..]);
     let mut with = without.clone();
     with.put(Slice::Request, request);
     let relation = relation(&with, first_marked);
-    Some(Pair { without, with, relation })
+    let moves = Moves(inserted.iter().map(|avp| (starts[avp.place], avp.bytes.len())).collect());
+    Some(Pair { without, with, expected: Expected { relation, moves } })
 }
 
 fn relation(with: &Case, first_marked: Option<usize>) -> Relation {
@@ -213,14 +248,15 @@ fn relation(with: &Case, first_marked: Option<usize>) -> Relation {
     };
     let request = with.held(Slice::Request);
     let message = Message(&request);
-    let before = &request[HEADER..at];
+    let before = Received { at: HEADER, bytes: &request[HEADER..at] };
     if read_header(message, Slip::NONE).and_then(|command| walk(before, command, Slip::NONE)).is_err() {
         return Relation::FaultBefore;
     }
-    let avp = sound_avps(&request[at..], Slip::NONE)[0];
+    let avp = Received { at, bytes: &request[at..] }.sound(Slip::NONE)[0];
     debug_assert!(Kind::of(avp.vendor, avp.code).is_none());
-    let finding = Finding { result: 5001, failed: Failed::Whole(avp), why: Why::Rule('d', "") };
+    let (failed, why) = (Failed::Whole(avp), Why::Rule('d', ""));
+    let finding = Finding { result: 5001, failed, place: at, why };
     let table = with.held(Slice::Table);
     let header = Table(&table[..BLOCK]).header();
-    Relation::Marked(answer(message, header, &Verdict::of_finding(finding), Slip::NONE))
+    Relation::Marked(answer(message, header, &Verdict::of_finding(finding), Slip::NONE), at)
 }

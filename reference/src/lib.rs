@@ -21,6 +21,7 @@ pub mod read;
 
 pub mod answer;
 pub mod decide;
+pub mod place;
 pub mod refuse;
 
 pub mod serve;

@@ -41,14 +41,24 @@ impl<'a> Message<'a> {
     }
 
     /// All that follows the header.
-    pub fn avps(&self) -> &'a [u8] {
-        &self.0[HEADER..]
+    pub fn avps(&self) -> Received<'a> {
+        Received { at: HEADER, bytes: &self.0[HEADER..] }
     }
+}
+
+/// AVPs as received, one behind another.
+#[derive(Clone, Copy)]
+pub struct Received<'a> {
+    /// At which byte of the message they begin.
+    pub at: usize,
+    pub bytes: &'a [u8],
 }
 
 /// An AVP whose length is sound.
 #[derive(Clone, Copy, PartialEq, Debug)]
 pub struct Avp<'a> {
+    /// At which byte of the message it begins.
+    pub at: usize,
     pub code: u32,
     pub flags: u8,
     /// Only with V.
@@ -63,6 +73,11 @@ impl<'a> Avp<'a> {
     pub fn header(&self) -> &'a [u8] {
         let length = if self.vendor.is_some() { 12 } else { 8 };
         &self.whole[..length.min(self.whole.len())]
+    }
+
+    /// What a group holds.
+    pub fn members(&self) -> Received<'a> {
+        Received { at: self.at + self.header().len(), bytes: self.data }
     }
 
     pub fn is_marked(&self) -> bool {
@@ -88,39 +103,58 @@ pub fn padded(length: usize) -> usize {
     (length + 3) / 4 * 4
 }
 
-/// The first AVP of `bytes`, and what follows it and its padding.
-pub fn first_avp(bytes: &[u8], slip: Slip) -> Result<(Avp<'_>, &[u8]), LengthFault> {
-    if bytes.len() < 8 {
-        return Err(LengthFault::CutOff);
+impl<'a> Received<'a> {
+    pub fn is_empty(&self) -> bool {
+        self.bytes.is_empty()
     }
-    let flags = bytes[4];
-    let header = if flags & V != 0 { 12 } else { 8 };
-    if bytes.len() < header {
-        if slip.is(Fault::CutVendorNotSeen) {
-            return Err(LengthFault::Header(header_alone(&bytes[..8], slip)));
+
+    /// The first AVP, and those that follow it and its padding.
+    pub fn first(self, slip: Slip) -> Result<(Avp<'a>, Received<'a>), LengthFault> {
+        let bytes = self.bytes;
+        if bytes.len() < 8 {
+            return Err(LengthFault::CutOff);
         }
-        return Err(LengthFault::CutOff);
+        let flags = bytes[4];
+        let header = if flags & V != 0 { 12 } else { 8 };
+        if bytes.len() < header {
+            if slip.is(Fault::CutVendorNotSeen) {
+                return Err(LengthFault::Header(header_alone(&bytes[..8], slip)));
+            }
+            return Err(LengthFault::CutOff);
+        }
+        let mask = if slip.is(Fault::AvpLengthIn16Bits) { 0xFFFF } else { 0xFF_FFFF };
+        let mut length = (word_at(bytes, 4) & mask) as usize;
+        let least = if slip.is(Fault::VendorLengthNotAsked) { 8 } else { header };
+        if length < least || length > bytes.len() {
+            return Err(LengthFault::Header(header_alone(&bytes[..header], slip)));
+        }
+        let end = padded(length);
+        let with_padding = end.min(bytes.len());
+        if slip.is(Fault::LengthWithPadding) {
+            length = with_padding;
+        }
+        let avp = Avp {
+            at: self.at,
+            code: word_at(bytes, 0),
+            flags,
+            vendor: (flags & V != 0).then(|| word_at(bytes, 8)),
+            data: &bytes[header.min(length)..length],
+            whole: &bytes[..if slip.is(Fault::PaddingCopied) { with_padding } else { length }],
+        };
+        // The last member of a group may have its padding cut.
+        Ok((avp, Received { at: self.at + end, bytes: bytes.get(end..).unwrap_or(&[]) }))
     }
-    let mask = if slip.is(Fault::AvpLengthIn16Bits) { 0xFFFF } else { 0xFF_FFFF };
-    let mut length = (word_at(bytes, 4) & mask) as usize;
-    let least = if slip.is(Fault::VendorLengthNotAsked) { 8 } else { header };
-    if length < least || length > bytes.len() {
-        return Err(LengthFault::Header(header_alone(&bytes[..header], slip)));
+
+    /// The AVPs before the first length fault.
+    pub fn sound(self, slip: Slip) -> Vec<Avp<'a>> {
+        let mut avps = Vec::new();
+        let mut rest = self;
+        while let Ok((avp, after)) = rest.first(slip) {
+            avps.push(avp);
+            rest = after;
+        }
+        avps
     }
-    let end = padded(length);
-    let with_padding = end.min(bytes.len());
-    if slip.is(Fault::LengthWithPadding) {
-        length = with_padding;
-    }
-    let avp = Avp {
-        code: word_at(bytes, 0),
-        flags,
-        vendor: (flags & V != 0).then(|| word_at(bytes, 8)),
-        data: &bytes[header.min(length)..length],
-        whole: &bytes[..if slip.is(Fault::PaddingCopied) { with_padding } else { length }],
-    };
-    // The last member of a group may have its padding cut.
-    Ok((avp, bytes.get(end..).unwrap_or(&[])))
 }
 
 /// A header with its own length.
@@ -131,15 +165,4 @@ pub fn header_alone(header: &[u8], slip: Slip) -> Vec<u8> {
         alone[5..8].copy_from_slice(&[0, 0, header.len() as u8]);
     }
     alone
-}
-
-/// The AVPs before the first length fault.
-pub fn sound_avps(bytes: &[u8], slip: Slip) -> Vec<Avp<'_>> {
-    let mut avps = Vec::new();
-    let mut rest = bytes;
-    while let Ok((avp, after)) = first_avp(rest, slip) {
-        avps.push(avp);
-        rest = after;
-    }
-    avps
 }

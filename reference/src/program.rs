@@ -5,7 +5,7 @@ use std::io::ErrorKind;
 use std::path::Path;
 
 use crate::refuse::LEAST_BUFFER;
-use crate::serve::serve;
+use crate::serve::{parts, serve};
 use crate::slip::Slip;
 use crate::table;
 use crate::vectors;
@@ -51,9 +51,9 @@ pub fn answer(request: &[u8]) -> Result<Vec<u8>, String> {
     }
     let mut buffer = vec![0; LEAST_BUFFER];
     let (word, _) = serve(request, &mut table, &profile, &mut vectors, &mut buffer, Slip::NONE);
-    if word >> 48 != 0 {
-        return Ok(format!("refused {}\n", word >> 48).into_bytes());
+    match parts(word) {
+        (0, _, length) => buffer.truncate(length as usize),
+        (number, ..) => buffer = format!("refused {number}\n").into_bytes(),
     }
-    buffer.truncate(word as usize);
     Ok(buffer)
 }

@@ -11,7 +11,7 @@ use crate::cases::{Case, Outcome, Slice};
 use crate::compare::Fed;
 use crate::gen::{self, Made, Step};
 use crate::kinds::{Kind, SIP_AUTHENTICATE, VENDOR};
-use crate::message::{sound_avps, Avp, Message};
+use crate::message::{Avp, Message};
 use crate::slip::Slip;
 use crate::vectors::vector;
 
@@ -52,13 +52,13 @@ fn sent(case: &Case, outcome: &Outcome) -> Result<Vec<usize>, String> {
     }
     let buffer = case.after(outcome, Slice::Buffer).ok_or("a change lies outside the buffer")?;
     let answer = buffer.get(..length as usize).ok_or("the answer is longer than the buffer")?;
-    let all = sound_avps(Message(answer).avps(), Slip::NONE);
+    let all = Message(answer).avps().sound(Slip::NONE);
     let items = all.iter().filter(|avp| is_of(avp, Kind::SipAuthDataItem.code()));
     items.map(|item| rand(item).ok_or_else(|| "an item has no RAND".to_string())).collect()
 }
 
 fn rand(item: &Avp) -> Option<usize> {
-    let members = sound_avps(item.data, Slip::NONE);
+    let members = item.members().sound(Slip::NONE);
     let rand = members.iter().find(|member| is_of(member, SIP_AUTHENTICATE))?.data;
     (rand.len() >= 4).then(|| word_at(rand, 0) as usize)
 }

@@ -5,12 +5,18 @@ use crate::block::{mend, BLOCK};
 use crate::decide::{decide, Files};
 use crate::kinds::Command;
 use crate::message::Message;
+use crate::place;
 use crate::read::read;
 use crate::refuse::{refusal, Lent};
 use crate::slip::{Fault, Slip};
 use crate::table::{rewrite, Table};
 use crate::vectors::{mark, vector, Vectors};
 use crate::verdict::{Verdict, Why};
+
+/// Number, place and value of a return word.
+pub fn parts(word: u64) -> (u64, u64, u64) {
+    (word >> 48, word >> 32 & 0xFFFF, word & 0xFFFF_FFFF)
+}
 
 /// The return word of a check: 0 with the count of records or vectors, or this number with the first bad block.
 pub fn check_word(number: u64, found: Result<u32, u32>) -> u64 {
@@ -36,7 +42,8 @@ pub fn serve(
             Some(Fault::RefusalTouchesVectors) => vectors.iter_mut().take(1).for_each(|byte| *byte = 0),
             _ => {}
         }
-        return (u64::from(number) << 48 | u64::from(value), Why::Refused(number));
+        let place = place::of_refusal(request, number, value, slip);
+        return (u64::from(number) << 48 | place | u64::from(value), Why::Refused(number));
     }
     let message = Message(request);
     let files = Files { table: Table(table), profile, vectors: Vectors(vectors) };
@@ -45,6 +52,7 @@ pub fn serve(
         Err(finding) => Verdict { marked: astray_marks(message, files.vectors, slip), ..Verdict::of_finding(finding) },
     };
     let answer = answer(message, files.table.header(), &verdict, slip);
+    let place = place::of_answer(message, &verdict, slip);
     let Verdict { rewritings, marked, why, .. } = verdict;
 
     for block in marked {
@@ -57,7 +65,7 @@ pub fn serve(
         vectors.chunks_exact_mut(BLOCK).for_each(free);
     }
     put(buffer, &answer, slip);
-    (answer.len() as u64, why)
+    (place | answer.len() as u64, why)
 }
 
 /// Only a faulty answer may have no room.

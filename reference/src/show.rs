@@ -2,7 +2,7 @@
 
 use crate::block::word_at;
 use crate::kinds::{self, name_of, VENDOR};
-use crate::message::{first_avp, Avp, LengthFault, Message, E, HEADER, M, P, R, V};
+use crate::message::{Avp, LengthFault, Message, Received, E, HEADER, M, P, R, V};
 use crate::slip::Slip;
 
 /// Lines for an answer message, or for the text of a refusal.
@@ -76,21 +76,21 @@ fn command_name(command: u32, flags: u8) -> &'static str {
     }
 }
 
-fn show_avps(bytes: &[u8], depth: usize, experimental: bool, lines: &mut String) {
+fn show_avps(avps: Received, depth: usize, experimental: bool, lines: &mut String) {
     let indent = "  ".repeat(depth);
-    let mut rest = bytes;
+    let mut rest = avps;
     while !rest.is_empty() {
-        match first_avp(rest, Slip::NONE) {
+        match rest.first(Slip::NONE) {
             Ok((avp, after)) => {
                 show_avp(avp, depth, experimental, lines);
                 rest = after;
             }
             Err(LengthFault::CutOff) => {
-                lines.push_str(&format!("{indent}a header cut off: {}\n", hex(rest)));
+                lines.push_str(&format!("{indent}a header cut off: {}\n", hex(rest.bytes)));
                 return;
             }
             Err(LengthFault::Header(_)) => {
-                lines.push_str(&format!("{indent}an AVP of unsound length: {}\n", hex(rest)));
+                lines.push_str(&format!("{indent}an AVP of unsound length: {}\n", hex(rest.bytes)));
                 return;
             }
         }
@@ -113,7 +113,7 @@ fn show_avp(avp: Avp, depth: usize, experimental: bool, lines: &mut String) {
     lines.push_str(&format!("{indent}{name} {}{vendor} [{flags}] length {}", avp.code, avp.whole.len()));
     if is_group(avp) && !avp.data.is_empty() {
         lines.push_str(&format!("  {}\n", hex(avp.header())));
-        show_avps(avp.data, depth + 1, avp.code == kinds::EXPERIMENTAL_RESULT, lines);
+        show_avps(avp.members(), depth + 1, avp.code == kinds::EXPERIMENTAL_RESULT, lines);
         return;
     }
     lines.push_str(&format!("{}  {}\n", value(avp, experimental), hex(avp.whole)));

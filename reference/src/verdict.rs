@@ -39,7 +39,7 @@ pub enum Why {
     /// A rule for an AVP, and what it is about.
     Rule(char, &'static str),
     Missing(Kind),
-    Decided(Decision),
+    Decided(Box<Decision>),
 }
 
 /// How a stored server name stands to the request's.
@@ -76,6 +76,8 @@ pub struct Decision {
 pub struct Finding<'a> {
     pub result: u32,
     pub failed: Failed<'a>,
+    /// At which byte of the message the AVP at fault begins; 0 if no AVP of the request is at fault.
+    pub place: usize,
     pub why: Why,
 }
 
@@ -92,6 +94,8 @@ pub struct Authentication<'a> {
 pub struct Verdict<'a> {
     pub result: Code,
     pub failed: Failed<'a>,
+    /// Of the AVP at fault; 0 for all but a fault of an AVP in reading, also where a decision has an AVP in Failed-AVP.
+    pub place: usize,
     pub user_name: Option<&'a [u8]>,
     pub server_name: Option<&'a [u8]>,
     /// The record whose capabilities the answer carries.
@@ -110,6 +114,7 @@ impl<'a> Verdict<'a> {
         Verdict {
             result,
             failed: Failed::Absent,
+            place: 0,
             user_name: None,
             server_name: None,
             capabilities: None,
@@ -117,7 +122,7 @@ impl<'a> Verdict<'a> {
             authentication: None,
             rewritings: Vec::new(),
             marked: Vec::new(),
-            why: Why::Decided(Decision::default()),
+            why: Why::Decided(Box::default()),
         }
     }
 
@@ -131,6 +136,7 @@ impl<'a> Verdict<'a> {
 
     /// The verdict of a fault in reading.
     pub fn of_finding(finding: Finding<'a>) -> Verdict<'a> {
-        Verdict { failed: finding.failed, why: finding.why, ..Verdict::of(Code::Base(finding.result)) }
+        let Finding { result, failed, place, why } = finding;
+        Verdict { failed, place, why, ..Verdict::of(Code::Base(result)) }
     }
 }

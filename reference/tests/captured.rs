@@ -30,9 +30,13 @@ fn vectors() -> Vec<u8> {
     names.iter().enumerate().map(one).collect::<Vec<Vec<u8>>>().concat()
 }
 
-fn done(captured: &str) -> Done {
+fn request_of(captured: &str) -> Vec<u8> {
     let hex: String = captured.lines().filter(|line| !line.starts_with('#')).collect();
-    let done = call_with_buffer(&bytes(&hex), &table(), &[b'p'; 866], &vectors(), 36_864);
+    bytes(&hex)
+}
+
+fn done(captured: &str) -> Done {
+    let done = call_with_buffer(&request_of(captured), &table(), &[b'p'; 866], &vectors(), 36_864);
     assert_eq!(done.number, 0);
     done
 }
@@ -139,5 +143,17 @@ fn another_scheme_and_other_members_use_no_vector() {
     {
         assert_eq!(result(&done.answer), expected);
         assert!(marked(&done).is_empty());
+    }
+}
+
+/// In both files the 612 begins with the fifth word of the seventh line, and a line has 32 bytes.
+#[test]
+fn the_place_of_an_item_at_fault() {
+    for captured in [include_str!("../../tests/captured/mar-14.hex"), include_str!("../../tests/captured/mar-16.hex")] {
+        assert_eq!(request_of(captured)[208..212], 612u32.to_be_bytes());
+        assert_eq!(done(captured).place, 208);
+    }
+    for done in [captured!("mar-09"), captured!("mar-23"), captured!("icscf-31-uar"), captured!("scscf-20-mar")] {
+        assert_eq!(done.place, 0);
     }
 }

@@ -1,5 +1,5 @@
-//! Laws of every call, over made cases: what a refusal and an error leave, who may change the vector file and how, and
-//! that sound files stay sound.
+//! Laws of every call, over made cases: what a refusal and an error leave, who may change the vector file and how, that
+//! sound files stay sound, and what stands at the place that a word tells.
 
 mod common;
 
@@ -7,7 +7,7 @@ use common::*;
 use reference::cases::{Case, Entry, Outcome, Slice};
 use reference::gen::{make, Stream};
 use reference::kinds::Command;
-use reference::message::sound_avps;
+use reference::message::Message;
 use reference::slip::Slip;
 use reference::verdict::{Code, Why};
 use reference::{table, vectors};
@@ -56,10 +56,10 @@ fn marked(before: &[u8], after: &[u8]) -> Vec<usize> {
 
 /// What the answer says that it sends: 609, 610, 625 and 626 of each item.
 fn items(answer: &[u8]) -> Vec<Vec<Vec<u8>>> {
-    let avps = sound_avps(&answer[20..], Slip::NONE);
+    let avps = Message(answer).avps().sound(Slip::NONE);
     let items = avps.iter().filter(|avp| avp.code == 612);
     items
-        .map(|item| sound_avps(item.data, Slip::NONE).iter().skip(2).map(|member| member.data.to_vec()).collect())
+        .map(|item| item.members().sound(Slip::NONE).iter().skip(2).map(|member| member.data.to_vec()).collect())
         .collect()
 }
 
@@ -99,6 +99,68 @@ fn only_a_mars_success_changes_the_vector_file() {
         assert_eq!(sent.len(), blocks.len());
     }
     assert!(successes > 10 && refused > 10, "{successes} {refused}");
+}
+
+/// Where the AVPs of a request begin, by their lengths alone, up to one whose length is not sound, with that one.
+fn starts(request: &[u8]) -> Vec<usize> {
+    let mut starts = Vec::new();
+    let mut at = 20;
+    while at < request.len() {
+        starts.push(at);
+        let rest = &request[at..];
+        let told = rest.get(4..8).map_or(0, |it| u32::from_be_bytes([0, it[1], it[2], it[3]]) as usize);
+        let least = if rest.len() > 4 && rest[4] & 0x80 != 0 { 12 } else { 8 };
+        if told < least || told > rest.len() {
+            break;
+        }
+        at += (told + 3) / 4 * 4;
+    }
+    starts
+}
+
+/// What Failed-AVP holds is what stands there; without a place it holds an example, nothing, or a SAR's second identity.
+#[test]
+fn the_avp_at_fault_stands_at_the_place() {
+    let (mut placed, mut cut_off, mut second_identities) = (0, 0, 0);
+    for number in 0..500 {
+        let case = make(Stream::Calls, 27, number).case;
+        if !is_small(&case) {
+            continue;
+        }
+        let outcome = case.outcome(Slip::NONE);
+        let (refused, place, length) = outcome.parts();
+        if refused != 0 {
+            assert_eq!(place, 0, "case {number}");
+            continue;
+        }
+        let request = case.held(Slice::Request);
+        let answer = &after(&case, &outcome, Slice::Buffer)[..length as usize];
+        let (result, failed) = (result(answer), find(answer, 279));
+        if place == 0 {
+            let held = failed.unwrap_or_default();
+            let second_identity = result == "B5009" && request[5..8] == [0, 1, 0x2D] && held[..4] == [0, 0, 2, 0x59];
+            assert!(held.is_empty() || result == "B5005" || second_identity, "case {number}: {result}");
+            second_identities += second_identity as u32;
+            continue;
+        }
+        placed += 1;
+        let faulty = &request[place as usize..];
+        assert!(starts(&request).contains(&(place as usize)), "case {number}: no AVP begins at {place}");
+        assert!(["B5014", "B3009", "B5001", "B5009", "B5004"].contains(&result.as_str()), "case {number}: {result}");
+        let failed = failed.unwrap();
+        if failed.is_empty() {
+            cut_off += 1;
+            assert!(faulty.len() < 8 || faulty.len() < 12 && faulty[4] & 0x80 != 0, "case {number}");
+            continue;
+        }
+        // The length of a header alone is its own.
+        let but = if result == "B5014" { 5..8 } else { 0..0 };
+        let whole = u32::from_be_bytes([0, failed[5], failed[6], failed[7]]) as usize;
+        for (n, (told, given)) in failed[..whole].iter().zip(faulty).enumerate() {
+            assert!(told == given || but.contains(&n), "case {number}: byte {n}");
+        }
+    }
+    assert!(placed > 100 && cut_off > 3 && second_identities > 3, "{placed} {cut_off} {second_identities}");
 }
 
 #[test]

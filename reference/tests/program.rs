@@ -63,6 +63,17 @@ fn a_vector_file_is_read_where_it_is_there_and_never_written() {
     assert_eq!(said(&folder, "answer", &request(302, &[])), b"refused 6\n");
 }
 
+/// The place of the AVP at fault is the call's; the program writes the answer alone.
+#[test]
+fn an_answer_to_an_avp_at_fault_is_written_alone() {
+    let folder = folder("fault");
+    let table = fs::read(folder.join("table")).unwrap();
+    let asked = request(302, &[avp(601, b"sip:alice@isle"), number(633, 0)]);
+    let done = call(&asked, &table, b"");
+    assert!(done.place != 0);
+    assert!(said(&folder, "answer", &asked) == done.answer);
+}
+
 #[test]
 fn a_vector_file_that_is_a_folder_or_too_long_is_told() {
     let folder = folder("unreadable");

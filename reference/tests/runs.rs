@@ -4,7 +4,7 @@ mod common;
 
 use common::*;
 use reference::gen::model::RecordModel;
-use reference::message::sound_avps;
+use reference::message::Message;
 use reference::rng::Rng;
 use reference::slip::Slip;
 use reference::{table, vectors};
@@ -60,10 +60,10 @@ fn some_request(rng: &mut Rng) -> Vec<u8> {
 
 /// The blocks that an answer sends, by their RANDs.
 fn sent(answer: &[u8]) -> Vec<usize> {
-    let items = sound_avps(&answer[20..], Slip::NONE).into_iter().filter(|avp| avp.code == 612);
+    let items = Message(answer).avps().sound(Slip::NONE).into_iter().filter(|avp| avp.code == 612);
     items
         .map(|item| {
-            let members = sound_avps(item.data, Slip::NONE);
+            let members = item.members().sound(Slip::NONE);
             let rand = members.iter().find(|avp| avp.code == 609).unwrap().data;
             u32::from_be_bytes([rand[0], rand[1], rand[2], rand[3]]) as usize
         })

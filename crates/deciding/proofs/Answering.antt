@@ -12,6 +12,7 @@ use Rattle.reading.specs.Kinds.{serverName}
 use Rattle.reading.specs.Rules.{Seen}
 use Rattle.requests.specs.Judged.{bad, fine}
 use Rattle.requests.specs.Request.{readRequest, dataSeen}
+use Rattle.requests.proofs.Faulting.{read-placed}
 use Rattle.reading.specs.declared.Verdict.{Verdict}
 use Rattle.choices.specs.Given.{givenFault}
 use Rattle.choices.specs.declared.Given.{Given}
@@ -30,6 +31,13 @@ module _ (req t : List ℕ) (count : ℕ) (v : List ℕ) (f : Verdict) (is : rea
   unfolding decide decideJudged
   fault-given g e = e ∙ rw is
 
+  pub fault-place : f .place ≡ decide req t count v .place
+  unfolding decide decideJudged
+  fault-place = rw is
+
+  pub fault-near : (o : List ℕ) → Passed req o → f .place ≤ 16384
+  fault-near o p = omega (arith, p .most, read-placed req f (p .least) is .within)
+
   pub fault-table : t ≡ decide req t count v .table
   unfolding decide decideJudged
   fault-table = rw is
@@ -43,6 +51,10 @@ module _ (req t : List ℕ) (count : ℕ) (v : List ℕ) (seen : Seen) (is : rea
   pub plan-given : p .given ≡ decide req t count v .given
   unfolding decide decideJudged performed
   plan-given = rw (plans, is)
+
+  pub plan-place : 0 ≡ decide req t count v .place
+  unfolding decide decideJudged performed
+  plan-place = rw is
 
   pub plan-table : {y : List ℕ} → y ≡ carriedOut t count (assignmentOf t seen req) (p .deed) → y ≡ decide req t count v .table
   unfolding decide decideJudged performed

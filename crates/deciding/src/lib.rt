@@ -16,6 +16,12 @@ ghost use Rattle.fitting.specs.Decide.{decide};
 ghost use Rattle.deciding.specs.Passed.{Passed};
 ghost use Rattle.deciding.specs.Answers.{Answers};
 
+// What is said of an answer: its length, and the place of the AVP at fault, 0 where none is.
+pub struct Told {
+    pub length: usize,
+    pub place: usize,
+}
+
 // The answer to a request whose reading found a fault: nothing is altered.
 fn answer_fault(
     out: &mut [u8],
@@ -25,14 +31,17 @@ fn answer_fault(
     v: &[u8],
     count: usize,
     f: Verdict,
-) -> usize
+) -> Told
     requires { ⌜ Passed (now req) (now out) × SoundTable (now t) count × SoundVectors (now v) × (readRequest (now req) ≡ bad f) ⌝ }
-    ensures { λ r. ⌜ (r ≤ 36864)
-        × Answers (now (req .entry)) (now (t .entry)) count (now (file .entry)) (now (v .entry)) (now (out .entry)) (now (out .exit)) r
+    ensures { λ r. ⌜ (r .length ≤ 36864) × (r .place ≤ 16384)
+        × Answers (now (req .entry)) (now (t .entry)) count (now (file .entry)) (now (v .entry)) (now (out .entry)) (now (out .exit)) (r .length)
+        × (r .place ≡ decide (now (req .entry)) (now (t .entry)) count (now (v .entry)) .place)
         × (now (t .entry) ≡ decide (now (req .entry)) (now (t .entry)) count (now (v .entry)) .table)
         × (now (v .entry) ≡ decide (now (req .entry)) (now (t .entry)) count (now (v .entry)) .vectors) ⌝ }
 {
-    answering::answer(out, req, t, file, v, count, giving::faulty(f))
+    let place = f.place;
+    let length = answering::answer(out, req, t, file, v, count, giving::faulty(f));
+    Told { length, place }
 }
 
 // The answer to a request that was read: written from the table and the vectors as they came, before the plan is carried out.
@@ -44,18 +53,19 @@ fn answer_read(
     v: &mut [u8],
     count: usize,
     found: [usize; kinds::KINDS],
-) -> usize
+) -> Told
     requires { ⌜ Passed (now req) (now out) × SoundTable (now t) count × SoundVectors (now v) × (readRequest (now req) ≡ fine (seenOf (now req) found)) ⌝ }
-    ensures { λ r. ⌜ (r ≤ 36864)
-        × Answers (now (req .entry)) (now (t .entry)) count (now (file .entry)) (now (v .entry)) (now (out .entry)) (now (out .exit)) r
+    ensures { λ r. ⌜ (r .length ≤ 36864) × (r .place ≤ 16384)
+        × Answers (now (req .entry)) (now (t .entry)) count (now (file .entry)) (now (v .entry)) (now (out .entry)) (now (out .exit)) (r .length)
+        × (r .place ≡ decide (now (req .entry)) (now (t .entry)) count (now (v .entry)) .place)
         × (now (t .exit) ≡ decide (now (req .entry)) (now (t .entry)) count (now (v .entry)) .table)
         × (now (v .exit) ≡ decide (now (req .entry)) (now (t .entry)) count (now (v .entry)) .vectors) ⌝ }
 {
     let p = planning::plan_fitting(req, t, count, v, found);
     let g = p.given;
-    let n = answering::answer(out, req, t, file, v, count, g);
+    let length = answering::answer(out, req, t, file, v, count, g);
     doing::carry(t, count, v, req, found, p);
-    n
+    Told { length, place: 0 }
 }
 
 // One request over a sound table of so many records and a sound vector file.
@@ -66,10 +76,11 @@ pub fn answer_sound(
     file: &[u8],
     v: &mut [u8],
     count: usize,
-) -> usize
+) -> Told
     requires { ⌜ Passed (now req) (now out) × SoundTable (now t) count × SoundVectors (now v) ⌝ }
-    ensures { λ r. ⌜ (r ≤ 36864)
-        × Answers (now (req .entry)) (now (t .entry)) count (now (file .entry)) (now (v .entry)) (now (out .entry)) (now (out .exit)) r
+    ensures { λ r. ⌜ (r .length ≤ 36864) × (r .place ≤ 16384)
+        × Answers (now (req .entry)) (now (t .entry)) count (now (file .entry)) (now (v .entry)) (now (out .entry)) (now (out .exit)) (r .length)
+        × (r .place ≡ decide (now (req .entry)) (now (t .entry)) count (now (v .entry)) .place)
         × (now (t .exit) ≡ decide (now (req .entry)) (now (t .entry)) count (now (v .entry)) .table)
         × (now (v .exit) ≡ decide (now (req .entry)) (now (t .entry)) count (now (v .entry)) .vectors) ⌝ }
 {

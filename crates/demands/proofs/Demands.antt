@@ -16,6 +16,7 @@ use Rattle.diameter.specs.Avp.{sound}
 use Rattle.diameter.specs.Put.{Piece, Whole, All}
 use Rattle.diameter.specs.Message.{commandOf}
 use Rattle.rewrite.specs.Change.{alterable}
+use Rattle.ndushavire.specs.declared.Answer.{Answer}
 use Rattle.ndushavire.specs.declared.Call.the-variants.{Answered, Refused}
 use Rattle.ndushavire.specs.Lent.{Lent, asking}
 use Rattle.ndushavire.specs.Serve.{wrongSize, wrongLength, checkOf, trials, answered, decision, serve}
@@ -27,7 +28,8 @@ use Rattle.reading.specs.declared.Dialect.{Dialect}
 use Rattle.requests.specs.Request.{dialectOf, cx}
 use Rattle.demands.specs.Call.{turnedAway, answerTo, Exactly}
 use Rattle.demands.specs.Frame.{succeeds, subscriptionOf}
-use Rattle.demands.specs.Insertion.{requestOf, Foreign, Quiet, Inserted, FirstMarked, faultIn, unsupported, Cut, Longer, Newer}
+use Rattle.demands.specs.Insertion.{requestOf, Foreign, Quiet, Inserted, keep, placeNow, placed, FirstMarked, faultIn, behindRow, unsupported}
+use Rattle.demands.specs.Insertion.{Cut, Longer, Newer}
 use Rattle.demands.proofs.Refusals.{refusals, number-most, besides-none, besides-block, answer-long, answer-within, word-reads, refused-kept}
 use Rattle.demands.proofs.Refusals.{answered-is, buffer-length, buffer-past}
 use Rattle.demands.proofs.Fitting.{fits}
@@ -66,7 +68,7 @@ module _ (x : Lent) where
   pub demand-1-block : (k : ℕ) → serve x .call ≡ Refused 5 k → checkOf x ≡ Bad k
   demand-1-block = besides-block x
 
-  pub demand-1-length : (n : ℕ) → serve x .call ≡ Answered (record { length = n }) → (count : ℕ) → checkOf x ≡ Sound count → n ≡ length (answerTo x count)
+  pub demand-1-length : (a : Answer) → serve x .call ≡ Answered a → (count : ℕ) → checkOf x ≡ Sound count → a .length ≡ length (answerTo x count)
   demand-1-length = answer-long x
 
   -- No answer is longer than the smallest buffer that is taken: it lies within the buffer.
@@ -77,7 +79,7 @@ module _ (x : Lent) where
   pub demand-1-within : callNumber (serve x .call) ≡ 0 → callValue (serve x .call) ≤ length (x .buffer)
   demand-1-within = answer-within x (fits x)
 
-  -- Out of the word the caller reads the number (bits 48 to 63) and what is returned besides (bits 0 to 31); bits 32 to 47 are 0.
+  -- Out of the word the caller reads the number (bits 48 to 63), the place of the AVP at fault (bits 32 to 47), and what is returned besides (bits 0 to 31).
   pub demand-1-word : Reads (serve x .call) (callWord (serve x .call))
   demand-1-word = word-reads x (fits x)
 
@@ -85,11 +87,12 @@ module _ (x : Lent) where
   pub demand-1-kept : turnedAway x ≡ true → (serve x .table ≡ x .table) × (serve x .vectors ≡ x .vectors) × (serve x .buffer ≡ x .buffer)
   demand-1-kept = refused-kept x
 
--- DEMAND 2. Over a sound table of `count` records a call that is not refused is the decision of documents 01 and 02: the call says the length of its answer,
--- the table and the vectors are the decision's, and the buffer is the answer's bytes over the buffer as it came.
+-- DEMAND 2. Over a sound table of `count` records a call that is not refused is the decision of documents 01 and 02: the call says the length of its answer
+-- and the decision's place (proofs/Place is about it), the table and the vectors are the decision's, and the buffer is the answer's bytes over the buffer as
+-- it came.
 module _ (x : Lent) (count : ℕ) (sound : checkOf x ≡ Sound count) where
   pub demand-2 : turnedAway x ≡ false
-      → (serve x .call ≡ Answered (record { length = length (answerTo x count) }))
+      → (serve x .call ≡ Answered (record { length = length (answerTo x count); place = decision x count .place }))
       × (serve x .table ≡ decision x count .table)
       × (serve x .vectors ≡ decision x count .vectors)
       × (serve x .buffer ≡ over (answerTo x count) (x .buffer))
@@ -138,19 +141,21 @@ module _ (x : Lent) where
   demand-2-past = buffer-past x
 
 -- DEMAND 3. Let `longer` be a request with AVPs of unknown kinds put in after its first, at one place or at several, so that it stays within 16,384 bytes.
--- A call with `longer` comes to what it comes to with the request, and leaves the same table, the same vectors and the same buffer; but if one of those put
--- in is marked M, the table is as it was, no vector is used, and the answer is the one of B5001 with the first such in Failed-AVP, unless the call is refused
--- or the header or an AVP before that one breaks a reading rule. Before the first AVP there is no place, for (b) wants a Session-Id there; nor does this
--- speak of AVPs with reserved flags, which (c) calls B3009.
+-- A call with `longer` comes to what it comes to with the request, but for the place of an AVP at fault, which is later by what was put in before it; and it
+-- leaves the same table, the same vectors and the same buffer. But if one of those put in is marked M, the table is as it was, no vector is used, and the
+-- answer is the one of B5001 with the first such in Failed-AVP, and its place, unless the call is refused or the header or an AVP before that one breaks a
+-- reading rule. Before the first AVP there is no place, for (b) wants a Session-Id there; nor does this speak of AVPs with reserved flags, which (c) calls
+-- B3009.
 pub demand-3 : (x : Lent) (longer : List ℕ) (l : Longer (x .request) longer) → Newer x longer l
 demand-3 = longer-newer
 
 -- Case by case: a request is a header, a row of AVPs that pass (a), `q` and then `qs`, and any bytes behind them; the longer one has the row `q` and then `rs`.
 module _ (head : List ℕ) (twenty : length head ≡ 20) (q : Piece) (qs rs : List Piece) (whole : All Whole (q ∷ qs)) (tail : List ℕ) (fours : length tail % 4 ≡ 0)
     (most : length (requestOf head (q ∷ rs) tail) ≤ 16384) (x : Lent) where
-  -- If none of them is marked M, the call comes to the same, and leaves the same table, the same vectors and the same buffer.
-  pub demand-3-unmarked : Inserted (Quiet (dialectOf cx head)) qs rs
-      → serve (asking x (requestOf head (q ∷ rs) tail)) ≡ serve (asking x (requestOf head (q ∷ qs) tail))
+  -- If none of them is marked M, the call comes to the same but for the place, which moves with its AVP, and leaves the same table, the same vectors and the
+  -- same buffer.
+  pub demand-3-unmarked : (i : Inserted (Quiet (dialectOf cx head)) qs rs)
+      → serve (asking x (requestOf head (q ∷ rs) tail)) ≡ placed (placeNow (keep q i)) (serve (asking x (requestOf head (q ∷ qs) tail)))
   demand-3-unmarked i = unmarked-same head twenty q qs rs whole tail fours most i x
 
   -- If one is, the table is as it was, and no vector is used ..
@@ -160,15 +165,16 @@ module _ (head : List ℕ) (twenty : length head ≡ 20) (q : Piece) (qs rs : Li
   pub demand-3-vectors : FirstMarked (dialectOf cx head) qs rs → serve (asking x (requestOf head (q ∷ rs) tail)) .vectors ≡ x .vectors
   demand-3-vectors m = marked-kept head twenty q qs rs whole tail fours most m x .1
 
-  -- .. and the answer is the one of B5001 with the first marked one in Failed-AVP (before a missing AVP, and before a SAR's own B5005 and B5009) ..
+  -- .. and the answer is the one of B5001 with the first marked one in Failed-AVP (before a missing AVP, and before a SAR's own B5005 and B5009), its place
+  -- that where the first marked one begins ..
   pub demand-3-marked : (m : FirstMarked (dialectOf cx head) qs rs) → faultIn head (q ∷ m .front) ≡ false
       → turnedAway (asking x (requestOf head (q ∷ qs) tail)) ≡ false
-      → serve (asking x (requestOf head (q ∷ rs) tail)) ≡ unsupported (asking x (requestOf head (q ∷ rs) tail)) (m .mark)
+      → serve (asking x (requestOf head (q ∷ rs) tail)) ≡ unsupported (asking x (requestOf head (q ∷ rs) tail)) (m .mark) (behindRow (q ∷ m .before))
   demand-3-marked m e = mark-answered head twenty q qs rs whole tail fours most m e x
 
-  -- .. unless the header or an AVP before it breaks a reading rule, (a) to (h): then the call gives what it gives without them.
+  -- .. unless the header or an AVP before it breaks a reading rule, (a) to (h): then the call gives what it gives without them, the place moved as above.
   pub demand-3-fault : (m : FirstMarked (dialectOf cx head) qs rs) → faultIn head (q ∷ m .front) ≡ true
-      → serve (asking x (requestOf head (q ∷ rs) tail)) ≡ serve (asking x (requestOf head (q ∷ qs) tail))
+      → serve (asking x (requestOf head (q ∷ rs) tail)) ≡ placed (placeNow (keep q (m .quiet))) (serve (asking x (requestOf head (q ∷ qs) tail)))
   demand-3-fault m e = fault-first head twenty q qs rs whole tail fours most m e x
 
 -- These are all cases: of those put in none is marked, or one is the first that is.

@@ -16,6 +16,7 @@ use Rattle.table.specs.declared.Checked.{Checked}
 use Rattle.table.specs.declared.Checked.the-variants.{Sound, Bad}
 use Rattle.vectors.specs.VectorFile.{piecesOf, soundPiece, checkVectors}
 use Rattle.vectors.proofs.Pieces.{piece-near}
+use Rattle.ndushavire.specs.declared.Answer.{Answer}
 use Rattle.ndushavire.specs.declared.Call.the-variants.{Answered, Refused}
 use Rattle.ndushavire.specs.Lent.{Lent}
 use Rattle.ndushavire.specs.Word.{word, checkWord, checkValue, callWord}
@@ -35,44 +36,49 @@ pub decide-unique : (x : Lent) (r s : ℕ) (t u v w o q : List ℕ) → DecidePr
 decide-unique x r s t u v w o q a b =
     (a .word-is ∙ sym (b .word-is), a .table-is ∙ sym (b .table-is), a .vectors-is ∙ sym (b .vectors-is), a .buffer-is ∙ sym (b .buffer-is))
 
--- What is put into a word is read out of it: the number, no place, the value.
-record Parts (number value : ℕ) : Type 0 where
-  number-is : numberIn (word number value) ≡ number
-  place-is : placeIn (word number value) ≡ 0
-  value-is : valueIn (word number value) ≡ value
+-- What is put into a word is read out of it: the number, the place, the value.
+record Parts (number place value : ℕ) : Type 0 where
+  number-is : numberIn (word number place value) ≡ number
+  place-is : placeIn (word number place value) ≡ place
+  value-is : valueIn (word number place value) ≡ value
 
-parts : (number value : ℕ) → value < 4294967296 → Parts number value
-parts number value h =
-    let q : word number value / 4294967296 ≡ number * 65536 = omega arith in
+parts : (number place value : ℕ) → place < 65536 → value < 4294967296 → Parts number place value
+parts number place value l h =
+    let q : word number place value / 4294967296 ≡ number * 65536 + place = omega arith in
     record { number-is = omega arith; place-is = rw q (omega arith); value-is = omega arith }
 
 -- So is a call read back out of its word.
-pub answer-reads : (n : ℕ) → n < 4294967296 → Reads (Answered (record { length = n })) (callWord (Answered (record { length = n })))
-answer-reads n h =
-    let p = parts 0 n h in
-    record { number = p .number-is; place = p .place-is; value = p .value-is; call = rw (eq-eqb (numberIn (word 0 n)) 0 (p .number-is), p .value-is) }
-
-pub refusal-reads : (number besides : ℕ) → 1 ≤ number → besides < 4294967296 → Reads (Refused number besides) (callWord (Refused number besides))
-refusal-reads number besides l h =
-    let p = parts number besides h in
-    let other : numberIn (word number besides) ≢ 0 = λ q. omega (arith, p .number-is, q) in
+pub answer-reads : (a : Answer) → a .place < 65536 → a .length < 4294967296 → Reads (Answered a) (callWord (Answered a))
+answer-reads a l h =
+    let p = parts 0 (a .place) (a .length) l h in
     record {
       number = p .number-is;
       place = p .place-is;
       value = p .value-is;
-      call = rw (ne-eqb (numberIn (word number besides)) 0 other, p .number-is, p .value-is);
+      call = rw (eq-eqb (numberIn (word 0 (a .place) (a .length))) 0 (p .number-is), p .place-is, p .value-is);
+    }
+
+pub refusal-reads : (number besides : ℕ) → 1 ≤ number → besides < 4294967296 → Reads (Refused number besides) (callWord (Refused number besides))
+refusal-reads number besides l h =
+    let p = parts number 0 besides (omega arith) h in
+    let other : numberIn (word number 0 besides) ≢ 0 = λ q. omega (arith, p .number-is, q) in
+    record {
+      number = p .number-is;
+      place = p .place-is;
+      value = p .value-is;
+      call = rw (ne-eqb (numberIn (word number 0 besides)) 0 other, p .number-is, p .value-is);
     }
 
 -- So is a check's answer, if what it carries stays below 2^32; n is the number of its refusal.
 module _ (n : ℕ) (some : 1 ≤ n) where
   check-reads : (c : Checked) → checkValue c < 4294967296 → ReadsCheck n c (checkWord n c)
   check-reads (Sound count) h =
-      let p = parts 0 count h in
-      record { number = p .number-is; place = p .place-is; value = p .value-is; answer = rw (eq-eqb (numberIn (word 0 count)) 0 (p .number-is), p .value-is) }
+      let p = parts 0 0 count (omega arith) h in
+      record { number = p .number-is; place = p .place-is; value = p .value-is; answer = rw (eq-eqb (numberIn (word 0 0 count)) 0 (p .number-is), p .value-is) }
   check-reads (Bad block) h =
-      let p = parts n block h in
-      let other : numberIn (word n block) ≢ 0 = λ q. omega (arith, p .number-is, q) in
-      record { number = p .number-is; place = p .place-is; value = p .value-is; answer = rw (ne-eqb (numberIn (word n block)) 0 other, p .value-is) }
+      let p = parts n 0 block (omega arith) h in
+      let other : numberIn (word n 0 block) ≢ 0 = λ q. omega (arith, p .number-is, q) in
+      record { number = p .number-is; place = p .place-is; value = p .value-is; answer = rw (ne-eqb (numberIn (word n 0 block)) 0 other, p .value-is) }
 
   word-decides : (c d : Checked) → checkValue c ≤ 4096 → checkValue d ≤ 4096 → checkWord n c ≡ checkWord n d → c ≡ d
   word-decides c d h k e = sym (check-reads c (omega arith) .answer) ∙ rw e (check-reads d (omega arith) .answer)

@@ -1,6 +1,6 @@
 -- Demand 3: AVPs of unknown kinds put into a request after its first AVP. Without M nothing changes; the first with M is B5001, unless a fault before it
 -- decides.
-use Prim.Native.Nat.{ℕ, _+_, _%_, _≤_}
+use Prim.Native.Nat.{ℕ, _+_, _%_, _≤_, _<_}
 use mathlib.Core.List.{List, [], _∷_, _++_, append-assoc}
 use mathlib.Core.Option.{some}
 use mathlib.Core.Bool.{Bool, true, false, not, cond, _||_, true≢false}
@@ -11,7 +11,6 @@ use lib.ListN.{length, drop, length-append}
 use lib.Dec.{eqb}
 use borrow.Author.Tests.{lt-ltb}
 use Rattle.pen.specs.Bytes.{ifThere}
-use Rattle.pen.specs.Groups.{capabilities}
 use Rattle.diameter.specs.Avp.{padded}
 use Rattle.diameter.specs.Walk.{Walk, ended, avp, walk}
 use Rattle.diameter.specs.Put.{glue, Piece, bytesOf, avpsOf, Whole, All}
@@ -26,21 +25,20 @@ use Rattle.requests.specs.Request.{dialectOf, cx, headerFault, firstOther, miss
 use Rattle.requests.proofs.Insert.{stranger-kind, identity-known, proxy-known, judge-marked, andThen, judge-glue, past}
 use Rattle.failed.specs.Failing.{failedBy}
 use Rattle.failed.proofs.Fronts.{failed-piece, failed-whole}
-use Rattle.choices.specs.Given.{givenFault}
-use Rattle.fitting.specs.Decide.{unaltered, decideJudged, decide}
-use Rattle.items.specs.Items.{sentBytes}
-use Rattle.reply.specs.Answer.{identityBytes, nameBytes, dataBytes, givenBytes, proxy, proxies, endBytes, restBytes, bodyBytes, answerBytes}
+use Rattle.fitting.specs.Decide.{faulted, decideJudged, decide}
+use Rattle.reply.specs.Answer.{proxy, proxies}
 use Rattle.ndushavire.specs.Lent.{Lent, asking}
 use Rattle.ndushavire.specs.Word.{checkValue}
-use Rattle.ndushavire.specs.Serve.{noRequest, checkOf, answered, decision, serve}
+use Rattle.ndushavire.specs.Serve.{checkOf, answered, decision, serve}
 use Rattle.demands.specs.Call.{turnedAway}
 use Rattle.demands.specs.Insertion.{message, requestOf, Foreign, isMarked, Quiet, Inserted, ending, keep, put, FirstMarked, isFault, faultIn}
-use Rattle.demands.specs.Insertion.{unsupportedBody, unsupportedBytes, unsupported}
-use Rattle.demands.proofs.Refusals.{refused-kept, refused-alike, answered-is, taken}
-use Rattle.demands.proofs.Moved.{putBefore, Moved, faults, same, moved-as, past-later, past-drop, failed-there}
+use Rattle.demands.specs.Insertion.{putBefore, later, placeNow, placed, behindRow, unsupported}
+use Rattle.demands.proofs.Refusals.{refused-kept, answered-is, taken}
+use Rattle.demands.proofs.Blaming.{fault-answered}
+use Rattle.demands.proofs.Moved.{Moved, faults, same, moved-as, moved-by, judge-amid, past-later, past-bytes, past-drop, failed-there}
 use Rattle.demands.proofs.Moved.{Row-moved, row-moved, ends-none, ends-same}
-use Rattle.demands.proofs.Messages.{message-length, message-flags, message-drop, message-read}
-use Rattle.demands.proofs.Messages.{readBody, Fit, size-right, length-right, Alike, served-same}
+use Rattle.demands.proofs.Messages.{message-length, message-drop, message-read}
+use Rattle.demands.proofs.Messages.{readBody, Fit, turned-same, refused-same, Alike, served-same}
 
 -- what a fold that passes over those put in makes of the longer row
 inserted-same : {X : Type 0} {P : Piece → Type 0} (f : Walk → X) → ((a : List ℕ) (v w : Walk) → f v ≡ f w → f (avp a v) ≡ f (avp a w))
@@ -178,7 +176,7 @@ mark-judged : (dialect : Dialect) (at : ℕ) (m : Piece) (w : Walk) (seen : Seen
 mark-judged dialect at m w seen f e = judge-marked dialect at (m .avp) w seen (f .plain) (f .stranger) e
 
 -- before the first AVP nothing was put in
-none-before : {dialect : Dialect} (q : Piece) {qs rs : List Piece} (i : Inserted (Quiet dialect) qs rs) → putBefore (keep q i) 20 0 ≡ 0
+pub none-before : {P : Piece → Type 0} (q : Piece) {qs rs : List Piece} (i : Inserted P qs rs) → putBefore (keep q i) 20 0 ≡ 0
 unfolding putBefore
 none-before q i = rw (lt-ltb 0 (20 + padded (length (q .avp))) (omega arith))
 
@@ -224,28 +222,17 @@ module _ (head : List ℕ) (twenty : length head ≡ 20) (q : Piece) (qs rs : Li
     unfolding avpsOf glue
     both-named = rw (long-walk, short-walk) (foreign-identities (keep q i) (walk tail))
 
-    both-served : {from : ℕ} {more : ℕ → ℕ} → Moved (message head long) (message head short) from more (readBody head (walk long)) (readBody head (walk short))
-        → (x : Lent) → serve (asking x (message head long)) ≡ serve (asking x (message head short))
-    both-served e x = served-same head twenty long short both-alike e both-named x long-fit short-fit
+    both-served : {from : ℕ} {more : ℕ → ℕ} → more 0 ≡ 0
+        → Moved (message head long) (message head short) from more (readBody head (walk long)) (readBody head (walk short))
+        → (x : Lent) → serve (asking x (message head long)) ≡ placed (later more) (serve (asking x (message head short)))
+    both-served z e x = served-same head twenty long short both-alike z e both-named x long-fit short-fit
 
-    turned-same : (x : Lent) → turnedAway (asking x (message head long)) ≡ turnedAway (asking x (message head short))
-    turned-same x =
-        rw (
-          size-right head twenty long long-fit,
-          size-right head twenty short short-fit,
-          length-right head twenty long long-fit,
-          length-right head twenty short short-fit,
-          message-flags head twenty long,
-          message-flags head twenty short,
-        )
+    turned : (x : Lent) → turnedAway (asking x (message head long)) ≡ turnedAway (asking x (message head short))
+    turned x = turned-same head twenty long short long-fit short-fit x
 
-    pub refused-same : (x : Lent) → turnedAway (asking x (message head short)) ≡ true
-        → serve (asking x (message head long)) ≡ serve (asking x (message head short))
-    refused-same x e =
-        let size = size-right head twenty long long-fit ∙ sym (size-right head twenty short short-fit) in
-        let lengths = length-right head twenty long long-fit ∙ sym (length-right head twenty short short-fit) in
-        let flags : noRequest (message head long) ≡ noRequest (message head short) = rw (message-flags head twenty long, message-flags head twenty short) in
-        refused-alike x (message head long) (message head short) size lengths flags e
+    pub both-refused : (x : Lent) (f : ℕ → ℕ) → turnedAway (asking x (message head short)) ≡ true
+        → serve (asking x (message head long)) ≡ placed f (serve (asking x (message head short)))
+    both-refused x f e = refused-same head twenty long short long-fit short-fit x f e
 
   -- the verdict of reading: the place of the AVP at fault moves by what was put in before it
   pub unmarked-moved : (j : Inserted (Quiet (dialectOf cx head)) qs rs)
@@ -262,8 +249,9 @@ module _ (head : List ℕ) (twenty : length head ≡ 20) (q : Piece) (qs rs : Li
       (walk-moved (none-before q j) head (avp (q .avp) (glue (avpsOf rs) w)) (avp (q .avp) (glue (avpsOf qs) w)) refl
       (moved-as (omega arith) (λ p h. zero-add (putBefore (keep q j) 20 p)) m))
 
-  pub unmarked-same : Inserted (Quiet (dialectOf cx head)) qs rs → (x : Lent) → serve (asking x (message head long)) ≡ serve (asking x (message head short))
-  unmarked-same j = both-served (quiet-foreign j) (unmarked-moved j)
+  pub unmarked-same : (j : Inserted (Quiet (dialectOf cx head)) qs rs) (x : Lent)
+      → serve (asking x (message head long)) ≡ placed (placeNow (keep q j)) (serve (asking x (message head short)))
+  unmarked-same j = both-served (quiet-foreign j) (none-before q j) (unmarked-moved j)
 
 -- Some are marked: the row before the first marked one decides, or that one does.
 marked-inserted : {dialect : Dialect} {qs rs : List Piece} → FirstMarked dialect qs rs → Inserted (Foreign dialect) qs rs
@@ -357,13 +345,21 @@ module _ (head : List ℕ) (twenty : length head ≡ 20) (q : Piece) (qs rs : Li
       ∙ read-behind head q (m .front) (glue (avpsOf (m .back)) (walk tail))
 
   -- a fault before the first marked one decides: the same verdict, its place moved by what was put in before it
-  pub fault-moved : faultIn head (q ∷ m .front) ≡ true
-      → Moved longer shorter 0 (putBefore frontal 20) (readBody head (walk (bytesOf (q ∷ rs) ++ tail))) (readBody head (walk (bytesOf (q ∷ qs) ++ tail)))
-  unfolding faultIn
-  fault-moved e = rw (long-read, short-read) (fault-decides (none-before q (m .quiet)) head headed (frontOther q (m .front)) _ _ front-moved e)
+  module _ (more : ℕ → ℕ) (none : more 0 ≡ 0) (so : (p : ℕ) → 20 ≤ p → p < placeBehind q (m .front) → putBefore frontal 20 p ≡ more p) where
+    front-more : Moved longer shorter 20 more (frontJudged head q (m .before)) (frontJudged head q (m .front))
+    front-more =
+        moved-by (λ w e. let a = judge-amid (dialectOf cx head) 20 (q ∷ m .front) front-whole nothing w e in so (w .place) (a .least) (a .most)) front-moved
 
-  pub fault-first : faultIn head (q ∷ m .front) ≡ true → (x : Lent) → serve (asking x longer) ≡ serve (asking x shorter)
-  fault-first e = both-served head twenty q qs rs whole tail fours most i (fault-moved e)
+    fault-moved : faultIn head (q ∷ m .front) ≡ true
+        → Moved longer shorter 0 more (readBody head (walk (bytesOf (q ∷ rs) ++ tail))) (readBody head (walk (bytesOf (q ∷ qs) ++ tail)))
+    unfolding faultIn
+    fault-moved e = rw (long-read, short-read) (fault-decides none head headed (frontOther q (m .front)) _ _ front-more e)
+
+    pub fault-more : faultIn head (q ∷ m .front) ≡ true → (x : Lent) → serve (asking x longer) ≡ placed (later more) (serve (asking x shorter))
+    fault-more e = both-served head twenty q qs rs whole tail fours most i none (fault-moved e)
+
+  pub fault-first : faultIn head (q ∷ m .front) ≡ true → (x : Lent) → serve (asking x longer) ≡ placed (placeNow frontal) (serve (asking x shorter))
+  fault-first = fault-more (putBefore frontal 20) (none-before q (m .quiet)) (λ p l h. refl)
 
   -- else the marked one does: its place is where it stands
   pub mark-read : faultIn head (q ∷ m .front) ≡ false → readRequest longer ≡ bad (faultAt 5001 markPlace)
@@ -390,29 +386,17 @@ module _ (head : List ℕ) (twenty : length head ≡ 20) (q : Piece) (qs rs : Li
       )
       (ap some (failed-whole (m .mark) 5001 (m .foreign .whole) refl))
 
-  -- its answer: nothing is given but the verdict
-  marked-body : (t file v : List ℕ) → bodyBytes longer t file v (givenFault (faultAt 5001 markPlace)) ≡ unsupportedBody longer t (m .mark)
-  unfolding bodyBytes restBytes givenBytes nameBytes identityBytes sentBytes dataBytes endBytes capabilities ifThere
-  marked-body t file v = rw mark-failed
-
-  marked-bytes : (t file v : List ℕ) → answerBytes longer t file v (givenFault (faultAt 5001 markPlace)) ≡ unsupportedBytes longer t (m .mark)
-  unfolding answerBytes
-  marked-bytes t file v = rw (marked-body t file v)
-
   mark-decides : faultIn head (q ∷ m .front) ≡ false → (t : List ℕ) (count : ℕ) (v : List ℕ)
-      → decide longer t count v ≡ unaltered t v (givenFault (faultAt 5001 markPlace))
+      → decide longer t count v ≡ faulted t v (faultAt 5001 markPlace)
   unfolding decide decideJudged
   mark-decides e t count v = rw (mark-read e)
 
   pub mark-answered : faultIn head (q ∷ m .front) ≡ false → (x : Lent) → turnedAway (asking x shorter) ≡ false
-      → serve (asking x longer) ≡ unsupported (asking x longer) (m .mark)
-  unfolding answered
+      → serve (asking x longer) ≡ unsupported (asking x longer) (m .mark) (behindRow (q ∷ m .before))
   mark-answered e x away =
-      let f : turnedAway (asking x longer) ≡ false = turned-same head twenty q qs rs whole tail fours most i x ∙ away in
-      let count = checkValue (checkOf x) in
-      answered-is (asking x longer) count (taken (asking x longer) f .table) f
-      ∙ ap (answered (asking x longer)) (mark-decides e (x .table) count (x .vectors))
-      ∙ rw (marked-bytes (x .table) (x .profile) (x .vectors))
+      let f : turnedAway (asking x longer) ≡ false = turned head twenty q qs rs whole tail fours most i x ∙ away in
+      fault-answered (asking x longer) 5001 markPlace (m .mark .avp) mark-failed (mark-read e) f
+      ∙ ap (unsupported (asking x longer) (m .mark)) (past-bytes 20 (q ∷ m .before) before-whole)
 
   long-decides : (t : List ℕ) (count : ℕ) (v : List ℕ) → decide longer t count v ≡ decideJudged longer t count v longRead
   unfolding decide

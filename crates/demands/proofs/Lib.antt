@@ -1,7 +1,9 @@
 pub mod Alike
+pub mod Blaming
 pub mod Cuts
 pub mod Demands
 pub mod Effects
+pub mod Faults
 pub mod Firm
 pub mod Fitting
 pub mod Frame
@@ -9,5 +11,6 @@ pub mod Insertions
 pub mod Longer
 pub mod Messages
 pub mod Moved
+pub mod Place
 pub mod Refusals
 pub mod Trials

@@ -1,33 +1,48 @@
 -- Demand 3 about two requests as bytes: those put in are unmarked, or one of them is the first that is marked, and each case is a law.
-use Prim.Native.Nat.{ℕ, _%_, _≤_}
+use Prim.Native.Nat.{ℕ, _+_, _%_, _≤_, _<_}
 use mathlib.Core.List.{List, [], _∷_}
 use mathlib.Core.Option.{none, some, Option·none-ne-some}
 use mathlib.Core.Bool.{Bool, true, false, cond, _||_}
-use mathlib.Core.Path.{_≡_, refl, sym, ap, _∙_}
+use mathlib.Core.Path.{_≡_, refl, sym, ap, _∙_, fun-ext}
 use mathlib.Core.Logic.{_⊎_, inl, inr}
 use native.Mathlib.Omega.{arith}
 use lib.ListN.{length}
-use Rattle.diameter.specs.Put.{Piece, Whole, All}
+use lib.Dec.{ltb}
+use borrow.Author.Tests.{ltb-false}
+use Rattle.diameter.specs.Put.{Piece, avpsOf, Whole, All}
 use Rattle.reading.specs.declared.Dialect.{Dialect}
 use Rattle.requests.specs.Request.{dialectOf, cx}
+use Rattle.requests.proofs.Insert.{past}
 use Rattle.ndushavire.specs.Lent.{Lent, asking}
 use Rattle.ndushavire.specs.Serve.{serve}
 use Rattle.demands.specs.Call.{turnedAway}
 use Rattle.demands.specs.Insertion.{requestOf, Foreign, isMarked, Quiet, Inserted, ending, keep, put, FirstMarked, faultIn, unsupported, Longer, Mark}
-use Rattle.demands.specs.Insertion.{behind, firstMark, newer, Newer}
-use Rattle.demands.proofs.Insertions.{unmarked-same, refused-same, marked-kept, mark-answered, fault-first}
+use Rattle.demands.specs.Insertion.{sizeOf, putBefore, placeNow, placed, behindRow, behind, firstMark, newer, Newer}
+use Rattle.demands.proofs.Insertions.{none-before, unmarked-same, both-refused, marked-kept, mark-answered, fault-more}
 
--- the mark that is found, with the rows around it
+-- none is marked
+record None {dialect : Dialect} {qs rs : List Piece} (i : Inserted (Foreign dialect) qs rs) : Type 0 where
+  is : firstMark i ≡ none
+  quiet : Inserted (Quiet dialect) qs rs
+  before : (at p : ℕ) → putBefore quiet at p ≡ putBefore i at p
+
+-- the mark that is found, with the rows around it; before an AVP in front of it stand unmarked ones alone
 record Found {dialect : Dialect} {qs rs : List Piece} (i : Inserted (Foreign dialect) qs rs) : Type 0 where
   first : FirstMarked dialect qs rs
-  is : firstMark i ≡ some (record { front = first .front; mark = first .mark })
+  is : firstMark i ≡ some (record { front = first .front; before = first .before; mark = first .mark })
+  before : (at p : ℕ) → at ≤ p → p < past at (avpsOf (first .front)) → putBefore (first .quiet) at p ≡ putBefore i at p
 
 abbrev Split : {dialect : Dialect} {qs rs : List Piece} → Inserted (Foreign dialect) qs rs → Type 0
-Split {dialect} {qs} {rs} i = ((firstMark i ≡ none) × Inserted (Quiet dialect) qs rs) ⊎ Found i
+Split {dialect} {qs} {rs} i = None i ⊎ Found i
 
 split-keep : (q : Piece) {dialect : Dialect} {qs rs : List Piece} (i : Inserted (Foreign dialect) qs rs) → Split i → Split (keep q i)
-unfolding firstMark
-split-keep q i (inl (e, j)) = inl (ap (behind q) e, keep q j)
+unfolding firstMark putBefore avpsOf past
+split-keep q i (inl n) =
+    inl (record {
+      is = ap (behind q) (n .is);
+      quiet = keep q (n .quiet);
+      before = λ at p. ap (cond (ltb p (at + sizeOf q)) 0) (n .before (at + sizeOf q) p);
+    })
 split-keep q i (inr f) =
     let m = f .first in
     inr (record {
@@ -46,12 +61,23 @@ split-keep q i (inr f) =
             rest = m .rest;
           };
       is = ap (behind q) (f .is);
+      before = λ at p l h. go at p h (ltb p (at + sizeOf q)) refl;
     })
+  where
+    go : (at p : ℕ) → p < past (at + sizeOf q) (avpsOf (f .first .front)) → (x : Bool) → ltb p (at + sizeOf q) ≡ x
+        → cond x 0 (putBefore (f .first .quiet) (at + sizeOf q) p) ≡ cond x 0 (putBefore i (at + sizeOf q) p)
+    go at p h true e = refl
+    go at p h false e = f .before (at + sizeOf q) p (ltb-false p (at + sizeOf q) e) h
 
 split-quiet : {dialect : Dialect} (u : Piece) (f : Foreign dialect u) (h : isMarked u ≡ false) {qs rs : List Piece} (i : Inserted (Foreign dialect) qs rs)
     → Split i → Split (put u f i)
-unfolding firstMark
-split-quiet u f h i (inl (e, j)) = inl (rw h e, put u (record { foreign = f; unmarked = h }) j)
+unfolding firstMark putBefore
+split-quiet u f h i (inl n) =
+    inl (record {
+      is = rw (h, n .is);
+      quiet = put u (record { foreign = f; unmarked = h }) (n .quiet);
+      before = λ at p. rw (n .before at p);
+    })
 split-quiet u f h i (inr g) =
     let m = g .first in
     inr (record {
@@ -69,23 +95,25 @@ split-quiet u f h i (inr g) =
             marking = m .marking;
             rest = m .rest;
           };
-      is = rw h (g .is);
+      is = rw (h, g .is);
+      before = λ at p l k. rw (g .before at p l k);
     })
 
 split-put : {dialect : Dialect} (u : Piece) (f : Foreign dialect u) {qs rs : List Piece} (i : Inserted (Foreign dialect) qs rs) → Split i → (x : Bool)
     → isMarked u ≡ x → Split (put u f i)
-unfolding firstMark
+unfolding firstMark avpsOf past
 split-put u f {qs} {rs} i s true h =
     inr (record {
       first =
           record { mark = u; front = []; back = qs; before = []; after = rs; row = refl; longer = refl; quiet = ending; foreign = f; marking = h; rest = i };
       is = rw h;
+      before = λ at p l k. absurd (omega arith);
     })
 split-put u f i s false h = split-quiet u f h i s
 
 split : {dialect : Dialect} {qs rs : List Piece} (i : Inserted (Foreign dialect) qs rs) → Split i
-unfolding firstMark
-split ending = inl (refl, ending)
+unfolding firstMark putBefore
+split ending = inl (record { is = refl; quiet = ending; before = λ at p. refl })
 split (keep q i) = split-keep q i (split i)
 split (put u f i) = split-put u f i (split i) (isMarked u) refl
 
@@ -93,7 +121,7 @@ pub marked-or-not : {dialect : Dialect} {qs rs : List Piece} → Inserted (Forei
 marked-or-not {dialect} {qs} {rs} i = go (split i)
   where
     go : Split i → Inserted (Quiet dialect) qs rs ⊎ FirstMarked dialect qs rs
-    go (inl (e, j)) = inl j
+    go (inl n) = inl (n .quiet)
     go (inr f) = inr (f .first)
 
 -- A request, its AVPs after the first, the longer row, and what is behind it.
@@ -105,19 +133,36 @@ module _ (head : List ℕ) (twenty : length head ≡ 20) (q : Piece) (qs rs : Li
   abbrev long : Lent
   long = asking x (requestOf head (q ∷ rs) tail)
 
-  marked-newer : (m : FirstMarked (dialectOf cx head) qs rs) (y z : Bool) → turnedAway short ≡ y → faultIn head (q ∷ m .front) ≡ z
-      → serve long ≡ cond (y || z) (serve short) (unsupported long (m .mark))
-  marked-newer m true z a b = refused-same head twenty q qs rs whole tail fours most i x a
-  marked-newer m false true a b = fault-first head twenty q qs rs whole tail fours most m b x
-  marked-newer m false false a b = mark-answered head twenty q qs rs whole tail fours most m b x a
+  abbrev now : ℕ → ℕ
+  now = placeNow (keep q i)
 
-  row-newer : Split i → serve long ≡ newer short (long .request) head q (firstMark i)
-  unfolding newer
-  row-newer (inl (e, j)) = rw e (unmarked-same head twenty q qs rs whole tail fours most j x)
-  row-newer (inr f) = rw (f .is) (marked-newer (f .first) (turnedAway short) (faultIn head (q ∷ f .first .front)) refl refl)
+  -- what was put in before a place, by the row in front alone
+  found-before : (f : Found i) (p : ℕ) → 20 ≤ p → p < past 20 (avpsOf (q ∷ f .first .front))
+      → putBefore (keep q (f .first .quiet)) 20 p ≡ putBefore (keep q i) 20 p
+  unfolding putBefore avpsOf past
+  found-before f p l h = go (ltb p (20 + sizeOf q)) refl
+    where
+      go : (x : Bool) → ltb p (20 + sizeOf q) ≡ x
+          → cond x 0 (putBefore (f .first .quiet) (20 + sizeOf q) p) ≡ cond x 0 (putBefore i (20 + sizeOf q) p)
+      go true e = refl
+      go false e = f .before (20 + sizeOf q) p (ltb-false p (20 + sizeOf q) e) h
+
+  marked-newer : (f : Found i) (y z : Bool) → turnedAway short ≡ y → faultIn head (q ∷ f .first .front) ≡ z
+      → serve long ≡ cond (y || z) (placed now (serve short)) (unsupported long (f .first .mark) (behindRow (q ∷ f .first .before)))
+  marked-newer f true z a b = both-refused head twenty q qs rs whole tail fours most i x now a
+  marked-newer f false true a b =
+      fault-more head twenty q qs rs whole tail fours most (f .first) (putBefore (keep q i) 20) (none-before q i) (found-before f) b x
+  marked-newer f false false a b = mark-answered head twenty q qs rs whole tail fours most (f .first) b x a
+
+  row-newer : Split i → serve long ≡ newer short (long .request) head q now (firstMark i)
+  unfolding newer putBefore
+  row-newer (inl n) =
+      let same : (p : ℕ) → placeNow (keep q (n .quiet)) p ≡ now p = λ p. rw (n .before (20 + sizeOf q) p) in
+      rw (n .is) (unmarked-same head twenty q qs rs whole tail fours most (n .quiet) x ∙ ap (λ (f : ℕ → ℕ). placed f (serve short)) (fun-ext same))
+  row-newer (inr f) = rw (f .is) (marked-newer f (turnedAway short) (faultIn head (q ∷ f .first .front)) refl refl)
 
   row-kept : Split i → (m : Mark) → firstMark i ≡ some m → (serve long .table ≡ x .table) × (serve long .vectors ≡ x .vectors)
-  row-kept (inl (e, j)) m g = absurd (Option·none-ne-some m (sym e ∙ g))
+  row-kept (inl n) m g = absurd (Option·none-ne-some m (sym (n .is) ∙ g))
   row-kept (inr f) m g = marked-kept head twenty q qs rs whole tail fours most (f .first) x
 
 -- The same of the bytes.
@@ -127,6 +172,7 @@ longer-newer x longer l =
     let long = requestOf (c .head) (c .first ∷ l .row) (c .tail) in
     let most : length long ≤ 16384 = omega (arith, l .most, ap length (l .bytes)) in
     let same : serve (asking x longer) ≡ serve (asking x long) = ap (λ (y : List ℕ). serve (asking x y)) (l .bytes) in
+    let now = placeNow (keep (c .first) (l .inserted)) in
     let m = firstMark (l .inserted) in
     let kept =
     row-kept (c .head) (c .twenty) (c .first) (c .rest) (l .row) (c .whole) (c .tail) (c .fours) most x (l .inserted) (split (l .inserted)) in
@@ -134,8 +180,8 @@ longer-newer x longer l =
       comes =
           same
           ∙ row-newer (c .head) (c .twenty) (c .first) (c .rest) (l .row) (c .whole) (c .tail) (c .fours) most x (l .inserted) (split (l .inserted))
-          ∙ ap (λ (y : List ℕ). newer (asking x y) long (c .head) (c .first) m) (sym (c .joined))
-          ∙ ap (λ (y : List ℕ). newer x y (c .head) (c .first) m) (sym (l .bytes));
+          ∙ ap (λ (y : List ℕ). newer (asking x y) long (c .head) (c .first) now m) (sym (c .joined))
+          ∙ ap (λ (y : List ℕ). newer x y (c .head) (c .first) now m) (sym (l .bytes));
       table = λ n e. rw same (kept n e .0);
       vectors = λ n e. rw same (kept n e .1);
     }

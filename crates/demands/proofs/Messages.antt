@@ -1,14 +1,15 @@
 -- A request of a header and a body: what is read out of it, and that a call looks at the header and the walk over the body alone.
-use Prim.Native.Nat.{ℕ, _+_, _/_, _%_, _<_, _≤_}
+use Prim.Native.Nat.{ℕ, zero, suc, _+_, _/_, _%_, _<_, _≤_}
 use mathlib.Core.List.{List}
-use mathlib.Core.Bool.{false, cond}
-use mathlib.Core.Path.{_≡_, refl, sym, _∙_}
+use mathlib.Core.Bool.{Bool, true, false, cond}
+use mathlib.Core.Path.{_≡_, refl, sym, ap, _∙_}
 use mathlib.Core.Logic.{_≢_}
 use native.Mathlib.Omega.{arith}
+use native.Mathlib.Nat.{zero-add}
 use lib.ListN.{length, getD, set, take, drop, length-set, length-append, length-drop, List·getD-append}
 use lib.Seq.{drop-at, take-append-le, drop-append-le, drop-set-lt, getD-set-other}
 use lib.Dec.{eqb}
-use borrow.Author.Tests.{eq-eqb, le-ltb}
+use borrow.Author.Tests.{eq-eqb, ne-eqb, le-ltb}
 use Rattle.octets.specs.Number.{be24At, putBe24}
 use Rattle.octets.proofs.Numbers.{be24-alike, be32-alike, field-put}
 use Rattle.diameter.specs.Walk.{Walk, walk}
@@ -18,12 +19,14 @@ use Rattle.diameter.specs.Message.{commandOf, bodyOf}
 use Rattle.reading.specs.Verdicts.{faultOf}
 use Rattle.requests.specs.Request.{dialectOf, cx, headerFault, readWalk, readIn, readRequest, identities, sessionOf}
 use Rattle.choices.specs.declared.Given.{Given}
-use Rattle.fitting.specs.Decide.{Decision, decideJudged, decide}
+use Rattle.fitting.specs.Decide.{Decision, performed, decideJudged, decide}
 use Rattle.reply.specs.Answer.{topBytes, identityBytes, nameBytes, dataBytes, givenBytes, proxies, endBytes, restBytes, bodyBytes, headerBytes, answerBytes}
 use Rattle.ndushavire.specs.Lent.{Lent, asking}
 use Rattle.ndushavire.specs.Word.{checkValue}
-use Rattle.ndushavire.specs.Serve.{wrongSize, wrongLength, checkOf, refused, answered, decision, serve}
-use Rattle.demands.specs.Insertion.{message}
+use Rattle.ndushavire.specs.Serve.{wrongSize, wrongLength, noRequest, checkOf, answered, decision, serve}
+use Rattle.demands.specs.Call.{turnedAway}
+use Rattle.demands.specs.Insertion.{message, later, placed}
+use Rattle.demands.proofs.Refusals.{refused-alike, refused-placed, answer-is}
 use Rattle.demands.proofs.Alike.{SameGiven, SameDecision, fault-same, plan-same}
 use Rattle.demands.proofs.Moved.{Moved, faults, same}
 
@@ -130,6 +133,31 @@ module _ (head : List ℕ) (twenty : length head ≡ 20) (body : List ℕ) (fit 
         eq-eqb ((20 + length body) % 4) 0 (omega (arith, fit .fours)),
       )
 
+-- two messages of such bodies are refused alike
+module _ (head : List ℕ) (twenty : length head ≡ 20) (b c : List ℕ) (f : Fit b) (g : Fit c) (x : Lent) where
+  size-same : wrongSize (message head b) ≡ wrongSize (message head c)
+  size-same = size-right head twenty b f ∙ sym (size-right head twenty c g)
+
+  length-same : wrongLength (message head b) ≡ wrongLength (message head c)
+  length-same = length-right head twenty b f ∙ sym (length-right head twenty c g)
+
+  flags-same : noRequest (message head b) ≡ noRequest (message head c)
+  flags-same = rw (message-flags head twenty b, message-flags head twenty c)
+
+  pub turned-same : turnedAway (asking x (message head b)) ≡ turnedAway (asking x (message head c))
+  turned-same = rw (size-same, length-same, flags-same)
+
+  pub refused-same : (h : ℕ → ℕ) → turnedAway (asking x (message head c)) ≡ true
+      → serve (asking x (message head b)) ≡ placed h (serve (asking x (message head c)))
+  refused-same h e =
+      refused-alike x (message head b) (message head c) size-same length-same flags-same e
+      ∙ sym (refused-placed (asking x (message head c)) h e)
+
+-- a verdict's place, by what was put in before it
+later-is : (more : ℕ → ℕ) → more 0 ≡ 0 → (p : ℕ) → p + more p ≡ later more p
+later-is more none zero = zero-add (more 0) ∙ none
+later-is more none (suc p) = rw (ne-eqb (suc p) 0 (omega arith))
+
 -- two bodies of which the answer copies the same
 pub record Alike (v w : Walk) : Type 0 where
   pub session : sessionOf v ≡ sessionOf w
@@ -172,11 +200,12 @@ module _ (head : List ℕ) (twenty : length head ≡ 20) (b c : List ℕ) (alike
         message-rest head twenty c,
       )
 
-  pub answered-same : (x : Lent) (d e : Decision) → SameDecision long short d e → answered (asking x long) d ≡ answered (asking x short) e
+  answered-same : (x : Lent) (h : ℕ → ℕ) (d e : Decision) → SameDecision long short d e → d .place ≡ h (e .place)
+      → answered (asking x long) d ≡ placed h (answered (asking x short) e)
   unfolding answered
-  answered-same x d e s = rw (answer-same (x .table) (x .profile) (x .vectors) (d .given) (e .given) (s .given), s .table, s .vectors)
+  answered-same x h d e s p = rw (answer-same (x .table) (x .profile) (x .vectors) (d .given) (e .given) (s .given), s .table, s .vectors, p)
 
-  module _ {from : ℕ} {more : ℕ → ℕ} (read : Moved long short from more (readBody head (walk b)) (readBody head (walk c)))
+  module _ {from : ℕ} {more : ℕ → ℕ} (none : more 0 ≡ 0) (read : Moved long short from more (readBody head (walk b)) (readBody head (walk c)))
       (named : identities (walk b) ≡ identities (walk c)) where
     both-named : identities (bodyOf long) ≡ identities (bodyOf short)
     both-named = rw (message-body head twenty b, message-body head twenty c) named
@@ -188,23 +217,31 @@ module _ (head : List ℕ) (twenty : length head ≡ 20) (b c : List ℕ) (alike
     judged-same t count v (same seen) =
         plan-same long short t count v seen both-named (message-command head twenty b ∙ sym (message-command head twenty c))
 
-    decide-same : (t : List ℕ) (count : ℕ) (v : List ℕ) → SameDecision long short (decide long t count v) (decide short t count v)
-    unfolding decide
-    decide-same t count v = rw (message-read head twenty b, message-read head twenty c) (judged-same t count v read)
+    -- the place is the verdict's, or both have none
+    judged-place : (t : List ℕ) (count : ℕ) (v : List ℕ) {j k : Judged} → Moved long short from more j k
+        → decideJudged long t count v j .place ≡ later more (decideJudged short t count v k .place)
+    unfolding decideJudged performed
+    judged-place t count v (faults f g l) = l .place ∙ later-is more none (g .place)
+    judged-place t count v (same seen) = refl
 
-    pub served-same : (x : Lent) → Fit b → Fit c → serve (asking x (message head b)) ≡ serve (asking x (message head c))
-    unfolding serve refused
-    served-same x f g =
-        let k = checkValue (checkOf x) in
-        let answers : answered (asking x (message head b)) (decision (asking x (message head b)) k)
-        ≡ answered (asking x (message head c)) (decision (asking x (message head c)) k) =
-        answered-same x (decision (asking x (message head b)) k) (decision (asking x (message head c)) k) (decide-same (x .table) k (x .vectors)) in
-        rw (
-          size-right head twenty b f,
-          size-right head twenty c g,
-          length-right head twenty b f,
-          length-right head twenty c g,
-          message-flags head twenty b,
-          message-flags head twenty c,
-          answers,
-        )
+    decide-same : (t : List ℕ) (count : ℕ) (v : List ℕ)
+        → SameDecision long short (decide long t count v) (decide short t count v)
+        × (decide long t count v .place ≡ later more (decide short t count v .place))
+    unfolding decide
+    decide-same t count v = rw (message-read head twenty b, message-read head twenty c) (judged-same t count v read, judged-place t count v read)
+
+    pub served-same : (x : Lent) → Fit b → Fit c → serve (asking x (message head b)) ≡ placed (later more) (serve (asking x (message head c)))
+    served-same x f g = go (turnedAway (asking x short)) refl
+      where
+        k : ℕ
+        k = checkValue (checkOf x)
+
+        answers : answered (asking x long) (decision (asking x long) k) ≡ placed (later more) (answered (asking x short) (decision (asking x short) k))
+        answers =
+            let d = decide-same (x .table) k (x .vectors) in
+            answered-same x (later more) (decision (asking x long) k) (decision (asking x short) k) (d .0) (d .1)
+
+        go : (y : Bool) → turnedAway (asking x short) ≡ y → serve (asking x long) ≡ placed (later more) (serve (asking x short))
+        go true e = refused-same head twenty b c f g x (later more) e
+        go false e =
+            answer-is (asking x long) (turned-same head twenty b c f g x ∙ e) ∙ answers ∙ ap (placed (later more)) (sym (answer-is (asking x short) e))

@@ -6,7 +6,7 @@ use mathlib.Core.Option.{some}
 use mathlib.Core.Bool.{Bool, true, false, cond}
 use mathlib.Core.Path.{_≡_, refl, sym, ap, _∙_}
 use native.Mathlib.Omega.{arith}
-use lib.ListN.{length, drop, set}
+use lib.ListN.{length, drop, set, length-append}
 use lib.Seq.{drop-drop, drop-at}
 use lib.Dec.{ltb}
 use borrow.Author.Tests.{lt-ltb, le-ltb}
@@ -26,18 +26,8 @@ use Rattle.requests.specs.Judged.{Judged, bad, fine, onRule, judge}
 use Rattle.requests.proofs.Insert.{judge-unmarked, past}
 use Rattle.failed.specs.Failing.{failedOf, failedBy}
 use Rattle.failed.proofs.Fronts.{failed-piece}
-use Rattle.demands.specs.Insertion.{Quiet, Inserted, ending, keep, put}
+use Rattle.demands.specs.Insertion.{Quiet, Inserted, ending, keep, put, sizeOf, putBefore}
 use Rattle.demands.proofs.Cuts.{Row, row-of}
-
--- an AVP with its padding
-abbrev sizeOf : Piece → ℕ
-sizeOf q = padded (length (q .avp))
-
--- how many bytes were put in before a place of the shorter row, which begins at another
-unfoldable pub putBefore : {P : Piece → Type 0} {qs rs : List Piece} → Inserted P qs rs → ℕ → ℕ → ℕ
-putBefore ending at place = 0
-putBefore (keep q i) at place = cond (ltb place (at + sizeOf q)) 0 (putBefore i (at + sizeOf q) place)
-putBefore (put u p i) at place = sizeOf u + putBefore i at place
 
 -- a verdict on the longer message beside the one on the shorter: its place, at or after another, is later by so many bytes
 pub record Later (long short : List ℕ) (from : ℕ) (more : ℕ → ℕ) (v w : Verdict) : Type 0 where
@@ -63,6 +53,13 @@ moved-as h f (faults v w l) =
     })
 moved-as h f (same seen) = same seen
 
+-- at the place of the verdict
+pub moved-by : {long short : List ℕ} {from : ℕ} {more less : ℕ → ℕ} {j k : Judged} → ((w : Verdict) → k ≡ bad w → less (w .place) ≡ more (w .place))
+    → Moved long short from less j k → Moved long short from more j k
+moved-by f (faults v w l) =
+    faults v w (record { result = l .result; lacks = l .lacks; reached = l .reached; place = l .place ∙ rw (f w refl); failed = l .failed })
+moved-by f (same seen) = same seen
+
 -- a row's first AVP passed over
 whole-size : (q : Piece) → Whole q → 0 < sizeOf q
 whole-size q h = let s = sound-says (q .avp) (h .right) in omega (arith, s .eight, s .least, h .exact, padded-least (length (q .avp)))
@@ -85,6 +82,33 @@ pub past-drop : (s : List ℕ) (at : ℕ) (qs : List Piece) (t : List ℕ) → A
 unfolding past avpsOf bytesOf
 past-drop s at [] t h e = e
 past-drop s at (q ∷ qs) t h e = past-drop s (at + sizeOf q) qs t (h .1) (drop-row s at q qs t (h .0) e)
+
+pub past-bytes : (at : ℕ) (qs : List Piece) → All Whole qs → past at (avpsOf qs) ≡ at + length (bytesOf qs)
+unfolding past avpsOf bytesOf
+past-bytes at [] h = omega arith
+past-bytes at (q ∷ qs) h =
+    past-bytes (at + sizeOf q) qs (h .1)
+    ∙ (let l = length-append (q .avp ++ q .pad) (bytesOf qs) in omega (arith, l, h .0 .filled))
+
+-- a fault of a row stands within it
+pub record Amid (from to : ℕ) (v : Verdict) : Type 0 where
+  pub least : from ≤ v .place
+  pub most : v .place < to
+
+pub judge-amid : (dialect : Dialect) (at : ℕ) (qs : List Piece) → All Whole qs → (seen : Seen) (v : Verdict)
+    → judge dialect at (glue (avpsOf qs) ended) seen ≡ bad v → Amid at (past at (avpsOf qs)) v
+unfolding judge glue avpsOf past
+judge-amid dialect at [] h seen v e = let z : _≡_ {A = ℕ} 0 1 = cc in absurd (omega arith)
+judge-amid dialect at (q ∷ qs) h seen v e = go (rule dialect seen (q .avp)) e (λ σ. judge-amid dialect (at + sizeOf q) qs (h .1) σ v)
+  where
+    go : (r : Ruled) → onRule r seen (q .avp) at (judge dialect (at + sizeOf q) (glue (avpsOf qs) ended)) ≡ bad v
+        → ((σ : Seen) → judge dialect (at + sizeOf q) (glue (avpsOf qs) ended) σ ≡ bad v → Amid (at + sizeOf q) (past (at + sizeOf q) (avpsOf qs)) v)
+        → Amid at (past (at + sizeOf q) (avpsOf qs)) v
+    go Taken f further = let a = further _ f in record { least = omega (arith, a .least); most = a .most }
+    go Skipped f further = let a = further seen f in record { least = omega (arith, a .least); most = a .most }
+    go (Fault k) f further =
+        let p : v .place ≡ at = cc in
+        record { least = omega arith; most = omega (arith, whole-size q (h .0), past-later (at + sizeOf q) (avpsOf qs)) }
 
 -- Failed-AVP of an AVP at a place, by what stands there
 pub failed-there : (s : List ℕ) (n at : ℕ) → 0 < at → failedBy s (faultAt n at) ≡ some (failedOf n (drop at s))

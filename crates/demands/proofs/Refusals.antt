@@ -1,5 +1,5 @@
 -- Demand 1: an answer, or exactly one of six refusals. What a refused call leaves, and what an answered one writes.
-use Prim.Native.Nat.{ℕ, _≤_}
+use Prim.Native.Nat.{ℕ, _≤_, _<_}
 use mathlib.Core.List.{List}
 use mathlib.Core.Bool.{Bool, true, false, true≢false}
 use mathlib.Core.Path.{_≡_, refl, sym, ap, _∙_}
@@ -14,16 +14,20 @@ use Rattle.table.specs.declared.Checked.{Checked}
 use Rattle.table.specs.declared.Checked.the-variants.{Sound, Bad}
 use Rattle.vectors.specs.VectorFile.{checkVectors, SoundVectors}
 use Rattle.diameter.specs.Put.{All}
+use Rattle.ndushavire.specs.declared.Answer.{Answer}
 use Rattle.ndushavire.specs.declared.Call.{Call}
 use Rattle.ndushavire.specs.declared.Call.the-variants.{Answered, Refused}
 use Rattle.ndushavire.specs.Lent.{Lent, asking}
 use Rattle.ndushavire.specs.Trial.{Trial, anyHolds}
 use Rattle.ndushavire.specs.Serve.{Served, smallBuffer, wrongSize, wrongLength, noRequest, isBad, unsound, checkOf, trials, refused, answered, decision}
 use Rattle.ndushavire.specs.Serve.{serve}
-use Rattle.ndushavire.specs.Word.{callNumber, callValue, callWord, checkValue}
+use Rattle.ndushavire.specs.Word.{callNumber, callPlace, callValue, callWord, checkValue}
 use Rattle.ndushavire.specs.Reads.{Reads}
+use Rattle.ndushavire.proofs.Calls.{size-least, size-most}
 use Rattle.fitting.proofs.Tests.{neither}
 use Rattle.demands.specs.Call.{turnedAway, answerTo, Fits, Exactly}
+use Rattle.demands.specs.Insertion.{placed}
+use Rattle.demands.proofs.Faults.{decide-within}
 use Rattle.demands.proofs.Firm.{check-most, answer-reads, refusal-reads}
 use Rattle.demands.proofs.Trials.{tried-by, tried-alike, exactly}
 
@@ -91,7 +95,7 @@ module _ (x : Lent) where
   record Besides (c : Call) : Type 0 where
     none : (n k : ℕ) → c ≡ Refused n k → n ≢ 5 → k ≡ 0
     block : (k : ℕ) → c ≡ Refused 5 k → checkOf x ≡ Bad k
-    long : (n : ℕ) → c ≡ Answered (record { length = n }) → n ≡ length (answerTo x (checkValue (checkOf x)))
+    long : (a : Answer) → c ≡ Answered a → a .length ≡ length (answerTo x (checkValue (checkOf x)))
 
   record Right (r : Trial) : Type 0 where
     none : r .number ≢ 5 → r .besides ≡ 0
@@ -111,12 +115,12 @@ module _ (x : Lent) where
       record {
         none = λ n k e l. sym (ap callValue e) ∙ q .none (λ i. l (sym (ap callNumber e) ∙ i));
         block = λ k e. q .block h (ap callNumber e) ∙ ap Bad (ap callValue e);
-        long = λ n e. absurd (omega (arith, ap isAnswer e));
+        long = λ a e. absurd (omega (arith, ap isAnswer e));
       })
       (record {
         none = λ n k e l. absurd (omega (arith, ap isAnswer e));
         block = λ k e. absurd (omega (arith, ap isAnswer e));
-        long = λ n e. sym (ap callValue e);
+        long = λ a e. sym (ap callValue e);
       })
 
   pub besides-none : (n k : ℕ) → serve x .call ≡ Refused n k → n ≢ 5 → k ≡ 0
@@ -125,8 +129,8 @@ module _ (x : Lent) where
   pub besides-block : (k : ℕ) → serve x .call ≡ Refused 5 k → checkOf x ≡ Bad k
   besides-block = besides .block
 
-  pub answer-long : (n : ℕ) → serve x .call ≡ Answered (record { length = n }) → (count : ℕ) → checkOf x ≡ Sound count → n ≡ length (answerTo x count)
-  answer-long n e count s = besides .long n e ∙ ap (λ (c : Checked). length (answerTo x (checkValue c))) s
+  pub answer-long : (a : Answer) → serve x .call ≡ Answered a → (count : ℕ) → checkOf x ≡ Sound count → a .length ≡ length (answerTo x count)
+  answer-long a e count s = besides .long a e ∙ ap (λ (c : Checked). length (answerTo x (checkValue c))) s
 
   -- What is refused leaves the table, the vectors and the buffer; what is not is answered.
   pub refused-kept : turnedAway x ≡ true → (serve x .table ≡ x .table) × (serve x .vectors ≡ x .vectors) × (serve x .buffer ≡ x .buffer)
@@ -135,7 +139,16 @@ module _ (x : Lent) where
       any-call (λ b s. b ≡ true → (s .table ≡ x .table) × (s .vectors ≡ x .vectors) × (s .buffer ≡ x .buffer)) (λ r e. (refl, refl, refl))
       (λ e. absurd (true≢false (sym e)))
 
-  answer-is : turnedAway x ≡ false → serve x ≡ answer
+  -- it has no place
+  pub refused-placed : (f : ℕ → ℕ) → turnedAway x ≡ true → placed f (serve x) ≡ serve x
+  unfolding refused
+  refused-placed f = any-call (λ b s. b ≡ true → placed f s ≡ s) (λ r e. refl) (λ e. absurd (true≢false (sym e)))
+
+  pub refused-nowhere : turnedAway x ≡ true → callPlace (serve x .call) ≡ 0
+  unfolding refused
+  refused-nowhere = any-call (λ b s. b ≡ true → callPlace (s .call) ≡ 0) (λ r e. refl) (λ e. absurd (true≢false (sym e)))
+
+  pub answer-is : turnedAway x ≡ false → serve x ≡ answer
   answer-is = any-call (λ b s. b ≡ false → s ≡ answer) (λ r e. absurd (true≢false e)) (λ e. refl)
 
   pub answered-is : (count : ℕ) → checkOf x ≡ Sound count → turnedAway x ≡ false → serve x ≡ answered x (decision x count)
@@ -177,7 +190,15 @@ module _ (x : Lent) where
         call-by (λ b s. turnedAway x ≡ b → Reads (s .call) (callWord (s .call))) (λ r. (1 ≤ r .number) × (r .besides ≤ 4096))
         (six (λ r. (1 ≤ r .number) × (r .besides ≤ 4096)) (λ h n a b c. (a, omega arith)) (omega arith, check-most (x .table) (length (x .profile))))
         (λ r q h e. refusal-reads (r .number) (r .besides) (q .0) (omega (arith, q .1)))
-        (λ e. answer-reads (length (answerTo x (checkValue (checkOf x)))) (omega (arith, short e))) refl
+        (λ e. answer-reads (record { length = length (answerTo x count); place = decision x count .place }) (near e) (omega (arith, short e))) refl
+      where
+        count : ℕ
+        count = checkValue (checkOf x)
+
+        near : turnedAway x ≡ false → decision x count .place < 65536
+        near e =
+            let s = taken e .size in
+            omega (arith, size-most (x .request) s, decide-within (x .request) (x .table) count (x .vectors) (size-least (x .request) s))
 
     pub answer-within : callNumber (serve x .call) ≡ 0 → callValue (serve x .call) ≤ length (x .buffer)
     unfolding refused answered

@@ -1,3 +1,4 @@
 pub mod Call
 pub mod Frame
 pub mod Insertion
+pub mod Place

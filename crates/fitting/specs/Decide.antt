@@ -12,6 +12,7 @@ use Rattle.requests.specs.Judged.{Judged, bad, fine}
 use Rattle.diameter.specs.Message.{commandOf, bodyOf}
 use Rattle.requests.specs.Request.{readRequest, given, dataSeen, valueSeen, schemeOf, identities}
 use Rattle.requests.specs.Identity.{placesFrom}
+use Rattle.reading.specs.declared.Verdict.{Verdict}
 use Rattle.choices.specs.Types.{typeOf}
 use Rattle.choices.specs.Given.{givenFault}
 use Rattle.choices.specs.Plans.{only}
@@ -24,15 +25,16 @@ use Rattle.decisions.specs.Location.{locate}
 use Rattle.assignment.specs.Assignment.{Assignment, assign}
 use Rattle.fitting.specs.Deeds.{carriedOut, spentBy}
 
--- A decision: what the answer carries, the table and the vector file afterwards
+-- A decision: what the answer carries, "the place of the AVP at fault, or 0 when no AVP of the request is at fault", the table and the vector file afterwards
 pub record Decision : Type 0 where
   pub given : Given
+  pub place : ℕ
   pub table : List ℕ
   pub vectors : List ℕ
 
--- nothing is altered
-abbrev pub unaltered : List ℕ → List ℕ → Given → Decision
-unaltered t v g = record { given = g; table = t; vectors = v }
+-- a fault that reading found: nothing is altered
+abbrev pub faulted : List ℕ → List ℕ → Verdict → Decision
+faulted t v f = record { given = givenFault f; place = f .place; table = t; vectors = v }
 
 -- what a SAR says, and the header's keep
 abbrev pub numbersIn : List ℕ → Seen → Sar
@@ -77,12 +79,12 @@ planRead req t count v seen =
     (cond (eqb (commandOf req) 302) (lirPlan t count seen)
     (marPlan t count v seen)))
 
--- what a plan comes to once it is carried out
+-- what a plan comes to once it is carried out. What a decision says is no AVP's fault, a SAR's second identity neither
 unfoldable pub performed : List ℕ → ℕ → List ℕ → Assignment → Plan → Decision
-performed t count v s p = record { given = p .given; table = carriedOut t count s (p .deed); vectors = spentBy v (p .given .sent) (p .deed) }
+performed t count v s p = record { given = p .given; place = 0; table = carriedOut t count s (p .deed); vectors = spentBy v (p .given .sent) (p .deed) }
 
 unfoldable pub decideJudged : List ℕ → List ℕ → ℕ → List ℕ → Judged → Decision
-decideJudged req t count v (bad f) = unaltered t v (givenFault f)
+decideJudged req t count v (bad f) = faulted t v f
 decideJudged req t count v (fine seen) = performed t count v (assignmentOf t seen req) (planRead req t count v seen)
 
 unfoldable pub decide : List ℕ → List ℕ → ℕ → List ℕ → Decision

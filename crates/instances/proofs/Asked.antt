@@ -97,12 +97,17 @@ asked req = lent req table [] [] room
 abbrev pub carded : List ℕ → Lent
 carded req = lent req table [] vectors room
 
--- a call that is answered by these bytes and leaves a table and vectors; one that leaves them as they came
-unfoldable pub comesTo : List ℕ → List ℕ → List ℕ → Served
-comesTo after spent bytes = record { call = Answered (record { length = length bytes }); table = after; vectors = spent; buffer = over bytes room }
+-- a call that is answered by these bytes, with the place of the AVP at fault (0: none is), and leaves a table and vectors; one that blames no AVP, over no
+-- vectors; one that blames the AVP at a place, and leaves the table as it came
+unfoldable pub comesTo : ℕ → List ℕ → List ℕ → List ℕ → Served
+comesTo place after spent bytes =
+    record { call = Answered (record { length = length bytes; place = place }); table = after; vectors = spent; buffer = over bytes room }
 
 unfoldable pub comes : List ℕ → List ℕ → Served
-comes after bytes = comesTo after [] bytes
+comes after bytes = comesTo 0 after [] bytes
+
+unfoldable pub blamed : ℕ → List ℕ → Served
+blamed place bytes = comesTo place table [] bytes
 
 -- "601 without V is unknown"; "V with vendor 0 is an unknown kind"; one with M. Their padding is no zeros
 unfoldable pub plain : Piece
@@ -116,7 +121,7 @@ loud = record { avp = headBytes 999 64 11 ++ (1 ∷ 2 ∷ 3 ∷ []); pad = 0xFF 
 
 -- all that the instances open
 unfoldable pub all : ℕ
-unfolding opened table removed room vectors base vendor headOf head marHead session application common own rest sar marOwn marRest mar comesTo comes
+unfolding opened table removed room vectors base vendor headOf head marHead session application common own rest sar marOwn marRest mar comesTo comes blamed
     plain zeroVendor loud
     message glue bytesOf avpsOf firstOwner askedIn subscriptionOf anyHolds faultIn
 all = 0

@@ -34,11 +34,11 @@ unfolding all
 removal = refl
 
 -- it says 116 bytes; the word that is promised says the same
-removal-call : serve (asked (sar s 5)) .call ≡ Answered (record { length = 116 })
+removal-call : serve (asked (sar s 5)) .call ≡ Answered (record { length = 116; place = 0 })
 unfolding all
 removal-call = ap (λ (x : Served). x .call) removal
 
-met-promised : serve (asked (sar s 5)) .call ≡ Answered (record { length = 116 })
+met-promised : serve (asked (sar s 5)) .call ≡ Answered (record { length = 116; place = 0 })
 met-promised =
     ap (λ (x : Served). x .call)
     (promised (asked (sar s 5)) {r = 116} (record { word-is = rw removal-call; table-is = refl; vectors-is = refl; buffer-is = refl }))
@@ -48,7 +48,7 @@ met-checked : ReadsCheck 5 (Sound 2) 2
 unfolding all
 met-checked = checked table [] (record { answer = refl })
 
-met-checked-bad : ReadsCheck 5 (Bad 2) (word 5 2)
+met-checked-bad : ReadsCheck 5 (Bad 2) (word 5 0 2)
 unfolding all twice
 met-checked-bad = checked twice [] (record { answer = refl })
 
@@ -57,7 +57,7 @@ met-checked-vectors : ReadsCheck 6 (Sound 2) 2
 unfolding all
 met-checked-vectors = checked-vectors vectors (record { answer = refl })
 
-met-checked-cut : ReadsCheck 6 (Bad 1) (word 6 1)
+met-checked-cut : ReadsCheck 6 (Bad 1) (word 6 0 1)
 unfolding all cutOff
 met-checked-cut = checked-vectors cutOff (record { answer = refl })
 
@@ -77,13 +77,13 @@ met-1-number : callNumber (serve (asked (sar s 5)) .call) ≤ 6
 met-1-number = demand-1-number (asked (sar s 5))
 
 met-1-length : 116 ≡ length (answerTo (asked (sar s 5)) 2)
-met-1-length = demand-1-length (asked (sar s 5)) 116 removal-call 2 sound-table
+met-1-length = demand-1-length (asked (sar s 5)) (record { length = 116; place = 0 }) removal-call 2 sound-table
 
 met-1-fits : length (answerTo (asked (sar s 5)) 2) ≤ 36864
 unfolding all
 met-1-fits = demand-1-fits (asked (sar s 5)) refl refl 2 sound-table (record { count = 0; checked = refl })
 
-met-1-word : Reads (Answered (record { length = 116 })) (callWord (Answered (record { length = 116 })))
+met-1-word : Reads (Answered (record { length = 116; place = 0 })) (callWord (Answered (record { length = 116; place = 0 })))
 met-1-word = rw removal-call at (demand-1-word (asked (sar s 5)))
 
 short-refused : serve (asked (take 19 (sar s 5))) .call ≡ Refused 2 0

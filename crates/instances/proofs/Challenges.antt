@@ -17,7 +17,7 @@ use Rattle.ndushavire.specs.Serve.{decision, serve}
 use Rattle.worked.proofs.Sample.{header, subscriber, person, vector, reply, item, challenges, s, z}
 use Rattle.requests.specs.Request.{dialectOf, cx}
 use Rattle.demands.specs.Call.{turnedAway}
-use Rattle.demands.specs.Insertion.{requestOf, Foreign, Quiet, ending, keep, put, FirstMarked, Longer, firstMark}
+use Rattle.demands.specs.Insertion.{requestOf, Foreign, Quiet, Inserted, ending, keep, put, placeNow, placed, FirstMarked, Longer, firstMark}
 use Rattle.demands.proofs.Demands.{demand-2, demand-2-failure, demand-2-others, demand-2-bytes, demand-2-sound, demand-2-vectors, demand-3, demand-3-unmarked}
 use Rattle.demands.proofs.Demands.{demand-3-vectors, demand-3-marked}
 use Rattle.instances.proofs.Asked.{table, vectors, marHead, session, application, common, sar, marOwn, marRest, mar, carded, comesTo, plain}
@@ -32,7 +32,7 @@ challengedTable = header 2 0 ++ (subscriber 1 0x61 0x70 1 1 z ++ person 2 0x62 0
 spentVectors : List ℕ
 spentVectors = vector 0 0x71 5 ++ vector 1 0x70 1
 
-challenge : serve (carded (mar z 2)) ≡ comesTo challengedTable spentVectors (challenges 1 (item 1 1))
+challenge : serve (carded (mar z 2)) ≡ comesTo 0 challengedTable spentVectors (challenges 1 (item 1 1))
 unfolding all challengedTable spentVectors
 challenge = refl
 
@@ -78,13 +78,18 @@ unfolding all
 quiet-plain-mar = record { foreign = foreign-plain-mar; unmarked = refl }
 
 -- The MAR with one unmarked put in sends the same vector; with one marked M it is B5001, and no vector is used.
-met-3-spent : serve (carded (requestOf marHead (session ∷ application ∷ plain ∷ common ++ marOwn z 2) []))
-    ≡ comesTo challengedTable spentVectors (challenges 1 (item 1 1))
-unfolding all isWhole allWhole
+quietly : List Piece
+quietly = application ∷ plain ∷ common ++ marOwn z 2
+
+put-quietly : Inserted (Quiet (dialectOf cx marHead)) (marRest z 2) quietly
+unfolding all quietly
+put-quietly = keep _ (put plain quiet-plain-mar (kept (common ++ marOwn z 2)))
+
+met-3-spent : serve (carded (requestOf marHead (session ∷ quietly) [])) ≡ comesTo 0 challengedTable spentVectors (challenges 1 (item 1 1))
+unfolding all isWhole allWhole quietly
 met-3-spent =
-    demand-3-unmarked marHead refl session (marRest z 2) (application ∷ plain ∷ common ++ marOwn z 2) (all-whole (session ∷ marRest z 2) refl) [] refl (lit≤ tt)
-    (carded []) (keep _ (put plain quiet-plain-mar (kept (common ++ marOwn z 2))))
-    ∙ challenge
+    demand-3-unmarked marHead refl session (marRest z 2) quietly (all-whole (session ∷ marRest z 2) refl) [] refl (lit≤ tt) (carded []) put-quietly
+    ∙ ap (placed (placeNow (keep session put-quietly))) challenge
 
 loudly : List Piece
 loudly = marRest z 2 ++ (loud ∷ [])
@@ -111,7 +116,7 @@ unfolding all isWhole allWhole loudly
 met-3-vectors =
     demand-3-vectors marHead refl session (marRest z 2) loudly (all-whole (session ∷ marRest z 2) refl) [] refl (lit≤ tt) (carded []) marked-mar
 
-met-3-unsent : serve (carded (requestOf marHead (session ∷ loudly) [])) ≡ comesTo table vectors (reply 303 (numberBytes 268 5001) (failed (loud .avp)))
+met-3-unsent : serve (carded (requestOf marHead (session ∷ loudly) [])) ≡ comesTo 212 table vectors (reply 303 (numberBytes 268 5001) (failed (loud .avp)))
 unfolding all isWhole allWhole loudly marked-mar
 met-3-unsent =
     demand-3-marked marHead refl session (marRest z 2) loudly (all-whole (session ∷ marRest z 2) refl) [] refl (lit≤ tt) (carded []) marked-mar

@@ -1,6 +1,6 @@
 -- Demand 3: its hypotheses can be met by a SAR and what is put into it, computed.
 use Prim.Native.Nat.{ℕ, zero, suc, _<_}
-use mathlib.Core.Path.{_≡_, refl, _∙_}
+use mathlib.Core.Path.{_≡_, refl, ap, _∙_}
 use mathlib.Core.List.{List, [], _∷_, _++_}
 use mathlib.Core.Option.{Option, none}
 use mathlib.Core.Logic.{_⊎_}
@@ -16,10 +16,11 @@ use Rattle.ndushavire.specs.Lent.{Lent}
 use Rattle.ndushavire.specs.Serve.{Served, serve}
 use Rattle.worked.proofs.Sample.{answer, s}
 use Rattle.requests.specs.Request.{dialectOf, cx}
-use Rattle.demands.specs.Insertion.{requestOf, Foreign, Quiet, Inserted, ending, keep, put, FirstMarked, Cut, Longer, Mark, firstMark, newer}
+use Rattle.demands.specs.Insertion.{requestOf, Foreign, Quiet, Inserted, ending, keep, put, putBefore, placeNow, placed, FirstMarked, Cut, Longer, Mark}
+use Rattle.demands.specs.Insertion.{firstMark, newer}
 use Rattle.demands.proofs.Demands.{demand-3, demand-3-unmarked, demand-3-table, demand-3-marked, demand-3-fault, demand-3-cases, demand-3-any}
-use Rattle.instances.proofs.Asked.{table, removed, vendor, head, session, application, common, own, rest, sar, asked, comes, plain, zeroVendor, loud}
-use Rattle.instances.proofs.Asked.{all, isWhole, allWhole, all-whole, kept}
+use Rattle.instances.proofs.Asked.{table, removed, vendor, head, session, application, common, own, rest, sar, asked, comesTo, comes, blamed, plain}
+use Rattle.instances.proofs.Asked.{zeroVendor, loud, all, isWhole, allWhole, all-whole, kept}
 use Rattle.instances.proofs.Calls.{removal}
 
 foreign-plain : Foreign (dialectOf cx head) plain
@@ -42,32 +43,42 @@ quiet-zero : Quiet (dialectOf cx head) zeroVendor
 unfolding all
 quiet-zero = record { foreign = foreign-zero; unmarked = refl }
 
--- two unmarked ones between, and one at the end of the SAR that succeeds: the same answer and the same table
-met-3-unmarked : serve (asked (requestOf head (session ∷ application ∷ plain ∷ zeroVendor ∷ common ++ (own s 5 ++ (plain ∷ []))) []))
-    ≡ comes removed (answer (numberBytes 268 2001) [])
-unfolding all isWhole allWhole
-met-3-unmarked =
-    demand-3-unmarked head refl session (rest s 5) (application ∷ plain ∷ zeroVendor ∷ common ++ (own s 5 ++ (plain ∷ [])))
-    (all-whole (session ∷ rest s 5) refl) [] refl (lit≤ tt) (asked [])
-    (keep _ (put plain quiet-plain (put zeroVendor quiet-zero
-    (keep _ (keep _ (keep _ (keep _ (keep _ (keep _ (keep _ (keep _ (put plain quiet-plain ending))))))))))))
-    ∙ removal
+-- two unmarked ones between, and one at the end of the SAR that succeeds: the same answer and the same table, and no place
+thrice : List Piece
+thrice = application ∷ plain ∷ zeroVendor ∷ common ++ (own s 5 ++ (plain ∷ []))
 
--- the same before an AVP that says a length of 4, which is B5014
+put-thrice : Inserted (Quiet (dialectOf cx head)) (rest s 5) thrice
+unfolding all thrice
+put-thrice =
+    keep _ (put plain quiet-plain (put zeroVendor quiet-zero
+    (keep _ (keep _ (keep _ (keep _ (keep _ (keep _ (keep _ (keep _ (put plain quiet-plain ending)))))))))))
+
+met-3-unmarked : serve (asked (requestOf head (session ∷ thrice) [])) ≡ comes removed (answer (numberBytes 268 2001) [])
+unfolding all isWhole allWhole thrice
+met-3-unmarked =
+    demand-3-unmarked head refl session (rest s 5) thrice (all-whole (session ∷ rest s 5) refl) [] refl (lit≤ tt) (asked []) put-thrice
+    ∙ ap (placed (placeNow (keep session put-thrice))) removal
+
+-- the same before an AVP that says a length of 4, which is B5014: it stands at 176, and 12 bytes later with one put in
 cut : List ℕ
 cut = 0 ∷ 0 ∷ 0 ∷ 1 ∷ 0 ∷ 0 ∷ 0 ∷ 4 ∷ []
 
-cut-answered : serve (asked (requestOf head (session ∷ rest s 5) cut)) ≡ comes table (answer (numberBytes 268 5014) (failed (headBytes 1 0 8)))
+cut-answered : serve (asked (requestOf head (session ∷ rest s 5) cut)) ≡ blamed 176 (answer (numberBytes 268 5014) (failed (headBytes 1 0 8)))
 unfolding all cut
 cut-answered = refl
 
-met-3-tail : serve (asked (requestOf head (session ∷ application ∷ plain ∷ common ++ own s 5) cut))
-    ≡ comes table (answer (numberBytes 268 5014) (failed (headBytes 1 0 8)))
-unfolding all isWhole allWhole cut
+once : List Piece
+once = application ∷ plain ∷ common ++ own s 5
+
+put-once : Inserted (Quiet (dialectOf cx head)) (rest s 5) once
+unfolding all once
+put-once = keep _ (put plain quiet-plain (kept (common ++ own s 5)))
+
+met-3-tail : serve (asked (requestOf head (session ∷ once) cut)) ≡ blamed 188 (answer (numberBytes 268 5014) (failed (headBytes 1 0 8)))
+unfolding all isWhole allWhole cut once put-once putBefore kept
 met-3-tail =
-    demand-3-unmarked head refl session (rest s 5) (application ∷ plain ∷ common ++ own s 5) (all-whole (session ∷ rest s 5) refl) cut refl (lit≤ tt) (asked [])
-    (keep _ (put plain quiet-plain (kept (common ++ own s 5))))
-    ∙ cut-answered
+    demand-3-unmarked head refl session (rest s 5) once (all-whole (session ∷ rest s 5) refl) cut refl (lit≤ tt) (asked []) put-once
+    ∙ ap (placed (placeNow (keep session put-once))) cut-answered
 
 -- one marked M between a front and a back
 markedAt : (front back : List Piece) → FirstMarked (dialectOf cx head) (front ++ back) (front ++ (loud ∷ back))
@@ -91,24 +102,44 @@ markedAt front back =
 met-3-cases : Inserted (Quiet (dialectOf cx head)) common (plain ∷ common) ⊎ FirstMarked (dialectOf cx head) common (plain ∷ common)
 met-3-cases = demand-3-cases (dialectOf cx head) common (plain ∷ common) (put plain foreign-plain (kept common))
 
-unsupported-answer : Served
-unsupported-answer = comes table (answer (numberBytes 268 5001) (failed (loud .avp)))
+unsupported-answer : ℕ → Served
+unsupported-answer place = blamed place (answer (numberBytes 268 5001) (failed (loud .avp)))
 
 -- type 12 is bad content, B5004. The marked one before it: B5001, and the table is as it was
-met-3-marked : serve (asked (requestOf head (session ∷ application ∷ common ++ (loud ∷ own s 12)) [])) ≡ unsupported-answer
+met-3-marked : serve (asked (requestOf head (session ∷ application ∷ common ++ (loud ∷ own s 12)) [])) ≡ unsupported-answer 112
 unfolding all isWhole allWhole unsupported-answer markedAt
 met-3-marked =
     demand-3-marked head refl session (rest s 12) (application ∷ common ++ (loud ∷ own s 12)) (all-whole (session ∷ rest s 12) refl) [] refl (lit≤ tt)
     (asked [])
     (markedAt (application ∷ common) (own s 12)) refl refl
 
--- the marked one behind it: the answer given without it
-met-3-fault : serve (asked (requestOf head (session ∷ rest s 12 ++ (loud ∷ [])) []))
-    ≡ comes table (answer (numberBytes 268 5004) (failed (vendorHead 614 16 ++ wordBytes 12)))
-unfolding all isWhole allWhole markedAt
+-- the marked one behind it: the answer given without it; and one unmarked before it: it stands 12 bytes later
+behindIt : List Piece
+behindIt = application ∷ plain ∷ common ++ own s 12
+
+markedBehind : FirstMarked (dialectOf cx head) (rest s 12) (behindIt ++ (loud ∷ []))
+unfolding all behindIt
+markedBehind =
+    record {
+      mark = loud;
+      front = rest s 12;
+      back = [];
+      before = behindIt;
+      after = [];
+      row = refl;
+      longer = refl;
+      quiet = keep _ (put plain quiet-plain (kept (common ++ own s 12)));
+      foreign = foreign-loud;
+      marking = refl;
+      rest = ending;
+    }
+
+met-3-fault : serve (asked (requestOf head (session ∷ behindIt ++ (loud ∷ [])) []))
+    ≡ blamed 156 (answer (numberBytes 268 5004) (failed (vendorHead 614 16 ++ wordBytes 12)))
+unfolding all isWhole allWhole behindIt markedBehind putBefore kept
 met-3-fault =
-    demand-3-fault head refl session (rest s 12) (rest s 12 ++ (loud ∷ [])) (all-whole (session ∷ rest s 12) refl) [] refl (lit≤ tt) (asked [])
-    (markedAt (rest s 12) []) refl
+    demand-3-fault head refl session (rest s 12) (behindIt ++ (loud ∷ [])) (all-whole (session ∷ rest s 12) refl) [] refl (lit≤ tt) (asked [])
+    markedBehind refl
 
 -- no 624, which after the walk is B5005; two identities in a SAR of type 1, which the decision calls B5009: the marked one goes before both
 lacking624 : List Piece
@@ -117,13 +148,13 @@ lacking624 = application ∷ common ++ (vendor 601 (0x61 ∷ []) ∷ vendor 602 
 many : List Piece
 many = application ∷ common ++ (vendor 601 (0x62 ∷ []) ∷ own s 1)
 
-met-3-missing : serve (asked (requestOf head (session ∷ lacking624 ++ (loud ∷ [])) [])) ≡ unsupported-answer
+met-3-missing : serve (asked (requestOf head (session ∷ lacking624 ++ (loud ∷ [])) [])) ≡ unsupported-answer 160
 unfolding all isWhole allWhole unsupported-answer markedAt lacking624
 met-3-missing =
     demand-3-marked head refl session lacking624 (lacking624 ++ (loud ∷ [])) (all-whole (session ∷ lacking624) refl) [] refl (lit≤ tt) (asked [])
     (markedAt lacking624 []) refl refl
 
-met-3-many : serve (asked (requestOf head (session ∷ many ++ (loud ∷ [])) [])) ≡ unsupported-answer
+met-3-many : serve (asked (requestOf head (session ∷ many ++ (loud ∷ [])) [])) ≡ unsupported-answer 192
 unfolding all isWhole allWhole unsupported-answer markedAt many
 met-3-many =
     demand-3-marked head refl session many (many ++ (loud ∷ [])) (all-whole (session ∷ many) refl) [] refl (lit≤ tt) (asked []) (markedAt many []) refl refl
@@ -192,22 +223,23 @@ longer-loudly =
     }
 
 -- none of the two is marked: what comes of the longer one is what comes of the SAR
-newer-none : (x : Lent) (longer head : List ℕ) (q : Piece) (m : Option Mark) → m ≡ none → newer x longer head q m ≡ serve x
+newer-none : (x : Lent) (longer head : List ℕ) (q : Piece) (now : ℕ → ℕ) (m : Option Mark) → m ≡ none → newer x longer head q now m ≡ placed now (serve x)
 unfolding newer
-newer-none x longer head q m e = rw e
+newer-none x longer head q now m e = rw e
 
 quietly-none : firstMark (longer-quietly .inserted) ≡ none
 unfolding all quietly longer-quietly cut-sar firstMark kept
 quietly-none = refl
 
 met-3-quietly : serve (asked (requestOf head (session ∷ quietly) [])) ≡ comes removed (answer (numberBytes 268 2001) [])
+unfolding comesTo comes
 met-3-quietly =
     demand-3 (asked (sar s 5)) (requestOf head (session ∷ quietly) []) longer-quietly .comes
-    ∙ newer-none (asked (sar s 5)) (requestOf head (session ∷ quietly) []) (longer-quietly .cut .head) (longer-quietly .cut .first)
+    ∙ newer-none (asked (sar s 5)) (requestOf head (session ∷ quietly) []) (longer-quietly .cut .head) (longer-quietly .cut .first) _
     (firstMark (longer-quietly .inserted)) quietly-none
-    ∙ removal
+    ∙ ap (placed _) removal
 
-met-3-loudly : serve (asked (requestOf head (session ∷ loudly) [])) ≡ unsupported-answer
+met-3-loudly : serve (asked (requestOf head (session ∷ loudly) [])) ≡ unsupported-answer 76
 unfolding all loudly longer-loudly cut-sar firstMark newer kept unsupported-answer
 met-3-loudly = demand-3 (asked (sar s 5)) (requestOf head (session ∷ loudly) []) longer-loudly .comes
 

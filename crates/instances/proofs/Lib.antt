@@ -2,4 +2,5 @@ pub mod Asked
 pub mod Calls
 pub mod Challenges
 pub mod Insertions
+pub mod Places
 pub mod Run

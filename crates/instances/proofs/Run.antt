@@ -8,16 +8,22 @@ use native.Mathlib.Omega.{arith}
 use lib.ListN.{length, getD, replicate}
 use lib.Dec.{lit<}
 use Rattle.octets.specs.Run.{over}
+use Rattle.table.specs.Blocks.{blockOf}
 use Rattle.vectors.specs.Chosen.{howMany}
 use Rattle.blocks.specs.Changed.{isOne}
+use Rattle.pen.specs.Bytes.{vendorNumber}
+use Rattle.reading.specs.Verdicts.{numberOf}
 use Rattle.ndushavire.specs.declared.Call.the-variants.{Answered}
-use Rattle.ndushavire.specs.Lent.{Lent}
+use Rattle.ndushavire.specs.Lent.{Lent, lent}
 use Rattle.ndushavire.specs.Trial.{anyHolds}
 use Rattle.ndushavire.specs.Serve.{Served, serve}
-use Rattle.sending.specs.Sent.{sentBy, Challenges, remaining, usedAt}
+use Rattle.ndushavire.specs.Word.{callPlace}
+use Rattle.sending.specs.Sent.{decided, sentBy, Challenges, usedAt, remaining, itemsFrom, saidOf, answerWith}
 use Rattle.sending.specs.Row.{Turn, lending, leftBy, sentOver, Once}
-use Rattle.sending.proofs.Sending.{only-success, sent-mark, sent-number, sent-first, sent-once, sent-over, sent-after, sent-never}
-use Rattle.worked.proofs.Sample.{vector, authentication, item, challenges, one, waiting, s, opened}
+use Rattle.sending.proofs.Sending.{refusal-leaves, command-leaves, failure-leaves, only-success, others-stay, unsent-stay, sent-mark, sent-bytes}
+use Rattle.sending.proofs.Sending.{sent-number, sent-some, sent-first, answer-sends, success-place, success-says, sent-once, sent-over, sent-before}
+use Rattle.sending.proofs.Sending.{sent-after, sent-never}
+use Rattle.worked.proofs.Sample.{vector, request, authentication, item, challenges, one, waiting, s, opened}
 
 -- three vectors of one private identity; with the first two used; with all used
 unused : List ℕ
@@ -45,9 +51,16 @@ first = lending unused (turn (one 0 0 []))
 abbrev second : Lent
 second = lending fewer (turn (waiting 0 s))
 
+-- a call without room for an answer; one of a request without AVPs
+abbrev refused : Lent
+refused = lent [] [] [] unused []
+
+abbrev other : ℕ → Lent
+other command = lent (request command []) [] [] unused []
+
 -- a call that is answered by these bytes
 comes : List ℕ → List ℕ → Served
-comes vectors bytes = record { call = Answered (record { length = length bytes }); table = waiting 0 s; vectors = vectors; buffer = over bytes room }
+comes vectors bytes = record { call = Answered (record { length = length bytes; place = 0 }); table = waiting 0 s; vectors = vectors; buffer = over bytes room }
 
 -- all that the instances open
 all : ℕ
@@ -115,6 +128,9 @@ met-number : length (sentBy first) ≡ 2
 unfolding all
 met-number = sent-number first met-success
 
+met-some : 0 < length (sentBy first)
+met-some = sent-some first met-success
+
 met-first : 1 < 2
 unfolding all
 met-first = sent-first first met-success 1 2 (lit< tt) refl unsent-2 sent-1
@@ -124,6 +140,14 @@ met-mark : (usedAt unused 1 ≡ 0) × (usedAt (serve first .vectors) 1 ≡ 1)
 unfolding turn
 met-mark = let m = sent-mark first 1 sent-1 in (m .2, m .3)
 
+met-bytes : getD (blockOf (serve first .vectors) 1) 4 0 ≡ getD (blockOf unused 1) 4 0
+unfolding turn
+met-bytes = sent-bytes first 1 sent-1 4 (omega arith) (omega arith)
+
+met-before : usedAt unused 1 ≡ 0
+unfolding leftBy
+met-before = sent-before unused [] (turn (one 0 0 [])) 1 sent-1
+
 met-after : usedAt (leftBy unused row) 1 ≡ 1
 unfolding leftBy
 met-after = sent-after unused [] (turn (one 0 0 [])) (turn (waiting 0 s) ∷ []) 1 sent-1
@@ -131,3 +155,40 @@ met-after = sent-after unused [] (turn (one 0 0 [])) (turn (waiting 0 s) ∷ [])
 met-never : isOne (sentOver (serve first .vectors) (turn (waiting 0 s) ∷ [])) 1 ≡ false
 unfolding leftBy
 met-never = sent-never unused [] (turn (one 0 0 [])) (turn (waiting 0 s) ∷ []) 1 sent-1
+
+-- block 2 stays in the first call; so does a vector of another name
+met-unsent : blockOf (serve first .vectors) 2 ≡ blockOf unused 2
+unfolding turn
+met-unsent = unsent-stay first 2 unsent-2
+
+met-others : blockOf (serve (lending (vector 0 0x71 1) (turn (one 0 0 []))) .vectors) 0 ≡ blockOf (vector 0 0x71 1) 0
+unfolding all
+met-others =
+    others-stay (lending (vector 0 0x71 1) (turn (one 0 0 []))) 0
+    (λ e. let n : _≡_ {A = ℕ} 0x71 0x70 = ap (λ (name : List ℕ). getD name 0 0) e in omega arith)
+
+-- the answer says 2 in 607, and the items of the two blocks
+met-answer : serve first .buffer ≡ over (answerWith first (decided first .given) (saidOf unused (sentBy first))) room
+unfolding turn
+met-answer = answer-sends first (met-success .taken) .1
+
+-- a success blames no AVP
+met-place : callPlace (serve first .call) ≡ 0
+met-place = success-place first met-success
+
+met-says : saidOf unused (sentBy first) ≡ vendorNumber 607 2 ++ itemsFrom unused 1 (sentBy first)
+unfolding all
+met-says = success-says first met-success
+
+-- a call that is refused, for its buffer; a request of another command; a MAR without AVPs, which is B5005: the vectors stay
+met-refused : (serve refused .vectors ≡ unused) × (sentBy refused ≡ [])
+unfolding anyHolds
+met-refused = refusal-leaves refused refl
+
+met-command : (serve (other 301) .vectors ≡ unused) × (sentBy (other 301) ≡ [])
+unfolding all
+met-command = command-leaves (other 301) (λ e. let n : _≡_ {A = ℕ} 301 303 = e in omega arith)
+
+met-failure : (serve (other 303) .vectors ≡ unused) × (sentBy (other 303) ≡ [])
+unfolding all
+met-failure = failure-leaves (other 303) (λ e. let n : _≡_ {A = ℕ} 5005 2001 = ap numberOf e in omega arith)

@@ -64,12 +64,13 @@ module _ (req t file v o : List ℕ) where
     unfolding serveChecked tried refused
     served-spoilt k e = record { call-is = rw e; table-is = rw e; vectors-is = rw e; buffer-is = rw e }
 
-    pub served-sound : (m n : ℕ) {t' v' o' : List ℕ} → d ≡ Sound m → Answers req t count file v o o' n → t' ≡ decide req t count v .table
-        → v' ≡ decide req t count v .vectors → Leaves (serveChecked x (Sound count) d) (Answered (record { length = n })) t' v' o'
+    pub served-sound : (m n p : ℕ) {t' v' o' : List ℕ} → d ≡ Sound m → Answers req t count file v o o' n → p ≡ decide req t count v .place
+        → t' ≡ decide req t count v .table
+        → v' ≡ decide req t count v .vectors → Leaves (serveChecked x (Sound count) d) (Answered (record { length = n; place = p })) t' v' o'
     unfolding serveChecked tried answered
-    served-sound m n e a f g =
+    served-sound m n p e a h f g =
         record {
-          call-is = rw e (ap (λ (z : ℕ). Answered (record { length = z })) (a .count));
+          call-is = rw (e, ← a .count, ← h);
           table-is = f ∙ rw e;
           vectors-is = g ∙ rw e;
           buffer-is = a .bytes ∙ rw e;

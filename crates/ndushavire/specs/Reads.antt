@@ -7,7 +7,7 @@ use Rattle.table.specs.declared.Checked.{Checked}
 use Rattle.table.specs.declared.Checked.the-variants.{Sound, Bad}
 use Rattle.ndushavire.specs.declared.Call.{Call}
 use Rattle.ndushavire.specs.declared.Call.the-variants.{Answered, Refused}
-use Rattle.ndushavire.specs.Word.{checkNumber, checkValue, callNumber, callValue}
+use Rattle.ndushavire.specs.Word.{checkNumber, checkValue, callNumber, callPlace, callValue}
 
 abbrev pub numberIn : ℕ → ℕ
 numberIn w = w / 281474976710656
@@ -18,12 +18,12 @@ placeIn w = w / 4294967296 % 65536
 abbrev pub valueIn : ℕ → ℕ
 valueIn w = w % 4294967296
 
-abbrev pub callBy : Bool → ℕ → ℕ → Call
-callBy true number value = Answered (record { length = value })
-callBy false number value = Refused number value
+abbrev pub callBy : Bool → ℕ → ℕ → ℕ → Call
+callBy true number place value = Answered (record { length = value; place = place })
+callBy false number place value = Refused number value
 
 abbrev pub callIn : ℕ → Call
-callIn w = callBy (eqb (numberIn w) 0) (numberIn w) (valueIn w)
+callIn w = callBy (eqb (numberIn w) 0) (numberIn w) (placeIn w) (valueIn w)
 
 abbrev pub checkBy : Bool → ℕ → Checked
 checkBy true value = Sound value
@@ -35,7 +35,7 @@ checkIn w = checkBy (eqb (numberIn w) 0) (valueIn w)
 -- so is a call read back, and so is the check's answer
 pub record Reads (c : Call) (w : ℕ) : Type 0 where
   pub number : numberIn w ≡ callNumber c
-  pub place : placeIn w ≡ 0
+  pub place : placeIn w ≡ callPlace c
   pub value : valueIn w ≡ callValue c
   pub call : callIn w ≡ c
 

@@ -71,14 +71,15 @@ trials x =
 unfoldable pub refused : Lent → Trial → Served
 refused x r = record { call = Refused (r .number) (r .besides); table = x .table; vectors = x .vectors; buffer = x .buffer }
 
--- the answer of a decision; "the call returns the answer's length; buffer bytes past it stay"
+-- the answer of a decision; "the call returns the answer's length; buffer bytes past it stay"; "and the entry shall return, beside the answer's length,
+-- the place of the AVP at fault"
 abbrev pub answerOf : Lent → Decision → List ℕ
 answerOf x d = answerBytes (x .request) (x .table) (x .profile) (x .vectors) (d .given)
 
 unfoldable pub answered : Lent → Decision → Served
 answered x d =
     record {
-      call = Answered (record { length = length (answerOf x d) });
+      call = Answered (record { length = length (answerOf x d); place = d .place });
       table = d .table;
       vectors = d .vectors;
       buffer = over (answerOf x d) (x .buffer);

@@ -1,17 +1,17 @@
--- The word that a call returns: its number times 2^48, and what it returns besides below 2^32; between them is nothing yet.
+-- The word that a call returns: its number times 2^48, the place of the AVP at fault times 2^32, and what it returns besides below that.
 use Prim.Native.Nat.{ℕ, _+_, _*_}
 use Rattle.ndushavire.specs.declared.Call.{Call}
 use Rattle.ndushavire.specs.declared.Call.the-variants.{Answered, Refused}
 use Rattle.table.specs.declared.Checked.{Checked}
 use Rattle.table.specs.declared.Checked.the-variants.{Sound, Bad}
 
-abbrev pub word : ℕ → ℕ → ℕ
-word number value = number * 281474976710656 + value
+abbrev pub word : ℕ → ℕ → ℕ → ℕ
+word number place value = number * 281474976710656 + place * 4294967296 + value
 
 -- a sound file: number 0 with the count; an unsound one: its refusal's number (the table's is 5, the vector file's 6), with the first bad block
 abbrev pub checkWord : ℕ → Checked → ℕ
-checkWord number (Sound count) = word 0 count
-checkWord number (Bad block) = word number block
+checkWord number (Sound count) = word 0 0 count
+checkWord number (Bad block) = word number 0 block
 
 abbrev pub checkNumber : ℕ → Checked → ℕ
 checkNumber number (Sound count) = 0
@@ -21,15 +21,19 @@ abbrev pub checkValue : Checked → ℕ
 checkValue (Sound count) = count
 checkValue (Bad block) = block
 
--- a call: number 0 with the answer's length; a refusal's number with what it returns besides
+-- a call: number 0 with the place and the answer's length; a refusal's number with what it returns besides
 abbrev pub callNumber : Call → ℕ
 callNumber (Answered a) = 0
 callNumber (Refused number besides) = number
+
+abbrev pub callPlace : Call → ℕ
+callPlace (Answered a) = a .place
+callPlace (Refused number besides) = 0
 
 abbrev pub callValue : Call → ℕ
 callValue (Answered a) = a .length
 callValue (Refused number besides) = besides
 
 abbrev pub callWord : Call → ℕ
-callWord (Answered a) = word 0 (a .length)
-callWord (Refused number besides) = word number besides
+callWord (Answered a) = word 0 (a .place) (a .length)
+callWord (Refused number besides) = word number 0 besides

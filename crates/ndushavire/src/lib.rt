@@ -14,8 +14,10 @@ ghost use Rattle.ndushavire.specs.Serve.{wrongLength, serve};
 ghost use Rattle.ndushavire.specs.Leaves.{Leaves, serveChecked};
 ghost use Rattle.ndushavire.specs.Promise.{CheckPromise, CheckVectorsPromise, DecidePromise};
 
-// What the number of a returned word counts: 2^48.
+// What the number of a returned word counts, 2^48, and what the place counts, 2^32.
 const NUMBER: u64 = 281474976710656;
+
+const PLACE: u64 = 4294967296;
 
 // The six refusals, by their numbers.
 const SMALL_BUFFER: u16 = 1;
@@ -37,9 +39,10 @@ const LEAST: usize = 20;
 
 const MOST: usize = 16384;
 
-// What is said of an answer: its length.
+// What is said of an answer: its length, and the place of the AVP at fault, 0 where none is.
 pub struct Answer {
     length: u32,
+    place: u16,
 }
 
 // What a call comes to: an answer, or a refusal's number with what it returns besides.
@@ -48,11 +51,11 @@ pub enum Call {
     Refused { number: u16, besides: u32 },
 }
 
-// A number and what is returned besides, as one word.
-fn word(number: u16, value: u32) -> u64
-    ensures { λ r. ⌜ r ≡ word number value ⌝ }
+// A number, a place and what is returned besides, as one word.
+fn word(number: u16, place: u16, value: u32) -> u64
+    ensures { λ r. ⌜ r ≡ word number place value ⌝ }
 {
-    (number as u64) * NUMBER + (value as u64)
+    (number as u64) * NUMBER + (place as u64) * PLACE + (value as u64)
 }
 
 // The word of a check's answer: a bad block has the refusal's number.
@@ -60,8 +63,8 @@ fn check_word(number: u16, c: Checked) -> u64
     ensures { λ r. ⌜ r ≡ checkWord number c ⌝ }
 {
     match c {
-        Checked::Sound(count) => word(0, count),
-        Checked::Bad(block) => word(number, block),
+        Checked::Sound(count) => word(0, 0, count),
+        Checked::Bad(block) => word(number, 0, block),
     }
 }
 
@@ -86,8 +89,8 @@ fn call_word(c: Call) -> u64
     ensures { λ r. ⌜ r ≡ callWord c ⌝ }
 {
     match c {
-        Call::Answered(a) => word(0, a.length),
-        Call::Refused { number, besides } => word(number, besides),
+        Call::Answered(a) => word(0, a.place, a.length),
+        Call::Refused { number, besides } => word(number, 0, besides),
     }
 }
 
@@ -115,8 +118,11 @@ fn call_sound(
 {
     match d {
         Checked::Sound(_) => {
-            let n = deciding::answer_sound(out, req, t, file, v, count as usize);
-            Call::Answered(Answer { length: n as u32 })
+            let told = deciding::answer_sound(out, req, t, file, v, count as usize);
+            Call::Answered(Answer {
+                length: told.length as u32,
+                place: told.place as u16,
+            })
         }
         Checked::Bad(_) => Call::Refused {
             number: UNSOUND_VECTORS,

@@ -1,3 +1,4 @@
+pub mod Faulting
 pub mod Insert
 pub mod Kept
 pub mod Naming

@@ -12,6 +12,11 @@ use Rattle.vectors.specs.Chosen.{sentOf, Sendable}
 use Rattle.vectors.specs.declared.choice.Sent.{Sent}
 use Rattle.items.specs.Items.{itemBytes, itemsBytes, numberedBytes, sentBytes}
 use Rattle.reply.specs.Answer.{givenBytes, restBytes, bodyBytes, answerBytes}
+use Rattle.reading.specs.Verdicts.{numberOf}
+use Rattle.reading.specs.declared.Outcome.the-variants.{Base}
+use Rattle.requests.specs.Judged.{Judged, bad, fine}
+use Rattle.requests.specs.Request.{readRequest}
+use Rattle.fitting.specs.Decide.{performed, decideJudged, decide}
 use Rattle.fitting.proofs.Room.{decide-light}
 use Rattle.ndushavire.specs.declared.Call.the-variants.{Answered}
 use Rattle.ndushavire.specs.Lent.{Lent}
@@ -20,6 +25,7 @@ use Rattle.ndushavire.specs.Word.{checkValue}
 use Rattle.ndushavire.specs.Serve.{checkOf, trials, answerOf, answered, serve}
 use Rattle.sending.specs.Sent.{decided, sentBy, itemsFrom, saidOf, answerWith}
 use Rattle.sending.proofs.Calls.{answered-is, answered-sound}
+use Rattle.sending.proofs.Faults.{read-fails}
 
 module _ (v : List ℕ) where
   -- one item more
@@ -50,10 +56,20 @@ module _ (x : Lent) (taken : anyHolds (trials x) ≡ false) where
   unfolding answerBytes bodyBytes restBytes givenBytes sentBy
   answer-is = rw (taken, said-is (x .vectors) (decided x .given .sent) (omega (arith, sendable .few, sendable .room)))
 
-  pub answer-says : (serve x .call ≡ Answered (record { length = length (answerWith x (decided x .given) (saidOf (x .vectors) (sentBy x))) }))
+  pub answer-says : (serve x .call
+      ≡ Answered (record { length = length (answerWith x (decided x .given) (saidOf (x .vectors) (sentBy x))); place = decided x .place }))
       × (serve x .buffer ≡ over (answerWith x (decided x .given) (saidOf (x .vectors) (sentBy x))) (x .buffer))
   unfolding answered
   answer-says = (
-    rw (answered-is x taken) (ap (λ (b : List ℕ). Answered (record { length = length b })) answer-is),
+    rw (answered-is x taken) (ap (λ (b : List ℕ). Answered (record { length = length b; place = decided x .place })) answer-is),
     rw (answered-is x taken) (ap (λ (b : List ℕ). over b (x .buffer)) answer-is),
   )
+
+-- A success blames no AVP.
+pub success-nowhere : (req t : List ℕ) (count : ℕ) (v : List ℕ) → decide req t count v .given .verdict .result ≡ Base 2001 → decide req t count v .place ≡ 0
+unfolding decide decideJudged performed numberOf
+success-nowhere req t count v = go (readRequest req) refl
+  where
+    go : (j : Judged) → readRequest req ≡ j → decideJudged req t count v j .given .verdict .result ≡ Base 2001 → decideJudged req t count v j .place ≡ 0
+    go (bad f) e r = absurd (omega (arith, read-fails req f e, ap numberOf r))
+    go (fine seen) e r = refl

@@ -3,7 +3,7 @@
 use Prim.Native.Nat.{ℕ, _/_, _<_, min}
 use mathlib.Core.List.{List, [], _∷_, _++_}
 use mathlib.Core.Bool.{true, false, true≢false}
-use mathlib.Core.Path.{_≡_, sym, _∙_}
+use mathlib.Core.Path.{_≡_, sym, ap, _∙_}
 use mathlib.Core.Logic.{_⊎_, inl, inr, _≢_}
 use lib.ListN.{length, getD}
 use borrow.Author.Tests.{lt-ltb}
@@ -19,12 +19,13 @@ use Rattle.diameter.specs.Message.{commandOf}
 use Rattle.ndushavire.specs.declared.Call.the-variants.{Answered}
 use Rattle.ndushavire.specs.Lent.{Lent}
 use Rattle.ndushavire.specs.Trial.{anyHolds}
-use Rattle.ndushavire.specs.Serve.{trials, serve}
+use Rattle.ndushavire.specs.Serve.{checkOf, trials, serve}
+use Rattle.ndushavire.specs.Word.{checkValue, callPlace}
 use Rattle.sending.specs.Sent.{decided, resultOf, sentBy, Challenges, userOf, askedBy, usedAt, remaining, itemsFrom, saidOf, answerWith}
 use Rattle.sending.specs.Row.{Turn, lending, leftBy, sentOver, Once}
 use Rattle.sending.proofs.Calls.{Quiet, Sending, call-cases}
 use Rattle.sending.proofs.Blocks as blocks
-use Rattle.sending.proofs.Said.{answer-says}
+use Rattle.sending.proofs.Said.{answer-says, success-nowhere}
 use Rattle.sending.proofs.Rows as rows
 
 module _ (x : Lent) where
@@ -102,11 +103,17 @@ module _ (x : Lent) where
 
   -- THE ANSWER of a call that is not refused says these vectors, from the file as it came, and no others.
   pub answer-sends : anyHolds (trials x) ≡ false
-      → (serve x .call ≡ Answered (record { length = length (answerWith x (decided x .given) (saidOf (x .vectors) (sentBy x))) }))
+      → (serve x .call
+      ≡ Answered (record { length = length (answerWith x (decided x .given) (saidOf (x .vectors) (sentBy x))); place = decided x .place }))
       × (serve x .buffer ≡ over (answerWith x (decided x .given) (saidOf (x .vectors) (sentBy x))) (x .buffer))
   answer-sends = answer-says x
 
-  -- Of a success this is the number sent in 607, and so many items.
+  -- Of a success the place is 0, for no AVP is at fault ..
+  pub success-place : Challenges x → callPlace (serve x .call) ≡ 0
+  success-place c =
+      ap callPlace (answer-sends (c .taken) .0) ∙ success-nowhere (x .request) (x .table) (checkValue (checkOf x)) (x .vectors) (c .success)
+
+  -- .. and this is the number sent in 607, and so many items.
   pub success-says : Challenges x
       → saidOf (x .vectors) (sentBy x)
       ≡ vendorNumber 607 (min (askedBy x) (min (remaining (x .vectors) (userOf x)) 16)) ++ itemsFrom (x .vectors) 1 (sentBy x)

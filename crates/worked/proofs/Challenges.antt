@@ -29,9 +29,13 @@ use Rattle.ndushavire.specs.Word.{checkValue}
 use Rattle.worked.proofs.Sample.{block, header, person, subscriber, vector, room, request, reply, assignment, digest}
 use Rattle.worked.proofs.Sample.{authenticationOf, authentication, item, challenges, one, waiting, s, z, opened}
 
--- what is left where a call is answered
+-- what is left where a call is answered: with the place of an AVP at fault, or with none
+abbrev leftAt : ℕ → List ℕ → List ℕ → List ℕ → Served
+leftAt place table vectors bytes =
+    record { call = Answered (record { length = length bytes; place = place }); table = table; vectors = vectors; buffer = over bytes room }
+
 abbrev pub left : List ℕ → List ℕ → List ℕ → Served
-left table vectors bytes = record { call = Answered (record { length = length bytes }); table = table; vectors = vectors; buffer = over bytes room }
+left = leftAt 0
 
 -- A MAR of `p` and `a` with the name `s` that asks for one vector, its answer, the vector and the record before and afterwards, each byte by byte: no writer
 -- of the definitions made them. Of the vector only byte 1 and the check word change; of the record the bits, the name with its length, and the check word.
@@ -280,7 +284,9 @@ abbrev holding : List ℕ → List ℕ → List ℕ → Row
 holding held result rest = denied fresh (authenticationOf 0x70 0x61 held 1 s) result rest
 
 abbrev ill : List ℕ → Row
-ill held = holding held (numberBytes 268 5004) (failed (vendorHead 612 (12 + length held) ++ held))
+ill held =
+    row fresh (authenticationOf 0x70 0x61 held 1 s)
+    (leftAt 140 (fresh .table) (fresh .vectors) (reply 303 (numberBytes 268 5004) (failed (vendorHead 612 (12 + length held) ++ held))))
 
 abbrev contents : List Row
 contents =

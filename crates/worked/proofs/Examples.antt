@@ -90,12 +90,15 @@ alone = header 0 0
 unkind : List ℕ
 unkind = sealed (set alone 0 0)
 
--- a call that is refused, where nothing is altered, and one that is answered
+-- a call that is refused, where nothing is altered; one that is answered; and one of a request in which the AVP at a place is at fault
 abbrev refusing : List ℕ → List ℕ → ℕ → ℕ → ℕ → Case
 refusing req table room number besides = call req table room (Refused number besides) table []
 
 abbrev answering : List ℕ → List ℕ → List ℕ → List ℕ → Case
-answering req table after bytes = call req table 36864 (Answered (record { length = length bytes })) after bytes
+answering req table after bytes = call req table 36864 (Answered (record { length = length bytes; place = 0 })) after bytes
+
+abbrev blaming : List ℕ → List ℕ → ℕ → List ℕ → Case
+blaming req table place bytes = call req table 36864 (Answered (record { length = length bytes; place = place })) table bytes
 
 abbrev cases : List Case
 cases =
@@ -126,7 +129,7 @@ cases =
     ∷ answering (assignment 6 s) (one 1 1 s) (one 1 2 s) (answer (numberBytes 268 2001) [])
     -- a Server-Name of 96 bytes is stored; one of 97 is B5004 with the whole AVP
     ∷ answering (assignment 1 (replicate 96 0x73)) (one 0 0 []) (one 0 1 (replicate 96 0x73)) (answer (numberBytes 268 2001) (avpBytes 1 (0x70 ∷ [])))
-    ∷ answering (assignment 1 (replicate 97 0x73)) (one 0 0 []) (one 0 0 []) (answer (numberBytes 268 5004) (failed (vendorHead 602 109 ++ replicate 97 0x73)))
+    ∷ blaming (assignment 1 (replicate 97 0x73)) (one 0 0 []) 128 (answer (numberBytes 268 5004) (failed (vendorHead 602 109 ++ replicate 97 0x73)))
     ∷ []
 
 examples : Holds cases

@@ -1,19 +1,21 @@
--- "Try these against it": document 01's five wrong servers, and four that break document 02 [1]. Each is a function here, and at an input that is computed
--- its outcome does not meet the promise.
+-- "Try these against it": document 01's five wrong servers, four that break document 02 [1], and two that break [2]. Each is a function here, and at an input
+-- that is computed its outcome does not meet the promise.
 use Prim.Native.Nat.{ℕ, zero, suc, _≤_}
 use mathlib.Core.Path.{_≡_, refl, ap, _∙_}
 use mathlib.Core.Logic.{_≢_}
-use mathlib.Core.List.{List, []}
+use mathlib.Core.List.{List, [], _∷_, _++_}
 use native.Mathlib.Omega.{arith}
 use lib.ListN.{getD, replicate}
 use Rattle.octets.specs.Run.{over}
-use Rattle.pen.specs.Bytes.{numberBytes}
+use Rattle.pen.specs.Bytes.{vendorHead, vendorBytes, numberBytes, vendorNumber}
+use Rattle.pen.specs.Groups.{failed}
 use Rattle.ndushavire.specs.Lent.{Lent, lent}
 use Rattle.ndushavire.specs.Serve.{Served, serve}
 use Rattle.ndushavire.specs.declared.Call.the-variants.{Answered}
 use Rattle.ndushavire.specs.Word.{word, callWord}
+use Rattle.ndushavire.specs.Reads.{placeIn}
 use Rattle.ndushavire.specs.Promise.{CheckPromise, DecidePromise}
-use Rattle.worked.proofs.Sample.{reply, answer, assignment, authentication, vector, item, challenges, one, waiting, two, s, z, opened}
+use Rattle.worked.proofs.Sample.{request, reply, answer, common, assignment, authentication, vector, item, challenges, one, waiting, two, s, z, opened}
 
 -- what a call leaves
 record Outcome : Type 0 where
@@ -49,7 +51,7 @@ question : Lent
 question = lent (assignment 0 z) (one 0 1 s) [] [] room
 
 abbrev comes : List ℕ → List ℕ → Served
-comes after bytes = record { call = Answered (record { length = 116 }); table = after; vectors = []; buffer = over bytes room }
+comes after bytes = record { call = Answered (record { length = 116; place = 0 }); table = after; vectors = []; buffer = over bytes room }
 
 removal-served : serve removal ≡ comes (one 0 0 []) (answer (numberBytes 268 2001) [])
 unfolding opened room removal
@@ -87,13 +89,13 @@ module _ (f : Server) (n : ℕ) where
 alike-fails : (f : Server) (n : ℕ) → result (f n removal .buffer) ≡ result (f n question .buffer) → Meets f n removal → Meets f n question → ⊥
 alike-fails f n e p q = omega (arith, e, removal-result f n p, question-result f n q)
 
--- 1. "a server that refuses everything", with any number and anything besides, and leaves all as it came
-refusing : (Lent → ℕ) → (Lent → ℕ) → Server
-refusing number besides n x = record { word = word (number x) (besides x); table = x .table; vectors = x .vectors; buffer = x .buffer }
+-- 1. "a server that refuses everything", with any number, any place and anything besides, and leaves all as it came
+refusing : (Lent → ℕ) → (Lent → ℕ) → (Lent → ℕ) → Server
+refusing number place besides n x = record { word = word (number x) (place x) (besides x); table = x .table; vectors = x .vectors; buffer = x .buffer }
 
-refusing-fails : (number besides : Lent → ℕ) → 1 ≤ number removal → (n : ℕ) → Meets (refusing number besides) n removal → ⊥
+refusing-fails : (number place besides : Lent → ℕ) → 1 ≤ number removal → (n : ℕ) → Meets (refusing number place besides) n removal → ⊥
 unfolding refusing
-refusing-fails number besides h n p = omega (arith, removal-word (refusing number besides) n p)
+refusing-fails number place besides h n p = omega (arith, removal-word (refusing number place besides) n p)
 
 -- 2. "one with a fixed answer": any word and any bytes, whatever is asked, and any files
 fixed : ℕ → List ℕ → (Lent → List ℕ) → (Lent → List ℕ) → Server
@@ -150,11 +152,11 @@ inventing-fails word h n p = h (removal-word (inventing word) n p)
 abbrev Checker : Type 0
 Checker = List ℕ → List ℕ → ℕ
 
-count-fails : (f : Checker) → f (one 0 1 s) [] ≢ word 0 1 → CheckPromise (one 0 1 s) [] (f (one 0 1 s) []) → ⊥
+count-fails : (f : Checker) → f (one 0 1 s) [] ≢ word 0 0 1 → CheckPromise (one 0 1 s) [] (f (one 0 1 s) []) → ⊥
 unfolding opened
 count-fails f h p = h (p .answer)
 
-block-fails : (f : Checker) → f two [] ≢ word 5 2 → CheckPromise two [] (f two []) → ⊥
+block-fails : (f : Checker) → f two [] ≢ word 5 0 2 → CheckPromise two [] (f two []) → ⊥
 unfolding opened
 block-fails f h p = h (p .answer)
 
@@ -166,7 +168,7 @@ nought : Lent
 nought = lent (authentication 0 s) (one 0 0 []) [] (vector 0 0x70 1) room
 
 challenge-served : serve challenge ≡ record {
-  call = Answered (record { length = 336 });
+  call = Answered (record { length = 336; place = 0 });
   table = waiting 0 s;
   vectors = vector 1 0x70 1;
   buffer = over (challenges 1 (item 1 1)) room;
@@ -175,7 +177,7 @@ unfolding opened room challenge
 challenge-served = refl
 
 nought-served : serve nought ≡ record {
-  call = Answered (record { length = 116 });
+  call = Answered (record { length = 116; place = 0 });
   table = one 0 0 [];
   vectors = vector 0 0x70 1;
   buffer = over (reply 303 (numberBytes 268 5012) []) room;
@@ -229,3 +231,40 @@ cleared-fails f n e p = omega (arith, e, challenge-bits f n p)
 -- 9. one that uses a vector though it answers with an error
 wasting-fails : (f : Server) (n : ℕ) → used (f n nought .vectors) ≡ 1 → Meets f n nought → ⊥
 wasting-fails f n e p = omega (arith, e, nought-used f n p)
+
+-- Document 02 [2]. A SAR of type 12, B5004, whose 614 stands at 144; and a SAR of type 1 with a second identity, which stands at 128: B5009, a decision's.
+faulty : Lent
+faulty = lent (assignment 12 s) (one 0 1 s) [] [] room
+
+second : Lent
+second =
+    let own = vendorBytes 602 s ++ (vendorNumber 614 1 ++ vendorNumber 624 1) in
+    lent (request 301 (common ++ (vendorBytes 601 (0x61 ∷ []) ++ (vendorBytes 601 (0x62 ∷ []) ++ own)))) (one 0 1 s) [] [] room
+
+faulty-call : serve faulty .call ≡ Answered (record { length = 140; place = 144 })
+unfolding opened room faulty
+faulty-call = refl
+
+second-served : serve second ≡ record {
+  call = Answered (record { length = 140; place = 0 });
+  table = one 0 1 s;
+  vectors = [];
+  buffer = over (answer (numberBytes 268 5009) (failed (vendorHead 601 13 ++ (0x62 ∷ [])))) room;
+}
+unfolding opened room second
+second-served = refl
+
+module _ (f : Server) (n : ℕ) where
+  faulty-place : Meets f n faulty → placeIn (f n faulty .word) ≡ 144
+  faulty-place p = ap placeIn (p .word-is ∙ ap callWord faulty-call)
+
+  second-place : Meets f n second → placeIn (f n second .word) ≡ 0
+  second-place p = ap placeIn (p .word-is ∙ ap (λ (y : Served). callWord (y .call)) second-served)
+
+-- 10. one that says another place than that of the AVP at fault, or none
+misplaced-fails : (f : Server) (n : ℕ) → placeIn (f n faulty .word) ≢ 144 → Meets f n faulty → ⊥
+misplaced-fails f n h p = h (faulty-place f n p)
+
+-- 11. one that says a place where a decision, and no reading rule, blames an AVP, though Failed-AVP holds it
+blaming-fails : (f : Server) (n : ℕ) → placeIn (f n second .word) ≢ 0 → Meets f n second → ⊥
+blaming-fails f n h p = h (second-place f n p)

@@ -9,7 +9,7 @@ use crate::kinds::{
     Kind, APPLICATION, AUTH_APPLICATION_ID, EXPERIMENTAL_RESULT, EXPERIMENTAL_RESULT_CODE, FAILED_AVP,
     MANDATORY_CAPABILITY, OPTIONAL_CAPABILITY, RESULT_CODE, SERVER_CAPABILITIES, USER_DATA, VENDOR, VENDOR_ID,
 };
-use crate::message::{first_avp, sound_avps, Avp, Message, E, P};
+use crate::message::{Avp, Message, E, P};
 use crate::slip::{Fault, Slip};
 use crate::table::{Header, Record};
 use crate::verdict::{Code, Failed, Verdict, Why};
@@ -84,9 +84,9 @@ fn session_id<'a>(message: Message<'a>, verdict: &Verdict, slip: Slip) -> Option
         return None;
     }
     if slip.is(Fault::LaterSessionIdCopied) {
-        return sound_avps(message.avps(), slip).into_iter().find(passes);
+        return message.avps().sound(slip).into_iter().find(passes);
     }
-    first_avp(message.avps(), slip).ok().map(|(avp, _)| avp).filter(passes)
+    message.avps().first(slip).ok().map(|(avp, _)| avp).filter(passes)
 }
 
 fn application(slip: Slip) -> Vec<u8> {
@@ -155,7 +155,7 @@ fn proxy_infos(avps: &mut Avps, message: Message, verdict: &Verdict, slip: Slip)
     if slip.is(Fault::ProxyInfoOnlyInSuccess) && verdict.failed != Failed::Absent {
         return;
     }
-    for avp in sound_avps(message.avps(), slip) {
+    for avp in message.avps().sound(slip) {
         let at_fault = verdict.failed == Failed::Whole(avp);
         if at_fault && slip.is(Fault::ProxyInfoUpToFault) {
             return;

@@ -40,7 +40,7 @@ pub fn decide<'a>(request: &Request<'a>, files: Files<'a>, slip: Slip) -> Verdic
     astray::verdict(&mut verdict, request, table, slip);
     let asked = asked_records(request, table);
     let first = asked.first().map(|(_, record)| *record);
-    verdict.why = Why::Decided(Decision {
+    verdict.why = Why::Decided(Box::new(Decision {
         command: Some(request.command),
         asked_type,
         state: first.map(|record| record.state()),
@@ -50,7 +50,7 @@ pub fn decide<'a>(request: &Request<'a>, files: Files<'a>, slip: Slip) -> Verdic
         stored: first.map(|record| stored(record.server_name(), request.server_name)),
         vectors: (request.number_asked, chosen::unused(request, files.vectors).len(), verdict.marked.len()),
         result: Some(verdict.result),
-    });
+    }));
     verdict
 }
 

@@ -3,7 +3,7 @@
 use super::groups::{application_is_good, members_have_sound_lengths, scheme};
 use crate::block::word_at;
 use crate::kinds::{Command, Kind};
-use crate::message::{first_avp, header_alone, Avp};
+use crate::message::{header_alone, Avp};
 use crate::slip::{Fault, Slip};
 use crate::table::LONGEST_SERVER_NAME;
 use crate::verdict::{Failed, Finding, Why};
@@ -34,15 +34,18 @@ pub fn judge_content<'a>(avp: Avp<'a>, kind: Kind, command: Command, slip: Slip)
     if has_good_content(avp, kind, command, slip) {
         return Ok(());
     }
-    let why = Why::Rule('h', kind.name());
-    match (slip.0, kind, first_avp(avp.data, slip)) {
+    // Also for a fault in a group the place is that of the AVP at the top.
+    let (place, why) = (avp.at, Why::Rule('h', kind.name()));
+    match (slip.0, kind, avp.members().first(slip)) {
         (Some(Fault::FaultyMemberAlone), Kind::SipAuthDataItem, Ok((member, _))) => {
-            Err(Finding { result: 5004, failed: Failed::Whole(member), why })
+            Err(Finding { result: 5004, failed: Failed::Whole(member), place, why })
         }
-        (Some(Fault::ItemLengthFaultTold), Kind::SipAuthDataItem, _) if !members_have_sound_lengths(avp.data, slip) => {
-            Err(Finding { result: 5014, failed: Failed::Header(header_alone(avp.header(), slip)), why })
+        (Some(Fault::ItemLengthFaultTold), Kind::SipAuthDataItem, _)
+            if !members_have_sound_lengths(avp.members(), slip) =>
+        {
+            Err(Finding { result: 5014, failed: Failed::Header(header_alone(avp.header(), slip)), place, why })
         }
-        _ => Err(Finding { result: 5004, failed: Failed::Whole(avp), why }),
+        _ => Err(Finding { result: 5004, failed: Failed::Whole(avp), place, why }),
     }
 }
 
@@ -55,7 +58,7 @@ fn four_bytes_fault<'a>(avp: Avp<'a>, kind: Kind, slip: Slip) -> Result<(), Find
         Some(Fault::FourBytesFailWhole) => (5014, Failed::Whole(avp)),
         _ => (5014, Failed::Header(header_alone(avp.header(), slip))),
     };
-    Err(Finding { result, failed, why: Why::Rule('g', kind.name()) })
+    Err(Finding { result, failed, place: avp.at, why: Why::Rule('g', kind.name()) })
 }
 
 /// Rule (h).
@@ -73,13 +76,13 @@ fn has_good_content(avp: Avp, kind: Kind, command: Command, slip: Slip) -> bool 
             Some(Fault::ServerNameFreeInAuthentication) if command == Command::MultimediaAuth => true,
             _ => (1..=LONGEST_SERVER_NAME).contains(&avp.data.len()),
         },
-        Kind::VendorSpecificApplicationId => application_is_good(avp.data, slip),
+        Kind::VendorSpecificApplicationId => application_is_good(avp.members(), slip),
         Kind::SipNumberAuthItems => match slip.0 {
             Some(Fault::ZeroAskedIsContent) => value() != 0,
             Some(Fault::ManyAskedIsContent) => value() <= 16,
             _ => true,
         },
-        Kind::SipAuthDataItem => scheme(avp.data, slip).is_some(),
+        Kind::SipAuthDataItem => scheme(avp.members(), slip).is_some(),
         _ => true,
     }
 }

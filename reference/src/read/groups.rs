@@ -5,20 +5,22 @@ use crate::kinds::{
     APPLICATION, AUTH_APPLICATION_ID, SCHEME, SIP_AUTHENTICATION_SCHEME, SIP_AUTHORIZATION, SIP_ITEM_NUMBER, VENDOR,
     VENDOR_ID,
 };
-use crate::message::{first_avp, padded, Avp, M, V};
+use crate::message::{padded, Avp, Received, M, V};
 use crate::slip::{Fault, Slip};
 
 /// The flag P of an AVP, which is free.
 const PROTECTED: u8 = 0x20;
 
 /// 260: one or more Vendor-Id of 10415 and one Auth-Application-Id of 16777216, in any order, and no other.
-pub fn application_is_good(data: &[u8], slip: Slip) -> bool {
+pub fn application_is_good(members: Received, slip: Slip) -> bool {
     let (mut vendors, mut applications) = (0, 0);
-    let mut rest = data;
+    let mut rest = members;
     while !rest.is_empty() {
-        let (member, after) = match first_avp(rest, slip) {
+        let (member, after) = match rest.first(slip) {
             Ok(read) => read,
-            Err(_) => return slip.is(Fault::GroupTailTaken) && rest.len() < 8 && applications == 1 && vendors > 0,
+            Err(_) => {
+                return slip.is(Fault::GroupTailTaken) && rest.bytes.len() < 8 && applications == 1 && vendors > 0
+            }
         };
         rest = after;
         if member.has_reserved_flags() && !slip.is(Fault::MemberReservedFlagsTaken) {
@@ -52,18 +54,18 @@ pub fn application_is_good(data: &[u8], slip: Slip) -> bool {
 }
 
 /// 612: what its one member, a 608, holds; none if it is not so. Behind the member stands at most its padding.
-pub fn scheme(data: &[u8], slip: Slip) -> Option<&[u8]> {
+pub fn scheme(members: Received<'_>, slip: Slip) -> Option<&[u8]> {
     let mut schemes: Vec<Avp> = Vec::new();
-    let mut rest = data;
+    let mut rest = members;
     while !rest.is_empty() {
-        let (member, after) = match first_avp(rest, slip) {
+        let (member, after) = match rest.first(slip) {
             Ok(read) => read,
-            Err(_) if slip.is(Fault::ItemTailTaken) && rest.len() < 8 => break,
-            Err(_) if slip.is(Fault::MemberCutAtEnd) => return cut_scheme(rest).filter(|_| schemes.is_empty()),
+            Err(_) if slip.is(Fault::ItemTailTaken) && rest.bytes.len() < 8 => break,
+            Err(_) if slip.is(Fault::MemberCutAtEnd) => return cut_scheme(rest.bytes).filter(|_| schemes.is_empty()),
             Err(_) => return None,
         };
-        let padding = &rest[member.whole.len()..rest.len() - after.len()];
-        rest = if slip.is(Fault::FirstMemberAlone) { &[] } else { after };
+        let padding = &rest.bytes[member.whole.len()..rest.bytes.len() - after.bytes.len()];
+        rest = if slip.is(Fault::FirstMemberAlone) { Received { bytes: &[], ..after } } else { after };
         if member.has_reserved_flags() && !slip.is(Fault::ItemReservedFlagsTaken) {
             return None;
         }
@@ -136,10 +138,10 @@ fn padding_is_good(member: Avp, padding: &[u8], slip: Slip) -> bool {
 }
 
 /// Whether every member passes (a).
-pub fn members_have_sound_lengths(data: &[u8], slip: Slip) -> bool {
-    let mut rest = data;
+pub fn members_have_sound_lengths(members: Received, slip: Slip) -> bool {
+    let mut rest = members;
     while !rest.is_empty() {
-        match first_avp(rest, slip) {
+        match rest.first(slip) {
             Ok((_, after)) => rest = after,
             Err(_) => return false,
         }

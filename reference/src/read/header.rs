@@ -26,7 +26,7 @@ pub fn read_header<'a>(message: Message, slip: Slip) -> Result<Command, Finding<
     }
     if let Some((result, _)) = faults.into_iter().find(|(_, holds)| *holds) {
         let failed = if slip.is(Fault::FailedAvpForHeaderFaults) { Failed::Empty } else { Failed::Absent };
-        return Err(Finding { result, failed, why: Why::Header(result) });
+        return Err(Finding { result, failed, place: 0, why: Why::Header(result) });
     }
     // Without one only if it is not asked.
     Ok(command.unwrap_or(Command::LocationInfo))

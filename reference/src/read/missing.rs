@@ -7,7 +7,7 @@ use crate::verdict::{Failed, Finding, Why};
 /// The first missing AVP is told.
 pub fn nothing_missing<'a>(there: &[Kind], command: Command, slip: Slip) -> Result<(), Finding<'a>> {
     match needed_in_order(command, slip).into_iter().find(|kind| !there.contains(kind)) {
-        Some(kind) => Err(Finding { result: 5005, failed: Failed::Example(kind), why: Why::Missing(kind) }),
+        Some(kind) => Err(Finding { result: 5005, failed: Failed::Example(kind), place: 0, why: Why::Missing(kind) }),
         None => Ok(()),
     }
 }

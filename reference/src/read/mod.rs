@@ -7,7 +7,7 @@ mod missing;
 mod walk;
 
 use crate::kinds::{Command, Kind};
-use crate::message::{sound_avps, Avp, Message};
+use crate::message::{Avp, Message};
 use crate::slip::{Fault, Slip};
 use crate::verdict::Finding;
 
@@ -34,7 +34,7 @@ pub struct Request<'a> {
 pub fn read<'a>(message: Message<'a>, slip: Slip) -> Result<Request<'a>, Finding<'a>> {
     let command = read_header(message, slip)?;
     if slip.is(Fault::MissingBeforeFaults) {
-        let avps = sound_avps(message.avps(), slip);
+        let avps = message.avps().sound(slip);
         let there: Vec<Kind> = avps.iter().filter_map(|avp| walk::kind_of(*avp, command, slip)).collect();
         missing::nothing_missing(&there, command, slip)?;
     }
@@ -42,7 +42,8 @@ pub fn read<'a>(message: Message<'a>, slip: Slip) -> Result<Request<'a>, Finding
     let there: Vec<Kind> = found.iter().map(|(kind, _)| *kind).collect();
     missing::nothing_missing(&there, command, slip)?;
 
-    let first = |kind| found.iter().find(|(it, _)| *it == kind).map(|(_, avp)| avp.data);
+    let avp = |kind| found.iter().find(|(it, _)| *it == kind).map(|(_, avp)| avp);
+    let first = |kind| avp(kind).map(|avp| avp.data);
     let value = |kind| first(kind).map(|data| content::number(data, slip));
     let absent_type = if slip.is(Fault::AbsentTypeIs1) { 1 } else { 0 };
     Ok(Request {
@@ -54,7 +55,7 @@ pub fn read<'a>(message: Message<'a>, slip: Slip) -> Result<Request<'a>, Finding
         server_name: content::server_name(first(Kind::ServerName).unwrap_or(&[]), slip),
         assignment_type: value(Kind::ServerAssignmentType).unwrap_or(0),
         already_available: value(Kind::UserDataAlreadyAvailable).unwrap_or(0),
-        scheme: first(Kind::SipAuthDataItem).and_then(|data| groups::scheme(data, slip)).unwrap_or(&[]),
+        scheme: avp(Kind::SipAuthDataItem).and_then(|avp| groups::scheme(avp.members(), slip)).unwrap_or(&[]),
         // Absent only in another command.
         number_asked: value(Kind::SipNumberAuthItems).unwrap_or(1),
     })

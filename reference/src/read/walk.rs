@@ -2,48 +2,49 @@
 
 use super::content::judge_content;
 use crate::kinds::{Command, Kind, KINDS, VENDOR};
-use crate::message::{first_avp, Avp, LengthFault};
+use crate::message::{Avp, LengthFault, Received};
 use crate::slip::{Fault, Slip};
 use crate::verdict::{Failed, Finding, Why};
 
 /// The AVPs of kinds that the command names, if no AVP has a fault.
-pub fn walk<'a>(avps: &'a [u8], command: Command, slip: Slip) -> Result<Vec<(Kind, Avp<'a>)>, Finding<'a>> {
+pub fn walk<'a>(avps: Received<'a>, command: Command, slip: Slip) -> Result<Vec<(Kind, Avp<'a>)>, Finding<'a>> {
     if slip.is(Fault::LengthsJudgedFirst) {
         lengths_fit(avps, slip)?;
     }
     let mut found: Vec<(Kind, Avp)> = Vec::new();
     let mut rest = avps;
     while !rest.is_empty() {
-        let is_first = rest.len() == avps.len();
-        let (avp, after) = first_avp(rest, slip).map_err(|fault| length_fault(fault, slip))?;
-        let padding = &rest[avp.whole.len()..rest.len() - after.len()];
+        let is_first = rest.at == avps.at;
+        let (avp, after) = rest.first(slip).map_err(|fault| length_fault(fault, rest.at, slip))?;
+        let padding = &rest.bytes[avp.whole.len()..rest.bytes.len() - after.bytes.len()];
         rest = after;
         if let Some(kind) = judge(avp, is_first, command, &found, slip)? {
             found.push((kind, avp));
         }
         if slip.is(Fault::PaddingMustBeZero) && padding.iter().any(|byte| *byte != 0) {
-            return Err(Finding { result: 5004, failed: Failed::Whole(avp), why: Why::Rule('h', "padding") });
+            let (failed, why) = (Failed::Whole(avp), Why::Rule('h', "padding"));
+            return Err(Finding { result: 5004, failed, place: avp.at, why });
         }
     }
     Ok(found)
 }
 
-fn lengths_fit<'a>(avps: &[u8], slip: Slip) -> Result<(), Finding<'a>> {
+fn lengths_fit<'a>(avps: Received<'a>, slip: Slip) -> Result<(), Finding<'a>> {
     let mut rest = avps;
     while !rest.is_empty() {
-        (_, rest) = first_avp(rest, slip).map_err(|fault| length_fault(fault, slip))?;
+        (_, rest) = rest.first(slip).map_err(|fault| length_fault(fault, rest.at, slip))?;
     }
     Ok(())
 }
 
-fn length_fault<'a>(fault: LengthFault, slip: Slip) -> Finding<'a> {
+fn length_fault<'a>(fault: LengthFault, place: usize, slip: Slip) -> Finding<'a> {
     let (failed, what) = match fault {
         LengthFault::CutOff if slip.is(Fault::CutOffWithoutFailedAvp) => (Failed::Absent, "header cut off"),
         LengthFault::CutOff => (Failed::Empty, "header cut off"),
         LengthFault::Header(header) if header.len() == 12 => (Failed::Header(header), "with V"),
         LengthFault::Header(header) => (Failed::Header(header), "without V"),
     };
-    Finding { result: 5014, failed, why: Why::Rule('a', what) }
+    Finding { result: 5014, failed, place, why: Why::Rule('a', what) }
 }
 
 /// Rules (b) to (h) for one AVP: its kind if it is to be kept, none if it is skipped.
@@ -54,15 +55,19 @@ fn judge<'a>(
     before: &[(Kind, Avp<'a>)],
     slip: Slip,
 ) -> Result<Option<Kind>, Finding<'a>> {
-    let whole = |result, rule, what| Finding { result, failed: Failed::Whole(avp), why: Why::Rule(rule, what) };
+    let whole = |result, rule, what| {
+        let (failed, why) = (Failed::Whole(avp), Why::Rule(rule, what));
+        Finding { result, failed, place: avp.at, why }
+    };
     let kind = kind_of(avp, command, slip);
     let flags_at_fault = flags_at_fault(avp, kind, command, slip);
     if slip.is(Fault::ReservedFlagsBeforeSessionId) && is_first && flags_at_fault {
         return Err(whole(3009, 'c', "reserved flags"));
     }
     if is_first && !may_be_first(kind, slip) {
+        // What is at fault is what is not there: no place, though an AVP stands here.
         let why = Why::Rule('b', "no Session-Id first");
-        return Err(Finding { result: 5005, failed: Failed::Example(Kind::SessionId), why });
+        return Err(Finding { result: 5005, failed: Failed::Example(Kind::SessionId), place: 0, why });
     }
     if flags_at_fault {
         return Err(whole(3009, 'c', "reserved flags"));
@@ -92,7 +97,7 @@ fn judge<'a>(
     let earlier = before.iter().find(|(it, _)| *it == kind);
     if let (Some((_, earlier)), false) = (earlier, may_repeat(kind, command, slip)) {
         let failed = Failed::Whole(if slip.is(Fault::FirstOfTwoFails) { *earlier } else { avp });
-        return Err(Finding { result: 5009, failed, why: Why::Rule('f', kind.name()) });
+        return Err(Finding { result: 5009, failed, place: avp.at, why: Why::Rule('f', kind.name()) });
     }
     content?;
     Ok(Some(kind))

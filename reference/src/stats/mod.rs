@@ -1,6 +1,7 @@
 //! Histograms of a stream of cases: what was done to get them, and what came of them.
 
 mod authentication;
+mod places;
 mod required;
 
 use std::collections::BTreeMap;
@@ -10,7 +11,7 @@ use crate::block::{word_at, BLOCK};
 use crate::cases::{Case, Outcome, Slice};
 use crate::gen::{self, Made, Stream, FAR};
 use crate::kinds::{Command, Kind, EXPERIMENTAL_RESULT, FAILED_AVP, RESULT_CODE, SERVER_CAPABILITIES, USER_DATA};
-use crate::message::{sound_avps, Avp, Message};
+use crate::message::{Avp, Message};
 use crate::read::read_header;
 use crate::slip::Slip;
 use crate::table::LONGEST_PROFILE;
@@ -91,6 +92,9 @@ impl Histogram {
             }
         };
         self.add(row);
+        if let Some(row) = places::row(outcome.parts().1, &made.case.held(Slice::Request), why) {
+            self.add(row);
+        }
         match made.case.held(Slice::Request).len() {
             16_384 => self.add("request: 16,384 bytes".to_string()),
             length if length > FAR => self.add("request: over 65,536 bytes".to_string()),
@@ -126,7 +130,7 @@ impl Histogram {
     fn count_answer(&mut self, case: &Case, outcome: &Outcome, why: &Why) {
         let buffer = case.after(outcome, Slice::Buffer).unwrap_or_default();
         let answer = &buffer[..outcome.parts().2 as usize];
-        let avps = sound_avps(Message(answer).avps(), Slip::NONE);
+        let avps = Message(answer).avps().sound(Slip::NONE);
         self.add(format!("result: {}", code_name(result_of(answer))));
         let copies = avps.iter().filter(|avp| avp.code == Kind::ProxyInfo.code()).count();
         if copies > 0 {
@@ -235,7 +239,7 @@ pub fn code_name(code: Code) -> String {
 
 /// The result of an answer.
 pub fn result_of(answer: &[u8]) -> Code {
-    for avp in sound_avps(Message(answer).avps(), Slip::NONE) {
+    for avp in Message(answer).avps().sound(Slip::NONE) {
         match avp.code {
             RESULT_CODE => return Code::Base(word_at(avp.data, 0)),
             EXPERIMENTAL_RESULT => return Code::Experimental(word_at(avp.data, 20)),

@@ -1,6 +1,7 @@
 //! The rows that a histogram must have.
 
 use super::authentication;
+use super::places;
 use crate::gen::damage::damages;
 use crate::gen::twists::twists;
 use crate::gen::vectors::damage::{DAMAGES, OVER_THE_MOST};
@@ -66,6 +67,7 @@ fn of_calls() -> Vec<(String, u64)> {
     authorizations_and_locations(&mut wanted);
     assignments(&mut wanted);
     answers(&mut wanted);
+    wanted.extend(places::wanted());
     wanted.push("request: 16,384 bytes".to_string());
     wanted.push("request: over 65,536 bytes".to_string());
     wanted.extend(twists().map(|twist| twist.name).chain(MIXED).map(|name| format!("made by: {name}")));

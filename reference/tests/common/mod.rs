@@ -2,8 +2,9 @@
 #![allow(dead_code)]
 
 use reference::gen::model::{RecordModel, TableModel};
+use reference::message::Message;
 use reference::refuse::LEAST_BUFFER;
-use reference::serve::serve;
+use reference::serve::{parts, serve};
 use reference::slip::Slip;
 
 pub fn bytes(hex: &str) -> Vec<u8> {
@@ -32,6 +33,8 @@ pub fn isle(mut records: Vec<RecordModel>) -> TableModel {
 pub struct Done {
     /// The refusal's number, 0 if answered.
     pub number: u64,
+    /// Of the AVP at fault, 0 if there is none.
+    pub place: u64,
     pub value: u64,
     pub answer: Vec<u8>,
     pub table: Vec<u8>,
@@ -53,11 +56,11 @@ pub fn call_with_buffer(request: &[u8], table: &[u8], profile: &[u8], vectors: &
     let mut vectors = vectors.to_vec();
     let mut buffer = vec![0xA5; buffer];
     let (word, _) = serve(request, &mut table, profile, &mut vectors, &mut buffer, Slip::NONE);
-    let (number, value) = (word >> 48, word & 0xFFFF_FFFF);
+    let (number, place, value) = parts(word);
     let written = if number == 0 { value as usize } else { 0 };
     assert!(buffer[written..].iter().all(|byte| *byte == 0xA5));
     buffer.truncate(written);
-    Done { number, value, answer: buffer, table, vectors }
+    Done { number, place, value, answer: buffer, table, vectors }
 }
 
 pub fn avp(code: u32, data: &[u8]) -> Vec<u8> {
@@ -113,10 +116,7 @@ pub fn result(answer: &[u8]) -> String {
 
 /// The data of the answer's AVP of this code.
 pub fn find(answer: &[u8], code: u32) -> Option<Vec<u8>> {
-    reference::message::sound_avps(&answer[20..], Slip::NONE)
-        .iter()
-        .find(|avp| avp.code == code)
-        .map(|avp| avp.data.to_vec())
+    Message(answer).avps().sound(Slip::NONE).iter().find(|avp| avp.code == code).map(|avp| avp.data.to_vec())
 }
 
 /// A block of a vector file, put together by the places that document 02 gives.

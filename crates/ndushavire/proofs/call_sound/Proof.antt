@@ -14,5 +14,6 @@ call-sound-spec =
     (λ c. search needs)
     (λ c. search needs)
     (λ c. search needs)
+    (λ c. search needs)
     (λ c. search (needs, served-sound))
     (λ c. search (needs, served-spoilt)))

@@ -5,7 +5,7 @@ use crate::gen::asks;
 use crate::gen::made::Made;
 use crate::gen::model::TableModel;
 use crate::gen::names;
-use crate::gen::request::Piece;
+use crate::gen::request::{Piece, RequestModel};
 use crate::gen::tables::{self, FAR};
 use crate::gen::twists;
 use crate::kinds::{Command, Kind};
@@ -100,6 +100,46 @@ pub fn table(rng: &mut Rng) -> Made {
     Call::new(rng, sound, request).noted("4,096 records").finish(rng)
 }
 
+/// An AVP that may repeat, towards a request of so many bytes; none if there is no room for one.
+fn filling(rng: &mut Rng, request: &RequestModel, aim: usize, kind: Kind, longest: usize) -> Option<Piece> {
+    let room = aim.checked_sub(request.length() + 8)?;
+    let mut length = rng.below(longest + 1).min(room);
+    // What is left must hold another AVP, or be nothing.
+    if room - length < 12 {
+        length = room;
+    }
+    let data = rng.bytes(length);
+    Some(match rng.below(3) {
+        0 => Piece::new(rng, None, 70_000, 0, data),
+        _ => Piece::of(rng, kind, data),
+    })
+}
+
+/// A request of 16,384 bytes whose last AVP is at fault: where only 4 bytes are left for it, its place is the farthest.
+pub fn far_fault(rng: &mut Rng) -> Made {
+    let mut call = right(rng).noted("a fault at the far end");
+    let kind = *rng.pick(&[Kind::ProxyInfo, Kind::RouteRecord, Kind::RouteRecord]);
+    let mut last = Piece::of(rng, kind, vec![]);
+    let mut tail = vec![];
+    match rng.below(6) {
+        0 | 1 => tail = kind.code().to_be_bytes().to_vec(),
+        2 => last.told_length = Some(*rng.pick(&[0, 7, 9, 12])),
+        3 => last.flags |= 1 << rng.below(5),
+        4 => last.code = 70_000,
+        _ => last = Piece::of(rng, Kind::SessionId, vec![]),
+    }
+    let own = if tail.is_empty() { last.padded() } else { tail.len() };
+    let longest = *rng.pick(&[100, 5000, 16_000]);
+    while let Some(piece) = filling(rng, &call.request, MOST_REQUEST - own, kind, longest) {
+        call.request.insert(rng, piece);
+    }
+    if tail.is_empty() {
+        call.request.pieces.push(last);
+    }
+    call.request.tail = tail;
+    call.finish(rng)
+}
+
 /// A request brought to 16,384 bytes, or a little under or over, by AVPs that may repeat.
 pub fn request(rng: &mut Rng) -> Made {
     let mut call = right(rng).noted("about 16,384 bytes");
@@ -110,17 +150,7 @@ pub fn request(rng: &mut Rng) -> Made {
         *rng.pick(&[MOST_REQUEST, MOST_REQUEST, MOST_REQUEST, MOST_REQUEST - 4, MOST_REQUEST + 4, MOST_REQUEST + 8]);
     let kind = *rng.pick(&[Kind::ProxyInfo, Kind::RouteRecord]);
     let longest = *rng.pick(&[8, 100, 5000, 16_000]);
-    while call.request.length() + 8 <= aim {
-        let room = aim - call.request.length();
-        let mut length = rng.below(longest + 1).min(room - 8);
-        if room - 8 - length < 12 {
-            length = room - 8;
-        }
-        let data = rng.bytes(length);
-        let mut piece = match rng.below(3) {
-            0 => Piece::new(rng, None, 70_000, 0, data),
-            _ => Piece::of(rng, kind, data),
-        };
+    while let Some(mut piece) = filling(rng, &call.request, aim, kind, longest) {
         if rng.once_in(400) {
             piece.flags |= 1;
         }

@@ -32,6 +32,7 @@ pub fn case(rng: &mut Rng) -> Made {
         47..=52 => mixed::case(rng),
         53..=67 => authentication::case(rng),
         68..=71 => refused::damaged_vectors(rng),
+        72..=73 => long::far_fault(rng),
         _ => plain(rng),
     }
 }

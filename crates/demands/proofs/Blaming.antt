@@ -1,0 +1,132 @@
+-- The answer to an AVP at fault, in which nothing is given but the verdict; and the place of a call, by what reading its request comes to.
+use Prim.Native.Nat.{ℕ, _≤_, _<_}
+use mathlib.Core.List.{List}
+use mathlib.Core.Option.{some}
+use mathlib.Core.Bool.{Bool, true, false}
+use mathlib.Core.Path.{_≡_, refl, sym, ap, _∙_}
+use mathlib.Core.Logic.{_≢_}
+use native.Mathlib.Omega.{arith}
+use lib.ListN.{drop}
+use lib.Dec.{eqb}
+use borrow.Author.Tests.{eqb-true, eqb-false}
+use Rattle.pen.specs.Bytes.{ifThere}
+use Rattle.pen.specs.Groups.{capabilities}
+use Rattle.items.specs.Items.{sentBytes}
+use Rattle.reading.specs.Rules.{Seen}
+use Rattle.reading.specs.Verdicts.{faultAt}
+use Rattle.reading.specs.declared.Outcome.the-variants.{Base, Experimental}
+use Rattle.requests.specs.Judged.{Judged, bad, fine}
+use Rattle.requests.specs.Request.{readRequest}
+use Rattle.failed.specs.Failing.{failedOf, failedBy}
+use Rattle.choices.specs.Given.{givenFault}
+use Rattle.reply.specs.Answer.{identityBytes, nameBytes, dataBytes, givenBytes, endBytes, restBytes, bodyBytes, answerBytes}
+use Rattle.fitting.specs.Decide.{Decision, faulted, performed, decideJudged, decide}
+use Rattle.ndushavire.specs.Lent.{Lent}
+use Rattle.ndushavire.specs.Word.{checkValue, callPlace}
+use Rattle.ndushavire.specs.Serve.{checkOf, answered, serve}
+use Rattle.ndushavire.proofs.Calls.{size-most}
+use Rattle.demands.specs.Call.{turnedAway}
+use Rattle.demands.specs.Place.{Blames, faultBody, faultBytes, blaming, resultOf}
+use Rattle.demands.proofs.Refusals.{refused-nowhere, answer-is, taken}
+use Rattle.demands.proofs.Faults.{fine-bad, same-place, fault-read, read-fault, fault-least, fault-fours, fault-within}
+use Rattle.demands.proofs.Moved.{failed-there}
+
+module _ (req : List ℕ) (n place : ℕ) (shown : List ℕ) (is : failedBy req (faultAt n place) ≡ some shown) where
+  fault-body : (t file v : List ℕ) → bodyBytes req t file v (givenFault (faultAt n place)) ≡ faultBody req t n shown
+  unfolding bodyBytes restBytes givenBytes nameBytes identityBytes sentBytes dataBytes endBytes capabilities ifThere
+  fault-body t file v = rw is
+
+  fault-bytes : (t file v : List ℕ) → answerBytes req t file v (givenFault (faultAt n place)) ≡ faultBytes req t n shown
+  unfolding answerBytes
+  fault-bytes t file v = rw (fault-body t file v)
+
+fault-decides : (req : List ℕ) (n place : ℕ) → readRequest req ≡ bad (faultAt n place) → (t : List ℕ) (count : ℕ) (v : List ℕ)
+    → decide req t count v ≡ faulted t v (faultAt n place)
+unfolding decide decideJudged
+fault-decides req n place e t count v = rw e
+
+pub fault-answered : (x : Lent) (n place : ℕ) (shown : List ℕ) → failedBy (x .request) (faultAt n place) ≡ some shown
+    → readRequest (x .request) ≡ bad (faultAt n place) → turnedAway x ≡ false → serve x ≡ blaming x n shown place
+unfolding answered
+fault-answered x n place shown is e away =
+    let count = checkValue (checkOf x) in
+    answer-is x away
+    ∙ ap (answered x) (fault-decides (x .request) n place e (x .table) count (x .vectors))
+    ∙ rw (fault-bytes (x .request) n place shown is (x .table) (x .profile) (x .vectors))
+
+-- The place is the verdict's, and 0 of a request that was read.
+abbrev placeOf : Judged → ℕ
+placeOf (bad v) = v .place
+placeOf (fine seen) = 0
+
+decide-place : (req t : List ℕ) (count : ℕ) (v : List ℕ) → decide req t count v .place ≡ placeOf (readRequest req)
+unfolding decide decideJudged performed
+decide-place req t count v = go (readRequest req)
+  where
+    go : (j : Judged) → decideJudged req t count v j .place ≡ placeOf j
+    go (bad f) = refl
+    go (fine seen) = refl
+
+module _ (x : Lent) where
+  abbrev place : ℕ
+  place = callPlace (serve x .call)
+
+  place-read : turnedAway x ≡ false → place ≡ placeOf (readRequest (x .request))
+  unfolding answered
+  place-read e = rw (answer-is x e) (decide-place (x .request) (x .table) (checkValue (checkOf x)) (x .vectors))
+
+  pub blames-answer : (p : ℕ) (b : Blames x p) → serve x ≡ blaming x (b .result) (failedOf (b .result) (drop p (x .request))) p
+  blames-answer p b =
+      let n = b .result in
+      let h : 0 < p = omega (arith, fault-least (x .request) n p (b .fault)) in
+      fault-answered x n p (failedOf n (drop p (x .request))) (failed-there (x .request) n p h) (fault-read (x .request) n p (b .fault)) (b .taken)
+
+  pub place-blamed : place ≢ 0 → Blames x place
+  place-blamed n = go (turnedAway x) refl
+    where
+      read : turnedAway x ≡ false → (j : Judged) → readRequest (x .request) ≡ j → Blames x place
+      read e (bad v) r =
+          let q : v .place ≡ place = sym (place-read e ∙ ap placeOf r) in
+          let f = read-fault (x .request) v (λ z. n (sym q ∙ z)) r in
+          record { taken = e; result = f .number; fault = same-place (x .request) (f .number) q (f .fault) }
+      read e (fine seen) r = absurd (n (place-read e ∙ ap placeOf r))
+
+      go : (y : Bool) → turnedAway x ≡ y → Blames x place
+      go true e = absurd (n (refused-nowhere x e))
+      go false e = read e (readRequest (x .request)) refl
+
+  pub unblamed : ((p : ℕ) → Blames x p → ⊥) → place ≡ 0
+  unblamed n = go (eqb place 0) refl
+    where
+      go : (y : Bool) → eqb place 0 ≡ y → place ≡ 0
+      go true e = eqb-true place 0 e
+      go false e = absurd (n place (place-blamed (eqb-false place 0 e)))
+
+  -- its result is one of the rules'
+  pub blames-result : (p : ℕ) (b : Blames x p) → resultOf x ≡ Base (b .result)
+  blames-result p b =
+      let n = b .result in
+      ap (λ (d : Decision). d .given .verdict .result)
+      (fault-decides (x .request) n p (fault-read (x .request) n p (b .fault)) (x .table) (checkValue (checkOf x)) (x .vectors))
+
+  pub read-unblamed : (seen : Seen) → readRequest (x .request) ≡ fine seen → (p : ℕ) → Blames x p → ⊥
+  read-unblamed seen e p b = fine-bad seen (faultAt (b .result) p) (sym e ∙ fault-read (x .request) (b .result) p (b .fault))
+
+  -- so it is at most 16,380
+  pub place-limit : place ≤ 16380
+  place-limit = go (eqb place 0) refl
+    where
+      go : (y : Bool) → eqb place 0 ≡ y → place ≤ 16380
+      go true e = omega (arith, eqb-true place 0 e)
+      go false e =
+          let b = place-blamed (eqb-false place 0 e) in
+          let s = size-most (x .request) (taken x (b .taken) .size) in
+          let w = fault-within (x .request) (b .result) place (b .fault) in
+          omega (arith, s, w, fault-fours (x .request) (b .result) place (b .fault))
+
+-- B and X "never stand for one another"
+pub base-number : {m n : ℕ} → Base m ≡ Base n → m ≡ n
+base-number e = cc
+
+pub base-experimental : {m n : ℕ} → Base m ≡ Experimental n → ⊥
+base-experimental e = let z : _≡_ {A = ℕ} 0 1 = cc in omega arith

@@ -1,0 +1,304 @@
+-- The AVP at fault: what reading comes to is what specs/Place tells, and what a decision makes of it.
+use Prim.Native.Nat.{ℕ, zero, suc, _+_, _-_, _%_, _≤_, _<_}
+use mathlib.Core.List.{List, [], _∷_}
+use mathlib.Core.Option.{none, some}
+use mathlib.Core.Bool.{Bool, true, false, not, cond, _&&_, true≢false}
+use mathlib.Core.Path.{_≡_, refl, sym, ap, _∙_}
+use mathlib.Core.Logic.{_⊎_, inl, inr, _≢_}
+use native.Mathlib.Omega.{arith}
+use lib.ListN.{length, getD, take, drop, set, length-drop}
+use lib.Seq.{drop-drop, length-take-le}
+use lib.Dec.{eqb, leb}
+use borrow.Author.Tests.{eqb-true, eqb-false}
+use Rattle.diameter.specs.Avp.{padded, avpHead, avpFlags, avpLen, dataOf, valueOf, reserved, marked, sound}
+use Rattle.diameter.specs.Walk.{Walk, avp, walk}
+use Rattle.diameter.specs.Reader.{present, avpOf, avpAt}
+use Rattle.diameter.specs.Message.{bodyOf}
+use Rattle.diameter.proofs.Walks.{sound-says, padded-least, walk-nil, walk-sound, walk-faulty}
+use Rattle.reading.specs.Contents.{faultUnless, numberFault, plainFault}
+use Rattle.reading.specs.Groups.{membersOf, gathers}
+use Rattle.reading.specs.Kinds.{sessionId, kindOf, rowOf, useOf}
+use Rattle.reading.specs.Rules.{Seen, contentFault, ofOnce, ofUse, ruleBy, rule}
+use Rattle.reading.specs.Verdicts.{numberOf, faultAt, faultOf, lackOf}
+use Rattle.reading.specs.declared.Content.{Content}
+use Rattle.reading.specs.declared.Content.the-variants.{Free, Number, Sized, Members}
+use Rattle.reading.specs.declared.Dialect.{Dialect}
+use Rattle.reading.specs.declared.Outcome.the-variants.{Base}
+use Rattle.reading.specs.declared.Ruled.{Ruled}
+use Rattle.reading.specs.declared.Ruled.the-variants.{Taken, Skipped, Fault}
+use Rattle.reading.specs.declared.Use.{Use}
+use Rattle.reading.specs.declared.Use.the-variants.{Unknown, Unnamed, Needed, Optional, Repeated}
+use Rattle.reading.specs.declared.Verdict.{Verdict}
+use Rattle.requests.specs.Judged.{Judged, bad, fine, nothing, judge}
+use Rattle.requests.specs.Request.{dialectOf, cx, headerFault, firstOther, missing, complete, readWalk, readIn, readRequest}
+use Rattle.requests.proofs.Faulting.{read-placed}
+use Rattle.fitting.specs.Decide.{performed, decideJudged, decide}
+use Rattle.demands.specs.Frame.{succeeds}
+use Rattle.demands.specs.Place.{behindAt, Reaches, first, pastTaken, pastSkipped, Breaks, lengthFault, ruleFault, OfRules, AtFault}
+
+pub fine-bad : {A : Type 0} (seen : Seen) (v : Verdict) → fine seen ≡ bad v → A
+fine-bad seen v e = let z : _≡_ {A = ℕ} 0 1 = cc in absurd (omega arith)
+
+-- An AVP that passes (a) at a place, and the walk behind it.
+module _ (req : List ℕ) (at : ℕ) (s : sound (drop at req) ≡ true) where
+  avp-own : avpAt req at ≡ take (avpLen (drop at req)) (drop at req)
+  unfolding avpOf
+  avp-own = rw s
+
+  avp-length : length (avpAt req at) ≡ avpLen (drop at req)
+  avp-length = rw avp-own (length-take-le (avpLen (drop at req)) (drop at req) (sound-says (drop at req) s .within))
+
+  avp-walked : walk (drop at req) ≡ avp (avpAt req at) (walk (drop (behindAt req at) req))
+  avp-walked =
+      let t = drop at req in
+      let e : drop (padded (avpLen t)) t ≡ drop (behindAt req at) req =
+      drop-drop (padded (avpLen t)) at req ∙ ap (λ (n : ℕ). drop (at + padded n) req) (sym avp-length) in
+      walk-sound t s ∙ ap (λ (r : List ℕ). avp (take (avpLen t) t) (walk r)) e ∙ ap (λ (a : List ℕ). avp a (walk (drop (behindAt req at) req))) (sym avp-own)
+
+  avp-least : at + 8 ≤ behindAt req at
+  avp-least =
+      let h = sound-says (drop at req) s in
+      omega (arith, avp-length, h .eight, h .least, padded-least (length (avpAt req at)))
+
+  avp-within : at + 8 ≤ length req
+  avp-within = let h = sound-says (drop at req) s in omega (arith, h .eight, h .least, h .within, length-drop at req)
+
+-- So does `judge`, from the first place that is reached to any other, and at an AVP that is at fault.
+module _ (d : Dialect) (req : List ℕ) where
+  abbrev judgeAt : ℕ → Seen → Judged
+  judgeAt at seen = judge d at (walk (drop at req)) seen
+
+  judge-taken : (at : ℕ) (seen : Seen) → sound (drop at req) ≡ true → rule d seen (avpAt req at) ≡ Taken
+      → judgeAt at seen ≡ judgeAt (behindAt req at) (set seen (kindOf (avpAt req at)) (some (avpAt req at)))
+  unfolding judge
+  judge-taken at seen s e = rw (avp-walked req at s, e)
+
+  judge-skipped : (at : ℕ) (seen : Seen) → sound (drop at req) ≡ true → rule d seen (avpAt req at) ≡ Skipped → judgeAt at seen ≡ judgeAt (behindAt req at) seen
+  unfolding judge
+  judge-skipped at seen s e = rw (avp-walked req at s, e)
+
+  judge-breaks : (at : ℕ) (seen : Seen) (n : ℕ) → Breaks d req seen at n → judgeAt at seen ≡ bad (faultAt n at)
+  unfolding judge
+  judge-breaks at seen n (lengthFault h s) = rw (walk-faulty (drop at req) s (rw length-drop (omega arith)))
+  judge-breaks at seen n (ruleFault m s e) = rw (avp-walked req at s, e)
+
+  judge-reaches : {at : ℕ} {seen : Seen} → Reaches d req at seen → judgeAt 20 nothing ≡ judgeAt at seen
+  judge-reaches first = refl
+  judge-reaches (pastTaken at seen r s e) = judge-reaches r ∙ judge-taken at seen s e
+  judge-reaches (pastSkipped at seen r s e) = judge-reaches r ∙ judge-skipped at seen s e
+
+  -- A fault that `judge` finds is such an AVP's.
+  pub record Finds (v : Verdict) : Type 0 where
+    pub number : ℕ
+    pub place : ℕ
+    pub seen : Seen
+    pub reached : Reaches d req place seen
+    pub breaks : Breaks d req seen place number
+    pub is : v ≡ faultAt number place
+
+  found-here : (at : ℕ) (seen : Seen) → Reaches d req at seen → (n : ℕ) → Breaks d req seen at n → (v : Verdict) → judgeAt at seen ≡ bad v → Finds v
+  found-here at seen r n b v e =
+      let q : bad (faultAt n at) ≡ bad v = sym (judge-breaks at seen n b) ∙ e in
+      record { number = n; place = at; seen = seen; reached = r; breaks = b; is = cc }
+
+  abbrev FindsWithin : ℕ → Type 0
+  FindsWithin k = (at : ℕ) (seen : Seen) → length (drop at req) ≤ k → Reaches d req at seen → (v : Verdict) → judgeAt at seen ≡ bad v → Finds v
+
+  found-none : (at : ℕ) (seen : Seen) → length (drop at req) ≡ 0 → (v : Verdict) → judgeAt at seen ≡ bad v → Finds v
+  unfolding judge
+  found-none at seen l v e = go (drop at req) l e
+    where
+      go : (t : List ℕ) → length t ≡ 0 → judge d at (walk t) seen ≡ bad v → Finds v
+      go [] h f = fine-bad seen v (sym (ap (λ (w : Walk). judge d at w seen) walk-nil) ∙ f)
+      go (x ∷ t) h f = absurd (omega arith)
+
+  found-step : (k : ℕ) → FindsWithin k → FindsWithin (suc k)
+  found-step k next at seen l r v e = go (sound (drop at req)) refl
+    where
+      shorter : sound (drop at req) ≡ true → length (drop (behindAt req at) req) ≤ k
+      shorter s = rw length-drop (omega (arith, length-drop at req, avp-least req at s, avp-within req at s))
+
+      by : sound (drop at req) ≡ true → (x : Ruled) → rule d seen (avpAt req at) ≡ x → Finds v
+      by s Taken q = next (behindAt req at) _ (shorter s) (pastTaken at seen r s q) v (sym (judge-taken at seen s q) ∙ e)
+      by s Skipped q = next (behindAt req at) seen (shorter s) (pastSkipped at seen r s q) v (sym (judge-skipped at seen s q) ∙ e)
+      by s (Fault n) q = found-here at seen r n (ruleFault n s q) v e
+
+      go : (x : Bool) → sound (drop at req) ≡ x → Finds v
+      go true s = by s (rule d seen (avpAt req at)) refl
+      go false s = left (eqb (length (drop at req)) 0) refl
+        where
+          left : (x : Bool) → eqb (length (drop at req)) 0 ≡ x → Finds v
+          left true z = found-none at seen (eqb-true _ _ z) v e
+          left false z = found-here at seen r 5014 (lengthFault (omega (arith, length-drop at req, eqb-false (length (drop at req)) 0 z)) s) v e
+
+  found-within : (k : ℕ) → FindsWithin k
+  found-within zero at seen l r v e = found-none at seen (omega arith) v e
+  found-within (suc k) at seen l r v e = found-step k (found-within k) at seen l r v e
+
+  judge-finds : (v : Verdict) → judgeAt 20 nothing ≡ bad v → Finds v
+  judge-finds v e = found-within (length (drop 20 req)) 20 nothing (omega arith) first v e
+
+-- A request: the AVP at fault is what reading it comes to, and a verdict with a place is such an AVP's.
+pub fault-read : (req : List ℕ) (n place : ℕ) → AtFault req n place → readRequest req ≡ bad (faultAt n place)
+unfolding readIn readWalk complete
+fault-read req n place f =
+    let d = dialectOf cx req in
+    let j : judge d 20 (bodyOf req) nothing ≡ bad (faultAt n place) = judge-reaches d req (f .reached) ∙ judge-breaks d req place (f .seen) n (f .breaks) in
+    rw (f .header, f .session, j)
+
+pub record Faulty (req : List ℕ) (v : Verdict) : Type 0 where
+  pub number : ℕ
+  pub fault : AtFault req number (v .place)
+  pub is : v ≡ faultAt number (v .place)
+
+pub same-place : (req : List ℕ) (n : ℕ) {p q : ℕ} → p ≡ q → AtFault req n p → AtFault req n q
+same-place req n e f = rw (← e) f
+
+nowhere : (req : List ℕ) (v w : Verdict) → w .place ≡ 0 → v .place ≢ 0 → bad w ≡ bad v → Faulty req v
+nowhere req v w z n e = let q : v .place ≡ w .place = cc in absurd (n (q ∙ z))
+
+complete-found : (d : Dialect) (req : List ℕ) (v : Verdict) (j : Judged) → v .place ≢ 0 → (j ≡ bad v → Faulty req v) → complete d j ≡ bad v → Faulty req v
+unfolding complete
+complete-found d req v (bad w) n h e = h e
+complete-found d req v (fine seen) n h e = go (eqb (missing d seen) 0) e
+  where
+    go : (x : Bool) → cond x (fine seen) (bad (lackOf (missing d seen))) ≡ bad v → Faulty req v
+    go true f = fine-bad seen v f
+    go false f = nowhere req v (lackOf (missing d seen)) refl n f
+
+pub read-fault : (req : List ℕ) (v : Verdict) → v .place ≢ 0 → readRequest req ≡ bad v → Faulty req v
+unfolding readIn readWalk
+read-fault req v n e = go (eqb (headerFault d req) 0) refl e
+  where
+    d : Dialect
+    d = dialectOf cx req
+
+    walked : headerFault d req ≡ 0 → firstOther (bodyOf req) ≡ false → judge d 20 (bodyOf req) nothing ≡ bad v → Faulty req v
+    walked h b f =
+        let w = judge-finds d req v f in
+        let p : w .place ≡ v .place = sym (ap (λ (u : Verdict). u .place) (w .is)) in
+        let a : AtFault req (w .number) (w .place) = record { header = h; session = b; seen = w .seen; reached = w .reached; breaks = w .breaks } in
+        record { number = w .number; fault = same-place req (w .number) p a; is = w .is ∙ ap (faultAt (w .number)) p }
+
+    begun : headerFault d req ≡ 0 → (x : Bool) → firstOther (bodyOf req) ≡ x
+        → cond x (bad (lackOf sessionId)) (complete d (judge d 20 (bodyOf req) nothing)) ≡ bad v → Faulty req v
+    begun h true b f = nowhere req v (lackOf sessionId) refl n f
+    begun h false b f = complete-found d req v (judge d 20 (bodyOf req) nothing) n (walked h b) f
+
+    go : (x : Bool) → eqb (headerFault d req) 0 ≡ x
+        → cond x (cond (firstOther (bodyOf req)) (bad (lackOf sessionId)) (complete d (judge d 20 (bodyOf req) nothing))) (bad (faultOf (headerFault d req)))
+        ≡ bad v → Faulty req v
+    go true h f = begun (eqb-true _ _ h) (firstOther (bodyOf req)) refl f
+    go false h f = nowhere req v (faultOf (headerFault d req)) refl n f
+
+-- Where it stands: behind the header, within the request, at a multiple of 4.
+reaches-least : (d : Dialect) (req : List ℕ) {at : ℕ} {seen : Seen} → Reaches d req at seen → (20 ≤ at) × (at % 4 ≡ 0)
+unfolding padded
+reaches-least d req first = (omega arith, refl)
+reaches-least d req (pastTaken at seen r s e) = let h = reaches-least d req r in (omega (arith, h .0), omega (arith, h .1))
+reaches-least d req (pastSkipped at seen r s e) = let h = reaches-least d req r in (omega (arith, h .0), omega (arith, h .1))
+
+breaks-within : (d : Dialect) (req : List ℕ) (seen : Seen) (at n : ℕ) → Breaks d req seen at n → at < length req
+breaks-within d req seen at n (lengthFault h s) = h
+breaks-within d req seen at n (ruleFault m s e) = omega (arith, avp-within req at s)
+
+module _ (req : List ℕ) (n place : ℕ) (f : AtFault req n place) where
+  pub fault-least : 20 ≤ place
+  fault-least = reaches-least (dialectOf cx req) req (f .reached) .0
+
+  pub fault-fours : place % 4 ≡ 0
+  fault-fours = reaches-least (dialectOf cx req) req (f .reached) .1
+
+  pub fault-within : place < length req
+  fault-within = breaks-within (dialectOf cx req) req (f .seen) place n (f .breaks)
+
+-- Its result.
+abbrev OfContent : ℕ → Type 0
+OfContent n = (n ≡ 0) ⊎ (n ≡ 5014) ⊎ (n ≡ 5004)
+
+unless-content : (x : Bool) → OfContent (faultUnless x 5004)
+unless-content true = inl refl
+unless-content false = inr (inr refl)
+
+content-number : (d : Dialect) (c : Content) (a : List ℕ) → OfContent (contentFault d c a)
+unfolding contentFault plainFault numberFault
+content-number d Free a = inl refl
+content-number d (Number least most) a = go (eqb (length a) (avpHead a + 4))
+  where
+    go : (x : Bool) → OfContent (cond (not x) 5014 (faultUnless (leb least (valueOf a) && leb (valueOf a) most) 5004))
+    go true = unless-content (leb least (valueOf a) && leb (valueOf a) most)
+    go false = inr (inl refl)
+content-number d (Sized least most) a = unless-content (leb least (length (dataOf a)) && leb (length (dataOf a)) most)
+content-number d (Members g) a = unless-content (gathers (membersOf d g) (walk (dataOf a)))
+
+rules-fault : (m n : ℕ) → OfRules m → Fault m ≡ Fault n → OfRules n
+rules-fault m n h e = let q : m ≡ n = cc in rw (← q) h
+
+not-fault : {A : Type 0} (x : Bool) (n : ℕ) → cond x Taken Skipped ≡ Fault n → A
+not-fault true n e = let z : _≡_ {A = ℕ} 0 1 = cc in absurd (omega arith)
+not-fault false n e = let z : _≡_ {A = ℕ} 0 1 = cc in absurd (omega arith)
+
+rule-number : (d : Dialect) (seen : Seen) (a : List ℕ) (n : ℕ) → rule d seen a ≡ Fault n → OfRules n
+unfolding rule ruleBy
+rule-number d seen a n e =
+    flags (eqb (reserved (avpFlags a)) 0) e
+  where
+    c : ℕ
+    c = contentFault d (rowOf (kindOf a) .content) a
+
+    holds : OfContent c → (x : Bool) → eqb c 0 ≡ x → cond x Taken (Fault c) ≡ Fault n → OfRules n
+    holds h true z f = not-fault true n f
+    holds (inl h) false z f = absurd (eqb-false c 0 z h)
+    holds (inr (inl h)) false z f = rules-fault c n (inl h) f
+    holds (inr (inr h)) false z f = rules-fault c n (inr (inr (inr (inr h)))) f
+
+    once : (x : Bool) → ofOnce x c ≡ Fault n → OfRules n
+    once true f = rules-fault 5009 n (inr (inr (inr (inl refl)))) f
+    once false f = holds (content-number d (rowOf (kindOf a) .content) a) (eqb c 0) refl f
+
+    mark : (x : Bool) → cond x (Fault 5001) Skipped ≡ Fault n → OfRules n
+    mark true f = rules-fault 5001 n (inr (inr (inl refl))) f
+    mark false f = not-fault false n f
+
+    used : (u : Use) (x : Bool) → ofUse u x (avpFlags a) c ≡ Fault n → OfRules n
+    used Unknown x f = mark (marked (avpFlags a)) f
+    used Unnamed x f = not-fault false n f
+    used Needed x f = once x f
+    used Optional x f = once x f
+    used Repeated x f = holds (content-number d (rowOf (kindOf a) .content) a) (eqb c 0) refl f
+
+    flags : (x : Bool) → cond (not x) (Fault 3009) (ofUse (useOf d a) (present (getD seen (kindOf a) none)) (avpFlags a) c) ≡ Fault n → OfRules n
+    flags true f = used (useOf d a) (present (getD seen (kindOf a) none)) f
+    flags false f = rules-fault 3009 n (inr (inl refl)) f
+
+breaks-number : (d : Dialect) (req : List ℕ) (seen : Seen) (at n : ℕ) → Breaks d req seen at n → OfRules n
+breaks-number d req seen at n (lengthFault h s) = inl refl
+breaks-number d req seen at n (ruleFault m s e) = rule-number d seen (avpAt req at) n e
+
+pub fault-number : (req : List ℕ) (n place : ℕ) → AtFault req n place → OfRules n
+fault-number req n place f = breaks-number (dialectOf cx req) req (f .seen) place n (f .breaks)
+
+-- none of them is B5005, nor a success
+pub rules-lack : (n : ℕ) → OfRules n → n ≡ 5005 → ⊥
+rules-lack n (inl h) e = omega arith
+rules-lack n (inr (inl h)) e = omega arith
+rules-lack n (inr (inr (inl h))) e = omega arith
+rules-lack n (inr (inr (inr (inl h)))) e = omega arith
+rules-lack n (inr (inr (inr (inr h)))) e = omega arith
+
+pub rules-fail : (n : ℕ) → OfRules n → succeeds (Base n) ≡ true → ⊥
+unfolding numberOf
+rules-fail n (inl h) e = true≢false (sym e ∙ rw h)
+rules-fail n (inr (inl h)) e = true≢false (sym e ∙ rw h)
+rules-fail n (inr (inr (inl h))) e = true≢false (sym e ∙ rw h)
+rules-fail n (inr (inr (inr (inl h)))) e = true≢false (sym e ∙ rw h)
+rules-fail n (inr (inr (inr (inr h)))) e = true≢false (sym e ∙ rw h)
+
+-- a decision's place is within the request
+pub decide-within : (req t : List ℕ) (count : ℕ) (v : List ℕ) → 20 ≤ length req → decide req t count v .place ≤ length req
+unfolding decide decideJudged performed
+decide-within req t count v h = go (readRequest req) refl
+  where
+    go : (j : Judged) → readRequest req ≡ j → decideJudged req t count v j .place ≤ length req
+    go (bad f) e = read-placed req f h e .within
+    go (fine seen) e = omega arith

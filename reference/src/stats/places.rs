@@ -1,0 +1,64 @@
+//! The rows of places.
+
+use crate::message::Message;
+use crate::read::read;
+use crate::slip::Slip;
+use crate::verdict::{Code, Why};
+
+/// How far behind the AVP at fault begins, or for what there is no place.
+pub fn row(place: u64, request: &[u8], why: &Why) -> Option<String> {
+    let what = match place {
+        0 => format!("none for {}", unplaced(request, why)?),
+        20 => "the first AVP's".to_string(),
+        21..=255 => "under 256".to_string(),
+        256..=4095 => "256 to 4,095".to_string(),
+        4096..=16_379 => "4,096 to 16,379".to_string(),
+        16_380 => "16,380".to_string(),
+        _ => "another".to_string(),
+    };
+    Some(format!("place: {what}"))
+}
+
+fn unplaced(request: &[u8], why: &Why) -> Option<&'static str> {
+    Some(match why {
+        Why::Checked(_) | Why::CheckedVectors(_) => return None,
+        // Only with these is there a request to read.
+        Why::Refused(5 | 6) => match read(Message(request), Slip::NONE) {
+            Err(finding) if finding.place != 0 => "a refusal, though an AVP is at fault",
+            _ => "a refusal",
+        },
+        Why::Refused(_) => "a refusal",
+        Why::Header(_) => "a header fault",
+        Why::Rule('b', _) => "(b)",
+        Why::Rule(..) => "another rule",
+        Why::Missing(_) => "a missing AVP",
+        Why::Decided(decision) => match decision.result? {
+            Code::Base(2001) => "a success",
+            Code::Base(5003) => "B5003",
+            Code::Base(5005) => "the SAR's B5005",
+            Code::Base(5009) => "the SAR's B5009",
+            Code::Base(_) => "B5012",
+            Code::Experimental(_) => "an X result",
+        },
+    })
+}
+
+/// The rows that there must be.
+pub fn wanted() -> Vec<String> {
+    let unplaced = [
+        "a refusal",
+        "a refusal, though an AVP is at fault",
+        "a header fault",
+        "(b)",
+        "a missing AVP",
+        "a success",
+        "B5003",
+        "the SAR's B5005",
+        "the SAR's B5009",
+        "B5012",
+        "an X result",
+    ];
+    let placed = ["the first AVP's", "under 256", "256 to 4,095", "4,096 to 16,379", "16,380"].map(String::from);
+    let rows = placed.into_iter().chain(unplaced.iter().map(|what| format!("none for {what}")));
+    rows.map(|row| format!("place: {row}")).collect()
+}
