@@ -1,7 +1,7 @@
 -- Every answer fits: no request within the limits has one that is longer than the smallest buffer.
 use mathlib.Core.Path.{refl}
 use lib.ListN.{length}
-use Rattle.ndushavire.specs.Lent.{Lent}
+use Rattle.calling.specs.Lent.{Lent}
 use Rattle.ndushavire.proofs.Calls.{size-least, size-most, length-even}
 use Rattle.fitting.proofs.Room.{answer-most}
 use Rattle.demands.specs.Call.{Fits}

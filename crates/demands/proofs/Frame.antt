@@ -18,9 +18,8 @@ use Rattle.rewrite.proofs.Tables.{Keeping, keeping-same, kept-same, after-frame
 use Rattle.diameter.specs.Message.{commandOf}
 use Rattle.blocks.specs.Changed.{isOne}
 use Rattle.fitting.specs.Decide.{Decision}
-use Rattle.ndushavire.specs.Lent.{Lent}
-use Rattle.ndushavire.specs.Word.{checkValue}
-use Rattle.ndushavire.specs.Serve.{checkOf, answered, decision, serve}
+use Rattle.calling.specs.Lent.{Lent}
+use Rattle.calling.specs.Serve.{checkOf, answered, decision, serve, checkValue}
 use Rattle.demands.specs.Call.{turnedAway}
 use Rattle.demands.specs.Frame.{succeeds, subscriptionOf}
 use Rattle.demands.proofs.Refusals.{refused-kept, answered-is, taken}

@@ -27,9 +27,8 @@ use Rattle.failed.specs.Failing.{failedBy}
 use Rattle.failed.proofs.Fronts.{failed-piece, failed-whole}
 use Rattle.fitting.specs.Decide.{faulted, decideJudged, decide}
 use Rattle.reply.specs.Answer.{proxy, proxies}
-use Rattle.ndushavire.specs.Lent.{Lent, asking}
-use Rattle.ndushavire.specs.Word.{checkValue}
-use Rattle.ndushavire.specs.Serve.{checkOf, answered, decision, serve}
+use Rattle.calling.specs.Lent.{Lent, asking}
+use Rattle.calling.specs.Serve.{checkOf, answered, decision, serve, checkValue}
 use Rattle.demands.specs.Call.{turnedAway}
 use Rattle.demands.specs.Insertion.{message, requestOf, Foreign, isMarked, Quiet, Inserted, ending, keep, put, FirstMarked, isFault, faultIn}
 use Rattle.demands.specs.Insertion.{putBefore, later, placeNow, placed, behindRow, unsupported}

@@ -14,14 +14,14 @@ use Rattle.table.specs.declared.Checked.{Checked}
 use Rattle.table.specs.declared.Checked.the-variants.{Sound, Bad}
 use Rattle.vectors.specs.VectorFile.{checkVectors, SoundVectors}
 use Rattle.diameter.specs.Put.{All}
-use Rattle.ndushavire.specs.declared.Answer.{Answer}
-use Rattle.ndushavire.specs.declared.Call.{Call}
-use Rattle.ndushavire.specs.declared.Call.the-variants.{Answered, Refused}
-use Rattle.ndushavire.specs.Lent.{Lent, asking}
-use Rattle.ndushavire.specs.Trial.{Trial, anyHolds}
-use Rattle.ndushavire.specs.Serve.{Served, smallBuffer, wrongSize, wrongLength, noRequest, isBad, unsound, checkOf, trials, refused, answered, decision}
-use Rattle.ndushavire.specs.Serve.{serve}
-use Rattle.ndushavire.specs.Word.{callNumber, callPlace, callValue, callWord, checkValue}
+use Rattle.calling.specs.Call.{Answer}
+use Rattle.calling.specs.Call.{Call}
+use Rattle.calling.specs.Call.{Answered, Refused}
+use Rattle.calling.specs.Lent.{Lent, asking}
+use Rattle.calling.specs.Trial.{Trial, anyHolds}
+use Rattle.calling.specs.Serve.{Served, smallBuffer, wrongSize, wrongLength, noRequest, isBad, unsound, checkOf, trials, refused, answered, decision, checkValue}
+use Rattle.calling.specs.Serve.{serve}
+use Rattle.ndushavire.specs.Word.{callNumber, callPlace, callValue, callWord}
 use Rattle.ndushavire.specs.Reads.{Reads}
 use Rattle.ndushavire.proofs.Calls.{size-least, size-most}
 use Rattle.fitting.proofs.Tests.{neither}

@@ -7,7 +7,7 @@ use mathlib.Core.Logic.{_≢_}
 use lib.Dec.{eqb}
 use borrow.Author.Tests.{eqb-false, eq-eqb, ne-eqb}
 use Rattle.diameter.specs.Put.{All}
-use Rattle.ndushavire.specs.Trial.{Trial, tried, anyHolds}
+use Rattle.calling.specs.Trial.{Trial, tried, anyHolds}
 use Rattle.demands.specs.Call.{Exactly}
 
 -- What holds of every one that may be given, and of what is otherwise, holds of what comes.

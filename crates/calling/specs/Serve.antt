@@ -12,11 +12,10 @@ use Rattle.table.specs.declared.Checked.the-variants.{Sound, Bad}
 use Rattle.vectors.specs.VectorFile.{checkVectors}
 use Rattle.fitting.specs.Decide.{Decision, decide}
 use Rattle.reply.specs.Answer.{answerBytes}
-use Rattle.ndushavire.specs.Lent.{Lent}
-use Rattle.ndushavire.specs.Trial.{Trial, tried}
-use Rattle.ndushavire.specs.Word.{checkValue}
-use Rattle.ndushavire.specs.declared.Call.{Call}
-use Rattle.ndushavire.specs.declared.Call.the-variants.{Answered, Refused}
+use Rattle.reading.specs.declared.Outcome.{Outcome}
+use Rattle.calling.specs.Call.{Call, Answered, Refused}
+use Rattle.calling.specs.Lent.{Lent}
+use Rattle.calling.specs.Trial.{Trial, tried}
 
 -- what comes of a call
 pub record Served : Type 0 where
@@ -45,6 +44,10 @@ noRequest req = ltb (getD req 4 0) 128
 abbrev pub isBad : Checked → Bool
 isBad (Sound count) = false
 isBad (Bad block) = true
+
+abbrev pub checkValue : Checked → ℕ
+checkValue (Sound count) = count
+checkValue (Bad block) = block
 
 abbrev pub unsound : Checked → Trial
 unsound c = record { holds = isBad c; number = 5; besides = checkValue c }
@@ -92,3 +95,10 @@ decision x count = decide (x .request) (x .table) count (x .vectors)
 -- "Tried in this order. .. Otherwise the call returns the answer's length"
 unfoldable pub serve : Lent → Served
 serve x = tried (refused x) (answered x (decision x (checkValue (checkOf x)))) (trials x)
+
+-- the decision that it answers with, where no refusal is given, and its result
+abbrev pub decided : Lent → Decision
+decided x = decision x (checkValue (checkOf x))
+
+abbrev pub resultOf : Lent → Outcome
+resultOf x = decided x .given .verdict .result

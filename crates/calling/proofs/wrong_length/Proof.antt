@@ -1,7 +1,7 @@
-use Rattle.ndushavire.proofs.Calls.{length-all}
+use Rattle.calling.proofs.Calls.{length-all}
 use borrow.Author.Needs.{needs}
-use Rattle.ndushavire.proofs.wrong_length.Statement.{statement}
-use Rattle.ndushavire.proofs.wrong_length.Tie as tie
+use Rattle.calling.proofs.wrong_length.Statement.{statement}
+use Rattle.calling.proofs.wrong_length.Tie as tie
 
 pub wrong-length-spec : {M : Type 1} → statement M
 wrong-length-spec =
