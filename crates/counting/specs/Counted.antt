@@ -3,7 +3,7 @@ use Prim.Native.Nat.{ℕ, zero, suc, _+_, _*_, _%_, _^_, _≤_, max}
 use mathlib.Core.Bool.{Bool, true, false, cond}
 use mathlib.Core.Path.{_≡_}
 use mathlib.Core.List.{List, [], _∷_}
-use lib.ListN.{length, getD, set}
+use lib.ListN.{length, getD, set, replicate}
 use lib.Dec.{eqb}
 use Rattle.counting.specs.Results.{rowOf, columnOf, Listed}
 use Rattle.counting.specs.declared.Entry.{Entry}
@@ -73,6 +73,10 @@ valuesBelow f i (suc n) = f i ∷ valuesBelow f (suc i) n
 
 unfoldable pub countsOf : List Event → List ℕ
 countsOf es = valuesBelow (wordAt es) 0 145
+
+-- the words before the first request
+abbrev pub noCounts : List ℕ
+noCounts = replicate 145 0
 
 -- so many more in word i; the larger in word 3
 unfoldable pub plus : ℕ → ℕ → List ℕ → List ℕ
