@@ -136,4 +136,6 @@ module _ (c : List ℕ) (l : length c ≡ 145) where
       ∙ getD-set-same c₂ 3 (max (getD c₂ 3 0) (e .length)) 0 (omega (arith, l₂))
       ∙ rw (plus-other (e .altered) 2 (plus 1 0 c) 3 (omega arith), plus-other 1 0 c 3 (omega arith))
   counted-largest (Refused k) f =
-      plus-other 1 (cellOf (Refused k)) (plus 1 0 c) 3 (omega (arith, cell-above (Refused k) f)) ∙ plus-other 1 0 c 3 (omega arith) ∙ sym (max-zero (getD c 3 0))
+      plus-other 1 (cellOf (Refused k)) (plus 1 0 c) 3 (omega (arith, cell-above (Refused k) f))
+      ∙ plus-other 1 0 c 3 (omega arith)
+      ∙ sym (max-zero (getD c 3 0))
