@@ -1,9 +1,9 @@
 -- The word of a request that can be counted is its own: none of the first five, and below 145.
-use Prim.Native.Nat.{ℕ, _+_, _*_, _≤_, _<_}
+use Prim.Native.Nat.{ℕ, _≤_, _<_}
 use native.Mathlib.Omega.{arith}
 use mathlib.Core.Bool.{Bool, true, false, cond}
 use lib.Dec.{eqb}
-use Rattle.counting.specs.Results.{rowOf, columnOf}
+use Rattle.counting.specs.Results.{rowOf}
 use Rattle.counting.specs.Counted.{cellOf, Fits}
 use Rattle.counting.specs.declared.Event.{Event}
 use Rattle.counting.specs.declared.Event.the-variants.{Answered, Refused}

@@ -1,7 +1,7 @@
 -- Requests counted one by one come to the numbers of the definitions.
-use Prim.Native.Nat.{ℕ, zero, suc, _+_, _%_, _^_, _≤_, _<_, max}
+use Prim.Native.Nat.{ℕ, zero, suc, _+_, _%_, _^_, _<_, max}
 use native.Mathlib.Omega.{arith}
-use native.Mathlib.Nat.{mod-eq-of-lt, zero-max, max-zero, zero-add, add-zero, add-suc}
+use native.Mathlib.Nat.{mod-eq-of-lt, zero-max, max-zero, zero-add, add-zero}
 use mathlib.Core.Path.{_≡_, refl, sym, ap, _∙_}
 use mathlib.Core.List.{List, [], _∷_, _++_}
 use lib.ListN.{length, getD, length-replicate, getD-replicate}
@@ -9,9 +9,9 @@ use lib.Seq.{ext-getD}
 use mathlib.Core.Bool.{Bool, true, false}
 use lib.Dec.{eqb}
 use borrow.Author.Tests.{eqb-true, eqb-false}
-use Rattle.counting.specs.Counted.{Fits, AllFit, alteredIn, largestIn, howMany, numberAt, wordAt, valuesBelow, countsOf, noCounts, counted, countedAll}
+use Rattle.counting.specs.Counted.{AllFit, alteredIn, largestIn, howMany, numberAt, wordAt, valuesBelow, countsOf, noCounts, counted, countedAll}
 use Rattle.counting.specs.declared.Event.{Event}
-use Rattle.counting.proofs.Word.{addedBy, counted-length, counted-at, counted-small, counted-largest}
+use Rattle.counting.proofs.Word.{counted-length, counted-at, counted-small, counted-largest}
 use Rattle.counting.proofs.Numbers.{number-more, word-largest, word-other}
 
 pub all-length : (c : List ℕ) (es : List Event) → length (countedAll c es) ≡ length c

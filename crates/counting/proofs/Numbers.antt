@@ -4,10 +4,9 @@ use native.Mathlib.Omega.{arith}
 use native.Mathlib.Nat.{mod-eq-of-lt, zero-max}
 use native.Mathlib.Numerals.{add-five}
 use mathlib.Core.Bool.{Bool, true, false, cond}
-use mathlib.Core.Path.{_≡_, refl, sym, ap, _∙_}
+use mathlib.Core.Path.{_≡_, refl, sym, _∙_}
 use mathlib.Core.List.{List, [], _∷_, _++_}
 use lib.ListN.{length, length-append}
-use lib.Dec.{eqb}
 use borrow.Author.Tests.{ne-eqb}
 use Rattle.counting.specs.Counted.{cellOf, Fits, isAnswered, standsIn, howMany, alteredIn, largestIn, numberAt, wordAt}
 use Rattle.counting.specs.declared.Event.{Event}

@@ -1,6 +1,6 @@
 -- One request counted: the steps of the code.
 use Prim.Native.Nat.{ℕ, _+_, _%_, _^_, _≤_, max}
-use mathlib.Core.Path.{_≡_, refl, sym, ap, _∙_}
+use mathlib.Core.Path.{_≡_, ap, _∙_}
 use mathlib.Core.List.{List}
 use lib.ListN.{getD, set}
 use Rattle.counting.specs.Results.{Listed}

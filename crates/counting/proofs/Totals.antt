@@ -1,15 +1,15 @@
 -- "the row totals add up to the requests read".
-use Prim.Native.Nat.{ℕ, zero, suc, _+_, _*_, _≤_, _<_}
+use Prim.Native.Nat.{ℕ, zero, suc, _+_, _≤_, _<_}
 use native.Mathlib.Omega.{arith}
 use native.Mathlib.Nat.{zero-add, suc-add, add-zero}
 use mathlib.Core.Bool.{Bool, true, false, cond}
-use mathlib.Core.Path.{_≡_, refl, sym, ap, _∙_}
+use mathlib.Core.Path.{_≡_, refl, _∙_}
 use mathlib.Core.List.{List, [], _∷_}
 use lib.ListN.{length}
 use lib.Dec.{eqb}
 use borrow.Author.Tests.{eqb-true, eqb-false, ne-eqb}
 use Rattle.counting.specs.Counted.{cellOf, Fits, AllFit, isAnswered, standsIn, howMany, numberAt}
-use Rattle.counting.specs.Totals.{sumFrom, rowTotal, rowTotals, refusalTotal}
+use Rattle.counting.specs.Totals.{sumFrom, rowTotals, refusalTotal}
 use Rattle.counting.specs.declared.Event.{Event}
 use Rattle.counting.specs.declared.Event.the-variants.{Answered, Refused}
 use Rattle.counting.proofs.Cells.{cell-above, cell-below}

@@ -1,12 +1,10 @@
 -- "how many; for each refusal, how many; records altered, once per request; and the largest answer": the words of a report over requests that were read.
 use Prim.Native.Nat.{ℕ, zero, suc, _+_, _*_, _%_, _^_, _≤_, max}
 use mathlib.Core.Bool.{Bool, true, false, cond}
-use mathlib.Core.Path.{_≡_}
 use mathlib.Core.List.{List, [], _∷_}
 use lib.ListN.{length, getD, set, replicate}
 use lib.Dec.{eqb}
 use Rattle.counting.specs.Results.{rowOf, columnOf, Listed}
-use Rattle.counting.specs.declared.Entry.{Entry}
 use Rattle.counting.specs.declared.Event.{Event}
 use Rattle.counting.specs.declared.Event.the-variants.{Answered, Refused}
 

@@ -5,7 +5,7 @@ pub mod words;
 use reading::Outcome;
 ghost use mathlib.Core.Path.{_≡_};
 ghost use Prim.Native.Nat.{_+_, _%_, _^_, _≤_, _<_, max};
-ghost use lib.ListN.{length, getD, set};
+ghost use lib.ListN.{length};
 ghost use Rattle.counting.specs.Results.{Listed};
 ghost use Rattle.counting.specs.Counted.{cellOf, Fits, plus, larger, counted};
 ghost use Rattle.counting.specs.declared.Event.the-variants.{Answered, Refused};
