@@ -30,7 +30,7 @@ unfolding wrongLength
 length-all req e = rw e
 
 -- a length that is not wrong is a multiple of 4
-length-even : (req : List ℕ) → wrongLength req ≡ false → length req % 4 ≡ 0
+pub length-even : (req : List ℕ) → wrongLength req ≡ false → length req % 4 ≡ 0
 unfolding wrongLength
 length-even req e = go (eqb (be24At req 1) (length req)) (eqb (length req % 4) 0) refl e
   where
@@ -53,6 +53,9 @@ size-within req e =
 
 pub size-least : (req : List ℕ) → wrongSize req ≡ false → 20 ≤ length req
 size-least req e = size-within req e .0
+
+pub size-most : (req : List ℕ) → wrongSize req ≡ false → length req ≤ 16384
+size-most req e = size-within req e .1
 
 pub size-flags : (req : List ℕ) → wrongSize req ≡ false → 4 < length req
 size-flags req e = omega (arith, size-least req e)

@@ -24,10 +24,11 @@ use Rattle.fitting.specs.Decide.{Decision, faulted, performed, decideJudged, de
 use Rattle.calling.specs.Lent.{Lent}
 use Rattle.ndushavire.specs.Word.{callPlace}
 use Rattle.calling.specs.Serve.{checkOf, answered, serve, checkValue, resultOf}
-use Rattle.ndushavire.proofs.Calls.{size-most}
+use Rattle.calling.proofs.Calls.{size-most}
 use Rattle.demands.specs.Call.{turnedAway}
 use Rattle.demands.specs.Place.{Blames, faultBody, faultBytes, blaming}
-use Rattle.demands.proofs.Refusals.{refused-nowhere, answer-is, taken}
+use Rattle.calling.proofs.Kept.{taken}
+use Rattle.demands.proofs.Refusals.{refused-nowhere, answer-is}
 use Rattle.demands.proofs.Faults.{fine-bad, same-place, fault-read, read-fault, fault-least, fault-fours, fault-within}
 use Rattle.demands.proofs.Moved.{failed-there}
 

@@ -2,7 +2,7 @@
 use mathlib.Core.Path.{refl}
 use lib.ListN.{length}
 use Rattle.calling.specs.Lent.{Lent}
-use Rattle.ndushavire.proofs.Calls.{size-least, size-most, length-even}
+use Rattle.calling.proofs.Calls.{size-least, size-most, length-even}
 use Rattle.fitting.proofs.Room.{answer-most}
 use Rattle.demands.specs.Call.{Fits}
 

@@ -22,7 +22,8 @@ use Rattle.calling.specs.Lent.{Lent}
 use Rattle.calling.specs.Serve.{checkOf, answered, decision, serve, checkValue}
 use Rattle.demands.specs.Call.{turnedAway}
 use Rattle.demands.specs.Frame.{succeeds, subscriptionOf}
-use Rattle.demands.proofs.Refusals.{refused-kept, answered-is, taken}
+use Rattle.calling.proofs.Kept.{taken}
+use Rattle.demands.proofs.Refusals.{refused-kept, answered-is}
 use Rattle.demands.proofs.Effects.{Altered, Does, decide-does}
 
 -- What an effect leaves: of the table what every effect keeps, and the blocks of another subscription.

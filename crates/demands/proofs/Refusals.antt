@@ -23,19 +23,17 @@ use Rattle.calling.specs.Serve.{Served, smallBuffer, wrongSize, wrongLength, no
 use Rattle.calling.specs.Serve.{serve}
 use Rattle.ndushavire.specs.Word.{callNumber, callPlace, callValue, callWord}
 use Rattle.ndushavire.specs.Reads.{Reads}
-use Rattle.ndushavire.proofs.Calls.{size-least, size-most}
+use Rattle.calling.proofs.Calls.{size-least, size-most}
 use Rattle.fitting.proofs.Tests.{neither}
 use Rattle.demands.specs.Call.{turnedAway, answerTo, Fits, Exactly}
 use Rattle.demands.specs.Insertion.{placed}
 use Rattle.demands.proofs.Faults.{decide-within}
 use Rattle.demands.proofs.Firm.{check-most, answer-reads, refusal-reads}
-use Rattle.demands.proofs.Trials.{tried-by, tried-alike, exactly}
+use Rattle.calling.proofs.Kept.{taken}
+use Rattle.calling.proofs.Trials.{tried-by, tried-alike}
+use Rattle.demands.proofs.Trials.{exactly}
 
--- a sound file's count, and an unsound one's first bad block
-sound-count : (c : Checked) → isBad c ≡ false → c ≡ Sound (checkValue c)
-sound-count (Sound count) e = refl
-sound-count (Bad block) e = absurd (true≢false e)
-
+-- an unsound file's first bad block
 bad-block : (c : Checked) → isBad c ≡ true → c ≡ Bad (checkValue c)
 bad-block (Sound count) e = absurd (true≢false (sym e))
 bad-block (Bad block) e = refl
@@ -153,31 +151,6 @@ module _ (x : Lent) where
 
   pub answered-is : (count : ℕ) → checkOf x ≡ Sound count → turnedAway x ≡ false → serve x ≡ answered x (decision x count)
   answered-is count s e = answer-is e ∙ ap (λ (c : Checked). answered x (decision x (checkValue c))) s
-
-  -- what holds where none of the six does
-  pub record Taken : Type 0 where
-    pub room : 36864 ≤ length (x .buffer)
-    pub size : wrongSize (x .request) ≡ false
-    pub lengths : wrongLength (x .request) ≡ false
-    pub table : checkOf x ≡ Sound (checkValue (checkOf x))
-    pub vectors : SoundVectors (x .vectors)
-
-  pub taken : turnedAway x ≡ false → Taken
-  unfolding anyHolds
-  taken e =
-      let a = neither (smallBuffer (x .buffer)) _ e in
-      let b = neither (wrongSize (x .request)) _ (a .1) in
-      let c = neither (wrongLength (x .request)) _ (b .1) in
-      let d = neither (noRequest (x .request)) _ (c .1) in
-      let f = neither (isBad (checkOf x)) _ (d .1) in
-      let g = neither (isBad (checkVectors (x .vectors))) _ (f .1) in
-      record {
-        room = ltb-false _ _ (a .0);
-        size = b .0;
-        lengths = c .0;
-        table = sound-count (checkOf x) (f .0);
-        vectors = record { count = checkValue (checkVectors (x .vectors)); checked = sound-count (checkVectors (x .vectors)) (g .0) };
-      }
 
   -- The word of a call is read back: what it carries is short.
   module _ (fits : Fits x) where
