@@ -5,7 +5,7 @@ ghost use mathlib.Core.Path.{_≡_};
 ghost use Rattle.calling.specs.Call.{callOf};
 ghost use Rattle.calling.specs.Lent.{lent};
 ghost use Rattle.ndushavire.specs.Word.{word, checkWord, callWord};
-ghost use Rattle.ndushavire.specs.Promise.{CheckPromise, CheckVectorsPromise, DecidePromise};
+ghost use Rattle.ndushavire.specs.Promise.{CheckPromise, CheckVectorsPromise, DecidePromise, ReportPromise};
 
 // What the number of a returned word counts, 2^48, and what the place counts, 2^32.
 const NUMBER: u64 = 281474976710656;
@@ -70,4 +70,21 @@ pub extern "C" fn ndushavire_decide(
         r (now (table .exit)) (now (vectors .exit)) (now (answer .exit)) ⌝ }
 {
     call_word(calling::call(request, table, profile, vectors, answer))
+}
+
+// "A report over a file of many requests laid end to end": it is written to an area of its own, as 145 numbers of 64 bits.
+#[no_mangle]
+pub extern "C" fn ndushavire_report(
+    requests: &[u8],
+    table: &mut [u8],
+    profile: &[u8],
+    vectors: &mut [u8],
+    answer: &mut [u8],
+    report: &mut [u8],
+) -> u64
+    ensures { λ r. ⌜ ReportPromise
+        (lent (now (requests .entry)) (now (table .entry)) (now (profile .entry)) (now (vectors .entry)) (now (answer .entry))) (now (report .entry))
+        r (now (table .exit)) (now (vectors .exit)) (now (answer .exit)) (now (report .exit)) ⌝ }
+{
+    word(reporting::report(requests, table, profile, vectors, answer, report), 0, 0)
 }
