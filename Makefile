@@ -127,10 +127,13 @@ ifndef SEED
 SEED := $(shell od -An -N4 -tu4 /dev/urandom | tr -d ' ')
 endif
 DRIVER = $(RUN) target/c99/driver
-KINDS := tables vectors calls demand3 runs
+# The report is compared where the header has it.
+REPORT := $(shell grep -o -w -m 1 ndushavire_report $(HEADER))
+KINDS := tables vectors calls $(REPORT:ndushavire_report=reports) demand3 runs
 COUNT_tables := 200000
 COUNT_vectors := 100000
 COUNT_calls := 100000
+COUNT_reports := 20000
 COUNT_demand3 := 20000
 COUNT_runs := 2000
 
@@ -163,7 +166,7 @@ soak: target/c99/driver $(BINARY)
 
 # After how many cases each deliberate fault of the independent program shows; what the cases are made of.
 COUNT_mutants := 100000
-#: mutants            whether 495 deliberate faults would be noticed, and after how many cases
+#: mutants            whether 575 deliberate faults would be noticed, and after how many cases
 mutants: $(BINARY)
 	@echo "mutants: seed $(SEED)"
 	$(BINARY) mutants --seed $(SEED) --count $(COUNT_mutants)
@@ -174,6 +177,7 @@ stats: $(BINARY)
 	$(BINARY) stats --kind tables --seed $(SEED) --count $(COUNT_tables)
 	$(BINARY) stats --kind vectors --seed $(SEED) --count $(COUNT_vectors)
 	$(BINARY) stats --kind calls --seed $(SEED) --count $(COUNT_calls)
+	$(BINARY) stats --kind reports --seed $(SEED) --count $(COUNT_reports)
 
 # The definitions beside the independent program: antt computes each case, which takes seconds; 24 make a quick trial.
 COUNT_DEFINITIONS := 300
@@ -185,7 +189,7 @@ definitions-check: $(BINARY)
 # of it.
 #: cases              chooses anew the cases that the gate runs, two minutes
 cases: $(BINARY)
-	tests/cases.py $(BINARY) crates/cases
+	tests/cases.py $(BINARY) crates/cases $(REPORT:ndushavire_report=reports)
 
 $(ARCHIVE): $(PROVED)
 	rt staticlib ndushavire
@@ -232,7 +236,7 @@ target/c++/store: tests/store.c examples/store.h examples/load.h
 
 target/c99/driver: tests/driver.c $(HEADER) $(ARCHIVE)
 	mkdir -p $(@D)
-	$(X86_CC) -std=c99 $(STRICT) -o $@ $< $(ARCHIVE)
+	$(X86_CC) -std=c99 $(STRICT) $(REPORT:ndushavire_report=-DREPORT) -o $@ $< $(ARCHIVE)
 
 target/c99/overstep: tests/overstep.c tests/driver.c $(HEADER) $(ARCHIVE)
 	mkdir -p $(@D)

@@ -3,7 +3,12 @@
 use crate::block::BLOCK;
 use crate::cases::{altered_bits, Case, Change, Entry, Outcome, Slice};
 use crate::gen::{Made, Stream};
+use crate::report::{word as report_word, Numbers, COLUMNS, LEAST_REPORT, REST};
 use crate::show::hex;
+use crate::slip::Slip;
+
+/// A longer file of requests is not shown; `gen` writes it.
+const MOST_SHOWN: usize = 20_000;
 
 /// Lines of 32 bytes.
 pub fn lines(bytes: &[u8]) -> String {
@@ -19,6 +24,8 @@ pub fn word(entry: Entry, outcome: &Outcome) -> String {
         (Entry::CheckVectors, 0) => format!("sound, {value} vectors{place}"),
         (Entry::CheckVectors, 6) => format!("vector block {value} is bad{place}"),
         (Entry::Decide, 0) => format!("answered with {value} bytes{place}"),
+        (Entry::Report, 0) => format!("reported to the file's end, value {value}{place}"),
+        (Entry::Report, 7) => format!("reported up to a broken piece, value {value}{place}"),
         (_, number) => format!("refused {number}, value {value}{place}"),
     }
 }
@@ -35,8 +42,9 @@ pub fn slices(made: &Made) {
     println!("  made by: {}", made.notes.join(", "));
     for (lent, held) in case.entry.lent().iter().zip(&case.slices) {
         println!("  {} of {} bytes", lent.slice().name(), held.length());
-        if lent.slice() == Slice::Request {
-            println!("{}", lines(&case.held(Slice::Request)));
+        let shown = [Slice::Request, Slice::Requests].contains(&lent.slice()) && held.length() <= MOST_SHOWN;
+        if shown {
+            println!("{}", lines(&case.held(lent.slice())));
         }
     }
     for number in &case.numbers {
@@ -70,6 +78,38 @@ pub fn outcomes(case: &Case, own: &Outcome, given: &Outcome) {
     }
     answer("this program", case, own);
     answer("the driver", case, given);
+    if let (Entry::Report, Some(own), Some(given)) =
+        (case.entry, case.after(own, Slice::Report), case.after(given, Slice::Report))
+    {
+        report(&own, &given);
+    }
+}
+
+/// The words in which two reports differ.
+fn report(own: &[u8], given: &[u8]) {
+    if own.len() < LEAST_REPORT {
+        return;
+    }
+    let (own, given) = (Numbers::of(own).words(Slip::NONE), Numbers::of(given).words(Slip::NONE));
+    for (at, (own, given)) in own.iter().zip(&given).enumerate().filter(|(_, (own, given))| own != given) {
+        println!("  word {at} of the report, {}: this program has {own}, the driver {given}", word_name(at));
+    }
+}
+
+fn word_name(at: usize) -> String {
+    match at {
+        report_word::READ => "requests read".to_string(),
+        report_word::STOPPED => "the byte where reading stopped".to_string(),
+        report_word::ALTERED => "records altered".to_string(),
+        report_word::LARGEST => "the largest answer".to_string(),
+        report_word::ANSWERED => "answered".to_string(),
+        _ if at < report_word::CELLS => format!("refused {}", at - report_word::ANSWERED),
+        _ => {
+            let (row, column) = ((at - report_word::CELLS) / COLUMNS.len(), (at - report_word::CELLS) % COLUMNS.len());
+            let command = if row == REST { "other commands".to_string() } else { (300 + row).to_string() };
+            format!("{command} with {}", COLUMNS[column])
+        }
+    }
 }
 
 fn changed(name: &str, before: &[u8], own: &Change, given: &Change) {
@@ -100,7 +140,7 @@ fn changed(name: &str, before: &[u8], own: &Change, given: &Change) {
 
 pub fn answer(whose: &str, case: &Case, outcome: &Outcome) {
     let (number, _, value) = outcome.parts();
-    if let (0, Some(buffer)) = (number, case.after(outcome, Slice::Buffer)) {
+    if let (Entry::Decide, 0, Some(buffer)) = (case.entry, number, case.after(outcome, Slice::Buffer)) {
         println!("  the answer of {whose}:\n{}", lines(&buffer[..(value as usize).min(buffer.len())]));
     }
 }
