@@ -3,9 +3,8 @@
 use crate::block::BLOCK;
 use crate::cases::{altered_bits, Case, Change, Entry, Outcome, Slice};
 use crate::gen::{Made, Stream};
-use crate::report::{word as report_word, Numbers, COLUMNS, LEAST_REPORT, REST};
+use crate::report::{name, Numbers, LEAST_REPORT};
 use crate::show::hex;
-use crate::slip::Slip;
 
 /// A longer file of requests is not shown; `gen` writes it.
 const MOST_SHOWN: usize = 20_000;
@@ -90,25 +89,9 @@ fn report(own: &[u8], given: &[u8]) {
     if own.len() < LEAST_REPORT {
         return;
     }
-    let (own, given) = (Numbers::of(own).words(Slip::NONE), Numbers::of(given).words(Slip::NONE));
+    let (Numbers(own), Numbers(given)) = (Numbers::of(own), Numbers::of(given));
     for (at, (own, given)) in own.iter().zip(&given).enumerate().filter(|(_, (own, given))| own != given) {
-        println!("  word {at} of the report, {}: this program has {own}, the driver {given}", word_name(at));
-    }
-}
-
-fn word_name(at: usize) -> String {
-    match at {
-        report_word::READ => "requests read".to_string(),
-        report_word::STOPPED => "the byte where reading stopped".to_string(),
-        report_word::ALTERED => "records altered".to_string(),
-        report_word::LARGEST => "the largest answer".to_string(),
-        report_word::ANSWERED => "answered".to_string(),
-        _ if at < report_word::CELLS => format!("refused {}", at - report_word::ANSWERED),
-        _ => {
-            let (row, column) = ((at - report_word::CELLS) / COLUMNS.len(), (at - report_word::CELLS) % COLUMNS.len());
-            let command = if row == REST { "other commands".to_string() } else { (300 + row).to_string() };
-            format!("{command} with {}", COLUMNS[column])
-        }
+        println!("  word {at} of the report, {}: this program has {own}, the driver {given}", name(at));
     }
 }
 

@@ -233,6 +233,31 @@ fn a_piece_is_cut_by_its_length_alone() {
     assert_eq!((done.words()[0], done.words()[4], done.words()[4 + 3]), (2, 1, 1));
 }
 
+/// Over the limit goes before an odd length, and that before the R bit; the longest piece of all is read over.
+#[test]
+fn a_piece_is_refused_by_the_first_of_its_refusals() {
+    let one = lir("sip:bob@isle");
+    let answer = with_byte(one.clone(), 4, 0);
+    let longest = longer(&answer, 0xFF_FFFF - answer.len());
+    for (piece, number) in [
+        (longest.clone(), 2),
+        (longer(&one, 16_385 - one.len()), 2),
+        (longer(&answer, 16_383 - one.len()), 3),
+        (longer(&answer, 1), 3),
+        (longer(&answer, 16_384 - one.len()), 4),
+        (answer, 4),
+    ] {
+        let done = plain(&[piece.clone(), one.clone()].concat());
+        let stop = (piece.len() + one.len()) as u64;
+        let told = BTreeMap::from([(0, 2), (1, stop), (3, done.words()[3]), (4, 1), (4 + number, 1), (20 + 50, 1)]);
+        assert_eq!((done.word, done.told()), (0, told), "{number}");
+    }
+    // 16,384 bytes are a request.
+    assert_eq!(plain(&longer(&one, 16_384 - one.len())).words()[4], 1);
+    let done = plain(&longest[..longest.len() - 1]);
+    assert_eq!((done.word, done.told()), (7 << 48, BTreeMap::new()));
+}
+
 #[test]
 fn with_7_stands_what_the_requests_before_left() {
     let ask = mar("alice@isle", "sip:alice@isle", 1, b"sip:s1");
@@ -278,6 +303,13 @@ fn what_refuses_every_request_does_not_refuse_the_report() {
     assert_eq!(counts(run(&file, &people(), b"x", ROOM, AREA)), [0, 0, 1, 1, 1, 0, 2]);
     assert_eq!(counts(run(&file, &unsound, b"x", ROOM, AREA)), [0, 0, 1, 1, 1, 2, 0]);
     assert_eq!(counts(run(&file, &unsound, b"x", 0, AREA)), [0, 5, 0, 0, 0, 0, 0]);
+    // Nor does it matter where there is no request, or where the file is broken.
+    let done = run(b"", &unsound, b"x", 0, AREA);
+    assert_eq!((done.word, done.told()), (0, BTreeMap::new()));
+    let done = run(&[&file[..], &[1, 0, 0]].concat(), &unsound, b"x", 0, AREA + 9);
+    let told = BTreeMap::from([(0, 5), (1, file.len() as u64), (5, 5)]);
+    assert_eq!((done.word, done.told()), (7 << 48, told));
+    assert!(done.table == unsound && done.vectors == b"x" && done.area[AREA..] == [0x5A; 9]);
 }
 
 #[test]
@@ -315,6 +347,9 @@ fn records_altered_are_counted_for_each_request() {
     assert_eq!(altered(&[removal(&["a", "a", "c", "a"])]), 2);
     assert_eq!(altered(&[removal(&["a"]), removal(&["a"])]), 1);
     assert_eq!(altered(&[sar("a", b"s", 2), sar("b", b"s", 1)]), 0);
+    // A removal that fails leaves all; so does one of all records, the second time.
+    assert_eq!(altered(&[removal(&["a", "b", "d"])]), 0);
+    assert_eq!(altered(&[removal(&publics), removal(&publics)]), 3);
     assert_eq!(altered(&[removal(&["a", "b"]), sar("a", b"s", 1), sar("a", b"s", 1), removal(&["a", "c"])]), 5);
 }
 

@@ -1,7 +1,7 @@
 //! Deliberate faults of a whole report: what it refuses, what it carries along, and what it leaves.
 
-use super::lent::{Lent, LEAST_REPORT};
-use super::numbers::Numbers;
+use super::lent::{Files, Lent, LEAST_REPORT};
+use super::numbers::{word, Numbers, COLUMNS, ROWS};
 use super::pieces::{next, Next};
 use crate::kinds::Kind;
 use crate::message::Message;
@@ -13,14 +13,13 @@ use crate::{table, vectors};
 
 /// What was lent, as it came; only for a faulty program.
 pub struct Came {
-    table: Vec<u8>,
-    vectors: Vec<u8>,
+    files: Files,
     buffer: Vec<u8>,
 }
 
 impl Came {
     pub fn of(lent: &Lent) -> Came {
-        Came { table: lent.table.to_vec(), vectors: lent.vectors.to_vec(), buffer: lent.buffer.to_vec() }
+        Came { files: Files::of(lent), buffer: lent.buffer.to_vec() }
     }
 }
 
@@ -73,8 +72,8 @@ pub fn refused(lent: &Lent, slip: Slip) -> Option<Done> {
 /// What a faulty program does before each request.
 pub fn before_request(lent: &mut Lent, came: &Came, slip: Slip) {
     match slip.0 {
-        Some(Fault::TableNotCarried) => lent.table.copy_from_slice(&came.table),
-        Some(Fault::VectorsNotCarried) => lent.vectors.copy_from_slice(&came.vectors),
+        Some(Fault::TableNotCarried) => lent.table.copy_from_slice(&came.files.table),
+        Some(Fault::VectorsNotCarried) => lent.vectors.copy_from_slice(&came.files.vectors),
         Some(Fault::AnswerBufferCleared) => lent.buffer.fill(0),
         _ => {}
     }
@@ -86,25 +85,64 @@ pub fn at_end(lent: &mut Lent, came: &Came, numbers: &mut Numbers, broken: bool,
         Some(fault) => fault,
         None => return 0,
     };
+    let words = &mut numbers.0;
     match fault {
-        Fault::BrokenPieceCounted if broken => numbers.read += 1,
-        Fault::SevenCounted if broken => numbers.refused[6] += 1,
-        Fault::StopNotToldAtEnd if !broken => numbers.stopped = 0,
-        Fault::StopIsNumber => numbers.stopped = numbers.read,
-        Fault::StopIsFileLength => numbers.stopped = lent.requests.len() as u64,
-        Fault::BrokenReportEmpty if broken => *numbers = Numbers { stopped: numbers.stopped, ..Numbers::default() },
-        Fault::ReportLeavesTable => lent.table.copy_from_slice(&came.table),
-        Fault::ReportLeavesVectors => lent.vectors.copy_from_slice(&came.vectors),
+        Fault::BrokenPieceCounted if broken => words[word::READ] += 1,
+        Fault::SevenCounted if broken => words[word::ANSWERED + 7] += 1,
+        Fault::StopNotToldAtEnd if !broken => words[word::STOPPED] = 0,
+        Fault::StopIsNumber => words[word::STOPPED] = words[word::READ],
+        Fault::StopIsFileLength => words[word::STOPPED] = lent.requests.len() as u64,
+        Fault::StopIsLastBegin if broken => words[word::STOPPED] = last_begin(lent.requests) as u64,
+        Fault::BrokenReportEmpty if broken => {
+            (0..word::ALL).filter(|at| *at != word::STOPPED).for_each(|at| words[at] = 0)
+        }
+        Fault::ReportLeavesTable => lent.table.copy_from_slice(&came.files.table),
+        Fault::ReportLeavesVectors => lent.vectors.copy_from_slice(&came.files.vectors),
         Fault::ReportLeavesBuffer => lent.buffer.copy_from_slice(&came.buffer),
         Fault::BrokenUndone if broken => {
-            lent.table.copy_from_slice(&came.table);
-            lent.vectors.copy_from_slice(&came.vectors);
+            lent.table.copy_from_slice(&came.files.table);
+            lent.vectors.copy_from_slice(&came.files.vectors);
         }
-        Fault::RequestsInValue => return numbers.read,
-        Fault::PlaceOfStopInValue if broken => return numbers.stopped,
+        Fault::BrokenBufferUndone if broken => lent.buffer.copy_from_slice(&came.buffer),
+        Fault::RequestsInValue => return words[word::READ],
+        Fault::PlaceOfStopInValue if broken => return words[word::STOPPED],
         _ => {}
     }
     0
+}
+
+/// Where the last request read begins.
+fn last_begin(requests: &[u8]) -> usize {
+    let (mut last, mut at) = (0, 0);
+    while let Next::Piece(piece) = next(requests, at, Slip::NONE) {
+        (last, at) = (at, at + piece.len());
+    }
+    last
+}
+
+/// The words as they are written.
+pub fn laid_out(numbers: &Numbers, slip: Slip) -> [u64; word::ALL] {
+    let mut words = numbers.0;
+    match slip.0 {
+        Some(Fault::CountsIn8Bits) => counts(&mut words).for_each(|count| *count &= 0xFF),
+        Some(Fault::CountsIn16Bits) => counts(&mut words).for_each(|count| *count &= 0xFFFF),
+        Some(Fault::StoppedIn16Bits) => words[word::STOPPED] &= 0xFFFF,
+        Some(Fault::AnsweredIsRead) => words[word::ANSWERED] = words[word::READ],
+        Some(Fault::RefusalsOneOn) => words[word::ANSWERED + 1..word::CELLS].rotate_right(1),
+        Some(Fault::RestFirst) => words[word::CELLS..].rotate_right(COLUMNS.len()),
+        Some(Fault::ColumnsBeforeRows) => {
+            let cells = &numbers.0[word::CELLS..];
+            let turned = (0..cells.len()).map(|at| cells[COLUMNS.len() * (at % ROWS) + at / ROWS]);
+            words[word::CELLS..].iter_mut().zip(turned).for_each(|(word, cell)| *word = cell);
+        }
+        _ => {}
+    }
+    words
+}
+
+fn counts(words: &mut [u64; word::ALL]) -> impl Iterator<Item = &mut u64> {
+    let no_counts = [word::STOPPED, word::LARGEST];
+    words.iter_mut().enumerate().filter(move |(at, _)| !no_counts.contains(at)).map(|(_, count)| count)
 }
 
 /// How many identities a request names.

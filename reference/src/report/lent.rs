@@ -13,3 +13,15 @@ pub struct Lent<'a> {
     pub buffer: &'a mut [u8],
     pub report: &'a mut [u8],
 }
+
+/// What a request may alter, as it was at some moment.
+pub struct Files {
+    pub table: Vec<u8>,
+    pub vectors: Vec<u8>,
+}
+
+impl Files {
+    pub fn of(lent: &Lent) -> Files {
+        Files { table: lent.table.to_vec(), vectors: lent.vectors.to_vec() }
+    }
+}

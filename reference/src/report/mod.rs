@@ -12,8 +12,9 @@ use crate::serve::{call, Done};
 use crate::slip::{Fault, Slip};
 use crate::verdict::Why;
 
+use lent::Files;
 pub use lent::{Lent, LEAST_REPORT};
-pub use numbers::{word, Numbers, COLUMNS, MOST_NUMBER, REST, ROWS};
+pub use numbers::{name, row_name, word, Numbers, COLUMNS, REST};
 pub use pieces::{next, Next};
 
 /// The return word. With 7 the numbers so far are written, and all is as the requests before left it.
@@ -22,7 +23,7 @@ pub fn report(mut lent: Lent, slip: Slip) -> (u64, Why) {
         return (word, Why::Refused((word >> 48) as u32));
     }
     let came = astray::Came::of(&lent);
-    let mut numbers = Numbers::default();
+    let mut numbers = Numbers::NONE;
     let mut ever = BTreeSet::new();
     let mut at = 0;
     let broken = loop {
@@ -31,14 +32,15 @@ pub fn report(mut lent: Lent, slip: Slip) -> (u64, Why) {
             Next::End => break false,
             Next::Broken => break true,
         };
-        let before = Before { table: lent.table.to_vec(), vectors: lent.vectors.to_vec() };
+        let before = Files::of(&lent);
         astray::before_request(&mut lent, &came, slip);
         let done = decided(&mut lent, piece, at, slip);
         numbers.count(piece, &done, slip);
-        numbers.altered = numbers.altered.wrapping_add(altered(&before, &lent, piece, &done, &mut ever, slip));
+        let sum = &mut numbers.0[word::ALTERED];
+        *sum = sum.wrapping_add(altered(&before, &lent, piece, &done, &mut ever, slip));
         at += pieces::step(piece, slip);
     };
-    numbers.stopped = at as u64;
+    numbers.0[word::STOPPED] = at as u64;
     let value = astray::at_end(&mut lent, &came, &mut numbers, broken, slip);
     if !(broken && slip.is(Fault::BrokenNotWritten)) {
         write(lent.report, &numbers, slip);
@@ -66,20 +68,14 @@ fn decided(lent: &mut Lent, piece: &[u8], at: usize, slip: Slip) -> Done {
         .unwrap_or_else(|| call(piece, lent.table, lent.profile, lent.vectors, lent.buffer, slip))
 }
 
-/// The files before a request.
-struct Before {
-    table: Vec<u8>,
-    vectors: Vec<u8>,
-}
-
 /// The blocks that differ.
-fn differing<'a>(before: &'a [u8], after: &'a [u8]) -> impl Iterator<Item = usize> + 'a {
+pub fn differing<'a>(before: &'a [u8], after: &'a [u8]) -> impl Iterator<Item = usize> + 'a {
     let both = before.chunks(BLOCK).zip(after.chunks(BLOCK));
     both.enumerate().filter(|(_, (before, after))| before != after).map(|(block, _)| block)
 }
 
 /// How many records have other bytes than before the request.
-fn altered(before: &Before, lent: &Lent, piece: &[u8], done: &Done, ever: &mut BTreeSet<usize>, slip: Slip) -> u64 {
+fn altered(before: &Files, lent: &Lent, piece: &[u8], done: &Done, ever: &mut BTreeSet<usize>, slip: Slip) -> u64 {
     let records: Vec<usize> = differing(&before.table, lent.table).collect();
     (match slip.0 {
         Some(Fault::AlteringRequestsCounted) => records.len().min(1),
@@ -87,6 +83,7 @@ fn altered(before: &Before, lent: &Lent, piece: &[u8], done: &Done, ever: &mut B
         Some(Fault::RecordsOfTheMonth) => records.into_iter().filter(|block| ever.insert(*block)).count(),
         Some(Fault::MarkedVectorsCounted) => records.len() + differing(&before.vectors, lent.vectors).count(),
         Some(Fault::NamedTwiceCountedTwice) if !records.is_empty() => astray::identities(piece).max(records.len()),
+        Some(Fault::AlteredIn8Bits) => records.len() & 0xFF,
         Some(Fault::LastRecordNotCompared) => {
             records.iter().filter(|block| (**block + 1) * BLOCK != lent.table.len()).count()
         }
@@ -97,12 +94,11 @@ fn altered(before: &Before, lent: &Lent, piece: &[u8], done: &Done, ever: &mut B
 
 /// The words, big-endian; what is behind them stays.
 fn write(report: &mut [u8], numbers: &Numbers, slip: Slip) {
+    let words = astray::laid_out(numbers, slip);
     let bytes: Vec<u8> = match slip.0 {
-        Some(Fault::ReportLittleEndian) => numbers.words(slip).iter().flat_map(|word| word.to_le_bytes()).collect(),
-        Some(Fault::ReportIn32Bits) => {
-            numbers.words(slip).iter().flat_map(|word| (*word as u32).to_be_bytes()).collect()
-        }
-        _ => numbers.words(slip).iter().flat_map(|word| word.to_be_bytes()).collect(),
+        Some(Fault::ReportLittleEndian) => words.iter().flat_map(|word| word.to_le_bytes()).collect(),
+        Some(Fault::ReportIn32Bits) => words.iter().flat_map(|word| (*word as u32).to_be_bytes()).collect(),
+        _ => words.iter().flat_map(|word| word.to_be_bytes()).collect(),
     };
     let end = bytes.len().min(report.len());
     report[..end].copy_from_slice(&bytes[..end]);

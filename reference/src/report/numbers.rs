@@ -39,120 +39,92 @@ pub const COLUMNS: [Code; 25] = [
 /// 300, 301, 302, 303, and all other commands as one.
 pub const ROWS: usize = 5;
 pub const REST: usize = ROWS - 1;
-/// Of refusals.
-pub const MOST_NUMBER: usize = 15;
 
 /// Places in the report, in words of 64 bits.
 pub mod word {
+    /// Requests read.
     pub const READ: usize = 0;
+    /// The byte where reading stopped.
     pub const STOPPED: usize = 1;
     pub const ALTERED: usize = 2;
     pub const LARGEST: usize = 3;
     /// Those of refusals follow it, by their numbers.
     pub const ANSWERED: usize = 4;
+    /// By row and column.
     pub const CELLS: usize = 20;
     pub const ALL: usize = 145;
 }
 
-#[derive(Clone, PartialEq, Debug, Default)]
-pub struct Numbers {
-    /// Requests read.
-    pub read: u64,
-    /// The byte where reading stopped.
-    pub stopped: u64,
-    pub altered: u64,
-    pub largest: u64,
-    pub answered: u64,
-    /// By their numbers, from 1.
-    pub refused: [u64; MOST_NUMBER],
-    /// By row and column.
-    pub cells: [[u64; COLUMNS.len()]; ROWS],
-}
+/// The words of a report.
+#[derive(Clone, PartialEq, Debug)]
+pub struct Numbers(pub [u64; word::ALL]);
 
 impl Numbers {
+    pub const NONE: Numbers = Numbers([0; word::ALL]);
+
     /// Counts a request once: under its command and result, or under its refusal.
     pub fn count(&mut self, request: &[u8], done: &Done, slip: Slip) {
         let (number, place, length) = parts(done.word);
-        match number {
-            2 if slip.is(Fault::LongPieceNotCounted) => return,
-            0 => self.answered += 1,
-            _ => self.refused[number as usize - 1] += 1,
-        }
         match slip.0 {
-            Some(Fault::RefusedNotRead) => self.read += (number == 0) as u64,
-            Some(Fault::RefusedAreAnswered) if number != 0 => self.answered += 1,
-            _ => {}
+            Some(Fault::LongPieceNotCounted) if number == 2 => return,
+            Some(Fault::RefusedNotRead) => self.0[word::READ] += (number == 0) as u64,
+            _ => self.0[word::READ] += 1,
         }
-        if !slip.is(Fault::RefusedNotRead) {
-            self.read += 1;
-        }
-        let result = match done.result {
-            Some(result) => result,
-            None if slip.is(Fault::RefusedAnswersMeasured) => return self.largest = self.largest.max(length),
-            None => return,
+        self.0[word::ANSWERED + number as usize] += 1;
+        let result = match (done.result, slip.0) {
+            (Some(result), _) => result,
+            (None, Some(Fault::RefusedAreAnswered)) => return self.0[word::ANSWERED] += 1,
+            (None, Some(Fault::RefusedAnswersMeasured)) => return self.measure(length),
+            (None, _) => return,
         };
         if let (Some(row), Some(column)) = (row(Message(request), result, slip), column(result, slip)) {
-            self.cells[row][column] += 1;
+            self.0[word::CELLS + COLUMNS.len() * row + column] += 1;
         }
-        self.largest = match slip.0 {
-            Some(Fault::LastAnswerTold) => length,
-            Some(Fault::SmallestAnswerTold) if self.largest != 0 => self.largest.min(length),
-            Some(Fault::AnswersSummed) => self.largest + length,
-            Some(Fault::LargestWithPlace) => self.largest.max(place << 32 | length),
-            Some(Fault::LargestRequestTold) => self.largest.max(request.len() as u64),
-            _ => self.largest.max(length),
-        };
+        let largest = self.0[word::LARGEST];
+        match slip.0 {
+            Some(Fault::LastAnswerTold) => self.0[word::LARGEST] = length,
+            Some(Fault::SmallestAnswerTold) if largest != 0 => self.0[word::LARGEST] = largest.min(length),
+            Some(Fault::AnswersSummed) => self.0[word::LARGEST] += length,
+            Some(Fault::LargestWithPlace) => self.measure(place << 32 | length),
+            Some(Fault::LargestRequestTold) => self.measure(request.len() as u64),
+            _ => self.measure(length),
+        }
     }
 
-    /// The words of the report.
-    pub fn words(&self, slip: Slip) -> [u64; word::ALL] {
-        let mask = match slip.0 {
-            Some(Fault::CountsIn8Bits) => 0xFF,
-            Some(Fault::CountsIn16Bits) => 0xFFFF,
-            _ => u64::MAX,
-        };
-        let mut words = [0; word::ALL];
-        words[word::READ] = self.read & mask;
-        words[word::STOPPED] = self.stopped & if slip.is(Fault::StoppedIn16Bits) { 0xFFFF } else { u64::MAX };
-        words[word::ALTERED] = self.altered & mask;
-        words[word::LARGEST] = self.largest;
-        words[word::ANSWERED] = if slip.is(Fault::AnsweredIsRead) { self.read } else { self.answered & mask };
-        for (n, count) in self.refused.iter().enumerate() {
-            let at = word::ANSWERED + 1 + if slip.is(Fault::RefusalsOneOn) { (n + 1) % MOST_NUMBER } else { n };
-            words[at] = count & mask;
-        }
-        for (row, cells) in self.cells.iter().enumerate() {
-            for (column, count) in cells.iter().enumerate() {
-                let at = match slip.0 {
-                    Some(Fault::ColumnsBeforeRows) => ROWS * column + row,
-                    Some(Fault::RestFirst) => COLUMNS.len() * ((row + 1) % ROWS) + column,
-                    _ => COLUMNS.len() * row + column,
-                };
-                words[word::CELLS + at] = count & mask;
-            }
-        }
-        words
+    fn measure(&mut self, length: u64) {
+        self.0[word::LARGEST] = self.0[word::LARGEST].max(length);
     }
 
     /// The numbers that a report holds.
     pub fn of(report: &[u8]) -> Numbers {
-        let word = |at: usize| report[8 * at..][..8].iter().fold(0, |word, byte| word << 8 | u64::from(*byte));
-        let mut numbers = Numbers {
-            read: word(word::READ),
-            stopped: word(word::STOPPED),
-            altered: word(word::ALTERED),
-            largest: word(word::LARGEST),
-            answered: word(word::ANSWERED),
-            ..Numbers::default()
-        };
-        numbers.refused.iter_mut().enumerate().for_each(|(n, count)| *count = word(word::ANSWERED + 1 + n));
-        for (row, cells) in numbers.cells.iter_mut().enumerate() {
-            cells
-                .iter_mut()
-                .enumerate()
-                .for_each(|(column, count)| *count = word(word::CELLS + COLUMNS.len() * row + column));
+        let mut numbers = Numbers::NONE;
+        for (number, bytes) in numbers.0.iter_mut().zip(report.chunks_exact(8)) {
+            *number = bytes.iter().fold(0, |word, byte| word << 8 | u64::from(*byte));
         }
         numbers
+    }
+}
+
+/// What a word of the report counts.
+pub fn name(at: usize) -> String {
+    match at {
+        word::READ => "requests read".to_string(),
+        word::STOPPED => "the byte where reading stopped".to_string(),
+        word::ALTERED => "records altered".to_string(),
+        word::LARGEST => "the largest answer".to_string(),
+        word::ANSWERED => "answered".to_string(),
+        _ if at < word::CELLS => format!("refused {}", at - word::ANSWERED),
+        _ => {
+            let cell = at - word::CELLS;
+            format!("{}: {}", row_name(cell / COLUMNS.len()), COLUMNS[cell % COLUMNS.len()])
+        }
+    }
+}
+
+pub fn row_name(row: usize) -> String {
+    match row {
+        REST => "other commands".to_string(),
+        _ => (300 + row).to_string(),
     }
 }
 

@@ -30,6 +30,7 @@ pub fn next(file: &[u8], at: usize, slip: Slip) -> Next<'_> {
     }
     let length = match slip.0 {
         Some(Fault::PieceLengthIn16Bits) => word_at(left, 0) & 0xFFFF,
+        Some(Fault::PieceLengthIn23Bits) => word_at(left, 0) & 0x7F_FFFF,
         Some(Fault::PieceLengthWithVersion) => word_at(left, 0),
         _ => word_at(left, 0) & 0xFF_FFFF,
     } as usize;

@@ -2,10 +2,10 @@
 
 use std::collections::BTreeSet;
 
-use crate::block::{word_at, BLOCK};
+use crate::block::word_at;
 use crate::cases::{Case, Outcome, Slice};
 use crate::gen::reports::NOTES;
-use crate::report::{next, Next, Numbers, COLUMNS, LEAST_REPORT, REST};
+use crate::report::{differing, name, next, row_name, word, Next, Numbers, LEAST_REPORT, REST};
 use crate::serve::{call, parts};
 use crate::slip::Slip;
 
@@ -17,21 +17,18 @@ pub fn rows(case: &Case, outcome: &Outcome) -> Vec<String> {
         let nearly = if area.len() + 8 > LEAST_REPORT { ", nearly long enough" } else { "" };
         return vec![format!("refused 15{nearly}")];
     }
-    let numbers = Numbers::of(&area);
+    let Numbers(words) = Numbers::of(&area);
+    let read = words[word::READ];
     let mut rows = vec![
-        format!("ends: {}", ending(&requests, number, numbers.stopped as usize)),
-        format!("read: {}", size(numbers.read)),
+        format!("ends: {}", ending(&requests, number, words[word::STOPPED] as usize)),
+        format!("read: {}", size(read)),
     ];
-    let refused = numbers.refused.iter().enumerate().filter(|(_, count)| **count > 0);
-    rows.extend(refused.map(|(n, _)| format!("refused {} in it", n + 1)));
-    for (row, cells) in numbers.cells.iter().enumerate() {
-        let there = COLUMNS.iter().zip(cells).filter(|(_, count)| **count > 0);
-        rows.extend(there.map(|(code, _)| cell(row, &code.to_string())));
-    }
+    let counted = (word::ANSWERED + 1..word::ALL).filter(|at| words[*at] > 0);
+    rows.extend(counted.map(|at| if at < word::CELLS { name(at) + " in it" } else { name(at) }));
     if area.len() > LEAST_REPORT {
         rows.push("a longer report area".to_string());
     }
-    if numbers.read < 1000 {
+    if read < 1000 {
         rows.extend(of_requests(case));
     }
     rows
@@ -61,13 +58,6 @@ fn size(read: u64) -> &'static str {
     }
 }
 
-fn cell(row: usize, result: &str) -> String {
-    match row {
-        REST => format!("other commands: {result}"),
-        _ => format!("{}: {result}", 300 + row),
-    }
-}
-
 /// What single requests of the file do.
 fn of_requests(case: &Case) -> BTreeSet<String> {
     let held = |slice| case.held(slice).into_owned();
@@ -78,13 +68,13 @@ fn of_requests(case: &Case) -> BTreeSet<String> {
         at += piece.len();
         let before = (table.clone(), vectors.clone());
         let done = call(piece, &mut table, &profile, &mut vectors, &mut buffer, Slip::NONE);
-        let both = before.0.chunks(BLOCK).zip(table.chunks(BLOCK)).enumerate();
-        let altered: Vec<usize> = both.filter(|(_, (old, new))| old != new).map(|(block, _)| block).collect();
+        let altered: Vec<usize> = differing(&before.0, &table).collect();
         let (number, place, length) = parts(done.word);
         let again = altered.iter().filter(|block| !ever.insert(**block)).count() > 0;
         let shown = [
             ("a record altered", altered.len() == 1),
             ("records altered", altered.len() > 1),
+            ("over 255 records altered", altered.len() > 255),
             ("a record altered again", again),
             ("a record rewritten to what it was", done.rewritten > altered.len()),
             ("vectors marked and no record altered", before.1 != vectors && altered.is_empty()),
@@ -131,11 +121,12 @@ pub fn wanted() -> Vec<(String, u64)> {
     {
         let general = if row == REST { "B3001 B3008 B5011" } else { everywhere };
         let results = results.split_whitespace().chain(general.split_whitespace());
-        wanted.extend(results.map(|result| (cell(row, result), 1)));
+        wanted.extend(results.map(|result| (format!("{}: {result}", row_name(row)), 1)));
     }
     for what in [
         "a record altered",
         "records altered",
+        "over 255 records altered",
         "a record altered again",
         "a record rewritten to what it was",
         "vectors marked and no record altered",
@@ -146,5 +137,6 @@ pub fn wanted() -> Vec<(String, u64)> {
         wanted.push((format!("a request: {what}"), 1));
     }
     wanted.extend(NOTES.map(|note| (format!("made by: {note}"), 1)));
+    wanted.push(("made by: a request of 16 MiB".to_string(), 20));
     wanted
 }

@@ -16,7 +16,7 @@ use crate::table::Table;
 use month::{Files, Month};
 
 /// What a case may be noted as.
-pub const NOTES: [&str; 17] = [
+pub const NOTES: [&str; 18] = [
     "right",
     "a twist",
     "the same again",
@@ -34,6 +34,7 @@ pub const NOTES: [&str; 17] = [
     "damaged table",
     "damaged vectors",
     "some hundred headers",
+    "some hundred records",
 ];
 
 pub fn case(rng: &mut Rng) -> Made {
@@ -42,6 +43,12 @@ pub fn case(rng: &mut Rng) -> Made {
     }
     if rng.once_in(150) {
         return headers(rng, 256, "some hundred headers");
+    }
+    if rng.once_in(100) {
+        return records(rng);
+    }
+    if rng.once_in(4000) {
+        return longest(rng);
     }
     let mut notes = vec![];
     let records = if rng.once_in(30) { 0 } else { rng.between(1, 8) };
@@ -82,9 +89,33 @@ fn headers(rng: &mut Rng, count: usize, note: &'static str) -> Made {
     for _ in 0..count + rng.below(50) {
         requests.extend(rng.pick(&some));
     }
-    let files = Files { vectors: vec![], ..month.came };
-    let files = [files.table, files.profile, files.vectors];
-    let case = Case::report(rng.byte(), requests, files, LEAST_BUFFER, LEAST_REPORT);
+    plain(rng, requests, Files { vectors: vec![], ..month.came }, note)
+}
+
+/// Removals of some hundred records at once.
+fn records(rng: &mut Rng) -> Made {
+    let mut month = Month::of_one(rng);
+    for _ in 0..rng.between(1, 4) {
+        let piece = pieces::all_at_once(rng, &month);
+        month.add(piece);
+    }
+    plain(rng, month.requests, month.came, "some hundred records")
+}
+
+/// A request of about the greatest length that a header can say, between others.
+fn longest(rng: &mut Rng) -> Made {
+    let mut month = Month::new(rng, 2);
+    for between in [false, true, false] {
+        let piece = if between { pieces::longest(rng) } else { pieces::right(rng, &month) };
+        month.add(piece);
+    }
+    plain(rng, month.requests, month.came, "a request of 16 MiB")
+}
+
+/// With room for all.
+fn plain(rng: &mut Rng, requests: Vec<u8>, files: Files, note: &'static str) -> Made {
+    let Files { table, profile, vectors } = files;
+    let case = Case::report(rng.byte(), requests, [table, profile, vectors], LEAST_BUFFER, LEAST_REPORT);
     Made { case, notes: vec![note], damaged: None }
 }
 

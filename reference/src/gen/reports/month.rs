@@ -1,15 +1,16 @@
 //! A month in the making: the files as they came, and as the requests so far left them.
 
-use crate::gen::model::TableModel;
-use crate::gen::tables;
+use crate::gen::model::{RecordModel, TableModel};
+use crate::gen::tables::{self, Sound};
 use crate::gen::vectors::{self, model};
 use crate::refuse::LEAST_BUFFER;
 use crate::rng::Rng;
 use crate::serve::serve;
 use crate::slip::Slip;
-use crate::table::Table;
+use crate::table::{Table, LONGEST_SERVER_NAME};
 
 /// Table, profile and vector file, as they are lent.
+#[derive(Clone)]
 pub struct Files {
     pub table: Vec<u8>,
     pub profile: Vec<u8>,
@@ -37,9 +38,22 @@ impl Month {
         };
         let most = if rng.coin() { vectors.len() } else { 6 };
         let vectors = &vectors[..vectors.len().min(most)];
-        let files =
-            || Files { table: sound.model.encode(), profile: sound.profile.clone(), vectors: model::encode(vectors) };
-        Month { came: files(), now: files(), buffer: vec![0; LEAST_BUFFER], requests: Vec::new(), earlier: Vec::new() }
+        Month::over(Files { table: sound.model.encode(), profile: sound.profile, vectors: model::encode(vectors) })
+    }
+
+    /// Some hundred records of one subscription, all of which a removal can leave; no vectors.
+    pub fn of_one(rng: &mut Rng) -> Month {
+        let Sound { mut model, profile } = tables::sound(rng, 1);
+        let server_name = vec![b's'; rng.between(1, LONGEST_SERVER_NAME)];
+        let pattern = RecordModel { server_name, ..model.records[0].clone() };
+        let record =
+            |n| RecordModel { public: format!("{n:03}").into_bytes(), state: 1 + n as u8 % 2, ..pattern.clone() };
+        model.records = (0..rng.between(250, 520)).map(record).collect();
+        Month::over(Files { table: model.encode(), profile, vectors: vec![] })
+    }
+
+    fn over(came: Files) -> Month {
+        Month { now: came.clone(), came, buffer: vec![0; LEAST_BUFFER], requests: Vec::new(), earlier: Vec::new() }
     }
 
     /// The table as it is now.

@@ -4,7 +4,7 @@ use super::month::Month;
 use crate::gen::asks;
 use crate::gen::tables::FAR;
 use crate::gen::twists;
-use crate::kinds::APPLICATION;
+use crate::kinds::{Command, APPLICATION};
 use crate::message::{E, P, R};
 use crate::refuse::MOST_REQUEST;
 use crate::rng::Rng;
@@ -29,6 +29,18 @@ pub fn right(rng: &mut Rng, month: &Month) -> Vec<u8> {
         _ => asks::any(rng, &mut table),
     };
     request.encode()
+}
+
+/// A removal of all records of the first one's subscription, or a registration of the first.
+pub fn all_at_once(rng: &mut Rng, month: &Month) -> Vec<u8> {
+    let first = month.table().records.swap_remove(0);
+    let name = if first.server_name.is_empty() { b"s".to_vec() } else { first.server_name };
+    let (asked_type, identities) = match rng.below(4) {
+        0 => (1, vec![first.public]),
+        _ => (*rng.pick(&asks::REMOVALS), vec![]),
+    };
+    let mut own = asks::assignment(rng, asked_type, identities, Some(first.private), name);
+    asks::surround(rng, Command::ServerAssignment, &mut own).encode()
 }
 
 fn twisted(rng: &mut Rng, month: &Month) -> Vec<u8> {
@@ -84,6 +96,14 @@ fn long(rng: &mut Rng, month: &Month) -> Vec<u8> {
         _ => MOST_REQUEST + rng.between(1, 600),
     };
     bytes.resize(length, 0);
+    told(&mut bytes, 0);
+    bytes
+}
+
+/// As long as 24 bits can say, or a byte less.
+pub fn longest(rng: &mut Rng) -> Vec<u8> {
+    let mut bytes = header(rng);
+    bytes.resize(0xFF_FFFF - rng.below(2), 0);
     told(&mut bytes, 0);
     bytes
 }
