@@ -187,7 +187,7 @@ definitions-check: $(BINARY)
 
 # Writes crates/cases/stdin and stdout anew: what the gate's program `cases` runs, and what the independent program says
 # of it.
-#: cases              chooses anew the cases that the gate runs, two minutes
+#: cases              chooses anew the cases that the gate runs, three minutes
 cases: $(BINARY)
 	tests/cases.py $(BINARY) crates/cases $(REPORT:ndushavire_report=reports)
 
