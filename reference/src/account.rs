@@ -68,7 +68,7 @@ pub fn outcomes(case: &Case, own: &Outcome, given: &Outcome) {
             println!("  bytes around the {} were altered", slice.name());
         }
         if given.altered & itself != 0 {
-            println!("  the {} was altered", slice.name());
+            println!("  altered, though lent to be read: {}", slice.name());
         }
         match (case.entry.change(own, slice), case.entry.change(given, slice)) {
             (Some(own), Some(given)) if own != given => changed(&slice.name(), &case.held(slice), own, given),

@@ -37,16 +37,13 @@ impl Run {
 }
 
 fn run(requests: &[u8], table: &[u8], vectors: &[u8], room: usize, area: usize) -> Run {
-    let (mut table, mut vectors) = (table.to_vec(), vectors.to_vec());
-    let (mut buffer, mut area) = (vec![0xA5; room], vec![0x5A; area]);
-    let lent = Lent {
-        requests,
-        table: &mut table,
-        profile: b"",
-        vectors: &mut vectors,
-        buffer: &mut buffer,
-        report: &mut area,
-    };
+    run_over(requests, table, b"", vectors, vec![0xA5; room], area)
+}
+
+fn run_over(requests: &[u8], table: &[u8], profile: &[u8], vectors: &[u8], mut buffer: Vec<u8>, area: usize) -> Run {
+    let (mut table, mut vectors, mut area) = (table.to_vec(), vectors.to_vec(), vec![0x5A; area]);
+    let lent =
+        Lent { requests, table: &mut table, profile, vectors: &mut vectors, buffer: &mut buffer, report: &mut area };
     let (word, _) = report(lent, Slip::NONE);
     Run { word, table, vectors, buffer, area }
 }
@@ -358,6 +355,35 @@ fn records_altered_are_counted_for_each_request() {
 fn counts_pass_a_byte() {
     let done = plain(&message(302, &[]).repeat(300));
     assert_eq!(done.told(), BTreeMap::from([(0, 300), (1, 6000), (3, 120), (4, 300), (20 + 50 + 8, 300)]));
+}
+
+/// A report of two files, the second over what the first left, is that of both laid end to end.
+#[test]
+fn two_reports_in_turn_are_one() {
+    let mut tried = 0;
+    for number in 0..100 {
+        let case = make(Stream::Reports, 32, number).case;
+        let held = |slice| case.held(slice).into_owned();
+        let (requests, profile) = (held(Slice::Requests), held(Slice::Profile));
+        let (table, vectors, room) = (held(Slice::Table), held(Slice::Vectors), held(Slice::Buffer).len());
+        if requests.len() < 20 || requests.len() > 30_000 || table.len() > 100 * 512 {
+            continue;
+        }
+        let cut = u32::from_be_bytes([0, requests[1], requests[2], requests[3]]) as usize;
+        if cut < 20 || cut > requests.len() {
+            continue;
+        }
+        let whole = run_over(&requests, &table, &profile, &vectors, vec![0xA5; room], AREA);
+        let first = run_over(&requests[..cut], &table, &profile, &vectors, vec![0xA5; room], AREA);
+        let then = run_over(&requests[cut..], &first.table, &profile, &first.vectors, first.buffer.clone(), AREA);
+        assert_eq!((first.word, then.word), (0, whole.word), "case {number}");
+        for (at, ((one, other), both)) in first.words().iter().zip(then.words()).zip(whole.words()).enumerate() {
+            assert_eq!(if at == 3 { *one.max(&other) } else { one + other }, both, "case {number}, word {at}");
+        }
+        assert!(then.table == whole.table && then.vectors == whole.vectors && then.buffer == whole.buffer);
+        tried += 1;
+    }
+    assert!(tried > 40, "{tried}");
 }
 
 /// Counted again from the answers' bytes, one call after the other.
