@@ -13,7 +13,7 @@ import collections, pathlib, struct, sys
 import streams
 from streams import answer, avps, made, outcomes, run
 
-MOST = 950_000  # bytes of cases
+MOST = 930_000  # bytes of cases
 CX = 10415
 RULES = tuple(('B', n) for n in (5001, 5004, 5014, 3009, 5011, 3008, 3001, 3007))
 KNOWN = {(n, 0) for n in (263, 260, 277, 264, 296, 293, 283, 1, 284, 282)} | {(n, CX) for n in (601, 600, 623, 602, 614, 624, 607, 612)}
