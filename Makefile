@@ -127,9 +127,7 @@ ifndef SEED
 SEED := $(shell od -An -N4 -tu4 /dev/urandom | tr -d ' ')
 endif
 DRIVER = $(RUN) target/c99/driver
-# The report is compared where the header has it.
-REPORT := $(shell grep -o -w -m 1 ndushavire_report $(HEADER))
-KINDS := tables vectors calls $(REPORT:ndushavire_report=reports) demand3 runs
+KINDS := tables vectors calls reports demand3 runs
 COUNT_tables := 200000
 COUNT_vectors := 100000
 COUNT_calls := 100000
@@ -141,7 +139,7 @@ COUNT_runs := 2000
 cited: $(ARCHIVE) $(PROGRAMS)
 	RUN='$(RUN)' tests/cited.sh target/test/cited $(X86_CC)
 
-#: differential       the library beside the independent program on 420,000 new cases and 2,000 runs of calls; SEED=N runs a seed again
+#: differential       the library beside the independent program on 440,000 new cases and 2,000 runs of calls; SEED=N runs a seed again
 differential: target/c99/driver $(BINARY)
 	@for of in $(foreach kind,$(KINDS),$(kind):$(COUNT_$(kind))); do \
 	    echo "differential run: seed $(SEED), $${of#*:} $${of%:*}"; \
@@ -189,7 +187,7 @@ definitions-check: $(BINARY)
 # of it.
 #: cases              chooses anew the cases that the gate runs, three minutes
 cases: $(BINARY)
-	tests/cases.py $(BINARY) crates/cases $(REPORT:ndushavire_report=reports)
+	tests/cases.py $(BINARY) crates/cases
 
 $(ARCHIVE): $(PROVED)
 	rt staticlib ndushavire
@@ -236,7 +234,7 @@ target/c++/store: tests/store.c examples/store.h examples/load.h
 
 target/c99/driver: tests/driver.c $(HEADER) $(ARCHIVE)
 	mkdir -p $(@D)
-	$(X86_CC) -std=c99 $(STRICT) $(REPORT:ndushavire_report=-DREPORT) -o $@ $< $(ARCHIVE)
+	$(X86_CC) -std=c99 $(STRICT) -o $@ $< $(ARCHIVE)
 
 target/c99/overstep: tests/overstep.c tests/driver.c $(HEADER) $(ARCHIVE)
 	mkdir -p $(@D)

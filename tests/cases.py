@@ -1,6 +1,5 @@
 #!/usr/bin/env python3
-"""cases.py REFERENCE CRATE [KIND..]: writes CRATE/stdin, the cases that the program `cases` runs, and CRATE/stdout, their outcomes.
-A KIND is one besides tables, vectors and calls.
+"""cases.py REFERENCE CRATE: writes CRATE/stdin, the cases that the program `cases` runs, and CRATE/stdout, their outcomes.
 
 Both are the independent program's: it makes the cases and says their outcomes. Chosen are small cases: for each of its deliberate
 faults one that shows it; of each result one, and then more: a refusal with what it returns besides; a command with its result; of a
@@ -79,10 +78,10 @@ def small(case):
     return files and (request <= 900 or request > 16384)
 
 
-def fitting(reference, kinds):
+def fitting(reference):
     """Cases that fit, the smallest first."""
     found = []
-    few = [(kind, (1,), 4000) for kind in ('tables', 'vectors', *kinds)]
+    few = [(kind, (1,), 4000) for kind in ('tables', 'vectors', 'reports')]
     for kind, seeds, count in (*few, ('calls', range(1, 6), 20000)):
         for seed in seeds:
             found += [case for case in streams.cases(made(reference, kind, seed, count)) if fits(case)]
@@ -112,9 +111,9 @@ def telling(reference, found, told):
             yield [case]
 
 
-def chosen(reference, kinds):
+def chosen(reference):
     """The smallest case for each result and for each fault, then for each result with what the answer carries, and more while there is room."""
-    found = fitting(reference, kinds)
+    found = fitting(reference)
     told = list(outcomes(run(reference, 'outcomes', given=b''.join(case.whole for case in found))))
     results, rows = collections.defaultdict(list), collections.defaultdict(list)
     for case, outcome in zip(found, told):
@@ -188,7 +187,7 @@ def real(folder):
 
 def main():
     reference, crate = sys.argv[1], pathlib.Path(sys.argv[2])
-    taken = chosen(reference, sys.argv[3:])
+    taken = chosen(reference)
     sent = list(real(pathlib.Path(__file__).parent / 'captured'))
     stdin = b''.join(taken + sent)
     (crate / 'stdin').write_bytes(stdin)
