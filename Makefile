@@ -127,10 +127,11 @@ ifndef SEED
 SEED := $(shell od -An -N4 -tu4 /dev/urandom | tr -d ' ')
 endif
 DRIVER = $(RUN) target/c99/driver
-KINDS := tables vectors calls demand3 runs
+KINDS := tables vectors calls reports demand3 runs
 COUNT_tables := 200000
 COUNT_vectors := 100000
 COUNT_calls := 100000
+COUNT_reports := 20000
 COUNT_demand3 := 20000
 COUNT_runs := 2000
 
@@ -138,7 +139,7 @@ COUNT_runs := 2000
 cited: $(ARCHIVE) $(PROGRAMS)
 	RUN='$(RUN)' tests/cited.sh target/test/cited $(X86_CC)
 
-#: differential       the library beside the independent program on 420,000 new cases and 2,000 runs of calls; SEED=N runs a seed again
+#: differential       the library beside the independent program on 440,000 new cases and 2,000 runs of calls; SEED=N runs a seed again
 differential: target/c99/driver $(BINARY)
 	@for of in $(foreach kind,$(KINDS),$(kind):$(COUNT_$(kind))); do \
 	    echo "differential run: seed $(SEED), $${of#*:} $${of%:*}"; \
@@ -163,7 +164,7 @@ soak: target/c99/driver $(BINARY)
 
 # After how many cases each deliberate fault of the independent program shows; what the cases are made of.
 COUNT_mutants := 100000
-#: mutants            whether 495 deliberate faults would be noticed, and after how many cases
+#: mutants            whether 579 deliberate faults would be noticed, and after how many cases
 mutants: $(BINARY)
 	@echo "mutants: seed $(SEED)"
 	$(BINARY) mutants --seed $(SEED) --count $(COUNT_mutants)
@@ -174,6 +175,7 @@ stats: $(BINARY)
 	$(BINARY) stats --kind tables --seed $(SEED) --count $(COUNT_tables)
 	$(BINARY) stats --kind vectors --seed $(SEED) --count $(COUNT_vectors)
 	$(BINARY) stats --kind calls --seed $(SEED) --count $(COUNT_calls)
+	$(BINARY) stats --kind reports --seed $(SEED) --count $(COUNT_reports)
 
 # The definitions beside the independent program: antt computes each case, which takes seconds; 24 make a quick trial.
 COUNT_DEFINITIONS := 300
@@ -183,7 +185,7 @@ definitions-check: $(BINARY)
 
 # Writes crates/cases/stdin and stdout anew: what the gate's program `cases` runs, and what the independent program says
 # of it.
-#: cases              chooses anew the cases that the gate runs, two minutes
+#: cases              chooses anew the cases that the gate runs, three minutes
 cases: $(BINARY)
 	tests/cases.py $(BINARY) crates/cases
 
