@@ -30,7 +30,7 @@ HEADER := include/ndushavire.h
 BINARY := reference/target/release/reference
 PROVED := crates.txt $(shell find crates -name '*.rt' -o -name '*.antt' -o -type d)
 # x86-64 code as well, and nothing of theirs is static: installed on x86-64 alone.
-PROGRAMS := $(if $(filter x86_64,$(MACHINE)),target/bin/answer target/bin/tablecheck target/c99/check)
+PROGRAMS := $(if $(filter x86_64,$(MACHINE)),target/bin/answer target/bin/tablecheck target/c99/check target/c99/report)
 REFERENCE := $(shell find reference -path reference/target -prune -o -name '*.rs' -print -o -name 'Cargo.*' -print)
 
 #: help               this list
@@ -79,11 +79,12 @@ pages: target/c/maketable target/c/showtable
 header: target/c/header target/c++/header
 	for header in $^; do $$header; done
 
-#: examples           the C examples: worked answers, refusals, AVPs at fault, requests that real software sent
-examples: $(foreach mode,c99 cxx,$(addprefix target/$(mode)/,check decide)) target/c/fault target/c++/fault target/c/maketable $(BINARY)
+#: examples           the C examples: worked answers, refusals, AVPs at fault, requests that real software sent, the month's numbers
+examples: $(foreach mode,c99 cxx,$(addprefix target/$(mode)/,check decide report)) target/c/fault target/c++/fault target/c/maketable $(BINARY)
 	for fault in target/c/fault target/c++/fault; do $$fault; done
 	RUN='$(RUN)' tests/decide.sh target/test/decide target/c/maketable target/c99/decide target/cxx/decide
 	RUN='$(RUN)' tests/captured.sh target/test/captured target/c/maketable $(BINARY) target/c99/decide target/cxx/decide
+	RUN='$(RUN)' tests/report.sh target/test/report target/c/maketable target/c99/report target/cxx/report
 
 #: tables             tables and vector files made from text, damaged ones, and the switch to new ones as the manual pages have it
 tables: examples target/c/showtable
@@ -260,16 +261,18 @@ TIMED := target/native/libndushavire.a
 endif
 CHECKED := 1-short 16-short 300-short 4096-short 4096-long
 DECIDED := 1-short 16-short 300-short 4096-short 1-tiny 16-tiny 300-tiny 4096-tiny
+REPORTED := 16-short 300-short 4096-short
 # A program's arguments: each table, its profile file and how its names are.
 samples = $(foreach size,$(1),target/bench/$(size).table target/bench/$(size).profile $(word 2,$(subst -, ,$(size))))
 
 #: bench              times beside the aims, a minute once their parts are made; a missed aim is marked
-bench: $(addprefix target/bench/,check vectors decide) $(patsubst %,target/bench/%.table,$(sort $(CHECKED) $(DECIDED)))
+bench: $(addprefix target/bench/,check vectors decide report) $(patsubst %,target/bench/%.table,$(sort $(CHECKED) $(DECIDED)))
 	@{ $(CC) --version | head -n 1; \
 	   target/bench/check $(call samples,$(CHECKED)); \
 	   target/bench/vectors $(call samples,$(CHECKED)); \
-	   target/bench/decide $(call samples,$(DECIDED)); } | tee target/bench/report
-	@bench/summary.sh target/bench/report
+	   target/bench/decide $(call samples,$(DECIDED)); \
+	   target/bench/report $(call samples,$(REPORTED)); } | tee target/bench/figures
+	@bench/summary.sh target/bench/figures
 
 #: stack              how much stack a call takes
 stack: target/c99/stack $(DECIDED:%=target/bench/%.table)
@@ -295,6 +298,9 @@ target/bench/check target/bench/vectors: target/bench/%: bench/%.c $(TIMER) $(SU
 
 target/bench/decide: bench/decide.c $(TIMER)
 	$(CC) -std=c99 $(STRICT) -o $@ $< $(TIMED) target/bench/libreference_c.a -lpthread -ldl -lm
+
+target/bench/report: bench/report.c $(TIMER)
+	$(CC) -std=c99 $(STRICT) -o $@ $< $(TIMED)
 
 target/c99/stack: bench/stack.c bench/requests.h bench/samples.h bench/vectors.h examples/load.h $(HEADER) $(ARCHIVE)
 	mkdir -p $(@D)
