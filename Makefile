@@ -8,7 +8,7 @@ SHELL := /bin/bash
 .NOTPARALLEL:
 export PYTHONDONTWRITEBYTECODE := 1
 .PHONY: help run test clean fmt kit pages header examples tables texts aims stores programs reference installs cited bench stack installable install uninstall
-.PHONY: unsound differential noticed soak mutants stats definitions-check cases
+.PHONY: unsound reports differential noticed soak mutants stats definitions-check cases
 
 MACHINE := $(shell uname -m)
 ifeq ($(MACHINE),x86_64)
@@ -60,7 +60,7 @@ target/bin/%: $(PROVED)
 	touch $@
 
 #: test               every test from fmt to differential below, some 3 minutes once the library is proved
-test: fmt kit pages header examples tables texts aims stores programs unsound reference installs cited noticed differential
+test: fmt kit pages header examples tables texts aims stores programs unsound reports reference installs cited noticed differential
 
 #: fmt                whether crates/ is in the kit's layout
 fmt:
@@ -114,6 +114,15 @@ programs: target/bin/answer target/bin/tablecheck target/c/maketable
 #: unsound            vector files bad in one place: the check names the block, every decision is refused by 6
 unsound: target/c99/unsound
 	$(RUN) $<
+
+COUNT_reports := 500
+#: reports            the report beside as many decisions, over 500 random files of requests; SEED=N runs a seed again
+reports: target/c99/month target/c/maketable
+	@mkdir -p target/test/reports
+	target/c/maketable table examples/households.txt >target/test/reports/table
+	target/c/maketable profile examples/households.txt >target/test/reports/profile
+	target/c/maketable vectors examples/vectors.txt >target/test/reports/vectors
+	$(RUN) $< $(addprefix target/test/reports/,table profile vectors) $(SEED) $(COUNT_reports)
 
 #: reference          the independent program's own tests
 reference:
@@ -240,6 +249,10 @@ target/c99/overstep: tests/overstep.c tests/driver.c $(HEADER) $(ARCHIVE)
 	$(X86_CC) -std=c99 $(STRICT) -Wl,--wrap=ndushavire_check,--wrap=ndushavire_check_vectors -o $@ tests/overstep.c tests/driver.c $(ARCHIVE)
 
 target/c99/unsound: tests/unsound.c bench/requests.h $(HEADER) $(ARCHIVE)
+	mkdir -p $(@D)
+	$(X86_CC) -std=c99 $(STRICT) -o $@ $< $(ARCHIVE)
+
+target/c99/month: tests/month.c bench/requests.h examples/load.h $(HEADER) $(ARCHIVE)
 	mkdir -p $(@D)
 	$(X86_CC) -std=c99 $(STRICT) -o $@ $< $(ARCHIVE)
 
