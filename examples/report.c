@@ -64,31 +64,12 @@ static void print_count(uint64_t count) {
 
 /* What a column's result is called in RFC 3588, and for X in the standard of Cx. */
 static const char *meaning(uint32_t column) {
-    static const char *const names[NDUSHAVIRE_REPORT_COLUMNS] = {"success",
-                                                                 "command unsupported",
-                                                                 "application unsupported",
-                                                                 "invalid header bits",
-                                                                 "invalid AVP bits",
-                                                                 "AVP unsupported",
-                                                                 "authorization rejected",
-                                                                 "invalid AVP value",
-                                                                 "missing AVP",
-                                                                 "AVP occurs too many times",
-                                                                 "unsupported version",
-                                                                 "unable to comply",
-                                                                 "invalid AVP length",
-                                                                 "first registration",
-                                                                 "subsequent registration",
-                                                                 "unregistered service",
-                                                                 "server name not stored",
-                                                                 "user unknown",
-                                                                 "identities do not match",
-                                                                 "identity not registered",
-                                                                 "roaming not allowed",
-                                                                 "identity already registered",
-                                                                 "authentication scheme not supported",
-                                                                 "error in assignment type",
-                                                                 "feature unsupported"};
+    static const char *const names[NDUSHAVIRE_REPORT_COLUMNS] = {
+        "success", "command unsupported", "application unsupported", "invalid header bits", "invalid AVP bits", "AVP unsupported",
+        "authorization rejected", "invalid AVP value", "missing AVP", "AVP occurs too many times", "unsupported version", "unable to comply",
+        "invalid AVP length", "first registration", "subsequent registration", "unregistered service", "server name not stored", "user unknown",
+        "identities do not match", "identity not registered", "roaming not allowed", "identity already registered",
+        "authentication scheme not supported", "error in assignment type", "feature unsupported"};
     return names[column];
 }
 
