@@ -115,14 +115,14 @@ programs: target/bin/answer target/bin/tablecheck target/c/maketable
 unsound: target/c99/unsound
 	$(RUN) $<
 
-COUNT_reports := 500
+COUNT_months := 500
 #: reports            the report beside as many decisions, over 500 random files of requests; SEED=N runs a seed again
 reports: target/c99/month target/c/maketable
 	@mkdir -p target/test/reports
 	target/c/maketable table examples/households.txt >target/test/reports/table
 	target/c/maketable profile examples/households.txt >target/test/reports/profile
 	target/c/maketable vectors examples/vectors.txt >target/test/reports/vectors
-	$(RUN) $< $(addprefix target/test/reports/,table profile vectors) $(SEED) $(COUNT_reports)
+	$(RUN) $< $(addprefix target/test/reports/,table profile vectors) $(SEED) $(COUNT_months)
 
 #: reference          the independent program's own tests
 reference:

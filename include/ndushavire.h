@@ -94,7 +94,7 @@ uint64_t ndushavire_report(const uint8_t *requests, size_t requests_len, uint8_t
                            const uint8_t *profile, size_t profile_len, uint8_t *vectors, size_t vectors_len,
                            uint8_t *answer, size_t answer_len, uint8_t *report, size_t report_len);
 
-/* The words of a report, each a count of 64 bits, big-endian. Every request read is counted once: an answered one by its
+/* The words of a report, each a number of 64 bits, big-endian. Every request read is counted once: an answered one by its
  * command and its result, a refused one by the refusal. So the answered and the refused ones add up to those read, and the
  * rows' totals to the answered ones. */
 #define NDUSHAVIRE_REPORT_WORDS 145
@@ -121,7 +121,7 @@ static inline uint32_t ndushavire_number(uint64_t word) { return (uint32_t)(word
  * examples/fault.h prints them. Of a fault within a group it is the group's place. Under B5014 the AVP before it may be the one
  * whose length is wrong.
  * It is 0 where no AVP of the request is at fault: under header faults, B5005, X results, whatever a decision says (B5003,
- * B5012, the B5009 of a SAR's second identity), success; under every refusal; and of both checks. */
+ * B5012, the B5009 of a SAR's second identity), success; under every refusal; of both checks, and of a report. */
 static inline uint32_t ndushavire_place(uint64_t word) { return (uint32_t)(word >> 32) & 0xFFFFu; }
 
 /* The answer's length is this part alone: the word of an answer with a place is a far greater number. */

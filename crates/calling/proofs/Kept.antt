@@ -15,7 +15,8 @@ use Rattle.fitting.proofs.Kept.{decide-keeping, decide-vectors}
 use Rattle.fitting.proofs.Tests.{neither}
 use Rattle.calling.specs.Lent.{Lent}
 use Rattle.calling.specs.Trial.{Trial, anyHolds}
-use Rattle.calling.specs.Serve.{Served, smallBuffer, wrongSize, wrongLength, noRequest, isBad, checkOf, checkValue, trials, refused, answered, decided, serve}
+use Rattle.calling.specs.Serve.{Served, smallBuffer, wrongSize, wrongLength, noRequest, isBad, checkOf, checkValue, trials, refused, answered, decided}
+use Rattle.calling.specs.Serve.{serve}
 use Rattle.calling.proofs.Trials.{tried-by}
 
 -- a file that is not bad is sound
@@ -69,7 +70,8 @@ module _ (x : Lent) where
       serve-by (λ s. checkTable (s .table) (length (x .profile)) ≡ checkOf x) (λ r a b. refl)
       (λ k.
       let sound : SoundTable (x .table) (checkValue (checkOf x)) = record { file = length (x .profile); checked = k .table } in
-      keeping-sound (x .table) (decided x .table) (checkValue (checkOf x)) (decide-keeping (x .request) (x .table) (checkValue (checkOf x)) (x .vectors) sound) sound
+      keeping-sound (x .table) (decided x .table) (checkValue (checkOf x))
+      (decide-keeping (x .request) (x .table) (checkValue (checkOf x)) (x .vectors) sound) sound
       ∙ sym (k .table))
 
   pub vectors-checked : checkVectors (serve x .vectors) ≡ checkVectors (x .vectors)

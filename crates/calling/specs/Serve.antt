@@ -92,13 +92,13 @@ answered x d =
 abbrev pub decision : Lent → ℕ → Decision
 decision x count = decide (x .request) (x .table) count (x .vectors)
 
--- "Tried in this order. .. Otherwise the call returns the answer's length"
-unfoldable pub serve : Lent → Served
-serve x = tried (refused x) (answered x (decision x (checkValue (checkOf x)))) (trials x)
-
--- the decision that it answers with, where no refusal is given, and its result
+-- the one that is answered with, where no refusal is given, and its result
 abbrev pub decided : Lent → Decision
 decided x = decision x (checkValue (checkOf x))
 
 abbrev pub resultOf : Lent → Outcome
 resultOf x = decided x .given .verdict .result
+
+-- "Tried in this order. .. Otherwise the call returns the answer's length"
+unfoldable pub serve : Lent → Served
+serve x = tried (refused x) (answered x (decided x)) (trials x)

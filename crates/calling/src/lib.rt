@@ -143,7 +143,7 @@ pub fn call_over(
     over_checked(c, d, req, t, file, v, out)
 }
 
-// "Five refusals of the call. Tried in this order."; "6 .. after 5"
+// "Five refusals of the call"; "Tried in this order."; "6 .. after 5"
 pub fn call(req: &[u8], t: &mut [u8], file: &[u8], v: &mut [u8], out: &mut [u8]) -> Came
     ensures { λ r. ⌜ Leaves (lent (now (req .entry)) (now (t .entry)) (now (file .entry)) (now (v .entry)) (now (out .entry)))
         (serve (lent (now (req .entry)) (now (t .entry)) (now (file .entry)) (now (v .entry)) (now (out .entry))))

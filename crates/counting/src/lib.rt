@@ -16,15 +16,15 @@ pub const WORDS: usize = 145;
 pub const BYTES: usize = 1160;
 
 // The first words: requests read, the byte where reading stopped, records altered, the largest answer, answered.
-pub const READ_AT: usize = 0;
+const READ_AT: usize = 0;
 
 pub const STOPPED_AT: usize = 1;
 
-pub const ALTERED_AT: usize = 2;
+const ALTERED_AT: usize = 2;
 
-pub const LARGEST_AT: usize = 3;
+const LARGEST_AT: usize = 3;
 
-pub const ANSWERED_AT: usize = 4;
+const ANSWERED_AT: usize = 4;
 
 // A refusal by n has word 4 + n. The cells of commands and results come after refusal 15, so many a row.
 const REFUSED_AT: usize = 4;

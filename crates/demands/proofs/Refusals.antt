@@ -19,8 +19,8 @@ use Rattle.calling.specs.Call.{Call}
 use Rattle.calling.specs.Call.{Answered, Refused}
 use Rattle.calling.specs.Lent.{Lent, asking}
 use Rattle.calling.specs.Trial.{Trial, anyHolds}
-use Rattle.calling.specs.Serve.{Served, smallBuffer, wrongSize, wrongLength, noRequest, isBad, unsound, checkOf, trials, refused, answered, decision, checkValue}
-use Rattle.calling.specs.Serve.{serve}
+use Rattle.calling.specs.Serve.{Served, smallBuffer, wrongSize, wrongLength, noRequest, isBad, unsound, checkOf, trials, refused}
+use Rattle.calling.specs.Serve.{answered, decision, checkValue, serve}
 use Rattle.ndushavire.specs.Word.{callNumber, callPlace, callValue, callWord}
 use Rattle.ndushavire.specs.Reads.{Reads}
 use Rattle.calling.proofs.Calls.{size-least, size-most}

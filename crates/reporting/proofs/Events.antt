@@ -33,8 +33,8 @@ module _ (x : Lent) {command : ℕ} (is : command ≡ commandOf (x .request)) wh
   event-is (came.Refused number besides) l = rw (← l .call-is)
 
 -- The same, as the code has it: the checks were made before.
-module _ (req t file v o : List ℕ) {command : ℕ} (is : command ≡ commandOf req) (c : Checked) (checked : c ≡ checkTable t (length file)) (r : Came) {t' v' o' : List ℕ}
-    (l : Leaves (lent req t file v o) (serve (lent req t file v o)) (checkValue c) r t' v' o') where
+module _ (req t file v o : List ℕ) {command : ℕ} (is : command ≡ commandOf req) (c : Checked) (checked : c ≡ checkTable t (length file)) (r : Came)
+    {t' v' o' : List ℕ} (l : Leaves (lent req t file v o) (serve (lent req t file v o)) (checkValue c) r t' v' o') where
   abbrev x : Lent
   x = lent req t file v o
 

@@ -45,8 +45,8 @@ module _ (req t file v o : List ℕ) {c t' v' o' : List ℕ} {at : ℕ} (r : Run
   unfolding wordsOf
   words-are = rw (r .counts-is, counted-counts (row x (requestsOf x)) (row-fits x (requestsOf x)), r .stop-is)
 
-  pub reports-all : (area : List ℕ) {n m : ℕ} {area' : List ℕ} → 1160 ≤ length area → Wrote (bytesOf (set c 1 at)) area area' m → n ≡ cond (eqb at (length req)) 0 7
-      → Reports x area n t' v' o' area'
+  pub reports-all : (area : List ℕ) {n m : ℕ} {area' : List ℕ} → 1160 ≤ length area → Wrote (bytesOf (set c 1 at)) area area' m
+      → n ≡ cond (eqb at (length req)) 0 7 → Reports x area n t' v' o' area'
   unfolding reported ran ended
   reports-all area h w e =
       let q = le-ltb (length area) 1160 h in

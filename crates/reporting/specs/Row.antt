@@ -12,13 +12,13 @@ use Rattle.calling.specs.declared.Came.{Came}
 use Rattle.calling.specs.declared.Came.the-variants as came
 
 -- "records altered, once per request": those whose bytes are others in the table that the call leaves
-abbrev pub alteredBy : Lent → ℕ
-alteredBy x = alteredUpTo (x .table) (serve x .table) (checkValue (checkOf x))
+abbrev pub recordsAltered : Lent → ℕ
+recordsAltered x = alteredUpTo (x .table) (serve x .table) (checkValue (checkOf x))
 
 -- a call as it is counted: an answer by its command and result, a refusal by its number
 abbrev pub eventBy : Lent → Call → Event
 eventBy x (Answered a) =
-    event.Answered (record { command = commandOf (x .request); result = resultOf x; length = a .length; altered = alteredBy x })
+    event.Answered (record { command = commandOf (x .request); result = resultOf x; length = a .length; altered = recordsAltered x })
 eventBy x (Refused number besides) = event.Refused number
 
 unfoldable pub eventOf : Lent → Event

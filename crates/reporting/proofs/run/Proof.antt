@@ -4,7 +4,8 @@ use lib.ListN.{length}
 use Rattle.table.specs.Check.{checkTable}
 use Rattle.vectors.specs.VectorFile.{checkVectors}
 use Rattle.calling.specs.Lent.{lent}
-use Rattle.reporting.proofs.Turns.{Going, going-start, going-stops, going-ends, going-turns, turn-least, turn-within, turn-request, turn-table, turn-vectors}
+use Rattle.reporting.proofs.Turns.{Going, going-start, going-stops, going-ends, going-turns}
+use Rattle.reporting.proofs.Turns.{turn-least, turn-within, turn-request, turn-table, turn-vectors}
 use borrow.Author.Needs.{needs}
 use Rattle.reporting.proofs.run.Statement.{statement}
 use Rattle.reporting.proofs.run.Tie as tie
@@ -39,7 +40,15 @@ run-spec =
     (λ c κs. search (needs, turn-request))
     (λ c. search (needs, turn-within))
     (λ c. search (needs, turn-least, turn-within))
-    (λ c. (search (needs, turn-within), search needs, search needs, search needs, search (needs, turn-table), search (needs, turn-vectors), search (needs, going-turns)))
+    (λ c. (
+      search (needs, turn-within),
+      search needs,
+      search needs,
+      search needs,
+      search (needs, turn-table),
+      search (needs, turn-vectors),
+      search (needs, going-turns),
+    ))
     (λ c. search needs)
     (λ c. search needs)
     (λ c. search needs)
