@@ -54,8 +54,7 @@ module _ (x : Lent) where
   unfolding serve
   serve-by P f o =
       tried-by (λ (b : Bool) (s : Served). anyHolds (trials x) ≡ b → P s) (λ r. (1 ≤ r .number) × (r .number ≤ 6)) (refused x) (answered x (decided x))
-      (λ r q h e. f r (q .0) (q .1)) (λ e. o (taken e)) (trials x)
-      (
+      (λ r q h e. f r (q .0) (q .1)) (λ e. o (taken e)) (trials x) (
         (omega arith, omega arith),
         (
           (omega arith, omega arith),

@@ -82,7 +82,14 @@ fn over_sound(
         count r (now (t .exit)) (now (v .exit)) (now (out .exit)) ⌝ }
 {
     match d {
-        Checked::Sound(_) => Came::Answered(deciding::answer_sound(out, req, t, file, v, count as usize)),
+        Checked::Sound(_) => Came::Answered(deciding::answer_sound(
+            out,
+            req,
+            t,
+            file,
+            v,
+            count as usize,
+        )),
         Checked::Bad(_) => Came::Refused {
             number: UNSOUND_VECTORS,
             besides: 0,
@@ -131,10 +138,7 @@ pub fn call_over(
 {
     let number = early(req, out);
     if 0 < number {
-        return Came::Refused {
-            number,
-            besides: 0,
-        };
+        return Came::Refused { number, besides: 0 };
     }
     over_checked(c, d, req, t, file, v, out)
 }
@@ -148,10 +152,7 @@ pub fn call(req: &[u8], t: &mut [u8], file: &[u8], v: &mut [u8], out: &mut [u8])
 {
     let number = early(req, out);
     if 0 < number {
-        return Came::Refused {
-            number,
-            besides: 0,
-        };
+        return Came::Refused { number, besides: 0 };
     }
     let c = table::check(t, file.len());
     let d = vectors::file::check(v);

@@ -155,7 +155,7 @@ module _ (x : Lent) where
   -- The word of a call is read back: what it carries is short.
   module _ (fits : Fits x) where
     abbrev short : (turnedAway x ≡ false) → length (answerTo x (checkValue (checkOf x))) ≤ 36864
-    short e = let h = taken e in fits (h .size) (h .lengths) (checkValue (checkOf x)) (h .table) (h .vectors)
+    short e = let h = taken x e in fits (h .size) (h .lengths) (checkValue (checkOf x)) (h .table) (h .vectors)
 
     pub word-reads : Reads (serve x .call) (callWord (serve x .call))
     unfolding refused answered
@@ -170,7 +170,7 @@ module _ (x : Lent) where
 
         near : turnedAway x ≡ false → decision x count .place < 65536
         near e =
-            let s = taken e .size in
+            let s = taken x e .size in
             omega (arith, size-most (x .request) s, decide-within (x .request) (x .table) count (x .vectors) (size-least (x .request) s))
 
     pub answer-within : callNumber (serve x .call) ≡ 0 → callValue (serve x .call) ≤ length (x .buffer)
@@ -178,13 +178,13 @@ module _ (x : Lent) where
     answer-within =
         call-by (λ b s. turnedAway x ≡ b → callNumber (s .call) ≡ 0 → callValue (s .call) ≤ length (x .buffer)) (λ r. 1 ≤ r .number)
         (six (λ r. 1 ≤ r .number) (λ h n a b c. a) (omega arith)) (λ r q h e z. absurd (omega (arith, q, z)))
-        (λ e z. omega (arith, short e, taken e .room)) refl
+        (λ e z. omega (arith, short e, taken x e .room)) refl
 
     pub buffer-length : length (serve x .buffer) ≡ length (x .buffer)
     unfolding refused answered
     buffer-length =
         any-call (λ b s. turnedAway x ≡ b → length (s .buffer) ≡ length (x .buffer)) (λ r e. refl)
-        (λ e. over-length (answerTo x (checkValue (checkOf x))) (x .buffer) (omega (arith, short e, taken e .room))) refl
+        (λ e. over-length (answerTo x (checkValue (checkOf x))) (x .buffer) (omega (arith, short e, taken x e .room))) refl
 
   -- the buffer past the answer
   pub buffer-past : drop (callValue (serve x .call)) (serve x .buffer) ≡ drop (callValue (serve x .call)) (x .buffer)

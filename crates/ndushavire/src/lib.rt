@@ -86,5 +86,9 @@ pub extern "C" fn ndushavire_report(
         (lent (now (requests .entry)) (now (table .entry)) (now (profile .entry)) (now (vectors .entry)) (now (answer .entry))) (now (report .entry))
         r (now (table .exit)) (now (vectors .exit)) (now (answer .exit)) (now (report .exit)) ⌝ }
 {
-    word(reporting::report(requests, table, profile, vectors, answer, report), 0, 0)
+    word(
+        reporting::report(requests, table, profile, vectors, answer, report),
+        0,
+        0,
+    )
 }
