@@ -85,7 +85,7 @@ module _ (s : List ℕ) where
       go (inr (inl h)) = rw (lt-ltb (be24At s 1) 20 h) (first (ltb (length s) 4) (ltb (length s) (be24At s 1)) refl)
       go (inr (inr h)) = rw (lt-ltb (length s) (be24At s 1) h) (second (ltb (length s) 4) (ltb (be24At s 1) 20))
 
-  empty-broken : length s ≤ 0 → broken s ≡ true
+  pub empty-broken : length s ≤ 0 → broken s ≡ true
   unfolding broken
   empty-broken h = rw (lt-ltb (length s) 4 (omega arith))
 

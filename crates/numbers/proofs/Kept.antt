@@ -1,0 +1,119 @@
+-- Demand 2 over a row of calls: what stays sound, and what stays as it came.
+use Prim.Native.Nat.{ℕ, _≤_, _<_}
+use mathlib.Core.List.{List, [], _∷_}
+use mathlib.Core.Bool.{Bool, true, false, not, _||_, _&&_, or-true, true≢false}
+use mathlib.Core.Path.{_≡_, refl, sym, ap, _∙_}
+use native.Mathlib.Omega.{arith}
+use lib.ListN.{length, getD}
+use lib.Dec.{eqb, ltb}
+use borrow.Author.Tests.{eqb-false, not-true}
+use Rattle.table.specs.Blocks.{blockOf}
+use Rattle.table.specs.Check.{checkTable}
+use Rattle.table.specs.declared.Checked.{Checked}
+use Rattle.table.specs.declared.Checked.the-variants.{Sound, Bad}
+use Rattle.vectors.specs.VectorFile.{checkVectors}
+use Rattle.rewrite.specs.Change.{alterable}
+use Rattle.diameter.specs.Message.{commandOf}
+use Rattle.fitting.proofs.Tests.{neither}
+use Rattle.counting.specs.declared.Event.{Event}
+use Rattle.calling.specs.Lent.{Lent, asking}
+use Rattle.calling.specs.Trial.{anyHolds}
+use Rattle.calling.specs.Serve.{smallBuffer, isBad, checkOf, checkValue, answered, resultOf, decision, serve}
+use Rattle.calling.proofs.Kept.{table-checked, vectors-checked, taken}
+use Rattle.demands.specs.Call.{turnedAway}
+use Rattle.demands.specs.Frame.{succeeds}
+use Rattle.demands.proofs.Refusals.{refused-kept, answered-is}
+use Rattle.demands.proofs.Frame.{failure-kept, question-kept, bytes-kept}
+use Rattle.reporting.specs.Row.{alteredBy, eventOf, eventBy, next, row, left}
+use Rattle.numbers.specs.Turns.{alteredOver, idle, allIdle}
+use Rattle.numbers.proofs.Calls.{same-altered}
+
+-- what the checks say stays
+pub left-table : (x : Lent) (ps : List (List ℕ)) → checkTable (left x ps .table) (length (x .profile)) ≡ checkOf x
+unfolding left next
+left-table x [] = refl
+left-table x (p ∷ ps) = left-table (next x p) ps ∙ table-checked (asking x p)
+
+pub left-vectors : (x : Lent) (ps : List (List ℕ)) → checkVectors (left x ps .vectors) ≡ checkVectors (x .vectors)
+unfolding left next
+left-vectors x [] = refl
+left-vectors x (p ∷ ps) = left-vectors (next x p) ps ∙ vectors-checked (asking x p)
+
+-- and so do the bytes of a sound table that no call writes
+pub left-bytes : (x : Lent) (ps : List (List ℕ)) (count : ℕ) → checkOf x ≡ Sound count → (k i : ℕ) → k ≤ count → i < 512 → alterable i ≡ false
+    → getD (blockOf (left x ps .table) k) i 0 ≡ getD (blockOf (x .table) k) i 0
+unfolding left next
+left-bytes x [] count sound k i h l e = refl
+left-bytes x (p ∷ ps) count sound k i h l e =
+    left-bytes (next x p) ps count (table-checked (asking x p) ∙ sound) k i h l e ∙ bytes-kept (asking x p) count sound k i h l e
+
+-- Where every request is refused, nothing is altered.
+pub left-refused : (x : Lent) → ((p : List ℕ) → turnedAway (asking x p) ≡ true) → (ps : List (List ℕ)) → left x ps ≡ x
+unfolding left next
+left-refused x h [] = refl
+left-refused x h (p ∷ ps) =
+    let k = refused-kept (asking x p) (h p) in
+    rw (k .0, k .1, k .2) (left-refused x h ps)
+
+module _ (x : Lent) where
+  pub small-refused : smallBuffer (x .buffer) ≡ true → (p : List ℕ) → turnedAway (asking x p) ≡ true
+  unfolding anyHolds
+  small-refused e p = rw e
+
+  pub table-refused : (k : ℕ) → checkOf x ≡ Bad k → (p : List ℕ) → turnedAway (asking x p) ≡ true
+  unfolding anyHolds
+  table-refused k e p = simp (e, or-true)
+
+  pub vectors-refused : (k : ℕ) → checkVectors (x .vectors) ≡ Bad k → (p : List ℕ) → turnedAway (asking x p) ≡ true
+  unfolding anyHolds
+  vectors-refused k e p = simp (e, or-true)
+
+-- What alters nothing: a call that is refused, or answered by an error, or neither a SAR nor a MAR.
+abbrev Left : Lent → Type 0
+Left x = (serve x .table ≡ x .table) × (serve x .vectors ≡ x .vectors)
+
+idle-kept : (x : Lent) → idle (eventOf x) ≡ true → Left x
+unfolding eventOf answered
+idle-kept x q = go (turnedAway x) refl
+  where
+    count : ℕ
+    count = checkValue (checkOf x)
+
+    quiet : (y z : Bool) → succeeds (resultOf x) ≡ y → (eqb (commandOf (x .request)) 301 || eqb (commandOf (x .request)) 303) ≡ z → checkOf x ≡ Sound count
+        → (not y || not z) ≡ true → Left x
+    quiet false z e f s h = failure-kept x count s e
+    quiet true false e f s h =
+        let n = neither (eqb (commandOf (x .request)) 301) (eqb (commandOf (x .request)) 303) f in
+        question-kept x (eqb-false (commandOf (x .request)) 301 (n .0)) (eqb-false (commandOf (x .request)) 303 (n .1))
+    quiet true true e f s h = absurd (true≢false (sym h))
+
+    said : turnedAway x ≡ false → checkOf x ≡ Sound count → (not (succeeds (resultOf x)) || not (eqb (commandOf (x .request)) 301 || eqb (commandOf (x .request)) 303)) ≡ true
+    said e s = rw (answered-is x count s e) at q
+
+    go : (y : Bool) → turnedAway x ≡ y → Left x
+    go true e = let k = refused-kept x e in (k .0, k .1)
+    go false e = let s = taken x e .table in quiet _ _ refl refl s (said e s)
+
+idle-first : (e : Event) (es : List Event) → allIdle (e ∷ es) ≡ true → (idle e ≡ true) × (allIdle es ≡ true)
+unfolding allIdle
+idle-first e es q = go (idle e) refl q
+  where
+    go : (b : Bool) → idle e ≡ b → (b && allIdle es) ≡ true → (idle e ≡ true) × (allIdle es ≡ true)
+    go true f g = (f, g)
+    go false f g = absurd (true≢false (sym g))
+
+pub idle-left : (x : Lent) (ps : List (List ℕ)) → allIdle (row x ps) ≡ true → (left x ps .table ≡ x .table) × (left x ps .vectors ≡ x .vectors)
+unfolding row left next
+idle-left x [] q = (refl, refl)
+idle-left x (p ∷ ps) q =
+    let both = idle-first (eventOf (asking x p)) (row (next x p) ps) q in
+    let one = idle-kept (asking x p) (both .0) in
+    let more = idle-left (next x p) ps (both .1) in
+    (more .0 ∙ one .0, more .1 ∙ one .1)
+
+pub idle-altered : (x : Lent) (ps : List (List ℕ)) → allIdle (row x ps) ≡ true → alteredOver x ps ≡ 0
+unfolding row alteredOver
+idle-altered x [] q = refl
+idle-altered x (p ∷ ps) q =
+    let both = idle-first (eventOf (asking x p)) (row (next x p) ps) q in
+    omega (arith, same-altered (asking x p) (idle-kept (asking x p) (both .0) .0), idle-altered (next x p) ps (both .1))
