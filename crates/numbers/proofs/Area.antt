@@ -3,7 +3,7 @@ use Prim.Native.Nat.{ℕ, zero, suc, _+_, _*_, _%_, _^_, _≤_, _<_}
 use mathlib.Core.List.{List}
 use mathlib.Core.Bool.{Bool, true, false, cond}
 use mathlib.Core.Path.{_≡_, refl, sym, ap, _∙_}
-use mathlib.Core.Logic.{_≢_}
+use mathlib.Core.Logic.{_⊎_, _≢_}
 use native.Mathlib.Omega.{arith}
 use native.Mathlib.Nat.{mod-lt, mod-eq-of-lt}
 use lib.ListN.{length, getD, set, take, drop, length-set}
@@ -11,20 +11,22 @@ use lib.Seq.{getD-set-same, getD-set-other}
 use lib.Dec.{eqb, ltb}
 use borrow.Author.Tests.{ltb-true, ltb-false, eqb-true, eqb-false}
 use Rattle.octets.specs.Run.{over}
-use Rattle.counting.specs.Counted.{alteredIn, largestIn, numberAt, wordAt, countsOf}
+use Rattle.counting.specs.Counted.{howMany, largestIn, numberAt, wordAt, countsOf}
 use Rattle.counting.specs.Totals.{sumFrom, rowTotals, refusalTotal}
 use Rattle.counting.specs.Words.{longBytes, bytesOf}
 use Rattle.counting.proofs.Counts.{counts-length, counts-at}
 use Rattle.counting.proofs.Numbers.{word-largest, word-other, exact}
 use Rattle.counting.proofs.Totals.{rows-answered, totals-read}
 use Rattle.calling.specs.Lent.{Lent}
+use Rattle.calling.specs.Serve.{serve}
 use Rattle.reporting.specs.Pieces.{stopOf}
 use Rattle.reporting.specs.Report.{Reported, requestsOf, wordsOf, ran, reported}
 use Rattle.reporting.proofs.Whole.{row-fits}
 use Rattle.numbers.specs.Area.{wordIn, rowIn, rowsIn, refusalsIn}
-use Rattle.numbers.specs.Turns.{eventsOf, alteredOver}
+use Rattle.numbers.specs.Turns.{eventsOf, Place, callAt, refusedBy, answeredIn, answerLength, alteredOver}
 use Rattle.numbers.proofs.Cut.{stop-within, few-pieces}
-use Rattle.numbers.proofs.Calls.{row-length, row-altered, over-most, largest-most}
+use Rattle.numbers.proofs.Calls.{row-length, row-altered, over-most, largest-most, largest-least, largest-one}
+use Rattle.numbers.proofs.Cells.{refused-count, answered-count}
 use Rattle.numbers.proofs.Words.{area-length, area-past, area-word, area-bytes}
 use Rattle.numbers.proofs.Ends.{area-short, area-long}
 
@@ -146,3 +148,21 @@ module _ (x : Lent) (area : List ℕ) (room : 1160 ≤ length area) where
           report-read,
           row-length x (requestsOf x),
         )
+
+    -- from word 5 on
+    pub refused-word : (n : ℕ) → 1 ≤ n → n ≤ 15 → wordIn written (4 + n) ≡ howMany (refusedBy n) (eventsOf x)
+    refused-word n a h =
+        report-exact l (4 + n) (omega arith) (omega arith) (omega arith) (omega arith)
+        ∙ refused-count (eventsOf x) (row-fits x (requestsOf x)) n a h
+
+    pub answered-word : (r c : ℕ) → r ≤ 4 → c < 25 → wordIn written (20 + (25 * r + c)) ≡ howMany (answeredIn r c) (eventsOf x)
+    answered-word r c h a =
+        report-exact l (20 + (25 * r + c)) (omega arith) (omega arith) (omega arith) (omega arith)
+        ∙ answered-count (eventsOf x) (row-fits x (requestsOf x)) r c a
+
+  -- the largest answer
+  pub largest-word : (p : Place (requestsOf x)) → answerLength (serve (callAt x p) .call) ≤ wordIn written 3
+  largest-word p = rw report-largest (largest-least x (requestsOf x) p)
+
+  pub largest-word-one : (wordIn written 3 ≡ 0) ⊎ ((p : Place (requestsOf x)) × (answerLength (serve (callAt x p) .call) ≡ wordIn written 3))
+  largest-word-one = rw report-largest (largest-one x (requestsOf x))

@@ -37,6 +37,14 @@ unfolding left
 left-append x [] qs = refl
 left-append x (p ∷ ps) qs = left-append (next x p) ps qs
 
+-- the call of a request in its place
+pub row-at : (x : Lent) (ps : List (List ℕ)) (p : Place ps)
+    → row x ps ≡ row x (p .before) ++ (eventOf (callAt x p) ∷ row (left x (p .before ++ (p .request ∷ []))) (p .after))
+unfolding row left
+row-at x ps p =
+    let one : left x (p .before ++ (p .request ∷ [])) ≡ next (left x (p .before)) (p .request) = left-append x (p .before) (p .request ∷ []) in
+    ap (row x) (p .is) ∙ row-append x (p .before) (p .request ∷ p .after) ∙ rw one
+
 pub row-length : (x : Lent) (ps : List (List ℕ)) → length (row x ps) ≡ length ps
 unfolding row
 row-length x [] = refl

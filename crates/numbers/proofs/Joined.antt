@@ -14,6 +14,7 @@ use Rattle.counting.specs.declared.Event.{Event}
 use Rattle.counting.proofs.Numbers.{number-append, largest-append, word-other}
 use Rattle.calling.specs.Lent.{Lent, lent, asking}
 use Rattle.calling.specs.Serve.{serve}
+use Rattle.ndushavire.specs.Promise.{DecidePromise, ReportPromise}
 use Rattle.reporting.specs.Pieces.{pieces, totalOf, stopOf}
 use Rattle.reporting.specs.Row.{eventOf, next, row, left}
 use Rattle.reporting.specs.Report.{Reported, requestsOf, ended, ran, reported}
@@ -43,6 +44,11 @@ module _ (x : Lent) (one : OneRequest (x .request)) where
     pub one-leaves : (reported x area .table ≡ serve x .table) × (reported x area .vectors ≡ serve x .vectors) × (reported x area .buffer ≡ serve x .buffer)
     unfolding ran next
     one-leaves = rw (area-long x area room, one-left) (refl, refl, refl)
+
+    pub one-decides : {r s : ℕ} {t u v w o q b : List ℕ} → DecidePromise x r t v o → ReportPromise x area s u w q b → (u ≡ t) × (w ≡ v) × (q ≡ o)
+    one-decides d p =
+        let l = one-leaves in
+        (p .table-is ∙ l .0 ∙ sym (d .table-is), p .vectors-is ∙ l .1 ∙ sym (d .vectors-is), p .buffer-is ∙ l .2 ∙ sym (d .buffer-is))
 
 -- Two files, the first used up: the second report goes on where the first ended.
 module _ (x : Lent) (more area : List ℕ) (room : 1160 ≤ length area) (whole : reported x area .number ≡ 0) where

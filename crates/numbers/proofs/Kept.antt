@@ -6,7 +6,7 @@ use mathlib.Core.Path.{_≡_, refl, sym, ap, _∙_}
 use native.Mathlib.Omega.{arith}
 use lib.ListN.{length, getD}
 use lib.Dec.{eqb, ltb}
-use borrow.Author.Tests.{eqb-false, not-true}
+use borrow.Author.Tests.{eqb-false, lt-ltb, ltb-true, ltb-false}
 use Rattle.table.specs.Blocks.{blockOf}
 use Rattle.table.specs.Check.{checkTable}
 use Rattle.table.specs.declared.Checked.{Checked}
@@ -25,8 +25,10 @@ use Rattle.demands.specs.Frame.{succeeds}
 use Rattle.demands.proofs.Refusals.{refused-kept, answered-is}
 use Rattle.demands.proofs.Frame.{failure-kept, question-kept, bytes-kept}
 use Rattle.reporting.specs.Row.{alteredBy, eventOf, eventBy, next, row, left}
+use Rattle.reporting.specs.Report.{requestsOf, ran, reported}
 use Rattle.numbers.specs.Turns.{alteredOver, idle, allIdle}
 use Rattle.numbers.proofs.Calls.{same-altered}
+use Rattle.numbers.proofs.Ends.{area-short, area-long}
 
 -- what the checks say stays
 pub left-table : (x : Lent) (ps : List (List ℕ)) → checkTable (left x ps .table) (length (x .profile)) ≡ checkOf x
@@ -56,9 +58,12 @@ left-refused x h (p ∷ ps) =
     rw (k .0, k .1, k .2) (left-refused x h ps)
 
 module _ (x : Lent) where
-  pub small-refused : smallBuffer (x .buffer) ≡ true → (p : List ℕ) → turnedAway (asking x p) ≡ true
+  small-refused : smallBuffer (x .buffer) ≡ true → (p : List ℕ) → turnedAway (asking x p) ≡ true
   unfolding anyHolds
   small-refused e p = rw e
+
+  pub short-refused : length (x .buffer) < 36864 → (p : List ℕ) → turnedAway (asking x p) ≡ true
+  short-refused h = small-refused (lt-ltb (length (x .buffer)) 36864 h)
 
   pub table-refused : (k : ℕ) → checkOf x ≡ Bad k → (p : List ℕ) → turnedAway (asking x p) ≡ true
   unfolding anyHolds
@@ -117,3 +122,40 @@ idle-altered x [] q = refl
 idle-altered x (p ∷ ps) q =
     let both = idle-first (eventOf (asking x p)) (row (next x p) ps) q in
     omega (arith, same-altered (asking x p) (idle-kept (asking x p) (both .0) .0), idle-altered (next x p) ps (both .1))
+
+-- So is it of a report: what holds where nothing is run, and of what the calls leave, holds of what it leaves.
+module _ (x : Lent) (area : List ℕ) where
+  report-by : (P : List ℕ → List ℕ → List ℕ → Type 0) → P (x .table) (x .vectors) (x .buffer)
+      → P (left x (requestsOf x) .table) (left x (requestsOf x) .vectors) (left x (requestsOf x) .buffer)
+      → P (reported x area .table) (reported x area .vectors) (reported x area .buffer)
+  unfolding ran
+  report-by P came ran = go (ltb (length area) 1160) refl
+    where
+      go : (b : Bool) → ltb (length area) 1160 ≡ b → P (reported x area .table) (reported x area .vectors) (reported x area .buffer)
+      go true e = rw (area-short x area (ltb-true (length area) 1160 e)) came
+      go false e = rw (area-long x area (ltb-false (length area) 1160 e)) ran
+
+  pub report-table : checkTable (reported x area .table) (length (x .profile)) ≡ checkOf x
+  report-table = report-by (λ t v o. checkTable t (length (x .profile)) ≡ checkOf x) refl (left-table x (requestsOf x))
+
+  pub report-vectors : checkVectors (reported x area .vectors) ≡ checkVectors (x .vectors)
+  report-vectors = report-by (λ t v o. checkVectors v ≡ checkVectors (x .vectors)) refl (left-vectors x (requestsOf x))
+
+  pub report-bytes : (count : ℕ) → checkOf x ≡ Sound count → (k i : ℕ) → k ≤ count → i < 512 → alterable i ≡ false
+      → getD (blockOf (reported x area .table) k) i 0 ≡ getD (blockOf (x .table) k) i 0
+  report-bytes count sound k i h l e =
+      report-by (λ t v o. getD (blockOf t k) i 0 ≡ getD (blockOf (x .table) k) i 0) refl (left-bytes x (requestsOf x) count sound k i h l e)
+
+  pub report-refused : ((p : List ℕ) → turnedAway (asking x p) ≡ true)
+      → (reported x area .table ≡ x .table) × (reported x area .vectors ≡ x .vectors) × (reported x area .buffer ≡ x .buffer)
+  report-refused h =
+      let e = left-refused x h (requestsOf x) in
+      report-by (λ t v o. (t ≡ x .table) × (v ≡ x .vectors) × (o ≡ x .buffer)) (refl, refl, refl)
+      (ap (λ (y : Lent). y .table) e, ap (λ (y : Lent). y .vectors) e, ap (λ (y : Lent). y .buffer) e)
+
+  pub report-idle : allIdle (row x (requestsOf x)) ≡ true
+      → (reported x area .table ≡ x .table) × (reported x area .vectors ≡ x .vectors) × (alteredOver x (requestsOf x) ≡ 0)
+  report-idle q =
+      let l = idle-left x (requestsOf x) q in
+      let both = report-by (λ t v o. (t ≡ x .table) × (v ≡ x .vectors)) (refl, refl) (l .0, l .1) in
+      (both .0, both .1, idle-altered x (requestsOf x) q)
