@@ -1,10 +1,10 @@
 -- The small month's report: by 7, with the place of the 3 bytes, the counts, the table and the buffer afterwards.
 use Prim.Native.Nat.{ℕ, _≤_}
-use mathlib.Core.Path.{_≡_, refl, sym, ap, _∙_}
+use mathlib.Core.Path.{_≡_, refl, ap, _∙_}
 use mathlib.Core.List.{List, [], _∷_, _++_}
 use mathlib.Core.Logic.{inl}
-use lib.ListN.{length, replicate, drop}
-use lib.Dec.{lit≤, lit<}
+use lib.ListN.{length, replicate}
+use lib.Dec.{lit≤}
 use Rattle.octets.specs.Run.{over}
 use Rattle.counting.specs.Results.{baseResults, experimentalResults, indexIn, rowOf, columnOf}
 use Rattle.counting.specs.Counted.{cellOf, howMany, alteredIn, largestIn, numberAt, wordAt, valuesBelow, countsOf}
@@ -12,19 +12,17 @@ use Rattle.counting.specs.Words.{longBytes, bytesOf}
 use Rattle.counting.specs.declared.Event.{Event}
 use Rattle.counting.specs.declared.Event.the-variants as event
 use Rattle.reading.specs.declared.Outcome.the-variants.{Base, Experimental}
-use Rattle.calling.specs.Lent.{Lent, lent, asking}
-use Rattle.calling.specs.Serve.{Served, serve}
-use Rattle.ndushavire.specs.Word.{word}
-use Rattle.ndushavire.specs.Promise.{ReportPromise}
+use Rattle.calling.specs.Lent.{Lent, lent}
 use Rattle.reporting.specs.Pieces.{stopOf}
-use Rattle.reporting.specs.Row.{eventOf, next, row, left}
+use Rattle.reporting.specs.Row.{next, row, left}
 use Rattle.reporting.specs.Report.{Reported, requestsOf, wordsOf, ran, reported}
 use Rattle.numbers.specs.File.{joined, Breaks}
 use Rattle.numbers.specs.Turns.{eventsOf}
 use Rattle.numbers.proofs.Ends.{area-long}
 use Rattle.numbers.proofs.Numbers.{report-7-broken}
-use Rattle.month.proofs.Calls.{lir, removal, strayed, messages, scrap, file, here, gone, room, located, removed, sought, month, lending, each, comes, counts}
-use Rattle.month.proofs.Calls.{located-comes, removed-comes, sought-comes, strayed-comes, located-counts, removed-counts, sought-counts, strayed-counts, all}
+use Rattle.month.proofs.Calls.{lir, removal, strayed, messages, scrap, file, here, gone, located, removed, sought, month, each, counts}
+use Rattle.month.proofs.Calls.{located-comes, removed-comes, sought-comes, strayed-comes, all}
+use Rattle.month.proofs.Calls.{located-counts, removed-counts, sought-counts, strayed-counts}
 
 -- an area of one byte more than the report
 unfoldable pub area : List ℕ

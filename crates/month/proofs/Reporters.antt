@@ -4,7 +4,7 @@ use mathlib.Core.Path.{_≡_, refl, sym, ap, _∙_}
 use mathlib.Core.Logic.{_≢_}
 use mathlib.Core.List.{List, [], _∷_, _++_}
 use native.Mathlib.Omega.{arith}
-use lib.ListN.{length, getD, set, drop, length-set}
+use lib.ListN.{length, getD, set, length-set}
 use lib.Seq.{getD-set-other}
 use Rattle.octets.specs.Run.{over}
 use Rattle.diameter.specs.Message.{commandOf}
@@ -15,18 +15,19 @@ use Rattle.counting.specs.Words.{bytesOf}
 use Rattle.counting.specs.declared.Event.{Event}
 use Rattle.counting.specs.declared.Event.the-variants as event
 use Rattle.counting.proofs.Counts.{counts-length, counts-at}
-use Rattle.calling.specs.Lent.{Lent, lent, asking}
+use Rattle.calling.specs.Lent.{Lent, asking}
 use Rattle.ndushavire.specs.Word.{word}
+use Rattle.ndushavire.specs.Reads.{numberIn}
 use Rattle.ndushavire.specs.Promise.{ReportPromise}
 use Rattle.reporting.specs.Pieces.{stopOf}
-use Rattle.reporting.specs.Row.{eventOf, next, row}
-use Rattle.reporting.specs.Report.{requestsOf, reported}
+use Rattle.reporting.specs.Row.{eventOf, row}
+use Rattle.reporting.specs.Report.{Reported, requestsOf, reported}
 use Rattle.numbers.specs.Area.{wordIn}
 use Rattle.numbers.specs.Turns.{eventsOf}
-use Rattle.numbers.proofs.Numbers.{report-word}
+use Rattle.numbers.proofs.Numbers.{report-meant, report-word}
 use Rattle.numbers.proofs.Words.{area-word}
-use Rattle.month.proofs.Calls.{lir, removal, strayed, messages, scrap, file, here, gone, room, month, lending, counts, located-counts, removed-counts, all}
-use Rattle.month.proofs.Month.{area, enough, events, month-requests, month-events, month-table, counting}
+use Rattle.month.proofs.Calls.{removal, strayed, here, room, month, lending, counts, located-counts, all}
+use Rattle.month.proofs.Month.{area, enough, month-requests, month-events, month-number, month-table, counting}
 
 -- what a report leaves
 record Left : Type 0 where
@@ -115,13 +116,46 @@ unwriting-fails f e p =
     omega arith
 
 -- 2. one that counts a refused request under its command, as if it were answered by some result
-under : Outcome → Lent → Event → Event
-under o x (event.Answered e) = event.Answered e
-under o x (event.Refused n) = event.Answered (record { command = commandOf (x .request); result = o; length = 0; altered = 0 })
+under : Outcome → List ℕ → Event → Event
+under o p (event.Answered e) = event.Answered e
+under o p (event.Refused n) = event.Answered (record { command = commandOf p; result = o; length = 0; altered = 0 })
 
-underAll : Outcome → Lent → List (List ℕ) → List Event
-underAll o x [] = []
-underAll o x (p ∷ ps) = under o (asking x p) (eventOf (asking x p)) ∷ underAll o (next x p) ps
+underAll : Outcome → List (List ℕ) → List Event → List Event
+underAll o [] es = []
+underAll o (p ∷ ps) [] = []
+underAll o (p ∷ ps) (e ∷ es) = under o p e ∷ underAll o ps es
 
 naming : Outcome → Reporter
-naming o = counting-by (λ (x : Lent). underAll o x (requestsOf x))
+naming o = counting-by (λ (x : Lent). underAll o (requestsOf x) (eventsOf x))
+
+-- the message with the R bit clear would be a fourth answer
+true-4 : wordAt (eventsOf month) 4 ≡ 3
+unfolding counting
+true-4 = rw month-events
+
+naming-fails : (o : Outcome) → Meets (naming o) month area → ⊥
+unfolding naming under underAll counting
+naming-fails o =
+    other-fails (λ (x : Lent). underAll o (requestsOf x) (eventsOf x)) 4 4 (omega arith) (omega arith) (omega arith) month area enough
+    (rw (month-events, month-requests))
+    (λ e. omega (arith, true-4, e))
+
+-- 3. one that counts the broken piece too, in any way
+scraping : (Lent → Event) → Reporter
+scraping last = counting-by (λ (x : Lent). eventsOf x ++ (last x ∷ []))
+
+true-0 : wordAt (eventsOf month) 0 ≡ 4
+unfolding counting
+true-0 = rw month-events
+
+scraping-fails : (last : Lent → Event) → Meets (scraping last) month area → ⊥
+unfolding scraping counting
+scraping-fails last =
+    other-fails (λ (x : Lent). eventsOf x ++ (last x ∷ [])) 0 5 (omega arith) (omega arith) (omega arith) month area enough (rw month-events)
+    (λ e. omega (arith, true-0, e))
+
+-- 4. one that ends by 0 though bytes are left, whatever else it does
+ending-fails : (f : Reporter) → numberIn (f month area .word) ≡ 0 → Meets f month area → ⊥
+ending-fails f e p =
+    let n : numberIn (f month area .word) ≡ 7 = sym (ap (λ (r : Reported). r .number) (report-meant month area p .0)) ∙ month-number in
+    omega (arith, e, n)

@@ -1,18 +1,18 @@
 -- The words that a report writes.
 use Prim.Native.Nat.{ℕ, zero, suc, _+_, _*_, _%_, _^_, _≤_, _<_}
 use mathlib.Core.List.{List}
-use mathlib.Core.Bool.{Bool, true, false, cond}
+use mathlib.Core.Bool.{Bool, true, false}
 use mathlib.Core.Path.{_≡_, refl, sym, ap, _∙_}
 use mathlib.Core.Logic.{_⊎_, _≢_}
 use native.Mathlib.Omega.{arith}
 use native.Mathlib.Nat.{mod-lt, mod-eq-of-lt}
-use lib.ListN.{length, getD, set, take, drop, length-set}
+use lib.ListN.{length, getD, take, drop, length-set}
 use lib.Seq.{getD-set-same, getD-set-other}
 use lib.Dec.{eqb, ltb}
 use borrow.Author.Tests.{ltb-true, ltb-false, eqb-true, eqb-false}
 use Rattle.octets.specs.Run.{over}
 use Rattle.counting.specs.Counted.{howMany, largestIn, numberAt, wordAt, countsOf}
-use Rattle.counting.specs.Totals.{sumFrom, rowTotals, refusalTotal}
+use Rattle.counting.specs.Totals.{sumFrom, rowTotals}
 use Rattle.counting.specs.Words.{longBytes, bytesOf}
 use Rattle.counting.proofs.Counts.{counts-length, counts-at}
 use Rattle.counting.proofs.Numbers.{word-largest, word-other, exact}
@@ -22,7 +22,7 @@ use Rattle.calling.specs.Serve.{serve}
 use Rattle.reporting.specs.Pieces.{stopOf}
 use Rattle.reporting.specs.Report.{Reported, requestsOf, wordsOf, ran, reported}
 use Rattle.reporting.proofs.Whole.{row-fits}
-use Rattle.numbers.specs.Area.{wordIn, rowIn, rowsIn, refusalsIn}
+use Rattle.numbers.specs.Area.{wordIn, rowsIn, refusalsIn}
 use Rattle.numbers.specs.Turns.{eventsOf, Place, callAt, refusedBy, answeredIn, answerLength, alteredOver}
 use Rattle.numbers.proofs.Cut.{stop-within, few-pieces}
 use Rattle.numbers.proofs.Calls.{row-length, row-altered, over-most, largest-most, largest-least, largest-one}

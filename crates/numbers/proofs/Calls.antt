@@ -1,7 +1,7 @@
 -- The calls of a report in turn: two rows of them, the records altered, the largest answer.
-use Prim.Native.Nat.{ℕ, zero, suc, _+_, _*_, _≤_, _<_, max}
+use Prim.Native.Nat.{ℕ, zero, suc, _+_, _*_, _≤_, max}
 use mathlib.Core.List.{List, [], _∷_, _++_}
-use mathlib.Core.Bool.{Bool, true, false}
+use mathlib.Core.Bool.{Bool, true, false, cond}
 use mathlib.Core.Path.{_≡_, refl, sym, ap, _∙_}
 use mathlib.Core.Logic.{_⊎_, inl, inr}
 use native.Mathlib.Omega.{arith}
@@ -94,7 +94,7 @@ unfolding alteredUpTo differ
 altered-most t u zero = omega arith
 altered-most t u (suc n) = go (same (blockOf t (suc n)) (blockOf u (suc n))) (altered-most t u n)
   where
-    go : (b : Bool) → alteredUpTo t u n ≤ n → alteredUpTo t u n + mathlib.Core.Bool.cond b 0 1 ≤ suc n
+    go : (b : Bool) → alteredUpTo t u n ≤ n → alteredUpTo t u n + cond b 0 1 ≤ suc n
     go true h = omega arith
     go false h = omega arith
 

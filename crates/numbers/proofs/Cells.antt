@@ -1,12 +1,12 @@
 -- What a word from the sixth on counts: one refusal, or one result of one row of commands.
-use Prim.Native.Nat.{ℕ, zero, suc, _+_, _*_, _≤_, _<_}
+use Prim.Native.Nat.{ℕ, suc, _+_, _*_, _≤_, _<_}
 use mathlib.Core.List.{List, [], _∷_}
-use mathlib.Core.Bool.{Bool, true, false, cond, _&&_}
+use mathlib.Core.Bool.{Bool, true, false, cond, _&&_, false≢true}
 use mathlib.Core.Path.{_≡_, refl, sym, ap, _∙_}
 use native.Mathlib.Omega.{arith}
 use lib.ListN.{length, getD}
 use lib.Dec.{eqb}
-use borrow.Author.Tests.{eqb-true, eqb-false, eq-eqb, ne-eqb, ltb-true}
+use borrow.Author.Tests.{eqb-true, eq-eqb, ne-eqb, ltb-true}
 use Rattle.reading.specs.declared.Outcome.{Outcome}
 use Rattle.reading.specs.declared.Outcome.the-variants.{Base, Experimental}
 use Rattle.counting.specs.Results.{baseResults, experimentalResults, indexIn, rowOf, columnOf, listed, Listed}
@@ -25,7 +25,7 @@ many-alike p q (e ∷ es) f h = rw (h e (f .0), many-alike p q es (f .1) h)
 -- equal exactly if other numbers are
 pub same-test : (a b : ℕ) (c : Bool) → (a ≡ b → c ≡ true) → (c ≡ true → a ≡ b) → eqb a b ≡ c
 same-test a b true f g = eq-eqb a b (g refl)
-same-test a b false f g = ne-eqb a b (λ e. let z : false ≡ true = f e in mathlib.Core.Bool.false≢true z)
+same-test a b false f g = ne-eqb a b (λ e. let z : false ≡ true = f e in false≢true z)
 
 both : (a b : Bool) → a ≡ true → b ≡ true → (a && b) ≡ true
 both a b e f = rw (e, f)
@@ -36,7 +36,7 @@ first-true false b e = e
 
 second-true : (a b : Bool) → (a && b) ≡ true → b ≡ true
 second-true true b e = e
-second-true false b e = absurd (mathlib.Core.Bool.false≢true e)
+second-true false b e = absurd (false≢true e)
 
 refused-there : (n : ℕ) → n ≤ 15 → (e : Event) → Fits e → standsIn (4 + n) e ≡ refusedBy n e
 unfolding cellOf

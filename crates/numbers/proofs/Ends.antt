@@ -1,19 +1,20 @@
 -- How a report ends: by 0, 7 or 15.
 use Prim.Native.Nat.{ℕ, _+_, _≤_, _<_}
 use mathlib.Core.List.{List, [], _++_, append-nil}
-use mathlib.Core.Bool.{Bool, true, false, cond, _&&_}
+use mathlib.Core.Bool.{Bool, true, false, cond}
 use mathlib.Core.Path.{_≡_, refl, sym, ap, _∙_}
 use native.Mathlib.Omega.{arith}
-use lib.ListN.{length, take, drop, length-append}
+use lib.ListN.{length, drop, length-append}
 use lib.Seq.{take-all}
 use lib.Dec.{eqb, ltb}
-use borrow.Author.Tests.{lt-ltb, le-ltb, eq-eqb, ne-eqb, eqb-true, eqb-false, ltb-true, ltb-false}
+use borrow.Author.Tests.{lt-ltb, le-ltb, eq-eqb, eqb-true, eqb-false, ltb-true}
 use Rattle.diameter.specs.Put.{All}
 use Rattle.calling.specs.Lent.{Lent}
 use Rattle.reporting.specs.Pieces.{broken, pieces, stopOf}
-use Rattle.reporting.specs.Report.{Reported, requestsOf, ended, ran, reported}
+use Rattle.reporting.specs.Report.{requestsOf, ended, ran, reported}
 use Rattle.numbers.specs.File.{OneRequest, joined, Breaks}
-use Rattle.numbers.proofs.Cut.{empty-broken, pieces-end, total-joined, stop-broken, stop-within, rest-length, broken-by, breaks-broken, cut-pieces, cut-stop}
+use Rattle.numbers.proofs.Cut.{empty-broken, pieces-end, total-joined, stop-broken, stop-within, rest-length}
+use Rattle.numbers.proofs.Cut.{broken-by, breaks-broken, cut-pieces, cut-stop}
 
 module _ (x : Lent) (area : List ℕ) where
   pub area-short : length area < 1160

@@ -1,7 +1,7 @@
 -- How firm the report's promise is: it leaves one outcome for each input, and the word returned decides the number.
 use Prim.Native.Nat.{ℕ, _*_, _/_}
 use mathlib.Core.List.{List}
-use mathlib.Core.Path.{_≡_, refl, sym, ap, _∙_}
+use mathlib.Core.Path.{_≡_, sym, _∙_}
 use native.Mathlib.Omega.{arith}
 use Rattle.calling.specs.Lent.{Lent}
 use Rattle.ndushavire.specs.Word.{word}

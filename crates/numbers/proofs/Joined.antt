@@ -9,15 +9,15 @@ use native.Mathlib.Nat.{add-mod}
 use lib.ListN.{length, length-append}
 use lib.Dec.{eqb}
 use borrow.Author.Tests.{eq-eqb, eqb-true}
-use Rattle.counting.specs.Counted.{largestIn, numberAt, wordAt}
+use Rattle.counting.specs.Counted.{largestIn, numberAt}
 use Rattle.counting.specs.declared.Event.{Event}
 use Rattle.counting.proofs.Numbers.{number-append, largest-append, word-other}
-use Rattle.calling.specs.Lent.{Lent, lent, asking}
+use Rattle.calling.specs.Lent.{Lent, asking}
 use Rattle.calling.specs.Serve.{serve}
 use Rattle.ndushavire.specs.Promise.{DecidePromise, ReportPromise}
 use Rattle.reporting.specs.Pieces.{pieces, totalOf, stopOf}
 use Rattle.reporting.specs.Row.{eventOf, next, row, left}
-use Rattle.reporting.specs.Report.{Reported, requestsOf, ended, ran, reported}
+use Rattle.reporting.specs.Report.{requestsOf, ended, ran, reported}
 use Rattle.numbers.specs.Area.{wordIn}
 use Rattle.numbers.specs.File.{OneRequest}
 use Rattle.numbers.specs.Turns.{eventsOf, goingOn}
@@ -73,12 +73,15 @@ module _ (x : Lent) (more area : List ℕ) (room : 1160 ≤ length area) (whole 
       ap (row both) two-requests
       ∙ row-other x (x .request ++ more) (requestsOf x ++ requestsOf second)
       ∙ row-append x (requestsOf x) (requestsOf second)
-      ∙ ap (λ (es : List Event). eventsOf x ++ es) (sym (row-other (left x (requestsOf x)) more (requestsOf second)) ∙ ap (λ (y : Lent). row y (pieces more)) goes-on)
+      ∙ ap (λ (es : List Event). eventsOf x ++ es)
+      (sym (row-other (left x (requestsOf x)) more (requestsOf second)) ∙ ap (λ (y : Lent). row y (pieces more)) goes-on)
 
   two-left : asking (left both (requestsOf both)) more ≡ left second (requestsOf second)
   two-left =
       ap (λ (y : Lent). asking y more)
-      (ap (left both) two-requests ∙ left-other x (x .request ++ more) (requestsOf x ++ requestsOf second) ∙ ap (λ (y : Lent). asking y (x .request ++ more)) (left-append x (requestsOf x) (requestsOf second)))
+      (ap (left both) two-requests
+      ∙ left-other x (x .request ++ more) (requestsOf x ++ requestsOf second)
+      ∙ ap (λ (y : Lent). asking y (x .request ++ more)) (left-append x (requestsOf x) (requestsOf second)))
       ∙ sym (left-other (left x (requestsOf x)) more (pieces more))
       ∙ ap (λ (y : Lent). left y (pieces more)) goes-on
 

@@ -9,7 +9,6 @@ use lib.Dec.{eqb, ltb}
 use borrow.Author.Tests.{eqb-false, lt-ltb, ltb-true, ltb-false}
 use Rattle.table.specs.Blocks.{blockOf}
 use Rattle.table.specs.Check.{checkTable}
-use Rattle.table.specs.declared.Checked.{Checked}
 use Rattle.table.specs.declared.Checked.the-variants.{Sound, Bad}
 use Rattle.vectors.specs.VectorFile.{checkVectors}
 use Rattle.rewrite.specs.Change.{alterable}
@@ -18,13 +17,13 @@ use Rattle.fitting.proofs.Tests.{neither}
 use Rattle.counting.specs.declared.Event.{Event}
 use Rattle.calling.specs.Lent.{Lent, asking}
 use Rattle.calling.specs.Trial.{anyHolds}
-use Rattle.calling.specs.Serve.{smallBuffer, isBad, checkOf, checkValue, answered, resultOf, decision, serve}
+use Rattle.calling.specs.Serve.{smallBuffer, checkOf, checkValue, answered, resultOf, serve}
 use Rattle.calling.proofs.Kept.{table-checked, vectors-checked, taken}
 use Rattle.demands.specs.Call.{turnedAway}
 use Rattle.demands.specs.Frame.{succeeds}
 use Rattle.demands.proofs.Refusals.{refused-kept, answered-is}
 use Rattle.demands.proofs.Frame.{failure-kept, question-kept, bytes-kept}
-use Rattle.reporting.specs.Row.{alteredBy, eventOf, eventBy, next, row, left}
+use Rattle.reporting.specs.Row.{eventOf, next, row, left}
 use Rattle.reporting.specs.Report.{requestsOf, ran, reported}
 use Rattle.numbers.specs.Turns.{alteredOver, idle, allIdle}
 use Rattle.numbers.proofs.Calls.{same-altered}
@@ -92,7 +91,8 @@ idle-kept x q = go (turnedAway x) refl
         question-kept x (eqb-false (commandOf (x .request)) 301 (n .0)) (eqb-false (commandOf (x .request)) 303 (n .1))
     quiet true true e f s h = absurd (true≢false (sym h))
 
-    said : turnedAway x ≡ false → checkOf x ≡ Sound count → (not (succeeds (resultOf x)) || not (eqb (commandOf (x .request)) 301 || eqb (commandOf (x .request)) 303)) ≡ true
+    said : turnedAway x ≡ false → checkOf x ≡ Sound count
+        → (not (succeeds (resultOf x)) || not (eqb (commandOf (x .request)) 301 || eqb (commandOf (x .request)) 303)) ≡ true
     said e s = rw (answered-is x count s e) at q
 
     go : (y : Bool) → turnedAway x ≡ y → Left x

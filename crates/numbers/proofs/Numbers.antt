@@ -4,8 +4,8 @@
 use Prim.Native.Nat.{ℕ, _+_, _*_, _%_, _^_, _≤_, _<_, max}
 use mathlib.Core.List.{List, [], _∷_, _++_}
 use mathlib.Core.Bool.{true, false}
-use mathlib.Core.Path.{_≡_, ap, _∙_}
-use mathlib.Core.Logic.{_⊎_, inl, inr, _≢_}
+use mathlib.Core.Path.{_≡_}
+use mathlib.Core.Logic.{_⊎_, _≢_}
 use lib.ListN.{length, getD, take, drop}
 use lib.Dec.{eqb, ltb}
 use Rattle.table.specs.Blocks.{blockOf}
@@ -27,7 +27,7 @@ use Rattle.reporting.specs.Row.{eventOf, row, left}
 use Rattle.reporting.specs.Report.{requestsOf, wordsOf, reported}
 use Rattle.numbers.specs.Area.{wordIn, rowsIn, refusalsIn}
 use Rattle.numbers.specs.File.{OneRequest, joined, Breaks}
-use Rattle.numbers.specs.Turns.{eventsOf, Place, callAt, refusedBy, answeredIn, answerLength, alteredOver, idle, allIdle, goingOn}
+use Rattle.numbers.specs.Turns.{eventsOf, Place, callAt, refusedBy, answeredIn, answerLength, alteredOver, allIdle, goingOn}
 use Rattle.numbers.proofs.Area as area
 use Rattle.numbers.proofs.Calls as calls
 use Rattle.numbers.proofs.Cells as cells
@@ -36,7 +36,6 @@ use Rattle.numbers.proofs.Ends as ends
 use Rattle.numbers.proofs.Firm as firm
 use Rattle.numbers.proofs.Joined as join
 use Rattle.numbers.proofs.Kept as kept
-use Rattle.reporting.proofs.Whole.{row-fits}
 
 -- THE REPORT. Any two outcomes that meet the promise are one: the word, the table, the vectors, the buffer and the area.
 pub report-unique : (x : Lent) (a : List ℕ) (r s : ℕ) (t u v w o q b c : List ℕ) → ReportPromise x a r t v o b → ReportPromise x a s u w q c
@@ -218,7 +217,8 @@ module _ (x : Lent) (a : List ℕ) where
   report-kept = kept.report-bytes x a
 
   -- Over an unsound table or an unsound vector file, or with a short buffer, every request is refused, and all three are left as they came.
-  pub report-unsound : (k : ℕ) → checkOf x ≡ Bad k → (reported x a .table ≡ x .table) × (reported x a .vectors ≡ x .vectors) × (reported x a .buffer ≡ x .buffer)
+  pub report-unsound : (k : ℕ) → checkOf x ≡ Bad k
+      → (reported x a .table ≡ x .table) × (reported x a .vectors ≡ x .vectors) × (reported x a .buffer ≡ x .buffer)
   report-unsound k e = kept.report-refused x a (kept.table-refused x k e)
 
   pub report-unsound-vectors : (k : ℕ) → checkVectors (x .vectors) ≡ Bad k

@@ -1,13 +1,11 @@
 -- The words of a report, read back out of the area that it was written to.
 use Prim.Native.Nat.{ℕ, zero, suc, _+_, _*_, _/_, _%_, _^_, _≤_, _<_}
 use mathlib.Core.List.{List, [], _∷_, _++_}
-use mathlib.Core.Path.{_≡_, refl, sym, ap, _∙_}
-use mathlib.Core.Logic.{_≢_}
+use mathlib.Core.Path.{_≡_, _∙_}
 use native.Mathlib.Omega.{arith}
-use native.Mathlib.Nat.{mod-lt}
 use lib.Pow.{shr-shr}
-use lib.ListN.{length, getD, set, take, drop, length-append, length-set, List·getD-append}
-use lib.Seq.{drop-at, drop-drop, take-at, drop-append-le, take-append-le, getD-set-same, getD-set-other}
+use lib.ListN.{length, getD, take, drop, List·getD-append, length-drop}
+use lib.Seq.{drop-at, drop-drop, take-at, drop-append-le, take-append-le}
 use Rattle.octets.specs.Number.{four, be32At}
 use Rattle.octets.specs.Run.{over}
 use Rattle.octets.proofs.Numbers.{be32-alike, be32-drop}
@@ -27,9 +25,8 @@ unfolding wordIn longBytes be32At
 long-back n h r =
     made n (n / 256) (n / 65536) (n / 16777216) (n / 4294967296) (n / 1099511627776) (n / 281474976710656) (n / 72057594037927936)
     (n % 256) (n / 256 % 256) (n / 65536 % 256) (n / 16777216 % 256) (n / 4294967296 % 256) (n / 1099511627776 % 256) (n / 281474976710656 % 256)
-    (n / 72057594037927936 % 256) (omega arith)
-    (omega (arith, shr-shr n 8 8)) (omega (arith, shr-shr n 16 8)) (omega (arith, shr-shr n 24 8)) (omega (arith, shr-shr n 32 8)) (omega (arith, shr-shr n 40 8))
-    (omega (arith, shr-shr n 48 8)) (omega arith)
+    (n / 72057594037927936 % 256) (omega arith) (omega (arith, shr-shr n 8 8)) (omega (arith, shr-shr n 16 8)) (omega (arith, shr-shr n 24 8))
+    (omega (arith, shr-shr n 32 8)) (omega (arith, shr-shr n 40 8)) (omega (arith, shr-shr n 48 8)) (omega arith)
 
 word-later : (n : ℕ) (r : List ℕ) (i : ℕ) → wordIn (longBytes n ++ r) (suc i) ≡ wordIn r i
 unfolding wordIn
@@ -84,5 +81,5 @@ module _ (ws area : List ℕ) (all : length ws ≡ 145) (room : 1160 ≤ length 
     area-bytes =
         let rest = drop (length (bytesOf ws)) area in
         let l : 8 * i ≤ length (bytesOf ws) = omega (arith, whole) in
-        let m : 8 ≤ length (drop (8 * i) (bytesOf ws)) = simp lib.ListN.length-drop (omega (arith, whole)) in
+        let m : 8 ≤ length (drop (8 * i) (bytesOf ws)) = simp length-drop (omega (arith, whole)) in
         rw (drop-append-le (8 * i) (bytesOf ws) rest l, take-append-le 8 (drop (8 * i) (bytesOf ws)) rest m) (eight-back ws i (omega (arith, all)))

@@ -9,7 +9,6 @@ use Rattle.counting.specs.declared.Event.{Event}
 use Rattle.counting.specs.declared.Event.the-variants as event
 use Rattle.calling.specs.Call.{Call, Answered, Refused}
 use Rattle.calling.specs.Lent.{Lent, lent, asking}
-use Rattle.calling.specs.Serve.{serve}
 use Rattle.demands.specs.Frame.{succeeds}
 use Rattle.reporting.specs.Row.{alteredBy, next, row, left}
 use Rattle.reporting.specs.Report.{requestsOf, reported}
