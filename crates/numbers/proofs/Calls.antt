@@ -17,13 +17,14 @@ use Rattle.counting.specs.Counted.{alteredIn, largestIn}
 use Rattle.counting.specs.Counted as counted
 use Rattle.counting.specs.declared.Event.{Event}
 use Rattle.counting.proofs.Numbers.{largest-append}
+use Rattle.rewrite.proofs.Counts.{altered-none}
 use Rattle.calling.specs.Call.{Call, Answered, Refused}
 use Rattle.calling.specs.Lent.{Lent, asking}
 use Rattle.calling.specs.Serve.{Served, checkOf, checkValue, refused, answered, serve}
 use Rattle.calling.proofs.Calls.{size-least, size-most, length-even}
 use Rattle.calling.proofs.Kept.{serve-by}
 use Rattle.demands.proofs.Firm.{check-most}
-use Rattle.reporting.specs.Row.{alteredBy, eventBy, eventOf, next, row, left}
+use Rattle.reporting.specs.Row.{recordsAltered, eventBy, eventOf, next, row, left}
 use Rattle.numbers.specs.Turns.{Place, callAt, answerLength, alteredOver}
 
 -- Two rows of requests.
@@ -67,18 +68,13 @@ left-profile x [] = refl
 left-profile x (p ∷ ps) = left-profile (next x p) ps
 
 -- Records altered: a refusal alters none.
-none-altered : (t : List ℕ) (n : ℕ) → alteredUpTo t t n ≡ 0
-unfolding alteredUpTo differ
-none-altered t zero = refl
-none-altered t (suc n) = rw (same-refl (blockOf t (suc n))) (omega (arith, none-altered t n))
+pub same-altered : (x : Lent) → serve x .table ≡ x .table → recordsAltered x ≡ 0
+same-altered x e = ap (λ (t : List ℕ). alteredUpTo (x .table) t (checkValue (checkOf x))) e ∙ altered-none (x .table) (checkValue (checkOf x))
 
-pub same-altered : (x : Lent) → serve x .table ≡ x .table → alteredBy x ≡ 0
-same-altered x e = ap (λ (t : List ℕ). alteredUpTo (x .table) t (checkValue (checkOf x))) e ∙ none-altered (x .table) (checkValue (checkOf x))
-
-event-altered : (x : Lent) → counted.alteredBy (eventOf x) ≡ alteredBy x
+event-altered : (x : Lent) → counted.alteredBy (eventOf x) ≡ recordsAltered x
 unfolding eventOf refused answered
 event-altered x =
-    serve-by x (λ (s : Served). serve x ≡ s → counted.alteredBy (eventBy x (s .call)) ≡ alteredBy x)
+    serve-by x (λ (s : Served). serve x ≡ s → counted.alteredBy (eventBy x (s .call)) ≡ recordsAltered x)
     (λ r a b e. sym (same-altered x (ap (λ (s : Served). s .table) e)))
     (λ k e. refl)
     refl

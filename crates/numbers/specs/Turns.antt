@@ -10,7 +10,7 @@ use Rattle.counting.specs.declared.Event.the-variants as event
 use Rattle.calling.specs.Call.{Call, Answered, Refused}
 use Rattle.calling.specs.Lent.{Lent, lent, asking}
 use Rattle.demands.specs.Frame.{succeeds}
-use Rattle.reporting.specs.Row.{alteredBy, next, row, left}
+use Rattle.reporting.specs.Row.{recordsAltered, next, row, left}
 use Rattle.reporting.specs.Report.{requestsOf, reported}
 
 -- the requests of a file as they are counted
@@ -44,7 +44,7 @@ answerLength (Refused number besides) = 0
 -- "records altered, once per request": the sum over the calls of how many records have other bytes after each
 unfoldable pub alteredOver : Lent → List (List ℕ) → ℕ
 alteredOver x [] = 0
-alteredOver x (p ∷ ps) = alteredBy (asking x p) + alteredOver (next x p) ps
+alteredOver x (p ∷ ps) = recordsAltered (asking x p) + alteredOver (next x p) ps
 
 -- refused, or answered by an error, or neither a SAR nor a MAR
 abbrev pub idle : Event → Bool
