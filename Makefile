@@ -8,7 +8,7 @@ SHELL := /bin/bash
 .NOTPARALLEL:
 export PYTHONDONTWRITEBYTECODE := 1
 .PHONY: help run test clean fmt kit pages header examples tables texts aims stores programs reference installs cited bench stack installable install uninstall
-.PHONY: unsound differential noticed soak mutants stats definitions-check cases
+.PHONY: unsound reports differential noticed soak mutants stats definitions-check cases
 
 MACHINE := $(shell uname -m)
 ifeq ($(MACHINE),x86_64)
@@ -30,7 +30,7 @@ HEADER := include/ndushavire.h
 BINARY := reference/target/release/reference
 PROVED := crates.txt $(shell find crates -name '*.rt' -o -name '*.antt' -o -type d)
 # x86-64 code as well, and nothing of theirs is static: installed on x86-64 alone.
-PROGRAMS := $(if $(filter x86_64,$(MACHINE)),target/bin/answer target/bin/tablecheck target/c99/check)
+PROGRAMS := $(if $(filter x86_64,$(MACHINE)),target/bin/answer target/bin/tablecheck target/c99/check target/c99/report)
 REFERENCE := $(shell find reference -path reference/target -prune -o -name '*.rs' -print -o -name 'Cargo.*' -print)
 
 #: help               this list
@@ -60,7 +60,7 @@ target/bin/%: $(PROVED)
 	touch $@
 
 #: test               every test from fmt to differential below, some 3 minutes once the library is proved
-test: fmt kit pages header examples tables texts aims stores programs unsound reference installs cited noticed differential
+test: fmt kit pages header examples tables texts aims stores programs unsound reports reference installs cited noticed differential
 
 #: fmt                whether crates/ is in the kit's layout
 fmt:
@@ -79,11 +79,12 @@ pages: target/c/maketable target/c/showtable
 header: target/c/header target/c++/header
 	for header in $^; do $$header; done
 
-#: examples           the C examples: worked answers, refusals, AVPs at fault, requests that real software sent
-examples: $(foreach mode,c99 cxx,$(addprefix target/$(mode)/,check decide)) target/c/fault target/c++/fault target/c/maketable $(BINARY)
+#: examples           the C examples: worked answers, refusals, AVPs at fault, requests that real software sent, the month's numbers
+examples: $(foreach mode,c99 cxx,$(addprefix target/$(mode)/,check decide report)) target/c/fault target/c++/fault target/c/maketable $(BINARY)
 	for fault in target/c/fault target/c++/fault; do $$fault; done
 	RUN='$(RUN)' tests/decide.sh target/test/decide target/c/maketable target/c99/decide target/cxx/decide
 	RUN='$(RUN)' tests/captured.sh target/test/captured target/c/maketable $(BINARY) target/c99/decide target/cxx/decide
+	RUN='$(RUN)' tests/report.sh target/test/report target/c/maketable target/c99/report target/cxx/report
 
 #: tables             tables and vector files made from text, damaged ones, and the switch to new ones as the manual pages have it
 tables: examples target/c/showtable
@@ -114,6 +115,15 @@ programs: target/bin/answer target/bin/tablecheck target/c/maketable
 unsound: target/c99/unsound
 	$(RUN) $<
 
+COUNT_months := 500
+#: reports            the report beside as many decisions, over 500 random files of requests; SEED=N runs a seed again
+reports: target/c99/month target/c/maketable
+	@mkdir -p target/test/reports
+	target/c/maketable table examples/households.txt >target/test/reports/table
+	target/c/maketable profile examples/households.txt >target/test/reports/profile
+	target/c/maketable vectors examples/vectors.txt >target/test/reports/vectors
+	$(RUN) $< $(addprefix target/test/reports/,table profile vectors) $(SEED) $(COUNT_months)
+
 #: reference          the independent program's own tests
 reference:
 	cd reference && cargo test --offline --quiet
@@ -127,10 +137,11 @@ ifndef SEED
 SEED := $(shell od -An -N4 -tu4 /dev/urandom | tr -d ' ')
 endif
 DRIVER = $(RUN) target/c99/driver
-KINDS := tables vectors calls demand3 runs
+KINDS := tables vectors calls reports demand3 runs
 COUNT_tables := 200000
 COUNT_vectors := 100000
 COUNT_calls := 100000
+COUNT_reports := 20000
 COUNT_demand3 := 20000
 COUNT_runs := 2000
 
@@ -138,7 +149,7 @@ COUNT_runs := 2000
 cited: $(ARCHIVE) $(PROGRAMS)
 	RUN='$(RUN)' tests/cited.sh target/test/cited $(X86_CC)
 
-#: differential       the library beside the independent program on 420,000 new cases and 2,000 runs of calls; SEED=N runs a seed again
+#: differential       the library beside the independent program on 440,000 new cases and 2,000 runs of calls; SEED=N runs a seed again
 differential: target/c99/driver $(BINARY)
 	@for of in $(foreach kind,$(KINDS),$(kind):$(COUNT_$(kind))); do \
 	    echo "differential run: seed $(SEED), $${of#*:} $${of%:*}"; \
@@ -163,7 +174,7 @@ soak: target/c99/driver $(BINARY)
 
 # After how many cases each deliberate fault of the independent program shows; what the cases are made of.
 COUNT_mutants := 100000
-#: mutants            whether 495 deliberate faults would be noticed, and after how many cases
+#: mutants            whether 579 deliberate faults would be noticed, and after how many cases
 mutants: $(BINARY)
 	@echo "mutants: seed $(SEED)"
 	$(BINARY) mutants --seed $(SEED) --count $(COUNT_mutants)
@@ -174,6 +185,7 @@ stats: $(BINARY)
 	$(BINARY) stats --kind tables --seed $(SEED) --count $(COUNT_tables)
 	$(BINARY) stats --kind vectors --seed $(SEED) --count $(COUNT_vectors)
 	$(BINARY) stats --kind calls --seed $(SEED) --count $(COUNT_calls)
+	$(BINARY) stats --kind reports --seed $(SEED) --count $(COUNT_reports)
 
 # The definitions beside the independent program: antt computes each case, which takes seconds; 24 make a quick trial.
 COUNT_DEFINITIONS := 300
@@ -183,7 +195,7 @@ definitions-check: $(BINARY)
 
 # Writes crates/cases/stdin and stdout anew: what the gate's program `cases` runs, and what the independent program says
 # of it.
-#: cases              chooses anew the cases that the gate runs, two minutes
+#: cases              chooses anew the cases that the gate runs, three minutes
 cases: $(BINARY)
 	tests/cases.py $(BINARY) crates/cases
 
@@ -242,6 +254,10 @@ target/c99/unsound: tests/unsound.c bench/requests.h $(HEADER) $(ARCHIVE)
 	mkdir -p $(@D)
 	$(X86_CC) -std=c99 $(STRICT) -o $@ $< $(ARCHIVE)
 
+target/c99/month: tests/month.c bench/requests.h examples/load.h $(HEADER) $(ARCHIVE)
+	mkdir -p $(@D)
+	$(X86_CC) -std=c99 $(STRICT) -o $@ $< $(ARCHIVE)
+
 target/c99/%: examples/%.c examples/load.h examples/fault.h $(HEADER) $(ARCHIVE)
 	mkdir -p $(@D)
 	$(X86_CC) -std=c99 $(STRICT) -o $@ $< $(ARCHIVE)
@@ -260,16 +276,18 @@ TIMED := target/native/libndushavire.a
 endif
 CHECKED := 1-short 16-short 300-short 4096-short 4096-long
 DECIDED := 1-short 16-short 300-short 4096-short 1-tiny 16-tiny 300-tiny 4096-tiny
+REPORTED := 16-short 300-short 4096-short
 # A program's arguments: each table, its profile file and how its names are.
 samples = $(foreach size,$(1),target/bench/$(size).table target/bench/$(size).profile $(word 2,$(subst -, ,$(size))))
 
 #: bench              times beside the aims, a minute once their parts are made; a missed aim is marked
-bench: $(addprefix target/bench/,check vectors decide) $(patsubst %,target/bench/%.table,$(sort $(CHECKED) $(DECIDED)))
+bench: $(addprefix target/bench/,check vectors decide report) $(patsubst %,target/bench/%.table,$(sort $(CHECKED) $(DECIDED)))
 	@{ $(CC) --version | head -n 1; \
 	   target/bench/check $(call samples,$(CHECKED)); \
 	   target/bench/vectors $(call samples,$(CHECKED)); \
-	   target/bench/decide $(call samples,$(DECIDED)); } | tee target/bench/report
-	@bench/summary.sh target/bench/report
+	   target/bench/decide $(call samples,$(DECIDED)); \
+	   target/bench/report $(call samples,$(REPORTED)); } | tee target/bench/figures
+	@bench/summary.sh target/bench/figures
 
 #: stack              how much stack a call takes
 stack: target/c99/stack $(DECIDED:%=target/bench/%.table)
@@ -295,6 +313,9 @@ target/bench/check target/bench/vectors: target/bench/%: bench/%.c $(TIMER) $(SU
 
 target/bench/decide: bench/decide.c $(TIMER)
 	$(CC) -std=c99 $(STRICT) -o $@ $< $(TIMED) target/bench/libreference_c.a -lpthread -ldl -lm
+
+target/bench/report: bench/report.c $(TIMER)
+	$(CC) -std=c99 $(STRICT) -o $@ $< $(TIMED)
 
 target/c99/stack: bench/stack.c bench/requests.h bench/samples.h bench/vectors.h examples/load.h $(HEADER) $(ARCHIVE)
 	mkdir -p $(@D)

@@ -11,6 +11,8 @@ enum { STACK = 1 << 20, PATTERN = 0xA5, AIM = 48 * 1024 };
 static const Sample *s;
 static Request request;
 static Vectors vectors; /* a vector for each record */
+static uint8_t month[1 << 16]; /* the requests decided so far, laid end to end */
+static size_t month_len;
 static uint64_t word;
 static ucontext_t here, there;
 
@@ -21,6 +23,13 @@ static void decide(void) {
     static uint8_t answer[NDUSHAVIRE_ANSWER_ROOM];
     word = ndushavire_decide(request.bytes, request.length, s->table, s->table_len, s->profile, s->profile_len, vectors.bytes,
                              vectors.length, answer, sizeof answer);
+}
+
+static uint8_t numbers[NDUSHAVIRE_REPORT_ROOM];
+static void report(void) {
+    static uint8_t answer[NDUSHAVIRE_ANSWER_ROOM];
+    word = ndushavire_report(month, month_len, s->table, s->table_len, s->profile, s->profile_len, vectors.bytes, vectors.length, answer,
+                             sizeof answer, numbers, sizeof numbers);
 }
 
 /* How many bytes of the stack a call alters. */
@@ -48,6 +57,23 @@ static int within(void (*call)(void), const char *what) {
     return bytes <= AIM;
 }
 
+/* A decision of the request, which is kept for the report. */
+static int decides(const char *what) {
+    if (month_len + request.length > sizeof month) abort();
+    memcpy(month + month_len, request.bytes, request.length);
+    month_len += request.length;
+    return within(decide, what);
+}
+
+/* A report over all of them, of which none is refused: a refused one would tell little. */
+static int reports(void) {
+    const int passes = within(report, "report");
+    const uint64_t read = ndushavire_report_word(numbers, NDUSHAVIRE_REPORT_READ);
+    const int answered = read > 1 && ndushavire_report_word(numbers, NDUSHAVIRE_REPORT_ANSWERED) == read;
+    if (!answered) fprintf(stderr, "stack: the report's requests are not answered\n");
+    return passes & answered;
+}
+
 /* Whether the first and the last of the vectors that an answer can send are marked: another answer would tell little. */
 static int all_sent(void) {
     const uint8_t *end = vectors.bytes + vectors.length;
@@ -57,29 +83,33 @@ static int all_sent(void) {
 }
 
 static int measure_all(const uint8_t *registered) {
+    month_len = 0;
     int passes = within(check, "check");
     passes &= within(check_vectors, "vector check");
     if (strcmp(s->names, "tiny") == 0) {
         ask_assignment(&request, s->table, s->records, registered, 6, 1);
-        passes &= within(decide, "removal of 1");
+        passes &= decides("removal of 1");
         ask_assignment(&request, s->table, s->records, registered, 6, 1000);
-        passes &= within(decide, "removal, 1000");
-        return passes;
+        passes &= decides("removal, 1000");
+        return passes & reports();
     }
     ask_authorization(&request, s->table, last_in(s->table, s->records, NOT_REGISTERED));
-    passes &= within(decide, "UAR");
+    passes &= decides("UAR");
     ask_location(&request, registered);
-    passes &= within(decide, "LIR");
+    passes &= decides("LIR");
     ask_long_location(&request, registered, NDUSHAVIRE_REQUEST_MAX);
-    passes &= within(decide, "LIR of 16 KiB");
+    passes &= decides("LIR of 16 KiB");
     ask_assignment(&request, s->table, s->records, registered, 1, 1);
-    passes &= within(decide, "SAR type 1");
+    passes &= decides("SAR type 1");
     /* Another server's name, so that the record is rewritten too. */
     ask_authentication(&request, registered, SENT_MOST, "sip:another.isle:6060");
-    passes &= within(decide, "MAR, 16 items") & all_sent();
+    passes &= decides("MAR, 16 items") & all_sent();
+    unmark(&vectors); /* for the report to send again */
     request.length = NDUSHAVIRE_REQUEST_MIN;
     end(&request);
-    return passes & within(decide, "a header alone");
+    passes &= decides("a header alone");
+    passes &= reports();
+    return passes & all_sent();
 }
 
 static int measure(const Sample *sample) {

@@ -1,14 +1,14 @@
 /* ndushavire.h: decides Diameter Cx requests over a subscriber table and a vector file.
  *
- * Who owns what. The caller owns every byte. All slices (request, table, profile, vectors, answer) are lent for the
- * length of the call and none is kept: the library has no state of its own, opens no file, takes no memory and
+ * Who owns what. The caller owns every byte. All slices (request, table, profile, vectors, answer, requests, report) are lent
+ * for the length of the call and none is kept: the library has no state of its own, opens no file, takes no memory and
  * starts nothing. The slices of one call must not overlap. Every pointer is non-null, also where its length is 0.
- * Only ndushavire_decide writes: to the answer, the table and the vectors. What must outlive the process is for the
- * caller to store.
+ * Only ndushavire_decide and ndushavire_report write: to the answer, the table and the vectors, and the second to its report.
+ * What must outlive the process is for the caller to store.
  *
  * Threads. A call is reentrant; it sets no errno and raises no signal. Calls on different tables and vectors may run at
- * once and share one profile. While ndushavire_decide runs, no one else may read or write its table, its vectors or its
- * answer. Checks of one table, or of one vector file, may run beside each other.
+ * once and share one profile. While ndushavire_decide or ndushavire_report runs, no one else may read or write its table, its
+ * vectors, its answer or its report. Checks of one table, or of one vector file, may run beside each other.
  *
  * The profile file is what call servers are sent of each line: bytes without a structure of their own, into which the
  * table's records point. Table and profile file are a pair, made, checked and kept together.
@@ -17,6 +17,9 @@
  * used or not. A call that sends vectors marks their blocks as used, and no block is sent twice. It is stored before the
  * answer goes out, and an older one is never lent again: it would send vectors a second time. A file of no bytes (length 0)
  * has no vectors; a daemon for lines without cards lends that.
+ *
+ * The month's numbers. ndushavire_report decides a whole file of requests again and counts. It alters its table and marks its
+ * vectors as those decisions did, so it is lent copies from before the first of them, and never the live ones.
  *
  * Stack. A call takes under 48 KiB (some 37 KiB measured). The archive has no unwind tables: a debugger's backtrace
  * ends at the call.
@@ -37,8 +40,8 @@
 extern "C" {
 #endif
 
-#define NDUSHAVIRE_VERSION "0.3.0"
-#define NDUSHAVIRE_VERSION_NUMBER 300 /* the same to compare: major x 10,000 + minor x 100 + patch */
+#define NDUSHAVIRE_VERSION "0.4.0"
+#define NDUSHAVIRE_VERSION_NUMBER 400 /* the same to compare: major x 10,000 + minor x 100 + patch */
 
 #define NDUSHAVIRE_ANSWER_ROOM 36864       /* the least answer buffer, in bytes: no answer is longer */
 #define NDUSHAVIRE_REQUEST_MIN 20          /* the shortest request, a Diameter header alone */
@@ -48,17 +51,20 @@ extern "C" {
 #define NDUSHAVIRE_TABLE_MAX 2097664       /* the longest table, in bytes: the header and the most records */
 #define NDUSHAVIRE_VECTORS_MAX 4096        /* the most vectors of a vector file */
 #define NDUSHAVIRE_VECTOR_FILE_MAX 2097152 /* the longest vector file, in bytes */
+#define NDUSHAVIRE_REPORT_ROOM 1160        /* the least report area, in bytes: its 145 words of 64 bits */
 
 /* Each function returns a word. Keep it in a uint64_t: an int loses the number, and a refusal then looks like a short
- * answer. Its number is 0, or why the call was refused; a refused call has written nothing. Later versions add
- * numbers: every one but 0, known or not, is a refusal. */
-#define NDUSHAVIRE_DONE 0            /* answered; of a check, sound */
+ * answer. Its number is 0, or why the call was refused; a refused call has written nothing, but for number 7, which comes
+ * at a report's end. Later versions add numbers: every one but 0, known or not, is a refusal. */
+#define NDUSHAVIRE_DONE 0            /* answered; of a check, sound; of a report, the requests read to their end */
 #define NDUSHAVIRE_ANSWER_SHORT 1    /* the answer buffer is under NDUSHAVIRE_ANSWER_ROOM */
 #define NDUSHAVIRE_REQUEST_SIZE 2    /* the request is under or over its limits */
 #define NDUSHAVIRE_REQUEST_LENGTH 3  /* its header's length is not its own, or no multiple of 4 */
 #define NDUSHAVIRE_NO_REQUEST 4      /* the R bit is clear */
 #define NDUSHAVIRE_TABLE_UNSOUND 5   /* the value is the first bad block */
 #define NDUSHAVIRE_VECTORS_UNSOUND 6 /* the value is 0; of ndushavire_check_vectors it is the first bad block */
+#define NDUSHAVIRE_REQUESTS_BROKEN 7 /* of a report, which has the numbers so far: the next request is cut off or out of step */
+#define NDUSHAVIRE_OUTPUT_SHORT 15   /* the report area is under NDUSHAVIRE_REPORT_ROOM */
 
 /* Answers one request, rewrites the records that it changes, and marks the vectors that it sends. The word's value is the
  * answer's length; the buffer's bytes past it stay as they were. Its place says which AVP of the request is at fault, if one
@@ -75,6 +81,37 @@ uint64_t ndushavire_check(const uint8_t *table, size_t table_len, const uint8_t 
  * last piece under a block, and a block past NDUSHAVIRE_VECTORS_MAX, are bad blocks. */
 uint64_t ndushavire_check_vectors(const uint8_t *vectors, size_t vectors_len);
 
+/* Decides the requests that are laid end to end, in turn, each over the table and the vectors that the one before left, and
+ * counts. Its numbers are those of as many calls of ndushavire_decide with this answer buffer, and what it leaves in table,
+ * vectors and buffer is what they would. The length in a request's header alone says where the next one begins: one that is over
+ * NDUSHAVIRE_REQUEST_MAX, or is no multiple of 4, is refused as ever, counted, and read over. The report is written once, at the
+ * end; bytes past NDUSHAVIRE_REPORT_ROOM stay.
+ * The word's number is 0 if the file was used up. It is 7 if 1 to 3 bytes are left, or the next header's length is under
+ * NDUSHAVIRE_REQUEST_MIN or past the file's end: the report then has the numbers of all requests before, which have been
+ * decided, and says at which byte it stopped. It is 15 if the report area is too short: nothing was decided or written. The
+ * value is 0, and no request's refusal ends the report: it is counted. */
+uint64_t ndushavire_report(const uint8_t *requests, size_t requests_len, uint8_t *table, size_t table_len,
+                           const uint8_t *profile, size_t profile_len, uint8_t *vectors, size_t vectors_len,
+                           uint8_t *answer, size_t answer_len, uint8_t *report, size_t report_len);
+
+/* The words of a report, each a number of 64 bits, big-endian. Every request read is counted once: an answered one by its
+ * command and its result, a refused one by the refusal. So the answered and the refused ones add up to those read, and the
+ * rows' totals to the answered ones. */
+#define NDUSHAVIRE_REPORT_WORDS 145
+#define NDUSHAVIRE_REPORT_READ 0     /* the requests read */
+#define NDUSHAVIRE_REPORT_STOP 1     /* the byte of the file at which reading stopped: its length, unless the number is 7 */
+#define NDUSHAVIRE_REPORT_ALTERED 2  /* the records altered, each once for a request that altered its bytes */
+#define NDUSHAVIRE_REPORT_LARGEST 3  /* the length of the largest answer, 0 if there is none */
+#define NDUSHAVIRE_REPORT_ANSWERED 4 /* the requests answered */
+#define NDUSHAVIRE_REPORT_REFUSED 4  /* and a refusal's number, 1 to 15: the requests that it refused */
+#define NDUSHAVIRE_REPORT_RESULTS 20 /* and NDUSHAVIRE_REPORT_COLUMNS x row + column: the requests answered so */
+
+/* A row for each command, and one for all others. A column for each result: first those as a base Result-Code (B), then those
+ * as an Experimental-Result (X); ndushavire_report_result has their numbers. */
+#define NDUSHAVIRE_REPORT_ROWS 5     /* 300, 301, 302, 303, every other command */
+#define NDUSHAVIRE_REPORT_COLUMNS 25
+#define NDUSHAVIRE_REPORT_BASE 13    /* the columns before this one are B, and it and those behind it X */
+
 /* The parts of a word: number << 48 | place << 32 | value. */
 static inline uint32_t ndushavire_number(uint64_t word) { return (uint32_t)(word >> 48); }
 
@@ -84,7 +121,7 @@ static inline uint32_t ndushavire_number(uint64_t word) { return (uint32_t)(word
  * examples/fault.h prints them. Of a fault within a group it is the group's place. Under B5014 the AVP before it may be the one
  * whose length is wrong.
  * It is 0 where no AVP of the request is at fault: under header faults, B5005, X results, whatever a decision says (B5003,
- * B5012, the B5009 of a SAR's second identity), success; under every refusal; and of both checks. */
+ * B5012, the B5009 of a SAR's second identity), success; under every refusal; of both checks, and of a report. */
 static inline uint32_t ndushavire_place(uint64_t word) { return (uint32_t)(word >> 32) & 0xFFFFu; }
 
 /* The answer's length is this part alone: the word of an answer with a place is a far greater number. */
@@ -95,6 +132,31 @@ static inline int ndushavire_answered(uint64_t word) { return ndushavire_number(
 
 /* Of ndushavire_check and ndushavire_check_vectors: whether the file is sound. */
 static inline int ndushavire_sound(uint64_t word) { return ndushavire_number(word) == NDUSHAVIRE_DONE; }
+
+/* A word of a report, by its number from 0. */
+static inline uint64_t ndushavire_report_word(const uint8_t *report, uint32_t word) {
+    uint64_t count = 0;
+    for (uint32_t at = 8 * word; at < 8 * word + 8; at++) count = count << 8 | report[at];
+    return count;
+}
+
+/* How many requests a refusal refused, by its number, 1 to 15. */
+static inline uint64_t ndushavire_report_refused(const uint8_t *report, uint32_t number) {
+    return ndushavire_report_word(report, NDUSHAVIRE_REPORT_REFUSED + number);
+}
+
+/* How many requests of a row's command got a column's result. */
+static inline uint64_t ndushavire_report_count(const uint8_t *report, uint32_t row, uint32_t column) {
+    return ndushavire_report_word(report, NDUSHAVIRE_REPORT_RESULTS + NDUSHAVIRE_REPORT_COLUMNS * row + column);
+}
+
+/* The result that a column counts: B if the column is under NDUSHAVIRE_REPORT_BASE, else X. */
+static inline uint32_t ndushavire_report_result(uint32_t column) {
+    static const uint16_t results[NDUSHAVIRE_REPORT_COLUMNS] = {2001, 3001, 3007, 3008, 3009, 5001, 5003, 5004, 5005,
+                                                                5009, 5011, 5012, 5014, 2001, 2002, 2003, 2004, 5001,
+                                                                5002, 5003, 5004, 5005, 5006, 5007, 5011};
+    return results[column];
+}
 
 #ifdef __cplusplus
 }

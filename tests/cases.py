@@ -4,14 +4,15 @@
 Both are the independent program's: it makes the cases and says their outcomes. Chosen are small cases: for each of its deliberate
 faults one that shows it; of each result one, and then more: a refusal with what it returns besides; a command with its result; of a
 SAR past the reading rules also its type, and where it succeeds or meets a wrong state also keep, the state and whether it names many
-identities; of a MAR that succeeds the state and whether the record changes. After them stand the requests of real software in captured/,
-each over the table and the vectors that their heads describe. Nothing here is random: a second run writes the same bytes."""
+identities; of a MAR that succeeds the state and whether the record changes; of a report how it ends and what it counts. After them stand the
+requests of real software in captured/, each over the table and the vectors that their heads describe. Nothing here is random: a second run
+writes the same bytes."""
 import collections, pathlib, struct, sys
 
 import streams
 from streams import answer, avps, made, outcomes, run
 
-MOST = 750_000  # bytes of cases
+MOST = 930_000  # bytes of cases
 CX = 10415
 RULES = tuple(('B', n) for n in (5001, 5004, 5014, 3009, 5011, 3008, 3001, 3007))
 KNOWN = {(n, 0) for n in (263, 260, 277, 264, 296, 293, 283, 1, 284, 282)} | {(n, CX) for n in (601, 600, 623, 602, 614, 624, 607, 612)}
@@ -22,8 +23,19 @@ def number(data):
     return struct.unpack('>I', data)[0] if len(data) == 4 else None
 
 
+def month(case, outcome):
+    """What a report comes to: its number, the refusals in it, and whether records and vectors changed; and the commands that it counts."""
+    if outcome.word >> 48 == 15:
+        return (4, outcome.word), 0
+    words = struct.unpack('>145Q', streams.after(case, outcome, 'report')[:1160])
+    changed = tuple(streams.changes(case, outcome)[name][1] != b'' for name in ('table', 'vectors'))
+    return (4, outcome.word, tuple(map(bool, words[5:20])), changed), tuple(any(words[at:at + 25]) for at in range(20, 145, 25))
+
+
 def row(case, outcome):
     """What a case comes to, and what its answer carries."""
+    if case.entry == 4:
+        return month(case, outcome)
     if outcome.word >> 48 or case.entry != 2:
         several = case.entry != 2 or outcome.word >> 48 >= 5  # a bad block has many causes
         return (case.entry, outcome.word, streams.sizes(case).get('request', 0) > 16384), case.fill % 6 if several else 0
@@ -61,7 +73,7 @@ def fits(case):
 
 def small(case):
     sizes = streams.sizes(case)
-    request = sizes.get('request', 0)
+    request = sizes.get('request', sizes.get('requests', 0) // 4)  # some requests in a row
     files = max(sizes.get('table', 0), sizes.get('vectors', 0)) <= 2048 and sizes.get('profile', 0) <= 700
     return files and (request <= 900 or request > 16384)
 
@@ -69,7 +81,8 @@ def small(case):
 def fitting(reference):
     """Cases that fit, the smallest first."""
     found = []
-    for kind, seeds, count in (('tables', (1,), 4000), ('vectors', (1,), 4000), ('calls', range(1, 6), 20000)):
+    few = [(kind, (1,), 4000) for kind in ('tables', 'vectors', 'reports')]
+    for kind, seeds, count in (*few, ('calls', range(1, 6), 20000)):
         for seed in seeds:
             found += [case for case in streams.cases(made(reference, kind, seed, count)) if fits(case)]
     return sorted(found, key=lambda case: len(case.whole))

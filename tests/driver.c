@@ -53,6 +53,11 @@ static uint64_t check_vectors(const struct lent *lent)
     return ndushavire_check_vectors(SLICE(0));
 }
 
+static uint64_t report(const struct lent *lent)
+{
+    return ndushavire_report(SLICE(0), SLICE(1), SLICE(2), SLICE(3), SLICE(4), SLICE(5));
+}
+
 /* The entries by their number in the streams, from 1 on: a letter for each slice, r if it is lent to be read and w if
  * the entry may write to it; how many numbers; the call. */
 static const struct entry {
@@ -63,6 +68,7 @@ static const struct entry {
     {"rr", 0, check},
     {"rwrww", 0, decide},
     {"r", 0, check_vectors},
+    {"rwrwww", 0, report},
 };
 
 struct bytes {

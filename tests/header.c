@@ -1,5 +1,5 @@
 /* header: what ndushavire.h says by itself, in C and in C++, without the archive: its version in both forms, its limits, the
- * parts of a word. Exit status: 0 all as it should be, 1 not so. */
+ * parts of a word, the words of a report. Exit status: 0 all as it should be, 1 not so. */
 #include <stdio.h>
 
 #include <ndushavire.h>
@@ -12,6 +12,31 @@ static void holds(int fact, const char *what) {
     wrong = 1;
 }
 
+/* The words of a report follow each other without a gap, and each is found where it stands. */
+static void report_holds(void) {
+    uint8_t report[NDUSHAVIRE_REPORT_ROOM];
+    for (size_t at = 0; at < sizeof report; at++) report[at] = (uint8_t)(at % 8 < 6 ? 0xA0 + at % 8 : at / 8 * (at % 8 - 6));
+    const uint64_t top = (uint64_t)0xA0A1A2A3A4A5u << 16; /* word K is this and K */
+    int words = 1, counts = 1, refusals = 1, rise = 1;
+    for (uint32_t k = 0; k < NDUSHAVIRE_REPORT_WORDS; k++) words &= ndushavire_report_word(report, k) == top + k;
+    holds(words && sizeof report == 8 * NDUSHAVIRE_REPORT_WORDS, "a word of a report");
+    holds(NDUSHAVIRE_REPORT_READ == 0 && NDUSHAVIRE_REPORT_STOP == 1 && NDUSHAVIRE_REPORT_ALTERED == 2 && NDUSHAVIRE_REPORT_LARGEST == 3 &&
+              NDUSHAVIRE_REPORT_ANSWERED == 4,
+          "the first words of a report");
+    for (uint32_t number = 1; number <= NDUSHAVIRE_OUTPUT_SHORT; number++)
+        refusals &= ndushavire_report_refused(report, number) == top + NDUSHAVIRE_REPORT_ANSWERED + number;
+    holds(refusals && NDUSHAVIRE_REPORT_REFUSED + NDUSHAVIRE_OUTPUT_SHORT + 1 == NDUSHAVIRE_REPORT_RESULTS, "the refusals of a report");
+    uint64_t next = top + NDUSHAVIRE_REPORT_RESULTS;
+    for (uint32_t row = 0; row < NDUSHAVIRE_REPORT_ROWS; row++)
+        for (uint32_t column = 0; column < NDUSHAVIRE_REPORT_COLUMNS; column++) counts &= ndushavire_report_count(report, row, column) == next++;
+    holds(counts && next == top + NDUSHAVIRE_REPORT_WORDS, "the rows and columns of a report");
+    for (uint32_t column = 1; column < NDUSHAVIRE_REPORT_COLUMNS; column++)
+        rise &= column == NDUSHAVIRE_REPORT_BASE || ndushavire_report_result(column - 1) < ndushavire_report_result(column);
+    holds(rise && ndushavire_report_result(0) == 2001 && ndushavire_report_result(NDUSHAVIRE_REPORT_BASE - 1) == 5014 &&
+              ndushavire_report_result(NDUSHAVIRE_REPORT_BASE) == 2001 && ndushavire_report_result(NDUSHAVIRE_REPORT_COLUMNS - 1) == 5011,
+          "the results of a report");
+}
+
 int main(void) {
     unsigned major, minor, patch;
     char rest;
@@ -21,7 +46,8 @@ int main(void) {
     holds(NDUSHAVIRE_TABLE_MAX == NDUSHAVIRE_BLOCK * (NDUSHAVIRE_RECORDS_MAX + 1),
           "NDUSHAVIRE_TABLE_MAX is not the header and the most records");
     holds(NDUSHAVIRE_VECTOR_FILE_MAX == NDUSHAVIRE_BLOCK * NDUSHAVIRE_VECTORS_MAX, "NDUSHAVIRE_VECTOR_FILE_MAX is not the most vectors");
-#if NDUSHAVIRE_VERSION_NUMBER < 300 || NDUSHAVIRE_TABLE_MAX < 2 || NDUSHAVIRE_VECTOR_FILE_MAX < 2 || NDUSHAVIRE_VECTORS_UNSOUND != 6
+#if NDUSHAVIRE_VERSION_NUMBER < 400 || NDUSHAVIRE_TABLE_MAX < 2 || NDUSHAVIRE_VECTOR_FILE_MAX < 2 || NDUSHAVIRE_REPORT_ROOM != 1160 || \
+    NDUSHAVIRE_VECTORS_UNSOUND != 6 || NDUSHAVIRE_REQUESTS_BROKEN != 7 || NDUSHAVIRE_OUTPUT_SHORT != 15
     holds(0, "a number is no number to the preprocessor");
 #endif
     const uint64_t word = (uint64_t)5 << 48 | (uint64_t)0xFFFF << 32 | 0x89ABCDEFu;
@@ -33,6 +59,7 @@ int main(void) {
           "an answer with a place");
     holds(ndushavire_place(NDUSHAVIRE_ANSWER_ROOM) == 0, "a place where there is none");
     holds(ndushavire_answered(NDUSHAVIRE_ANSWER_ROOM) && ndushavire_sound(NDUSHAVIRE_RECORDS_MAX), "an answer taken for a refusal");
+    report_holds();
     if (!wrong) printf("header: version %s, and the numbers of ndushavire.h agree\n", NDUSHAVIRE_VERSION);
     return wrong;
 }

@@ -2,7 +2,8 @@
 import collections, struct, subprocess
 
 # The slices that each entry takes, with a star behind those that it may write to.
-ENTRIES = {1: 'table profile'.split(), 2: 'request table* profile vectors* buffer*'.split(), 3: ['vectors']}
+ENTRIES = {1: 'table profile'.split(), 2: 'request table* profile vectors* buffer*'.split(), 3: ['vectors'],
+           4: 'requests table* profile vectors* buffer* report*'.split()}
 WRITTEN, NOISY = 1 << 31, 1 << 30  # beside a slice's length
 # What a slice of noise holds before the call, from any of its first 256 bytes on.
 NOISE = bytes(((n * 2654435761) & 0xFFFFFFFF) >> 24 for n in range(256 + 65536))
@@ -73,13 +74,17 @@ def changes(case, outcome):
     return dict(zip([name.strip('*') for name in ENTRIES[case.entry] if '*' in name], outcome.changes))
 
 
+def after(case, outcome, name):
+    """What a slice that its entry may write to holds after the call."""
+    held, (first, written) = bytearray(slices(case)[name]), changes(case, outcome)[name]
+    held[first:first + len(written)] = written
+    return bytes(held)
+
+
 def answer(case, outcome):
     """The answer of a decision; nothing if it was refused."""
-    first, written = changes(case, outcome)['buffer']
     length = 0 if outcome.word >> 48 else outcome.word & 0xFFFFFFFF  # above it stands the place of the AVP at fault
-    said = bytearray(NOISE[case.fill:case.fill + length])
-    said[first:first + len(written)] = written
-    return bytes(said)
+    return after(case, outcome, 'buffer')[:length]
 
 
 def state(table, public):

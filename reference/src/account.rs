@@ -3,7 +3,11 @@
 use crate::block::BLOCK;
 use crate::cases::{altered_bits, Case, Change, Entry, Outcome, Slice};
 use crate::gen::{Made, Stream};
+use crate::report::{name, Numbers, LEAST_REPORT};
 use crate::show::hex;
+
+/// A longer file of requests is not shown; `gen` writes it.
+const MOST_SHOWN: usize = 20_000;
 
 /// Lines of 32 bytes.
 pub fn lines(bytes: &[u8]) -> String {
@@ -19,6 +23,8 @@ pub fn word(entry: Entry, outcome: &Outcome) -> String {
         (Entry::CheckVectors, 0) => format!("sound, {value} vectors{place}"),
         (Entry::CheckVectors, 6) => format!("vector block {value} is bad{place}"),
         (Entry::Decide, 0) => format!("answered with {value} bytes{place}"),
+        (Entry::Report, 0) => format!("reported to the file's end, value {value}{place}"),
+        (Entry::Report, 7) => format!("reported up to a broken piece, value {value}{place}"),
         (_, number) => format!("refused {number}, value {value}{place}"),
     }
 }
@@ -35,8 +41,9 @@ pub fn slices(made: &Made) {
     println!("  made by: {}", made.notes.join(", "));
     for (lent, held) in case.entry.lent().iter().zip(&case.slices) {
         println!("  {} of {} bytes", lent.slice().name(), held.length());
-        if lent.slice() == Slice::Request {
-            println!("{}", lines(&case.held(Slice::Request)));
+        let shown = [Slice::Request, Slice::Requests].contains(&lent.slice()) && held.length() <= MOST_SHOWN;
+        if shown {
+            println!("{}", lines(&case.held(lent.slice())));
         }
     }
     for number in &case.numbers {
@@ -61,7 +68,7 @@ pub fn outcomes(case: &Case, own: &Outcome, given: &Outcome) {
             println!("  bytes around the {} were altered", slice.name());
         }
         if given.altered & itself != 0 {
-            println!("  the {} was altered", slice.name());
+            println!("  altered, though lent to be read: {}", slice.name());
         }
         match (case.entry.change(own, slice), case.entry.change(given, slice)) {
             (Some(own), Some(given)) if own != given => changed(&slice.name(), &case.held(slice), own, given),
@@ -70,6 +77,22 @@ pub fn outcomes(case: &Case, own: &Outcome, given: &Outcome) {
     }
     answer("this program", case, own);
     answer("the driver", case, given);
+    if let (Entry::Report, Some(own), Some(given)) =
+        (case.entry, case.after(own, Slice::Report), case.after(given, Slice::Report))
+    {
+        report(&own, &given);
+    }
+}
+
+/// The words in which two reports differ.
+fn report(own: &[u8], given: &[u8]) {
+    if own.len() < LEAST_REPORT {
+        return;
+    }
+    let (Numbers(own), Numbers(given)) = (Numbers::of(own), Numbers::of(given));
+    for (at, (own, given)) in own.iter().zip(&given).enumerate().filter(|(_, (own, given))| own != given) {
+        println!("  word {at} of the report, {}: this program has {own}, the driver {given}", name(at));
+    }
 }
 
 fn changed(name: &str, before: &[u8], own: &Change, given: &Change) {
@@ -100,7 +123,7 @@ fn changed(name: &str, before: &[u8], own: &Change, given: &Change) {
 
 pub fn answer(whose: &str, case: &Case, outcome: &Outcome) {
     let (number, _, value) = outcome.parts();
-    if let (0, Some(buffer)) = (number, case.after(outcome, Slice::Buffer)) {
+    if let (Entry::Decide, 0, Some(buffer)) = (case.entry, number, case.after(outcome, Slice::Buffer)) {
         println!("  the answer of {whose}:\n{}", lines(&buffer[..(value as usize).min(buffer.len())]));
     }
 }

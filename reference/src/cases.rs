@@ -3,7 +3,8 @@
 use std::borrow::Cow;
 
 use self::Lent::{Read, Written};
-use self::Slice::{Buffer, Profile, Request, Table, Vectors};
+use self::Slice::{Buffer, Profile, Report, Request, Requests, Table, Vectors};
+use crate::report;
 use crate::serve;
 use crate::slip::Slip;
 use crate::table;
@@ -16,15 +17,19 @@ pub enum Entry {
     Check = 1,
     Decide = 2,
     CheckVectors = 3,
+    Report = 4,
 }
 
 #[derive(Clone, Copy, PartialEq, Eq, Debug)]
 pub enum Slice {
     Request,
+    /// Laid end to end.
+    Requests,
     Table,
     Profile,
     Vectors,
     Buffer,
+    Report,
 }
 
 /// A slice that an entry takes: to read it, or to write to it too.
@@ -35,10 +40,15 @@ pub enum Lent {
 }
 
 /// Each entry, the slices that it takes, and how many numbers come behind them.
-const ENTRIES: [(Entry, &[Lent], usize); 3] = [
+const ENTRIES: [(Entry, &[Lent], usize); 4] = [
     (Entry::Check, &[Read(Table), Read(Profile)], 0),
     (Entry::Decide, &[Read(Request), Written(Table), Read(Profile), Written(Vectors), Written(Buffer)], 0),
     (Entry::CheckVectors, &[Read(Vectors)], 0),
+    (
+        Entry::Report,
+        &[Read(Requests), Written(Table), Read(Profile), Written(Vectors), Written(Buffer), Written(Report)],
+        0,
+    ),
 ];
 
 /// What a slice holds before the call.
@@ -205,6 +215,14 @@ impl Case {
         Case { entry: Entry::CheckVectors, fill, slices: vec![Held::Bytes(vectors)], numbers: vec![] }
     }
 
+    /// A report over these files, with so many bytes for answers and for the report.
+    pub fn report(fill: u8, requests: Vec<u8>, files: [Vec<u8>; 3], buffer: usize, report: usize) -> Case {
+        let [table, profile, vectors] = files;
+        let mut slices: Vec<Held> = [requests, table, profile, vectors].into_iter().map(Held::Bytes).collect();
+        slices.extend([Held::Noise(buffer), Held::Noise(report)]);
+        Case { entry: Entry::Report, fill, slices, numbers: vec![] }
+    }
+
     fn place(&self, slice: Slice) -> Option<usize> {
         self.entry.lent().iter().position(|lent| lent.slice() == slice)
     }
@@ -249,6 +267,17 @@ impl Case {
                 let found = vectors::check_with(vectors, slip);
                 (serve::check_word(6, found), Why::CheckedVectors(found))
             }
+            (Entry::Report, [requests, table, profile, vectors, buffer, report]) => report::report(
+                report::Lent {
+                    requests,
+                    table: table.to_mut(),
+                    profile,
+                    vectors: vectors.to_mut(),
+                    buffer: buffer.to_mut(),
+                    report: report.to_mut(),
+                },
+                slip,
+            ),
             _ => unreachable!("a case has the slices that its entry takes"),
         };
         let slices = self.entry.lent().iter().zip(before.iter().zip(&lent));

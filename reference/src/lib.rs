@@ -26,10 +26,13 @@ pub mod refuse;
 
 pub mod serve;
 
-// A call of an entry; the programs over files; what a person reads.
-pub mod cases;
+// Many calls in a row; the programs over files; what a person reads.
 pub mod program;
+pub mod report;
 pub mod show;
+
+// A call of an entry.
+pub mod cases;
 
 // Cases as streams; their makers, and what is done with many of them.
 pub mod gen;

@@ -2,14 +2,14 @@
 
 use std::ops::Range;
 
-use crate::gen::{make, Stream};
+use crate::gen::{make, Stream, STREAMS};
 use crate::slip::{Fault, Slip, FAULTS};
 
 /// Prints for each fault after how many cases one shows it; true if every fault is noticed.
 pub fn mutants(seed: u64, numbers: Range<u64>) -> bool {
     let mut noticed: Vec<Option<(Stream, u64)>> = vec![None; FAULTS.len()];
     for (tried, number) in (1..).zip(numbers) {
-        for stream in [Stream::Calls, Stream::Tables, Stream::Vectors] {
+        for stream in STREAMS {
             let case = make(stream, seed, number).case;
             let truly = case.outcome(Slip::NONE);
             for (place, (fault, _)) in noticed.iter_mut().zip(FAULTS) {
@@ -36,7 +36,7 @@ fn name(fault: Fault) -> String {
 
 fn told(found: Option<(Stream, u64)>) -> String {
     match found {
-        Some((stream, tried)) => format!("{:6} {tried:>8}", stream.name()),
-        None => format!("{:>15}", "not noticed"),
+        Some((stream, tried)) => format!("{:7} {tried:>8}", stream.name()),
+        None => format!("{:>16}", "not noticed"),
     }
 }

@@ -11,7 +11,7 @@ use crate::refuse::{refusal, Lent};
 use crate::slip::{Fault, Slip};
 use crate::table::{rewrite, Table};
 use crate::vectors::{mark, vector, Vectors};
-use crate::verdict::{Verdict, Why};
+use crate::verdict::{Code, Verdict, Why};
 
 /// Number, place and value of a return word.
 pub fn parts(word: u64) -> (u64, u64, u64) {
@@ -26,7 +26,17 @@ pub fn check_word(number: u64, found: Result<u32, u32>) -> u64 {
     }
 }
 
-/// The return word. Table, vectors and buffer are changed only if the request is answered.
+/// What a call did.
+pub struct Done {
+    pub word: u64,
+    /// Of the answer; none if the call was refused.
+    pub result: Option<Code>,
+    /// How many records were rewritten, also to what they were.
+    pub rewritten: usize,
+    pub why: Why,
+}
+
+/// The return word, and what decided it.
 pub fn serve(
     request: &[u8],
     table: &mut [u8],
@@ -35,6 +45,19 @@ pub fn serve(
     buffer: &mut [u8],
     slip: Slip,
 ) -> (u64, Why) {
+    let done = call(request, table, profile, vectors, buffer, slip);
+    (done.word, done.why)
+}
+
+/// One call. Table, vectors and buffer are changed only if the request is answered.
+pub fn call(
+    request: &[u8],
+    table: &mut [u8],
+    profile: &[u8],
+    vectors: &mut [u8],
+    buffer: &mut [u8],
+    slip: Slip,
+) -> Done {
     let request = if slip.is(Fault::RequestLengthIn16Bits) { &request[..request.len() & 0xFFFF] } else { request };
     if let Some((number, value)) = refusal(&Lent { request, table, profile, vectors, buffer }, slip) {
         match slip.0 {
@@ -43,7 +66,8 @@ pub fn serve(
             _ => {}
         }
         let place = place::of_refusal(request, number, value, slip);
-        return (u64::from(number) << 48 | place | u64::from(value), Why::Refused(number));
+        let word = u64::from(number) << 48 | place | u64::from(value);
+        return Done { word, result: None, rewritten: 0, why: Why::Refused(number) };
     }
     let message = Message(request);
     let files = Files { table: Table(table), profile, vectors: Vectors(vectors) };
@@ -53,7 +77,7 @@ pub fn serve(
     };
     let answer = answer(message, files.table.header(), &verdict, slip);
     let place = place::of_answer(message, &verdict, slip);
-    let Verdict { rewritings, marked, why, .. } = verdict;
+    let Verdict { result, rewritings, marked, why, .. } = verdict;
 
     for block in marked {
         mark(&mut vectors[block * BLOCK..][..BLOCK], slip);
@@ -65,7 +89,7 @@ pub fn serve(
         vectors.chunks_exact_mut(BLOCK).for_each(free);
     }
     put(buffer, &answer, slip);
-    (place | answer.len() as u64, why)
+    Done { word: place | answer.len() as u64, result: Some(result), rewritten: rewritings.len(), why }
 }
 
 /// Only a faulty answer may have no room.

@@ -138,6 +138,12 @@ mod tests {
         assert_eq!(Case::read(&mut from).unwrap(), Some(decide()));
         assert_eq!(Case::read(&mut from).unwrap(), None);
 
+        let report = Case::report(9, vec![1, 2, 3], [vec![4; 512], vec![], vec![7; 5]], 36_864, 1_160);
+        let stream = written(&report);
+        assert_eq!(stream[..4], [4, 9, 6, 0]);
+        assert_eq!(stream[20..28], [0xC0, 0, 0x90, 0, 0xC0, 0, 4, 0x88]);
+        assert_eq!(Case::read(&mut &stream[..]).unwrap(), Some(report));
+
         let outcome = Outcome {
             word: 5 << 48 | 3,
             altered: 0,

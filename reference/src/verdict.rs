@@ -1,6 +1,8 @@
 //! What comes of a request: the result, what the answer carries, what becomes of the records, and what decided it.
 //! Reading, decisions and the answer share it.
 
+use std::fmt;
+
 use crate::kinds::{Command, Kind};
 use crate::message::Avp;
 use crate::table::{Record, Rewriting};
@@ -11,6 +13,15 @@ use crate::vectors::Vector;
 pub enum Code {
     Base(u32),
     Experimental(u32),
+}
+
+impl fmt::Display for Code {
+    fn fmt(&self, to: &mut fmt::Formatter) -> fmt::Result {
+        match self {
+            Code::Base(code) => write!(to, "B{code}"),
+            Code::Experimental(code) => write!(to, "X{code}"),
+        }
+    }
 }
 
 /// What Failed-AVP holds.
@@ -33,6 +44,8 @@ pub enum Failed<'a> {
 pub enum Why {
     Checked(Result<u32, u32>),
     CheckedVectors(Result<u32, u32>),
+    /// A report was made, to the end of its file or not.
+    Reported,
     Refused(u32),
     /// A fault of the header, with its result.
     Header(u32),

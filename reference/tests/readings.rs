@@ -17,18 +17,20 @@ fn spans(column: &str) -> impl Iterator<Item = &str> {
 }
 
 /// Each request's heading, and its readings that cases can show.
-fn requests() -> [(&'static str, Vec<u32>); 2] {
+fn requests() -> [(&'static str, Vec<u32>); 3] {
     [
         // 19 is about programs over files.
         ("The authentication request", (1..=25).filter(|number| *number != 19).collect()),
         // 7 is about entries that are not there yet, 8 about a program.
         ("The place of the AVP at fault", vec![1, 2, 3, 4, 5, 6, 9, 10]),
+        // 14 is about later requests, 15 about speed, 16 about counts that no file reaches.
+        ("The month's numbers", (1..=13).collect()),
     ]
 }
 
 #[test]
 fn every_reading_has_rows_and_faults_that_there_are() {
-    let rows = [Stream::Calls, Stream::Vectors].map(required_rows).concat();
+    let rows = [Stream::Calls, Stream::Vectors, Stream::Reports].map(required_rows).concat();
     for (heading, readings) in requests() {
         let mut numbers = Vec::new();
         for columns in table(heading) {
@@ -55,7 +57,8 @@ fn every_fault_about_a_request_goes_against_a_reading() {
     let words =
         ["MAR", "ector", "XRES", "item", "scheme", "607", "608", "609", "610", "612", "613", "625", "626", "RAND"];
     let of_place = ["the place", "place 0", "as its place"];
-    let is_about = |what: &str| words.iter().chain(&of_place).any(|word| what.contains(word));
+    let of_report = ["report", "piece", "counts", "counted", "largest answer", "word 1", "word 4", "left end"];
+    let is_about = |what: &str| words.iter().chain(&of_place).chain(&of_report).any(|word| what.contains(word));
     for (fault, what) in FAULTS.iter().filter(|(_, what)| is_about(what)) {
         assert!(named.contains(&format!("{fault:?}").as_str()), "{fault:?}: {what}");
     }

@@ -5,8 +5,8 @@ use mathlib.Core.List.{List, [], _∷_}
 use mathlib.Core.Path.{_≡_}
 use lib.Dec.{eqb}
 use Rattle.lines.specs.Words.{Words}
-use Rattle.ndushavire.specs.Lent.{Lent}
-use Rattle.ndushavire.specs.Serve.{serve}
+use Rattle.calling.specs.Lent.{Lent}
+use Rattle.calling.specs.Serve.{serve}
 use Rattle.ndushavire.specs.Word.{callWord}
 use Rattle.ndushavire.specs.Reads.{numberIn, valueIn}
 

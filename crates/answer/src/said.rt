@@ -1,7 +1,7 @@
 // What is written of a call: the answer alone, or the refusal.
 ghost use Prim.Native.Nat.{_≤_};
 ghost use lib.ListN.{length};
-ghost use Rattle.ndushavire.specs.Lent.{lent};
+ghost use Rattle.calling.specs.Lent.{lent};
 ghost use Rattle.answer.specs.Said.{SaidFits, Said, SaidTo};
 
 // What the number of a returned word counts, 2^48, and what its value stays below, 2^32.

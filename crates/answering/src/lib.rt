@@ -71,7 +71,8 @@ pub fn answer(
 ) -> usize
     requires { ⌜ (20 ≤ length (now req)) × SoundTable (now t) count × Sendable (now v) (g .sent)
         × (length (answerBytes (now req) (now t) (now file) (now v) g) ≤ 36864) × (36864 ≤ length (now out)) ⌝ }
-    ensures { λ r. ⌜ Wrote (answerBytes (now (req .entry)) (now (t .entry)) (now (file .entry)) (now (v .entry)) g) (now (out .entry)) (now (out .exit)) r ⌝ }
+    ensures { λ r. ⌜ (r ≤ 36864)
+        × Wrote (answerBytes (now (req .entry)) (now (t .entry)) (now (file .entry)) (now (v .entry)) g) (now (out .entry)) (now (out .exit)) r ⌝ }
 {
     let mut scratch = [0u8; MOST];
     let n = put_answer(&mut scratch, req, t, file, v, count, g);

@@ -39,12 +39,45 @@ fn check_vectors(given: &[u8], w: &[u8; 64]) -> bool {
     outcome::put(word, 0)
 }
 
+fn report(given: &[u8], w: &[u8; 64]) -> bool {
+    let table = words::slice(given, w, 1);
+    let vectors = words::slice(given, w, 3);
+    let buffer = words::slice(given, w, 4);
+    let area = words::slice(given, w, 5);
+    let mut t = [0u8; 40000];
+    let mut v = [0u8; 40000];
+    let mut out = [0u8; 40000];
+    let mut written = [0u8; 40000];
+    run::copy(&mut t, table);
+    run::copy(&mut v, vectors);
+    run::copy(&mut out, buffer);
+    run::copy(&mut written, area);
+    let n = table.len();
+    let m = vectors.len();
+    let room = buffer.len();
+    let k = area.len();
+    let word = ndushavire::ndushavire_report(
+        words::slice(given, w, 0),
+        &mut t[..n],
+        words::slice(given, w, 2),
+        &mut v[..m],
+        &mut out[..room],
+        &mut written[..k],
+    );
+    outcome::put(word, 4)
+        & outcome::put_change(table, &t)
+        & outcome::put_change(vectors, &v)
+        & outcome::put_change(buffer, &out)
+        & outcome::put_change(area, &written)
+}
+
 // Calls an entry by its number in the streams.
 pub fn call(entry: u8, given: &[u8], w: &[u8; 64]) -> bool {
     match entry {
         1 => check(given, w),
         2 => decide(given, w),
         3 => check_vectors(given, w),
+        4 => report(given, w),
         _ => false,
     }
 }

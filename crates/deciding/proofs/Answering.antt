@@ -1,13 +1,15 @@
 -- What is written and what is left, by what reading the request found.
 use Prim.Native.Nat.{ℕ, _≤_}
 use mathlib.Core.List.{List}
-use mathlib.Core.Path.{_≡_, _∙_}
+use mathlib.Core.Path.{_≡_, sym, _∙_}
 use native.Mathlib.Omega.{arith}
 use lib.ListN.{length}
 use Rattle.octets.specs.Run.{Wrote}
 use Rattle.table.specs.SoundTable.{SoundTable}
 use Rattle.vectors.specs.Chosen.{Sendable}
 use Rattle.vectors.specs.VectorFile.{SoundVectors}
+use Rattle.rewrite.specs.Change.{alteredUpTo}
+use Rattle.rewrite.proofs.Counts.{altered-none}
 use Rattle.reading.specs.Kinds.{serverName}
 use Rattle.reading.specs.Rules.{Seen}
 use Rattle.requests.specs.Judged.{bad, fine}
@@ -23,7 +25,7 @@ use Rattle.fitting.specs.Deeds.{carriedOut, spentBy, DeedFits}
 use Rattle.fitting.proofs.Deeds as deeds
 use Rattle.fitting.proofs.Room.{answer-most, decide-light}
 use Rattle.deciding.specs.Passed.{Passed}
-use Rattle.deciding.specs.Answers.{Answers}
+use Rattle.deciding.specs.Answers.{Tells}
 
 -- A fault: its verdict is given, and table and vectors stay.
 module _ (req t : List ℕ) (count : ℕ) (v : List ℕ) (f : Verdict) (is : readRequest req ≡ bad f) where
@@ -31,9 +33,16 @@ module _ (req t : List ℕ) (count : ℕ) (v : List ℕ) (f : Verdict) (is : rea
   unfolding decide decideJudged
   fault-given g e = e ∙ rw is
 
-  pub fault-place : f .place ≡ decide req t count v .place
+  pub fault-tells : (file before after : List ℕ) (g : Given) (n : ℕ) → g ≡ givenFault f → Wrote (answerBytes req t file v g) before after n
+      → Tells req t count file v before after (record { length = n; place = f .place; result = f .result; altered = 0 })
   unfolding decide decideJudged
-  fault-place = rw is
+  fault-tells file before after g n e w =
+      record {
+        answers = rw (fault-given g e) at w;
+        place-is = rw is;
+        result-is = rw is;
+        altered-is = rw is (sym (altered-none t count));
+      }
 
   pub fault-near : (o : List ℕ) → Passed req o → f .place ≤ 16384
   fault-near o p = omega (arith, p .most, read-placed req f (p .least) is .within)
@@ -52,10 +61,6 @@ module _ (req t : List ℕ) (count : ℕ) (v : List ℕ) (seen : Seen) (is : rea
   unfolding decide decideJudged performed
   plan-given = rw (plans, is)
 
-  pub plan-place : 0 ≡ decide req t count v .place
-  unfolding decide decideJudged performed
-  plan-place = rw is
-
   pub plan-table : {y : List ℕ} → y ≡ carriedOut t count (assignmentOf t seen req) (p .deed) → y ≡ decide req t count v .table
   unfolding decide decideJudged performed
   plan-table e = e ∙ rw (plans, is)
@@ -63,6 +68,18 @@ module _ (req t : List ℕ) (count : ℕ) (v : List ℕ) (seen : Seen) (is : rea
   pub plan-vectors : {y : List ℕ} → y ≡ spentBy v (p .given .sent) (p .deed) → y ≡ decide req t count v .vectors
   unfolding decide decideJudged performed
   plan-vectors e = e ∙ rw (plans, is)
+
+  pub plan-tells : (file before after : List ℕ) (n altered : ℕ) {y : List ℕ} → Wrote (answerBytes req t file v (p .given)) before after n
+      → y ≡ carriedOut t count (assignmentOf t seen req) (p .deed) → altered ≡ alteredUpTo t y count
+      → Tells req t count file v before after (record { length = n; place = 0; result = p .given .verdict .result; altered = altered })
+  unfolding decide decideJudged performed
+  plan-tells file before after n altered w e a =
+      record {
+        answers = rw plan-given at w;
+        place-is = rw is;
+        result-is = rw plan-given;
+        altered-is = a ∙ rw (plan-table e);
+      }
 
   pub plan-fits : SoundTable t count → DeedFits count (dataSeen seen serverName) (p .deed)
   plan-fits sound = rw plans (deeds.plan-fits req t count v seen sound is)
@@ -77,12 +94,5 @@ given-sendable req t o count v g p s vectors is = rw is (decide-light req t coun
 
 -- The answer of what is given, where that is the decision's.
 module _ (req t file : List ℕ) (count : ℕ) (v : List ℕ) (g : Given) (is : g ≡ decide req t count v .given) where
-  pub answers : (before after : List ℕ) (r : ℕ) → Wrote (answerBytes req t file v g) before after r → Answers req t count file v before after r
-  answers before after r w = rw is at w
-
   pub given-room : (o : List ℕ) → Passed req o → SoundTable t count → SoundVectors v → length (answerBytes req t file v g) ≤ 36864
   given-room o p s vectors = rw is (answer-most t file count s v vectors req (p .least) (p .most) (p .fours))
-
-  pub answers-most : (o : List ℕ) → Passed req o → SoundTable t count → SoundVectors v → (before after : List ℕ) (r : ℕ)
-      → Wrote (answerBytes req t file v g) before after r → r ≤ 36864
-  answers-most o p s vectors before after r w = omega (arith, w .count, given-room o p s vectors)

@@ -15,9 +15,10 @@ use Rattle.blocks.specs.Changed.{changedIn, isOne}
 use Rattle.vectors.specs.Chosen.{sentOf}
 use Rattle.vectors.specs.Marked.{spent}
 use Rattle.vectors.specs.declared.choice.Sent.{Sent}
-use Rattle.rewrite.specs.Change.{afterOf}
+use Rattle.rewrite.specs.Change.{afterOf, differ, alteredUpTo}
 use Rattle.rewrite.specs.Renew.{settled, challenged, Fitting}
 use Rattle.rewrite.proofs.Challenged.{challenged-keeps}
+use Rattle.rewrite.proofs.Counts.{altered-none, one-counts}
 use Rattle.rewrite.proofs.Tables.{one-after}
 use Rattle.reading.specs.Kinds.{userName, publicIdentity, visitedNetwork, serverName, assignmentType, dataAvailable, authorizationType, numberAuthItems}
 use Rattle.reading.specs.Rules.{Seen}
@@ -111,6 +112,13 @@ module _ (t : List ℕ) (count : ℕ) (req : List ℕ) (seen : Seen) where
       f ∙ rw e (one-after t count (challenged (dataSeen seen serverName)) (sound-size t count sound)
       (challenged-keeps (dataSeen seen serverName) least most) k b (isOne (k ∷ [])) (λ j. refl))
 
+  -- how many records that alters: the one, if it has other bytes then
+  pub challenged-counts : (k : ℕ) {name y : List ℕ} {r : ℕ} → SoundTable t count → DeedFits count (dataSeen seen serverName) (Challenge k)
+      → name ≡ dataSeen seen serverName → y ≡ changedIn t k (challenged name) → r ≡ differ t y → r ≡ alteredUpTo t y count
+  challenged-counts k sound (a, b, least, most) e f g =
+      g ∙ rw (f, e) (one-counts (challenged (dataSeen seen serverName)) (challenged-keeps (dataSeen seen serverName) least most) t count
+      (sound-size t count sound) k a b)
+
   -- by the deed
   module _ (d : Deed) where
     pub done-leave : d ≡ Leave → t ≡ carriedOut t count (assignmentOf t seen req) d
@@ -124,6 +132,9 @@ module _ (t : List ℕ) (count : ℕ) (req : List ℕ) (seen : Seen) where
     pub done-challenge : (k : ℕ) {y : List ℕ} → d ≡ Challenge k → y ≡ carriedOut t count (assignmentOf t seen req) (Challenge k)
         → y ≡ carriedOut t count (assignmentOf t seen req) d
     done-challenge k e f = rw e f
+
+pub left-counts : (t : List ℕ) (count : ℕ) → 0 ≡ alteredUpTo t t count
+left-counts t count = sym (altered-none t count)
 
 pub deed-settles : (count : ℕ) (server : List ℕ) (d : Deed) (w : Settling) → d ≡ Settle w → DeedFits count server d
     → Fitting (w .state) (storedName (w .named) server)

@@ -12,6 +12,7 @@ ghost use mathlib.Core.Path.{_≡_};
 ghost use Rattle.table.specs.SoundTable.{SoundTable};
 ghost use Rattle.vectors.specs.Chosen.{Sendable};
 ghost use Rattle.vectors.specs.VectorFile.{SoundVectors};
+ghost use Rattle.rewrite.specs.Change.{alteredUpTo};
 ghost use Rattle.rewrite.specs.Renew.{Fitting};
 ghost use Rattle.reading.specs.Kinds.{serverName};
 ghost use Rattle.reading.specs.Places.{seenOf};
@@ -27,39 +28,41 @@ fn stored(named: bool, server: &[u8]) -> &[u8]
     if named { server } else { &server[..0] }
 }
 
-// A row of the table of effects.
-fn settle(t: &mut [u8], count: usize, req: &[u8], found: [usize; kinds::KINDS], w: Settling)
+// A row of the table of effects. Answers how many records have other bytes then.
+fn settle(t: &mut [u8], count: usize, req: &[u8], found: [usize; kinds::KINDS], w: Settling) -> u32
     requires { ⌜ SoundTable (now t) count × Fitting (w .state) (storedName (w .named) (dataSeen (seenOf (now req) found) serverName)) ⌝ }
-    ensures { λ _. ⌜ now (t .exit) ≡ carriedOut (now (t .entry)) count
-        (assignmentOf (now (t .entry)) (seenOf (now (req .entry)) found) (now (req .entry))) (Deed.Settle w) ⌝ }
+    ensures { λ r. ⌜ (now (t .exit) ≡ carriedOut (now (t .entry)) count
+        (assignmentOf (now (t .entry)) (seenOf (now (req .entry)) found) (now (req .entry))) (Deed.Settle w))
+        × (r ≡ alteredUpTo (now (t .entry)) (now (t .exit)) count) ⌝ }
 {
     let server = stored(w.named, places::data_of(req, found, kinds::SERVER_NAME));
     if w.owned {
         let user = places::data_of(req, found, kinds::USER_NAME);
-        owned::settle_owned(t, count, user, w.state, server);
-        return;
+        return owned::settle_owned(t, count, user, w.state, server);
     }
-    naming::settle_named(t, count, req, w.state, server);
+    naming::settle_named(t, count, req, w.state, server)
 }
 
-// The name that goes with a challenge.
-fn challenge(t: &mut [u8], count: usize, req: &[u8], found: [usize; kinds::KINDS], k: u32)
+// The name that goes with a challenge. Answers the same.
+fn challenge(t: &mut [u8], count: usize, req: &[u8], found: [usize; kinds::KINDS], k: u32) -> u32
     requires { ⌜ SoundTable (now t) count × DeedFits count (dataSeen (seenOf (now req) found) serverName) (Deed.Challenge k) ⌝ }
-    ensures { λ _. ⌜ now (t .exit) ≡ carriedOut (now (t .entry)) count
-        (assignmentOf (now (t .entry)) (seenOf (now (req .entry)) found) (now (req .entry))) (Deed.Challenge k) ⌝ }
+    ensures { λ r. ⌜ (now (t .exit) ≡ carriedOut (now (t .entry)) count
+        (assignmentOf (now (t .entry)) (seenOf (now (req .entry)) found) (now (req .entry))) (Deed.Challenge k))
+        × (r ≡ alteredUpTo (now (t .entry)) (now (t .exit)) count) ⌝ }
 {
     let server = places::data_of(req, found, kinds::SERVER_NAME);
-    rewrite::challenge(t, k as usize, server);
+    rewrite::challenge(t, k as usize, server)
 }
 
-// The records.
-fn carry_out(t: &mut [u8], count: usize, req: &[u8], found: [usize; kinds::KINDS], d: Deed)
+// The records. Answers the same.
+fn carry_out(t: &mut [u8], count: usize, req: &[u8], found: [usize; kinds::KINDS], d: Deed) -> u32
     requires { ⌜ SoundTable (now t) count × DeedFits count (dataSeen (seenOf (now req) found) serverName) d ⌝ }
-    ensures { λ _. ⌜ now (t .exit) ≡ carriedOut (now (t .entry)) count
-        (assignmentOf (now (t .entry)) (seenOf (now (req .entry)) found) (now (req .entry))) d ⌝ }
+    ensures { λ r. ⌜ (now (t .exit) ≡ carriedOut (now (t .entry)) count
+        (assignmentOf (now (t .entry)) (seenOf (now (req .entry)) found) (now (req .entry))) d)
+        × (r ≡ alteredUpTo (now (t .entry)) (now (t .exit)) count) ⌝ }
 {
     match d {
-        Deed::Leave => {}
+        Deed::Leave => 0,
         Deed::Settle(w) => settle(t, count, req, found, w),
         Deed::Challenge(k) => challenge(t, count, req, found, k),
     }
@@ -77,7 +80,7 @@ fn spend(v: &mut [u8], sent: Sent, d: Deed)
     }
 }
 
-// Both.
+// Both. Answers how many records have other bytes then.
 pub fn carry(
     t: &mut [u8],
     count: usize,
@@ -85,16 +88,18 @@ pub fn carry(
     req: &[u8],
     found: [usize; kinds::KINDS],
     p: Plan,
-)
+) -> u32
     requires { ⌜ SoundTable (now t) count × SoundVectors (now v) × DeedFits count (dataSeen (seenOf (now req) found) serverName) (p .deed)
         × Sendable (now v) (p .given .sent) ⌝ }
-    ensures { λ _. ⌜ (now (t .exit) ≡ carriedOut (now (t .entry)) count
+    ensures { λ r. ⌜ (now (t .exit) ≡ carriedOut (now (t .entry)) count
         (assignmentOf (now (t .entry)) (seenOf (now (req .entry)) found) (now (req .entry))) (p .deed))
-        × (now (v .exit) ≡ spentBy (now (v .entry)) (p .given .sent) (p .deed)) ⌝ }
+        × (now (v .exit) ≡ spentBy (now (v .entry)) (p .given .sent) (p .deed))
+        × (r ≡ alteredUpTo (now (t .entry)) (now (t .exit)) count) ⌝ }
 {
     let d = p.deed;
     let g = p.given;
     let sent = g.sent;
-    carry_out(t, count, req, found, d);
+    let altered = carry_out(t, count, req, found, d);
     spend(v, sent, d);
+    altered
 }

@@ -21,13 +21,14 @@ use Rattle.failed.specs.Failing.{failedOf, failedBy}
 use Rattle.choices.specs.Given.{givenFault}
 use Rattle.reply.specs.Answer.{identityBytes, nameBytes, dataBytes, givenBytes, endBytes, restBytes, bodyBytes, answerBytes}
 use Rattle.fitting.specs.Decide.{Decision, faulted, performed, decideJudged, decide}
-use Rattle.ndushavire.specs.Lent.{Lent}
-use Rattle.ndushavire.specs.Word.{checkValue, callPlace}
-use Rattle.ndushavire.specs.Serve.{checkOf, answered, serve}
-use Rattle.ndushavire.proofs.Calls.{size-most}
+use Rattle.calling.specs.Lent.{Lent}
+use Rattle.ndushavire.specs.Word.{callPlace}
+use Rattle.calling.specs.Serve.{checkOf, answered, serve, checkValue, resultOf}
+use Rattle.calling.proofs.Calls.{size-most}
 use Rattle.demands.specs.Call.{turnedAway}
-use Rattle.demands.specs.Place.{Blames, faultBody, faultBytes, blaming, resultOf}
-use Rattle.demands.proofs.Refusals.{refused-nowhere, answer-is, taken}
+use Rattle.demands.specs.Place.{Blames, faultBody, faultBytes, blaming}
+use Rattle.calling.proofs.Kept.{taken}
+use Rattle.demands.proofs.Refusals.{refused-nowhere, answer-is}
 use Rattle.demands.proofs.Faults.{fine-bad, same-place, fault-read, read-fault, fault-least, fault-fours, fault-within}
 use Rattle.demands.proofs.Moved.{failed-there}
 

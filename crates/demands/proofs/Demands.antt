@@ -16,10 +16,10 @@ use Rattle.diameter.specs.Avp.{sound}
 use Rattle.diameter.specs.Put.{Piece, Whole, All}
 use Rattle.diameter.specs.Message.{commandOf}
 use Rattle.rewrite.specs.Change.{alterable}
-use Rattle.ndushavire.specs.declared.Answer.{Answer}
-use Rattle.ndushavire.specs.declared.Call.the-variants.{Answered, Refused}
-use Rattle.ndushavire.specs.Lent.{Lent, asking}
-use Rattle.ndushavire.specs.Serve.{wrongSize, wrongLength, checkOf, trials, answered, decision, serve}
+use Rattle.calling.specs.Call.{Answer}
+use Rattle.calling.specs.Call.{Answered, Refused}
+use Rattle.calling.specs.Lent.{Lent, asking}
+use Rattle.calling.specs.Serve.{wrongSize, wrongLength, checkOf, trials, answered, decision, serve}
 use Rattle.ndushavire.specs.Word.{callNumber, callValue, callWord}
 use Rattle.ndushavire.specs.Reads.{callIn, Reads, ReadsCheck}
 use Rattle.ndushavire.specs.Promise.{CheckPromise, CheckVectorsPromise, DecidePromise}

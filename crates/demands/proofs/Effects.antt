@@ -55,6 +55,7 @@ use Rattle.assignment.proofs.OwnTurns.{no-zero}
 use Rattle.assignment.proofs.Rows.{Decided, alone, owned, named, assign-decided, row-fits}
 use Rattle.fitting.specs.Decide.{Decision, assignmentOf, uarPlan, sarPlan, lirPlan, marPlan, planRead, performed, decideJudged, decide}
 use Rattle.fitting.specs.Deeds.{carriedOut, spentBy}
+use Rattle.fitting.proofs.Kept.{named-later}
 use Rattle.fitting.proofs.Tests.{either}
 use Rattle.demands.specs.Frame.{succeeds, ownerAt, firstOwner, askedIn, subscriptionOf}
 
@@ -86,7 +87,7 @@ grant-result : (s : Sar) (first : ℕ) (r : Outcome) → grant s first r .verdic
 unfolding grant
 grant-result s first r = either (λ (g : Given). g .verdict .result ≡ r) (carriesUser (s .kind)) refl refl
 
--- a test of all the records holds of each; block 0 is none of those named
+-- a test of all the records holds of each
 one-holds : (p : ℕ → Bool) (ks : List ℕ) (k : ℕ) → every p ks ≡ true → isOne ks k ≡ true → p k ≡ true
 unfolding every isOne
 one-holds p [] k a e = absurd (true≢false (sym e))
@@ -95,16 +96,6 @@ one-holds p (j ∷ ks) k a e = go (eqb k j) refl e (one-holds p ks k (and-right 
     go : (x : Bool) → eqb k j ≡ x → (x || isOne ks k) ≡ true → (isOne ks k ≡ true → p k ≡ true) → p k ≡ true
     go true f g next = rw (eqb-true k j f) (and-left (p j) (every p ks) a)
     go false f g next = next g
-
-named-later : (t : List ℕ) (count : ℕ) (avps : List (List ℕ)) → isOne (numbersOf (findAll t count avps)) 0 ≡ false
-unfolding findAll numbersOf isOne
-named-later t count [] = refl
-named-later t count (a ∷ avps) = go (findPublic t count (dataOf a)) refl (named-later t count avps)
-  where
-    go : (f : Found) → findPublic t count (dataOf a) ≡ f → isOne (numbersOf (findAll t count avps)) 0 ≡ false
-        → isOne (numbersOf (f ∷ findAll t count avps)) 0 ≡ false
-    go Nothing e next = next
-    go (At k) e next = rw (ne-eqb 0 k (omega (arith, public-among t count (dataOf a) (sym e) .from k refl))) next
 
 -- whom it means without identities and with them
 owned-given : (removal given : Bool) (ps : List ℕ) → Owned ≡ meantBy removal given ps → given ≡ true

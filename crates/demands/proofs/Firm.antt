@@ -16,10 +16,11 @@ use Rattle.table.specs.declared.Checked.{Checked}
 use Rattle.table.specs.declared.Checked.the-variants.{Sound, Bad}
 use Rattle.vectors.specs.VectorFile.{piecesOf, soundPiece, checkVectors}
 use Rattle.vectors.proofs.Pieces.{piece-near}
-use Rattle.ndushavire.specs.declared.Answer.{Answer}
-use Rattle.ndushavire.specs.declared.Call.the-variants.{Answered, Refused}
-use Rattle.ndushavire.specs.Lent.{Lent}
-use Rattle.ndushavire.specs.Word.{word, checkWord, checkValue, callWord}
+use Rattle.calling.specs.Call.{Answer}
+use Rattle.calling.specs.Call.{Answered, Refused}
+use Rattle.calling.specs.Lent.{Lent}
+use Rattle.calling.specs.Serve.{checkValue}
+use Rattle.ndushavire.specs.Word.{word, checkWord, callWord}
 use Rattle.ndushavire.specs.Reads.{numberIn, placeIn, valueIn, Reads, ReadsCheck}
 use Rattle.ndushavire.specs.Promise.{CheckPromise, CheckVectorsPromise, DecidePromise}
 

@@ -1,8 +1,7 @@
 -- Every answer fits: no request within the limits has one that is longer than the smallest buffer.
-use mathlib.Core.Path.{refl}
 use lib.ListN.{length}
-use Rattle.ndushavire.specs.Lent.{Lent}
-use Rattle.ndushavire.proofs.Calls.{size-least, size-most, length-even}
+use Rattle.calling.specs.Lent.{Lent}
+use Rattle.calling.proofs.Calls.{size-least, size-most, length-even}
 use Rattle.fitting.proofs.Room.{answer-most}
 use Rattle.demands.specs.Call.{Fits}
 
@@ -10,4 +9,4 @@ pub fits : (x : Lent) → Fits x
 fits x size right count sound vectors =
     let req = x .request in
     answer-most (x .table) (x .profile) count (record { file = length (x .profile); checked = sound }) (x .vectors) vectors req (size-least req size)
-    (size-most req size) (length-even req refl right)
+    (size-most req size) (length-even req right)

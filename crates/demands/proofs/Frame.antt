@@ -13,17 +13,16 @@ use Rattle.table.specs.declared.Checked.the-variants.{Sound}
 use Rattle.table.specs.SoundTable.{SoundTable}
 use Rattle.table.proofs.Sound.{sound-size}
 use Rattle.rewrite.specs.Change.{alterable, Kept}
-use Rattle.rewrite.proofs.Sound.{keeping-sound}
 use Rattle.rewrite.proofs.Tables.{Keeping, keeping-same, kept-same, after-frame, after-keeping}
 use Rattle.diameter.specs.Message.{commandOf}
 use Rattle.blocks.specs.Changed.{isOne}
 use Rattle.fitting.specs.Decide.{Decision}
-use Rattle.ndushavire.specs.Lent.{Lent}
-use Rattle.ndushavire.specs.Word.{checkValue}
-use Rattle.ndushavire.specs.Serve.{checkOf, answered, decision, serve}
+use Rattle.calling.specs.Lent.{Lent}
+use Rattle.calling.specs.Serve.{checkOf, answered, decision, serve, checkValue}
 use Rattle.demands.specs.Call.{turnedAway}
 use Rattle.demands.specs.Frame.{succeeds, subscriptionOf}
-use Rattle.demands.proofs.Refusals.{refused-kept, answered-is, taken}
+use Rattle.calling.proofs.Kept.{taken, table-checked}
+use Rattle.demands.proofs.Refusals.{refused-kept, answered-is}
 use Rattle.demands.proofs.Effects.{Altered, Does, decide-does}
 
 -- What an effect leaves: of the table what every effect keeps, and the blocks of another subscription.
@@ -123,7 +122,7 @@ module _ (x : Lent) (count : ℕ) (sound : checkOf x ≡ Sound count) where
   size-kept = call-keeping .size
 
   pub sound-kept : checkTable (serve x .table) (length (x .profile)) ≡ Sound count
-  sound-kept = keeping-sound t (serve x .table) count call-keeping says
+  sound-kept = table-checked x ∙ sound
 
 -- whatever the table: a question alters nothing, and none but a MAR alters the vectors
 module _ (x : Lent) where

@@ -27,13 +27,13 @@ use Rattle.failed.specs.Failing.{failedBy}
 use Rattle.failed.proofs.Fronts.{failed-piece, failed-whole}
 use Rattle.fitting.specs.Decide.{faulted, decideJudged, decide}
 use Rattle.reply.specs.Answer.{proxy, proxies}
-use Rattle.ndushavire.specs.Lent.{Lent, asking}
-use Rattle.ndushavire.specs.Word.{checkValue}
-use Rattle.ndushavire.specs.Serve.{checkOf, answered, decision, serve}
+use Rattle.calling.specs.Lent.{Lent, asking}
+use Rattle.calling.specs.Serve.{checkOf, answered, decision, serve, checkValue}
 use Rattle.demands.specs.Call.{turnedAway}
 use Rattle.demands.specs.Insertion.{message, requestOf, Foreign, isMarked, Quiet, Inserted, ending, keep, put, FirstMarked, isFault, faultIn}
 use Rattle.demands.specs.Insertion.{putBefore, later, placeNow, placed, behindRow, unsupported}
-use Rattle.demands.proofs.Refusals.{refused-kept, answered-is, taken}
+use Rattle.calling.proofs.Kept.{taken}
+use Rattle.demands.proofs.Refusals.{refused-kept, answered-is}
 use Rattle.demands.proofs.Blaming.{fault-answered}
 use Rattle.demands.proofs.Moved.{Moved, faults, same, moved-as, moved-by, judge-amid, past-later, past-bytes, past-drop, failed-there}
 use Rattle.demands.proofs.Moved.{Row-moved, row-moved, ends-none, ends-same}

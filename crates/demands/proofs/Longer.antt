@@ -13,8 +13,8 @@ use Rattle.diameter.specs.Put.{Piece, avpsOf, Whole, All}
 use Rattle.reading.specs.declared.Dialect.{Dialect}
 use Rattle.requests.specs.Request.{dialectOf, cx}
 use Rattle.requests.proofs.Insert.{past}
-use Rattle.ndushavire.specs.Lent.{Lent, asking}
-use Rattle.ndushavire.specs.Serve.{serve}
+use Rattle.calling.specs.Lent.{Lent, asking}
+use Rattle.calling.specs.Serve.{serve}
 use Rattle.demands.specs.Call.{turnedAway}
 use Rattle.demands.specs.Insertion.{requestOf, Foreign, isMarked, Quiet, Inserted, ending, keep, put, FirstMarked, faultIn, unsupported, Longer, Mark}
 use Rattle.demands.specs.Insertion.{sizeOf, putBefore, placeNow, placed, behindRow, behind, firstMark, newer, Newer}

@@ -21,9 +21,8 @@ use Rattle.requests.specs.Request.{dialectOf, cx, headerFault, readWalk, readIn
 use Rattle.choices.specs.declared.Given.{Given}
 use Rattle.fitting.specs.Decide.{Decision, performed, decideJudged, decide}
 use Rattle.reply.specs.Answer.{topBytes, identityBytes, nameBytes, dataBytes, givenBytes, proxies, endBytes, restBytes, bodyBytes, headerBytes, answerBytes}
-use Rattle.ndushavire.specs.Lent.{Lent, asking}
-use Rattle.ndushavire.specs.Word.{checkValue}
-use Rattle.ndushavire.specs.Serve.{wrongSize, wrongLength, noRequest, checkOf, answered, decision, serve}
+use Rattle.calling.specs.Lent.{Lent, asking}
+use Rattle.calling.specs.Serve.{wrongSize, wrongLength, noRequest, checkOf, answered, decision, serve, checkValue}
 use Rattle.demands.specs.Call.{turnedAway}
 use Rattle.demands.specs.Insertion.{message, later, placed}
 use Rattle.demands.proofs.Refusals.{refused-alike, refused-placed, answer-is}

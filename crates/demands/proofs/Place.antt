@@ -12,14 +12,14 @@ use Rattle.reading.specs.declared.Outcome.the-variants.{Base, Experimental}
 use Rattle.requests.specs.Judged.{fine}
 use Rattle.requests.specs.Request.{dialectOf, cx, headerFault, firstOther, readRequest}
 use Rattle.failed.specs.Failing.{failedOf}
-use Rattle.ndushavire.specs.Lent.{Lent}
-use Rattle.ndushavire.specs.Serve.{Served, serve}
+use Rattle.calling.specs.Lent.{Lent}
+use Rattle.calling.specs.Serve.{Served, serve, resultOf}
 use Rattle.ndushavire.specs.Word.{callPlace}
 use Rattle.ndushavire.specs.Reads.{placeIn}
 use Rattle.ndushavire.specs.Promise.{DecidePromise}
 use Rattle.demands.specs.Call.{turnedAway}
 use Rattle.demands.specs.Frame.{succeeds}
-use Rattle.demands.specs.Place.{OfRules, Blames, blaming, resultOf}
+use Rattle.demands.specs.Place.{OfRules, Blames, blaming}
 use Rattle.demands.proofs.Refusals.{word-reads, refused-nowhere}
 use Rattle.demands.proofs.Fitting.{fits}
 use Rattle.demands.proofs.Faults.{fault-least, fault-within, fault-number, rules-lack, rules-fail}

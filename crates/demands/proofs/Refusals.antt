@@ -14,28 +14,26 @@ use Rattle.table.specs.declared.Checked.{Checked}
 use Rattle.table.specs.declared.Checked.the-variants.{Sound, Bad}
 use Rattle.vectors.specs.VectorFile.{checkVectors, SoundVectors}
 use Rattle.diameter.specs.Put.{All}
-use Rattle.ndushavire.specs.declared.Answer.{Answer}
-use Rattle.ndushavire.specs.declared.Call.{Call}
-use Rattle.ndushavire.specs.declared.Call.the-variants.{Answered, Refused}
-use Rattle.ndushavire.specs.Lent.{Lent, asking}
-use Rattle.ndushavire.specs.Trial.{Trial, anyHolds}
-use Rattle.ndushavire.specs.Serve.{Served, smallBuffer, wrongSize, wrongLength, noRequest, isBad, unsound, checkOf, trials, refused, answered, decision}
-use Rattle.ndushavire.specs.Serve.{serve}
-use Rattle.ndushavire.specs.Word.{callNumber, callPlace, callValue, callWord, checkValue}
+use Rattle.calling.specs.Call.{Answer}
+use Rattle.calling.specs.Call.{Call}
+use Rattle.calling.specs.Call.{Answered, Refused}
+use Rattle.calling.specs.Lent.{Lent, asking}
+use Rattle.calling.specs.Trial.{Trial, anyHolds}
+use Rattle.calling.specs.Serve.{Served, smallBuffer, wrongSize, wrongLength, noRequest, isBad, unsound, checkOf, trials, refused}
+use Rattle.calling.specs.Serve.{answered, decision, checkValue, serve}
+use Rattle.ndushavire.specs.Word.{callNumber, callPlace, callValue, callWord}
 use Rattle.ndushavire.specs.Reads.{Reads}
-use Rattle.ndushavire.proofs.Calls.{size-least, size-most}
+use Rattle.calling.proofs.Calls.{size-least, size-most}
 use Rattle.fitting.proofs.Tests.{neither}
 use Rattle.demands.specs.Call.{turnedAway, answerTo, Fits, Exactly}
 use Rattle.demands.specs.Insertion.{placed}
 use Rattle.demands.proofs.Faults.{decide-within}
 use Rattle.demands.proofs.Firm.{check-most, answer-reads, refusal-reads}
-use Rattle.demands.proofs.Trials.{tried-by, tried-alike, exactly}
+use Rattle.calling.proofs.Kept.{taken}
+use Rattle.calling.proofs.Trials.{tried-by, tried-alike}
+use Rattle.demands.proofs.Trials.{exactly}
 
--- a sound file's count, and an unsound one's first bad block
-sound-count : (c : Checked) → isBad c ≡ false → c ≡ Sound (checkValue c)
-sound-count (Sound count) e = refl
-sound-count (Bad block) e = absurd (true≢false e)
-
+-- an unsound file's first bad block
 bad-block : (c : Checked) → isBad c ≡ true → c ≡ Bad (checkValue c)
 bad-block (Sound count) e = absurd (true≢false (sym e))
 bad-block (Bad block) e = refl
@@ -154,35 +152,10 @@ module _ (x : Lent) where
   pub answered-is : (count : ℕ) → checkOf x ≡ Sound count → turnedAway x ≡ false → serve x ≡ answered x (decision x count)
   answered-is count s e = answer-is e ∙ ap (λ (c : Checked). answered x (decision x (checkValue c))) s
 
-  -- what holds where none of the six does
-  pub record Taken : Type 0 where
-    pub room : 36864 ≤ length (x .buffer)
-    pub size : wrongSize (x .request) ≡ false
-    pub lengths : wrongLength (x .request) ≡ false
-    pub table : checkOf x ≡ Sound (checkValue (checkOf x))
-    pub vectors : SoundVectors (x .vectors)
-
-  pub taken : turnedAway x ≡ false → Taken
-  unfolding anyHolds
-  taken e =
-      let a = neither (smallBuffer (x .buffer)) _ e in
-      let b = neither (wrongSize (x .request)) _ (a .1) in
-      let c = neither (wrongLength (x .request)) _ (b .1) in
-      let d = neither (noRequest (x .request)) _ (c .1) in
-      let f = neither (isBad (checkOf x)) _ (d .1) in
-      let g = neither (isBad (checkVectors (x .vectors))) _ (f .1) in
-      record {
-        room = ltb-false _ _ (a .0);
-        size = b .0;
-        lengths = c .0;
-        table = sound-count (checkOf x) (f .0);
-        vectors = record { count = checkValue (checkVectors (x .vectors)); checked = sound-count (checkVectors (x .vectors)) (g .0) };
-      }
-
   -- The word of a call is read back: what it carries is short.
   module _ (fits : Fits x) where
     abbrev short : (turnedAway x ≡ false) → length (answerTo x (checkValue (checkOf x))) ≤ 36864
-    short e = let h = taken e in fits (h .size) (h .lengths) (checkValue (checkOf x)) (h .table) (h .vectors)
+    short e = let h = taken x e in fits (h .size) (h .lengths) (checkValue (checkOf x)) (h .table) (h .vectors)
 
     pub word-reads : Reads (serve x .call) (callWord (serve x .call))
     unfolding refused answered
@@ -197,7 +170,7 @@ module _ (x : Lent) where
 
         near : turnedAway x ≡ false → decision x count .place < 65536
         near e =
-            let s = taken e .size in
+            let s = taken x e .size in
             omega (arith, size-most (x .request) s, decide-within (x .request) (x .table) count (x .vectors) (size-least (x .request) s))
 
     pub answer-within : callNumber (serve x .call) ≡ 0 → callValue (serve x .call) ≤ length (x .buffer)
@@ -205,13 +178,13 @@ module _ (x : Lent) where
     answer-within =
         call-by (λ b s. turnedAway x ≡ b → callNumber (s .call) ≡ 0 → callValue (s .call) ≤ length (x .buffer)) (λ r. 1 ≤ r .number)
         (six (λ r. 1 ≤ r .number) (λ h n a b c. a) (omega arith)) (λ r q h e z. absurd (omega (arith, q, z)))
-        (λ e z. omega (arith, short e, taken e .room)) refl
+        (λ e z. omega (arith, short e, taken x e .room)) refl
 
     pub buffer-length : length (serve x .buffer) ≡ length (x .buffer)
     unfolding refused answered
     buffer-length =
         any-call (λ b s. turnedAway x ≡ b → length (s .buffer) ≡ length (x .buffer)) (λ r e. refl)
-        (λ e. over-length (answerTo x (checkValue (checkOf x))) (x .buffer) (omega (arith, short e, taken e .room))) refl
+        (λ e. over-length (answerTo x (checkValue (checkOf x))) (x .buffer) (omega (arith, short e, taken x e .room))) refl
 
   -- the buffer past the answer
   pub buffer-past : drop (callValue (serve x .call)) (serve x .buffer) ≡ drop (callValue (serve x .call)) (x .buffer)

@@ -7,9 +7,9 @@ use lib.ListN.{length}
 use lib.Dec.{eqb}
 use Rattle.table.specs.declared.Checked.the-variants.{Sound}
 use Rattle.vectors.specs.VectorFile.{SoundVectors}
-use Rattle.ndushavire.specs.Lent.{Lent}
-use Rattle.ndushavire.specs.Trial.{Trial, anyHolds}
-use Rattle.ndushavire.specs.Serve.{wrongSize, wrongLength, checkOf, trials, answerOf, decision}
+use Rattle.calling.specs.Lent.{Lent}
+use Rattle.calling.specs.Trial.{Trial, anyHolds}
+use Rattle.calling.specs.Serve.{wrongSize, wrongLength, checkOf, trials, answerOf, decision}
 
 -- one of the refusals holds
 abbrev pub turnedAway : Lent → Bool

@@ -15,10 +15,10 @@ use Rattle.reading.specs.declared.Use.the-variants.{Unknown}
 use Rattle.reading.specs.Kinds.{useOf}
 use Rattle.requests.specs.Judged.{Judged, bad, fine, nothing, judge}
 use Rattle.requests.specs.Request.{dialectOf, cx, headerFault, firstOther}
-use Rattle.ndushavire.specs.Lent.{Lent, asking}
-use Rattle.ndushavire.specs.Serve.{Served, serve}
-use Rattle.ndushavire.specs.declared.Call.{Call}
-use Rattle.ndushavire.specs.declared.Call.the-variants.{Answered, Refused}
+use Rattle.calling.specs.Lent.{Lent, asking}
+use Rattle.calling.specs.Serve.{Served, serve}
+use Rattle.calling.specs.Call.{Call}
+use Rattle.calling.specs.Call.{Answered, Refused}
 use Rattle.demands.specs.Call.{turnedAway}
 use Rattle.demands.specs.Place.{blaming}
 

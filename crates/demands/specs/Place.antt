@@ -20,10 +20,9 @@ use Rattle.reading.specs.declared.Ruled.the-variants.{Taken, Skipped, Fault}
 use Rattle.requests.specs.Judged.{nothing}
 use Rattle.requests.specs.Request.{dialectOf, cx, headerFault, firstOther}
 use Rattle.reply.specs.Answer.{topBytes, proxies, headerBytes}
-use Rattle.ndushavire.specs.Lent.{Lent}
-use Rattle.ndushavire.specs.Serve.{Served, checkOf, decision}
-use Rattle.ndushavire.specs.Word.{checkValue}
-use Rattle.ndushavire.specs.declared.Call.the-variants.{Answered}
+use Rattle.calling.specs.Lent.{Lent}
+use Rattle.calling.specs.Serve.{Served, checkOf, decision, checkValue}
+use Rattle.calling.specs.Call.{Answered}
 use Rattle.demands.specs.Call.{turnedAway}
 
 -- the place behind an AVP and its padding
@@ -77,7 +76,3 @@ blaming x n shown place =
       vectors = x .vectors;
       buffer = over (faultBytes (x .request) (x .table) n shown) (x .buffer);
     }
-
--- the result of the decision that a call answers with, where it is not refused
-abbrev pub resultOf : Lent → Outcome
-resultOf x = decision x (checkValue (checkOf x)) .given .verdict .result

@@ -1,4 +1,5 @@
 pub mod Blameless
 pub mod Deeds
+pub mod Kept
 pub mod Room
 pub mod Tests

@@ -11,10 +11,10 @@ use Rattle.octets.specs.Run.{over}
 use Rattle.diameter.specs.Avp.{padded, avpLen, sound}
 use Rattle.diameter.specs.Put.{Piece, Whole, All, glue, bytesOf, avpsOf}
 use Rattle.pen.specs.Bytes.{wordBytes, headBytes, padding, vendorHead, numberBytes}
-use Rattle.ndushavire.specs.declared.Call.the-variants.{Answered}
-use Rattle.ndushavire.specs.Lent.{Lent, lent}
-use Rattle.ndushavire.specs.Trial.{anyHolds}
-use Rattle.ndushavire.specs.Serve.{Served}
+use Rattle.calling.specs.Call.{Answered}
+use Rattle.calling.specs.Lent.{Lent, lent}
+use Rattle.calling.specs.Trial.{anyHolds}
+use Rattle.calling.specs.Serve.{Served}
 use Rattle.worked.proofs.Sample.{header, person, vector, digest, s, opened}
 use Rattle.demands.specs.Frame.{firstOwner, askedIn, subscriptionOf}
 use Rattle.demands.specs.Insertion.{message, requestOf, Inserted, ending, keep, faultIn}

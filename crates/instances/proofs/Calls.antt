@@ -12,9 +12,9 @@ use Rattle.table.specs.declared.Checked.the-variants.{Sound, Bad}
 use Rattle.table.specs.Check.{checkTable}
 use Rattle.diameter.specs.Put.{bytesOf}
 use Rattle.pen.specs.Bytes.{numberBytes}
-use Rattle.ndushavire.specs.declared.Call.the-variants.{Answered, Refused}
-use Rattle.ndushavire.specs.Lent.{Lent, lent}
-use Rattle.ndushavire.specs.Serve.{Served, trials, decision, serve}
+use Rattle.calling.specs.Call.{Answered, Refused}
+use Rattle.calling.specs.Lent.{Lent, lent}
+use Rattle.calling.specs.Serve.{Served, trials, decision, serve}
 use Rattle.ndushavire.specs.Word.{word, callNumber, callValue, callWord}
 use Rattle.ndushavire.specs.Reads.{Reads, ReadsCheck}
 use Rattle.worked.proofs.Sample.{header, request, answer, s, z}

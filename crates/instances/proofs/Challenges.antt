@@ -13,7 +13,7 @@ use Rattle.table.specs.Check.{checkTable}
 use Rattle.diameter.specs.Put.{Piece}
 use Rattle.pen.specs.Bytes.{numberBytes}
 use Rattle.pen.specs.Groups.{failed}
-use Rattle.ndushavire.specs.Serve.{decision, serve}
+use Rattle.calling.specs.Serve.{decision, serve}
 use Rattle.worked.proofs.Sample.{header, subscriber, person, vector, reply, item, challenges, s, z}
 use Rattle.requests.specs.Request.{dialectOf, cx}
 use Rattle.demands.specs.Call.{turnedAway}

@@ -12,8 +12,8 @@ use Rattle.octets.proofs.All.{and-left, and-right}
 use Rattle.diameter.specs.Put.{Piece}
 use Rattle.pen.specs.Bytes.{wordBytes, headBytes, vendorHead, numberBytes}
 use Rattle.pen.specs.Groups.{failed}
-use Rattle.ndushavire.specs.Lent.{Lent}
-use Rattle.ndushavire.specs.Serve.{Served, serve}
+use Rattle.calling.specs.Lent.{Lent}
+use Rattle.calling.specs.Serve.{Served, serve}
 use Rattle.worked.proofs.Sample.{answer, s}
 use Rattle.requests.specs.Request.{dialectOf, cx}
 use Rattle.demands.specs.Insertion.{requestOf, Foreign, Quiet, Inserted, ending, keep, put, putBefore, placeNow, placed, FirstMarked, Cut, Longer, Mark}

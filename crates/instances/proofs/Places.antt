@@ -9,13 +9,13 @@ use Rattle.pen.specs.Bytes.{wordBytes, vendorHead, numberBytes}
 use Rattle.pen.specs.Groups.{failed}
 use Rattle.reading.specs.declared.Outcome.the-variants.{Base}
 use Rattle.requests.specs.Judged.{nothing}
-use Rattle.ndushavire.specs.Lent.{Lent, lent}
-use Rattle.ndushavire.specs.Serve.{serve}
+use Rattle.calling.specs.Lent.{Lent, lent}
+use Rattle.calling.specs.Serve.{serve, resultOf}
 use Rattle.ndushavire.specs.Word.{word, callPlace}
 use Rattle.ndushavire.specs.Reads.{placeIn}
 use Rattle.worked.proofs.Sample.{header, answer, s}
 use Rattle.demands.specs.Insertion.{requestOf}
-use Rattle.demands.specs.Place.{first, pastTaken, ruleFault, OfRules, AtFault, Blames, resultOf}
+use Rattle.demands.specs.Place.{first, pastTaken, ruleFault, OfRules, AtFault, Blames}
 use Rattle.demands.proofs.Place.{place-word, place-answer, place-is, place-blames, place-least, place-within, place-result, place-none, place-refused}
 use Rattle.demands.proofs.Place.{place-header, place-first, place-decided, place-missing, place-experimental, place-success, place-most}
 use Rattle.instances.proofs.Asked.{room, base, vendor, head, session, application, common, own, rest, sar, asked, comesTo, loud, all}

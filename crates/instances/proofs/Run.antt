@@ -13,12 +13,12 @@ use Rattle.vectors.specs.Chosen.{howMany}
 use Rattle.blocks.specs.Changed.{isOne}
 use Rattle.pen.specs.Bytes.{vendorNumber}
 use Rattle.reading.specs.Verdicts.{numberOf}
-use Rattle.ndushavire.specs.declared.Call.the-variants.{Answered}
-use Rattle.ndushavire.specs.Lent.{Lent, lent}
-use Rattle.ndushavire.specs.Trial.{anyHolds}
-use Rattle.ndushavire.specs.Serve.{Served, serve}
+use Rattle.calling.specs.Call.{Answered}
+use Rattle.calling.specs.Lent.{Lent, lent}
+use Rattle.calling.specs.Trial.{anyHolds}
+use Rattle.calling.specs.Serve.{Served, serve, decided}
 use Rattle.ndushavire.specs.Word.{callPlace}
-use Rattle.sending.specs.Sent.{decided, sentBy, Challenges, usedAt, remaining, itemsFrom, saidOf, answerWith}
+use Rattle.sending.specs.Sent.{sentBy, Challenges, usedAt, remaining, itemsFrom, saidOf, answerWith}
 use Rattle.sending.specs.Row.{Turn, lending, leftBy, sentOver, Once}
 use Rattle.sending.proofs.Sending.{refusal-leaves, command-leaves, failure-leaves, only-success, others-stay, unsent-stay, sent-mark, sent-bytes}
 use Rattle.sending.proofs.Sending.{sent-number, sent-some, sent-first, answer-sends, success-place, success-says, sent-once, sent-over, sent-before}

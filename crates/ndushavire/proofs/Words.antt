@@ -6,11 +6,35 @@ use lib.ListN.{length}
 use Rattle.table.specs.Check.{checkTable}
 use Rattle.table.specs.declared.Checked.{Checked}
 use Rattle.vectors.specs.VectorFile.{checkVectors}
-use Rattle.ndushavire.specs.Word.{checkWord}
-use Rattle.ndushavire.specs.Promise.{CheckPromise, CheckVectorsPromise}
+use Rattle.calling.specs.Call.{callOf}
+use Rattle.calling.specs.Lent.{Lent}
+use Rattle.calling.specs.Serve.{serve}
+use Rattle.calling.specs.Leaves.{Leaves}
+use Rattle.calling.specs.declared.Came.{Came}
+use Rattle.reporting.specs.Counts.{Reports}
+use Rattle.ndushavire.specs.Word.{word, checkWord, callWord}
+use Rattle.ndushavire.specs.Promise.{CheckPromise, CheckVectorsPromise, DecidePromise, ReportPromise}
 
 pub check-kept : (table profile : List ℕ) (c : Checked) (r : ℕ) → c ≡ checkTable table (length profile) → r ≡ checkWord 5 c → CheckPromise table profile r
 check-kept table profile c r e f = record { answer = f ∙ ap (checkWord 5) e }
 
 pub vectors-kept : (vectors : List ℕ) (c : Checked) (r : ℕ) → c ≡ checkVectors vectors → r ≡ checkWord 6 c → CheckVectorsPromise vectors r
 vectors-kept vectors c r e f = record { answer = f ∙ ap (checkWord 6) e }
+
+-- The call as a word.
+pub word-promised : (x : Lent) (count : ℕ) {c : Came} {w : ℕ} {t' v' o' : List ℕ} → Leaves x (serve x) count c t' v' o' → w ≡ callWord (callOf c)
+    → DecidePromise x w t' v' o'
+word-promised x count s e =
+    record { word-is = e ∙ ap callWord (s .call-is); table-is = s .table-is; vectors-is = s .vectors-is; buffer-is = s .buffer-is }
+
+-- The report's number as a word.
+pub report-promised : (x : Lent) (area : List ℕ) {n w : ℕ} {t' v' o' area' : List ℕ} → Reports x area n t' v' o' area' → w ≡ word n 0 0
+    → ReportPromise x area w t' v' o' area'
+report-promised x area s e =
+    record {
+      word-is = e ∙ ap (λ (n : ℕ). word n 0 0) (s .number-is);
+      table-is = s .table-is;
+      vectors-is = s .vectors-is;
+      buffer-is = s .buffer-is;
+      area-is = s .area-is;
+    }

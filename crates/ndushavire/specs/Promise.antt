@@ -5,9 +5,10 @@ use mathlib.Core.List.{List}
 use lib.ListN.{length}
 use Rattle.table.specs.Check.{checkTable}
 use Rattle.vectors.specs.VectorFile.{checkVectors}
-use Rattle.ndushavire.specs.Lent.{Lent}
-use Rattle.ndushavire.specs.Serve.{serve}
-use Rattle.ndushavire.specs.Word.{checkWord, callWord}
+use Rattle.calling.specs.Lent.{Lent}
+use Rattle.calling.specs.Serve.{serve}
+use Rattle.reporting.specs.Report.{reported}
+use Rattle.ndushavire.specs.Word.{word, checkWord, callWord}
 
 -- the check of a table: "the exact count or first bad block"; of the profile file its length alone counts
 pub record CheckPromise (table profile : List ℕ) (r : ℕ) : Type 0 where
@@ -23,3 +24,11 @@ pub record DecidePromise (x : Lent) (r : ℕ) (table' vectors' buffer' : List �
   pub table-is : table' ≡ serve x .table
   pub vectors-is : vectors' ≡ serve x .vectors
   pub buffer-is : buffer' ≡ serve x .buffer
+
+-- the report over a file of requests, lent as the request: its number, and the table, the vectors, the buffer and the area at exit are those of `reported`
+pub record ReportPromise (x : Lent) (area : List ℕ) (r : ℕ) (table' vectors' buffer' area' : List ℕ) : Type 0 where
+  pub word-is : r ≡ word (reported x area .number) 0 0
+  pub table-is : table' ≡ reported x area .table
+  pub vectors-is : vectors' ≡ reported x area .vectors
+  pub buffer-is : buffer' ≡ reported x area .buffer
+  pub area-is : area' ≡ reported x area .area

@@ -5,9 +5,10 @@ use mathlib.Core.Path.{_≡_}
 use lib.Dec.{eqb}
 use Rattle.table.specs.declared.Checked.{Checked}
 use Rattle.table.specs.declared.Checked.the-variants.{Sound, Bad}
-use Rattle.ndushavire.specs.declared.Call.{Call}
-use Rattle.ndushavire.specs.declared.Call.the-variants.{Answered, Refused}
-use Rattle.ndushavire.specs.Word.{checkNumber, checkValue, callNumber, callPlace, callValue}
+use Rattle.calling.specs.Call.{Call}
+use Rattle.calling.specs.Call.{Answered, Refused}
+use Rattle.calling.specs.Serve.{checkValue}
+use Rattle.ndushavire.specs.Word.{checkNumber, callNumber, callPlace, callValue}
 
 abbrev pub numberIn : ℕ → ℕ
 numberIn w = w / 281474976710656

@@ -1,7 +1,7 @@
 -- The word that a call returns: its number times 2^48, the place of the AVP at fault times 2^32, and what it returns besides below that.
 use Prim.Native.Nat.{ℕ, _+_, _*_}
-use Rattle.ndushavire.specs.declared.Call.{Call}
-use Rattle.ndushavire.specs.declared.Call.the-variants.{Answered, Refused}
+use Rattle.calling.specs.Call.{Call}
+use Rattle.calling.specs.Call.{Answered, Refused}
 use Rattle.table.specs.declared.Checked.{Checked}
 use Rattle.table.specs.declared.Checked.the-variants.{Sound, Bad}
 
@@ -16,10 +16,6 @@ checkWord number (Bad block) = word number 0 block
 abbrev pub checkNumber : ℕ → Checked → ℕ
 checkNumber number (Sound count) = 0
 checkNumber number (Bad block) = number
-
-abbrev pub checkValue : Checked → ℕ
-checkValue (Sound count) = count
-checkValue (Bad block) = block
 
 -- a call: number 0 with the place and the answer's length; a refusal's number with what it returns besides
 abbrev pub callNumber : Call → ℕ

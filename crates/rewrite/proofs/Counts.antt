@@ -18,7 +18,7 @@ use Rattle.lookup.proofs.First.{FirstAt, first-stands}
 use Rattle.blocks.specs.Changed.{changedAt, changedIn}
 use Rattle.blocks.proofs.Changed.{in-here, in-other, in-length}
 use Rattle.rewrite.specs.Change.{afterOf, changedFound, Keeps, differ, alteredUpTo}
-use Rattle.rewrite.proofs.Tables.{keeps-whole, after-block}
+use Rattle.rewrite.proofs.Tables.{keeps-whole, after-block, after-none}
 use Rattle.rewrite.proofs.Writes.{differ-same, in-differs}
 
 differ-most : (x y : List ℕ) → differ x y ≤ 1
@@ -103,6 +103,15 @@ module _ (change : List ℕ → List ℕ) (keeps : Keeps change) (x : List ℕ) 
       + alteredUpTo (cond u (changedIn x k change) x) (afterOf (cond u (changedIn x k change) x) count chosen change) count
   if-counts true k a b chosen = in-counts k a b chosen
   if-counts false k a b chosen = rw (differ-same x) (none-more (alteredUpTo x (afterOf x count chosen change) count))
+
+  -- one record changed, and nothing after it
+  pub one-counts : (k : ℕ) → 1 ≤ k → k ≤ count → differ x (changedIn x k change) ≡ alteredUpTo x (changedIn x k change) count
+  one-counts k a b =
+      let next = changedIn x k change in
+      let size' : length next ≡ 512 * (count + 1) = in-length x k change (keeps-whole keeps) (omega arith) ∙ size in
+      let same : next ≡ afterOf next count (λ (j : ℕ). false) change = after-none next count change size' (λ (j : ℕ). false) (λ j l. refl) in
+      let sum : alteredUpTo x next count ≡ differ x next + alteredUpTo next next count = rw (← same) at (in-counts k a b (λ (j : ℕ). false)) in
+      omega (arith, sum, altered-none next count)
 
 -- The sum of a loop: it begins with none, it is never more than the records, and at the end it is the number.
 pub sum-start : (t whole : List ℕ) (count : ℕ) → 0 + alteredUpTo t whole count ≡ alteredUpTo t whole count

@@ -22,8 +22,8 @@ use Rattle.vectors.proofs.Marks.{marked-other, marked-used, spent-length}
 use Rattle.vectors.proofs.Sound.{whole-blocks, block-fits}
 use Rattle.vectors.proofs.Spent.{spent-kept, spent-marked, spent-sound}
 use Rattle.vectors.proofs.Unused.{ones-many, ones-rise, ones-hold, ones-first}
-use Rattle.ndushavire.specs.Lent.{Lent}
-use Rattle.ndushavire.specs.Serve.{serve}
+use Rattle.calling.specs.Lent.{Lent}
+use Rattle.calling.specs.Serve.{serve}
 use Rattle.sending.specs.Sent.{sentBy, Challenges, userOf, askedBy, usedAt, remaining}
 use Rattle.sending.proofs.Calls.{Quiet, Sending, call-cases}
 

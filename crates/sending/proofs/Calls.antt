@@ -10,12 +10,11 @@ use Rattle.table.specs.declared.Checked.the-variants.{Sound, Bad}
 use Rattle.vectors.specs.Chosen.{unusedOf, sentOf}
 use Rattle.vectors.specs.Marked.{spent}
 use Rattle.vectors.specs.VectorFile.{checkVectors, SoundVectors}
-use Rattle.ndushavire.specs.Lent.{Lent}
-use Rattle.ndushavire.specs.Trial.{Trial, tried, anyHolds}
-use Rattle.ndushavire.specs.Serve.{smallBuffer, wrongSize, wrongLength, noRequest, isBad, checkOf, trials, refused, answered, serve}
-use Rattle.ndushavire.specs.Word.{checkValue}
+use Rattle.calling.specs.Lent.{Lent}
+use Rattle.calling.specs.Trial.{Trial, tried, anyHolds}
+use Rattle.calling.specs.Serve.{smallBuffer, wrongSize, wrongLength, noRequest, isBad, checkOf, trials, refused, answered, serve, checkValue, decided}
 use Rattle.fitting.proofs.Tests.{neither}
-use Rattle.sending.specs.Sent.{decided, sentBy, Challenges, userOf, askedBy}
+use Rattle.sending.specs.Sent.{sentBy, Challenges, userOf, askedBy}
 use Rattle.sending.proofs.Cases.{Cases, other, success, decide-cases}
 
 -- Trials in order: none holds, or one does and is given.

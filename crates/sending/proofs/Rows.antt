@@ -10,8 +10,8 @@ use borrow.Author.Tests.{eq-eqb, ne-eqb}
 use Rattle.vectors.specs.Chosen.{Rising}
 use Rattle.blocks.specs.Changed.{isOne}
 use Rattle.vectors.specs.VectorFile.{checkVectors}
-use Rattle.ndushavire.specs.Lent.{Lent}
-use Rattle.ndushavire.specs.Serve.{serve}
+use Rattle.calling.specs.Lent.{Lent}
+use Rattle.calling.specs.Serve.{serve}
 use Rattle.sending.specs.Sent.{sentBy, usedAt}
 use Rattle.sending.specs.Row.{Turn, lending, leftBy, sentOver, Once}
 use Rattle.sending.proofs.Blocks.{unsent-kept, sent-unused, sent-used, length-kept, check-kept, rising}

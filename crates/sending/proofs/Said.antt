@@ -18,12 +18,11 @@ use Rattle.requests.specs.Judged.{Judged, bad, fine}
 use Rattle.requests.specs.Request.{readRequest}
 use Rattle.fitting.specs.Decide.{performed, decideJudged, decide}
 use Rattle.fitting.proofs.Room.{decide-light}
-use Rattle.ndushavire.specs.declared.Call.the-variants.{Answered}
-use Rattle.ndushavire.specs.Lent.{Lent}
-use Rattle.ndushavire.specs.Trial.{anyHolds}
-use Rattle.ndushavire.specs.Word.{checkValue}
-use Rattle.ndushavire.specs.Serve.{checkOf, trials, answerOf, answered, serve}
-use Rattle.sending.specs.Sent.{decided, sentBy, itemsFrom, saidOf, answerWith}
+use Rattle.calling.specs.Call.{Answered}
+use Rattle.calling.specs.Lent.{Lent}
+use Rattle.calling.specs.Trial.{anyHolds}
+use Rattle.calling.specs.Serve.{checkOf, trials, answerOf, answered, serve, checkValue, decided}
+use Rattle.sending.specs.Sent.{sentBy, itemsFrom, saidOf, answerWith}
 use Rattle.sending.proofs.Calls.{answered-is, answered-sound}
 use Rattle.sending.proofs.Faults.{read-fails}
 

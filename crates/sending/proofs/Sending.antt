@@ -16,12 +16,12 @@ use Rattle.vectors.specs.VectorFile.{checkVectors}
 use Rattle.pen.specs.Bytes.{vendorNumber, ifThere}
 use Rattle.reading.specs.declared.Outcome.the-variants.{Base}
 use Rattle.diameter.specs.Message.{commandOf}
-use Rattle.ndushavire.specs.declared.Call.the-variants.{Answered}
-use Rattle.ndushavire.specs.Lent.{Lent}
-use Rattle.ndushavire.specs.Trial.{anyHolds}
-use Rattle.ndushavire.specs.Serve.{checkOf, trials, serve}
-use Rattle.ndushavire.specs.Word.{checkValue, callPlace}
-use Rattle.sending.specs.Sent.{decided, resultOf, sentBy, Challenges, userOf, askedBy, usedAt, remaining, itemsFrom, saidOf, answerWith}
+use Rattle.calling.specs.Call.{Answered}
+use Rattle.calling.specs.Lent.{Lent}
+use Rattle.calling.specs.Trial.{anyHolds}
+use Rattle.calling.specs.Serve.{checkOf, trials, serve, checkValue, decided, resultOf}
+use Rattle.ndushavire.specs.Word.{callPlace}
+use Rattle.sending.specs.Sent.{sentBy, Challenges, userOf, askedBy, usedAt, remaining, itemsFrom, saidOf, answerWith}
 use Rattle.sending.specs.Row.{Turn, lending, leftBy, sentOver, Once}
 use Rattle.sending.proofs.Calls.{Quiet, Sending, call-cases}
 use Rattle.sending.proofs.Blocks as blocks

@@ -4,8 +4,8 @@ use mathlib.Core.List.{List, [], _∷_, _++_}
 use mathlib.Core.Bool.{false}
 use mathlib.Core.Path.{_≡_}
 use Rattle.blocks.specs.Changed.{isOne}
-use Rattle.ndushavire.specs.Lent.{Lent, lent}
-use Rattle.ndushavire.specs.Serve.{serve}
+use Rattle.calling.specs.Lent.{Lent, lent}
+use Rattle.calling.specs.Serve.{serve}
 use Rattle.sending.specs.Sent.{sentBy}
 
 -- what is lent to a call besides the vector file. Any table may be: the one that the call before left, or another that the daemon has put in its place

@@ -8,7 +8,6 @@ use lib.Dec.{ltb}
 use Rattle.table.specs.Blocks.{blockOf}
 use Rattle.vectors.specs.Chosen.{sentOf, unusedAt, howMany}
 use Rattle.reading.specs.Kinds.{userName, numberAuthItems}
-use Rattle.reading.specs.declared.Outcome.{Outcome}
 use Rattle.reading.specs.declared.Outcome.the-variants.{Base}
 use Rattle.diameter.specs.Message.{commandOf}
 use Rattle.requests.specs.Judged.{Judged, bad, fine}
@@ -17,18 +16,9 @@ use Rattle.pen.specs.Bytes.{vendorNumber, ifThere}
 use Rattle.items.specs.Items.{itemBytes}
 use Rattle.choices.specs.declared.Given.{Given}
 use Rattle.reply.specs.Answer.{topBytes, nameBytes, dataBytes, endBytes, headerBytes}
-use Rattle.fitting.specs.Decide.{Decision}
-use Rattle.ndushavire.specs.Lent.{Lent}
-use Rattle.ndushavire.specs.Trial.{anyHolds}
-use Rattle.ndushavire.specs.Word.{checkValue}
-use Rattle.ndushavire.specs.Serve.{checkOf, trials, decision}
-
--- the decision that `serve` answers with, where no refusal is given; its result
-abbrev pub decided : Lent → Decision
-decided x = decision x (checkValue (checkOf x))
-
-abbrev pub resultOf : Lent → Outcome
-resultOf x = decided x .given .verdict .result
+use Rattle.calling.specs.Lent.{Lent}
+use Rattle.calling.specs.Trial.{anyHolds}
+use Rattle.calling.specs.Serve.{trials, decided, resultOf}
 
 -- the numbers of the blocks that a call sends: of its decision's, and none where it is refused
 unfoldable pub sentBy : Lent → List ℕ

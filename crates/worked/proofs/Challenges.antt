@@ -21,11 +21,10 @@ use Rattle.choices.specs.declared.Given.{Given}
 use Rattle.decisions.specs.Authentication.{toSend}
 use Rattle.fitting.specs.Decide.{decide}
 use Rattle.reply.specs.Answer.{answerBytes}
-use Rattle.ndushavire.specs.declared.Call.the-variants.{Answered, Refused}
-use Rattle.ndushavire.specs.Lent.{Lent, lent}
-use Rattle.ndushavire.specs.Trial.{tried}
-use Rattle.ndushavire.specs.Serve.{Served, unsound, unsoundVectors, trials, refused, answered, decision, serve}
-use Rattle.ndushavire.specs.Word.{checkValue}
+use Rattle.calling.specs.Call.{Answered, Refused}
+use Rattle.calling.specs.Lent.{Lent, lent}
+use Rattle.calling.specs.Trial.{tried}
+use Rattle.calling.specs.Serve.{Served, unsound, unsoundVectors, trials, refused, answered, decision, serve, checkValue}
 use Rattle.worked.proofs.Sample.{block, header, person, subscriber, vector, room, request, reply, assignment, digest}
 use Rattle.worked.proofs.Sample.{authenticationOf, authentication, item, challenges, one, waiting, s, z, opened}
 

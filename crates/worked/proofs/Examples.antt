@@ -11,10 +11,10 @@ use Rattle.table.specs.Check.{checkTable}
 use Rattle.blocks.specs.Sealed.{sealed}
 use Rattle.pen.specs.Bytes.{vendorHead, avpBytes, numberBytes}
 use Rattle.pen.specs.Groups.{experimental, failed}
-use Rattle.ndushavire.specs.declared.Call.{Call}
-use Rattle.ndushavire.specs.declared.Call.the-variants.{Answered, Refused}
-use Rattle.ndushavire.specs.Lent.{lent}
-use Rattle.ndushavire.specs.Serve.{serve}
+use Rattle.calling.specs.Call.{Call}
+use Rattle.calling.specs.Call.{Answered, Refused}
+use Rattle.calling.specs.Lent.{lent}
+use Rattle.calling.specs.Serve.{serve}
 use Rattle.worked.proofs.Sample.{block, header, answer, assignment, one, two, s, z, opened}
 
 -- A case: a call (a request, a table, no profile file and no vector, a buffer of zeros of so many bytes; what it comes to, the table afterwards, the answer),

@@ -54,8 +54,8 @@ use Rattle.reading.specs.Verdicts.{numberOf}
 use Rattle.failed.specs.Failing.{headPart, alone, failedOf, sample, exampleOf, failedBy}
 use Rattle.reply.specs.Answer.{resultBytes, frontBytes, originBytes, topBytes, identityBytes, nameBytes, dataBytes, givenBytes, proxy, proxies, endBytes}
 use Rattle.reply.specs.Answer.{restBytes, bodyBytes, flagsOf, headerBytes, answerBytes}
-use Rattle.ndushavire.specs.Trial.{tried}
-use Rattle.ndushavire.specs.Serve.{wrongLength, refused, answered, serve}
+use Rattle.calling.specs.Trial.{tried}
+use Rattle.calling.specs.Serve.{wrongLength, refused, answered, serve}
 
 -- `hss.isle` and `isle`
 unfoldable pub host : List ℕ

@@ -9,9 +9,9 @@ use lib.ListN.{getD, replicate}
 use Rattle.octets.specs.Run.{over}
 use Rattle.pen.specs.Bytes.{vendorHead, vendorBytes, numberBytes, vendorNumber}
 use Rattle.pen.specs.Groups.{failed}
-use Rattle.ndushavire.specs.Lent.{Lent, lent}
-use Rattle.ndushavire.specs.Serve.{Served, serve}
-use Rattle.ndushavire.specs.declared.Call.the-variants.{Answered}
+use Rattle.calling.specs.Lent.{Lent, lent}
+use Rattle.calling.specs.Serve.{Served, serve}
+use Rattle.calling.specs.Call.{Answered}
 use Rattle.ndushavire.specs.Word.{word, callWord}
 use Rattle.ndushavire.specs.Reads.{placeIn}
 use Rattle.ndushavire.specs.Promise.{CheckPromise, DecidePromise}

@@ -11,16 +11,15 @@ pub enum Stream {
     Vectors,
     /// The decision, over every kind of request.
     Calls,
+    /// The report, over files of many requests.
+    Reports,
 }
+
+pub const STREAMS: [Stream; 4] = [Stream::Tables, Stream::Vectors, Stream::Calls, Stream::Reports];
 
 impl Stream {
     pub fn by_name(name: &str) -> Option<Stream> {
-        match name {
-            "tables" => Some(Stream::Tables),
-            "vectors" => Some(Stream::Vectors),
-            "calls" => Some(Stream::Calls),
-            _ => None,
-        }
+        STREAMS.into_iter().find(|stream| stream.name() == name)
     }
 
     pub fn name(self) -> &'static str {
@@ -28,6 +27,7 @@ impl Stream {
             Stream::Tables => "tables",
             Stream::Vectors => "vectors",
             Stream::Calls => "calls",
+            Stream::Reports => "reports",
         }
     }
 }

@@ -7,6 +7,7 @@ pub mod damage;
 mod made;
 pub mod model;
 mod names;
+pub mod reports;
 pub mod request;
 mod runs;
 mod tables;
@@ -14,7 +15,7 @@ pub mod twists;
 pub mod vectors;
 
 pub use calls::MIXED;
-pub use made::{Made, Stream};
+pub use made::{Made, Stream, STREAMS};
 pub use runs::{run, Step};
 pub use tables::FAR;
 
@@ -27,5 +28,6 @@ pub fn make(stream: Stream, seed: u64, number: u64) -> Made {
         Stream::Tables => checks::case(&mut rng),
         Stream::Vectors => vectors::case(&mut rng),
         Stream::Calls => calls::case(&mut rng),
+        Stream::Reports => reports::case(&mut rng),
     }
 }

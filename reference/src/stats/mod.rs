@@ -2,9 +2,10 @@
 
 mod authentication;
 mod places;
+mod reports;
 mod required;
 
-use std::collections::BTreeMap;
+use std::collections::{BTreeMap, BTreeSet};
 use std::ops::Range;
 
 use crate::block::{word_at, BLOCK};
@@ -29,6 +30,7 @@ impl Histogram {
         match (stream, why) {
             (Stream::Tables, Why::Checked(found)) => self.count_table(made, *found),
             (Stream::Vectors, Why::CheckedVectors(found)) => self.count_vectors(made, *found),
+            (Stream::Reports, _) => self.count_report(made, outcome),
             _ => self.count_call(made, outcome, why),
         }
     }
@@ -72,12 +74,18 @@ impl Histogram {
         self.add(format!("all -> {outcome}"));
     }
 
+    fn count_report(&mut self, made: &Made, outcome: &Outcome) {
+        let notes: BTreeSet<&&str> = made.notes.iter().collect();
+        notes.iter().for_each(|note| self.add(format!("made by: {note}")));
+        reports::rows(&made.case, outcome).into_iter().for_each(|row| self.add(row));
+    }
+
     fn count_call(&mut self, made: &Made, outcome: &Outcome, why: &Why) {
         for note in &made.notes {
             self.add(format!("made by: {note}"));
         }
         let row = match why {
-            Why::Checked(_) | Why::CheckedVectors(_) => return,
+            Why::Checked(_) | Why::CheckedVectors(_) | Why::Reported => return,
             Why::Refused(6) => format!("refused 6 to {}", asker(&made.case.held(Slice::Request))),
             Why::Refused(number) => format!("refused {number}"),
             Why::Header(code) => format!("header: B{code}"),
@@ -106,7 +114,7 @@ impl Histogram {
     }
 
     fn decision(&mut self, decision: &Decision) -> String {
-        let result = decision.result.map_or(String::new(), code_name);
+        let result = decision.result.map_or(String::new(), |result| result.to_string());
         let state = match decision.state {
             Some(state) => format!("state {state}"),
             None => "no record".to_string(),
@@ -131,7 +139,7 @@ impl Histogram {
         let buffer = case.after(outcome, Slice::Buffer).unwrap_or_default();
         let answer = &buffer[..outcome.parts().2 as usize];
         let avps = Message(answer).avps().sound(Slip::NONE);
-        self.add(format!("result: {}", code_name(result_of(answer))));
+        self.add(format!("result: {}", result_of(answer)));
         let copies = avps.iter().filter(|avp| avp.code == Kind::ProxyInfo.code()).count();
         if copies > 0 {
             self.add(format!("answer: {} Proxy-Info", if copies > 1 { "2 or more" } else { "1" }));
@@ -228,13 +236,6 @@ fn size(records: usize) -> String {
 /// How each row begins that the cases of a stream must show.
 pub fn required_rows(stream: Stream) -> Vec<String> {
     required::rows(stream).into_iter().map(|(row, _)| row).collect()
-}
-
-pub fn code_name(code: Code) -> String {
-    match code {
-        Code::Base(code) => format!("B{code}"),
-        Code::Experimental(code) => format!("X{code}"),
-    }
 }
 
 /// The result of an answer.

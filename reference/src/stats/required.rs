@@ -2,6 +2,7 @@
 
 use super::authentication;
 use super::places;
+use super::reports;
 use crate::gen::damage::damages;
 use crate::gen::twists::twists;
 use crate::gen::vectors::damage::{DAMAGES, OVER_THE_MOST};
@@ -17,6 +18,7 @@ pub fn rows(stream: Stream) -> Vec<(String, u64)> {
         Stream::Tables => of_tables(),
         Stream::Vectors => of_vectors(),
         Stream::Calls => of_calls(),
+        Stream::Reports => reports::wanted().into_iter().map(|(row, times)| (row, times * ONE_IN)).collect(),
     }
 }
 

@@ -111,7 +111,7 @@ pub fn sar(public: &str, server_name: &[u8], asked_type: u32) -> Vec<u8> {
 
 /// B or X with its number.
 pub fn result(answer: &[u8]) -> String {
-    reference::stats::code_name(reference::stats::result_of(answer))
+    reference::stats::result_of(answer).to_string()
 }
 
 /// The data of the answer's AVP of this code.

@@ -1,4 +1,4 @@
-use Rattle.deciding.proofs.Answering.{fault-given, fault-place, fault-near, fault-table, fault-vectors, given-room, given-sendable, answers, answers-most}
+use Rattle.deciding.proofs.Answering.{fault-given, fault-tells, fault-table, fault-vectors, given-room, given-sendable}
 use borrow.Author.Needs.{needs}
 use Rattle.deciding.proofs.answer_fault.Statement.{statement}
 use Rattle.deciding.proofs.answer_fault.Tie as tie
@@ -10,11 +10,6 @@ answer-fault-spec =
     (λ c κs. search needs)
     (λ c κs. search (needs, given-room, given-sendable, fault-given))
     (λ c. search needs)
-    (λ c. (
-      search (needs, answers-most, fault-given),
-      search (needs, fault-near),
-      search (needs, answers, fault-given),
-      search (needs, fault-place),
-      search (needs, fault-table),
-      search (needs, fault-vectors),
-    )))
+    (λ c. search needs)
+    (λ c. search needs)
+    (λ c. (search (needs, fault-tells), search (needs, fault-table), search (needs, fault-vectors))))

@@ -1,4 +1,4 @@
-use Rattle.deciding.proofs.Answering.{plan-given, plan-place, plan-table, plan-vectors, given-room, answers, answers-most}
+use Rattle.deciding.proofs.Answering.{plan-given, plan-tells, plan-table, plan-vectors, given-room}
 use borrow.Author.Needs.{needs}
 use Rattle.deciding.proofs.answer_read.Statement.{statement}
 use Rattle.deciding.proofs.answer_read.Tie as tie
@@ -13,11 +13,5 @@ answer-read-spec =
     (λ c. search needs)
     (λ c. search needs)
     (λ c. search needs)
-    (λ c. (
-      search (needs, answers-most, plan-given),
-      search needs,
-      search (needs, answers, plan-given),
-      search (needs, plan-place),
-      search (needs, plan-table),
-      search (needs, plan-vectors),
-    )))
+    (λ c. search needs)
+    (λ c. (search (needs, plan-tells), search (needs, plan-table), search (needs, plan-vectors))))

@@ -1,4 +1,5 @@
 use Rattle.requests.proofs.Requests.{judged-fine, judged-bad}
+use Rattle.deciding.proofs.Answering.{fault-near}
 use borrow.Author.Needs.{needs}
 use Rattle.deciding.proofs.answer_sound.Statement.{statement}
 use Rattle.deciding.proofs.answer_sound.Tie as tie
@@ -13,7 +14,7 @@ answer-sound-spec =
     (λ c. search needs)
     (λ c. search needs)
     (λ c. search needs)
-    (λ c κs. search (needs, judged-bad))
+    (λ c κs. search (needs, judged-bad, fault-near))
     (λ c. search needs)
     (λ c. search needs)
     (λ c. search needs)

@@ -1,4 +1,4 @@
-use Rattle.ndushavire.proofs.Calls.{word-promised}
+use Rattle.ndushavire.proofs.Words.{word-promised}
 use borrow.Author.Needs.{needs}
 use Rattle.ndushavire.proofs.ndushavire_decide.Statement.{statement}
 use Rattle.ndushavire.proofs.ndushavire_decide.Tie as tie

@@ -1,4 +1,4 @@
-use Rattle.deciding.proofs.Deciding.{deed-settles, deed-challenges, done-leave, done-settle, done-challenge}
+use Rattle.deciding.proofs.Deciding.{deed-settles, deed-challenges, done-leave, left-counts, done-settle, done-challenge}
 use borrow.Author.Needs.{needs}
 use Rattle.deciding.proofs.doing.carry_out.Statement.{statement}
 use Rattle.deciding.proofs.doing.carry_out.Tie as tie
@@ -12,8 +12,8 @@ carry-out-spec =
     (λ c κs. search (needs, deed-settles))
     (λ c. search needs)
     (λ c κs. search (needs, deed-challenges))
-    (λ c. search (needs, done-leave))
+    (λ c. (search (needs, done-leave), search (needs, left-counts)))
     (λ c. search needs)
-    (λ c. search (needs, done-settle))
+    (λ c. (search (needs, done-settle), search needs))
     (λ c. search needs)
-    (λ c. search (needs, done-challenge)))
+    (λ c. (search (needs, done-challenge), search needs)))

@@ -1,0 +1,174 @@
+-- What each way through a call leaves.
+use Prim.Native.Nat.{ℕ, _≤_, _<_, _%_}
+use mathlib.Core.List.{List}
+use mathlib.Core.Bool.{Bool, true, false, cond, not, _||_, true≢false}
+use mathlib.Core.Path.{_≡_, refl, sym, ap, _∙_}
+use native.Mathlib.Omega.{arith}
+use lib.ListN.{length, getD}
+use lib.Dec.{eqb, ltb}
+use borrow.Author.Tests.{lt-ltb, le-ltb, eqb-true, ltb-false}
+use Rattle.octets.specs.Number.{be24At}
+use Rattle.table.specs.Check.{checkTable}
+use Rattle.table.specs.declared.Checked.{Checked}
+use Rattle.table.specs.declared.Checked.the-variants.{Sound, Bad}
+use Rattle.table.specs.SoundTable.{SoundTable}
+use Rattle.vectors.specs.VectorFile.{checkVectors, SoundVectors}
+use Rattle.fitting.specs.Decide.{decide}
+use Rattle.fitting.proofs.Tests.{neither}
+use Rattle.deciding.specs.Passed.{Passed}
+use Rattle.deciding.specs.Answers.{Tells}
+use Rattle.deciding.specs.declared.Told.{Told}
+use Rattle.calling.specs.declared.Came.{Came}
+use Rattle.calling.specs.declared.Came.the-variants as came
+use Rattle.calling.specs.Lent.{Lent, lent}
+use Rattle.calling.specs.Trial.{tried}
+use Rattle.calling.specs.Serve.{refused, answered, smallBuffer, wrongSize, wrongLength, noRequest, checkOf, checkValue, serve}
+use Rattle.calling.specs.Leaves.{Leaves, early, serveChecked}
+
+pub length-all : (req : List ℕ) {n : ℕ} → n ≡ be24At req 1 → (not (eqb n (length req)) || not (eqb (length req % 4) 0)) ≡ wrongLength req
+unfolding wrongLength
+length-all req e = rw e
+
+-- a length that is not wrong is a multiple of 4
+pub length-even : (req : List ℕ) → wrongLength req ≡ false → length req % 4 ≡ 0
+unfolding wrongLength
+length-even req e = go (eqb (be24At req 1) (length req)) (eqb (length req % 4) 0) refl e
+  where
+    go : (a b : Bool) → eqb (length req % 4) 0 ≡ b → (not a || not b) ≡ false → length req % 4 ≡ 0
+    go a true g h = eqb-true (length req % 4) 0 g
+    go true false g h = absurd (true≢false h)
+    go false false g h = absurd (true≢false h)
+
+pub checked-sound : (t : List ℕ) (n count : ℕ) {c : Checked} → c ≡ checkTable t n → c ≡ Sound count → SoundTable t count
+checked-sound t n count e f = record { file = n; checked = sym e ∙ f }
+
+pub vectors-sound : (v : List ℕ) (n : ℕ) {d : Checked} → d ≡ checkVectors v → d ≡ Sound n → SoundVectors v
+vectors-sound v n e f = record { count = n; checked = sym e ∙ f }
+
+-- a size that is not wrong
+size-within : (req : List ℕ) → wrongSize req ≡ false → (20 ≤ length req) × (length req ≤ 16384)
+size-within req e =
+    let both = neither (ltb (length req) 20) (ltb 16384 (length req)) e in
+    (ltb-false (length req) 20 (both .0), ltb-false 16384 (length req) (both .1))
+
+pub size-least : (req : List ℕ) → wrongSize req ≡ false → 20 ≤ length req
+size-least req e = size-within req e .0
+
+pub size-most : (req : List ℕ) → wrongSize req ≡ false → length req ≤ 16384
+size-most req e = size-within req e .1
+
+pub size-flags : (req : List ℕ) → wrongSize req ≡ false → 4 < length req
+size-flags req e = omega (arith, size-least req e)
+
+-- The first four, in their order.
+module _ (req o : List ℕ) where
+  pub early-buffer : length o < 36864 → 1 ≡ early req o
+  unfolding early
+  early-buffer a = rw (lt-ltb (length o) 36864 a)
+
+  module _ (room : 36864 ≤ length o) where
+    pub early-size : wrongSize req ≡ true → 2 ≡ early req o
+    unfolding early
+    early-size a = rw (le-ltb (length o) 36864 room, a)
+
+    module _ (fits : wrongSize req ≡ false) {w : Bool} (is : w ≡ wrongLength req) where
+      pub early-length : w ≡ true → 3 ≡ early req o
+      unfolding early
+      early-length a = rw (le-ltb (length o) 36864 room, fits, sym is ∙ a)
+
+      pub early-answer : w ≡ false → getD req 4 0 < 128 → 4 ≡ early req o
+      unfolding early
+      early-answer a b = rw (le-ltb (length o) 36864 room, fits, sym is ∙ a, lt-ltb (getD req 4 0) 128 b)
+
+      pub early-none : w ≡ false → 128 ≤ getD req 4 0 → 0 ≡ early req o
+      unfolding early
+      early-none a b = rw (le-ltb (length o) 36864 room, fits, sym is ∙ a, le-ltb (getD req 4 0) 128 b)
+
+-- what it says where none holds
+record Lets (req o : List ℕ) : Type 0 where
+  room : smallBuffer o ≡ false
+  size : wrongSize req ≡ false
+  long : wrongLength req ≡ false
+  asks : noRequest req ≡ false
+
+lets : (req o : List ℕ) → early req o ≡ 0 → Lets req o
+unfolding early
+lets req o e = go (smallBuffer o) (wrongSize req) (wrongLength req) (noRequest req) refl refl refl refl e
+  where
+    go : (a b c d : Bool) → smallBuffer o ≡ a → wrongSize req ≡ b → wrongLength req ≡ c → noRequest req ≡ d
+        → _≡_ {A = ℕ} (cond a 1 (cond b 2 (cond c 3 (cond d 4 0)))) 0 → Lets req o
+    go true b c d f g h i z = absurd (omega (arith, z))
+    go false true c d f g h i z = absurd (omega (arith, z))
+    go false false true d f g h i z = absurd (omega (arith, z))
+    go false false false true f g h i z = absurd (omega (arith, z))
+    go false false false false f g h i z = record { room = f; size = g; long = h; asks = i }
+
+none : {n m : ℕ} → n ≡ m → n ≤ 0 → m ≡ 0
+none e h = omega (arith, e)
+
+pub passes : (req o : List ℕ) {n : ℕ} → n ≡ early req o → n ≤ 0 → Passed req o
+passes req o e h =
+    let l = lets req o (none e h) in
+    let s = size-within req (l .size) in
+    record { least = s .0; most = s .1; fours = length-even req (l .long); room = ltb-false (length o) 36864 (l .room) }
+
+module _ (req t file v o : List ℕ) where
+  abbrev x : Lent
+  x = lent req t file v o
+
+  early-refuses : (count : ℕ) → 0 < early req o → Leaves x (serve x) count (came.Refused (early req o) 0) t v o
+  unfolding early serve tried refused
+  early-refuses count h = go (smallBuffer o) (wrongSize req) (wrongLength req) (noRequest req) refl refl refl refl h
+    where
+      go : (a b c d : Bool) → smallBuffer o ≡ a → wrongSize req ≡ b → wrongLength req ≡ c → noRequest req ≡ d
+          → 0 < cond a 1 (cond b 2 (cond c 3 (cond d 4 0)))
+          → Leaves x (serve x) count (came.Refused (cond a 1 (cond b 2 (cond c 3 (cond d 4 0)))) 0) t v o
+      go true b c d f g h i z = record { call-is = rw f; table-is = rw f; vectors-is = rw f; buffer-is = rw f; noted = tt }
+      go false true c d f g h i z = record { call-is = rw (f, g); table-is = rw (f, g); vectors-is = rw (f, g); buffer-is = rw (f, g); noted = tt }
+      go false false true d f g h i z =
+          record { call-is = rw (f, g, h); table-is = rw (f, g, h); vectors-is = rw (f, g, h); buffer-is = rw (f, g, h); noted = tt }
+      go false false false true f g h i z =
+          record { call-is = rw (f, g, h, i); table-is = rw (f, g, h, i); vectors-is = rw (f, g, h, i); buffer-is = rw (f, g, h, i); noted = tt }
+      go false false false false f g h i z = absurd (omega (arith, z))
+
+  pub refuses : (count : ℕ) {n : ℕ} → n ≡ early req o → 0 < n → Leaves x (serve x) count (came.Refused n 0) t v o
+  refuses count e h = rw e (early-refuses count (rw (← e) h))
+
+  -- The last two, and the answer.
+  pub over-bad : (c d : Checked) (k : ℕ) → c ≡ Bad k → Leaves x (serveChecked x c d) (checkValue c) (came.Refused 5 k) t v o
+  unfolding serveChecked tried refused
+  over-bad c d k e = record { call-is = rw e; table-is = rw e; vectors-is = rw e; buffer-is = rw e; noted = tt }
+
+  pub over-good : (c d : Checked) (count : ℕ) {r : Came} {t' v' o' : List ℕ} → c ≡ Sound count
+      → Leaves x (serveChecked x (Sound count) d) count r t' v' o' → Leaves x (serveChecked x c d) (checkValue c) r t' v' o'
+  over-good c d count e s = rw e s
+
+  module _ (count : ℕ) (d : Checked) where
+    pub over-spoilt : (k : ℕ) → d ≡ Bad k → Leaves x (serveChecked x (Sound count) d) count (came.Refused 6 0) t v o
+    unfolding serveChecked tried refused
+    over-spoilt k e = record { call-is = rw e; table-is = rw e; vectors-is = rw e; buffer-is = rw e; noted = tt }
+
+    pub over-answered : (m : ℕ) (told : Told) {t' v' o' : List ℕ} → d ≡ Sound m → Tells req t count file v o o' told
+        → t' ≡ decide req t count v .table → v' ≡ decide req t count v .vectors
+        → Leaves x (serveChecked x (Sound count) d) count (came.Answered told) t' v' o'
+    unfolding serveChecked tried answered
+    over-answered m told e a f g =
+        record {
+          call-is = rw (e, a .answers .count, a .place-is);
+          table-is = f ∙ rw e;
+          vectors-is = g ∙ rw e;
+          buffer-is = a .answers .bytes ∙ rw e;
+          noted = (a .result-is, rw f (a .altered-is));
+        }
+
+  pub rest-serves : (c d : Checked) {n count : ℕ} {r : Came} {t' v' o' : List ℕ} → n ≡ early req o → n ≤ 0 → c ≡ checkTable t (length file) → d ≡ checkVectors v
+      → Leaves x (serveChecked x c d) count r t' v' o' → Leaves x (serve x) count r t' v' o'
+  unfolding serve tried serveChecked
+  rest-serves c d e z f g s =
+      let l = lets req o (none e z) in
+      rw (l .room, l .size, l .long, l .asks, ← f, ← g) s
+
+  -- the same with the count that was found
+  pub call-serves : (c d : Checked) {n : ℕ} {r : Came} {t' v' o' : List ℕ} → n ≡ early req o → n ≤ 0 → c ≡ checkTable t (length file) → d ≡ checkVectors v
+      → Leaves x (serveChecked x c d) (checkValue c) r t' v' o' → Leaves x (serve x) (checkValue (checkOf x)) r t' v' o'
+  call-serves c d e z f g s = rw (← f) (rest-serves c d e z f g s)

@@ -1,0 +1,81 @@
+-- Whatever a call comes to, a table is sound after it with so many records if it was before, and so is the vector file; an unsound one stays as it is.
+use Prim.Native.Nat.{_≤_}
+use mathlib.Core.Bool.{Bool, false, true≢false}
+use mathlib.Core.Path.{_≡_, refl, sym, _∙_}
+use lib.ListN.{length}
+use native.Mathlib.Omega.{arith}
+use borrow.Author.Tests.{ltb-false}
+use Rattle.table.specs.Check.{checkTable}
+use Rattle.table.specs.declared.Checked.{Checked}
+use Rattle.table.specs.declared.Checked.the-variants.{Sound, Bad}
+use Rattle.table.specs.SoundTable.{SoundTable}
+use Rattle.vectors.specs.VectorFile.{checkVectors, SoundVectors}
+use Rattle.rewrite.proofs.Sound.{keeping-sound}
+use Rattle.fitting.proofs.Kept.{decide-keeping, decide-vectors}
+use Rattle.fitting.proofs.Tests.{neither}
+use Rattle.calling.specs.Lent.{Lent}
+use Rattle.calling.specs.Trial.{Trial, anyHolds}
+use Rattle.calling.specs.Serve.{Served, smallBuffer, wrongSize, wrongLength, noRequest, isBad, checkOf, checkValue, trials, refused, answered, decided}
+use Rattle.calling.specs.Serve.{serve}
+use Rattle.calling.proofs.Trials.{tried-by}
+
+-- a file that is not bad is sound
+pub sound-count : (c : Checked) → isBad c ≡ false → c ≡ Sound (checkValue c)
+sound-count (Sound count) e = refl
+sound-count (Bad block) e = absurd (true≢false e)
+
+module _ (x : Lent) where
+  -- what holds where none of the six does
+  pub record Taken : Type 0 where
+    pub room : 36864 ≤ length (x .buffer)
+    pub size : wrongSize (x .request) ≡ false
+    pub lengths : wrongLength (x .request) ≡ false
+    pub table : checkOf x ≡ Sound (checkValue (checkOf x))
+    pub vectors : SoundVectors (x .vectors)
+
+  pub taken : anyHolds (trials x) ≡ false → Taken
+  unfolding anyHolds
+  taken e =
+      let a = neither (smallBuffer (x .buffer)) _ e in
+      let b = neither (wrongSize (x .request)) _ (a .1) in
+      let c = neither (wrongLength (x .request)) _ (b .1) in
+      let d = neither (noRequest (x .request)) _ (c .1) in
+      let f = neither (isBad (checkOf x)) _ (d .1) in
+      let g = neither (isBad (checkVectors (x .vectors))) _ (f .1) in
+      record {
+        room = ltb-false _ _ (a .0);
+        size = b .0;
+        lengths = c .0;
+        table = sound-count (checkOf x) (f .0);
+        vectors = record { count = checkValue (checkVectors (x .vectors)); checked = sound-count (checkVectors (x .vectors)) (g .0) };
+      }
+
+  -- what holds of refusals by 1 to 6, and of the answer over sound files, holds of the call
+  pub serve-by : (P : Served → Type 0) → ((r : Trial) → 1 ≤ r .number → r .number ≤ 6 → P (refused x r)) → (Taken → P (answered x (decided x))) → P (serve x)
+  unfolding serve
+  serve-by P f o =
+      tried-by (λ (b : Bool) (s : Served). anyHolds (trials x) ≡ b → P s) (λ r. (1 ≤ r .number) × (r .number ≤ 6)) (refused x) (answered x (decided x))
+      (λ r q h e. f r (q .0) (q .1)) (λ e. o (taken e)) (trials x) (
+        (omega arith, omega arith),
+        (
+          (omega arith, omega arith),
+          ((omega arith, omega arith), ((omega arith, omega arith), ((omega arith, omega arith), ((omega arith, omega arith), tt)))),
+        ),
+      )
+      refl
+
+  pub table-checked : checkTable (serve x .table) (length (x .profile)) ≡ checkOf x
+  unfolding refused answered
+  table-checked =
+      serve-by (λ s. checkTable (s .table) (length (x .profile)) ≡ checkOf x) (λ r a b. refl)
+      (λ k.
+      let sound : SoundTable (x .table) (checkValue (checkOf x)) = record { file = length (x .profile); checked = k .table } in
+      keeping-sound (x .table) (decided x .table) (checkValue (checkOf x))
+      (decide-keeping (x .request) (x .table) (checkValue (checkOf x)) (x .vectors) sound) sound
+      ∙ sym (k .table))
+
+  pub vectors-checked : checkVectors (serve x .vectors) ≡ checkVectors (x .vectors)
+  unfolding refused answered
+  vectors-checked =
+      serve-by (λ s. checkVectors (s .vectors) ≡ checkVectors (x .vectors)) (λ r a b. refl)
+      (λ k. decide-vectors (x .request) (x .table) (checkValue (checkOf x)) (x .vectors) (k .vectors))

@@ -1,0 +1,16 @@
+use Rattle.calling.proofs.Calls.{size-least, size-flags, early-buffer, early-size, early-length, early-answer, early-none}
+use borrow.Author.Needs.{needs}
+use Rattle.calling.proofs.early.Statement.{statement}
+use Rattle.calling.proofs.early.Tie as tie
+
+pub early-spec : {M : Type 1} → statement M
+early-spec =
+    tie.close
+    (tie.spec
+    (λ c. search (needs, early-buffer))
+    (λ c. search (needs, early-size))
+    (λ c κs. search (needs, size-least))
+    (λ c. search (needs, early-length))
+    (λ c. search (needs, size-flags))
+    (λ c. search (needs, early-answer))
+    (λ c. search (needs, early-none)))

@@ -1,0 +1,11 @@
+use Rattle.calling.proofs.Calls.{length-all}
+use borrow.Author.Needs.{needs}
+use Rattle.calling.proofs.wrong_length.Statement.{statement}
+use Rattle.calling.proofs.wrong_length.Tie as tie
+
+pub wrong-length-spec : {M : Type 1} → statement M
+wrong-length-spec =
+    tie.close
+    (tie.spec
+    (λ c κs. search needs)
+    (λ c. search (needs, length-all)))

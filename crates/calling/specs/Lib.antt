@@ -1,0 +1,5 @@
+pub mod Call
+pub mod Leaves
+pub mod Lent
+pub mod Serve
+pub mod Trial

@@ -1,0 +1,160 @@
+// One call: the refusals, tried in order, and the answer.
+use deciding::Told;
+use diameter::message;
+use table::Checked;
+ghost use mathlib.Core.Path.{_≡_};
+ghost use Prim.Native.Nat.{_≤_};
+ghost use lib.ListN.{length};
+ghost use Rattle.table.specs.Check.{checkTable};
+ghost use Rattle.table.specs.SoundTable.{SoundTable};
+ghost use Rattle.vectors.specs.VectorFile.{checkVectors};
+ghost use Rattle.deciding.specs.Passed.{Passed};
+ghost use Rattle.calling.specs.Lent.{lent};
+ghost use Rattle.calling.specs.Serve.{wrongLength, checkOf, checkValue, serve};
+ghost use Rattle.calling.specs.Leaves.{Leaves, early, serveChecked};
+
+// The six refusals, by their numbers.
+const SMALL_BUFFER: u16 = 1;
+
+const WRONG_SIZE: u16 = 2;
+
+const WRONG_LENGTH: u16 = 3;
+
+const NO_REQUEST: u16 = 4;
+
+pub const UNSOUND: u16 = 5;
+
+pub const UNSOUND_VECTORS: u16 = 6;
+
+// "answer buffer under 36,864 bytes"; "request under 20 or over 16,384 bytes"
+const ROOM: usize = 36864;
+
+const LEAST: usize = 20;
+
+const MOST: usize = 16384;
+
+// What a call comes to: an answer, with what is told of it, or a refusal's number with what it returns besides.
+pub enum Came {
+    Answered(Told),
+    Refused { number: u16, besides: u32 },
+}
+
+// "header length differs from the request's length, or is no multiple of 4"
+fn wrong_length(req: &[u8]) -> bool
+    requires { ⌜ 20 ≤ length (now req) ⌝ }
+    ensures { λ r. ⌜ r ≡ wrongLength (now (req .entry)) ⌝ }
+{
+    (octets::number::be24(req, message::LENGTH_AT) != req.len()) | (req.len() % 4 != 0)
+}
+
+// The number of the first refusal that holds, of the four that look at no table; 0 if none does.
+fn early(req: &[u8], out: &[u8]) -> u16
+    ensures { λ r. ⌜ r ≡ early (now (req .entry)) (now (out .entry)) ⌝ }
+{
+    if out.len() < ROOM {
+        return SMALL_BUFFER;
+    }
+    if (req.len() < LEAST) | (MOST < req.len()) {
+        return WRONG_SIZE;
+    }
+    if wrong_length(req) {
+        return WRONG_LENGTH;
+    }
+    if req[message::FLAGS_AT] < message::R_BIT {
+        return NO_REQUEST;
+    }
+    0
+}
+
+// A request that the first five refusals let pass, over a vector file that was checked.
+fn over_sound(
+    d: Checked,
+    count: u32,
+    req: &[u8],
+    t: &mut [u8],
+    file: &[u8],
+    v: &mut [u8],
+    out: &mut [u8],
+) -> Came
+    requires { ⌜ Passed (now req) (now out) × SoundTable (now t) count × (d ≡ checkVectors (now v)) ⌝ }
+    ensures { λ r. ⌜ Leaves (lent (now (req .entry)) (now (t .entry)) (now (file .entry)) (now (v .entry)) (now (out .entry)))
+        (serveChecked (lent (now (req .entry)) (now (t .entry)) (now (file .entry)) (now (v .entry)) (now (out .entry))) (Checked.Sound count) d)
+        count r (now (t .exit)) (now (v .exit)) (now (out .exit)) ⌝ }
+{
+    match d {
+        Checked::Sound(_) => Came::Answered(deciding::answer_sound(
+            out,
+            req,
+            t,
+            file,
+            v,
+            count as usize,
+        )),
+        Checked::Bad(_) => Came::Refused {
+            number: UNSOUND_VECTORS,
+            besides: 0,
+        },
+    }
+}
+
+// A request that the first four let pass, over a table and a vector file that were checked.
+fn over_checked(
+    c: Checked,
+    d: Checked,
+    req: &[u8],
+    t: &mut [u8],
+    file: &[u8],
+    v: &mut [u8],
+    out: &mut [u8],
+) -> Came
+    requires { ⌜ Passed (now req) (now out) × (c ≡ checkTable (now t) (length (now file))) × (d ≡ checkVectors (now v)) ⌝ }
+    ensures { λ r. ⌜ Leaves (lent (now (req .entry)) (now (t .entry)) (now (file .entry)) (now (v .entry)) (now (out .entry)))
+        (serveChecked (lent (now (req .entry)) (now (t .entry)) (now (file .entry)) (now (v .entry)) (now (out .entry))) c d)
+        (checkValue c) r (now (t .exit)) (now (v .exit)) (now (out .exit)) ⌝ }
+{
+    match c {
+        Checked::Sound(count) => over_sound(d, count, req, t, file, v, out),
+        Checked::Bad(block) => Came::Refused {
+            number: UNSOUND,
+            besides: block,
+        },
+    }
+}
+
+// One call over a table and a vector file that were checked: whoever makes many calls checks once.
+pub fn call_over(
+    c: Checked,
+    d: Checked,
+    req: &[u8],
+    t: &mut [u8],
+    file: &[u8],
+    v: &mut [u8],
+    out: &mut [u8],
+) -> Came
+    requires { ⌜ (c ≡ checkTable (now t) (length (now file))) × (d ≡ checkVectors (now v)) ⌝ }
+    ensures { λ r. ⌜ Leaves (lent (now (req .entry)) (now (t .entry)) (now (file .entry)) (now (v .entry)) (now (out .entry)))
+        (serve (lent (now (req .entry)) (now (t .entry)) (now (file .entry)) (now (v .entry)) (now (out .entry))))
+        (checkValue c) r (now (t .exit)) (now (v .exit)) (now (out .exit)) ⌝ }
+{
+    let number = early(req, out);
+    if 0 < number {
+        return Came::Refused { number, besides: 0 };
+    }
+    over_checked(c, d, req, t, file, v, out)
+}
+
+// "Five refusals of the call"; "Tried in this order."; "6 .. after 5"
+pub fn call(req: &[u8], t: &mut [u8], file: &[u8], v: &mut [u8], out: &mut [u8]) -> Came
+    ensures { λ r. ⌜ Leaves (lent (now (req .entry)) (now (t .entry)) (now (file .entry)) (now (v .entry)) (now (out .entry)))
+        (serve (lent (now (req .entry)) (now (t .entry)) (now (file .entry)) (now (v .entry)) (now (out .entry))))
+        (checkValue (checkOf (lent (now (req .entry)) (now (t .entry)) (now (file .entry)) (now (v .entry)) (now (out .entry)))))
+        r (now (t .exit)) (now (v .exit)) (now (out .exit)) ⌝ }
+{
+    let number = early(req, out);
+    if 0 < number {
+        return Came::Refused { number, besides: 0 };
+    }
+    let c = table::check(t, file.len());
+    let d = vectors::file::check(v);
+    over_checked(c, d, req, t, file, v, out)
+}

@@ -1,0 +1,39 @@
+use native.Mathlib.Omega.{arith}
+use Rattle.files.proofs.Counts.{front}
+use borrow.Author.Needs.{needs}
+use Rattle.cases.proofs.calls.report.Statement.{statement}
+use Rattle.cases.proofs.calls.report.Tie as tie
+
+pub report-spec : {M : Type 1} → statement M
+report-spec =
+    tie.close
+    (tie.spec
+    (λ c κs. search needs)
+    (λ c κs. search needs)
+    (λ c κs. search needs)
+    (λ c κs. search needs)
+    (λ c. search needs)
+    (λ c κs. search needs)
+    (λ c. search needs)
+    (λ c κs. search needs)
+    (λ c. search needs)
+    (λ c κs. search needs)
+    (λ c. search needs)
+    (λ c κs. search needs)
+    (λ c κs. search needs)
+    (λ c. search needs)
+    (λ c. front _ _ (omega arith))
+    (λ c κs. search needs)
+    (λ c. search needs)
+    (λ c. front _ _ (omega arith))
+    (λ c. search needs)
+    (λ c. front _ _ (omega arith))
+    (λ c. search needs)
+    (λ c. front _ _ (omega arith))
+    (λ c κs. search needs)
+    (λ c κs. search needs)
+    (λ c κs. search needs)
+    (λ c κs. search needs)
+    (λ c κs. search needs)
+    (λ c κs. search needs)
+    (λ c. search needs))

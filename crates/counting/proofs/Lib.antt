@@ -1,0 +1,9 @@
+pub mod Cells
+pub mod Columns
+pub mod Counts
+pub mod Longs
+pub mod Numbers
+pub mod Placed
+pub mod Steps
+pub mod Totals
+pub mod Word

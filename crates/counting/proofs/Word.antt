@@ -1,0 +1,141 @@
+-- One word where one request more is counted.
+use Prim.Native.Nat.{ℕ, _+_, _%_, _^_, _<_, max}
+use native.Mathlib.Omega.{arith}
+use native.Mathlib.Nat.{mod-lt, mod-mod, mod-add-mod, add-assoc, max-zero}
+use mathlib.Core.Bool.{Bool, true, false, cond}
+use mathlib.Core.Path.{_≡_, refl, sym, ap, _∙_}
+use mathlib.Core.List.{List}
+use lib.ListN.{length, getD, length-set}
+use lib.Seq.{getD-set-same, getD-set-other}
+use lib.Dec.{eqb}
+use borrow.Author.Tests.{eqb-true, eqb-false, ne-eqb}
+use Rattle.counting.specs.Counted.{cellOf, Fits, answerLength, plus, larger, counted}
+use Rattle.counting.specs.declared.Event.{Event}
+use Rattle.counting.specs.declared.Event.the-variants.{Answered, Refused}
+use Rattle.counting.proofs.Cells.{cell-above, cell-below}
+
+-- so many in word i, as word j has it
+abbrev pub inWord : ℕ → ℕ → ℕ → ℕ
+inWord i a j = cond (eqb i j) a 0
+
+pub in-other : (i a j : ℕ) → (i ≡ j → ⊥) → inWord i a j ≡ 0
+in-other i a j n = rw (ne-eqb i j n)
+
+pub plus-length : (a i : ℕ) (c : List ℕ) → length (plus a i c) ≡ length c
+unfolding plus
+plus-length a i c = length-set c i _
+
+pub larger-length : (n : ℕ) (c : List ℕ) → length (larger n c) ≡ length c
+unfolding larger
+larger-length n c = length-set c 3 _
+
+pub plus-other : (a i : ℕ) (c : List ℕ) (j : ℕ) → (j ≡ i → ⊥) → getD (plus a i c) j 0 ≡ getD c j 0
+unfolding plus
+plus-other a i c j n = getD-set-other c i j _ 0 n
+
+pub larger-other : (n : ℕ) (c : List ℕ) (j : ℕ) → (j ≡ 3 → ⊥) → getD (larger n c) j 0 ≡ getD c j 0
+unfolding larger
+larger-other n c j h = getD-set-other c 3 j _ 0 h
+
+plus-here : (a i : ℕ) (c : List ℕ) → i < length c → getD (plus a i c) i 0 ≡ (getD c i 0 + a) % 2 ^ 64
+unfolding plus
+plus-here a i c h = getD-set-same c i _ 0 h
+
+-- a word and what was put into it, but for a remainder; and a word that was small stays small
+pub plus-at : (a i : ℕ) (c : List ℕ) (j : ℕ) → i < length c → getD (plus a i c) j 0 % 2 ^ 64 ≡ (getD c j 0 + inWord i a j) % 2 ^ 64
+plus-at a i c j h = go (eqb i j) refl
+  where
+    go : (y : Bool) → eqb i j ≡ y → getD (plus a i c) j 0 % 2 ^ 64 ≡ (getD c j 0 + cond y a 0) % 2 ^ 64
+    go true e = rw (← eqb-true i j e, plus-here a i c h, mod-mod (getD c i 0 + a) (2 ^ 64))
+    go false e = let n : j ≡ i → ⊥ = λ q. eqb-false i j e (sym q) in rw (plus-other a i c j n) (omega arith)
+
+pub plus-small : (a i : ℕ) (c : List ℕ) (j : ℕ) → i < length c → getD c j 0 < 2 ^ 64 → getD (plus a i c) j 0 < 2 ^ 64
+plus-small a i c j h s = go (eqb i j) refl
+  where
+    go : (y : Bool) → eqb i j ≡ y → getD (plus a i c) j 0 < 2 ^ 64
+    go true e = rw (← eqb-true i j e, plus-here a i c h) (mod-lt (getD c i 0 + a) {m = 2 ^ 64} (omega arith))
+    go false e = let n : j ≡ i → ⊥ = λ q. eqb-false i j e (sym q) in rw (plus-other a i c j n) s
+
+-- two sums one after the other
+sum-then : (x k v m w : ℕ) → v % 2 ^ 64 ≡ (x + k) % 2 ^ 64 → w % 2 ^ 64 ≡ (v + m) % 2 ^ 64 → w % 2 ^ 64 ≡ (x + (k + m)) % 2 ^ 64
+sum-then x k v m w e f =
+    f
+    ∙ sym (mod-add-mod v (2 ^ 64) m)
+    ∙ ap (λ (y : ℕ). (y + m) % 2 ^ 64) e
+    ∙ mod-add-mod (x + k) (2 ^ 64) m
+    ∙ ap (λ (y : ℕ). y % 2 ^ 64) (add-assoc x k m)
+
+-- what one request adds to a word, that of the largest answer apart
+unfoldable pub addedBy : Event → ℕ → ℕ
+addedBy (Answered e) j = inWord 0 1 j + inWord 2 (e .altered) j + inWord 4 1 j + inWord (cellOf (Answered e)) 1 j
+addedBy (Refused n) j = inWord 0 1 j + inWord (cellOf (Refused n)) 1 j
+
+pub counted-length : (c : List ℕ) (e : Event) → length (counted c e) ≡ length c
+unfolding counted
+counted-length c (Answered e) = simp (plus-length, larger-length)
+counted-length c (Refused n) = simp plus-length
+
+module _ (c : List ℕ) (l : length c ≡ 145) where
+  pub counted-at : (e : Event) → Fits e → (j : ℕ) → (j ≡ 3 → ⊥) → getD (counted c e) j 0 % 2 ^ 64 ≡ (getD c j 0 + addedBy e j) % 2 ^ 64
+  unfolding counted addedBy
+  counted-at (Answered e) f j n =
+      let c₁ : List ℕ = plus 1 0 c in
+      let c₂ : List ℕ = plus (e .altered) 2 c₁ in
+      let c₃ : List ℕ = larger (e .length) c₂ in
+      let c₄ : List ℕ = plus 1 4 c₃ in
+      let l₁ : length c₁ ≡ 145 = plus-length 1 0 c ∙ l in
+      let l₂ : length c₂ ≡ 145 = plus-length (e .altered) 2 c₁ ∙ l₁ in
+      let l₃ : length c₃ ≡ 145 = larger-length (e .length) c₂ ∙ l₂ in
+      let l₄ : length c₄ ≡ 145 = plus-length 1 4 c₃ ∙ l₃ in
+      let k₂ : ℕ = inWord 0 1 j + inWord 2 (e .altered) j in
+      let p₂ : getD c₂ j 0 % 2 ^ 64 ≡ (getD c j 0 + k₂) % 2 ^ 64 =
+      sum-then (getD c j 0) (inWord 0 1 j) (getD c₁ j 0) (inWord 2 (e .altered) j) (getD c₂ j 0)
+      (plus-at 1 0 c j (omega (arith, l)))
+      (plus-at (e .altered) 2 c₁ j (omega (arith, l₁))) in
+      let p₃ : getD c₃ j 0 % 2 ^ 64 ≡ (getD c j 0 + k₂) % 2 ^ 64 = rw (larger-other (e .length) c₂ j n) p₂ in
+      let p₄ : getD c₄ j 0 % 2 ^ 64 ≡ (getD c j 0 + (k₂ + inWord 4 1 j)) % 2 ^ 64 =
+      sum-then (getD c j 0) k₂ (getD c₃ j 0) (inWord 4 1 j) (getD c₄ j 0) p₃ (plus-at 1 4 c₃ j (omega (arith, l₃))) in
+      sum-then (getD c j 0) (k₂ + inWord 4 1 j) (getD c₄ j 0) (inWord (cellOf (Answered e)) 1 j) (getD (plus 1 (cellOf (Answered e)) c₄) j 0)
+      p₄
+      (plus-at 1 (cellOf (Answered e)) c₄ j (omega (arith, l₄, cell-below (Answered e) f)))
+  counted-at (Refused k) f j n =
+      let c₁ : List ℕ = plus 1 0 c in
+      let l₁ : length c₁ ≡ 145 = plus-length 1 0 c ∙ l in
+      sum-then (getD c j 0) (inWord 0 1 j) (getD c₁ j 0) (inWord (cellOf (Refused k)) 1 j) (getD (plus 1 (cellOf (Refused k)) c₁) j 0)
+      (plus-at 1 0 c j (omega (arith, l)))
+      (plus-at 1 (cellOf (Refused k)) c₁ j (omega (arith, l₁, cell-below (Refused k) f)))
+
+  pub counted-small : (e : Event) → Fits e → (j : ℕ) → (j ≡ 3 → ⊥) → getD c j 0 < 2 ^ 64 → getD (counted c e) j 0 < 2 ^ 64
+  unfolding counted
+  counted-small (Answered e) f j n s =
+      let c₁ : List ℕ = plus 1 0 c in
+      let c₂ : List ℕ = plus (e .altered) 2 c₁ in
+      let c₃ : List ℕ = larger (e .length) c₂ in
+      let c₄ : List ℕ = plus 1 4 c₃ in
+      let l₁ : length c₁ ≡ 145 = plus-length 1 0 c ∙ l in
+      let l₂ : length c₂ ≡ 145 = plus-length (e .altered) 2 c₁ ∙ l₁ in
+      let l₃ : length c₃ ≡ 145 = larger-length (e .length) c₂ ∙ l₂ in
+      let l₄ : length c₄ ≡ 145 = plus-length 1 4 c₃ ∙ l₃ in
+      let s₁ : getD c₁ j 0 < 2 ^ 64 = plus-small 1 0 c j (omega (arith, l)) s in
+      let s₂ : getD c₂ j 0 < 2 ^ 64 = plus-small (e .altered) 2 c₁ j (omega (arith, l₁)) s₁ in
+      let s₃ : getD c₃ j 0 < 2 ^ 64 = rw (larger-other (e .length) c₂ j n) s₂ in
+      let s₄ : getD c₄ j 0 < 2 ^ 64 = plus-small 1 4 c₃ j (omega (arith, l₃)) s₃ in
+      plus-small 1 (cellOf (Answered e)) c₄ j (omega (arith, l₄, cell-below (Answered e) f)) s₄
+  counted-small (Refused k) f j n s =
+      let l₁ : length (plus 1 0 c) ≡ 145 = plus-length 1 0 c ∙ l in
+      plus-small 1 (cellOf (Refused k)) (plus 1 0 c) j (omega (arith, l₁, cell-below (Refused k) f)) (plus-small 1 0 c j (omega (arith, l)) s)
+
+  -- the largest answer
+  pub counted-largest : (e : Event) → Fits e → getD (counted c e) 3 0 ≡ max (getD c 3 0) (answerLength e)
+  unfolding counted larger
+  counted-largest (Answered e) f =
+      let c₂ : List ℕ = plus (e .altered) 2 (plus 1 0 c) in
+      let l₂ : length c₂ ≡ 145 = plus-length (e .altered) 2 (plus 1 0 c) ∙ plus-length 1 0 c ∙ l in
+      plus-other 1 (cellOf (Answered e)) (plus 1 4 (larger (e .length) c₂)) 3 (omega (arith, cell-above (Answered e) f))
+      ∙ plus-other 1 4 (larger (e .length) c₂) 3 (omega arith)
+      ∙ getD-set-same c₂ 3 (max (getD c₂ 3 0) (e .length)) 0 (omega (arith, l₂))
+      ∙ rw (plus-other (e .altered) 2 (plus 1 0 c) 3 (omega arith), plus-other 1 0 c 3 (omega arith))
+  counted-largest (Refused k) f =
+      plus-other 1 (cellOf (Refused k)) (plus 1 0 c) 3 (omega (arith, cell-above (Refused k) f))
+      ∙ plus-other 1 0 c 3 (omega arith)
+      ∙ sym (max-zero (getD c 3 0))

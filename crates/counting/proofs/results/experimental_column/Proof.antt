@@ -1,0 +1,24 @@
+use Rattle.counting.specs.Results.{indexIn, experimentalResults}
+use Rattle.counting.proofs.Columns.{experimental-none}
+use borrow.Author.Needs.{needs}
+use Rattle.counting.proofs.results.experimental_column.Statement.{statement}
+use Rattle.counting.proofs.results.experimental_column.Tie as tie
+
+pub experimental-column-spec : {M : Type 1} → statement M
+unfolding indexIn experimentalResults
+experimental-column-spec =
+    tie.close
+    (tie.spec
+    (λ c. (rw (c .match .keys1), search needs))
+    (λ c. (rw (c .match .keys2), search needs))
+    (λ c. (rw (c .match .keys3), search needs))
+    (λ c. (rw (c .match .keys4), search needs))
+    (λ c. (rw (c .match .keys5), search needs))
+    (λ c. (rw (c .match .keys6), search needs))
+    (λ c. (rw (c .match .keys7), search needs))
+    (λ c. (rw (c .match .keys8), search needs))
+    (λ c. (rw (c .match .keys9), search needs))
+    (λ c. (rw (c .match .keys10), search needs))
+    (λ c. (rw (c .match .keys11), search needs))
+    (λ c. (rw (c .match .keys12), search needs))
+    (λ c. search (needs, experimental-none)))

@@ -1,0 +1,4 @@
+pub mod Counted
+pub mod Results
+pub mod Totals
+pub mod Words

@@ -1,0 +1,83 @@
+-- A decision keeps a sound table sound, with as many records, and a sound vector file sound: whoever checked them need not check again.
+use Prim.Native.Nat.{ℕ, _+_, _*_, _≤_}
+use mathlib.Core.List.{List, [], _∷_}
+use mathlib.Core.Bool.{Bool, true, false, cond}
+use mathlib.Core.Path.{_≡_, refl, sym}
+use native.Mathlib.Omega.{arith}
+use lib.ListN.{length}
+use borrow.Author.Tests.{ne-eqb}
+use Rattle.table.specs.SoundTable.{SoundTable}
+use Rattle.table.proofs.Sound.{sound-size}
+use Rattle.blocks.specs.Changed.{isOne}
+use Rattle.vectors.specs.Chosen.{sentOf}
+use Rattle.vectors.specs.VectorFile.{checkVectors, SoundVectors}
+use Rattle.vectors.specs.declared.choice.Sent.{Sent}
+use Rattle.vectors.proofs.Spent.{spent-sound}
+use Rattle.lookup.specs.Find.{findPublic}
+use Rattle.lookup.specs.declared.Found.{Found}
+use Rattle.lookup.specs.declared.Found.the-variants.{At, Nothing}
+use Rattle.rewrite.proofs.Challenged.{challenged-keeps}
+use Rattle.rewrite.proofs.Settled.{settled-keeps}
+use Rattle.rewrite.proofs.Tables.{Keeping, keeping-same, after-keeping}
+use Rattle.diameter.specs.Avp.{dataOf}
+use Rattle.reading.specs.Kinds.{serverName}
+use Rattle.reading.specs.Rules.{Seen}
+use Rattle.requests.specs.Judged.{Judged, bad, fine}
+use Rattle.requests.specs.Request.{readRequest, dataSeen}
+use Rattle.choices.specs.declared.plan.Deed.{Deed}
+use Rattle.choices.specs.declared.plan.Deed.the-variants.{Leave, Settle, Challenge}
+use Rattle.decisions.proofs.Among.{public-among}
+use Rattle.assignment.specs.Assignment.{Assignment, findAll, numbersOf, ownedUpTo, plannedRecords}
+use Rattle.assignment.proofs.OwnTurns.{no-zero}
+use Rattle.fitting.specs.Decide.{assignmentOf, planRead, performed, decideJudged, decide}
+use Rattle.fitting.specs.Deeds.{carriedOut, spentBy, DeedFits}
+use Rattle.fitting.proofs.Deeds.{plan-fits}
+
+-- block 0, the header, is none of those that a SAR means
+pub named-later : (t : List ℕ) (count : ℕ) (avps : List (List ℕ)) → isOne (numbersOf (findAll t count avps)) 0 ≡ false
+unfolding findAll numbersOf isOne
+named-later t count [] = refl
+named-later t count (a ∷ avps) = go (findPublic t count (dataOf a)) refl (named-later t count avps)
+  where
+    go : (f : Found) → findPublic t count (dataOf a) ≡ f → isOne (numbersOf (findAll t count avps)) 0 ≡ false
+        → isOne (numbersOf (f ∷ findAll t count avps)) 0 ≡ false
+    go Nothing e next = next
+    go (At k) e next = rw (ne-eqb 0 k (omega (arith, public-among t count (dataOf a) (sym e) .from k refl))) next
+
+planned-later : (t : List ℕ) (count : ℕ) (s : Assignment) (owned : Bool) → isOne (plannedRecords t count s owned) 0 ≡ false
+unfolding plannedRecords
+planned-later t count s true = no-zero t (s .user) count
+planned-later t count s false = named-later t count (s .identities)
+
+-- what is written keeps what every effect keeps
+deed-keeping : (t : List ℕ) (count : ℕ) (s : Assignment) (d : Deed) → length t ≡ 512 * (count + 1) → DeedFits count (s .server) d
+    → Keeping t (carriedOut t count s d) count
+unfolding carriedOut isOne
+deed-keeping t count s Leave size f = keeping-same t count
+deed-keeping t count s (Settle w) size f =
+    after-keeping t count _ size (isOne (plannedRecords t count s (w .owned))) (settled-keeps _ _ f) (planned-later t count s (w .owned))
+deed-keeping t count s (Challenge k) size (a, b, least, most) =
+    after-keeping t count _ size (isOne (k ∷ [])) (challenged-keeps (s .server) least most) (rw (ne-eqb 0 k (omega arith)))
+
+pub decide-keeping : (req t : List ℕ) (count : ℕ) (v : List ℕ) → SoundTable t count → Keeping t (decide req t count v .table) count
+unfolding decide decideJudged performed assignmentOf
+decide-keeping req t count v sound = go (readRequest req) refl
+  where
+    go : (j : Judged) → readRequest req ≡ j → Keeping t (decideJudged req t count v j .table) count
+    go (bad f) e = keeping-same t count
+    go (fine seen) e =
+        deed-keeping t count (assignmentOf t seen req) (planRead req t count v seen .deed) (sound-size t count sound) (plan-fits req t count v seen sound e)
+
+spent-kept : (v : List ℕ) → SoundVectors v → (sent : Sent) (d : Deed) → checkVectors (spentBy v sent d) ≡ checkVectors v
+unfolding spentBy
+spent-kept v s sent Leave = refl
+spent-kept v s sent (Settle w) = refl
+spent-kept v s sent (Challenge k) = spent-sound v s (sentOf sent)
+
+pub decide-vectors : (req t : List ℕ) (count : ℕ) (v : List ℕ) → SoundVectors v → checkVectors (decide req t count v .vectors) ≡ checkVectors v
+unfolding decide decideJudged performed
+decide-vectors req t count v s = go (readRequest req)
+  where
+    go : (j : Judged) → checkVectors (decideJudged req t count v j .vectors) ≡ checkVectors v
+    go (bad f) = refl
+    go (fine seen) = spent-kept v s (planRead req t count v seen .given .sent) (planRead req t count v seen .deed)

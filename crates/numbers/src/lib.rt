@@ -1,0 +1,1 @@
+// The report's numbers, as theorems about `reported`: proofs/Numbers.antt. There is no code here.

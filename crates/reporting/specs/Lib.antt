@@ -1,0 +1,4 @@
+pub mod Counts
+pub mod Pieces
+pub mod Report
+pub mod Row

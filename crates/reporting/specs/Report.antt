@@ -1,0 +1,46 @@
+-- The report: "The numbers are those of the definitions run over the requests in turn".
+use Prim.Native.Nat.{ℕ}
+use mathlib.Core.List.{List}
+use mathlib.Core.Bool.{cond}
+use lib.ListN.{length, set}
+use lib.Dec.{eqb, ltb}
+use Rattle.octets.specs.Run.{over}
+use Rattle.counting.specs.Counted.{countsOf}
+use Rattle.counting.specs.Words.{bytesOf}
+use Rattle.calling.specs.Lent.{Lent}
+use Rattle.reporting.specs.Pieces.{pieces, stopOf}
+use Rattle.reporting.specs.Row.{row, left}
+
+-- what comes of a report: its number, and what it leaves of the table, the vectors, the answer buffer and the area that it is written to
+pub record Reported : Type 0 where
+  pub number : ℕ
+  pub table : List ℕ
+  pub vectors : List ℕ
+  pub buffer : List ℕ
+  pub area : List ℕ
+
+-- the requests of a file lent as the request; the words of its report, with the place where reading stopped
+abbrev pub requestsOf : Lent → List (List ℕ)
+requestsOf x = pieces (x .request)
+
+unfoldable pub wordsOf : Lent → List ℕ
+wordsOf x = set (countsOf (row x (requestsOf x))) 1 (stopOf (x .request))
+
+-- "the report stops by number 7, after the numbers so far", where the file is not used up
+unfoldable pub ended : List ℕ → ℕ
+ended s = cond (eqb (stopOf s) (length s)) 0 7
+
+unfoldable pub ran : Lent → List ℕ → Reported
+ran x area =
+    record {
+      number = ended (x .request);
+      table = left x (requestsOf x) .table;
+      vectors = left x (requestsOf x) .vectors;
+      buffer = left x (requestsOf x) .buffer;
+      area = over (bytesOf (wordsOf x)) area;
+    }
+
+-- 15: the area has no room for the 145 words; nothing is run
+unfoldable pub reported : Lent → List ℕ → Reported
+reported x area =
+    cond (ltb (length area) 1160) (record { number = 15; table = x .table; vectors = x .vectors; buffer = x .buffer; area = area }) (ran x area)

@@ -1,0 +1,147 @@
+// A report over a file of requests laid end to end: each is decided in turn and counted.
+use calling::Came;
+use counting::Entry;
+use counting::Event;
+use counting::words;
+use diameter::message;
+use octets::number;
+use table::Checked;
+ghost use mathlib.Core.Bool.{cond};
+ghost use mathlib.Core.Path.{_≡_};
+ghost use Prim.Native.Nat.{_≤_};
+ghost use lib.Dec.{eqb};
+ghost use lib.ListN.{length};
+ghost use Rattle.table.specs.Check.{checkTable};
+ghost use Rattle.vectors.specs.VectorFile.{checkVectors};
+ghost use Rattle.calling.specs.Lent.{lent};
+ghost use Rattle.reporting.specs.Pieces.{firstLength};
+ghost use Rattle.reporting.specs.Row.{eventFrom};
+ghost use Rattle.reporting.specs.Counts.{Runs, Counts, Reports};
+
+// The two ways in which a report does not end well, by their numbers.
+const STOPPED: u16 = 7;
+
+const SHORT_AREA: u16 = 15;
+
+// "1 to 3 bytes left, or a header length under 20"
+const LEFT: usize = 4;
+
+const LEAST: usize = 20;
+
+// What the checks of the table and of the vector file say: a call keeps both, so they are asked once for all requests.
+pub struct Checks {
+    table: Checked,
+    vectors: Checked,
+}
+
+// The length of the request that stands first, 0 if none does.
+fn first_length(s: &[u8]) -> usize
+    ensures { λ r. ⌜ (r ≡ firstLength (now (s .entry))) × (r ≤ length (now (s .entry))) ⌝ }
+{
+    if s.len() < LEFT {
+        return 0;
+    }
+    let n = number::be24(s, message::LENGTH_AT);
+    if (n < LEAST) | (s.len() < n) {
+        return 0;
+    }
+    n
+}
+
+// A call as it is counted.
+fn event_of(command: usize, c: Came) -> Event
+    ensures { λ r. ⌜ r ≡ eventFrom command c ⌝ }
+{
+    match c {
+        Came::Answered(told) => {
+            let result = told.result;
+            Event::Answered(Entry {
+                command,
+                result,
+                length: told.length,
+                altered: told.altered,
+            })
+        }
+        Came::Refused { number, besides: _ } => Event::Refused(number),
+    }
+}
+
+// One request, decided and counted.
+fn count_one(
+    counts: &mut [u64; counting::WORDS],
+    k: Checks,
+    req: &[u8],
+    t: &mut [u8],
+    file: &[u8],
+    v: &mut [u8],
+    out: &mut [u8],
+)
+    requires { ⌜ (20 ≤ length (now req)) × (k .table ≡ checkTable (now t) (length (now file))) × (k .vectors ≡ checkVectors (now v)) ⌝ }
+    ensures { λ _. ⌜ Counts (lent (now (req .entry)) (now (t .entry)) (now (file .entry)) (now (v .entry)) (now (out .entry)))
+        (now (counts .entry)) (now (counts .exit)) (now (t .exit)) (now (v .exit)) (now (out .exit)) ⌝ }
+{
+    let command = requests::command(req);
+    let c = k.table;
+    let d = k.vectors;
+    let came = calling::call_over(c, d, req, t, file, v, out);
+    counting::count(counts, event_of(command, came));
+}
+
+// Every request of the file in turn. Answers the byte where reading stops.
+fn run(
+    counts: &mut [u64; counting::WORDS],
+    k: Checks,
+    requests: &[u8],
+    t: &mut [u8],
+    file: &[u8],
+    v: &mut [u8],
+    out: &mut [u8],
+) -> usize
+    requires { ⌜ (k .table ≡ checkTable (now t) (length (now file))) × (k .vectors ≡ checkVectors (now v)) ⌝ }
+    ensures { λ r. ⌜ Runs (lent (now (requests .entry)) (now (t .entry)) (now (file .entry)) (now (v .entry)) (now (out .entry)))
+        (now (counts .entry)) (now (counts .exit)) (now (t .exit)) (now (v .exit)) (now (out .exit)) r ⌝ }
+{
+    let mut at = 0;
+    while at < requests.len() {
+        let n = first_length(&requests[at..]);
+        if n == 0 {
+            return at;
+        }
+        count_one(counts, k, &requests[at..at + n], t, file, v, out);
+        at += n;
+    }
+    at
+}
+
+// How a report ends: well, if the file is used up.
+fn ended(stop: usize, length: usize) -> u16
+    ensures { λ r. ⌜ r ≡ cond (eqb stop length) 0 7 ⌝ }
+{
+    if stop == length { 0 } else { STOPPED }
+}
+
+// The whole report: the table and the vectors are checked once, and the words are written once, at the end.
+pub fn report(
+    requests: &[u8],
+    t: &mut [u8],
+    file: &[u8],
+    v: &mut [u8],
+    out: &mut [u8],
+    area: &mut [u8],
+) -> u16
+    ensures { λ r. ⌜ Reports (lent (now (requests .entry)) (now (t .entry)) (now (file .entry)) (now (v .entry)) (now (out .entry))) (now (area .entry))
+        r (now (t .exit)) (now (v .exit)) (now (out .exit)) (now (area .exit)) ⌝ }
+{
+    if area.len() < counting::BYTES {
+        return SHORT_AREA;
+    }
+    let k = Checks {
+        table: table::check(t, file.len()),
+        vectors: vectors::file::check(v),
+    };
+    let mut counts = [0u64; counting::WORDS];
+    let stop = run(&mut counts, k, requests, t, file, v, out);
+    counts[counting::STOPPED_AT] = stop as u64;
+    words::put_words(area, &counts);
+    ended(stop, requests.len())
+}

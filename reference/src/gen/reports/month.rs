@@ -1,0 +1,71 @@
+//! A month in the making: the files as they came, and as the requests so far left them.
+
+use crate::gen::model::{RecordModel, TableModel};
+use crate::gen::tables::{self, Sound};
+use crate::gen::vectors::{self, model};
+use crate::refuse::LEAST_BUFFER;
+use crate::rng::Rng;
+use crate::serve::serve;
+use crate::slip::Slip;
+use crate::table::{Table, LONGEST_SERVER_NAME};
+
+/// Table, profile and vector file, as they are lent.
+#[derive(Clone)]
+pub struct Files {
+    pub table: Vec<u8>,
+    pub profile: Vec<u8>,
+    pub vectors: Vec<u8>,
+}
+
+pub struct Month {
+    /// As they came.
+    pub came: Files,
+    /// As the requests so far left them.
+    now: Files,
+    buffer: Vec<u8>,
+    pub requests: Vec<u8>,
+    /// The pieces so far, to be sent again.
+    pub earlier: Vec<Vec<u8>>,
+}
+
+impl Month {
+    /// Sound files of so many records.
+    pub fn new(rng: &mut Rng, records: usize) -> Month {
+        let sound = tables::sound(rng, records);
+        let vectors = match records {
+            0 => vec![],
+            _ => vectors::of_people(rng, &sound.model),
+        };
+        let most = if rng.coin() { vectors.len() } else { 6 };
+        let vectors = &vectors[..vectors.len().min(most)];
+        Month::over(Files { table: sound.model.encode(), profile: sound.profile, vectors: model::encode(vectors) })
+    }
+
+    /// Some hundred records of one subscription, all of which a removal can leave; no vectors.
+    pub fn of_one(rng: &mut Rng) -> Month {
+        let Sound { mut model, profile } = tables::sound(rng, 1);
+        let server_name = vec![b's'; rng.between(1, LONGEST_SERVER_NAME)];
+        let pattern = RecordModel { server_name, ..model.records[0].clone() };
+        let record =
+            |n| RecordModel { public: format!("{n:03}").into_bytes(), state: 1 + n as u8 % 2, ..pattern.clone() };
+        model.records = (0..rng.between(250, 520)).map(record).collect();
+        Month::over(Files { table: model.encode(), profile, vectors: vec![] })
+    }
+
+    fn over(came: Files) -> Month {
+        Month { now: came.clone(), came, buffer: vec![0; LEAST_BUFFER], requests: Vec::new(), earlier: Vec::new() }
+    }
+
+    /// The table as it is now.
+    pub fn table(&self) -> TableModel {
+        TableModel::of(Table(&self.now.table))
+    }
+
+    /// Adds a request, and does what it does.
+    pub fn add(&mut self, piece: Vec<u8>) {
+        let Files { table, profile, vectors } = &mut self.now;
+        serve(&piece, table, profile, vectors, &mut self.buffer, Slip::NONE);
+        self.requests.extend(&piece);
+        self.earlier.push(piece);
+    }
+}
