@@ -7,7 +7,7 @@ SHELL := /bin/bash
 .DELETE_ON_ERROR:
 .NOTPARALLEL:
 export PYTHONDONTWRITEBYTECODE := 1
-.PHONY: help run test clean fmt kit pages header examples tables texts aims stores programs reference installs cited bench stack installable install uninstall
+.PHONY: help run test clean fmt kit pages header examples tables texts aims stores programs reference installs cited narrow bench stack installable install uninstall
 .PHONY: unsound reports differential noticed soak mutants stats definitions-check cases
 
 MACHINE := $(shell uname -m)
@@ -60,7 +60,7 @@ target/bin/%: $(PROVED)
 	touch $@
 
 #: test               every test from fmt to differential below, some 3 minutes once the library is proved
-test: fmt kit pages header examples tables texts aims stores programs unsound reports reference installs cited noticed differential
+test: fmt kit pages header examples tables texts aims stores programs unsound reports reference installs cited narrow noticed differential
 
 #: fmt                whether crates/ is in the kit's layout
 fmt:
@@ -156,6 +156,12 @@ differential: target/c99/driver $(BINARY)
 	    $(BINARY) compare --kind $${of%:*} --seed $(SEED) --count $${of#*:} -- $(DRIVER); \
 	done
 
+COUNT_narrow := 10000
+#: narrow             requests that real software sent, 10,000 calls and 1,000 reports on a thread whose stack is 16 KiB; half a minute
+narrow: target/narrow/decide target/narrow/driver target/c/maketable $(BINARY)
+	RUN='$(RUN)' tests/captured.sh target/test/narrow target/c/maketable $(BINARY) target/narrow/decide
+	tests/narrow.sh $(BINARY) $(SEED) $(COUNT_narrow) $(RUN) target/narrow/driver
+
 #: noticed            whether such a comparison would fail
 noticed: target/c99/overstep $(BINARY)
 	tests/noticed.sh $(BINARY) $(RUN) target/c99/overstep
@@ -250,6 +256,13 @@ target/c99/overstep: tests/overstep.c tests/driver.c $(HEADER) $(ARCHIVE)
 	mkdir -p $(@D)
 	$(X86_CC) -std=c99 $(STRICT) -Wl,--wrap=ndushavire_check,--wrap=ndushavire_check_vectors -o $@ tests/overstep.c tests/driver.c $(ARCHIVE)
 
+target/narrow/driver: tests/driver.c
+target/narrow/decide: examples/decide.c examples/load.h examples/fault.h
+target/narrow/driver target/narrow/decide: tests/narrow.c $(HEADER) $(ARCHIVE)
+	mkdir -p $(@D)
+	$(X86_CC) -std=c99 $(STRICT) -pthread -Wl,--wrap=ndushavire_check,--wrap=ndushavire_check_vectors,--wrap=ndushavire_decide,--wrap=ndushavire_report \
+	    -o $@ $(filter %.c,$^) $(ARCHIVE)
+
 target/c99/unsound: tests/unsound.c bench/requests.h $(HEADER) $(ARCHIVE)
 	mkdir -p $(@D)
 	$(X86_CC) -std=c99 $(STRICT) -o $@ $< $(ARCHIVE)
@@ -289,9 +302,10 @@ bench: $(addprefix target/bench/,check vectors decide report) $(patsubst %,targe
 	   target/bench/report $(call samples,$(REPORTED)); } | tee target/bench/figures
 	@bench/summary.sh target/bench/figures
 
-#: stack              how much stack a call takes
-stack: target/c99/stack $(DECIDED:%=target/bench/%.table)
-	$(RUN) target/c99/stack $(call samples,16-short 4096-short 4096-tiny)
+STACKED := 16-short 4096-short 4096-long 4096-tiny
+#: stack              how much stack a call takes, beside the aim
+stack: target/c99/stack $(STACKED:%=target/bench/%.table)
+	$(RUN) target/c99/stack $(call samples,$(STACKED))
 
 target/native/libndushavire.a: bench/native-lib $(PROVED)
 	bench/native-lib ndushavire

@@ -98,13 +98,15 @@ static void measure_removals(const Sample *s, Request *request, const uint8_t *r
            judged(s->records == NDUSHAVIRE_RECORDS_MAX ? REMOVAL_AIM : NONE, many / one));
 }
 
-/* Reading is linear: some 1,350 AVPs take twice the time of half as many. */
+/* Reading is linear: some 1,350 AVPs take twice the time of half as many. As many Proxy-Infos are copied into the answer besides. */
 static void measure_reading(const Sample *s, Request *request, const uint8_t *record) {
     ask_long_location(request, record, NDUSHAVIRE_REQUEST_MAX / 2);
     const double half = measure(s, request, "LIR of 8 KiB", NONE);
     ask_long_location(request, record, NDUSHAVIRE_REQUEST_MAX);
     const double whole = measure(s, request, "LIR of 16 KiB", NONE);
     printf("%7lu  whole against half %5.2f\n", (unsigned long)s->records, whole / half);
+    ask_by_proxies(request, record);
+    measure(s, request, "LIR by proxies", NONE);
 }
 
 /* A vector for each record; one is asked for, and then as many as are ever sent. */

@@ -116,12 +116,40 @@ static inline void ask_long_location(Request *r, const uint8_t *record, size_t m
     end(r);
 }
 
+/* The same, filled up with as many Proxy-Infos, which the answer copies. */
+static inline void ask_by_proxies(Request *r, const uint8_t *record) {
+    ask_location(r, record);
+    while (r->length + 12 <= sizeof r->bytes) put_text(r, 284, "p.is");
+    end(r);
+}
+
+/* The same, filled up with one Proxy-Info that is at fault by a reserved flag: the answer has it twice, in Failed-AVP and copied, and none is longer. */
+static inline void ask_by_faulty_proxy(Request *r, const uint8_t *record) {
+    ask_location(r, record);
+    const size_t length = sizeof r->bytes - r->length;
+    put_number(r, 284);
+    put_number(r, 0x41000000u + (uint32_t)length);
+    memset(r->bytes + r->length, 0x50, length - 8);
+    r->length += length - 8;
+    end(r);
+}
+
 /* An assignment of a type to so many lines: the record's last, before it lines from all over the table. The server is
  * the record's. */
 static inline void ask_assignment(Request *r, const uint8_t *table, size_t records, const uint8_t *record, uint32_t type, size_t lines) {
     begin(r, 301);
     for (size_t i = 1; i < lines; i++) put(r, 601, VENDOR, public_of(table + (1 + i * 7919 % records) * NDUSHAVIRE_BLOCK));
     put(r, 601, VENDOR, public_of(record));
+    put(r, 602, VENDOR, server_of(record));
+    put_word(r, 614, VENDOR, type);
+    put_word(r, 624, VENDOR, 0);
+    end(r);
+}
+
+/* An assignment of a type to all lines of the record's card: none is named. */
+static inline void ask_assignment_of_card(Request *r, const uint8_t *record, uint32_t type) {
+    begin(r, 301);
+    put(r, 1, 0, private_of(record));
     put(r, 602, VENDOR, server_of(record));
     put_word(r, 614, VENDOR, type);
     put_word(r, 624, VENDOR, 0);

@@ -6,7 +6,7 @@
 
 #include "vectors.h"
 
-enum { STACK = 1 << 20, PATTERN = 0xA5, AIM = 48 * 1024 };
+enum { STACK = 1 << 20, PATTERN = 0xA5, AIM = 4096 };
 
 static const Sample *s;
 static Request request;
@@ -49,7 +49,7 @@ static size_t depth(void (*call)(void)) {
 
 static int within(void (*call)(void), const char *what) {
     const size_t base = depth(nothing), bytes = depth(call) - base;
-    printf("%7lu  %-14s %7lu\n", (unsigned long)s->records, what, (unsigned long)bytes);
+    printf("%7lu  %-5s  %-14s %7lu\n", (unsigned long)s->records, s->names, what, (unsigned long)bytes);
     if (ndushavire_number(word) != NDUSHAVIRE_DONE) {
         fprintf(stderr, "stack: %s: refused %lu\n", what, (unsigned long)ndushavire_number(word));
         return 0;
@@ -112,15 +112,49 @@ static int measure_all(const uint8_t *registered) {
     return passes & all_sent();
 }
 
+/* Over a table of tiny names: as many identities as a request has room for, and all lines of the one card, each of them rewritten. */
+static int measure_removals(const uint8_t *registered) {
+    month_len = 0;
+    ask_assignment(&request, s->table, s->records, registered, 6, 1);
+    const size_t more = (NDUSHAVIRE_REQUEST_MAX - request.length) / 16;
+    ask_assignment(&request, s->table, s->records, registered, 6, 1 + more);
+    int passes = decides("removal, most");
+    ask_assignment_of_card(&request, registered, 5);
+    passes &= decides("removal of all");
+    const int removed = last_in(s->table, s->records, REGISTERED)[8] == NOT_REGISTERED && registered[8] == NOT_REGISTERED;
+    if (!removed) fprintf(stderr, "stack: the removal of all leaves a line registered\n");
+    return passes & removed & reports();
+}
+
+/* The longest answers, and every kind of Failed-AVP: the AVP at fault, a header alone, a second identity, an example of what is missing. */
+static int measure_faults(const uint8_t *registered) {
+    month_len = 0;
+    ask_by_faulty_proxy(&request, registered);
+    int passes = decides("proxy at fault");
+    const int longest = ndushavire_value(word) > 2 * (NDUSHAVIRE_REQUEST_MAX - 256);
+    if (!longest) fprintf(stderr, "stack: the answer does not have the Proxy-Info twice\n");
+    ask_by_proxies(&request, registered);
+    passes &= decides("most proxies");
+    spell(request.bytes + request.length - 8, 0x40000000u + 16); /* its last AVP now ends behind it */
+    passes &= decides("length fault");
+    ask_assignment(&request, s->table, s->records, registered, 1, 2);
+    passes &= decides("2 identities");
+    begin(&request, 302);
+    end(&request);
+    passes &= decides("missing AVP") & longest;
+    return passes & reports();
+}
+
 static int measure(const Sample *sample) {
     s = sample;
     const uint8_t *registered = last_in(s->table, s->records, REGISTERED);
     vectors = make_vectors(s, registered);
-    const int passes = measure_all(registered);
+    const int tiny = strcmp(s->names, "tiny") == 0;
+    const int passes = measure_all(registered) & (tiny ? measure_removals(registered) : measure_faults(registered));
     free(vectors.bytes);
     return passes;
 }
 
 int main(int argc, char **argv) {
-    return each_sample(argc, argv, "stack of one call in bytes; the aim is 49,152 at most\nrecords  call             bytes\n", measure);
+    return each_sample(argc, argv, "stack of one call in bytes; the aim is 4,096 at most\nrecords  names  call             bytes\n", measure);
 }

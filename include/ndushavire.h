@@ -21,7 +21,7 @@
  * The month's numbers. ndushavire_report decides a whole file of requests again and counts. It alters its table and marks its
  * vectors as those decisions did, so it is lent copies from before the first of them, and never the live ones.
  *
- * Stack. A call takes under 48 KiB (some 37 KiB measured). The archive has no unwind tables: a debugger's backtrace
+ * Stack. A call takes under 4 KiB (some 1.6 KiB measured, of a report 2.8). The archive has no unwind tables: a debugger's backtrace
  * ends at the call.
  *
  * What comes here. User-Authorization, Server-Assignment, Location-Info and Multimedia-Auth requests. The base protocol's
@@ -40,8 +40,8 @@
 extern "C" {
 #endif
 
-#define NDUSHAVIRE_VERSION "0.4.0"
-#define NDUSHAVIRE_VERSION_NUMBER 400 /* the same to compare: major x 10,000 + minor x 100 + patch */
+#define NDUSHAVIRE_VERSION "0.5.0"
+#define NDUSHAVIRE_VERSION_NUMBER 500 /* the same to compare: major x 10,000 + minor x 100 + patch */
 
 #define NDUSHAVIRE_ANSWER_ROOM 36864       /* the least answer buffer, in bytes: no answer is longer */
 #define NDUSHAVIRE_REQUEST_MIN 20          /* the shortest request, a Diameter header alone */

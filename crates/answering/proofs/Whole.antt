@@ -1,11 +1,11 @@
--- The whole answer: its body, then its header, and all of it copied.
+-- The whole answer: its body, then its header.
 use Prim.Native.Nat.{ℕ, _+_, _≤_}
-use mathlib.Core.Path.{_≡_, refl, sym, ap, _∙_}
+use mathlib.Core.Path.{refl}
 use mathlib.Core.List.{List}
 use native.Mathlib.Omega.{arith}
-use lib.ListN.{length, take, length-take, length-append}
+use lib.ListN.{length, length-append, length-take, length-drop}
 use Rattle.octets.specs.Run.{Wrote}
-use Rattle.octets.proofs.Writes.{lent, back, then, named, then-front, front}
+use Rattle.octets.proofs.Writes.{lent, back, then, named, then-front}
 use Rattle.choices.specs.declared.Given.{Given}
 use Rattle.reply.specs.Answer.{topBytes, restBytes, bodyBytes, headerBytes, answerBytes}
 use Rattle.reply.proofs.Rooms.{room-left, room-right}
@@ -25,21 +25,22 @@ module _ (req t file v : List ℕ) (g : Given) where
     unfolding bodyBytes
     wrote-body q = then p q
 
-  -- the body was written first, and then the header with the length
-  pub wrote-answer : {b ys zs : List ℕ} {r : ℕ} → 20 + length (bodyBytes req t file v g) ≤ length b → Wrote (bodyBytes req t file v g) (lent 20 b) ys r
-      → Wrote (headerBytes req (g .verdict .result) (20 + r)) (back 20 b ys) zs 20 → Wrote (answerBytes req t file v g) b zs (20 + r)
+  -- the body is written first, behind the header's place, and then the header with the length
+  body-most : {m : ℕ} → 20 ≤ length req → length (answerBytes req t file v g) ≤ m → 20 + length (bodyBytes req t file v g) ≤ m
   unfolding answerBytes
-  wrote-answer room p q = named (rw (p .count)) refl (then-front (omega arith) p q)
-
-  pub answer-room : {m : ℕ} → 20 ≤ length req → length (answerBytes req t file v g) ≤ m → 20 + length (bodyBytes req t file v g) ≤ m
-  unfolding answerBytes
-  answer-room whole h =
+  body-most whole h =
       let k = rw length-append at h in
       omega (arith, header-length req (g .verdict .result) (20 + length (bodyBytes req t file v g)) whole)
 
--- What was written in one place is copied to another.
-pub copy-room : (xs : List ℕ) {n m : ℕ} → n ≤ 36864 → 36864 ≤ m → length (take n xs) ≤ m
-copy-room xs h k = rw length-take (omega arith)
+  pub body-room : (b : List ℕ) → 20 ≤ length req → length (answerBytes req t file v g) ≤ 36864 → 36864 ≤ length b
+      → length (bodyBytes req t file v g) ≤ length (lent 20 b)
+  body-room b whole h room = simp (length-take, length-drop) (omega (arith, body-most whole h))
 
-pub wrote-copy : {w b xs : List ℕ} {n : ℕ} → Wrote w b xs n → {d ys : List ℕ} → Wrote (take n xs) d ys (length (take n xs)) → Wrote w d ys n
-wrote-copy p q = named (front p) (ap length (front p) ∙ sym (p .count)) q
+  pub answer-bounded : {b ys : List ℕ} {r : ℕ} → 20 ≤ length req → length (answerBytes req t file v g) ≤ 36864 → Wrote (bodyBytes req t file v g) b ys r
+      → 20 + r ≤ 36864
+  answer-bounded whole h p = omega (arith, p .count, body-most whole h)
+
+  pub wrote-answer : {b ys zs : List ℕ} {r : ℕ} → 36864 ≤ length b → Wrote (bodyBytes req t file v g) (lent 20 b) ys r
+      → Wrote (headerBytes req (g .verdict .result) (20 + r)) (back 20 b ys) zs 20 → Wrote (answerBytes req t file v g) b zs (20 + r)
+  unfolding answerBytes
+  wrote-answer room p q = named (rw (p .count)) refl (then-front (omega arith) p q)

@@ -2,7 +2,6 @@
 pub mod last;
 
 use choices::Given;
-use octets::run;
 use reply::front;
 use reply::header;
 ghost use Prim.Native.Nat.{_+_, _≤_};
@@ -11,9 +10,6 @@ ghost use Rattle.octets.specs.Run.{Wrote};
 ghost use Rattle.table.specs.SoundTable.{SoundTable};
 ghost use Rattle.vectors.specs.Chosen.{Sendable};
 ghost use Rattle.reply.specs.Answer.{bodyBytes, answerBytes};
-
-// "answer buffer under 36,864 bytes" is refused: no answer needs more.
-const MOST: usize = 36864;
 
 // All after the header.
 fn put_body(
@@ -36,30 +32,8 @@ fn put_body(
     a + last::put_rest(&mut out[a..], req, t, file, v, count, g)
 }
 
-// The answer to a request, over a sound table of so many records, with what a decision gives it to carry: the body first, since its length stands in
-// the header.
-fn put_answer(
-    out: &mut [u8],
-    req: &[u8],
-    t: &[u8],
-    file: &[u8],
-    v: &[u8],
-    count: usize,
-    g: Given,
-) -> usize
-    requires { ⌜ (20 ≤ length (now req)) × SoundTable (now t) count × Sendable (now v) (g .sent)
-        × (20 + length (bodyBytes (now req) (now t) (now file) (now v) g) ≤ length (now out)) ⌝ }
-    ensures { λ r. ⌜ (r ≤ length (now (out .entry)))
-        × Wrote (answerBytes (now (req .entry)) (now (t .entry)) (now (file .entry)) (now (v .entry)) g) (now (out .entry)) (now (out .exit)) r ⌝ }
-{
-    let verdict = g.verdict;
-    let result = verdict.result;
-    let n = 20 + put_body(&mut out[20..], req, t, file, v, count, g);
-    header::put_header(out, req, result, n);
-    n
-}
-
-// The answer built in an array of its own, and then copied to the lent buffer.
+// The answer to a request, over a sound table of so many records, with what a decision gives it to carry. It is written where it stays, the body first,
+// since its length stands in the header.
 pub fn answer(
     out: &mut [u8],
     req: &[u8],
@@ -74,8 +48,9 @@ pub fn answer(
     ensures { λ r. ⌜ (r ≤ 36864)
         × Wrote (answerBytes (now (req .entry)) (now (t .entry)) (now (file .entry)) (now (v .entry)) g) (now (out .entry)) (now (out .exit)) r ⌝ }
 {
-    let mut scratch = [0u8; MOST];
-    let n = put_answer(&mut scratch, req, t, file, v, count, g);
-    run::copy(out, &scratch[..n]);
+    let verdict = g.verdict;
+    let result = verdict.result;
+    let n = 20 + put_body(&mut out[20..], req, t, file, v, count, g);
+    header::put_header(out, req, result, n);
     n
 }

@@ -1,19 +1,20 @@
 -- The faulty AVP of a request: its own bytes, or its header alone.
 use Prim.Native.Nat.{ℕ, _+_, _-_, _*_, _/_, _%_, _≤_, _<_, min}
 use mathlib.Core.Path.{_≡_, refl, sym, ap, _∙_}
-use mathlib.Core.Bool.{Bool, true, false}
-use mathlib.Core.List.{List, []}
+use mathlib.Core.Bool.{Bool, true, false, cond}
+use mathlib.Core.List.{List, [], _∷_}
 use native.Mathlib.Omega.{arith}
 use native.Mathlib.Nat.{add-sub-cancel-left}
-use lib.Dec.{ltb}
+use lib.Dec.{leb}
 use lib.ListN.{length, getD, take, drop, set, length-take, length-drop, length-set, drop-of-length-le}
-use lib.Seq.{take-nil, take-set-lt, take-set-le, set-out, getD-drop}
-use borrow.Author.Tests.{ltb-true, ltb-false, le-leb, lt-leb, eq-eqb, ne-eqb}
+use lib.Seq.{take-nil, getD-drop}
+use borrow.Author.Tests.{leb-true, le-leb, lt-leb, eq-eqb, ne-eqb}
 use Rattle.octets.specs.Number.{be24At, putBe24}
-use Rattle.octets.specs.Run.{Wrote}
-use Rattle.octets.proofs.Writes.{named, front}
+use Rattle.octets.specs.Run.{over, Wrote}
+use Rattle.octets.proofs.Writes.{named, over-length}
 use Rattle.octets.proofs.Parts.{part-cut}
-use Rattle.diameter.specs.Avp.{headOf, avpHead, avpLen}
+use Rattle.diameter.specs.Avp.{headOf, avpFlags, avpHead, avpLen}
+use Rattle.pen.specs.Bytes.{copied, group}
 use Rattle.pen.specs.Groups.{failed, failedSize}
 use Rattle.pen.proofs.Groups.{failed-length}
 use Rattle.failed.specs.Failing.{headPart, alone, failedOf}
@@ -51,54 +52,79 @@ module _ (s : List ℕ) (at head flags : ℕ) (ef : flags ≡ getD s (at + 4) 0)
 pub head-short : (s : List ℕ) (at head : ℕ) → head ≤ 12 → length (take (at + head - at) (drop at s)) ≤ 12
 head-short s at head h = rw (add-sub-cancel-left at head, length-take) (omega arith)
 
--- A store shows in the part that it is in.
-take-set : (n : ℕ) (l : List ℕ) (i v : ℕ) → take n (set l i v) ≡ set (take n l) i v
-take-set n l i v = go (ltb i n) refl
+-- a header that is there has 8 bytes at least
+head-long : (t : List ℕ) → 0 < length (headPart t) → 8 ≤ length (headPart t)
+unfolding headPart headOf
+head-long t h = go (leb 128 (avpFlags t)) (leb (avpHead t) (length t)) refl h
   where
-    go : (x : Bool) → ltb i n ≡ x → take n (set l i v) ≡ set (take n l) i v
-    go true e = take-set-lt n l i v (ltb-true i n e)
-    go false e =
-        let k : n ≤ i = ltb-false i n e in
-        take-set-le n l i v k ∙ sym (set-out (take n l) i v (rw length-take (omega arith)))
+    go : (v there : Bool) → leb (cond v 12 8) (length t) ≡ there → 0 < length (cond there (take (cond v 12 8) t) [])
+        → 8 ≤ length (cond there (take (cond v 12 8) t) [])
+    go true true e k = rw length-take (omega (arith, leb-true 12 (length t) e))
+    go false true e k = rw length-take (omega (arith, leb-true 8 (length t) e))
+    go v false e k = absurd (omega arith)
 
 alone-length : (h : List ℕ) → length (alone h) ≡ length h
 unfolding alone
 alone-length h = simp length-set
 
--- A header with a number put into it, its own length.
-module _ (h y : List ℕ) (n : ℕ) {z x : List ℕ} (copy : Wrote h z x (length h)) (put : y ≡ putBe24 x 5 n) where
-  number-size : length (take (length h) y) ≡ length h
+nothing : (h : List ℕ) → length h ≤ 0 → h ≡ []
+nothing [] k = refl
+nothing (x ∷ h) k = absurd (omega arith)
+
+-- The length in a header that was copied into Failed-AVP.
+stored : (h b : List ℕ) → 8 ≤ length h → set (set (set (over (failed h) b) 13 0) 14 0) 15 (length h) ≡ over (failed (alone h)) b
+unfolding over failed group copied alone
+stored (_ ∷ _ ∷ _ ∷ _ ∷ _ ∷ _ ∷ _ ∷ _ ∷ r) b k = refl
+stored [] b k = absurd (omega arith)
+stored (_ ∷ []) b k = absurd (omega arith)
+stored (_ ∷ _ ∷ []) b k = absurd (omega arith)
+stored (_ ∷ _ ∷ _ ∷ []) b k = absurd (omega arith)
+stored (_ ∷ _ ∷ _ ∷ _ ∷ []) b k = absurd (omega arith)
+stored (_ ∷ _ ∷ _ ∷ _ ∷ _ ∷ []) b k = absurd (omega arith)
+stored (_ ∷ _ ∷ _ ∷ _ ∷ _ ∷ _ ∷ []) b k = absurd (omega arith)
+stored (_ ∷ _ ∷ _ ∷ _ ∷ _ ∷ _ ∷ _ ∷ []) b k = absurd (omega arith)
+
+pub copy-room : (t : List ℕ) {h : List ℕ} {m : ℕ} → h ≡ headPart t → failedSize (length (headPart t)) ≤ m → failedSize (length h) ≤ m
+copy-room t e r = rw e r
+
+module _ (t h : List ℕ) (eh : h ≡ headPart t) {b x : List ℕ} {r : ℕ} (p : Wrote (failed h) b x r) where
+  pub store-room : (n : ℕ) → 0 < n → n ≡ length h → failedSize (length (headPart t)) ≤ length b → 13 + 3 ≤ length x
+  store-room n there own room =
+      let k : 8 ≤ length h = rw eh (head-long t (rw (← eh) (omega arith))) in
+      let l : length x ≡ length b = rw (p .bytes) (over-length (failed h) b (rw (failed-length h, eh) room)) in
+      rw l (omega (arith, rw (← eh) at room))
+
+  pub wrote-alone : {y : List ℕ} (n : ℕ) → 0 < n → n ≡ length h → length h ≤ 12 → y ≡ putBe24 x 13 n → Wrote (failed (alone (headPart t))) b y r
   unfolding putBe24
-  number-size = rw put (simp (take-set, front copy, length-set))
+  wrote-alone n there own short put =
+      let k : 8 ≤ length h = rw eh (head-long t (rw (← eh) (omega arith))) in
+      let a : n / 65536 % 256 ≡ 0 = omega arith in
+      let b : n / 256 % 256 ≡ 0 = omega arith in
+      let c : n % 256 ≡ length h = omega arith in
+      rw (← eh)
+      (record {
+        count = p .count ∙ (failed-length h ∙ (ap failedSize (sym (alone-length h)) ∙ sym (failed-length (alone h))));
+        bytes = rw (put, p .bytes, a, b, c) (stored h _ k);
+      })
 
-  pub number-counted : length h ≡ length (take (length h) y)
-  number-counted = sym number-size
-
-  pub number-room : {m : ℕ} → failedSize (length h) ≤ m → failedSize (length (take (length h) y)) ≤ m
-  number-room r = rw number-size r
-
-  module _ (own : n ≡ length h) (short : length h ≤ 12) where
-    alone-is : take (length h) y ≡ alone h
-    unfolding alone putBe24
-    alone-is =
-        let a : n / 65536 % 256 ≡ 0 = omega arith in
-        let b : n / 256 % 256 ≡ 0 = omega arith in
-        let c : n % 256 ≡ length h = omega arith in
-        rw (put, a, b, c) (simp (take-set, front copy))
-
-    pub wrote-alone : {b xs : List ℕ} {r : ℕ} → Wrote (failed (take (length h) y)) b xs r → Wrote (failed (alone h)) b xs r
-    wrote-alone w = named (ap failed alone-is) refl w
+  pub wrote-none : (n : ℕ) → n ≤ 0 → n ≡ length h → Wrote (failed (alone (headPart t))) b x r
+  unfolding alone
+  wrote-none n none own =
+      let e : h ≡ [] = nothing h (omega arith) in
+      rw (← eh, e) (rw e at p)
 
 -- For B5014 the header alone; else the AVP.
-module _ (n : ℕ) (t h : List ℕ) (is : n ≡ 5014) (eh : h ≡ headPart t) where
-  faulty-head : failedOf n t ≡ alone h
+module _ (n : ℕ) (t : List ℕ) (is : n ≡ 5014) where
+  faulty-head : failedOf n t ≡ alone (headPart t)
   unfolding failedOf
-  faulty-head = rw (eq-eqb n 5014 is, eh)
+  faulty-head = rw (eq-eqb n 5014 is)
 
-  pub head-room : {m : ℕ} → length (failed (failedOf n t)) ≤ m → failedSize (length h) ≤ m
-  head-room r = let e : length (failed (failedOf n t)) ≡ failedSize (length h) = failed-length (failedOf n t) ∙ rw (faulty-head, alone-length h) in rw e at r
+  pub head-room : {m : ℕ} → length (failed (failedOf n t)) ≤ m → failedSize (length (headPart t)) ≤ m
+  head-room r =
+      let e : length (failed (failedOf n t)) ≡ failedSize (length (headPart t)) = failed-length (failedOf n t) ∙ rw (faulty-head, alone-length (headPart t)) in
+      rw e at r
 
-  pub wrote-head : {b xs : List ℕ} {r : ℕ} → Wrote (failed (alone h)) b xs r → Wrote (failed (failedOf n t)) b xs r
+  pub wrote-head : {b xs : List ℕ} {r : ℕ} → Wrote (failed (alone (headPart t))) b xs r → Wrote (failed (failedOf n t)) b xs r
   wrote-head w = named (ap failed (sym faulty-head)) refl w
 
 module _ (n : ℕ) (t a : List ℕ) (other : n ≡ 5014 → ⊥) (ea : a ≡ take (avpLen t) t) where

@@ -1,7 +1,6 @@
 // Failed-AVP: the faulty AVP of a request, its header alone, or an example of one that is missing.
 use octets::name;
 use octets::number;
-use octets::run;
 use pen::group;
 use reading::Content;
 use reading::faults;
@@ -51,16 +50,18 @@ fn header(s: &[u8], at: usize) -> &[u8]
     &s[at..at + head]
 }
 
-// Failed-AVP with a header alone, whose length is set to its own.
-fn put_alone(out: &mut [u8], h: &[u8]) -> usize
-    requires { ⌜ (length (now h) ≤ 12) × (failedSize (length (now h)) ≤ length (now out)) ⌝ }
-    ensures { λ r. ⌜ Wrote (failed (alone (now (h .entry)))) (now (out .entry)) (now (out .exit)) r ⌝ }
+// Failed-AVP with the header alone of the AVP at a place, whose length is set to its own.
+fn put_alone(out: &mut [u8], req: &[u8], at: usize) -> usize
+    requires { ⌜ failedSize (length (headPart (drop at (now req)))) ≤ length (now out) ⌝ }
+    ensures { λ r. ⌜ Wrote (failed (alone (headPart (drop at (now (req .entry)))))) (now (out .entry)) (now (out .exit)) r ⌝ }
 {
-    let n = h.len();
-    let mut own = [0u8; 12];
-    run::copy(&mut own, h);
-    number::put_be24(&mut own, 5, n);
-    group::put_failed(out, &own[..n])
+    let h = header(req, at);
+    let own = h.len();
+    let n = group::put_failed(out, h);
+    if 0 < own {
+        number::put_be24(out, 13, own);
+    }
+    n
 }
 
 // Failed-AVP with the faulty AVP at a place, or for B5014 its header.
@@ -69,7 +70,7 @@ pub fn put_faulty(out: &mut [u8], req: &[u8], at: usize, n: u32) -> usize
     ensures { λ r. ⌜ Wrote (failed (failedOf n (drop at (now (req .entry))))) (now (out .entry)) (now (out .exit)) r ⌝ }
 {
     if n == faults::INVALID_AVP_LENGTH {
-        return put_alone(out, header(req, at));
+        return put_alone(out, req, at);
     }
     group::put_failed(out, whole(req, at))
 }
@@ -95,7 +96,7 @@ fn example_size(four: bool) -> usize
 
 // An example of a kind.
 fn put_sample(out: &mut [u8], code: u32, vendor: u32, four: bool) -> usize
-    requires { ⌜ 16 ≤ length (now out) ⌝ }
+    requires { ⌜ length (sample code vendor four) ≤ length (now out) ⌝ }
     ensures { λ r. ⌜ (r ≤ 16) × Wrote (sample code vendor four) (now (out .entry)) (now (out .exit)) r ⌝ }
 {
     let zeros = [0u8; 4];
@@ -106,7 +107,7 @@ fn put_sample(out: &mut [u8], code: u32, vendor: u32, four: bool) -> usize
     pen::put_vendor_avp(out, code, &zeros[..n])
 }
 
-// Failed-AVP with an example of a kind that is missing.
+// Failed-AVP with an example of a kind that is missing: the example first, since its length stands in the header.
 pub fn put_example(out: &mut [u8], k: usize) -> usize
     requires { ⌜ length (failed (example k)) ≤ length (now out) ⌝ }
     ensures { λ r. ⌜ Wrote (failed (example k)) (now (out .entry)) (now (out .exit)) r ⌝ }
@@ -114,7 +115,7 @@ pub fn put_example(out: &mut [u8], k: usize) -> usize
     let row = kinds::row_of(k);
     let content = row.content;
     let four = is_four(content);
-    let mut bytes = [0u8; 16];
-    let n = put_sample(&mut bytes, row.code, row.vendor, four);
-    group::put_failed(out, &bytes[..n])
+    let n = 8 + put_sample(&mut out[8..], row.code, row.vendor, four);
+    pen::put_head(out, group::FAILED_AVP, pen::FLAGS, n);
+    n
 }

@@ -23,7 +23,7 @@ const EXPERIMENTAL_RESULT: u32 = 297;
 
 const EXPERIMENTAL_RESULT_CODE: u32 = 298;
 
-const FAILED_AVP: u32 = 279;
+pub const FAILED_AVP: u32 = 279;
 
 // "Server-Capabilities 603 (604s, then 605s)"
 const SERVER_CAPABILITIES: u32 = 603;

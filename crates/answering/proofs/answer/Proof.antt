@@ -1,5 +1,4 @@
-use Rattle.failed.proofs.Examples.{counted}
-use Rattle.answering.proofs.Whole.{answer-room, copy-room, wrote-copy}
+use Rattle.answering.proofs.Whole.{body-room, answer-bounded, wrote-answer}
 use borrow.Author.Needs.{needs}
 use Rattle.answering.proofs.answer.Statement.{statement}
 use Rattle.answering.proofs.answer.Tie as tie
@@ -9,9 +8,10 @@ answer-spec =
     tie.close
     (tie.spec
     (λ c. search needs)
-    (λ c κs. search (needs, answer-room))
     (λ c. search needs)
-    (λ c. search (needs, counted))
-    (λ c κs. search (needs, copy-room))
     (λ c. search needs)
-    (λ c. (search (needs, counted), search (needs, wrote-copy))))
+    (λ c κs. search (needs, body-room))
+    (λ c. search needs)
+    (λ c κs. search needs)
+    (λ c. search needs)
+    (λ c. search (needs, answer-bounded, wrote-answer)))

@@ -1,4 +1,4 @@
-use Rattle.failed.proofs.Examples.{counted, example-room, wrote-example}
+use Rattle.failed.proofs.Examples.{group-room, head-left, example-room, wrote-example}
 use borrow.Author.Needs.{needs}
 use Rattle.failed.proofs.put_example.Statement.{statement}
 use Rattle.failed.proofs.put_example.Tie as tie
@@ -9,10 +9,11 @@ put-example-spec =
     (tie.spec
     (λ c κs. search needs)
     (λ c κs. search needs)
+    (λ c. search (needs, group-room))
+    (λ c. search (needs, group-room))
     (λ c. search needs)
-    (λ c κs. search needs)
-    (λ c. search needs)
-    (λ c. search (needs, counted))
     (λ c κs. search (needs, example-room))
+    (λ c. search needs)
+    (λ c κs. search (needs, head-left))
     (λ c. search needs)
     (λ c. search (needs, wrote-example)))

@@ -7,7 +7,6 @@ pub put-faulty-spec : {M : Type 1} → statement M
 put-faulty-spec =
     tie.close
     (tie.spec
-    (λ c κs. search needs)
     (λ c κs. search (needs, head-room))
     (λ c. search needs)
     (λ c. search (needs, wrote-head))

@@ -1,0 +1,24 @@
+#!/usr/bin/env bash
+# narrow.sh REFERENCE SEED COUNT DRIVER..: so many calls, and a tenth as many reports and checks of each kind, by a DRIVER whose calls have the stack of the
+# little box (narrow.c), beside the independent program. A call that finds most of that stack used up must be told of.
+set -euo pipefail
+reference=$1 seed=$2 count=$3
+driver=("${@:4}")
+
+compare() { # KIND COUNT
+    "$reference" compare --kind "$1" --seed "$seed" --count "$2" -- "${driver[@]}"
+}
+
+echo "narrow.sh: seed $seed, $count calls, and $((count / 10)) reports and checks of each kind, on a stack of 16 KiB"
+compare calls "$count"
+for kind in reports tables vectors; do
+    compare "$kind" $((count / 10))
+done
+for kind in calls reports tables vectors; do
+    status=0
+    said=$(SPENT=16000 compare "$kind" 1 2>&1) || status=$?
+    [ "$status" = 1 ] && grep -q 'narrow: a call needs more than a stack of 16 KiB' <<<"$said" || {
+        echo "narrow.sh: $kind end with status $status on a stack that has no room" >&2
+        exit 1
+    }
+done
