@@ -10,15 +10,12 @@ use mir.Syntax.{w8}
 use mir.Val.{Fits}
 use Rattle.octets.specs.Number.{four, be32At, le32At}
 use Rattle.octets.specs.Sum.{sumWords}
+use Rattle.octets.proofs.Numbers.{Bytes}
 
 -- the sum of the first n bytes of a column
 abbrev column : List ℕ → ℕ → ℕ → ℕ
 column s k zero = 0
 column s k (suc n) = column s k n + getD s (4 * n + k) 0
-
--- what a list of bytes has at every place
-abbrev Bytes : List ℕ → Type 0
-Bytes s = (i : ℕ) → Fits w8 (getD s i 0)
 
 column-le : (s : List ℕ) (k n : ℕ) → Bytes s → column s k n ≤ 255 * n
 column-le s k zero h = omega arith
