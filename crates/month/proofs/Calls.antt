@@ -1,14 +1,16 @@
 -- A small month: where is `a`, its removal, where is it now, an answer that strayed into the file, and 3 bytes. The calls, computed one by one.
 use Prim.Native.Nat.{ℕ}
-use mathlib.Core.Path.{_≡_, refl}
+use mathlib.Core.Path.{_≡_, refl, ap, _∙_}
 use mathlib.Core.List.{List, [], _∷_, _++_}
 use lib.ListN.{length, replicate, set}
 use lib.Dec.{lit≤}
 use Rattle.octets.specs.Run.{over}
+use Rattle.table.specs.declared.Checked.{Checked}
 use Rattle.table.specs.declared.Checked.the-variants.{Sound}
 use Rattle.table.specs.Check.{checkTable}
 use Rattle.rewrite.specs.Change.{differ, alteredUpTo}
 use Rattle.diameter.specs.Put.{All}
+use Rattle.diameter.specs.Message.{commandOf}
 use Rattle.pen.specs.Bytes.{vendorBytes, numberBytes}
 use Rattle.pen.specs.Groups.{experimental}
 use Rattle.reading.specs.declared.Outcome.{Outcome}
@@ -17,8 +19,8 @@ use Rattle.counting.specs.declared.Event.{Event}
 use Rattle.counting.specs.declared.Event.the-variants as event
 use Rattle.calling.specs.Call.{Answered, Refused}
 use Rattle.calling.specs.Lent.{Lent, lent}
-use Rattle.calling.specs.Serve.{Served, serve}
-use Rattle.reporting.specs.Row.{eventOf}
+use Rattle.calling.specs.Serve.{Served, checkOf, checkValue, resultOf, serve}
+use Rattle.reporting.specs.Row.{eventBy, eventOf}
 use Rattle.numbers.specs.File.{OneRequest, joined}
 use Rattle.worked.proofs.Sample.{request, reply, answer, common, assignment, one, s, opened}
 
@@ -69,12 +71,16 @@ lending message table buffer = lent message table [] [] buffer
 
 -- all that a call opens
 unfoldable pub all : ℕ
-unfolding opened lir removal strayed here gone room located removed sought eventOf alteredUpTo differ
+unfolding opened lir removal strayed here gone room located removed sought alteredUpTo differ
 all = 0
 
 pub sound-here : checkTable here 0 ≡ Sound 1
 unfolding all
 sound-here = refl
+
+pub sound-gone : checkTable gone 0 ≡ Sound 1
+unfolding all
+sound-gone = refl
 
 -- each message is one request by its length
 pub each : All OneRequest messages
@@ -111,18 +117,27 @@ strayed-comes = refl
 abbrev pub counts : ℕ → Outcome → ℕ → ℕ → Event
 counts command result length altered = event.Answered (record { command = command; result = result; length = length; altered = altered })
 
+-- from what the call comes to, so that it is not computed again
+pub counted-from : (x : Lent) (length : ℕ) (table buffer : List ℕ) → serve x ≡ comes length table buffer → checkOf x ≡ Sound 1
+    → eventOf x ≡ counts (commandOf (x .request)) (resultOf x) length (alteredUpTo (x .table) table 1)
+unfolding eventOf
+counted-from x length table buffer e f =
+    ap (λ (y : Served). eventBy x (y .call)) e
+    ∙ ap (λ (n : ℕ). counts (commandOf (x .request)) (resultOf x) length n)
+    (ap (λ (y : Served). alteredUpTo (x .table) (y .table) (checkValue (checkOf x))) e ∙ ap (λ (c : Checked). alteredUpTo (x .table) table (checkValue c)) f)
+
 pub located-counts : eventOf (lending lir here room) ≡ counts 302 (Base 2001) 132 0
 unfolding all
-located-counts = refl
+located-counts = counted-from (lending lir here room) 132 here located located-comes sound-here
 
 pub removed-counts : eventOf (lending removal here located) ≡ counts 301 (Base 2001) 116 1
 unfolding all
-removed-counts = refl
+removed-counts = counted-from (lending removal here located) 116 gone removed removed-comes sound-here
 
 pub sought-counts : eventOf (lending lir gone removed) ≡ counts 302 (Experimental 5003) 136 0
 unfolding all
-sought-counts = refl
+sought-counts = counted-from (lending lir gone removed) 136 gone sought sought-comes sound-gone
 
 pub strayed-counts : eventOf (lending strayed gone sought) ≡ event.Refused 4
-unfolding all
-strayed-counts = refl
+unfolding eventOf
+strayed-counts = rw strayed-comes

@@ -86,11 +86,11 @@ forgetting = counting-by (λ (x : Lent). apart x (requestsOf x))
 
 -- the LIR after the removal would find the line again: B2001 twice, where the definitions have it once
 removed-apart : eventOf (lending removal here room) ≡ counts 301 (Base 2001) 116 1
-unfolding all
+unfolding all eventOf
 removed-apart = refl
 
 strayed-apart : eventOf (lending strayed here room) ≡ event.Refused 4
-unfolding all
+unfolding all eventOf
 strayed-apart = refl
 
 apart-month : apart month (requestsOf month)
