@@ -32,7 +32,7 @@ unfolding sumWords be32At
 sum-columns s zero = refl
 sum-columns s (suc n) =
     rw (sum-columns s n, add-zero (4 * n))
-    (four-more (column s 0 n) (column s 1 n) (column s 2 n) (column s 3 n) (getD s (4 * n) 0) (getD s (4 * n + 1) 0) (getD s (4 * n + 2) 0) (getD s (4 * n + 3) 0))
+    (four-more (column s 0 n) (column s 1 n) (column s 2 n) (column s 3 n) _ _ _ _)
 
 -- What the two sums of the loop are after i words.
 pub record Columns (s : List ℕ) (i whole odd : ℕ) : Type 0 where
