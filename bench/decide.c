@@ -7,9 +7,9 @@
 #include "timing.h"
 #include "vectors.h"
 
-/* The aims, where there is one: UAR, LIR and SAR type 1 at the most records, against the check alone, and a MAR against both
+/* The aims, where there is one: UAR (which goes over the table once more), LIR and SAR type 1 at the most records, against the check alone, and a MAR against both
  * checks; from 16 records on, against Rust; 1,000 identities at the most records, against 1. */
-static const Aim NONE = {"", 0}, CHECK_AIM = {"<= 1.1", 110}, CHECKS_AIM = {"<= 1.2", 120}, RUST_AIM = {"< 1.0", 99}, REMOVAL_AIM = {"<= 3.0", 300};
+static const Aim NONE = {"", 0}, UAR_AIM = {"<= 1.35", 135}, CHECK_AIM = {"<= 1.1", 110}, CHECKS_AIM = {"<= 1.2", 120}, RUST_AIM = {"< 1.0", 99}, REMOVAL_AIM = {"<= 3.0", 300};
 
 uint64_t reference_serve(const uint8_t *request, size_t request_len, uint8_t *table, size_t table_len,
                          const uint8_t *profile, size_t profile_len, uint8_t *vectors, size_t vectors_len, uint8_t *answer,
@@ -131,7 +131,7 @@ static int measure_all(const Sample *s) {
         return 1;
     }
     ask_authorization(&request, s->table, last_in(s->table, s->records, NOT_REGISTERED));
-    measure(s, &request, "UAR", CHECK_AIM);
+    measure(s, &request, "UAR", UAR_AIM);
     ask_location(&request, registered);
     measure(s, &request, "LIR", CHECK_AIM);
     ask_assignment(&request, s->table, s->records, registered, 1, 1);
