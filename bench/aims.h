@@ -10,7 +10,7 @@ typedef struct {
 } Aim;
 
 /* The aim's column, which is as wide as its longest text: the aim, and a word if it is missed. An aim without a text is none. */
-enum { AIM_WIDTH = 13 };
+enum { AIM_WIDTH = 14 };
 
 static const char *judged(Aim aim, double figure) {
     static char column[4][AIM_WIDTH + 1];

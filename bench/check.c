@@ -1,11 +1,14 @@
 /* check TABLE PROFILE NAMES ..: times the proved table check on each table, beside a bare sum of the same words in C
  * and the reference's check in Rust. */
 #define _POSIX_C_SOURCE 199309L
+#include <string.h>
+
 #include "aims.h"
 #include "samples.h"
 #include "timing.h"
 
-static const Aim NONE = {"", 0}, SUM_AIM = {"<= 2.0", 200}; /* at the most records */
+/* At the most records, against the sum of the same words by the machine's own vectors. */
+static const Aim NONE = {"", 0}, SHORT_AIM = {"<= 1.5", 150}, LONG_AIM = {"<= 1.8", 180};
 
 uint32_t sum_plain(const uint8_t *table, size_t length);
 uint32_t sum_native(const uint8_t *table, size_t length);
@@ -42,15 +45,16 @@ static int measure(const Sample *s) {
     }
     double t[SUBJECTS];
     medians(subject, SUBJECTS, s, t);
-    printf("%7lu  %-5s %8.2f %8.2f %11.2f %8.2f %9.2f  %-13s %11.2f %6.2f\n", (unsigned long)s->records, s->names,
-           t[PROVED], t[PLAIN], t[NATIVE], t[RUST], t[PROVED] / t[PLAIN],
-           judged(s->records == NDUSHAVIRE_RECORDS_MAX ? SUM_AIM : NONE, t[PROVED] / t[PLAIN]), t[PROVED] / t[NATIVE], t[PROVED] / t[RUST]);
+    const Aim aim = s->records != NDUSHAVIRE_RECORDS_MAX ? NONE : strcmp(s->names, "long") == 0 ? LONG_AIM : SHORT_AIM;
+    printf("%7lu  %-5s %8.2f %8.2f %11.2f %8.2f %9.2f %11.2f  %-14s %6.2f\n", (unsigned long)s->records, s->names,
+           t[PROVED], t[PLAIN], t[NATIVE], t[RUST], t[PROVED] / t[PLAIN], t[PROVED] / t[NATIVE], judged(aim, t[PROVED] / t[NATIVE]),
+           t[PROVED] / t[RUST]);
     return 1;
 }
 
 int main(int argc, char **argv) {
     return each_sample(argc, argv,
                        "table check: microseconds, medians; then the proved check as a multiple of each other\n"
-                       "records  names   proved  sum -O3  sum native     Rust  /sum -O3  aim           /sum native  /Rust\n",
+                       "records  names   proved  sum -O3  sum native     Rust  /sum -O3 /sum native  aim             /Rust\n",
                        measure);
 }

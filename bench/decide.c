@@ -7,9 +7,10 @@
 #include "timing.h"
 #include "vectors.h"
 
-/* The aims, where there is one: UAR, LIR and SAR type 1 at the most records, against the check alone, and a MAR against both
- * checks; from 16 records on, against Rust; 1,000 identities at the most records, against 1. */
-static const Aim NONE = {"", 0}, CHECK_AIM = {"<= 1.1", 110}, CHECKS_AIM = {"<= 1.2", 120}, RUST_AIM = {"< 1.0", 99}, REMOVAL_AIM = {"<= 3.0", 300};
+/* The aims, where there is one: UAR, which goes over the table once more, LIR and SAR type 1 at the most records, against the
+ * check alone, and a MAR against both checks; from 16 records on, against Rust; 1,000 identities at the most records, against 1. */
+static const Aim NONE = {"", 0}, UAR_AIM = {"<= 1.35", 135}, CHECK_AIM = {"<= 1.1", 110}, CHECKS_AIM = {"<= 1.2", 120};
+static const Aim RUST_AIM = {"< 1.0", 99}, REMOVAL_AIM = {"<= 3.0", 300};
 
 uint64_t reference_serve(const uint8_t *request, size_t request_len, uint8_t *table, size_t table_len,
                          const uint8_t *profile, size_t profile_len, uint8_t *vectors, size_t vectors_len, uint8_t *answer,
@@ -75,7 +76,7 @@ static double measure_over(const Sample *s, Vectors vectors, const Request *requ
     }
     double t[SUBJECTS];
     medians(subject, SUBJECTS, &call, t);
-    printf("%7lu  %-14s %9.2f %9.2f %9.2f %8.2f  %-13s %7.2f  %s\n", (unsigned long)s->records, what, t[DECIDE], t[CHECK],
+    printf("%7lu  %-14s %9.2f %9.2f %9.2f %8.2f  %-14s %7.2f  %s\n", (unsigned long)s->records, what, t[DECIDE], t[CHECK],
            t[RUST], t[DECIDE] / t[CHECK],
            judged(s->records == NDUSHAVIRE_RECORDS_MAX ? at_most_records : NONE, t[DECIDE] / t[CHECK]),
            t[DECIDE] / t[RUST], judged(s->records >= 16 ? RUST_AIM : NONE, t[DECIDE] / t[RUST]));
@@ -131,7 +132,7 @@ static int measure_all(const Sample *s) {
         return 1;
     }
     ask_authorization(&request, s->table, last_in(s->table, s->records, NOT_REGISTERED));
-    measure(s, &request, "UAR", CHECK_AIM);
+    measure(s, &request, "UAR", UAR_AIM);
     ask_location(&request, registered);
     measure(s, &request, "LIR", CHECK_AIM);
     ask_assignment(&request, s->table, s->records, registered, 1, 1);
@@ -144,6 +145,6 @@ static int measure_all(const Sample *s) {
 int main(int argc, char **argv) {
     return each_sample(argc, argv,
                        "decide: microseconds, medians; then decide as a multiple of each other; the check of a MAR is that of table and vectors\n"
-                       "records  request           decide     check      Rust   /check  aim             /Rust  aim\n",
+                       "records  request           decide     check      Rust   /check  aim              /Rust  aim\n",
                        measure_all);
 }

@@ -42,7 +42,7 @@ static int measure(const Sample *s) {
     if (sound) {
         double t[SUBJECTS];
         medians(subject, SUBJECTS, &v, t);
-        printf("%7lu  %-5s %8.2f %8.2f %11.2f %8.2f %9.2f  %-13s %11.2f  %-13s %6.2f\n", (unsigned long)v.blocks, s->names,
+        printf("%7lu  %-5s %8.2f %8.2f %11.2f %8.2f %9.2f  %-14s %11.2f  %-14s %6.2f\n", (unsigned long)v.blocks, s->names,
                t[PROVED], t[PLAIN], t[NATIVE], t[RUST], t[PROVED] / t[PLAIN], judged(most ? SUM_AIM : NONE, t[PROVED] / t[PLAIN]),
                t[PROVED] / t[NATIVE], judged(most ? NATIVE_AIM : NONE, t[PROVED] / t[NATIVE]), t[PROVED] / t[RUST]);
     } else {
@@ -55,6 +55,6 @@ static int measure(const Sample *s) {
 int main(int argc, char **argv) {
     return each_sample(argc, argv,
                        "vector check: microseconds, medians; then the proved check as a multiple of each other\n"
-                       " blocks  names   proved  sum -O3  sum native     Rust  /sum -O3  aim           /sum native  aim            /Rust\n",
+                       " blocks  names   proved  sum -O3  sum native     Rust  /sum -O3  aim            /sum native  aim             /Rust\n",
                        measure);
 }

@@ -64,7 +64,7 @@ negated-from : (x c s w : ℕ) → x < 2 ^ 32 → w < 2 ^ 32 → s ≡ (x + c) %
 unfolding negated
 negated-from x c s w a b e f = omega arith
 
-pub seal-put : (b : List ℕ) {c s w : ℕ} {y : List ℕ} → c ≡ be32At b 508 → s ≡ sumWords b (4 * 32) → w < 2 ^ 32 → (w + s) % 2 ^ 32 ≡ c → y ≡ putBe32 b 508 w
+pub seal-put : (b : List ℕ) {c s w : ℕ} {y : List ℕ} → c ≡ be32At b 508 → s ≡ sumWords b 128 → w < 2 ^ 32 → (w + s) % 2 ^ 32 ≡ c → y ≡ putBe32 b 508 w
     → y ≡ sealed b
 unfolding sealed sumWords
 seal-put b {c} {s} {w} e f h g k = rw (← negated-from (sumWords b 127) (be32At b 508) s w (sum-lt b 127) h f (g ∙ e)) k

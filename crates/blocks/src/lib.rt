@@ -13,6 +13,6 @@ pub fn seal(b: &mut [u8])
     requires { ⌜ length (now b) ≡ 512 ⌝ }
     ensures { λ _. ⌜ now (b .exit) ≡ sealed (now (b .entry)) ⌝ }
 {
-    let w = std::num::wrapping_sub_u32(number::be32(b, CHECK_AT), sum::sum_fours(b, 32));
+    let w = std::num::wrapping_sub_u32(number::be32(b, CHECK_AT), sum::sum_words(b, 128));
     number::put_be32(b, CHECK_AT, w);
 }

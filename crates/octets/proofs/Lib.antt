@@ -1,10 +1,10 @@
 pub mod All
 pub mod Chains
+pub mod Columns
 pub mod Names
 pub mod Numbers
 pub mod Orders
 pub mod Parts
 pub mod Runs
 pub mod Sums
-pub mod Turns
 pub mod Writes

@@ -4,15 +4,21 @@ use mathlib.Core.Path.{_≡_, refl, sym, ap, _∙_}
 use mathlib.Core.List.{List, [], _∷_}
 use native.Mathlib.Omega.{arith}
 use native.Mathlib.Nat.{mod-eq-of-lt, add-assoc, add-zero, zero-add}
+use mir.Syntax.{w8}
+use mir.Val.{Fits}
 use lib.Pow.{shr-shr}
 use lib.ListN.{length, getD, set, take, drop}
 use lib.Seq.{getD-set-other, getD-drop, getD-take}
-use Rattle.octets.specs.Number.{be16At, be24At, be32At, putBe24, putBe32}
+use Rattle.octets.specs.Number.{be16At, be24At, be32At, be64At, putBe24, putBe32}
 use Rattle.octets.specs.Run.{putName}
 use Rattle.octets.proofs.Runs.{name-here}
 
+-- What a list of bytes has at every place.
+abbrev pub Bytes : List ℕ → Type 0
+Bytes s = (i : ℕ) → Fits w8 (getD s i 0)
+
 -- The number that n bytes make, the first the highest: what holds of every width is proved of it.
-abbrev beAt : ℕ → List ℕ → ℕ → ℕ
+abbrev pub beAt : ℕ → List ℕ → ℕ → ℕ
 beAt zero s at = 0
 beAt (suc n) s at = beAt n s at * 256 + getD s (at + n) 0
 
@@ -31,6 +37,10 @@ be24-is s at = rw add-zero (omega arith)
 be32-is : (s : List ℕ) (at : ℕ) → be32At s at ≡ beAt 4 s at
 unfolding be32At
 be32-is s at = rw add-zero (omega arith)
+
+pub be64-is : (s : List ℕ) (at : ℕ) → be64At s at ≡ beAt 8 s at
+unfolding be64At
+be64-is s at = rw add-zero (omega arith)
 
 -- Where the bytes are alike, so are the numbers.
 module _ (x y : List ℕ) (a b : ℕ) where

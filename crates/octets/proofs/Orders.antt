@@ -8,12 +8,14 @@ use native.Mathlib.Numerals.{add-one}
 use lib.Dec.{ltb}
 use lib.ListN.{length, getD, drop, drop-of-length-le}
 use lib.Seq.{drop-cons}
-use borrow.Author.Tests.{lt-ltb, le-ltb, ltb-true, ltb-false, eqb-true}
+use borrow.Author.Tests.{lt-ltb, le-ltb, ltb-true, ltb-false, eqb-true, eq-eqb}
 use Rattle.octets.specs.All.{allBelow}
-use Rattle.octets.specs.Name.{orderOf, alikeAt, alikeFrom, byByte, byLength}
+use Rattle.octets.specs.Name.{orderOf, alikeAt, byNumber, byLength}
 use Rattle.octets.specs.declared.name.Order.{Order}
 use Rattle.octets.specs.declared.name.Order.the-variants.{Less, Equal, Greater}
-use Rattle.octets.proofs.All.{and-left, and-right}
+use Rattle.octets.specs.Number.{be64At}
+use Rattle.octets.proofs.All.{and-left, and-right, all-at, all-true}
+use Rattle.octets.proofs.Numbers.{Bytes, beAt, be64-is}
 
 -- A byte that is the same is passed over.
 order-pass : (s t : List ℕ) (i : ℕ) → i < length s → i < length t → getD s i 0 ≡ getD t i 0
@@ -48,17 +50,16 @@ module _ (s t : List ℕ) (i : ℕ) (alike : orderOf s t ≡ orderOf (drop i s) 
   order-end a b = rw (alike, drop-of-length-le s a, drop-of-length-le t b)
 
 module _ (s t : List ℕ) (i n : ℕ) (alike : orderOf s t ≡ orderOf (drop i s) (drop i t)) (least : n ≡ min (length s) (length t)) where
-  pub order-equal : i < n → getD s i 0 ≡ getD t i 0 → orderOf s t ≡ orderOf (drop (i + 1) s) (drop (i + 1) t)
-  order-equal h e = alike ∙ order-pass s t i (omega arith) (omega arith) e
+  module _ (a b : ℕ) (within : i < n) (x : a ≡ getD s i 0) (y : b ≡ getD t i 0) where
+    pub order-equal : a ≡ b → orderOf s t ≡ orderOf (drop (i + 1) s) (drop (i + 1) t)
+    order-equal e = alike ∙ order-pass s t i (omega arith) (omega arith) (sym x ∙ e ∙ y)
 
-  pub order-differ : {r : Order} → i < n → (getD s i 0 ≡ getD t i 0 → ⊥) → r ≡ byByte (getD s i 0) (getD t i 0) → r ≡ orderOf s t
-  order-differ {r} h k e = go (ltb (getD s i 0) (getD t i 0)) refl
-    where
-      go : (x : Bool) → ltb (getD s i 0) (getD t i 0) ≡ x → r ≡ orderOf s t
-      go true f = e ∙ rw f (order-less s t i alike (omega arith) (omega arith) (ltb-true _ _ f))
-      go false f =
-          let g : getD t i 0 ≤ getD s i 0 = ltb-false _ _ f in
-          e ∙ rw f (order-greater s t i alike (omega arith) (omega arith) (omega arith))
+    pub order-differ : {r : Order} → (a ≡ b → ⊥) → r ≡ byNumber a b → r ≡ orderOf s t
+    order-differ {r} d e = go (ltb a b) refl
+      where
+        go : (z : Bool) → ltb a b ≡ z → r ≡ orderOf s t
+        go true f = let l : a < b = ltb-true _ _ f in e ∙ rw f (order-less s t i alike (omega arith) (omega arith) (omega arith))
+        go false f = let l : b ≤ a = ltb-false _ _ f in e ∙ rw f (order-greater s t i alike (omega arith) (omega arith) (omega arith))
 
   pub order-lengths : {r : Order} → i ≤ n → n ≤ i → r ≡ byLength (length s) (length t) → r ≡ orderOf s t
   order-lengths {r} a b e = go (ltb (length s) (length t)) refl
@@ -71,23 +72,76 @@ module _ (s t : List ℕ) (i n : ℕ) (alike : orderOf s t ≡ orderOf (drop i s
       go true f = let k : length s < length t = ltb-true _ _ f in e ∙ rw f (order-prefix s t i alike (omega arith) (omega arith))
       go false f = e ∙ rw f (more (ltb (length t) (length s)) (ltb-false _ _ f) refl)
 
--- As many bytes as were tested are passed over; one stretch, and then another.
-order-steps : (s t : List ℕ) (i k : ℕ) → i + k ≤ length s → i + k ≤ length t → allBelow (alikeFrom s t i) k ≡ true
-    → orderOf (drop i s) (drop i t) ≡ orderOf (drop (i + k) s) (drop (i + k) t)
-unfolding allBelow alikeFrom alikeAt
-order-steps s t i zero a b e = let n : i + 0 ≡ i = omega arith in rw n
-order-steps s t i (suc k) a b e =
-    let n : i + suc k ≡ i + k + 1 = omega arith in
-    let f : getD s (i + k) 0 ≡ getD t (i + k) 0 = eqb-true _ _ (and-right (allBelow (alikeFrom s t i) k) _ e) in
-    rw n
-    (order-steps s t i k (omega arith) (omega arith) (and-left (allBelow (alikeFrom s t i) k) _ e)
-    ∙ order-pass s t (i + k) (omega arith) (omega arith) f)
+-- Names that are alike before a place.
+pub order-alike : (s t : List ℕ) (i : ℕ) → i ≤ length s → i ≤ length t → true ≡ allBelow (alikeAt s t) i → orderOf s t ≡ orderOf (drop i s) (drop i t)
+unfolding allBelow alikeAt
+order-alike s t zero a b e = refl
+order-alike s t (suc i) a b e =
+    let f : getD s i 0 ≡ getD t i 0 = eqb-true _ _ (and-right (allBelow (alikeAt s t) i) _ (sym e)) in
+    let g = order-alike s t i (omega arith) (omega arith) (sym (and-left (allBelow (alikeAt s t) i) _ (sym e))) in
+    rw (← add-one i) (g ∙ order-pass s t i (omega arith) (omega arith) f)
 
-pub order-passed : (s t : List ℕ) (n from i k : ℕ) {x : Bool} → n ≤ length s → n ≤ length t → i ≤ n → k ≤ n - i
-    → orderOf (drop from s) (drop from t) ≡ orderOf (drop i s) (drop i t) → x ≡ allBelow (alikeFrom s t i) k → x ≡ true
-    → orderOf (drop from s) (drop from t) ≡ orderOf (drop (i + k) s) (drop (i + k) t)
-order-passed s t n from i k a b c d alike e f = alike ∙ order-steps s t i k (omega arith) (omega arith) (sym e ∙ f)
+-- The first k bytes from there on as a number: where the numbers are the same the bytes are, and where they differ they tell the order.
+module _ (s t : List ℕ) (i : ℕ) (bs : Bytes s) (bt : Bytes t) (alike : true ≡ allBelow (alikeAt s t) i) where
+  number-alike : (k : ℕ) → beAt k s i ≡ beAt k t i → true ≡ allBelow (alikeAt s t) (i + k)
+  unfolding allBelow alikeAt
+  number-alike zero e = let n : i + 0 ≡ i = omega arith in rw n alike
+  number-alike (suc k) e =
+      let f : beAt k s i ≡ beAt k t i = omega (arith, bs (i + k), bt (i + k)) in
+      let g : getD s (i + k) 0 ≡ getD t (i + k) 0 = omega (arith, bs (i + k), bt (i + k)) in
+      let n : i + suc k ≡ suc (i + k) = omega arith in
+      rw (n, ← number-alike k f, eq-eqb _ _ g)
 
-pub order-then : (s t : List ℕ) (i j : ℕ) → orderOf (drop 0 s) (drop 0 t) ≡ orderOf (drop i s) (drop i t)
-    → orderOf (drop i s) (drop i t) ≡ orderOf (drop j s) (drop j t) → orderOf s t ≡ orderOf (drop j s) (drop j t)
-order-then s t i j e f = e ∙ f
+  number-less : (k : ℕ) → i + k ≤ length s → i + k ≤ length t → beAt k s i < beAt k t i → Less ≡ orderOf s t
+  number-less zero a b h = absurd (omega arith)
+  number-less (suc k) a b h = go (ltb (beAt k s i) (beAt k t i)) refl (number-less k (omega arith) (omega arith))
+    where
+      go : (x : Bool) → ltb (beAt k s i) (beAt k t i) ≡ x → (beAt k s i < beAt k t i → Less ≡ orderOf s t) → Less ≡ orderOf s t
+      go true f r = r (ltb-true _ _ f)
+      go false f r =
+          let l : beAt k t i ≤ beAt k s i = ltb-false _ _ f in
+          let e : beAt k s i ≡ beAt k t i = omega (arith, bs (i + k), bt (i + k)) in
+          let m : getD s (i + k) 0 < getD t (i + k) 0 = omega (arith, bs (i + k), bt (i + k)) in
+          order-less s t (i + k) (order-alike s t (i + k) (omega arith) (omega arith) (number-alike k e)) (omega arith) (omega arith) m
+
+  number-greater : (k : ℕ) → i + k ≤ length s → i + k ≤ length t → beAt k t i < beAt k s i → Greater ≡ orderOf s t
+  number-greater zero a b h = absurd (omega arith)
+  number-greater (suc k) a b h = go (ltb (beAt k t i) (beAt k s i)) refl (number-greater k (omega arith) (omega arith))
+    where
+      go : (x : Bool) → ltb (beAt k t i) (beAt k s i) ≡ x → (beAt k t i < beAt k s i → Greater ≡ orderOf s t) → Greater ≡ orderOf s t
+      go true f r = r (ltb-true _ _ f)
+      go false f r =
+          let l : beAt k s i ≤ beAt k t i = ltb-false _ _ f in
+          let e : beAt k s i ≡ beAt k t i = omega (arith, bs (i + k), bt (i + k)) in
+          let m : getD t (i + k) 0 < getD s (i + k) 0 = omega (arith, bs (i + k), bt (i + k)) in
+          order-greater s t (i + k) (order-alike s t (i + k) (omega arith) (omega arith) (number-alike k e)) (omega arith) (omega arith) m
+
+  number-differ : (k a b : ℕ) {r : Order} → i + k ≤ length s → i + k ≤ length t → a ≡ beAt k s i → b ≡ beAt k t i → (a ≡ b → ⊥) → r ≡ byNumber a b
+      → r ≡ orderOf s t
+  number-differ k a b {r} h l x y d e = go (ltb a b) refl
+    where
+      go : (z : Bool) → ltb a b ≡ z → r ≡ orderOf s t
+      go true f = let m : a < b = ltb-true _ _ f in e ∙ rw f (number-less k h l (omega arith))
+      go false f = let m : b ≤ a = ltb-false _ _ f in e ∙ rw f (number-greater k h l (omega arith))
+
+  -- Eight bytes.
+  pub eight-alike : (a b : ℕ) → a ≡ be64At s i → b ≡ be64At t i → a ≡ b → true ≡ allBelow (alikeAt s t) (i + 8)
+  eight-alike a b x y e = number-alike 8 (sym (be64-is s i) ∙ sym x ∙ e ∙ y ∙ be64-is t i)
+
+  pub eight-differ : (n a b : ℕ) {r : Order} → n ≡ min (length s) (length t) → i ≤ n → 8 ≤ n - i → a ≡ be64At s i → b ≡ be64At t i → (a ≡ b → ⊥)
+      → r ≡ byNumber a b → r ≡ orderOf s t
+  eight-differ n a b m h l x y d e = number-differ 8 a b (omega arith) (omega arith) (x ∙ be64-is s i) (y ∙ be64-is t i) d e
+
+-- The last eight bytes: what was compared of them is alike.
+pub alike-last : (s t : List ℕ) (i n : ℕ) → true ≡ allBelow (alikeAt s t) i → n - i < 8 → true ≡ allBelow (alikeAt s t) (n - 8)
+alike-last s t i n e h = sym (all-true (alikeAt s t) (n - 8) (λ k l. all-at (alikeAt s t) i (sym e) k (omega arith)))
+
+module _ (s t : List ℕ) (n a b : ℕ) {r : Order} (bs : Bytes s) (bt : Bytes t) (least : n ≡ min (length s) (length t)) (some : 8 ≤ n)
+    (alike : true ≡ allBelow (alikeAt s t) (n - 8)) (x : a ≡ be64At s (n - 8)) (y : b ≡ be64At t (n - 8)) where
+  pub last-alike : a ≡ b → r ≡ byLength (length s) (length t) → r ≡ orderOf s t
+  last-alike e f =
+      let g = order-alike s t (n - 8 + 8) (omega arith) (omega arith) (eight-alike s t (n - 8) bs bt alike a b x y e) in
+      order-lengths s t (n - 8 + 8) n g least (omega arith) (omega arith) f
+
+  pub last-differ : (a ≡ b → ⊥) → r ≡ byNumber a b → r ≡ orderOf s t
+  last-differ d e = eight-differ s t (n - 8) bs bt alike n a b least (omega arith) (omega arith) x y d e

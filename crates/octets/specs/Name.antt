@@ -14,9 +14,9 @@ orderOf [] (y ∷ t) = Less
 orderOf (x ∷ s) [] = Greater
 orderOf (x ∷ s) (y ∷ t) = cond (ltb x y) Less (cond (ltb y x) Greater (orderOf s t))
 
--- two bytes that differ; two names of which one begins the other, by their lengths
-abbrev pub byByte : ℕ → ℕ → Order
-byByte a b = cond (ltb a b) Less Greater
+-- two bytes, or two numbers of several, that differ; two names of which one begins the other, by their lengths
+abbrev pub byNumber : ℕ → ℕ → Order
+byNumber a b = cond (ltb a b) Less Greater
 
 abbrev pub byLength : ℕ → ℕ → Order
 byLength m n = cond (ltb m n) Less (cond (ltb n m) Greater Equal)

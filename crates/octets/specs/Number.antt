@@ -1,9 +1,9 @@
--- Big-endian numbers of 16, 24 and 32 bits at a place of a list of bytes.
+-- Big-endian numbers of 16 to 64 bits at a place of a list of bytes.
 use Prim.Native.Nat.{ℕ, _+_, _*_, _/_, _%_}
 use mathlib.Core.List.{List}
 use lib.ListN.{getD, set}
 
--- the number that two, three and four bytes make, the first the highest
+-- the number that two, three, four and eight bytes make, the first the highest
 abbrev pub two : ℕ → ℕ → ℕ
 two a b = a * 256 + b
 
@@ -13,14 +13,8 @@ three a b c = a * 65536 + b * 256 + c
 abbrev pub four : ℕ → ℕ → ℕ → ℕ → ℕ
 four a b c d = a * 16777216 + b * 65536 + c * 256 + d
 
--- the number that eight bytes make, the first the lowest; the eight bytes of a number in the other order
 abbrev pub eight : ℕ → ℕ → ℕ → ℕ → ℕ → ℕ → ℕ → ℕ → ℕ
-eight a b c d e f g h = a + b * 256 + c * 65536 + d * 16777216 + e * 4294967296 + f * 1099511627776 + g * 281474976710656 + h * 72057594037927936
-
-abbrev pub turnedOf : ℕ → ℕ
-turnedOf x =
-    eight (x / 72057594037927936) (x / 281474976710656 % 256) (x / 1099511627776 % 256) (x / 4294967296 % 256)
-    (x / 16777216 % 256) (x / 65536 % 256) (x / 256 % 256) (x % 256)
+eight a b c d e f g h = four a b c d * 4294967296 + four e f g h
 
 unfoldable pub be16At : List ℕ → ℕ → ℕ
 be16At s at = two (getD s at 0) (getD s (at + 1) 0)
@@ -30,6 +24,15 @@ be24At s at = three (getD s at 0) (getD s (at + 1) 0) (getD s (at + 2) 0)
 
 unfoldable pub be32At : List ℕ → ℕ → ℕ
 be32At s at = four (getD s at 0) (getD s (at + 1) 0) (getD s (at + 2) 0) (getD s (at + 3) 0)
+
+unfoldable pub be64At : List ℕ → ℕ → ℕ
+be64At s at =
+    eight (getD s at 0) (getD s (at + 1) 0) (getD s (at + 2) 0) (getD s (at + 3) 0) (getD s (at + 4) 0) (getD s (at + 5) 0) (getD s (at + 6) 0)
+    (getD s (at + 7) 0)
+
+-- the word at a place with its first byte the lowest
+unfoldable pub le32At : List ℕ → ℕ → ℕ
+le32At s at = four (getD s (at + 3) 0) (getD s (at + 2) 0) (getD s (at + 1) 0) (getD s at 0)
 
 -- a number stored at a place
 unfoldable pub putBe24 : List ℕ → ℕ → ℕ → List ℕ

@@ -1,9 +1,11 @@
 // Names: bytes, compared exactly.
+use crate::number;
 ghost use mathlib.Core.Path.{_≡_};
-ghost use Prim.Native.Nat.{_+_, _≤_, _<_, min};
-ghost use lib.ListN.{length, drop};
+ghost use mathlib.Core.Bool.{true};
+ghost use Prim.Native.Nat.{_+_, _-_, _≤_, min};
+ghost use lib.ListN.{length};
 ghost use Rattle.octets.specs.All.{allBelow};
-ghost use Rattle.octets.specs.Name.{orderOf, same, alikeAt, alikeFrom, byByte, byLength};
+ghost use Rattle.octets.specs.Name.{orderOf, same, alikeAt, alikeFrom, byNumber, byLength};
 
 pub enum Order {
     Less,
@@ -18,9 +20,9 @@ pub fn smaller(m: usize, n: usize) -> usize
     if m < n { m } else { n }
 }
 
-// The order of two bytes that differ.
-fn by_byte(a: u8, b: u8) -> Order
-    ensures { λ r. ⌜ r ≡ byByte a b ⌝ }
+// The order of two numbers that differ.
+fn by_number(a: usize, b: usize) -> Order
+    ensures { λ r. ⌜ r ≡ byNumber a b ⌝ }
 {
     if a < b { Order::Less } else { Order::Greater }
 }
@@ -47,16 +49,15 @@ fn alike(s: &[u8], t: &[u8], i: usize, k: usize) -> bool
     same
 }
 
-// Passes over what is the same from a place on, k bytes at a time, below n.
-fn passed(s: &[u8], t: &[u8], n: usize, from: usize, k: usize) -> usize
-    requires { ⌜ (n ≤ length (now s)) × (n ≤ length (now t)) × (from ≤ n) × (0 < k) ⌝ }
-    ensures { λ r. ⌜ (r ≤ n)
-        × (orderOf (drop from (now (s .entry))) (drop from (now (t .entry))) ≡ orderOf (drop r (now (s .entry))) (drop r (now (t .entry)))) ⌝ }
+// Passes over what is the same at the front, 32 bytes at a time, below n.
+fn passed(s: &[u8], t: &[u8], n: usize) -> usize
+    requires { ⌜ (n ≤ length (now s)) × (n ≤ length (now t)) ⌝ }
+    ensures { λ r. ⌜ (r ≤ n) × (true ≡ allBelow (alikeAt (now (s .entry)) (now (t .entry))) r) ⌝ }
 {
-    let mut i = from;
-    while k <= n - i {
-        if alike(s, t, i, k) {
-            i += k;
+    let mut i = 0;
+    while 32 <= n - i {
+        if alike(s, t, i, 32) {
+            i += 32;
         } else {
             return i;
         }
@@ -64,22 +65,66 @@ fn passed(s: &[u8], t: &[u8], n: usize, from: usize, k: usize) -> usize
     i
 }
 
-// The order of two names. Equal beginnings are passed over in large steps, then byte by byte.
+// The order of two names that are alike but for the last eight bytes of the shorter.
+fn by_last(s: &[u8], t: &[u8], n: usize) -> Order
+    requires { ⌜ (n ≡ min (length (now s)) (length (now t))) × (8 ≤ n) × (true ≡ allBelow (alikeAt (now s) (now t)) (n - 8)) ⌝ }
+    ensures { λ r. ⌜ r ≡ orderOf (now (s .entry)) (now (t .entry)) ⌝ }
+{
+    let a = number::be64(s, n - 8);
+    let b = number::be64(t, n - 8);
+    if a == b {
+        by_length(s.len(), t.len())
+    } else {
+        by_number(a, b)
+    }
+}
+
+// The order of two names that are alike before a place, eight bytes at a time. The last eight may have been compared in part, and are alike there.
+fn by_eights(s: &[u8], t: &[u8], n: usize, from: usize) -> Order
+    requires { ⌜ (n ≡ min (length (now s)) (length (now t))) × (8 ≤ n) × (from ≤ n) × (true ≡ allBelow (alikeAt (now s) (now t)) from) ⌝ }
+    ensures { λ r. ⌜ r ≡ orderOf (now (s .entry)) (now (t .entry)) ⌝ }
+{
+    let mut i = from;
+    while 8 <= n - i {
+        let a = number::be64(s, i);
+        let b = number::be64(t, i);
+        if a == b {
+            i += 8;
+        } else {
+            return by_number(a, b);
+        }
+    }
+    by_last(s, t, n)
+}
+
+// The order of two names of which one is shorter than eight bytes.
+fn by_bytes(s: &[u8], t: &[u8], n: usize) -> Order
+    requires { ⌜ n ≡ min (length (now s)) (length (now t)) ⌝ }
+    ensures { λ r. ⌜ r ≡ orderOf (now (s .entry)) (now (t .entry)) ⌝ }
+{
+    let mut i = 0;
+    while i < n {
+        let a = crate::byte(s, i);
+        let b = crate::byte(t, i);
+        if a == b {
+            i += 1;
+        } else {
+            return by_number(a, b);
+        }
+    }
+    by_length(s.len(), t.len())
+}
+
+// The order of two names. Where eight bytes differ, one comparison tells it: which of them is the first to differ cannot be foretold.
 pub fn order_of(s: &[u8], t: &[u8]) -> Order
     ensures { λ r. ⌜ r ≡ orderOf (now (s .entry)) (now (t .entry)) ⌝ }
 {
     let n = smaller(s.len(), t.len());
-    let mut i = passed(s, t, n, passed(s, t, n, 0, 32), 8);
-    while i < n {
-        let a = s[i];
-        let b = t[i];
-        if a == b {
-            i += 1;
-        } else {
-            return by_byte(a, b);
-        }
+    if n < 8 {
+        by_bytes(s, t, n)
+    } else {
+        by_eights(s, t, n, passed(s, t, n))
     }
-    by_length(s.len(), t.len())
 }
 
 // Whether two names of one length are the same, eight bytes at a time: a scan over many names leaves most of them at the first eight.

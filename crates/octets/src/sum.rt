@@ -5,38 +5,42 @@ ghost use Prim.Native.Nat.{_+_, _*_, _/_, _%_, _^_, _≤_};
 ghost use lib.ListN.{length};
 ghost use Rattle.octets.specs.Sum.{sumWords};
 
-// A sum and the first of two words that were read as one number; a sum and the second.
-fn plus_first(sum: u32, x: u64) -> u32
-    ensures { λ r. ⌜ r ≡ (sum + x / 4294967296) % 2 ^ 32 ⌝ }
+// The second and the fourth byte of a word as the machine has it, each with 16 bits for itself.
+fn odd_bytes(w: u32) -> u32
+    ensures { λ r. ⌜ (r ≡ w / 256 % 256 + w / 16777216 * 65536) × (r ≤ 16711935) ⌝ }
 {
-    std::num::wrapping_add_u32(sum, (x / 4294967296) as u32)
+    w / 256 % 256 + w / 16777216 * 65536
 }
 
-fn plus_second(sum: u32, x: u64) -> u32
-    ensures { λ r. ⌜ r ≡ (sum + x % 4294967296) % 2 ^ 32 ⌝ }
+// The sums of the first and of the third bytes: those of all bytes, less the odd ones with what they carry.
+fn even_sums(whole: u32, odd: u32) -> u32
+    ensures { λ r. ⌜ (r + odd % 16777216 * 256) % 2 ^ 32 ≡ whole ⌝ }
 {
-    std::num::wrapping_add_u32(sum, (x % 4294967296) as u32)
+    std::num::wrapping_sub_u32(whole, odd % 16777216 * 256)
 }
 
-// The sum of the first 4n words, read in pairs, by four sums side by side: no sum waits for another.
-pub fn sum_fours(s: &[u8], n: usize) -> u32
-    requires { ⌜ 16 * n ≤ length (now s) ⌝ }
-    ensures { λ r. ⌜ r ≡ sumWords (now (s .entry)) (4 * n) ⌝ }
+// The sum of words whose first byte is the highest.
+fn turned(even: u32, odd: u32) -> u32
+    ensures { λ r. ⌜ r ≡ (even % 256 * 16777216 + odd % 65536 * 65536 + (even / 65536 * 256 + odd / 65536)) % 2 ^ 32 ⌝ }
 {
-    let mut a: u32 = 0;
-    let mut b: u32 = 0;
-    let mut c: u32 = 0;
-    let mut d: u32 = 0;
-    for i in 0..n {
-        let x = number::two_words(s, 16 * i);
-        let y = number::two_words(s, 16 * i + 8);
-        a = plus_first(a, x);
-        b = plus_second(b, x);
-        c = plus_first(c, y);
-        d = plus_second(d, y);
-    }
     std::num::wrapping_add_u32(
-        std::num::wrapping_add_u32(a, b),
-        std::num::wrapping_add_u32(c, d),
+        std::num::wrapping_add_u32(even % 256 * 16777216, odd % 65536 * 65536),
+        even / 65536 * 256 + odd / 65536,
     )
+}
+
+// The sum of the first n words. They are added as the machine has them, the odd bytes once more by themselves, and the bytes are put in
+// their order when all are added: every machine has vectors that do this, and not all have ones that turn words round.
+pub fn sum_words(s: &[u8], n: usize) -> u32
+    requires { ⌜ (4 * n ≤ length (now s)) × (n ≤ 128) ⌝ }
+    ensures { λ r. ⌜ r ≡ sumWords (now (s .entry)) n ⌝ }
+{
+    let mut whole: u32 = 0;
+    let mut odd: u32 = 0;
+    for i in 0..n {
+        let w = number::le32(s, 4 * i);
+        whole = std::num::wrapping_add_u32(whole, w);
+        odd += odd_bytes(w);
+    }
+    turned(even_sums(whole, odd), odd)
 }

@@ -125,7 +125,7 @@ pub fn sound(b: &[u8]) -> bool
 {
     let h = Header::read(b);
     counts(h)
-        & ((sum::sum_fours(b, 32) == 0)
+        & ((sum::sum_words(b, 128) == 0)
             & is_header(h)
             & numbers(h)
             & rest(b, h)

@@ -220,7 +220,7 @@ pub fn sound(b: &[u8], k: u32, networks: u32, file: usize) -> bool
     requires { ⌜ (length (now b) ≡ 512) × (networks ≤ 8) ⌝ }
     ensures { λ x. ⌜ x ≡ soundRecord (now (b .entry)) k networks file ⌝ }
 {
-    let total = sum::sum_fours(b, 32);
+    let total = sum::sum_words(b, 128);
     let r = Record::read(b);
     if (total == 0)
         & is_record(r, k)

@@ -4,4 +4,5 @@ pub mod Counts
 pub mod Settled
 pub mod Sound
 pub mod Tables
+pub mod Unchanged
 pub mod Writes

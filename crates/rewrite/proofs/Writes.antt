@@ -1,15 +1,15 @@
 -- What the functions that write leave, each by what its parts left.
-use Prim.Native.Nat.{ℕ, _+_, _-_, _*_, _%_, _^_, _<_, _≤_}
+use Prim.Native.Nat.{ℕ, _+_, _-_, _*_, _≤_}
 use mathlib.Core.Bool.{Bool, true, false, cond, not, _||_, true≢false}
 use mathlib.Core.Path.{_≡_, refl, sym, _∙_, ap}
-use mathlib.Core.List.{List, _++_, append-nil}
+use mathlib.Core.List.{List, _++_}
 use native.Mathlib.Omega.{arith}
 use lib.Dec.{eqb}
-use lib.ListN.{length, getD, set, take, drop, length-set, length-take, length-drop, drop-of-length-le}
+use lib.ListN.{length, getD, set, take, drop, length-set, length-take, length-drop}
 use lib.Seq.{drop-drop, drop-at, take-at, length-take-le}
 use borrow.Rule.Slice.PartMut.{midOf, putMid, put-same, mid-len}
 use Rattle.octets.specs.Name.{same}
-use Rattle.octets.specs.Run.{putName, over, Wrote}
+use Rattle.octets.specs.Run.{putName}
 use Rattle.octets.proofs.Names.{same-eq, same-refl, same-yes, same-no}
 use Rattle.octets.proofs.Runs.{name-length}
 use Rattle.record.specs.Fields.{stateOf, bitsOf, serverOf, cleared, pendingSet}
@@ -70,22 +70,6 @@ differ-same x = rw (same-refl x)
 
 pub differ-none : (x : List ℕ) → 0 ≡ differ x x
 differ-none x = sym (differ-same x)
-
-pub differ-yes : (x y : List ℕ) {s : Bool} → s ≡ same x y → s ≡ true → 0 ≡ differ x y
-unfolding differ
-differ-yes x y e f = rw (← e, f)
-
-pub differ-no : (x y : List ℕ) {s : Bool} → s ≡ same x y → s ≡ false → 1 ≡ differ x y
-unfolding differ
-differ-no x y e f = rw (← e, f)
-
--- the block as it came, copied before it is written
-copied : (w x y : List ℕ) (n : ℕ) → Wrote w x y n → length w ≡ length x → y ≡ w
-unfolding over
-copied w x y n e l = e .bytes ∙ rw (drop-of-length-le x {i = length w} (omega arith), append-nil)
-
-pub block-differs : (b x y z : List ℕ) (n : ℕ) {r : ℕ} → Wrote b x y n → length x ≡ 512 → length b ≡ 512 → r ≡ differ y z → r ≡ differ b z
-block-differs b x y z n w k l e = e ∙ ap (λ (v : List ℕ). differ v z) (copied b x y n w (l ∙ sym k))
 
 -- A block of a table, lent and come back.
 pub challenge-put : (t : List ℕ) (k : ℕ) (name : List ℕ) {y : List ℕ} → y ≡ challenged name (midOf (512 * k) (512 * k + 512 - 512 * k) t)

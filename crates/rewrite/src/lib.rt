@@ -2,12 +2,14 @@
 use lookup::Found;
 use octets::name;
 use octets::run;
+use octets::sum;
 use record::fields;
 use record::subscriber::Record;
 ghost use mathlib.Core.Path.{_≡_};
 ghost use mathlib.Core.Bool.{cond};
 ghost use Prim.Native.Nat.{_+_, _*_, _≤_};
 ghost use lib.ListN.{length};
+ghost use Rattle.octets.specs.Name.{same};
 ghost use Rattle.lookup.specs.Find.{endOf};
 ghost use Rattle.blocks.specs.Changed.{changedIn};
 ghost use Rattle.rewrite.specs.Change.{changedFound, differ};
@@ -25,22 +27,28 @@ fn renew(b: &mut [u8], state: u8, bits: u8, name: &[u8])
     blocks::seal(b);
 }
 
-// 1 if two pieces have other bytes, else 0.
-fn differ(a: &[u8], b: &[u8]) -> u32
-    ensures { λ r. ⌜ (r ≡ differ (now (a .entry)) (now (b .entry))) × (r ≤ 1) ⌝ }
+// Whether a record block is already as it would be renewed: state, bits and name, zeros after the name, and a check word that is right.
+fn held(b: &[u8], state: u8, bits: u8, name: &[u8]) -> bool
+    requires { ⌜ (length (now b) ≡ 512) × (length (now name) ≤ 96) ⌝ }
+    ensures { λ r. ⌜ r ≡ same (now (b .entry)) (renewed (now (b .entry)) state bits (now (name .entry))) ⌝ }
 {
-    if name::same(a, b) { 0 } else { 1 }
+    (b[Record::STATE_AT] == state)
+        & (b[Record::BITS_AT] == bits)
+        & name::same(fields::server(b), name)
+        & run::zero_between(b, Record::SERVER_AT + name.len(), Record::MANDATORY_AT)
+        & (sum::sum_words(b, 128) == 0)
 }
 
-// The same. Answers 1 if the block has other bytes then, else 0: a copy of it as it came tells that of any change.
+// The same as renew. Answers 1 if the block has other bytes then, else 0.
 fn renew_counted(b: &mut [u8], state: u8, bits: u8, name: &[u8]) -> u32
     requires { ⌜ (length (now b) ≡ 512) × (length (now name) ≤ 96) ⌝ }
     ensures { λ r. ⌜ (now (b .exit) ≡ renewed (now (b .entry)) state bits (now (name .entry))) × (r ≡ differ (now (b .entry)) (now (b .exit))) × (r ≤ 1) ⌝ }
 {
-    let mut before = [0u8; table::BLOCK];
-    run::copy(&mut before, b);
+    if held(b, state, bits, name) {
+        return 0;
+    }
     renew(b, state, bits, name);
-    differ(&before, b)
+    1
 }
 
 // Gives a record block another state and another server name, and clears pending.

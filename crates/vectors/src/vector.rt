@@ -97,7 +97,7 @@ pub fn sound(b: &[u8]) -> bool
     ensures { λ r. ⌜ r ≡ soundVector (now (b .entry)) ⌝ }
 {
     let v = Vector::read(b);
-    (sum::sum_fours(b, 32) == 0) & limits(v) & rest(b, v)
+    (sum::sum_words(b, 128) == 0) & limits(v) & rest(b, v)
 }
 
 // The n bytes from a place on.

@@ -1,4 +1,5 @@
-use Rattle.rewrite.proofs.Writes.{block-differs}
+use Rattle.rewrite.proofs.Unchanged.{left-renewed, renewed-differs}
+use Rattle.rewrite.proofs.Writes.{differ-none}
 use borrow.Author.Needs.{needs}
 use Rattle.rewrite.proofs.renew_counted.Statement.{statement}
 use Rattle.rewrite.proofs.renew_counted.Tie as tie
@@ -7,10 +8,9 @@ pub renew-counted-spec : {M : Type 1} → statement M
 renew-counted-spec =
     tie.close
     (tie.spec
-    (λ c. search needs)
-    (λ c κs. search needs)
     (λ c κs. search needs)
     (λ c. search needs)
+    (λ c. (search (needs, left-renewed), search (needs, differ-none), search needs))
     (λ c κs. search needs)
     (λ c. search needs)
-    (λ c. (search needs, search (needs, block-differs), search needs)))
+    (λ c. (search needs, search (needs, renewed-differs), search needs)))

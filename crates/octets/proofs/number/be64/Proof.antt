@@ -1,10 +1,14 @@
-use Rattle.octets.proofs.Turns.{word-here, word-next}
+use Rattle.octets.specs.Number.{be64At}
 use borrow.Author.Needs.{needs}
-use Rattle.octets.proofs.number.two_words.Statement.{statement}
-use Rattle.octets.proofs.number.two_words.Tie as tie
+use Rattle.octets.proofs.number.be64.Statement.{statement}
+use Rattle.octets.proofs.number.be64.Tie as tie
 
-pub two-words-spec : {M : Type 1} → statement M
-two-words-spec =
+returns : tie.Need-returns
+unfolding be64At
+returns c = search needs
+
+pub be64-spec : {M : Type 1} → statement M
+be64-spec =
     tie.close
     (tie.spec
     (λ c. search needs)
@@ -23,4 +27,4 @@ two-words-spec =
     (λ c. search needs)
     (λ c. search needs)
     (λ c κs. search needs)
-    (λ c. search (needs, word-here, word-next)))
+    returns)
