@@ -59,7 +59,7 @@ target/bin/%: $(PROVED)
 	rt check $*
 	touch $@
 
-#: test               every test from fmt to differential below, some 3 minutes once the library is proved
+#: test               every test from fmt to differential below, 5 minutes once the library is proved, a quarter of an hour under an emulator
 test: fmt kit pages header examples tables texts aims stores programs unsound reports reference installs cited narrow noticed differential
 
 #: fmt                whether crates/ is in the kit's layout
