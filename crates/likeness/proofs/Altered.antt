@@ -148,7 +148,8 @@ module _ (t u : List ℕ) (count : ℕ) (sound : SoundTable t count) (other : So
   deed-altered s Leave f = altered-none t count ∙ sym (altered-none u count)
   deed-altered s (Settle w) f =
       rw (← planned-same [] t u count like s (w .owned))
-      (after-altered (isOne (plannedRecords t count s (w .owned))) _ (settled-keeps _ _ f) (λ k a b. settled-at k a b _ (f .most) (w .state)) count (omega arith))
+      (after-altered (isOne (plannedRecords t count s (w .owned))) _ (settled-keeps _ _ f) (λ k a b. settled-at k a b _ (f .most) (w .state)) count
+      (omega arith))
   deed-altered s (Challenge k) (a, b, least, most) =
       after-altered (isOne (k ∷ [])) _ (challenged-keeps (s .server) least most) (λ j l h. challenged-at j l h (s .server) most) count (omega arith)
 
