@@ -8,7 +8,7 @@ SHELL := /bin/bash
 .NOTPARALLEL:
 export PYTHONDONTWRITEBYTECODE := 1
 .PHONY: help run test clean fmt kit pages header examples tables texts aims stores programs reference installs cited narrow bench stack installable install uninstall
-.PHONY: unsound reports differential noticed soak mutants stats definitions-check cases
+.PHONY: unsound reports moves differential noticed soak mutants stats definitions-check cases
 
 MACHINE := $(shell uname -m)
 ifeq ($(MACHINE),x86_64)
@@ -30,7 +30,7 @@ HEADER := include/ndushavire.h
 BINARY := reference/target/release/reference
 PROVED := crates.txt $(shell find crates -name '*.rt' -o -name '*.antt' -o -type d)
 # x86-64 code as well, and nothing of theirs is static: installed on x86-64 alone.
-PROGRAMS := $(if $(filter x86_64,$(MACHINE)),target/bin/answer target/bin/tablecheck target/c99/check target/c99/report)
+PROGRAMS := $(if $(filter x86_64,$(MACHINE)),target/bin/answer target/bin/tablecheck target/c99/check target/c99/move target/c99/report)
 REFERENCE := $(shell find reference -path reference/target -prune -o -name '*.rs' -print -o -name 'Cargo.*' -print)
 
 #: help               this list
@@ -60,7 +60,7 @@ target/bin/%: $(PROVED)
 	touch $@
 
 #: test               every test from fmt to differential below, 5 minutes once the library is proved, a quarter of an hour under an emulator
-test: fmt kit pages header examples tables texts aims stores programs unsound reports reference installs cited narrow noticed differential
+test: fmt kit pages header examples tables texts aims stores programs unsound reports moves reference installs cited narrow noticed differential
 
 #: fmt                whether crates/ is in the kit's layout
 fmt:
@@ -79,15 +79,16 @@ pages: target/c/maketable target/c/showtable
 header: target/c/header target/c++/header
 	for header in $^; do $$header; done
 
-#: examples           the C examples: worked answers, refusals, AVPs at fault, requests that real software sent, the month's numbers
-examples: $(foreach mode,c99 cxx,$(addprefix target/$(mode)/,check decide report)) target/c/fault target/c++/fault target/c/maketable $(BINARY)
+#: examples           the C examples: worked answers, refusals, AVPs at fault, requests that real software sent, the month's numbers, moves
+examples: $(foreach mode,c99 cxx,$(addprefix target/$(mode)/,check decide move report)) target/c/fault target/c++/fault target/c/maketable target/c/showtable $(BINARY)
 	for fault in target/c/fault target/c++/fault; do $$fault; done
 	RUN='$(RUN)' tests/decide.sh target/test/decide target/c/maketable target/c99/decide target/cxx/decide
 	RUN='$(RUN)' tests/captured.sh target/test/captured target/c/maketable $(BINARY) target/c99/decide target/cxx/decide
 	RUN='$(RUN)' tests/report.sh target/test/report target/c/maketable target/c99/report target/cxx/report
+	RUN='$(RUN)' tests/move.sh target/test/move target/c/maketable target/c/showtable target/c99/check target/c99/move target/cxx/move
 
 #: tables             tables and vector files made from text, damaged ones, and the switch to new ones as the manual pages have it
-tables: examples target/c/showtable
+tables: examples
 	RUN='$(RUN)' tests/tables.sh target/test/tables target/c/maketable target/c/showtable target/c99/check target/cxx/check
 	RUN='$(RUN)' tests/vectors.sh target/test/vectors target/c/maketable target/c/showtable target/c99/check target/cxx/check
 	RUN='$(RUN)' tests/switch.sh target/test/switch target/c/maketable target/c99/check
@@ -124,6 +125,11 @@ reports: target/c99/month target/c/maketable
 	target/c/maketable vectors examples/vectors.txt >target/test/reports/vectors
 	$(RUN) $< $(addprefix target/test/reports/,table profile vectors) $(SEED) $(COUNT_months)
 
+COUNT_moved := 2000
+#: moves              the moves between editions beside a model in C, and requests over either edition, over 2,000 random tables; SEED=N runs a seed again
+moves: target/c99/moves
+	$(RUN) $< $(SEED) $(COUNT_moved)
+
 #: reference          the independent program's own tests
 reference:
 	cd reference && cargo test --offline --quiet
@@ -137,11 +143,12 @@ ifndef SEED
 SEED := $(shell od -An -N4 -tu4 /dev/urandom | tr -d ' ')
 endif
 DRIVER = $(RUN) target/c99/driver
-KINDS := tables vectors calls reports demand3 runs
+KINDS := tables vectors calls reports moves demand3 runs
 COUNT_tables := 200000
 COUNT_vectors := 100000
 COUNT_calls := 100000
 COUNT_reports := 20000
+COUNT_moves := 50000
 COUNT_demand3 := 20000
 COUNT_runs := 2000
 
@@ -149,7 +156,7 @@ COUNT_runs := 2000
 cited: $(ARCHIVE) $(PROGRAMS)
 	RUN='$(RUN)' tests/cited.sh target/test/cited $(X86_CC)
 
-#: differential       the library beside the independent program on 440,000 new cases and 2,000 runs of calls; SEED=N runs a seed again
+#: differential       the library beside the independent program on 490,000 new cases and 2,000 runs of calls; SEED=N runs a seed again
 differential: target/c99/driver $(BINARY)
 	@for of in $(foreach kind,$(KINDS),$(kind):$(COUNT_$(kind))); do \
 	    echo "differential run: seed $(SEED), $${of#*:} $${of%:*}"; \
@@ -180,7 +187,7 @@ soak: target/c99/driver $(BINARY)
 
 # After how many cases each deliberate fault of the independent program shows; what the cases are made of.
 COUNT_mutants := 100000
-#: mutants            whether 579 deliberate faults would be noticed, and after how many cases
+#: mutants            whether 664 deliberate faults would be noticed, and after how many cases
 mutants: $(BINARY)
 	@echo "mutants: seed $(SEED)"
 	$(BINARY) mutants --seed $(SEED) --count $(COUNT_mutants)
@@ -192,6 +199,7 @@ stats: $(BINARY)
 	$(BINARY) stats --kind vectors --seed $(SEED) --count $(COUNT_vectors)
 	$(BINARY) stats --kind calls --seed $(SEED) --count $(COUNT_calls)
 	$(BINARY) stats --kind reports --seed $(SEED) --count $(COUNT_reports)
+	$(BINARY) stats --kind moves --seed $(SEED) --count $(COUNT_moves)
 
 # The definitions beside the independent program: antt computes each case, which takes seconds; 24 make a quick trial.
 COUNT_DEFINITIONS := 300
@@ -228,7 +236,7 @@ target/c/aims: tests/aims.c bench/aims.h
 	mkdir -p $(@D)
 	$(CC) -std=c99 $(STRICT) -o $@ $<
 
-target/c/texts: tests/texts.c examples/load.h
+target/c/texts: tests/texts.c tests/random-tables.h examples/load.h
 	mkdir -p $(@D)
 	$(CC) -std=c99 $(STRICT) -o $@ $<
 
@@ -267,15 +275,19 @@ target/c99/unsound: tests/unsound.c bench/requests.h $(HEADER) $(ARCHIVE)
 	mkdir -p $(@D)
 	$(X86_CC) -std=c99 $(STRICT) -o $@ $< $(ARCHIVE)
 
+target/c99/moves: tests/moves.c tests/random-tables.h bench/requests.h $(HEADER) $(ARCHIVE)
+	mkdir -p $(@D)
+	$(X86_CC) -std=c99 $(STRICT) -o $@ $< $(ARCHIVE)
+
 target/c99/month: tests/month.c bench/requests.h examples/load.h $(HEADER) $(ARCHIVE)
 	mkdir -p $(@D)
 	$(X86_CC) -std=c99 $(STRICT) -o $@ $< $(ARCHIVE)
 
-target/c99/%: examples/%.c examples/load.h examples/fault.h $(HEADER) $(ARCHIVE)
+target/c99/%: examples/%.c examples/load.h examples/fault.h examples/store.h $(HEADER) $(ARCHIVE)
 	mkdir -p $(@D)
 	$(X86_CC) -std=c99 $(STRICT) -o $@ $< $(ARCHIVE)
 
-target/cxx/%: examples/%.c examples/load.h examples/fault.h $(HEADER) $(ARCHIVE)
+target/cxx/%: examples/%.c examples/load.h examples/fault.h examples/store.h $(HEADER) $(ARCHIVE)
 	mkdir -p $(@D)
 	$(X86_CXX) $(STRICT) -o $@ -x c++ $< -x none $(ARCHIVE)
 
@@ -288,15 +300,17 @@ TUNE := -mcpu=native
 TIMED := target/native/libndushavire.a
 endif
 CHECKED := 1-short 16-short 300-short 4096-short 4096-long
+SECOND := 4096-short-2 4096-long-2
 DECIDED := 1-short 16-short 300-short 4096-short 1-tiny 16-tiny 300-tiny 4096-tiny
 REPORTED := 16-short 300-short 4096-short
-# A program's arguments: each table, its profile file and how its names are.
+# A program's arguments: each table, its profile file and how its names are. A table is named by its records, its names and, for edition 2, 2.
 samples = $(foreach size,$(1),target/bench/$(size).table target/bench/$(size).profile $(word 2,$(subst -, ,$(size))))
 
 #: bench              times beside the aims, a minute once their parts are made; a missed aim is marked
-bench: $(addprefix target/bench/,check vectors decide report) $(patsubst %,target/bench/%.table,$(sort $(CHECKED) $(DECIDED)))
+bench: $(addprefix target/bench/,check vectors moves decide report) $(patsubst %,target/bench/%.table,$(sort $(CHECKED) $(SECOND) $(DECIDED)))
 	@{ $(CC) --version | head -n 1; \
-	   target/bench/check $(call samples,$(CHECKED)); \
+	   target/bench/check $(call samples,$(CHECKED) $(SECOND)); \
+	   target/bench/moves $(call samples,$(CHECKED)); \
 	   target/bench/vectors $(call samples,$(CHECKED)); \
 	   target/bench/decide $(call samples,$(DECIDED)); \
 	   target/bench/report $(call samples,$(REPORTED)); } | tee target/bench/figures
@@ -328,7 +342,7 @@ target/bench/check target/bench/vectors: target/bench/%: bench/%.c $(TIMER) $(SU
 target/bench/decide: bench/decide.c $(TIMER)
 	$(CC) -std=c99 $(STRICT) -o $@ $< $(TIMED) target/bench/libreference_c.a -lpthread -ldl -lm
 
-target/bench/report: bench/report.c $(TIMER)
+target/bench/report target/bench/moves: target/bench/%: bench/%.c $(TIMER)
 	$(CC) -std=c99 $(STRICT) -o $@ $< $(TIMED)
 
 target/c99/stack: bench/stack.c bench/requests.h bench/samples.h bench/vectors.h examples/load.h $(HEADER) $(ARCHIVE)

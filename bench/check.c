@@ -1,4 +1,4 @@
-/* check TABLE PROFILE NAMES ..: times the proved table check on each table, beside a bare sum of the same words in C
+/* check TABLE PROFILE NAMES ..: times the proved table check on each table, of either edition, beside a bare sum of the same words in C
  * and the reference's check in Rust. */
 #define _POSIX_C_SOURCE 199309L
 #include <string.h>
@@ -46,15 +46,15 @@ static int measure(const Sample *s) {
     double t[SUBJECTS];
     medians(subject, SUBJECTS, s, t);
     const Aim aim = s->records != NDUSHAVIRE_RECORDS_MAX ? NONE : strcmp(s->names, "long") == 0 ? LONG_AIM : SHORT_AIM;
-    printf("%7lu  %-5s %8.2f %8.2f %11.2f %8.2f %9.2f %11.2f  %-14s %6.2f\n", (unsigned long)s->records, s->names,
-           t[PROVED], t[PLAIN], t[NATIVE], t[RUST], t[PROVED] / t[PLAIN], t[PROVED] / t[NATIVE], judged(aim, t[PROVED] / t[NATIVE]),
-           t[PROVED] / t[RUST]);
+    printf("%7lu  %-5s %7u %8.2f %8.2f %11.2f %8.2f %9.2f %11.2f  %-14s %6.2f\n", (unsigned long)s->records, s->names,
+           (unsigned)ndushavire_edition(s->table), t[PROVED], t[PLAIN], t[NATIVE], t[RUST], t[PROVED] / t[PLAIN], t[PROVED] / t[NATIVE],
+           judged(aim, t[PROVED] / t[NATIVE]), t[PROVED] / t[RUST]);
     return 1;
 }
 
 int main(int argc, char **argv) {
     return each_sample(argc, argv,
                        "table check: microseconds, medians; then the proved check as a multiple of each other\n"
-                       "records  names   proved  sum -O3  sum native     Rust  /sum -O3 /sum native  aim             /Rust\n",
+                       "records  names edition   proved  sum -O3  sum native     Rust  /sum -O3 /sum native  aim             /Rust\n",
                        measure);
 }

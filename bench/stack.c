@@ -32,6 +32,10 @@ static void report(void) {
                              sizeof answer, numbers, sizeof numbers);
 }
 
+/* Back gives the table that forward was lent, for the calls behind. */
+static void forward(void) { word = ndushavire_forward(s->table, s->table_len, s->profile, s->profile_len, 7); }
+static void back(void) { word = ndushavire_back(s->table, s->table_len, s->profile, s->profile_len); }
+
 /* How many bytes of the stack a call alters. */
 static size_t depth(void (*call)(void)) {
     static uint8_t stack[STACK];
@@ -86,6 +90,9 @@ static int measure_all(const uint8_t *registered) {
     month_len = 0;
     int passes = within(check, "check");
     passes &= within(check_vectors, "vector check");
+    passes &= within(forward, "move forward");
+    passes &= within(check, "check, 2nd");
+    passes &= within(back, "move back");
     if (strcmp(s->names, "tiny") == 0) {
         ask_assignment(&request, s->table, s->records, registered, 6, 1);
         passes &= decides("removal of 1");

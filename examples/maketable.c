@@ -1,4 +1,5 @@
-/* maketable table TEXT, maketable profile TEXT: the table that a text describes, or its profile file, on standard output.
+/* maketable table TEXT, maketable profile TEXT: the table that a text describes, or its profile file, on standard output. A text
+ * with an issue number makes a table of edition 2, every other one of edition 1.
  * maketable vectors TEXT: the vector file that a text describes, which is another text.
  * It writes no file. Never send its output over a file in use, as with `> table`: the shell empties that file before
  * this program has read a line. Send it into a new one, check that and switch; tablecheck(1) and ndushavire-check(1) show how.
@@ -41,7 +42,7 @@ typedef struct {
     size_t line;
     Name public_identity, private_identity, server;
     Part profile;
-    unsigned state, pending, barred, services, roaming;
+    unsigned state, pending, barred, services, roaming, set;
     Capabilities mandatory, optional;
 } Record;
 
@@ -56,7 +57,8 @@ typedef struct {
 
 static struct {
     Name host, realm, network[NETWORKS];
-    unsigned keep, networks;
+    unsigned keep, networks, edition;
+    uint32_t issue;
 } header;
 
 static Record records[RECORDS];
@@ -86,8 +88,8 @@ static void *got(void *memory) {
 /* ---- the text's words */
 
 typedef enum {
-    HOST, REALM, KEEP, NETWORK,
-    PUBLIC, PRIVATE, STATE, PENDING, BARRED, SERVICES, ROAMING, MANDATORY, OPTIONAL, SERVER, PROFILE,
+    HOST, REALM, KEEP, ISSUE, NETWORK,
+    PUBLIC, PRIVATE, SET, STATE, PENDING, BARRED, SERVICES, ROAMING, MANDATORY, OPTIONAL, SERVER, PROFILE,
     PROFILE_AT, UNUSED,
     RAND, AUTN, XRES, CONFIDENTIALITY, INTEGRITY, USED,
     KEYS
@@ -101,9 +103,11 @@ static const struct {
     [HOST] = {"host", 0, 0, 1, 64},
     [REALM] = {"realm", 0, 0, 1, 64},
     [KEEP] = {"keep", 0, 0, 0, 4096},
+    [ISSUE] = {"issue", 0, 0, 0, 4096},
     [NETWORK] = {"network", 0, 1, 1, 31},
     [PUBLIC] = {"public", 0, 0, 1, 128},
     [PRIVATE] = {"private", 0, 0, 1, 128},
+    [SET] = {"set", 0, 0, 0, 4096},
     [STATE] = {"state", 0, 0, 0, 4096},
     [PENDING] = {"pending", 1, 0, 0, 0},
     [BARRED] = {"barred", 1, 0, 0, 0},
@@ -240,13 +244,15 @@ static uint64_t digits(const uint8_t **at, const uint8_t *end, uint64_t most) {
     return number;
 }
 
-static uint64_t place(const Word *word) {
+/* A value that is one number. */
+static uint64_t number_of(const Word *word, uint64_t most, const char *what) {
     const uint8_t *at = word->value.bytes, *end = at + word->value.length;
-    const uint64_t number = digits(&at, end, PLACE_MOST);
-    if (at == word->value.bytes || at < end || number > PLACE_MOST)
-        refuse(word->line, "%s is a place in the profile file", keys[word->key].name);
-    return number;
+    const uint64_t found = digits(&at, end, most);
+    if (at == word->value.bytes || at < end || found > most) refuse(word->line, "%s is a %s", keys[word->key].name, what);
+    return found;
 }
+
+static uint64_t place(const Word *word) { return number_of(word, PLACE_MOST, "place in the profile file"); }
 
 static Capabilities capabilities(const Word *word) {
     Capabilities found = {{0}, 0};
@@ -285,6 +291,10 @@ static void header_word(const Word *word) {
     case HOST: header.host = word->value; break;
     case REALM: header.realm = word->value; break;
     case KEEP: header.keep = choice(word, keeps, 2); break;
+    case ISSUE:
+        header.edition = 2;
+        header.issue = (uint32_t)number_of(word, UINT32_MAX, "number of up to 32 bits");
+        break;
     case NETWORK:
         if (find_network(word->value) < header.networks) refuse(word->line, "two networks are alike");
         if (header.networks == NETWORKS) refuse(word->line, "there are more than %d networks", NETWORKS);
@@ -299,6 +309,10 @@ static void record_word(Record *record, const Word *word) {
     switch (word->key) {
     case PUBLIC: record->public_identity = word->value; break;
     case PRIVATE: record->private_identity = word->value; break;
+    case SET:
+        record->set = (unsigned)number_of(word, UINT16_MAX, "number of up to 16 bits");
+        if (record->set != 0 && header.edition == 1) refuse(word->line, "a set wants an issue in the header");
+        break;
     case STATE: record->state = choice(word, states, 3); break;
     case PENDING: record->pending = 1; break;
     case BARRED: record->barred = 1; break;
@@ -346,6 +360,7 @@ static void want(unsigned seen, Key key, size_t line) {
 static Word read_header(Text *text, Word word) {
     const size_t line = word.line;
     unsigned seen = 0;
+    header.edition = 1;
     for (; word.kind == WORD; word = next_word(text)) {
         note(&seen, &word);
         header_word(&word);
@@ -548,7 +563,7 @@ static void seal(uint8_t *block) {
 
 static void put_header(uint8_t *block) {
     block[0] = 1;
-    block[1] = 1;
+    block[1] = (uint8_t)header.edition;
     put_word(block + 8, (uint32_t)count);
     block[12] = (uint8_t)header.keep;
     block[13] = (uint8_t)header.host.length;
@@ -560,12 +575,13 @@ static void put_header(uint8_t *block) {
         block[144 + 32 * i] = (uint8_t)header.network[i].length;
         put_name(block + 145 + 32 * i, header.network[i]);
     }
+    put_word(block + 408, header.issue);
     seal(block);
 }
 
 static void put_record(uint8_t *block, const Record *record, uint32_t number) {
     block[0] = 2;
-    block[1] = 1;
+    block[1] = (uint8_t)header.edition;
     put_word(block + 4, number);
     block[8] = (uint8_t)record->state;
     block[9] = (uint8_t)(record->pending | record->barred << 1 | record->services << 2);
@@ -585,6 +601,9 @@ static void put_record(uint8_t *block, const Record *record, uint32_t number) {
     put_word(block + 400, (uint32_t)record->profile.start);
     block[404] = (uint8_t)(record->profile.bytes.length >> 8);
     block[405] = (uint8_t)record->profile.bytes.length;
+    block[406] = (uint8_t)(record->set >> 8);
+    block[407] = (uint8_t)record->set;
+    put_word(block + 408, header.issue);
     seal(block);
 }
 

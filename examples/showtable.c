@@ -1,6 +1,6 @@
 /* showtable TABLE PROFILE: a table and its profile file as the text that maketable reads, on standard output. maketable makes
  * the same two files of it again, byte for byte, so a line can be edited and the next table made with nothing lost:
- * states, names of servers and whatever bytes a name or a profile has.
+ * states, names of servers and whatever bytes a name or a profile has. Of a table of edition 2 the text has the issue and the sets.
  * showtable --vectors VECTORS: a vector file as text, in the same way.
  * showtable --unused TABLE PROFILE VECTORS: a line for each private identity, with how many of its vectors are unused: those of
  * the table with the fewest first, and then those that have vectors and no record. A vector that stands there twice is named on
@@ -40,8 +40,13 @@ static int sound_sum(const uint8_t *block) {
 }
 
 static int sound_start(const uint8_t *block, unsigned kind, uint32_t number) {
-    return sound_sum(block) && block[0] == kind && block[1] == 1 && zeros(block, 2, 4) && number_at(block + 4) == number;
+    return sound_sum(block) && block[0] == kind && zeros(block, 2, 4) && number_at(block + 4) == number;
 }
+
+static uint32_t issue_of(const uint8_t *block) { return number_at(block + 408); }
+
+/* Edition 2 has the issue where edition 1 has zeros. */
+static int sound_end(const uint8_t *block) { return zeros(block, block[1] == 2 ? 412 : 408, BLOCK - 4); }
 
 static int sound_networks(const uint8_t *header) {
     const size_t networks = header[15];
@@ -57,23 +62,31 @@ static int sound_networks(const uint8_t *header) {
 }
 
 static int sound_header(const uint8_t *block) {
-    return sound_start(block, 1, 0) && block[12] <= 1 && sound_name(block + 16, block[13], 1, 64) &&
-           sound_name(block + 80, block[14], 1, 64) && sound_networks(block) && zeros(block, 400, BLOCK - 4);
+    return sound_start(block, 1, 0) && (block[1] == 1 || block[1] == 2) && block[12] <= 1 && sound_name(block + 16, block[13], 1, 64) &&
+           sound_name(block + 80, block[14], 1, 64) && sound_networks(block) && zeros(block, 400, 408) &&
+           sound_end(block);
 }
 
 static size_t part_length(const uint8_t *record) { return (size_t)record[404] << 8 | record[405]; }
 
 static uint64_t part_start(const uint8_t *record) { return number_at(record + 400); }
 
-static int sound_record(const uint8_t *block, uint32_t number, unsigned networks, size_t profile_len) {
+static unsigned set_of(const uint8_t *record) { return (unsigned)record[406] << 8 | record[407]; }
+
+/* A record is of its header's edition and issue, and has a set in edition 2 alone. */
+static int sound_edition(const uint8_t *header, const uint8_t *record) {
+    return record[1] == header[1] && issue_of(record) == issue_of(header) && (record[1] == 2 || set_of(record) == 0) && sound_end(record);
+}
+
+static int sound_record(const uint8_t *block, uint32_t number, const uint8_t *header, size_t profile_len) {
     const unsigned state = block[8], bits = block[9], mandatory = block[11], optional = block[12];
     const int pending = bits & 1;
-    return sound_start(block, 2, number) && state <= 2 && bits <= 7 && block[10] >> networks == 0 &&
+    return sound_start(block, 2, number) && state <= 2 && bits <= 7 && block[10] >> header[15] == 0 &&
            sound_name(block + 16, block[13], 1, 128) && sound_name(block + 144, block[14], 1, 128) &&
            sound_name(block + 272, block[15], 0, 96) && (block[15] > 0) == (state > 0 || pending) &&
            mandatory <= CAPABILITIES && zeros(block, 368 + 4 * mandatory, 384) &&
            optional <= CAPABILITIES && zeros(block, 384 + 4 * optional, 400) &&
-           part_length(block) <= PART && part_start(block) + part_length(block) <= profile_len && zeros(block, 406, BLOCK - 4);
+           part_length(block) <= PART && part_start(block) + part_length(block) <= profile_len && sound_edition(header, block);
 }
 
 /* Whether a record's public identity is greater than that of the one before: bytewise, a prefix first. */
@@ -91,7 +104,7 @@ static int sound_table(const uint8_t *table, size_t table_len, size_t profile_le
     if (count > RECORDS || table_len != BLOCK * (count + 1) || !sound_header(table)) return 0;
     for (*bad = 1; *bad <= count; ++*bad) {
         const uint8_t *block = table + BLOCK * *bad;
-        if (!sound_record(block, (uint32_t)*bad, table[15], profile_len)) return 0;
+        if (!sound_record(block, (uint32_t)*bad, table, profile_len)) return 0;
         if (*bad > 1 && !rises(block - BLOCK, block)) return 0;
     }
     return 1;
@@ -161,6 +174,7 @@ static void put_header(const uint8_t *header) {
     put_name("host", header + 16, header[13]);
     put_name("realm", header + 80, header[14]);
     put_number("keep", header[12]);
+    if (header[1] == 2) put_number("issue", issue_of(header));
     new_line();
     for (size_t i = 0; i < header[15]; i++) put_name("network", header + 145 + NETWORK * i, header[144 + NETWORK * i]);
 }
@@ -170,6 +184,7 @@ static void put_record(const uint8_t *header, const uint8_t *record, const uint8
     new_paragraph();
     put_name("public", record + 16, record[13]);
     put_name("private", record + 144, record[14]);
+    if (set_of(record) != 0) put_number("set", set_of(record));
     new_line();
     if (record[8] != 0) put_name("state", (const uint8_t *)states[record[8]], strlen(states[record[8]]));
     if (record[9] & 1) put_word("pending");

@@ -42,7 +42,7 @@ static int flushed(int file) {
 /* Whether the file of that name is on disk, and its name in the folder: both are flushed. What a start reads may stand in
  * memory alone, since a daemon can be killed between rename and flush, and may not be answered from before that. A link is
  * not followed, since its file lies in another folder; neither it nor a fifo is ever settled. If not, errno says why. */
-static int settled(int folder, const char *name) {
+static inline int settled(int folder, const char *name) {
     const int file = openat(folder, name, O_RDONLY | O_NOFOLLOW | O_NONBLOCK | O_CLOEXEC);
     if (file < 0) return 0;
     const int done = flushed(file) && flushed(folder);

@@ -3,15 +3,21 @@
  * Who owns what. The caller owns every byte. All slices (request, table, profile, vectors, answer, requests, report) are lent
  * for the length of the call and none is kept: the library has no state of its own, opens no file, takes no memory and
  * starts nothing. The slices of one call must not overlap. Every pointer is non-null, also where its length is 0.
- * Only ndushavire_decide and ndushavire_report write: to the answer, the table and the vectors, and the second to its report.
- * What must outlive the process is for the caller to store.
+ * Only ndushavire_decide and ndushavire_report write, to the answer, the table and the vectors, and the second to its report; and
+ * ndushavire_forward and ndushavire_back, to their table. What must outlive the process is for the caller to store.
  *
  * Threads. A call is reentrant; it sets no errno and raises no signal. Calls on different tables and vectors may run at
- * once and share one profile. While ndushavire_decide or ndushavire_report runs, no one else may read or write its table, its
- * vectors, its answer or its report. Checks of one table, or of one vector file, may run beside each other.
+ * once and share one profile. While a call runs that writes, no one else may read or write its table, its vectors, its answer
+ * or its report. Checks of one table, or of one vector file, may run beside each other.
  *
  * The profile file is what call servers are sent of each line: bytes without a structure of their own, into which the
  * table's records point. Table and profile file are a pair, made, checked and kept together.
+ *
+ * Editions. A table is of edition 1, or of edition 2, which has an issue number in every block and in each record the number
+ * of an implicit set, 0 for none. One that mixes editions or issue numbers is unsound. Every function reads both editions, and no
+ * answer depends on edition or issue; ndushavire_forward and ndushavire_back move a table from one to the other.
+ * This version reads set numbers and heeds none of them: each record is still altered by itself. A table in which some set
+ * number is not 0 waits for the version that heeds them.
  *
  * The vector file has the authentication vectors of the subscribers' cards, a block for each: of a private identity, and
  * used or not. A call that sends vectors marks their blocks as used, and no block is sent twice. It is stored before the
@@ -40,8 +46,8 @@
 extern "C" {
 #endif
 
-#define NDUSHAVIRE_VERSION "0.5.0"
-#define NDUSHAVIRE_VERSION_NUMBER 500 /* the same to compare: major x 10,000 + minor x 100 + patch */
+#define NDUSHAVIRE_VERSION "0.6.0"
+#define NDUSHAVIRE_VERSION_NUMBER 600 /* the same to compare: major x 10,000 + minor x 100 + patch */
 
 #define NDUSHAVIRE_ANSWER_ROOM 36864       /* the least answer buffer, in bytes: no answer is longer */
 #define NDUSHAVIRE_REQUEST_MIN 20          /* the shortest request, a Diameter header alone */
@@ -56,14 +62,15 @@ extern "C" {
 /* Each function returns a word. Keep it in a uint64_t: an int loses the number, and a refusal then looks like a short
  * answer. Its number is 0, or why the call was refused; a refused call has written nothing, but for number 7, which comes
  * at a report's end. Later versions add numbers: every one but 0, known or not, is a refusal. */
-#define NDUSHAVIRE_DONE 0            /* answered; of a check, sound; of a report, the requests read to their end */
+#define NDUSHAVIRE_DONE 0            /* answered; of a check, sound; of a report, the requests read to their end; of a move, moved */
 #define NDUSHAVIRE_ANSWER_SHORT 1    /* the answer buffer is under NDUSHAVIRE_ANSWER_ROOM */
 #define NDUSHAVIRE_REQUEST_SIZE 2    /* the request is under or over its limits */
 #define NDUSHAVIRE_REQUEST_LENGTH 3  /* its header's length is not its own, or no multiple of 4 */
 #define NDUSHAVIRE_NO_REQUEST 4      /* the R bit is clear */
-#define NDUSHAVIRE_TABLE_UNSOUND 5   /* the value is the first bad block */
+#define NDUSHAVIRE_TABLE_UNSOUND 5   /* the value is the first bad block; of a move, 0 for a sound table of the other edition */
 #define NDUSHAVIRE_VECTORS_UNSOUND 6 /* the value is 0; of ndushavire_check_vectors it is the first bad block */
 #define NDUSHAVIRE_REQUESTS_BROKEN 7 /* of a report, which has the numbers so far: the next request is cut off or out of step */
+#define NDUSHAVIRE_TABLE_HAS_SETS 8  /* of the move back: the value is the first block whose set number is not 0 */
 #define NDUSHAVIRE_OUTPUT_SHORT 15   /* the report area is under NDUSHAVIRE_REPORT_ROOM */
 
 /* Answers one request, rewrites the records that it changes, and marks the vectors that it sends. The word's value is the
@@ -94,6 +101,20 @@ uint64_t ndushavire_report(const uint8_t *requests, size_t requests_len, uint8_t
                            const uint8_t *profile, size_t profile_len, uint8_t *vectors, size_t vectors_len,
                            uint8_t *answer, size_t answer_len, uint8_t *report, size_t report_len);
 
+/* Moves a sound table of edition 1 to edition 2, in place: every block gets the edition, the issue number, which is any, and its new
+ * check word; every set number is 0. Nothing else of it changes, and every request gets the answer that it got.
+ * The word's number is 0 and its value the record count; or 5 and the first bad block, which is 0 for a sound table of edition 2, and
+ * then nothing was written.
+ * A move is made on a copy of the table, which then replaces it whole: a power cut within a move of the stored table would leave
+ * one that mixes editions. */
+uint64_t ndushavire_forward(uint8_t *table, size_t table_len, const uint8_t *profile, size_t profile_len, uint32_t issue);
+
+/* Moves a sound table of edition 2 in which every set number is 0 to edition 1, on a copy like the other: the issue number is gone.
+ * There and back gives the first bytes again, and so does back and there with the same issue number.
+ * The word's number is 0 and its value the record count; or 5 and the first bad block, which is 0 for a sound table of edition 1; or
+ * 8 and the first block whose set number is not 0. Under 5 and 8 nothing was written. */
+uint64_t ndushavire_back(uint8_t *table, size_t table_len, const uint8_t *profile, size_t profile_len);
+
 /* The words of a report, each a number of 64 bits, big-endian. Every request read is counted once: an answered one by its
  * command and its result, a refused one by the refusal. So the answered and the refused ones add up to those read, and the
  * rows' totals to the answered ones. */
@@ -121,7 +142,7 @@ static inline uint32_t ndushavire_number(uint64_t word) { return (uint32_t)(word
  * examples/fault.h prints them. Of a fault within a group it is the group's place. Under B5014 the AVP before it may be the one
  * whose length is wrong.
  * It is 0 where no AVP of the request is at fault: under header faults, B5005, X results, whatever a decision says (B5003,
- * B5012, the B5009 of a SAR's second identity), success; under every refusal; of both checks, and of a report. */
+ * B5012, the B5009 of a SAR's second identity), success; under every refusal; of both checks, of both moves, and of a report. */
 static inline uint32_t ndushavire_place(uint64_t word) { return (uint32_t)(word >> 32) & 0xFFFFu; }
 
 /* The answer's length is this part alone: the word of an answer with a place is a far greater number. */
@@ -132,6 +153,15 @@ static inline int ndushavire_answered(uint64_t word) { return ndushavire_number(
 
 /* Of ndushavire_check and ndushavire_check_vectors: whether the file is sound. */
 static inline int ndushavire_sound(uint64_t word) { return ndushavire_number(word) == NDUSHAVIRE_DONE; }
+
+/* Of ndushavire_forward and ndushavire_back: whether the table was moved. */
+static inline int ndushavire_moved(uint64_t word) { return ndushavire_number(word) == NDUSHAVIRE_DONE; }
+
+/* Of a sound table: its edition, 1 or 2, and its issue number, which is 0 in edition 1. */
+static inline uint32_t ndushavire_edition(const uint8_t *table) { return table[1]; }
+static inline uint32_t ndushavire_issue(const uint8_t *table) {
+    return (uint32_t)table[408] << 24 | (uint32_t)table[409] << 16 | (uint32_t)table[410] << 8 | table[411];
+}
 
 /* A word of a report, by its number from 0. */
 static inline uint64_t ndushavire_report_word(const uint8_t *report, uint32_t word) {

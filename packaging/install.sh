@@ -49,7 +49,7 @@ list_files() { # ARCHIVE PROGRAM..
     for file in examples/* "${requests[@]}"; do goes "$file" "$docdir/examples/${file##*/}" 644; done
     for file in "${@:2}"; do
         name=${file##*/}
-        case $name in check | report) name=ndushavire-$name ;; esac
+        case $name in check | move | report) name=ndushavire-$name ;; esac
         goes "$file" "$bindir/$name" 755
     done
 }
@@ -95,7 +95,7 @@ install_all() { # ARCHIVE PROGRAM..
         noted file "${places[i]}"
         install -m "${modes[i]}" "${sources[i]}" "$below${places[i]}"
     done
-    for i in check check_vectors decide report; do
+    for i in back check check_vectors decide forward report; do
         noted file "$mandir/man3/ndushavire_$i.3"
         ln -sf ndushavire.3 "$below$mandir/man3/ndushavire_$i.3"
     done

@@ -4,9 +4,9 @@
 Both are the independent program's: it makes the cases and says their outcomes. Chosen are small cases: for each of its deliberate
 faults one that shows it; of each result one, and then more: a refusal with what it returns besides; a command with its result; of a
 SAR past the reading rules also its type, and where it succeeds or meets a wrong state also keep, the state and whether it names many
-identities; of a MAR that succeeds the state and whether the record changes; of a report how it ends and what it counts. After them stand the
-requests of real software in captured/, each over the table and the vectors that their heads describe. Nothing here is random: a second run
-writes the same bytes."""
+identities; of a MAR that succeeds the state and whether the record changes; of a report how it ends and what it counts; of all the table's
+edition. After them stand the requests of real software in captured/, each over the table and the vectors that their heads describe. Nothing
+here is random: a second run writes the same bytes."""
 import collections, pathlib, struct, sys
 
 import streams
@@ -30,6 +30,12 @@ def month(case, outcome):
     words = struct.unpack('>145Q', streams.after(case, outcome, 'report')[:1160])
     changed = tuple(streams.changes(case, outcome)[name][1] != b'' for name in ('table', 'vectors'))
     return (4, outcome.word, tuple(map(bool, words[5:20])), changed), tuple(any(words[at:at + 25]) for at in range(20, 145, 25))
+
+
+def edition(case):
+    """Byte 1 of its table, if that is one of the two editions."""
+    said = streams.slices(case).get('table', b'')[1:2]
+    return said if said in (b'\1', b'\2') else b''
 
 
 def row(case, outcome):
@@ -81,7 +87,7 @@ def small(case):
 def fitting(reference):
     """Cases that fit, the smallest first."""
     found = []
-    few = [(kind, (1,), 4000) for kind in ('tables', 'vectors', 'reports')]
+    few = [(kind, (1,), 4000) for kind in ('tables', 'vectors', 'reports', 'moves')]
     for kind, seeds, count in (*few, ('calls', range(1, 6), 20000)):
         for seed in seeds:
             found += [case for case in streams.cases(made(reference, kind, seed, count)) if fits(case)]
@@ -112,17 +118,19 @@ def telling(reference, found, told):
 
 
 def chosen(reference):
-    """The smallest case for each result and for each fault, then for each result with what the answer carries, and more while there is room."""
+    """The smallest case for each fault and for each result, then for each result over each edition, then with what the answer carries, and
+    more while there is room."""
     found = fitting(reference)
     told = list(outcomes(run(reference, 'outcomes', given=b''.join(case.whole for case in found))))
-    results, rows = collections.defaultdict(list), collections.defaultdict(list)
+    results, editions, rows = (collections.defaultdict(list) for _ in range(3))
     for case, outcome in zip(found, told):
         if small(case):
             result, carried = row(case, outcome)
             results[result].append(case.whole)
-            rows[result, carried].append(case.whole)
+            editions[result, edition(case)].append(case.whole)
+            rows[result, carried, edition(case)].append(case.whole)
     taken, left = {}, MOST
-    for groups in telling(reference, found, told), results.values(), rows.values(), (group[1:] for group in rows.values()):
+    for groups in telling(reference, found, told), results.values(), editions.values(), rows.values(), (group[1:] for group in rows.values()):
         for group in groups:
             case = group[0] if group else None
             if case and case not in taken and len(case) <= left:

@@ -53,7 +53,7 @@ export PKG_CONFIG_PATH=$prefix/lib/pkgconfig
 sed -n '/^## Try it/,/^## /s/^    \$ //p' "$readme" >"$room/commands"
 [ "$(wc -l <"$room/commands")" -ge 8 ] || fail 'the README has no trial'
 cc=$*
-sed -e "s|PREFIX|$prefix|" -e "s|^cc \(.*pkg-config\)|$cc \1|" -e "s#^\./\(decide\|report\)#${RUN:-} ./\1#" "$room/commands" >"$room/trial.sh"
+sed -e "s|PREFIX|$prefix|" -e "s|^cc \(.*pkg-config\)|$cc \1|" -e "s#^\./\(decide\|move\|report\)#${RUN:-} ./\1#" "$room/commands" >"$room/trial.sh"
 (cd "$room/trial" && bash -euo pipefail ../trial.sh) >"$room/said" || fail 'the trial in the README fails'
 grep -q -x 'answered, 168 bytes' "$room/said" || fail 'the trial gives another answer'
 grep -q -x 'vector block 5 used' "$room/said" || fail 'the trial uses no vector'
@@ -63,4 +63,6 @@ report=$(sed -n '/^    \$ \.\/report/,/^    \$ /{/^    \$ /d; s/^    //p; /^$/p}
 [ -n "$report" ] && [[ $(cat "$room/said") = *"$report"* ]] || fail 'the trial reports other numbers'
 grep -q -x 'public=sip:erin@isle private=erin@isle' "$room/said" || fail 'the trial shows no table'
 grep -q -x '3 unused, 0 used, private=erin@isle' "$room/said" || fail 'the trial counts no vectors'
+moved=$(sed -n 's/^    \(moved to edition .*\)/\1/p' "$readme")
+[ -n "$moved" ] && [ "$(tail -n 2 "$room/said")" = "$moved" ] || fail 'the trial moves no table'
 echo "cited.sh: $cited citations of installed things, and the README's trial"

@@ -2,7 +2,7 @@
 """definitions.py REFERENCE SEED COUNT: do the definitions say what the independent program says?
 
 Takes calls that the independent program made and its outcomes of them, picks COUNT that show every refusal, every result,
-every assignment type and every step of an authentication, and writes them as a crate with one statement, which antt computes from the definitions alone.
+every assignment type, every step of an authentication and both editions, and writes them as a crate with one statement, which antt computes from the definitions alone.
 The crate stands in a folder outside the repository, beside copies of the crates that crates/worked stands on. What the
 cases open is read from crates/worked/proofs/Sample.antt, so that there is one list of it.
 """
@@ -22,7 +22,7 @@ STEPS = ['X5001', 'X5002', 'X5006', 'B5012 zero asked', 'B5012 none unused', 'B2
 STEPS += ['B2001 in state %d, %s' % (state, name) for state in range(3) for name in ('the name stored', 'the record as it was')]
 STEPS += ['B5005 %d' % code for code in (1, 601, 612, 607, 602)] + ['B5004 612', 'B5014 607']
 WANTED = {'refused %d' % n for n in range(1, 7)} | {'B' + n for n in BASE.split()} | {'X' + n for n in EXPERIMENTAL.split()} | {
-    'type %d done' % n for n in range(12)} | {'MAR ' + step for step in STEPS}
+    'type %d done' % n for n in range(12)} | {'MAR ' + step for step in STEPS} | {'over edition 1', 'over edition 2'}
 
 Case = collections.namedtuple('Case', 'request table profile vectors room word at changed vectorsAt vectorsChanged answer')
 
@@ -65,7 +65,7 @@ def shows(case):
     found = dict(streams.avps(case.answer[20:]))
     result = 'B%d' % struct.unpack('>I', found[268, 0]) if (268, 0) in found else 'X%d' % struct.unpack('>I', found[297, 0][20:24])
     command = int.from_bytes(case.request[5:8], 'big')
-    shown = {result}
+    shown = {result, 'over edition %d' % case.table[1]}
     if command == 301 and (result[0] == 'X' or result in ('B2001', 'B5012')):  # decided, so all AVPs are sound
         done = 'done' if result in ('B2001', 'X2004') else result
         shown.add('type %d %s' % (asked(case)[614, 10415][3], done))

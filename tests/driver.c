@@ -58,6 +58,16 @@ static uint64_t report(const struct lent *lent)
     return ndushavire_report(SLICE(0), SLICE(1), SLICE(2), SLICE(3), SLICE(4), SLICE(5));
 }
 
+static uint64_t forward(const struct lent *lent)
+{
+    return ndushavire_forward(SLICE(0), SLICE(1), lent->number[0]);
+}
+
+static uint64_t back(const struct lent *lent)
+{
+    return ndushavire_back(SLICE(0), SLICE(1));
+}
+
 /* The entries by their number in the streams, from 1 on: a letter for each slice, r if it is lent to be read and w if
  * the entry may write to it; how many numbers; the call. */
 static const struct entry {
@@ -69,6 +79,8 @@ static const struct entry {
     {"rwrww", 0, decide},
     {"r", 0, check_vectors},
     {"rwrwww", 0, report},
+    {"wr", 1, forward},
+    {"wr", 0, back},
 };
 
 struct bytes {

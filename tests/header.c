@@ -1,5 +1,5 @@
 /* header: what ndushavire.h says by itself, in C and in C++, without the archive: its version in both forms, its limits, the
- * parts of a word, the words of a report. Exit status: 0 all as it should be, 1 not so. */
+ * parts of a word, the words of a report, a table's edition and issue. Exit status: 0 all as it should be, 1 not so. */
 #include <stdio.h>
 
 #include <ndushavire.h>
@@ -37,6 +37,15 @@ static void report_holds(void) {
           "the results of a report");
 }
 
+/* Edition and issue are read where they stand, and nothing else is. */
+static void table_holds(void) {
+    uint8_t header[NDUSHAVIRE_BLOCK];
+    for (size_t at = 0; at < sizeof header; at++) header[at] = (uint8_t)(0xFF - at % 8);
+    header[1] = 2;
+    header[408] = 0x89, header[409] = 0xAB, header[410] = 0xCD, header[411] = 0xEF;
+    holds(ndushavire_edition(header) == 2 && ndushavire_issue(header) == 0x89ABCDEFu, "a table's edition and issue");
+}
+
 int main(void) {
     unsigned major, minor, patch;
     char rest;
@@ -46,13 +55,17 @@ int main(void) {
     holds(NDUSHAVIRE_TABLE_MAX == NDUSHAVIRE_BLOCK * (NDUSHAVIRE_RECORDS_MAX + 1),
           "NDUSHAVIRE_TABLE_MAX is not the header and the most records");
     holds(NDUSHAVIRE_VECTOR_FILE_MAX == NDUSHAVIRE_BLOCK * NDUSHAVIRE_VECTORS_MAX, "NDUSHAVIRE_VECTOR_FILE_MAX is not the most vectors");
-#if NDUSHAVIRE_VERSION_NUMBER < 400 || NDUSHAVIRE_TABLE_MAX < 2 || NDUSHAVIRE_VECTOR_FILE_MAX < 2 || NDUSHAVIRE_REPORT_ROOM != 1160 || \
-    NDUSHAVIRE_VECTORS_UNSOUND != 6 || NDUSHAVIRE_REQUESTS_BROKEN != 7 || NDUSHAVIRE_OUTPUT_SHORT != 15
+#if NDUSHAVIRE_VERSION_NUMBER < 600 || NDUSHAVIRE_TABLE_MAX < 2 || NDUSHAVIRE_VECTOR_FILE_MAX < 2 || NDUSHAVIRE_REPORT_ROOM != 1160 || \
+    NDUSHAVIRE_VECTORS_UNSOUND != 6 || NDUSHAVIRE_REQUESTS_BROKEN != 7 || NDUSHAVIRE_TABLE_HAS_SETS != 8 || \
+    NDUSHAVIRE_OUTPUT_SHORT != 15
     holds(0, "a number is no number to the preprocessor");
 #endif
     const uint64_t word = (uint64_t)5 << 48 | (uint64_t)0xFFFF << 32 | 0x89ABCDEFu;
     holds(ndushavire_number(word) == 5 && ndushavire_place(word) == 0xFFFF && ndushavire_value(word) == 0x89ABCDEFu, "a word's parts");
-    holds(!ndushavire_answered(word) && !ndushavire_sound(word), "a refusal taken for an answer");
+    holds(!ndushavire_answered(word) && !ndushavire_sound(word) && !ndushavire_moved(word), "a refusal taken for an answer");
+    const uint64_t has_sets = (uint64_t)NDUSHAVIRE_TABLE_HAS_SETS << 48 | NDUSHAVIRE_RECORDS_MAX;
+    holds(!ndushavire_moved(has_sets) && ndushavire_value(has_sets) == 4096 && ndushavire_place(has_sets) == 0, "a move refused for a set");
+    holds(ndushavire_moved(NDUSHAVIRE_RECORDS_MAX) && ndushavire_moved(0), "a move taken for a refusal");
     holds(!ndushavire_answered((uint64_t)0xFFFF << 48), "a number that is not known taken for an answer");
     const uint64_t faulty = (uint64_t)(NDUSHAVIRE_REQUEST_MAX - 4) << 32 | NDUSHAVIRE_ANSWER_ROOM; /* the last place that there is */
     holds(ndushavire_answered(faulty) && ndushavire_place(faulty) == 16380 && ndushavire_value(faulty) == NDUSHAVIRE_ANSWER_ROOM,
@@ -60,6 +73,7 @@ int main(void) {
     holds(ndushavire_place(NDUSHAVIRE_ANSWER_ROOM) == 0, "a place where there is none");
     holds(ndushavire_answered(NDUSHAVIRE_ANSWER_ROOM) && ndushavire_sound(NDUSHAVIRE_RECORDS_MAX), "an answer taken for a refusal");
     report_holds();
+    table_holds();
     if (!wrong) printf("header: version %s, and the numbers of ndushavire.h agree\n", NDUSHAVIRE_VERSION);
     return wrong;
 }

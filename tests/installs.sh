@@ -19,7 +19,7 @@ fail() {
 }
 command -v pkg-config >/dev/null || fail 'pkg-config is missing (Debian: pkg-config)'
 case $(uname -m) in
-x86_64) programs=(bin/answer bin/ndushavire-check bin/ndushavire-report bin/tablecheck) ;;
+x86_64) programs=(bin/answer bin/ndushavire-check bin/ndushavire-move bin/ndushavire-report bin/tablecheck) ;;
 *) programs=() ;;
 esac
 version=$(sed -n 's/^#define NDUSHAVIRE_VERSION "\(.*\)"$/\1/p' "$top/include/ndushavire.h")
@@ -28,12 +28,13 @@ quiet() { make -s -C "$top" "$@"; }
 # What should be there under a prefix; of documents, pages and examples whatever the tree has.
 {
     printf '%s\n' "${programs[@]}" include/ndushavire.h lib/libndushavire.a lib/pkgconfig/ndushavire.pc \
-        share/man/man3/ndushavire_{check,check_vectors,decide,report}.3 share/doc/ndushavire/{README.md,installed}
+        share/man/man3/ndushavire_{back,check,check_vectors,decide,forward,report}.3 share/doc/ndushavire/{README.md,installed}
     (cd "$top" && printf 'share/doc/ndushavire/%s\n' docs/*.md | sed 's|/docs/|/|')
     (cd "$top" && printf 'share/doc/ndushavire/%s\n' examples/* examples/{icscf-20-lir,scscf-12-sar,mar-33,mar-16}.hex)
     (cd "$top" && printf '%s\n' man/* | sed 's|^man/\(.*\)\.\(.\)$|share/man/man\2/\1.\2|')
 } | sed '/^$/d' | sort >"$room/expected"
-for name in share/man/man1/{answer,tablecheck,ndushavire-check,ndushavire-report}.1 share/man/man3/ndushavire.3 share/doc/ndushavire/examples/store.h; do
+for name in share/man/man1/{answer,tablecheck,ndushavire-check,ndushavire-move,ndushavire-report}.1 share/man/man3/ndushavire.3 \
+    share/doc/ndushavire/examples/{move.c,store.h}; do
     grep -q -x -F "$name" "$room/expected" || fail "the tree has no $name"
 done
 files_in() { (cd "$1" && find . ! -type d | sed 's|^\./||' | LC_ALL=C sort); }
@@ -91,10 +92,10 @@ uninstalled "$room/package/man" "PREFIX=$odd" DESTDIR=
 
 # The programs have their names and may be run, on whichever machine.
 mkdir "$room/made"
-touch "$room/made/check" "$room/made/report" "$room/made/answer"
-PREFIX=$room/named DESTDIR='' "$top/packaging/install.sh" install "$top/target/staticlib/libndushavire.a" "$room/made/"{check,report,answer}
-[ -x "$room/named/bin/ndushavire-check" ] && [ -x "$room/named/bin/ndushavire-report" ] && [ -x "$room/named/bin/answer" ] &&
-    [ "$(find "$room/named/bin" -type f | wc -l)" = 3 ] || fail 'other programs than the three given'
+touch "$room/made/"{check,move,report,answer}
+PREFIX=$room/named DESTDIR='' "$top/packaging/install.sh" install "$top/target/staticlib/libndushavire.a" "$room/made/"{check,move,report,answer}
+for name in answer ndushavire-{check,move,report}; do [ -x "$room/named/bin/$name" ] || fail "there is no $name to be run"; done
+[ "$(find "$room/named/bin" -type f | wc -l)" = 4 ] || fail 'other programs than the four given'
 uninstalled "$room/named" "PREFIX=$room/named" DESTDIR=
 
 # What is refused alters nothing: neither the tree nor what is installed.
@@ -150,6 +151,8 @@ if [ ${#programs[@]} -gt 0 ]; then
     says "$room/prefix/bin/ndushavire-check" table profile vectors
     [ "$("$room/prefix/bin/ndushavire-report" table profile vectors /dev/null | tail -n 1)" = 'the file was read to its end, 0 bytes' ] ||
         fail 'ndushavire-report does not read a file of no requests'
+    [ "$("$room/prefix/bin/ndushavire-move" forward 7 table profile moved)" = 'moved to edition 2, 9 records, issue 7' ] && [ -f moved ] ||
+        fail 'ndushavire-move does not move the sample'
     refused=$(head -c 19 /dev/zero | "$room/prefix/bin/answer")
     [ "$refused" = 'refused 2' ] || fail "answer says '$refused' of 19 bytes"
 fi

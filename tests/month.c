@@ -1,7 +1,7 @@
 /* month TABLE PROFILE VECTORS SEED COUNT: the report beside as many decisions. COUNT files of random requests about the table's lines, laid
  * end to end, of which some end in a broken one: the report returns and counts what calls of ndushavire_decide in turn return and answer, and leaves
- * their table, vectors and answer buffer; bytes behind each slice stay. Some lend a short answer buffer, an unsound table or vector file, a
- * longer report area, or one that is too short, under which nothing may be written.
+ * their table, vectors and answer buffer; bytes behind each slice stay. Some lend a table of edition 2, a short answer buffer, an unsound table
+ * or vector file, a longer report area, or one that is too short, under which nothing may be written.
  * Exit status: 0 all alike, 1 not so, or too little was tried, 2 wrong use. */
 #include <stdio.h>
 
@@ -29,7 +29,7 @@ static uint8_t *table, *profile, *vectors;
 static size_t table_len, profile_len, vectors_len;
 static uint8_t laid[LAID_MOST];
 static size_t laid_len;
-static uint64_t seen[NDUSHAVIRE_REPORT_WORDS], several, stopped, short_areas;
+static uint64_t seen[NDUSHAVIRE_REPORT_WORDS], several, stopped, short_areas, second;
 
 static const uint8_t *some_record(void) { return table + (1 + below(table_len / NDUSHAVIRE_BLOCK - 1)) * NDUSHAVIRE_BLOCK; }
 
@@ -109,6 +109,7 @@ static Lent lend(void) {
     lent.vectors_len = below(16) == 0 ? vectors_len - 1 - below(NDUSHAVIRE_BLOCK - 1) : below(16) == 0 ? 0 : vectors_len;
     lent.answer_len = NDUSHAVIRE_ANSWER_ROOM - (below(16) == 0 ? 1 + below(NDUSHAVIRE_ANSWER_ROOM) : 0);
     lent.report_len = below(8) == 0 ? below(NDUSHAVIRE_REPORT_ROOM) : NDUSHAVIRE_REPORT_ROOM + below(BEHIND);
+    if (below(4) == 0) second += ndushavire_moved(ndushavire_forward(lent.table, lent.table_len, profile, profile_len, (uint32_t)below(9)));
     return lent;
 }
 
@@ -194,15 +195,15 @@ static int alike(void) {
 }
 
 /* Whether the files had something of everything: refusals 1 to 6, some forty cells of the table, records altered, also several by one
- * request, broken ends, short areas. */
+ * request, broken ends, short areas, tables of edition 2. */
 static int enough(void) {
     int cells = 0, refusals = 0;
     for (size_t k = NDUSHAVIRE_REPORT_RESULTS; k < NDUSHAVIRE_REPORT_WORDS; k++) cells += seen[k] > 0;
     for (size_t number = 1; number <= 6; number++) refusals += seen[NDUSHAVIRE_REPORT_REFUSED + number] > 0;
-    printf("month: %lu requests, %d cells, %d refusals, %lu records altered, several by %lu requests, %lu broken ends, %lu short areas\n",
+    printf("month: %lu requests, %d cells, %d refusals, %lu records altered, several by %lu requests, %lu broken ends, %lu short areas, %lu of edition 2\n",
            (unsigned long)seen[NDUSHAVIRE_REPORT_READ], cells, refusals, (unsigned long)seen[NDUSHAVIRE_REPORT_ALTERED], (unsigned long)several,
-           (unsigned long)stopped, (unsigned long)short_areas);
-    return cells >= 40 && refusals == 6 && several > 0 && stopped > 0 && short_areas > 0;
+           (unsigned long)stopped, (unsigned long)short_areas, (unsigned long)second);
+    return cells >= 40 && refusals == 6 && several > 0 && stopped > 0 && short_areas > 0 && second > 0;
 }
 
 int main(int argc, char **argv) {

@@ -7,7 +7,7 @@ reference=$1
 driver=("${@:2}")
 tried=0
 # A fault shows once in 1,600 pairs; a run has some 25 calls.
-declare -A count=([tables]=2000 [vectors]=2000 [calls]=2000 [reports]=1000 [demand3]=8000 [runs]=50)
+declare -A count=([tables]=2000 [vectors]=2000 [calls]=2000 [reports]=1000 [moves]=2000 [demand3]=8000 [runs]=50)
 
 ends() { # STATUS KIND DRIVER..
     local status=0
@@ -16,13 +16,16 @@ ends() { # STATUS KIND DRIVER..
     tried=$((tried + 1))
 }
 
-for kind in tables vectors calls reports demand3 runs; do
+for kind in tables vectors calls reports moves demand3 runs; do
     ends 0 "$kind" "$reference" outcomes
     ends 1 "$kind" true
 done
 for of in tables:EqualIdentitiesTaken tables:PrefixTaken vectors:XresOf3Taken vectors:LastBadVectorTold calls:PendingStays calls:RestOfBufferCleared \
     calls:BaseForUserUnknown calls:UsedSentAgain calls:VectorCheckWordStays calls:PlaceNeverTold calls:SecondIdentityPlaced \
     reports:EqualRewritingsCounted reports:VectorsNotCarried reports:BrokenUndone reports:LargestWithPlace \
+    tables:IssueNotCompared tables:EarlierEditionBlamed tables:IssueOfEdition1Taken calls:RewritingLosesSet calls:Edition2NotDecided \
+    reports:Edition2NotReported moves:SetsLost moves:SetsNotTested moves:SetsBeforeSoundness moves:MoveLeavesHeaderCheckWord \
+    moves:OtherEditionBlamesFirstRecord moves:MoveReturnsZero runs:IssueStaysOnTheWayBack runs:RewritingResetsEdition \
     demand3:MarkIgnored demand3:ReservedFlagsOfUnknownIgnored demand3:FaultyRequestUsesVector demand3:PlaceWithoutUnknown \
     demand3:FirstUnknownPlaced demand3:LastMarkedPlaced runs:UsedSentAgain runs:RewritingFreesVectors; do
     ends 1 "${of%:*}" "$reference" outcomes --fault "${of#*:}"

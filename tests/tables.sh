@@ -71,6 +71,11 @@ printf 'host=%s realm=%s keep=1 %s\n\npublic=%s private=%s server=%s state=unreg
     "$(printf 'roaming=%030d%d ' 0 1 0 2 0 8)" "$(many 4096)" | sound 1 'everything at its largest'
 printf '%s\n\npublic=aa private=q\n\npublic="a\\x00" private=q\n\npublic=a private=q\n\npublic="\\xff\\"\\\\\\n" private=q\n' "$head" | sound 4 'a < a, 0 < aa < 255'
 { echo "$head"; for i in $(seq 4096); do printf '\npublic=%d private=q\n' "$i"; done; } | sound 4096 'the most records'
+{ echo "$head issue=4294967295"; for i in $(seq 4096); do printf '\npublic=%d private=q set=%d\n' "$i" $((16 * i - 1)); done; } |
+    sound 4096 'the most records, in sets'
+echo "issue=0 $head" | sound 0 'edition 2, and no record'
+printf '%s\nissue=07\n\n%s set=1\n\npublic=r private=q set=00001\n\npublic=s private=r set=0\n' "$head" "$one" | sound 3 'a set'
+printf '%s\n\n%s set=0\n' "$head" "$one" | sound 1 'set 0 in edition 1'
 
 refused 1 'host is missing' </dev/null
 echo 'realm=r keep=0' | refused 1 'host is missing'
@@ -86,6 +91,10 @@ echo "$head network=$(many 32)" | refused 1 'network has 32 bytes'
 echo "$head network=n network=m network=n" | refused 1 'two networks are alike'
 echo "$head $(printf 'network=%d ' 1 2 3 4 5 6 7 8 9)" | refused 1 'there are more than 8 networks'
 echo "$head public=p" | refused 1 'public is no word of a header'
+echo "$head set=1" | refused 1 'set is no word of a header'
+for number in '' -1 1x 0x1 4294967296 99999999999999999999999; do echo "$head issue=$number" | refused 1 'issue is a number of up to 32 bits'; done
+echo "$head issue=1 issue=1" | refused 1 'issue stands there twice'
+echo "$head issue" | refused 1 'issue wants a value'
 printf '%s\n\nprivate=q\n' "$head" | refused 3 'public is missing'
 printf '%s\n\npublic=p\n' "$head" | refused 3 'private is missing'
 printf '%s\n\npublic= private=q\n' "$head" | refused 3 'public has 0 bytes'
@@ -107,6 +116,12 @@ printf '%s\n\n%s barred=1\n' "$head" "$one" | refused 3 'barred takes no value'
 printf '%s\n\n%s state\n' "$head" "$one" | refused 3 'state wants a value'
 printf '%s\n\n%s colour=red\n' "$head" "$one" | refused 3 'there is no word colour'
 printf '%s\n\n%s host=h\n' "$head" "$one" | refused 3 'host is no word of a record'
+printf '%s issue=1\n\n%s issue=1\n' "$head" "$one" | refused 3 'issue is no word of a record'
+printf '%s\n\n%s set=1\n' "$head" "$one" | refused 3 'a set wants an issue in the header'
+for number in '' -1 1x 65536 99999999999999999999999; do
+    printf '%s issue=1\n\n%s\nset=%s\n' "$head" "$one" "$number" | refused 4 'set is a number of up to 16 bits'
+done
+printf '%s issue=1\n\n%s set=1 set=1\n' "$head" "$one" | refused 3 'set stands there twice'
 printf '%s\n\n%s\nprofile="open\n' "$head" "$one" | refused 4 'a quote is not closed'
 printf '%s\n\n%s\nprofile="a"b\n' "$head" "$one" | refused 4 'a blank is missing'
 printf '%s\n\n%s\nprofile="\\x4"\n' "$head" "$one" | refused 4 'a backslash wants'
@@ -126,7 +141,7 @@ for block in $(seq 0 $((blocks - 1))); do
         flip "$table" $((512 * block + place)) 1
         says "block $block is bad" "a bit of byte $place of block $block changed"
     done
-    for place in 0 1 3 7 450; do # kind, edition, unused, block number, unused
+    for place in 0 1 3 7 406 407 408 411 450; do # kind, edition, unused, block number, what edition 2 has, unused
         fresh
         flip "$table" $((512 * block + place)) 1
         mend "$table" "$block"
@@ -175,6 +190,69 @@ says 'block 1 is bad' 'no profile'
 fresh
 truncate -s +1 "$profile"
 says "sound, $((blocks - 1)) records" 'the profile a byte longer'
+
+# The sample in edition 2, of issue 7, every record in a set; then of another issue, and of issue 0.
+of_issue() { # ISSUE TABLE
+    awk -v issue="$1" '/^host=/ { $0 = $0 " issue=" issue } /^public=/ { $0 = $0 " set=" ++set } 1' "$(dirname "$0")/../examples/households.txt" >"$text"
+    "$maketable" table "$text" >"$2"
+}
+cp "$whole" "$room/edition-1"
+of_issue 8 "$room/issue-8"
+of_issue 0 "$room/issue-0"
+of_issue 7 "$whole"
+fresh
+says "sound, $((blocks - 1)) records" 'the sample in edition 2'
+# A record that does not go with the header is bad, and of a header that does not go with the records the first record.
+for block in $(seq 0 $((blocks - 1))); do
+    later=$((block > 0 ? block : 1))
+    for place in 408 409 410 411; do
+        fresh
+        flip "$table" $((512 * block + place)) 8
+        says "block $block is bad" "edition 2, a bit of byte $place of block $block changed"
+        mend "$table" "$block"
+        says "block $later is bad" "edition 2, another issue by byte $place in block $block"
+    done
+    for other in edition-1 issue-8 issue-0; do
+        fresh
+        copy_block "$room/$other" "$table" "$block" "$block"
+        says "block $later is bad" "edition 2, block $block of $other"
+        cp "$room/$other" "$table"
+        copy_block "$whole" "$table" "$block" "$block"
+        says "block $later is bad" "$other, block $block of edition 2"
+    done
+    for place in 400 404 412 507; do
+        [ "$block" = 0 ] || [ "$place" -gt 411 ] || continue
+        fresh
+        flip "$table" $((512 * block + place)) 8
+        mend "$table" "$block"
+        says "block $block is bad" "edition 2, byte $place of block $block"
+    done
+    for edition in 0 1 3 255; do
+        fresh
+        set_byte "$table" $((512 * block + 1)) "$edition"
+        mend "$table" "$block"
+        says "block $block is bad" "edition 2, edition $edition in block $block"
+    done
+    for place in 406 407; do
+        fresh
+        flip "$table" $((512 * block + place)) 255
+        mend "$table" "$block"
+        said="sound, $((blocks - 1)) records"
+        [ "$block" != 0 ] || said='block 0 is bad'
+        says "$said" "edition 2, byte $place of block $block, which in a record is the set's"
+    done
+done
+cp "$room/issue-0" "$table"
+set_byte "$table" 1 1
+mend "$table" 0
+says 'block 1 is bad' 'issue 0, and edition 1 in the header alone'
+# Without records a header of either edition, and of every issue, is a table.
+echo "$head issue=7" | sound 0 'edition 2, and no record'
+flip "$table" 408 255
+mend "$table" 0
+says 'sound, 0 records' 'another issue, and no record'
+truncate -s +512 "$table"
+says 'block 0 is bad' 'edition 2, a block too many'
 
 # What cannot be read or written is reported, with nothing on standard output.
 ends() { # STATUS COMMAND..

@@ -13,13 +13,9 @@
 #include <unistd.h>
 
 #include "../examples/load.h"
+#include "random-tables.h"
 
-enum { BLOCK = 512, RECORDS = 4096, PART = 4096, VECTORS = 4096, DAMAGES = 2 };
-
-typedef struct {
-    uint8_t *bytes;
-    size_t length;
-} Bytes;
+enum { VECTORS = 4096, DAMAGES = 2 };
 
 static const char *maketable, *showtable;
 static unsigned long number; /* of the case */
@@ -27,144 +23,6 @@ static unsigned long number; /* of the case */
 static void fail(const char *what) {
     fprintf(stderr, "texts: case %lu: %s\n", number, what);
     exit(1);
-}
-
-static void stop(const char *what) {
-    fprintf(stderr, "texts: %s: %s\n", what, strerror(errno));
-    exit(2);
-}
-
-/* ---- chance (xorshift) */
-
-static uint64_t chance;
-
-static uint32_t below(uint32_t limit) {
-    chance ^= chance << 13;
-    chance ^= chance >> 7;
-    chance ^= chance << 17;
-    return (uint32_t)((chance >> 16) % limit);
-}
-
-static int one_in(uint32_t n) { return below(n) == 0; }
-
-/* ---- a random sound table */
-
-static void put32(uint8_t *to, uint32_t value) {
-    for (int i = 0; i < 4; i++) to[i] = (uint8_t)(value >> (24 - 8 * i));
-}
-
-static uint32_t get32(const uint8_t *at) { return (uint32_t)at[0] << 24 | (uint32_t)at[1] << 16 | (uint32_t)at[2] << 8 | at[3]; }
-
-static void seal(uint8_t *block) {
-    uint32_t sum = 0;
-    for (size_t at = 0; at < BLOCK - 4; at += 4) sum += get32(block + at);
-    put32(block + BLOCK - 4, 0 - sum);
-}
-
-/* Random bytes, of one of three kinds: any, printable, those that a text has to mind. */
-static void put_bytes(uint8_t *to, size_t length) {
-    static const uint8_t minded[] = "ab\"\\#= \n\r\t,\0\x7f\x80\xff\x01nx41";
-    const uint32_t kind = below(3);
-    for (size_t i = 0; i < length; i++)
-        to[i] = (uint8_t)(kind == 0 ? below(256) : kind == 1 ? 0x21 + below(0x5e) : minded[below(sizeof minded - 1)]);
-}
-
-/* A name of a random length into its field; gives the length. */
-static uint8_t put_name(uint8_t *field, uint32_t least, uint32_t most) {
-    const uint32_t length = one_in(4) ? least : one_in(4) ? most : least + below(most - least + 1);
-    put_bytes(field, length);
-    return (uint8_t)length;
-}
-
-static void put_header(uint8_t *block) {
-    block[0] = block[1] = 1;
-    block[12] = (uint8_t)below(2);
-    block[13] = put_name(block + 16, 1, 64);
-    block[14] = put_name(block + 80, 1, 64);
-    const uint32_t wanted = below(9);
-    for (uint32_t i = 0; i < wanted; i++) {
-        uint8_t *place = block + 144 + 32 * block[15];
-        place[0] = put_name(place + 1, 1, 31);
-        int found = 0;
-        for (uint8_t j = 0; j < block[15]; j++) found |= memcmp(block + 144 + 32 * j, place, 32) == 0;
-        if (found) memset(place, 0, 32);
-        else block[15]++;
-    }
-}
-
-static void put_record(uint8_t *block, unsigned networks) {
-    block[0] = 2;
-    block[1] = 1;
-    block[8] = (uint8_t)below(3);
-    block[9] = (uint8_t)below(8);
-    block[10] = (uint8_t)below(1u << networks);
-    block[11] = (uint8_t)below(5);
-    block[12] = (uint8_t)below(5);
-    block[13] = put_name(block + 16, 1, one_in(2) ? 3 : 128);
-    block[14] = put_name(block + 144, 1, 128);
-    if (block[8] > 0 || (block[9] & 1)) block[15] = put_name(block + 272, 1, 96);
-    for (size_t i = 0; i < block[11]; i++) put32(block + 368 + 4 * i, one_in(3) ? below(4) : below(UINT32_MAX) + one_in(2));
-    for (size_t i = 0; i < block[12]; i++) put32(block + 384 + 4 * i, one_in(3) ? below(4) : below(UINT32_MAX) + one_in(2));
-}
-
-static int by_identity(const void *left, const void *right) {
-    const uint8_t *a = (const uint8_t *)left, *b = (const uint8_t *)right;
-    const size_t m = a[13], n = b[13];
-    const int order = memcmp(a + 16, b + 16, m < n ? m : n);
-    return order != 0 ? order : (m > n) - (m < n);
-}
-
-static void put_part(uint8_t *record, uint32_t start, uint32_t length) {
-    put32(record + 400, start);
-    record[404] = (uint8_t)(length >> 8);
-    record[405] = (uint8_t)length;
-}
-
-static uint32_t part_length(void) { return one_in(3) ? 0 : one_in(30) ? PART : below(60); }
-
-/* Gives each record its part, and the profile file: parts in order, or in a random order with gaps, or anywhere. */
-static Bytes put_parts(uint8_t *table, size_t count) {
-    const uint32_t kind = below(3);
-    Bytes profile = {NULL, 0};
-    const int gaps = kind == 1 && one_in(2);
-    uint32_t end = kind == 0 || !gaps ? 0 : below(50);
-    const size_t step = kind == 1 && count > 1 ? count - 1 : 1; /* from the last to the first */
-    for (size_t i = 0, k = kind == 1 ? count - 1 : 0; i < count; i++, k = (k + step) % count) {
-        const uint32_t length = part_length();
-        put_part(table + BLOCK * (k + 1), end, length);
-        end += length + (gaps && one_in(3) ? below(6000) : 0);
-    }
-    profile.length = end + (gaps && one_in(2) ? below(9000) : 0);
-    for (size_t k = 1; kind == 2 && k <= count; k++) {
-        const uint32_t length = part_length();
-        if (profile.length < length) continue;
-        put_part(table + BLOCK * k, below((uint32_t)(profile.length - length) + 1), length);
-    }
-    profile.bytes = (uint8_t *)malloc(profile.length + 1);
-    if (profile.bytes == NULL) stop("no memory");
-    put_bytes(profile.bytes, profile.length);
-    return profile;
-}
-
-static Bytes put_table(Bytes *profile) {
-    const size_t wanted = one_in(300) ? RECORDS : one_in(20) ? below(300) : below(12);
-    uint8_t *table = (uint8_t *)calloc(wanted + 1, BLOCK);
-    if (table == NULL) stop("no memory");
-    put_header(table);
-    for (size_t k = 1; k <= wanted; k++) put_record(table + BLOCK * k, table[15]);
-    qsort(table + BLOCK, wanted, BLOCK, by_identity);
-    size_t count = 0;
-    for (size_t k = 1; k <= wanted; k++) {
-        if (count > 0 && by_identity(table + BLOCK * count, table + BLOCK * k) == 0) continue;
-        count++;
-        if (count < k) memcpy(table + BLOCK * count, table + BLOCK * k, BLOCK);
-        put32(table + BLOCK * count + 4, (uint32_t)count);
-    }
-    put32(table + 8, (uint32_t)count);
-    *profile = put_parts(table, count);
-    for (size_t k = 0; k <= count; k++) seal(table + BLOCK * k);
-    const Bytes made = {table, BLOCK * (count + 1)};
-    return made;
 }
 
 /* ---- a random sound vector file, in which no vector stands twice */
@@ -217,8 +75,8 @@ static void loose_numbers(FILE *to, const char *key, const uint8_t *values, size
 
 static void loose_record(FILE *to, const uint8_t *header, const uint8_t *record, Bytes profile) {
     static const char *const states[] = {"not-registered", "registered", "unregistered"};
-    const uint32_t first = below(9);
-    for (uint32_t i = 0; i < 9; i++) switch ((first + i) % 9) {
+    const uint32_t first = below(10), set = (uint32_t)record[406] << 8 | record[407];
+    for (uint32_t i = 0; i < 10; i++) switch ((first + i) % 10) {
         case 0: loose_value(to, "public", record + 16, record[13]); break;
         case 1: loose_value(to, "private", record + 144, record[14]); break;
         case 2: if (record[15] > 0) loose_value(to, "server", record + 272, record[15]); break;
@@ -234,6 +92,7 @@ static void loose_record(FILE *to, const uint8_t *header, const uint8_t *record,
             break;
         case 6: loose_numbers(to, "optional=", record + 384, record[12]); break;
         case 7: loose_numbers(to, "mandatory=", record + 368, record[11]); break;
+        case 8: if (set > 0 || one_in(4)) fprintf(to, one_in(3) ? "set=0%lu " : "set=%lu ", (unsigned long)set); break;
         default:
             fprintf(to, "profile-at=%lu ", (unsigned long)get32(record + 400));
             loose_value(to, "profile", profile.bytes + get32(record + 400), (size_t)record[404] << 8 | record[405]);
@@ -247,6 +106,7 @@ static void loose_text(const char *path, Bytes table, Bytes profile) {
     const size_t count = table.length / BLOCK - 1, first = count > 0 ? below((uint32_t)count) : 0;
     fputs(one_in(2) ? "\n# a text\n\n" : "", to);
     for (size_t i = 0; i < table.bytes[15]; i++) loose_value(to, "network", table.bytes + 145 + 32 * i, table.bytes[144 + 32 * i]);
+    if (table.bytes[1] == 2) fprintf(to, one_in(3) ? "issue=0%lu\n" : "issue=%lu ", (unsigned long)get32(table.bytes + 408));
     fprintf(to, "keep=%d ", table.bytes[12]);
     loose_value(to, "realm", table.bytes + 80, table.bytes[14]);
     loose_value(to, "host", table.bytes + 16, table.bytes[13]);
@@ -348,7 +208,7 @@ static void shows(const char *text, const char *what) {
 
 /* Changes a byte of a block. */
 static void change(uint8_t *block) {
-    static const uint16_t places[] = {0, 1, 2, 7, 8, 9, 10, 11, 12, 13, 14, 15, 144, 176, 403, 404, 405, 406, 507};
+    static const uint16_t places[] = {0, 1, 2, 7, 8, 9, 10, 11, 12, 13, 14, 15, 144, 176, 403, 404, 405, 406, 407, 408, 411, 412, 507};
     uint8_t *at = block + (one_in(2) ? places[below(sizeof places / sizeof places[0])] : below(BLOCK));
     *at = (uint8_t)(one_in(2) ? *at ^ 1u << below(8) : one_in(2) ? 0 : below(256));
 }
@@ -366,6 +226,10 @@ static void damage(Bytes table) {
         put_part(block, 0, PART + 1);
     } else if (way == 2 && k > 0 && block[11] > 0 && block[12] > 0) { /* a capability past the count */
         block[one_in(2) ? 11 : 12]--;
+    } else if (way == 3) { /* the other edition */
+        block[1] ^= 3;
+    } else if (way == 4) { /* another issue, or one where there is none */
+        put32(block + 408, one_in(2) ? 0 : get32(block + 408) + 1);
     } else {
         change(block);
     }
@@ -450,7 +314,7 @@ int main(int argc, char **argv) {
     for (number = 0; number < count; number++) {
         chance = (seed + number + 1) * 0x9E3779B97F4A7C15u | 1;
         for (int i = 0; i < 8; i++) below(2);
-        Bytes profile, table = put_table(&profile);
+        Bytes profile, table = put_table((uint8_t)(1 + number % 2), &profile);
         records += table.length / BLOCK - 1;
         write_file("table", table);
         write_file("profile", profile);
@@ -472,7 +336,7 @@ int main(int argc, char **argv) {
     }
     if (count > 100 && (refused == 0 || refused == DAMAGES * count)) fail("no damaged table was refused, or each");
     if (count > 100 && (refused_vectors == 0 || refused_vectors == DAMAGES * count)) fail("no damaged vector file was refused, or each");
-    printf("texts: %lu tables of %lu records to text and back, byte for byte; %lu of %lu damaged ones refused (seed %lu)\n", count,
+    printf("texts: %lu tables of either edition, of %lu records, to text and back, byte for byte; %lu of %lu damaged ones refused (seed %lu)\n", count,
            records, refused, DAMAGES * count, seed);
     printf("texts: as many vector files of %lu blocks, likewise; %lu damaged ones refused\n", blocks, refused_vectors);
     return 0;

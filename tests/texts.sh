@@ -78,6 +78,27 @@ mandatory=0,4294967295,1,1 optional=7
 profile="\n"
 END
 
+same 'edition 2' <<'END'
+host=h realm=r keep=0 issue=4294967295
+network=n
+
+public=a private=q set=65535
+state=registered server=s
+roaming=n
+
+public=b private=q
+
+public=c private=q set=1
+profile="p"
+END
+printf 'host=h realm=r keep=0 issue=0\n' | same 'issue 0'
+# Words that say nothing are not shown.
+printf 'keep=0 realm=r issue=007 host=h\n\nset=0 private=q public=p\n' >"$room/zero.given"
+make_both "$room/zero.given" zero
+show zero
+printf 'host=h realm=r keep=0 issue=7\n\npublic=p private=q\n' | diff - "$room/zero.text" >&2 || fail 'set 0 is shown'
+tried=$((tried + 1))
+
 # Profile files that are not the parts in order: bytes of nobody, parts that are shared, that overlap, that stand elsewhere.
 head='host=h realm=r keep=0'
 printf '%s\n\nunused="abc" profile-at=0\n' "$head" | same 'no record, and a profile file'

@@ -1,6 +1,7 @@
 #!/usr/bin/env bash
-# worked-table.sh ROOM MAKETABLE SHOWTABLE: the worked table and vector of docs/TABLE.md. Their texts make the blocks that stand there, byte
-# for byte, showtable writes these texts again, the sum that the page works out is right, and the sample's vectors are counted as it says.
+# worked-table.sh ROOM MAKETABLE SHOWTABLE: the worked table, in both editions, and vector of docs/TABLE.md. Their texts make the blocks that
+# stand there, byte for byte, showtable writes these texts again, the sum that the page works out is right, and the sample's vectors are
+# counted as it says.
 set -euo pipefail
 room=$1 maketable=$2 showtable=$3
 page=$(dirname "$0")/../docs/TABLE.md
@@ -14,7 +15,9 @@ fail() {
 sed -n '/^## A worked table/,/^## As text/p' "$page" >"$room/section"
 sed -n '/^    host=/,/^    profile=/s/^    //p; /^$/p' "$room/section" | sed -n '/^host=/,/^profile=/p' >"$room/text"
 blocks_in() { sed -n 's/^    \([0-9]\{4\}\( [0-9a-f]\{2\}\)\{16\}\) .*/\1/p'; }
-sed '/^A vector/,$d' "$room/section" | blocks_in >"$room/blocks"
+sed '/^The same table in edition 2/,$d' "$room/section" | blocks_in >"$room/blocks"
+sed -n '/^The same table in edition 2/,/^A vector/p' "$room/section" >"$room/second-section"
+blocks_in <"$room/second-section" >"$room/second-blocks"
 sed -n '/^A vector/,$p' "$room/section" >"$room/vector-section"
 blocks_in <"$room/vector-section" >"$room/vector-blocks"
 sed -n '/^    private=/,/^$/s/^    //p' "$room/vector-section" >"$room/vector-text"
@@ -24,6 +27,15 @@ shown() { od -A d -v -t x1 -w16 "$1" | sed -n 's/^0*\([0-9]\{4\} .*\)/\1/p' | gr
 shown "$room/table" | diff "$room/blocks" - >&2 || fail 'the blocks on the page are not those of its text'
 [ "$(stat -c %s "$room/table")" = 1024 ] || fail 'the table has another length'
 "$showtable" "$room/table" "$room/profile" | diff "$room/text" - >&2 || fail 'the text is shown otherwise'
+
+# In edition 2 these lines are others, and no more.
+[[ $(tr '\n' ' ' <"$room/second-section") =~ \`(issue=[0-9]+)\`\ behind\ \`([^\`]+)\`\ and\ \`(set=[0-9]+)\`\ behind\ \`([^\`]+)\` ]] ||
+    fail 'the page does not say how the text of edition 2 is written'
+sed "s/${BASH_REMATCH[2]}/& ${BASH_REMATCH[1]}/; s/${BASH_REMATCH[4]}/& ${BASH_REMATCH[3]}/" "$room/text" >"$room/second-text"
+"$maketable" table "$room/second-text" >"$room/second"
+{ diff <(od -A d -v -t x1 -w16 "$room/table") <(od -A d -v -t x1 -w16 "$room/second") || true; } | sed -n 's/^> 0*\([0-9]\{4\} .*\)/\1/p' |
+    diff "$room/second-blocks" - >&2 || fail 'the lines of edition 2 on the page are not those of its text'
+"$showtable" "$room/second" "$room/profile" | diff "$room/second-text" - >&2 || fail 'the text of edition 2 is shown otherwise'
 
 sum=0
 for word in $(od -A n -v -t u4 --endian=big -j 512 -N 508 "$room/table"); do sum=$((sum + word)); done
@@ -41,4 +53,4 @@ examples=$(dirname "$0")/../examples
 "$maketable" vectors "$examples/vectors.txt" >"$room/vectors"
 sed -n '/^    \$ showtable --unused/,/^$/s/^    \([0-9]\)/\1/p' "$page" >"$room/counted"
 "$showtable" --unused "$room/table" "$room/profile" "$room/vectors" | diff "$room/counted" - >&2 || fail 'what is unused of the sample is counted otherwise'
-echo "worked-table.sh: the worked table and vector of TABLE.md, $(cat "$room/blocks" "$room/vector-blocks" | wc -l) lines of them, are what maketable makes"
+echo "worked-table.sh: the worked table and vector of TABLE.md, $(cat "$room/blocks" "$room/second-blocks" "$room/vector-blocks" | wc -l) lines of them, are what maketable makes"

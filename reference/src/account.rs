@@ -23,6 +23,7 @@ pub fn word(entry: Entry, outcome: &Outcome) -> String {
         (Entry::CheckVectors, 0) => format!("sound, {value} vectors{place}"),
         (Entry::CheckVectors, 6) => format!("vector block {value} is bad{place}"),
         (Entry::Decide, 0) => format!("answered with {value} bytes{place}"),
+        (Entry::Forward | Entry::Back, 0) => format!("moved, {value} records{place}"),
         (Entry::Report, 0) => format!("reported to the file's end, value {value}{place}"),
         (Entry::Report, 7) => format!("reported up to a broken piece, value {value}{place}"),
         (_, number) => format!("refused {number}, value {value}{place}"),

@@ -4,6 +4,7 @@ use std::borrow::Cow;
 
 use self::Lent::{Read, Written};
 use self::Slice::{Buffer, Profile, Report, Request, Requests, Table, Vectors};
+use crate::moves;
 use crate::report;
 use crate::serve;
 use crate::slip::Slip;
@@ -18,6 +19,10 @@ pub enum Entry {
     Decide = 2,
     CheckVectors = 3,
     Report = 4,
+    /// Of a table, from edition 1 to 2.
+    Forward = 5,
+    /// And from edition 2 to 1.
+    Back = 6,
 }
 
 #[derive(Clone, Copy, PartialEq, Eq, Debug)]
@@ -40,7 +45,7 @@ pub enum Lent {
 }
 
 /// Each entry, the slices that it takes, and how many numbers come behind them.
-const ENTRIES: [(Entry, &[Lent], usize); 4] = [
+const ENTRIES: [(Entry, &[Lent], usize); 6] = [
     (Entry::Check, &[Read(Table), Read(Profile)], 0),
     (Entry::Decide, &[Read(Request), Written(Table), Read(Profile), Written(Vectors), Written(Buffer)], 0),
     (Entry::CheckVectors, &[Read(Vectors)], 0),
@@ -49,6 +54,8 @@ const ENTRIES: [(Entry, &[Lent], usize); 4] = [
         &[Read(Requests), Written(Table), Read(Profile), Written(Vectors), Written(Buffer), Written(Report)],
         0,
     ),
+    (Entry::Forward, &[Written(Table), Read(Profile)], 1),
+    (Entry::Back, &[Written(Table), Read(Profile)], 0),
 ];
 
 /// What a slice holds before the call.
@@ -223,6 +230,13 @@ impl Case {
         Case { entry: Entry::Report, fill, slices, numbers: vec![] }
     }
 
+    /// A move forward, with an issue number, or back.
+    pub fn moved(fill: u8, table: Vec<u8>, profile: Vec<u8>, issue: Option<u32>) -> Case {
+        let entry = if issue.is_some() { Entry::Forward } else { Entry::Back };
+        let slices = vec![Held::Bytes(table), Held::Bytes(profile)];
+        Case { entry, fill, slices, numbers: issue.into_iter().collect() }
+    }
+
     fn place(&self, slice: Slice) -> Option<usize> {
         self.entry.lent().iter().position(|lent| lent.slice() == slice)
     }
@@ -278,6 +292,10 @@ impl Case {
                 },
                 slip,
             ),
+            (Entry::Forward, [table, profile]) => {
+                moved(moves::forward(table.to_mut(), profile.len(), self.numbers[0], slip))
+            }
+            (Entry::Back, [table, profile]) => moved(moves::back(table.to_mut(), profile.len(), slip)),
             _ => unreachable!("a case has the slices that its entry takes"),
         };
         let slices = self.entry.lent().iter().zip(before.iter().zip(&lent));
@@ -285,6 +303,10 @@ impl Case {
         let changes = written.map(|(_, (before, after))| Change::between(before, after)).collect();
         (Outcome { word, altered: 0, changes }, why)
     }
+}
+
+fn moved(found: Result<u32, moves::Refusal>) -> (u64, Why) {
+    (serve::move_word(found), Why::Moved(found))
 }
 
 impl Outcome {

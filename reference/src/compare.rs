@@ -117,7 +117,7 @@ impl Figures {
 
     fn print(&self, began: Instant) {
         println!(
-            "{} cases agree: {} sound, answered or reported ({} with a table rewritten, {} with vectors sent), refused {:?}; \
+            "{} cases agree: {} sound, answered, reported or moved ({} with a table rewritten, {} with vectors sent), refused {:?}; \
              {} MiB of files; {:.1} s",
             self.cases,
             self.done,

@@ -8,10 +8,11 @@ pub mod kinds;
 pub mod rng;
 pub mod slip;
 
-// What is lent: a message, the table, the vector file.
+// What is lent: a message, the table with the moves between its editions, the vector file.
 pub mod message;
 pub mod table;
 
+pub mod moves;
 pub mod vectors;
 
 // What comes of a request, and how it does.

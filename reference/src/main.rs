@@ -25,7 +25,7 @@ reference compare  --kind K --seed S [--from F] --count N -- DRIVER [ARGUMENT ..
 reference stats    --kind K --seed S [--from F] --count N   histogram
 reference faults                                            list the deliberate faults
 reference mutants  --seed S [--from F] --count N            whether each deliberate fault is noticed
-kinds: tables, vectors, calls, reports; compare alone: demand3, runs";
+kinds: tables, vectors, calls, reports, moves; compare alone: demand3, runs";
 
 fn main() -> ExitCode {
     let arguments: Vec<String> = std::env::args().skip(1).collect();

@@ -5,8 +5,8 @@ use crate::kinds::Command;
 use crate::message::{Message, R};
 use crate::read::{read, read_header};
 use crate::slip::{Fault, Slip};
-use crate::table::{self, Table};
-use crate::vectors::{self, Vector, Vectors};
+use crate::table::{self, Table, EDITION, EDITION_1, EDITION_2};
+use crate::vectors::{self, vector, Vector, Vectors};
 
 pub const LEAST_BUFFER: usize = 36_864;
 pub const LEAST_REQUEST: usize = 20;
@@ -77,7 +77,16 @@ fn bad_block(lent: &Lent, slip: Slip) -> Option<u32> {
     if slip.is(Fault::TableOnlyForDecisions) && lent.table.len() >= BLOCK && faulty() {
         return None;
     }
-    let block = table::check_with(lent.table, lent.profile.len(), slip).err()?;
+    let found = table::check_with(lent.table, lent.profile.len(), slip);
+    let refused = match slip.0 {
+        Some(Fault::Edition1NotDecided) => Some(EDITION_1),
+        Some(Fault::Edition2NotDecided) => Some(EDITION_2),
+        _ => None,
+    };
+    if found.is_ok() && refused == Some(lent.table[EDITION]) {
+        return Some(0);
+    }
+    let block = found.err()?;
     Some(if slip.is(Fault::UnsoundReturnsZero) { 0 } else { block })
 }
 
@@ -100,6 +109,9 @@ fn bad_vectors(lent: &Lent, slip: Slip) -> Option<u32> {
         Err(_) => Some(0),
         Ok(_) if slip.is(Fault::VectorNameMustBeKnown) => {
             Vectors(lent.vectors).all().any(|(_, vector)| unknown(vector)).then_some(0)
+        }
+        Ok(_) if slip.is(Fault::VectorsOfTableEdition) => {
+            Vectors(lent.vectors).all().any(|(_, vector)| vector.0[vector::USED] != lent.table[EDITION]).then_some(0)
         }
         Ok(_) => None,
     }

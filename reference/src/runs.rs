@@ -7,7 +7,7 @@ use std::time::Instant;
 
 use crate::account;
 use crate::block::{mend, word_at, BLOCK};
-use crate::cases::{Case, Outcome, Slice};
+use crate::cases::{Case, Entry, Outcome, Slice};
 use crate::compare::Fed;
 use crate::gen::{self, Made, Step};
 use crate::kinds::{Kind, SIP_AUTHENTICATE, VENDOR};
@@ -24,6 +24,10 @@ struct Ledger {
 impl Ledger {
     /// Enters a call: what it sent was never sent and unused, is marked by a lawful change, and nothing else changed.
     fn enter(&mut self, case: &Case, outcome: &Outcome) -> Result<(), String> {
+        // A move is not given the vectors.
+        if case.entry != Entry::Decide {
+            return Ok(());
+        }
         let before = case.held(Slice::Vectors);
         let mut lawful = before.to_vec();
         for block in sent(case, outcome)? {
@@ -74,7 +78,7 @@ pub fn compare(seed: u64, numbers: Range<u64>, command: &[String]) -> io::Result
         let steps = gen::run(seed, number, Slip::NONE);
         (steps.iter().map(|step| step.made.case.clone()).collect(), steps)
     })?;
-    let (mut runs, mut calls, mut sending, mut vectors) = (0u64, 0u64, 0u64, 0u64);
+    let (mut runs, mut calls, mut moves, mut sending, mut vectors) = (0u64, 0u64, 0u64, 0u64, 0u64);
     for number in numbers.clone() {
         let steps: Vec<Step> = match fed.told.recv() {
             Ok(steps) => steps,
@@ -98,6 +102,7 @@ pub fn compare(seed: u64, numbers: Range<u64>, command: &[String]) -> io::Result
                 return Ok(false);
             }
             calls += 1;
+            moves += (made.case.entry != Entry::Decide) as u64;
             sending += (ledger.sent.len() > before) as u64;
         }
         runs += 1;
@@ -107,7 +112,7 @@ pub fn compare(seed: u64, numbers: Range<u64>, command: &[String]) -> io::Result
         return Ok(false);
     }
     println!(
-        "{runs} runs of {calls} calls agree: {sending} sent {vectors} vectors, none twice; {:.1} s",
+        "{runs} runs of {calls} calls agree: {moves} moves, {sending} sent {vectors} vectors, none twice; {:.1} s",
         began.elapsed().as_secs_f64()
     );
     Ok(true)

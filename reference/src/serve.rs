@@ -5,11 +5,12 @@ use crate::block::{mend, BLOCK};
 use crate::decide::{decide, Files};
 use crate::kinds::Command;
 use crate::message::Message;
+use crate::moves::Refusal;
 use crate::place;
 use crate::read::read;
 use crate::refuse::{refusal, Lent};
 use crate::slip::{Fault, Slip};
-use crate::table::{rewrite, Table};
+use crate::table::{rewrite, Record, Table, EDITION};
 use crate::vectors::{mark, vector, Vectors};
 use crate::verdict::{Code, Verdict, Why};
 
@@ -23,6 +24,14 @@ pub fn check_word(number: u64, found: Result<u32, u32>) -> u64 {
     match found {
         Ok(count) => u64::from(count),
         Err(block) => number << 48 | u64::from(block),
+    }
+}
+
+/// The return word of a move: 0 with the record count, or the refusal.
+pub fn move_word(found: Result<u32, Refusal>) -> u64 {
+    match found {
+        Ok(count) => u64::from(count),
+        Err((number, block)) => u64::from(number) << 48 | u64::from(block),
     }
 }
 
@@ -80,16 +89,33 @@ pub fn call(
     let Verdict { result, rewritings, marked, why, .. } = verdict;
 
     for block in marked {
-        mark(&mut vectors[block * BLOCK..][..BLOCK], slip);
+        let vector = &mut vectors[block * BLOCK..][..BLOCK];
+        mark(vector, slip);
+        if slip.is(Fault::MarkedWithEdition) {
+            vector[vector::USED] = table[EDITION];
+            mend(vector);
+        }
     }
     for (block, rewriting) in &rewritings {
-        rewrite(&mut table[block * BLOCK..][..BLOCK], rewriting, slip);
+        for block in reached(table, *block, slip) {
+            rewrite(&mut table[block * BLOCK..][..BLOCK], rewriting, slip);
+        }
     }
     if slip.is(Fault::RewritingFreesVectors) && message.command() == 301 && !rewritings.is_empty() {
         vectors.chunks_exact_mut(BLOCK).for_each(free);
     }
     put(buffer, &answer, slip);
     Done { word: place | answer.len() as u64, result: Some(result), rewritten: rewritings.len(), why }
+}
+
+/// The record alone: only a faulty program asks which others have its set number.
+fn reached(table: &[u8], block: usize, slip: Slip) -> Vec<usize> {
+    if !slip.is(Fault::EffectReachesSet) {
+        return vec![block];
+    }
+    let this = Table(table).record(block);
+    let same = |it: &Record| it.private() == this.private() && it.set() == this.set() && it.set() != 0;
+    Table(table).records().filter(|(at, it)| *at == block || same(it)).map(|(at, _)| at).collect()
 }
 
 /// Only a faulty answer may have no room.

@@ -144,6 +144,14 @@ mod tests {
         assert_eq!(stream[20..28], [0xC0, 0, 0x90, 0, 0xC0, 0, 4, 0x88]);
         assert_eq!(Case::read(&mut &stream[..]).unwrap(), Some(report));
 
+        for (issue, head) in [(Some(0x0102_0304), &[5, 9, 2, 1][..]), (None, &[6, 9, 2, 0][..])] {
+            let moved = Case::moved(9, vec![4; 512], vec![7; 5], issue);
+            let stream = written(&moved);
+            assert_eq!((&stream[..4], &stream[4..12]), (head, &[0x80, 0, 2, 0, 0, 0, 0, 5][..]));
+            assert_eq!(stream[12..16], if issue.is_some() { [1, 2, 3, 4] } else { [4; 4] });
+            assert_eq!(Case::read(&mut &stream[..]).unwrap(), Some(moved));
+        }
+
         let outcome = Outcome {
             word: 5 << 48 | 3,
             altered: 0,

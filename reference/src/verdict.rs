@@ -5,6 +5,7 @@ use std::fmt;
 
 use crate::kinds::{Command, Kind};
 use crate::message::Avp;
+use crate::moves::Refusal;
 use crate::table::{Record, Rewriting};
 use crate::vectors::Vector;
 
@@ -44,6 +45,7 @@ pub enum Failed<'a> {
 pub enum Why {
     Checked(Result<u32, u32>),
     CheckedVectors(Result<u32, u32>),
+    Moved(Result<u32, Refusal>),
     /// A report was made, to the end of its file or not.
     Reported,
     Refused(u32),

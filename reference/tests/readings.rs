@@ -1,6 +1,6 @@
 //! README.md's tables of what shows each reading of document 02's requests name rows and faults that there are.
 
-use reference::gen::Stream;
+use reference::gen::STREAMS;
 use reference::slip::{by_name, FAULTS};
 use reference::stats::required_rows;
 
@@ -17,7 +17,7 @@ fn spans(column: &str) -> impl Iterator<Item = &str> {
 }
 
 /// Each request's heading, and its readings that cases can show.
-fn requests() -> [(&'static str, Vec<u32>); 3] {
+fn requests() -> [(&'static str, Vec<u32>); 4] {
     [
         // 19 is about programs over files.
         ("The authentication request", (1..=25).filter(|number| *number != 19).collect()),
@@ -25,12 +25,14 @@ fn requests() -> [(&'static str, Vec<u32>); 3] {
         ("The place of the AVP at fault", vec![1, 2, 3, 4, 5, 6, 9, 10]),
         // 14 is about later requests, 15 about speed, 16 about counts that no file reaches.
         ("The month's numbers", (1..=13).collect()),
+        // 8 is about a later request.
+        ("The second stored form", vec![1, 2, 3, 4, 5, 6, 7, 9]),
     ]
 }
 
 #[test]
 fn every_reading_has_rows_and_faults_that_there_are() {
-    let rows = [Stream::Calls, Stream::Vectors, Stream::Reports].map(required_rows).concat();
+    let rows = STREAMS.map(required_rows).concat();
     for (heading, readings) in requests() {
         let mut numbers = Vec::new();
         for columns in table(heading) {
@@ -58,7 +60,10 @@ fn every_fault_about_a_request_goes_against_a_reading() {
         ["MAR", "ector", "XRES", "item", "scheme", "607", "608", "609", "610", "612", "613", "625", "626", "RAND"];
     let of_place = ["the place", "place 0", "as its place"];
     let of_report = ["report", "piece", "counts", "counted", "largest answer", "word 1", "word 4", "left end"];
-    let is_about = |what: &str| words.iter().chain(&of_place).chain(&of_report).any(|word| what.contains(word));
+    let of_editions = ["edition", "issue", "set number", "move"];
+    let is_about = |what: &str| {
+        words.iter().chain(&of_place).chain(&of_report).chain(&of_editions).any(|word| what.contains(word))
+    };
     for (fault, what) in FAULTS.iter().filter(|(_, what)| is_about(what)) {
         assert!(named.contains(&format!("{fault:?}").as_str()), "{fault:?}: {what}");
     }

@@ -71,6 +71,28 @@ fn report(given: &[u8], w: &[u8; 64]) -> bool {
         & outcome::put_change(area, &written)
 }
 
+fn forward(given: &[u8], w: &[u8; 64]) -> bool {
+    let table = words::slice(given, w, 0);
+    let mut t = [0u8; 40000];
+    run::copy(&mut t, table);
+    let n = table.len();
+    let word = ndushavire::ndushavire_forward(
+        &mut t[..n],
+        words::slice(given, w, 1),
+        words::number_of(w, 2),
+    );
+    outcome::put(word, 1) & outcome::put_change(table, &t)
+}
+
+fn back(given: &[u8], w: &[u8; 64]) -> bool {
+    let table = words::slice(given, w, 0);
+    let mut t = [0u8; 40000];
+    run::copy(&mut t, table);
+    let n = table.len();
+    let word = ndushavire::ndushavire_back(&mut t[..n], words::slice(given, w, 1));
+    outcome::put(word, 1) & outcome::put_change(table, &t)
+}
+
 // Calls an entry by its number in the streams.
 pub fn call(entry: u8, given: &[u8], w: &[u8; 64]) -> bool {
     match entry {
@@ -78,6 +100,8 @@ pub fn call(entry: u8, given: &[u8], w: &[u8; 64]) -> bool {
         2 => decide(given, w),
         3 => check_vectors(given, w),
         4 => report(given, w),
+        5 => forward(given, w),
+        6 => back(given, w),
         _ => false,
     }
 }

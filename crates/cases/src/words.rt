@@ -19,6 +19,13 @@ pub fn is_noise(w: &[u8; 64], s: usize) -> bool
     number::be32(w, 4 * s) / NOISE % 2 == 1
 }
 
+// Word s of a case that stands for a number.
+pub fn number_of(w: &[u8; 64], s: usize) -> u32
+    requires { ⌜ s < 16 ⌝ }
+{
+    number::be32(w, 4 * s)
+}
+
 // Where slice s begins.
 fn start(w: &[u8; 64], s: usize) -> usize
     requires { ⌜ s ≤ 16 ⌝ }

@@ -22,7 +22,7 @@ use Rattle.calling.specs.Lent.{Lent}
 use Rattle.calling.specs.Serve.{checkValue}
 use Rattle.ndushavire.specs.Word.{word, checkWord, callWord}
 use Rattle.ndushavire.specs.Reads.{numberIn, placeIn, valueIn, Reads, ReadsCheck}
-use Rattle.ndushavire.specs.Promise.{CheckPromise, CheckVectorsPromise, DecidePromise}
+use Rattle.ndushavire.specs.Promise.{CheckPromise, CheckVectorsPromise, DecidePromise, ForwardPromise, BackPromise}
 
 -- Any two returns that meet the promise are equal.
 pub check-unique : (table profile : List ℕ) (r s : ℕ) → CheckPromise table profile r → CheckPromise table profile s → r ≡ s
@@ -99,10 +99,10 @@ unfolding checkTable checkRecords
 check-most t file = go (leb 512 (length t)) (soundHeader (blockOf t 0)) (eqb (length t) (512 * (headerOf (blockOf t 0) .count + 1))) refl
   where
     go : (x y z : Bool) → soundHeader (blockOf t 0) ≡ y
-        → checkValue (cond (x && y && z) (checkRecords t (headerOf (blockOf t 0) .count) (headerOf (blockOf t 0) .networks) file) (Bad 0)) ≤ 4096
+        → checkValue (cond (x && y && z) (checkRecords t (headerOf (blockOf t 0)) file) (Bad 0)) ≤ 4096
     go true true true e =
         let n : headerOf (blockOf t 0) .count ≤ 4096 = header-count (blockOf t 0) (headerOf (blockOf t 0)) refl refl e in
-        first-most (soundAt t (headerOf (blockOf t 0) .networks) file) (headerOf (blockOf t 0) .count) (headerOf (blockOf t 0) .count) 1 4096 n (omega arith)
+        first-most (soundAt t (headerOf (blockOf t 0)) file) (headerOf (blockOf t 0) .count) (headerOf (blockOf t 0) .count) 1 4096 n (omega arith)
     go true true false e = omega arith
     go true false z e = omega arith
     go false y z e = omega arith
@@ -137,3 +137,11 @@ check-decides t u file other = word-decides 5 (omega arith) (checkTable t file) 
 
 pub check-vectors-decides : (v w : List ℕ) → checkWord 6 (checkVectors v) ≡ checkWord 6 (checkVectors w) → checkVectors v ≡ checkVectors w
 check-vectors-decides v w = word-decides 6 (omega arith) (checkVectors v) (checkVectors w) (vectors-most v) (vectors-most w)
+
+-- The moves between editions.
+pub forward-unique : (table profile : List ℕ) (issue r s : ℕ) (t u : List ℕ) → ForwardPromise table profile issue r t → ForwardPromise table profile issue s u
+    → (r ≡ s) × (t ≡ u)
+forward-unique table profile issue r s t u p q = (p .word-is ∙ sym (q .word-is), p .table-is ∙ sym (q .table-is))
+
+pub back-unique : (table profile : List ℕ) (r s : ℕ) (t u : List ℕ) → BackPromise table profile r t → BackPromise table profile s u → (r ≡ s) × (t ≡ u)
+back-unique table profile r s t u p q = (p .word-is ∙ sym (q .word-is), p .table-is ∙ sym (q .table-is))

@@ -11,9 +11,11 @@ use Rattle.calling.specs.Lent.{Lent}
 use Rattle.calling.specs.Serve.{serve}
 use Rattle.calling.specs.Leaves.{Leaves}
 use Rattle.calling.specs.declared.Came.{Came}
+use Rattle.moving.specs.Outcomes.{Outcome, came, forward, back}
+use Rattle.moving.specs.declared.Move.{Move}
 use Rattle.reporting.specs.Counts.{Reports}
-use Rattle.ndushavire.specs.Word.{word, checkWord, callWord}
-use Rattle.ndushavire.specs.Promise.{CheckPromise, CheckVectorsPromise, DecidePromise, ReportPromise}
+use Rattle.ndushavire.specs.Word.{word, checkWord, callWord, moveWord}
+use Rattle.ndushavire.specs.Promise.{CheckPromise, CheckVectorsPromise, DecidePromise, ReportPromise, ForwardPromise, BackPromise}
 
 pub check-kept : (table profile : List ℕ) (c : Checked) (r : ℕ) → c ≡ checkTable table (length profile) → r ≡ checkWord 5 c → CheckPromise table profile r
 check-kept table profile c r e f = record { answer = f ∙ ap (checkWord 5) e }
@@ -38,3 +40,13 @@ report-promised x area s e =
       buffer-is = s .buffer-is;
       area-is = s .area-is;
     }
+
+-- The moves.
+pub forward-promised : (table profile : List ℕ) (issue : ℕ) {m : Move} {w : ℕ} {table' : List ℕ} → came m table' ≡ forward table (length profile) issue
+    → w ≡ moveWord m → ForwardPromise table profile issue w table'
+forward-promised table profile issue e f =
+    record { word-is = f ∙ ap (λ (o : Outcome). moveWord (o .move)) e; table-is = ap (λ (o : Outcome). o .table) e }
+
+pub back-promised : (table profile : List ℕ) {m : Move} {w : ℕ} {table' : List ℕ} → came m table' ≡ back table (length profile) → w ≡ moveWord m
+    → BackPromise table profile w table'
+back-promised table profile e f = record { word-is = f ∙ ap (λ (o : Outcome). moveWord (o .move)) e; table-is = ap (λ (o : Outcome). o .table) e }

@@ -7,8 +7,9 @@ use Rattle.table.specs.Check.{checkTable}
 use Rattle.vectors.specs.VectorFile.{checkVectors}
 use Rattle.calling.specs.Lent.{Lent}
 use Rattle.calling.specs.Serve.{serve}
+use Rattle.moving.specs.Outcomes.{forward, back}
 use Rattle.reporting.specs.Report.{reported}
-use Rattle.ndushavire.specs.Word.{word, checkWord, callWord}
+use Rattle.ndushavire.specs.Word.{word, checkWord, callWord, moveWord}
 
 -- the check of a table: "the exact count or first bad block"; of the profile file its length alone counts
 pub record CheckPromise (table profile : List ℕ) (r : ℕ) : Type 0 where
@@ -24,6 +25,15 @@ pub record DecidePromise (x : Lent) (r : ℕ) (table' vectors' buffer' : List �
   pub table-is : table' ≡ serve x .table
   pub vectors-is : vectors' ≡ serve x .vectors
   pub buffer-is : buffer' ≡ serve x .buffer
+
+-- the moves between editions: the word and the table at exit are those of `forward` and `back`
+pub record ForwardPromise (table profile : List ℕ) (issue r : ℕ) (table' : List ℕ) : Type 0 where
+  pub word-is : r ≡ moveWord (forward table (length profile) issue .move)
+  pub table-is : table' ≡ forward table (length profile) issue .table
+
+pub record BackPromise (table profile : List ℕ) (r : ℕ) (table' : List ℕ) : Type 0 where
+  pub word-is : r ≡ moveWord (back table (length profile) .move)
+  pub table-is : table' ≡ back table (length profile) .table
 
 -- the report over a file of requests, lent as the request: its number, and the table, the vectors, the buffer and the area at exit are those of `reported`
 pub record ReportPromise (x : Lent) (area : List ℕ) (r : ℕ) (table' vectors' buffer' area' : List ℕ) : Type 0 where

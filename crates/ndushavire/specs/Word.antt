@@ -2,6 +2,9 @@
 use Prim.Native.Nat.{ℕ, _+_, _*_}
 use Rattle.calling.specs.Call.{Call}
 use Rattle.calling.specs.Call.{Answered, Refused}
+use Rattle.moving.specs.declared.Move.{Move}
+use Rattle.moving.specs.declared.Move.the-variants as move
+use Rattle.moving.specs.declared.Move.the-variants.{Moved}
 use Rattle.table.specs.declared.Checked.{Checked}
 use Rattle.table.specs.declared.Checked.the-variants.{Sound, Bad}
 
@@ -33,3 +36,8 @@ callValue (Refused number besides) = besides
 abbrev pub callWord : Call → ℕ
 callWord (Answered a) = word 0 (a .place) (a .length)
 callWord (Refused number besides) = word number 0 besides
+
+-- a move: number 0 with the count of records; a refusal's number with the block
+abbrev pub moveWord : Move → ℕ
+moveWord (Moved count) = word 0 0 count
+moveWord (move.Refused number block) = word number 0 block

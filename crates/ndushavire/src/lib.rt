@@ -1,11 +1,13 @@
 // What the daemon calls.
 use calling::Came;
+use moving::Move;
 use table::Checked;
 ghost use mathlib.Core.Path.{_≡_};
 ghost use Rattle.calling.specs.Call.{callOf};
 ghost use Rattle.calling.specs.Lent.{lent};
-ghost use Rattle.ndushavire.specs.Word.{word, checkWord, callWord};
+ghost use Rattle.ndushavire.specs.Word.{word, checkWord, callWord, moveWord};
 ghost use Rattle.ndushavire.specs.Promise.{CheckPromise, CheckVectorsPromise, DecidePromise, ReportPromise};
+ghost use Rattle.ndushavire.specs.Promise.{ForwardPromise, BackPromise};
 
 // What the number of a returned word counts, 2^48, and what the place counts, 2^32.
 const NUMBER: u64 = 281474976710656;
@@ -91,4 +93,30 @@ pub extern "C" fn ndushavire_report(
         0,
         0,
     )
+}
+
+// The word of a move.
+fn move_word(m: Move) -> u64
+    ensures { λ r. ⌜ r ≡ moveWord m ⌝ }
+{
+    match m {
+        Move::Moved(count) => word(0, 0, count),
+        Move::Refused { number, block } => word(number, 0, block),
+    }
+}
+
+// "the move from edition 1 to 2, given an issue number"
+#[no_mangle]
+pub extern "C" fn ndushavire_forward(table: &mut [u8], profile: &[u8], issue: u32) -> u64
+    ensures { λ r. ⌜ ForwardPromise (now (table .entry)) (now (profile .entry)) issue r (now (table .exit)) ⌝ }
+{
+    move_word(moving::forward(table, profile.len(), issue))
+}
+
+// "and the move back"
+#[no_mangle]
+pub extern "C" fn ndushavire_back(table: &mut [u8], profile: &[u8]) -> u64
+    ensures { λ r. ⌜ BackPromise (now (table .entry)) (now (profile .entry)) r (now (table .exit)) ⌝ }
+{
+    move_word(moving::back(table, profile.len()))
 }

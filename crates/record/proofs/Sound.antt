@@ -9,7 +9,7 @@ use Rattle.octets.proofs.Chains.{chain-says}
 use Rattle.record.specs.Fields.{bitsOf, barred, unregisteredServices}
 use Rattle.record.specs.HeaderBlock.{headerOf, soundCounts, isHeader, soundNumbers, soundHeaderRest, soundHeader}
 use Rattle.record.specs.Networks.{soundNetworks}
-use Rattle.record.specs.RecordBlock.{recordOf, isRecord, soundLimits, soundServer, soundRoaming, soundProfile, soundRest, soundRecord}
+use Rattle.record.specs.RecordBlock.{recordOf, isRecord, soundSet, soundLimits, soundServer, soundRoaming, soundProfile, soundRest, soundRecord}
 use Rattle.record.specs.declared.header.Header.{Header}
 use Rattle.record.specs.declared.subscriber.Record.{Record}
 use Rattle.record.proofs.Tests.{Limits, limits-say, HeaderTests, header-says}
@@ -21,9 +21,9 @@ unfolding soundHeader
 header-all b h s c t n r w eh ec es et en er ew = rw (ew, er, en, et, es, ec, eh)
 
 -- A record's numbers are tested first, and its unused places only where the numbers are within their limits.
-module _ (q : Record) (z h l n r w : Bool) (el : l ≡ soundLimits q) (good : (z && h && l && n && r && w) ≡ true) where
+module _ (q : Record) (z h t l n r w : Bool) (el : l ≡ soundLimits q) (good : (z && h && t && l && n && r && w) ≡ true) where
   within : Limits q
-  within = limits-say q (sym el ∙ chain-says z (h ∷ l ∷ n ∷ r ∷ w ∷ []) good 2)
+  within = limits-say q (sym el ∙ chain-says z (h ∷ t ∷ l ∷ n ∷ r ∷ w ∷ []) good 3)
 
   pub limits-mandatory : q .mandatory ≤ 4
   limits-mandatory = within .mandatory
@@ -31,16 +31,17 @@ module _ (q : Record) (z h l n r w : Bool) (el : l ≡ soundLimits q) (good : (z
   pub limits-optional : q .optional ≤ 4
   limits-optional = within .optional
 
-module _ (b : List ℕ) (k networks file : ℕ) (q : Record) (s : ℕ) (h l n r w : Bool) (eq : q ≡ recordOf b) (es : s ≡ sumWords b 128) (eh : h ≡ isRecord q k)
-    (el : l ≡ soundLimits q) (en : n ≡ soundServer q) (er : r ≡ soundRoaming q networks) (ew : w ≡ soundProfile q file) where
-  record-whole : (eqb s 0 && h && l && n && r && w && soundRest b q) ≡ soundRecord b k networks file
+module _ (b : List ℕ) (k : ℕ) (x : Header) (file : ℕ) (q : Record) (s : ℕ) (h t l n r w : Bool) (eq : q ≡ recordOf b) (es : s ≡ sumWords b 128)
+    (eh : h ≡ isRecord q k x) (et : t ≡ soundSet q) (el : l ≡ soundLimits q) (en : n ≡ soundServer q) (er : r ≡ soundRoaming q (x .networks))
+    (ew : w ≡ soundProfile q file) where
+  record-whole : (eqb s 0 && h && t && l && n && r && w && soundRest b q) ≡ soundRecord b k x file
   unfolding soundRecord
-  record-whole = rw (ew, er, en, el, eh, es, eq)
+  record-whole = rw (ew, er, en, el, et, eh, es, eq)
 
-  pub record-rest : {p : Bool} → (eqb s 0 && h && l && n && r && w) ≡ true → p ≡ soundRest b q → p ≡ soundRecord b k networks file
+  pub record-rest : {p : Bool} → (eqb s 0 && h && t && l && n && r && w) ≡ true → p ≡ soundRest b q → p ≡ soundRecord b k x file
   record-rest g e = e ∙ rw g at record-whole
 
-  pub record-refused : (eqb s 0 && h && l && n && r && w) ≡ false → false ≡ soundRecord b k networks file
+  pub record-refused : (eqb s 0 && h && t && l && n && r && w) ≡ false → false ≡ soundRecord b k x file
   record-refused g = rw g at record-whole
 
 module _ (b : List ℕ) (h : Header) {x : Bool} (is : h ≡ headerOf b) (e : x ≡ soundHeader b) (good : x ≡ true) where

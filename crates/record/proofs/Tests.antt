@@ -8,31 +8,33 @@ use borrow.Author.Tests.{eqb-true, leb-true, eq-eqb, le-leb}
 use Rattle.octets.specs.Run.{zeroBetween}
 use Rattle.octets.specs.Sum.{sumWords}
 use Rattle.octets.proofs.Chains.{chain-says, _also_}
-use Rattle.record.specs.HeaderBlock.{headerOf, soundCounts, isHeader, soundNumbers, soundHeaderRest, soundHeader}
+use Rattle.record.specs.HeaderBlock.{headerOf, soundCounts, soundEdition, isHeader, soundNumbers, soundHeaderRest, soundHeader}
 use Rattle.record.specs.Networks.{soundNetworks}
-use Rattle.record.specs.RecordBlock.{recordOf, isRecord, soundLimits, soundServer, soundRoaming, soundProfile, soundRest, soundRecord}
+use Rattle.record.specs.RecordBlock.{recordOf, isRecord, soundSet, soundLimits, soundServer, soundRoaming, soundProfile, soundRest, soundRecord}
+use Rattle.record.specs.declared.header.Header.{Header}
 use Rattle.record.specs.declared.subscriber.Record.{Record}
 
 -- A record block: its tests, its limits, and what is zero in it.
-pub record RecordTests (b : List ℕ) (k networks file : ℕ) : Type 0 where
+pub record RecordTests (b : List ℕ) (k : ℕ) (h : Header) (file : ℕ) : Type 0 where
   pub sum : sumWords b 128 ≡ 0
-  pub head : isRecord (recordOf b) k ≡ true
+  pub head : isRecord (recordOf b) k h ≡ true
+  pub set : soundSet (recordOf b) ≡ true
   pub limits : soundLimits (recordOf b) ≡ true
   pub server : soundServer (recordOf b) ≡ true
-  pub roaming : soundRoaming (recordOf b) networks ≡ true
+  pub roaming : soundRoaming (recordOf b) (h .networks) ≡ true
   pub profile : soundProfile (recordOf b) file ≡ true
   pub rest : soundRest b (recordOf b) ≡ true
 
-module _ (b : List ℕ) (k networks file : ℕ) where
-  pub record-says : soundRecord b k networks file ≡ true → RecordTests b k networks file
+module _ (b : List ℕ) (k : ℕ) (h : Header) (file : ℕ) where
+  pub record-says : soundRecord b k h file ≡ true → RecordTests b k h file
   unfolding soundRecord
   record-says e =
-      let s = chain-says _ (_ ∷ _ ∷ _ ∷ _ ∷ _ ∷ _ ∷ []) e in
-      record { sum = eqb-true _ _ (s 0); head = s 1; limits = s 2; server = s 3; roaming = s 4; profile = s 5; rest = s 6 }
+      let s = chain-says _ (_ ∷ _ ∷ _ ∷ _ ∷ _ ∷ _ ∷ _ ∷ []) e in
+      record { sum = eqb-true _ _ (s 0); head = s 1; set = s 2; limits = s 3; server = s 4; roaming = s 5; profile = s 6; rest = s 7 }
 
-  pub record-holds : RecordTests b k networks file → soundRecord b k networks file ≡ true
+  pub record-holds : RecordTests b k h file → soundRecord b k h file ≡ true
   unfolding soundRecord
-  record-holds p = eq-eqb _ _ (p .sum) also p .head also p .limits also p .server also p .roaming also p .profile also p .rest
+  record-holds p = eq-eqb _ _ (p .sum) also p .head also p .set also p .limits also p .server also p .roaming also p .profile also p .rest
 
 pub record Limits (r : Record) : Type 0 where
   pub state : r .state ≤ 2
@@ -74,7 +76,7 @@ pub record Zeros (b : List ℕ) (r : Record) : Type 0 where
   pub server : zeroBetween b (272 + r .server) 368 ≡ true
   pub mandatory : zeroBetween b (368 + 4 * r .mandatory) 384 ≡ true
   pub optional : zeroBetween b (384 + 4 * r .optional) 400 ≡ true
-  pub last : zeroBetween b 406 508 ≡ true
+  pub last : zeroBetween b 412 508 ≡ true
 
 module _ (b : List ℕ) (r : Record) where
   pub rest-says : soundRest b r ≡ true → Zeros b r
@@ -92,7 +94,7 @@ pub record HeaderTests (b : List ℕ) : Type 0 where
   pub keep : headerOf b .keep ≤ 1
   pub host : headerOf b .host ≤ 64
   pub realm : headerOf b .realm ≤ 64
-  pub last : zeroBetween b 400 508 ≡ true
+  pub edition : soundEdition (headerOf b) ≡ true
   pub places : soundNetworks b (headerOf b .networks) ≡ true
 
 pub header-says : (b : List ℕ) → soundHeader b ≡ true → HeaderTests b
@@ -103,13 +105,13 @@ header-says b e =
     let tests : List Bool = isHeader (headerOf b) ∷ soundNumbers (headerOf b) ∷ soundHeaderRest b (headerOf b) ∷ soundNetworks b (headerOf b .networks) ∷ [] in
     let s = chain-says (eqb (sumWords b 128) 0) tests (two 1) in
     let n = chain-says (leb (headerOf b .keep) 1) (_ ∷ _ ∷ _ ∷ _ ∷ []) (s 2) in
-    let z = chain-says (zeroBetween b 2 4) (_ ∷ _ ∷ _ ∷ []) (s 3) in
+    let i = chain-says (eqb (headerOf b .kind) 1) (_ ∷ _ ∷ []) (s 1) in
     record {
       count = leb-true _ _ (c 0);
       networks = leb-true _ _ (c 1);
       keep = leb-true _ _ (n 0);
       host = leb-true _ _ (n 2);
       realm = leb-true _ _ (n 4);
-      last = z 3;
+      edition = i 1;
       places = s 4;
     }

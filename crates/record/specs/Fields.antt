@@ -82,6 +82,16 @@ profileSize b = be16At b 404
 unfoldable pub profileOf : List ℕ → List ℕ → List ℕ
 profileOf b file = take (profileSize b) (drop (profileStart b) file)
 
+-- 02 [5]: "edition 2 in byte 1"; "an implicit set number (bytes 406-407, 0 for none)"; "an issue number (bytes 408-411 of every block ..)"
+abbrev pub editionOf : List ℕ → ℕ
+editionOf b = getD b 1 0
+
+abbrev pub setOf : List ℕ → ℕ
+setOf b = be16At b 406
+
+abbrev pub issueOf : List ℕ → ℕ
+issueOf b = be32At b 408
+
 -- "bits 0 pending, 1 barred, 2 unregistered services"
 abbrev pub pending : ℕ → Bool
 pending bits = eqb (bits % 2) 1

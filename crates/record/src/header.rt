@@ -5,7 +5,7 @@ use octets::run;
 use octets::sum;
 ghost use mathlib.Core.Path.{_≡_};
 ghost use lib.ListN.{length};
-ghost use Rattle.record.specs.HeaderBlock.{headerOf, soundCounts, isHeader, soundNumbers, soundHeaderRest, soundHeader};
+ghost use Rattle.record.specs.HeaderBlock.{headerOf, soundCounts, soundEdition, isHeader, soundNumbers, soundHeaderRest, soundHeader};
 
 // The numbers of the header block. Its names stay in the table.
 pub struct Header {
@@ -17,6 +17,7 @@ pub struct Header {
     pub host: u8,
     pub realm: u8,
     pub networks: u8,
+    pub issue: u32,
 }
 
 impl Header {
@@ -47,12 +48,18 @@ impl Header {
 
     pub const REST_AT: usize = 400;
 
+    pub const ISSUE_AT: usize = 408;
+
+    pub const LAST_AT: usize = 412;
+
     pub const CHECK_AT: usize = 508;
 
     // What each may hold.
     pub const KIND: u8 = 1;
 
-    pub const EDITION: u8 = 1;
+    pub const FIRST_EDITION: u8 = 1;
+
+    pub const SECOND_EDITION: u8 = 2;
 
     pub const NUMBER: u32 = 0;
 
@@ -78,6 +85,7 @@ impl Header {
             host: b[Header::HOST_LENGTH_AT],
             realm: b[Header::REALM_LENGTH_AT],
             networks: b[Header::NETWORKS_AT],
+            issue: number::be32(b, Header::ISSUE_AT),
         }
     }
 }
@@ -89,11 +97,18 @@ fn counts(h: Header) -> bool
     (h.count <= Header::MOST_COUNT) & (h.networks <= Header::MOST_NETWORKS)
 }
 
+// One of the two editions; the first names no issue number.
+fn edition(h: Header) -> bool
+    ensures { λ r. ⌜ r ≡ soundEdition h ⌝ }
+{
+    (h.edition == Header::FIRST_EDITION) & (h.issue == 0) | (h.edition == Header::SECOND_EDITION)
+}
+
 // The kind, the edition and the block's number.
 fn is_header(h: Header) -> bool
     ensures { λ r. ⌜ r ≡ isHeader h ⌝ }
 {
-    (h.kind == Header::KIND) & (h.edition == Header::EDITION) & (h.number == Header::NUMBER)
+    (h.kind == Header::KIND) & edition(h) & (h.number == Header::NUMBER)
 }
 
 // Keep, and the lengths of host and realm.
@@ -115,7 +130,8 @@ fn rest(b: &[u8], h: Header) -> bool
     run::zero_between(b, Header::BLANK_AT, Header::NUMBER_AT)
         & run::zero_tail(b, Header::HOST_AT, Header::REALM_AT, h.host)
         & run::zero_tail(b, Header::REALM_AT, Header::PLACES_AT, h.realm)
-        & run::zero_between(b, Header::REST_AT, Header::CHECK_AT)
+        & run::zero_between(b, Header::REST_AT, Header::ISSUE_AT)
+        & run::zero_between(b, Header::LAST_AT, Header::CHECK_AT)
 }
 
 // Whether a block is a sound header.

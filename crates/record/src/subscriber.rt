@@ -1,4 +1,5 @@
 // A record block: one public identity of a subscriber.
+use crate::header::Header;
 use octets::number;
 use octets::run;
 use octets::sum;
@@ -6,7 +7,8 @@ ghost use mathlib.Core.Path.{_≡_};
 ghost use Prim.Native.Nat.{_≤_};
 ghost use lib.ListN.{length};
 ghost use Rattle.record.specs.Fields.{pending, barred, unregisteredServices, cleared, pendingSet};
-ghost use Rattle.record.specs.RecordBlock.{recordOf, isRecord, soundLimits, soundServer, soundRoaming, soundProfile, soundRest, soundRecord};
+ghost use Rattle.record.specs.RecordBlock.{recordOf, isRecord, soundSet, soundLimits, soundServer, soundRoaming, soundProfile, soundRest};
+ghost use Rattle.record.specs.RecordBlock.{soundRecord};
 
 // The numbers of a record block. Its names stay in the table.
 pub struct Record {
@@ -23,6 +25,8 @@ pub struct Record {
     pub server: u8,
     pub start: u32,
     pub size: u32,
+    pub set: u32,
+    pub issue: u32,
 }
 
 impl Record {
@@ -65,7 +69,11 @@ impl Record {
 
     pub const PROFILE_LENGTH_AT: usize = 404;
 
-    pub const REST_AT: usize = 406;
+    pub const SET_AT: usize = 406;
+
+    pub const ISSUE_AT: usize = 408;
+
+    pub const REST_AT: usize = 412;
 
     pub const CHECK_AT: usize = 508;
 
@@ -74,8 +82,6 @@ impl Record {
 
     // What each may hold.
     pub const KIND: u8 = 2;
-
-    pub const EDITION: u8 = 1;
 
     pub const MOST_STATE: u8 = 2;
 
@@ -108,6 +114,8 @@ impl Record {
             server: b[Record::SERVER_LENGTH_AT],
             start: number::be32(b, Record::PROFILE_START_AT),
             size: number::be16(b, Record::PROFILE_LENGTH_AT),
+            set: number::be16(b, Record::SET_AT),
+            issue: number::be32(b, Record::ISSUE_AT),
         }
     }
 
@@ -145,11 +153,18 @@ impl Record {
     }
 }
 
-// The kind, the edition and the block's number.
-fn is_record(r: Record, k: u32) -> bool
-    ensures { λ x. ⌜ x ≡ isRecord r k ⌝ }
+// The kind and the block's number; the edition and the issue number are the header's.
+fn is_record(r: Record, k: u32, h: Header) -> bool
+    ensures { λ x. ⌜ x ≡ isRecord r k h ⌝ }
 {
-    (r.kind == Record::KIND) & (r.edition == Record::EDITION) & (r.number == k)
+    (r.kind == Record::KIND) & (r.edition == h.edition) & (r.number == k) & (r.issue == h.issue)
+}
+
+// No set number in the first edition.
+fn set_sound(r: Record) -> bool
+    ensures { λ x. ⌜ x ≡ soundSet r ⌝ }
+{
+    (r.set == 0) | (r.edition == Header::SECOND_EDITION)
 }
 
 // Each number within its limits.
@@ -215,18 +230,19 @@ fn rest(b: &[u8], r: Record) -> bool
         & run::zero_between(b, Record::REST_AT, Record::CHECK_AT)
 }
 
-// Whether a block is sound as record k, under a header with so many networks and beside a profile file of such a length.
-pub fn sound(b: &[u8], k: u32, networks: u32, file: usize) -> bool
-    requires { ⌜ (length (now b) ≡ 512) × (networks ≤ 8) ⌝ }
-    ensures { λ x. ⌜ x ≡ soundRecord (now (b .entry)) k networks file ⌝ }
+// Whether a block is sound as record k, under a header and beside a profile file of such a length.
+pub fn sound(b: &[u8], k: u32, h: Header, file: usize) -> bool
+    requires { ⌜ (length (now b) ≡ 512) × (h .networks ≤ 8) ⌝ }
+    ensures { λ x. ⌜ x ≡ soundRecord (now (b .entry)) k h file ⌝ }
 {
     let total = sum::sum_words(b, 128);
     let r = Record::read(b);
     if (total == 0)
-        & is_record(r, k)
+        & is_record(r, k, h)
+        & set_sound(r)
         & limits(r)
         & server_sound(r)
-        & roams(r, networks)
+        & roams(r, h.networks as u32)
         & within(r, file)
     {
         rest(b, r)

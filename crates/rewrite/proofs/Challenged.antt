@@ -12,6 +12,7 @@ use Rattle.octets.specs.Name.{same}
 use Rattle.octets.proofs.Names.{same-yes}
 use Rattle.record.specs.Fields.{stateOf, bitsOf, serverOf, pendingSet}
 use Rattle.record.specs.RecordBlock.{recordOf, serverFits, soundRecord}
+use Rattle.record.specs.declared.header.Header.{Header}
 use Rattle.record.proofs.Tests.{RecordTests, record-says, Limits, limits-say}
 use Rattle.rewrite.specs.Change.{Kept, Keeps}
 use Rattle.rewrite.specs.Renew.{renewed, challenged}
@@ -46,9 +47,9 @@ module _ (name : List ℕ) (least : 1 ≤ length name) (most : length name ≤ 9
         go true = refl
         go false = refl
 
-    two : (k networks file : ℕ) → soundRecord b k networks file ≡ true → stateOf b ≤ 2
+    two : (k : ℕ) (h : Header) (file : ℕ) → soundRecord b k h file ≡ true → stateOf b ≤ 2
     unfolding recordOf
-    two k networks file s = limits-say (recordOf b) (record-says b k networks file s .limits) .state
+    two k h file s = limits-say (recordOf b) (record-says b k h file s .limits) .state
 
     new-kept : Kept b new
     new-kept =
@@ -57,8 +58,8 @@ module _ (name : List ℕ) (least : 1 ≤ length name) (most : length name ≤ 9
           others = λ i l e. renewed-other b (stateOf b) (pendingSet (bitsOf b)) name i e;
           bits = rw (renewed-bits b (stateOf b) (pendingSet (bitsOf b)) name whole) (omega arith);
           sound =
-              λ k networks file s.
-              renewed-sound b (stateOf b) (pendingSet (bitsOf b)) name whole (two k networks file s) (omega arith) most served k networks file s;
+              λ k h file s.
+              renewed-sound b (stateOf b) (pendingSet (bitsOf b)) name whole (two k h file s) (omega arith) most served k h file s;
         }
 
     challenged-kept : Kept b (challenged name b)

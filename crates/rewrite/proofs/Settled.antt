@@ -11,7 +11,8 @@ use Rattle.octets.specs.Sum.{sumWords}
 use Rattle.octets.proofs.Numbers.{be16-alike, be32-alike}
 use Rattle.octets.proofs.Runs.{at-zero, zero-alike}
 use Rattle.record.specs.Fields.{bitsOf, cleared}
-use Rattle.record.specs.RecordBlock.{recordOf, isRecord, serverFits, soundServer, soundRecord}
+use Rattle.record.specs.RecordBlock.{recordOf, isRecord, soundSet, serverFits, soundServer, soundRecord}
+use Rattle.record.specs.declared.header.Header.{Header}
 use Rattle.record.proofs.Tests.{RecordTests, record-says, record-holds, Limits, limits-say, limits-hold, Zeros, rest-says, rest-holds}
 use Rattle.rewrite.specs.Change.{alterable, Kept, Keeps}
 use Rattle.rewrite.specs.Renew.{renewed, settled, Fitting}
@@ -51,9 +52,19 @@ module _ (b : List ℕ) (state bits : ℕ) (name : List ℕ) (whole : length b �
   size-at : be16At new 404 ≡ be16At b 404
   size-at = be16-alike new b 404 404 (λ j l. byte (404 + j) (kept-high (404 + j) (omega arith) (omega arith)))
 
-  head-same : (k : ℕ) → isRecord (recordOf new) k ≡ isRecord (recordOf b) k
+  set-at : be16At new 406 ≡ be16At b 406
+  set-at = be16-alike new b 406 406 (λ j l. byte (406 + j) (kept-high (406 + j) (omega arith) (omega arith)))
+
+  issue-at : be32At new 408 ≡ be32At b 408
+  issue-at = be32-alike new b 408 408 (λ j l. byte (408 + j) (kept-high (408 + j) (omega arith) (omega arith)))
+
+  head-same : (k : ℕ) (h : Header) → isRecord (recordOf new) k h ≡ isRecord (recordOf b) k h
   unfolding recordOf
-  head-same k = rw (byte 0 refl, byte 1 refl, be32-alike new b 4 4 (λ j l. byte (4 + j) (kept-first (4 + j) (omega arith))))
+  head-same k h = rw (byte 0 refl, byte 1 refl, be32-alike new b 4 4 (λ j l. byte (4 + j) (kept-first (4 + j) (omega arith))), issue-at)
+
+  set-same : soundSet (recordOf new) ≡ soundSet (recordOf b)
+  unfolding recordOf
+  set-same = rw (set-at, byte 1 refl)
 
   limits-kept : state ≤ 2 → bits ≤ 7 → length name ≤ 96 → Limits (recordOf b) → Limits (recordOf new)
   unfolding recordOf
@@ -81,18 +92,19 @@ module _ (b : List ℕ) (state bits : ℕ) (name : List ℕ) (whole : length b �
         server = rw server-at (at-zero new (272 + length name) 368 past);
         mandatory = rw (byte 11 refl) (zero-alike new b _ 384 (λ i u v. byte i (kept-high i (omega arith) (omega arith))) ∙ z .mandatory);
         optional = rw (byte 12 refl) (zero-alike new b _ 400 (λ i u v. byte i (kept-high i (omega arith) (omega arith))) ∙ z .optional);
-        last = zero-alike new b 406 508 (λ i u v. byte i (kept-high i (omega arith) (omega arith))) ∙ z .last;
+        last = zero-alike new b 412 508 (λ i u v. byte i (kept-high i (omega arith) (omega arith))) ∙ z .last;
       }
 
   -- A sound record, renewed with fields that fit, is sound.
-  pub renewed-sound : state ≤ 2 → bits / 2 ≡ bitsOf b / 2 → length name ≤ 96 → serverFits (length name) state bits ≡ true → (k networks file : ℕ)
-      → soundRecord b k networks file ≡ true → soundRecord (renewed b state bits name) k networks file ≡ true
+  pub renewed-sound : state ≤ 2 → bits / 2 ≡ bitsOf b / 2 → length name ≤ 96 → serverFits (length name) state bits ≡ true → (k : ℕ) (h : Header) (file : ℕ)
+      → soundRecord b k h file ≡ true → soundRecord (renewed b state bits name) k h file ≡ true
   unfolding recordOf
-  renewed-sound two above most fit k networks file sound =
-      record-holds new k networks file
+  renewed-sound two above most fit k h file sound =
+      record-holds new k h file
       (record {
         sum = new-zero;
-        head = rw (head-same k) (was .head);
+        head = rw (head-same k h) (was .head);
+        set = rw set-same (was .set);
         limits = limits-hold (recordOf new) (limits-kept two (omega (arith, within .bits)) most within);
         server = rw (server-at, state-at, bits-at) fit;
         roaming = rw (byte 10 refl) (was .roaming);
@@ -100,8 +112,8 @@ module _ (b : List ℕ) (state bits : ℕ) (name : List ℕ) (whole : length b �
         rest = rest-holds new (recordOf new) (zeros-kept (rest-says b (recordOf b) (was .rest)));
       })
     where
-      was : RecordTests b k networks file
-      was = record-says b k networks file sound
+      was : RecordTests b k h file
+      was = record-says b k h file sound
 
       within : Limits (recordOf b)
       within = limits-say (recordOf b) (was .limits)

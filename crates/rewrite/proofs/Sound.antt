@@ -13,6 +13,7 @@ use Rattle.octets.proofs.Parts.{part-alike}
 use Rattle.record.specs.Fields.{publicSize, privateSize, publicOf, privateOf}
 use Rattle.record.specs.HeaderBlock.{headerOf}
 use Rattle.record.specs.RecordBlock.{soundRecord}
+use Rattle.record.specs.declared.header.Header.{Header}
 use Rattle.table.specs.Blocks.{blockOf, publicAt}
 use Rattle.table.specs.Check.{isLess, risesAt, soundAt, checkTable}
 use Rattle.table.specs.declared.Checked.the-variants.{Sound}
@@ -39,8 +40,8 @@ module _ (b c : List ℕ) (kept : Kept b c) where
       (part-alike c b 144 (privateSize b) (kept .size) (λ i u v. kept .others i (omega arith) (kept-low i (omega arith) (omega arith))))
 
 module _ (x y : List ℕ) (count : ℕ) (keeping : Keeping x y count) (sound : SoundTable x count) where
-  abbrev networks : ℕ
-  networks = headerOf (blockOf x 0) .networks
+  abbrev h : Header
+  h = headerOf (blockOf x 0)
 
   was : TableTests x (sound .file) count
   was = sound-tests x count sound
@@ -58,11 +59,11 @@ module _ (x y : List ℕ) (count : ℕ) (keeping : Keeping x y count) (sound : S
       go true e = refl
       go false e = let l : 1 < k = leb-false k 1 e in rw (public-same (k - 1) (omega arith) (omega arith), public-same k a b)
 
-  good-at : (k : ℕ) → 1 ≤ k → k ≤ count → soundAt y networks (sound .file) k ≡ true
+  good-at : (k : ℕ) → 1 ≤ k → k ≤ count → soundAt y h (sound .file) k ≡ true
   unfolding soundAt
   good-at k a b =
-      rw (keeping .each k a b .sound k networks (sound .file) (sound-record x count sound k a b), rises-same k a b)
-      (and-right (soundRecord (blockOf x k) k networks (sound .file)) (risesAt x k) (was .each k a b))
+      rw (keeping .each k a b .sound k h (sound .file) (sound-record x count sound k a b), rises-same k a b)
+      (and-right (soundRecord (blockOf x k) k h (sound .file)) (risesAt x k) (was .each k a b))
 
   pub keeping-sound : checkTable y (sound .file) ≡ Sound count
   keeping-sound =

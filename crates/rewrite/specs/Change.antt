@@ -8,6 +8,7 @@ use lib.ListN.{length, getD}
 use Rattle.octets.specs.Name.{same}
 use Rattle.record.specs.Fields.{bitsOf}
 use Rattle.record.specs.RecordBlock.{soundRecord}
+use Rattle.record.specs.declared.header.Header.{Header}
 use Rattle.table.specs.Blocks.{blockOf}
 use Rattle.blocks.specs.Changed.{changedAll, changedIn}
 use Rattle.lookup.specs.declared.Found.{Found}
@@ -31,7 +32,7 @@ pub record Kept (b c : List ℕ) : Type 0 where
   pub size : length c ≡ length b
   pub others : (i : ℕ) → i < 512 → alterable i ≡ false → getD c i 0 ≡ getD b i 0
   pub bits : bitsOf c / 2 ≡ bitsOf b / 2
-  pub sound : (k networks file : ℕ) → soundRecord b k networks file ≡ true → soundRecord c k networks file ≡ true
+  pub sound : (k : ℕ) (h : Header) (file : ℕ) → soundRecord b k h file ≡ true → soundRecord c k h file ≡ true
 
 -- what a change keeps of every block; done twice it is done once
 pub record Keeps (change : List ℕ → List ℕ) : Type 0 where

@@ -14,6 +14,7 @@ use Rattle.octets.specs.All.{allBelow}
 use Rattle.octets.proofs.All.{and-left, and-right, all-at}
 use Rattle.record.specs.Fields.{networksOf, publicSize, privateSize}
 use Rattle.record.specs.HeaderBlock.{headerOf, soundHeader}
+use Rattle.record.specs.declared.header.Header.{Header}
 use Rattle.record.specs.Networks.{placeAt, usedPlace, soundPlace, soundNetworks}
 use Rattle.record.specs.RecordBlock.{recordOf, soundRecord}
 use Rattle.record.proofs.Tests.{RecordTests, record-says, Limits, limits-say, HeaderTests, header-says}
@@ -28,17 +29,17 @@ pub record TableTests (t : List ℕ) (file count : ℕ) : Type 0 where
   pub size : length t ≡ 512 * (count + 1)
   pub counted : headerOf (blockOf t 0) .count ≡ count
   pub header : soundHeader (blockOf t 0) ≡ true
-  pub each : (k : ℕ) → 1 ≤ k → k ≤ count → soundAt t (headerOf (blockOf t 0) .networks) file k ≡ true
+  pub each : (k : ℕ) → 1 ≤ k → k ≤ count → soundAt t (headerOf (blockOf t 0)) file k ≡ true
 
 pub table-says : (t : List ℕ) (file count : ℕ) → checkTable t file ≡ Sound count → TableTests t file count
 unfolding checkTable checkRecords
 table-says t file count e = go (leb 512 (length t) && soundHeader (blockOf t 0) && eqb (length t) (512 * (headerOf (blockOf t 0) .count + 1))) refl e
   where
     good : ℕ → Bool
-    good = soundAt t (headerOf (blockOf t 0) .networks) file
+    good = soundAt t (headerOf (blockOf t 0)) file
 
     go : (x : Bool) → (leb 512 (length t) && soundHeader (blockOf t 0) && eqb (length t) (512 * (headerOf (blockOf t 0) .count + 1))) ≡ x
-        → cond x (checkRecords t (headerOf (blockOf t 0) .count) (headerOf (blockOf t 0) .networks) file) (Bad 0) ≡ Sound count → TableTests t file count
+        → cond x (checkRecords t (headerOf (blockOf t 0)) file) (Bad 0) ≡ Sound count → TableTests t file count
     go false f g = bad-sound (Bad 0) 0 count refl g
     go true f g =
         let n : headerOf (blockOf t 0) .count ≡ count = good-count good (headerOf (blockOf t 0) .count) count (headerOf (blockOf t 0) .count) 1 g in
@@ -52,9 +53,18 @@ table-says t file count e = go (leb 512 (length t) && soundHeader (blockOf t 0) 
 
 pub table-holds : (t : List ℕ) (file count : ℕ) → TableTests t file count → checkTable t file ≡ Sound count
 unfolding checkTable checkRecords
-table-holds t file count s =
-    rw (s .header, s .counted, le-leb 512 (length t) (omega (arith, s .size)), eq-eqb (length t) (512 * (count + 1)) (s .size))
-    (all-good (soundAt t (headerOf (blockOf t 0) .networks) file) count count 1 (λ j a b. s .each j a (omega arith)))
+table-holds t file count s = go ∙ ap Sound (s .counted)
+  where
+    h : Header
+    h = headerOf (blockOf t 0)
+
+    long : length t ≡ 512 * (h .count + 1)
+    long = rw (s .counted) (s .size)
+
+    go : checkTable t file ≡ Sound (h .count)
+    go =
+        rw (s .header, le-leb 512 (length t) (omega (arith, s .size)), eq-eqb (length t) (512 * (h .count + 1)) long)
+        (all-good (soundAt t h file) (h .count) (h .count) 1 (λ j a b. s .each j a (omega (arith, s .counted))))
 
 is-less : (o : Order) → isLess o ≡ true → o ≡ Less
 is-less Less e = refl
@@ -100,13 +110,13 @@ module _ (t : List ℕ) (count : ℕ) (s : SoundTable t count) where
     sound-place = rw e (place-room (blockOf t 0) (networksOf (blockOf t 0)) (sound-header .networks) (sound-header .places))
 
   -- what each record says
-  pub sound-record : (k : ℕ) → 1 ≤ k → k ≤ count → soundRecord (blockOf t k) k (headerOf (blockOf t 0) .networks) (s .file) ≡ true
+  pub sound-record : (k : ℕ) → 1 ≤ k → k ≤ count → soundRecord (blockOf t k) k (headerOf (blockOf t 0)) (s .file) ≡ true
   unfolding soundAt
-  sound-record k a b = and-left (soundRecord (blockOf t k) k (headerOf (blockOf t 0) .networks) (s .file)) _ (sound-tests .each k a b)
+  sound-record k a b = and-left (soundRecord (blockOf t k) k (headerOf (blockOf t 0)) (s .file)) _ (sound-tests .each k a b)
 
   pub sound-limits : (k : ℕ) → 1 ≤ k → k ≤ count → Limits (recordOf (blockOf t k))
   sound-limits k a b =
-      limits-say (recordOf (blockOf t k)) (record-says (blockOf t k) k (headerOf (blockOf t 0) .networks) (s .file) (sound-record k a b) .limits)
+      limits-say (recordOf (blockOf t k)) (record-says (blockOf t k) k (headerOf (blockOf t 0)) (s .file) (sound-record k a b) .limits)
 
   pub sound-public : (k : ℕ) → 1 ≤ k → k ≤ count → publicSize (blockOf t k) ≤ 128
   unfolding recordOf
@@ -117,7 +127,7 @@ module _ (t : List ℕ) (count : ℕ) (s : SoundTable t count) where
   unfolding soundAt risesAt
   sound-rises k a b =
       let g : risesAt t (suc k) ≡ true =
-      and-right (soundRecord (blockOf t (suc k)) (suc k) (headerOf (blockOf t 0) .networks) (s .file)) _
+      and-right (soundRecord (blockOf t (suc k)) (suc k) (headerOf (blockOf t 0)) (s .file)) _
       (sound-tests .each (suc k) (omega arith) (omega arith)) in
       let l : 1 < suc k = omega arith in
       let q : suc k - 1 ≡ k = omega arith in

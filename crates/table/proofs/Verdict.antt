@@ -26,6 +26,6 @@ module _ (t : List ℕ) (file : ℕ) where
     unfolding checkTable
     table-length f n = let s : soundHeader b ≡ true = cc in rw (← at, le-leb _ _ long, s, ← is, ne-eqb _ _ n)
 
-    pub table-records : {r : Checked} → x ≡ true → length t ≡ 512 * (h .count + 1) → r ≡ checkRecords t (h .count) (h .networks) file → r ≡ checkTable t file
+    pub table-records : {r : Checked} → x ≡ true → length t ≡ 512 * (h .count + 1) → r ≡ checkRecords t h file → r ≡ checkTable t file
     unfolding checkTable
     table-records f n g = let s : soundHeader b ≡ true = cc in rw (← at, le-leb _ _ long, s, ← is, eq-eqb _ _ n) g

@@ -9,6 +9,7 @@ use Rattle.octets.specs.declared.name.Order.{Order}
 use Rattle.octets.specs.declared.name.Order.the-variants.{Less, Equal, Greater}
 use Rattle.record.specs.HeaderBlock.{headerOf, soundHeader}
 use Rattle.record.specs.RecordBlock.{soundRecord}
+use Rattle.record.specs.declared.header.Header.{Header}
 use Rattle.table.specs.Blocks.{blockOf, publicAt}
 use Rattle.table.specs.declared.Checked.{Checked}
 use Rattle.table.specs.declared.Checked.the-variants.{Sound, Bad}
@@ -23,20 +24,20 @@ unfoldable pub risesAt : List ℕ → ℕ → Bool
 risesAt t k = cond (leb k 1) true (isLess (orderOf (publicAt t (k - 1)) (publicAt t k)))
 
 -- block k is a sound record in its place
-unfoldable pub soundAt : List ℕ → ℕ → ℕ → ℕ → Bool
-soundAt t networks file k = soundRecord (blockOf t k) k networks file && risesAt t k
+unfoldable pub soundAt : List ℕ → Header → ℕ → ℕ → Bool
+soundAt t h file k = soundRecord (blockOf t k) k h file && risesAt t k
 
 -- the first of the n blocks from k on that is not good, and the count where there is none
 unfoldable pub firstBad : (ℕ → Bool) → ℕ → ℕ → ℕ → Checked
 firstBad good count zero k = Sound count
 firstBad good count (suc n) k = cond (good k) (firstBad good count n (suc k)) (Bad k)
 
-unfoldable pub checkRecords : List ℕ → ℕ → ℕ → ℕ → Checked
-checkRecords t count networks file = firstBad (soundAt t networks file) count count 1
+unfoldable pub checkRecords : List ℕ → Header → ℕ → Checked
+checkRecords t h file = firstBad (soundAt t h file) (h .count) (h .count) 1
 
 -- "Length is exactly 512 x (count + 1); if not, block 0 is bad." A table without a whole block has no header: block 0 is bad.
 unfoldable pub checkTable : List ℕ → ℕ → Checked
 checkTable t file =
     cond (leb 512 (length t) && soundHeader (blockOf t 0) && eqb (length t) (512 * (headerOf (blockOf t 0) .count + 1)))
-    (checkRecords t (headerOf (blockOf t 0) .count) (headerOf (blockOf t 0) .networks) file)
+    (checkRecords t (headerOf (blockOf t 0)) file)
     (Bad 0)

@@ -55,21 +55,22 @@ fn rises(t: &[u8], k: usize) -> bool
 }
 
 // Whether block k is a sound record in its place.
-fn record_at(t: &[u8], networks: u32, file: usize, k: usize) -> bool
-    requires { ⌜ (1 ≤ k) × (k ≤ 4096) × (networks ≤ 8) × (512 * k + 512 ≤ length (now t)) ⌝ }
-    ensures { λ r. ⌜ r ≡ soundAt (now (t .entry)) networks file k ⌝ }
+fn record_at(t: &[u8], h: Header, file: usize, k: usize) -> bool
+    requires { ⌜ (1 ≤ k) × (k ≤ 4096) × (h .networks ≤ 8) × (512 * k + 512 ≤ length (now t)) ⌝ }
+    ensures { λ r. ⌜ r ≡ soundAt (now (t .entry)) h file k ⌝ }
 {
-    subscriber::sound(block(t, k), k as u32, networks, file) & rises(t, k)
+    subscriber::sound(block(t, k), k as u32, h, file) & rises(t, k)
 }
 
-// The records of a table, one after the other.
-fn records(t: &[u8], count: usize, networks: u32, file: usize) -> Checked
-    requires { ⌜ (count ≤ 4096) × (networks ≤ 8) × (length (now t) ≡ 512 * (count + 1)) ⌝ }
-    ensures { λ r. ⌜ r ≡ checkRecords (now (t .entry)) count networks file ⌝ }
+// The records of a table, one after the other, under its header.
+fn records(t: &[u8], h: Header, file: usize) -> Checked
+    requires { ⌜ (h .count ≤ 4096) × (h .networks ≤ 8) × (length (now t) ≡ 512 * (h .count + 1)) ⌝ }
+    ensures { λ r. ⌜ r ≡ checkRecords (now (t .entry)) h file ⌝ }
 {
+    let count = h.count as usize;
     let mut k = 1;
     while k <= count {
-        if record_at(t, networks, file, k) {
+        if record_at(t, h, file, k) {
             k += 1;
         } else {
             return Checked::Bad(k as u32);
@@ -90,7 +91,7 @@ pub fn check(t: &[u8], file: usize) -> Checked
     let count = h.count as usize;
     if header::sound(b) {
         if t.len() == BLOCK * (count + 1) {
-            records(t, count, h.networks as u32, file)
+            records(t, h, file)
         } else {
             Checked::Bad(0)
         }

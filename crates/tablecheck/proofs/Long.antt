@@ -21,7 +21,7 @@ unfolding checkTable
 long-bad t file h = go (leb 512 (length t)) (soundHeader (blockOf t 0)) (eqb (length t) (512 * (headerOf (blockOf t 0) .count + 1))) refl refl
   where
     go : (x y z : Bool) → soundHeader (blockOf t 0) ≡ y → eqb (length t) (512 * (headerOf (blockOf t 0) .count + 1)) ≡ z
-        → cond (x && y && z) (checkRecords t (headerOf (blockOf t 0) .count) (headerOf (blockOf t 0) .networks) file) (Bad 0) ≡ Bad 0
+        → cond (x && y && z) (checkRecords t (headerOf (blockOf t 0)) file) (Bad 0) ≡ Bad 0
     go true true true e f =
         let n : headerOf (blockOf t 0) .count ≤ 4096 = header-count (blockOf t 0) (headerOf (blockOf t 0)) refl refl e in
         absurd (omega (arith, eqb-true (length t) (512 * (headerOf (blockOf t 0) .count + 1)) f))

@@ -24,7 +24,12 @@ pub fn user_authorization<'a>(request: &Request<'a>, table: Table<'a>, slip: Sli
     if slip.is(Fault::RoamingBeforeBarring) && !roaming {
         return Verdict::of(Experimental(5004));
     }
-    let barring_free = slip.is(Fault::BarringNotAsked) || (slip.is(Fault::BarringFreeForType1) && asked_type == 1);
+    let barring_free = match slip.0 {
+        Some(Fault::BarringNotAsked) => true,
+        Some(Fault::BarringFreeForType1) => asked_type == 1,
+        Some(Fault::BarredGoesWithSet) => goes_with_set(record, table),
+        _ => false,
+    };
     if record.has(BARRED) && !barring_free {
         return Verdict::of(if slip.is(Fault::BarredIsExperimental) { Experimental(5003) } else { Base(5003) });
     }
@@ -32,6 +37,12 @@ pub fn user_authorization<'a>(request: &Request<'a>, table: Table<'a>, slip: Sli
         return Verdict::of(Experimental(5004));
     }
     by_type_and_state(asked_type, record, table, slip)
+}
+
+/// Only a faulty program asks for the set number: whether a record of its subscription has the same and is not barred.
+fn goes_with_set(record: Record, table: Table) -> bool {
+    let same = |it: &Record| it.private() == record.private() && it.set() == record.set() && it.set() != 0;
+    table.records().any(|(_, it)| same(&it) && !it.has(BARRED))
 }
 
 fn is_roaming_asked(asked_type: u32, slip: Slip) -> bool {

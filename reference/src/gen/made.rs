@@ -13,9 +13,11 @@ pub enum Stream {
     Calls,
     /// The report, over files of many requests.
     Reports,
+    /// The moves of a table forward and back.
+    Moves,
 }
 
-pub const STREAMS: [Stream; 4] = [Stream::Tables, Stream::Vectors, Stream::Calls, Stream::Reports];
+pub const STREAMS: [Stream; 5] = [Stream::Tables, Stream::Vectors, Stream::Calls, Stream::Reports, Stream::Moves];
 
 impl Stream {
     pub fn by_name(name: &str) -> Option<Stream> {
@@ -28,6 +30,7 @@ impl Stream {
             Stream::Vectors => "vectors",
             Stream::Calls => "calls",
             Stream::Reports => "reports",
+            Stream::Moves => "moves",
         }
     }
 }

@@ -6,6 +6,7 @@ mod checks;
 pub mod damage;
 mod made;
 pub mod model;
+pub mod moves;
 mod names;
 pub mod reports;
 pub mod request;
@@ -29,5 +30,6 @@ pub fn make(stream: Stream, seed: u64, number: u64) -> Made {
         Stream::Vectors => vectors::case(&mut rng),
         Stream::Calls => calls::case(&mut rng),
         Stream::Reports => reports::case(&mut rng),
+        Stream::Moves => moves::case(&mut rng),
     }
 }

@@ -1,10 +1,12 @@
 //! A table as its maker thinks of it, and its bytes.
 
 use crate::block::{mend, put_word, BLOCK};
-use crate::table::{self, header, record, Record, Table, NETWORK_PLACE};
+use crate::table::{self, header, record, Record, Table, EDITION, EDITION_1, EDITION_2, ISSUE, NETWORK_PLACE};
 
 #[derive(Clone, Debug)]
 pub struct TableModel {
+    /// The issue number of edition 2; none of edition 1.
+    pub issue: Option<u32>,
     pub keep: bool,
     pub host: Vec<u8>,
     pub realm: Vec<u8>,
@@ -25,12 +27,15 @@ pub struct RecordModel {
     pub server_name: Vec<u8>,
     pub profile_start: u32,
     pub profile_length: u16,
+    /// 0 for none, as all are in edition 1.
+    pub set: u16,
 }
 
 impl TableModel {
     /// The table of document 01's examples, without records.
     pub fn of_the_isle() -> TableModel {
         TableModel {
+            issue: None,
             keep: false,
             host: b"hss.isle".to_vec(),
             realm: b"isle".to_vec(),
@@ -43,6 +48,7 @@ impl TableModel {
     pub fn of(table: Table) -> TableModel {
         let header = table.header();
         TableModel {
+            issue: header.issue(),
             keep: header.keep(),
             host: header.host().to_vec(),
             realm: header.realm().to_vec(),
@@ -55,14 +61,14 @@ impl TableModel {
         let mut bytes = vec![0; BLOCK * (self.records.len() + 1)];
         self.encode_header(&mut bytes[..BLOCK]);
         for (index, record) in self.records.iter().enumerate() {
-            record.encode(&mut bytes[BLOCK * (index + 1)..][..BLOCK], index as u32 + 1);
+            record.encode(&mut bytes[BLOCK * (index + 1)..][..BLOCK], index as u32 + 1, self.issue);
         }
         bytes
     }
 
     fn encode_header(&self, block: &mut [u8]) {
         block[0] = 1;
-        block[1] = 1;
+        put_edition(block, self.issue);
         put_word(block, header::COUNT, self.records.len() as u32);
         block[header::KEEP] = self.keep as u8;
         block[header::NETWORKS] = self.networks.len() as u8;
@@ -89,6 +95,7 @@ impl RecordModel {
             server_name: record.server_name().to_vec(),
             profile_start: record.profile_start() as u32,
             profile_length: record.profile_length() as u16,
+            set: record.set(),
         }
     }
 
@@ -100,9 +107,9 @@ impl RecordModel {
         self.has(table::PENDING)
     }
 
-    fn encode(&self, block: &mut [u8], number: u32) {
+    fn encode(&self, block: &mut [u8], number: u32, issue: Option<u32>) {
         block[0] = 2;
-        block[1] = 1;
+        put_edition(block, issue);
         put_word(block, 4, number);
         block[record::STATE] = self.state;
         block[record::BITS] = self.bits;
@@ -119,9 +126,15 @@ impl RecordModel {
             put_word(block, record::OPTIONAL + 4 * n, *capability);
         }
         put_word(block, record::PROFILE_START, self.profile_start);
-        block[record::PROFILE_LENGTH..record::REST].copy_from_slice(&self.profile_length.to_be_bytes());
+        block[record::PROFILE_LENGTH..record::SET].copy_from_slice(&self.profile_length.to_be_bytes());
+        block[record::SET..ISSUE].copy_from_slice(&self.set.to_be_bytes());
         mend(block);
     }
+}
+
+fn put_edition(block: &mut [u8], issue: Option<u32>) {
+    block[EDITION] = if issue.is_some() { EDITION_2 } else { EDITION_1 };
+    put_word(block, ISSUE, issue.unwrap_or(0));
 }
 
 fn put_name(block: &mut [u8], length_at: usize, at: usize, name: &[u8]) {

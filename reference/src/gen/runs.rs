@@ -1,4 +1,4 @@
-//! Runs: rows of calls with table and vector file carried along.
+//! Runs: rows of calls with table and vector file carried along, and now and then a move of the table between them.
 
 use super::asks;
 use super::made::Made;
@@ -7,12 +7,12 @@ use super::request::RequestModel;
 use super::tables;
 use super::twists;
 use super::vectors::{self, model::VectorModel};
-use crate::cases::{Case, Outcome, Slice};
+use crate::cases::{Case, Entry, Outcome, Slice};
 use crate::kinds::Command;
 use crate::refuse::LEAST_BUFFER;
 use crate::rng::Rng;
 use crate::slip::Slip;
-use crate::table::Table;
+use crate::table::{Table, EDITION, EDITION_1};
 
 /// A call of a run, and what the program does with it.
 pub struct Step {
@@ -29,10 +29,14 @@ pub fn run(seed: u64, number: u64, slip: Slip) -> Vec<Step> {
     let mut vectors = vectors::model::encode(&told_apart(vectors::of_people(&mut rng, &sound.model)));
     let mut steps = Vec::new();
     for _ in 0..rng.between(10, 40) {
-        let made = call(&mut rng, &table, &sound.profile, &vectors);
+        let made = match rng.once_in(12) {
+            true => moved(&mut rng, &table, &sound.profile),
+            false => call(&mut rng, &table, &sound.profile, &vectors),
+        };
         let outcome = made.case.outcome(slip);
-        for (slice, file) in [(Slice::Table, &mut table), (Slice::Vectors, &mut vectors)] {
-            *file = made.case.after(&outcome, slice).expect("a change that lies in its file");
+        table = made.case.after(&outcome, Slice::Table).expect("a change that lies in the table");
+        if made.case.entry == Entry::Decide {
+            vectors = made.case.after(&outcome, Slice::Vectors).expect("a change that lies in the vector file");
         }
         steps.push(Step { made, outcome });
     }
@@ -45,6 +49,14 @@ fn told_apart(mut vectors: Vec<VectorModel>) -> Vec<VectorModel> {
         vector.rand_and_autn[..4].copy_from_slice(&(number as u32).to_be_bytes());
     }
     vectors
+}
+
+/// A move, mostly to the edition that the table does not have; with sets it may be refused.
+fn moved(rng: &mut Rng, table: &[u8], profile: &[u8]) -> Made {
+    let is_forward = (table[EDITION] == EDITION_1) != rng.once_in(8);
+    let issue = is_forward.then(|| tables::issue(rng));
+    let case = Case::moved(rng.byte(), table.to_vec(), profile.to_vec(), issue);
+    Made { case, notes: vec!["a run", "a move"], damaged: None }
 }
 
 /// Mostly a MAR; now and then with a twist, and rarely with too short a buffer.

@@ -31,6 +31,7 @@ pub fn many(rng: &mut Rng) -> usize {
 pub fn sound(rng: &mut Rng, records: usize) -> Sound {
     let profile = profile(rng);
     let mut model = TableModel {
+        issue: rng.coin().then(|| issue(rng)),
         keep: rng.coin(),
         host: names::any(rng, LONGEST_HOST),
         realm: names::any(rng, LONGEST_HOST),
@@ -48,7 +49,34 @@ pub fn sound(rng: &mut Rng, records: usize) -> Sound {
         }
         model.records.push(record);
     }
+    if model.issue.is_some() && rng.below(3) > 0 {
+        model.records.iter_mut().for_each(|record| record.set = set(rng));
+    }
     Sound { model, profile }
+}
+
+/// An issue number, at an edge as often as not.
+pub fn issue(rng: &mut Rng) -> u32 {
+    match rng.below(8) {
+        0 => 0,
+        1 => 1,
+        2 => u32::MAX,
+        3 => 1 << rng.below(32),
+        4 => u32::from(rng.byte()),
+        _ => rng.word(),
+    }
+}
+
+/// A set number: none, one that others have too, or at an edge.
+pub fn set(rng: &mut Rng) -> u16 {
+    match rng.below(10) {
+        0..=3 => 0,
+        4 | 5 => 1,
+        6 => rng.between(2, 4) as u16,
+        7 => 256 * rng.between(1, 255) as u16,
+        8 => u16::MAX,
+        _ => rng.word() as u16,
+    }
 }
 
 fn profile(rng: &mut Rng) -> Vec<u8> {

@@ -62,6 +62,10 @@ pub fn refusal(lent: &Lent, slip: Slip) -> Option<u64> {
 pub fn refused(lent: &Lent, slip: Slip) -> Option<Done> {
     let (number, block) = match slip.0? {
         Fault::ReportChecksTableFirst => (5, table::check(lent.table, lent.profile.len()).err()?),
+        Fault::Edition2NotReported => {
+            let sound = table::check(lent.table, lent.profile.len()).is_ok();
+            (5, (sound && lent.table[table::EDITION] == table::EDITION_2).then_some(0)?)
+        }
         Fault::ReportChecksVectorsFirst => (6, vectors::check(lent.vectors).err().map(|_| 0)?),
         _ => return None,
     };

@@ -1,9 +1,11 @@
 //! Histograms of a stream of cases: what was done to get them, and what came of them.
 
 mod authentication;
+mod moves;
 mod places;
 mod reports;
 mod required;
+mod sizes;
 
 use std::collections::{BTreeMap, BTreeSet};
 use std::ops::Range;
@@ -17,6 +19,7 @@ use crate::read::read_header;
 use crate::slip::Slip;
 use crate::table::LONGEST_PROFILE;
 use crate::verdict::{Code, Decision, Why};
+use sizes::size;
 
 #[derive(Default)]
 pub struct Histogram {
@@ -31,6 +34,7 @@ impl Histogram {
             (Stream::Tables, Why::Checked(found)) => self.count_table(made, *found),
             (Stream::Vectors, Why::CheckedVectors(found)) => self.count_vectors(made, *found),
             (Stream::Reports, _) => self.count_report(made, outcome),
+            (Stream::Moves, _) => self.count_move(made, outcome),
             _ => self.count_call(made, outcome, why),
         }
     }
@@ -42,6 +46,8 @@ impl Histogram {
     fn count_table(&mut self, made: &Made, found: Result<u32, u32>) {
         if let Ok(records) = found {
             self.add(format!("sound table of {} records", size(records as usize)));
+            let table = made.case.held(Slice::Table);
+            moves::of_table(&table).into_iter().for_each(|row| self.add(format!("sound table, {row}")));
             if made.case.held(Slice::Profile).len() > FAR {
                 self.add("sound table, profile over 65,536 bytes".to_string());
             }
@@ -80,19 +86,26 @@ impl Histogram {
         reports::rows(&made.case, outcome).into_iter().for_each(|row| self.add(row));
     }
 
+    fn count_move(&mut self, made: &Made, outcome: &Outcome) {
+        made.notes.iter().for_each(|note| self.add(format!("made by: {note}")));
+        moves::rows(&made.case, outcome).into_iter().for_each(|row| self.add(row));
+    }
+
     fn count_call(&mut self, made: &Made, outcome: &Outcome, why: &Why) {
         for note in &made.notes {
             self.add(format!("made by: {note}"));
         }
         let row = match why {
-            Why::Checked(_) | Why::CheckedVectors(_) | Why::Reported => return,
+            Why::Checked(_) | Why::CheckedVectors(_) | Why::Reported | Why::Moved(_) => return,
             Why::Refused(6) => format!("refused 6 to {}", asker(&made.case.held(Slice::Request))),
             Why::Refused(number) => format!("refused {number}"),
             Why::Header(code) => format!("header: B{code}"),
             Why::Rule(letter, what) => format!("rule ({letter}): {what}"),
             Why::Missing(kind) => format!("missing: {}", kind.name()),
             Why::Decided(decision) => {
-                self.add(format!("decided over {} records", size(made.case.held(Slice::Table).len() / BLOCK - 1)));
+                let table = made.case.held(Slice::Table);
+                self.add(format!("decided over {} records", size(table.len() / BLOCK - 1)));
+                moves::of_table(&table).into_iter().for_each(|row| self.add(format!("decided over {row}")));
                 if decision.vectors.2 > 0 {
                     self.add(format!("sent of {} vectors", size(made.case.held(Slice::Vectors).len() / BLOCK)));
                 }
@@ -152,6 +165,7 @@ impl Histogram {
         }
         if case.entry.changed(outcome, Slice::Table) {
             self.add("answer: records rewritten".to_string());
+            self.add(format!("answer: {}", moves::rewritten(case, outcome)));
         }
         if case.entry.changed(outcome, Slice::Vectors) {
             self.add("answer: vectors marked".to_string());
@@ -219,17 +233,6 @@ fn asker(request: &[u8]) -> &'static str {
         Ok(Command::LocationInfo) => "a LIR",
         Ok(Command::MultimediaAuth) => "a MAR",
         Err(_) => "a header fault",
-    }
-}
-
-/// How many records, in few classes.
-fn size(records: usize) -> String {
-    match records {
-        0..=2 => records.to_string(),
-        3..=12 => "3 to 12".to_string(),
-        13..=255 => "13 to 255".to_string(),
-        256..=4095 => "256 to 4,095".to_string(),
-        _ => "4,096".to_string(),
     }
 }
 

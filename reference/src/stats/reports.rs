@@ -2,12 +2,14 @@
 
 use std::collections::BTreeSet;
 
+use super::moves;
 use crate::block::word_at;
 use crate::cases::{Case, Outcome, Slice};
 use crate::gen::reports::NOTES;
 use crate::report::{differing, name, next, row_name, word, Next, Numbers, LEAST_REPORT, REST};
 use crate::serve::{call, parts};
 use crate::slip::Slip;
+use crate::table;
 
 pub fn rows(case: &Case, outcome: &Outcome) -> Vec<String> {
     let requests = case.held(Slice::Requests);
@@ -27,6 +29,10 @@ pub fn rows(case: &Case, outcome: &Outcome) -> Vec<String> {
     rows.extend(counted.map(|at| if at < word::CELLS { name(at) + " in it" } else { name(at) }));
     if area.len() > LEAST_REPORT {
         rows.push("a longer report area".to_string());
+    }
+    let table = case.held(Slice::Table);
+    if table::check(&table, case.held(Slice::Profile).len()).is_ok() {
+        rows.extend(moves::of_table(&table).into_iter().map(|row| format!("over {row}")));
     }
     if read < 1000 {
         rows.extend(of_requests(case));
@@ -136,6 +142,7 @@ pub fn wanted() -> Vec<(String, u64)> {
     ] {
         wanted.push((format!("a request: {what}"), 1));
     }
+    wanted.extend(moves::editions().into_iter().map(|row| (format!("over {row}"), 1)));
     wanted.extend(NOTES.map(|note| (format!("made by: {note}"), 1)));
     wanted.push(("made by: a request of 16 MiB".to_string(), 20));
     wanted

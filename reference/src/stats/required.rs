@@ -1,6 +1,7 @@
 //! The rows that a histogram must have.
 
 use super::authentication;
+use super::moves;
 use super::places;
 use super::reports;
 use crate::gen::damage::damages;
@@ -19,6 +20,7 @@ pub fn rows(stream: Stream) -> Vec<(String, u64)> {
         Stream::Vectors => of_vectors(),
         Stream::Calls => of_calls(),
         Stream::Reports => reports::wanted().into_iter().map(|(row, times)| (row, times * ONE_IN)).collect(),
+        Stream::Moves => moves::wanted().into_iter().map(|(row, times)| (row, times * ONE_IN)).collect(),
     }
 }
 
@@ -31,6 +33,7 @@ fn of_tables() -> Vec<(String, u64)> {
         wanted.push((format!("sound table of {size} records"), times * ONE_IN));
     }
     wanted.push(("sound table, profile over 65,536 bytes".to_string(), 2 * ONE_IN));
+    wanted.extend(moves::editions().into_iter().map(|row| (format!("sound table, {row}"), ONE_IN)));
     for outcome in ["sound", "block 0", "the damaged block", "the block after the damaged one"] {
         wanted.push((format!("all -> {outcome}"), ONE_IN));
     }
@@ -70,6 +73,7 @@ fn of_calls() -> Vec<(String, u64)> {
     assignments(&mut wanted);
     answers(&mut wanted);
     wanted.extend(places::wanted());
+    wanted.extend(moves::editions().into_iter().map(|row| format!("decided over {row}")));
     wanted.push("request: 16,384 bytes".to_string());
     wanted.push("request: over 65,536 bytes".to_string());
     wanted.extend(twists().map(|twist| twist.name).chain(MIXED).map(|name| format!("made by: {name}")));
@@ -187,6 +191,9 @@ fn answers(wanted: &mut Vec<String>) {
         "Failed-AVP with a Proxy-Info",
         "an item",
         "records rewritten",
+        "of edition 1 rewritten",
+        "of edition 2 and no set rewritten",
+        "of a set rewritten",
         "vectors marked",
         "over 16,384 bytes",
         "over 32,000 bytes",

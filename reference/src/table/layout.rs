@@ -13,6 +13,14 @@ pub const NOT_REGISTERED: u8 = 0;
 pub const REGISTERED: u8 = 1;
 pub const UNREGISTERED: u8 = 2;
 
+pub const EDITION_1: u8 = 1;
+pub const EDITION_2: u8 = 2;
+
+/// Offsets in every block: the edition, and the issue number, which edition 1 does not have, with the bytes behind it.
+pub const EDITION: usize = 1;
+pub const ISSUE: usize = 408;
+pub const BEHIND_ISSUE: usize = 412;
+
 pub const LONGEST_HOST: usize = 64;
 pub const MOST_NETWORKS: usize = 8;
 pub const NETWORK_PLACE: usize = 32;
@@ -51,7 +59,8 @@ pub mod record {
     pub const OPTIONAL: usize = 384;
     pub const PROFILE_START: usize = 400;
     pub const PROFILE_LENGTH: usize = 404;
-    pub const REST: usize = 406;
+    /// Of edition 2; edition 1 names nothing from here on.
+    pub const SET: usize = 406;
 }
 
 /// The words at `at`, as many as `count_at` says.
@@ -64,6 +73,11 @@ fn words(block: &[u8], count_at: usize, at: usize) -> Vec<u32> {
 pub struct Header<'a>(pub &'a [u8]);
 
 impl<'a> Header<'a> {
+    /// The issue number of edition 2; none of edition 1.
+    pub fn issue(&self) -> Option<u32> {
+        (self.0[EDITION] == EDITION_2).then(|| word_at(self.0, ISSUE))
+    }
+
     pub fn keep(&self) -> bool {
         self.0[header::KEEP] == 1
     }
@@ -131,6 +145,11 @@ impl<'a> Record<'a> {
     pub fn profile_length(&self) -> usize {
         usize::from(self.0[record::PROFILE_LENGTH]) << 8 | usize::from(self.0[record::PROFILE_LENGTH + 1])
     }
+
+    /// The number of its implicit set; 0 for none, as in all of edition 1.
+    pub fn set(&self) -> u16 {
+        u16::from(self.0[record::SET]) << 8 | u16::from(self.0[record::SET + 1])
+    }
 }
 
 /// A sound table, to be read.
@@ -175,6 +194,12 @@ pub fn rewrite(block: &mut [u8], with: &Rewriting, slip: Slip) {
             field.fill(0);
         }
         field[..name.len()].copy_from_slice(name);
+    }
+    match slip.0 {
+        Some(Fault::RewritingResetsEdition) => block[EDITION] = EDITION_1,
+        Some(Fault::RewritingLosesSet) => block[record::SET..ISSUE].fill(0),
+        Some(Fault::RewritingLosesIssue) => block[ISSUE..BEHIND_ISSUE].fill(0),
+        _ => {}
     }
     if !slip.is(Fault::CheckWordStays) {
         mend(block);

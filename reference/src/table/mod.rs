@@ -1,5 +1,6 @@
 //! The subscriber table.
 
+mod editions;
 mod layout;
 mod soundness;
 

@@ -1,11 +1,14 @@
-//! The check: what document 01 says of a sound table.
+//! The check: what document 01 says of a sound table, and document 02 of its two editions.
 
+use super::editions::{
+    header_rest_is_zero, is_an_edition, is_like_header, mixing_blames, record_rest_is_zero, set_agrees,
+};
 use super::layout::{
     header, record, Header, Record, BARRED, LONGEST_HOST, LONGEST_IDENTITY, LONGEST_PROFILE, LONGEST_SERVER_NAME,
     MOST_CAPABILITIES, MOST_NETWORKS, MOST_RECORDS, NETWORK_PLACE, NOT_REGISTERED, PENDING, UNREGISTERED,
     UNREGISTERED_SERVICES,
 };
-use crate::block::{sum, word_at, zero, BLOCK, CHECK_WORD};
+use crate::block::{sum, word_at, zero, BLOCK};
 use crate::slip::{Fault, Slip};
 
 /// The record count of a sound table, or the number of the first bad block.
@@ -38,9 +41,14 @@ fn checked(table: &[u8], profile_length: usize, slip: Slip) -> Result<u32, u32> 
     for number in 1..=count {
         let block = &table[number as usize * BLOCK..][..BLOCK];
         let sound = record_is_sound(block, number, networks, profile_length, slip);
+        let alike = is_like_header(table, block, slip);
         let public = Record(block).public();
-        if !sound || !rises(before, public, slip) {
-            let blamed = if sound && slip.is(Fault::EarlierBlockBlamed) { number - 1 } else { number };
+        if !sound || !alike || !rises(before, public, slip) || !set_agrees(table, number, slip) {
+            let blamed = match slip.0 {
+                Some(Fault::EarlierBlockBlamed) if sound && alike => number - 1,
+                Some(_) if !alike => mixing_blames(head, block, number, slip),
+                _ => number,
+            };
             if !slip.is(Fault::LastBadBlockTold) {
                 return Err(blamed);
             }
@@ -76,14 +84,14 @@ fn length_fits(length: usize, count: u32, slip: Slip) -> bool {
 fn header_is_sound(block: &[u8], slip: Slip) -> bool {
     (sum(block) == 0 || slip.is(Fault::HeaderSumNotAsked))
         && (block[0] == 1 || slip.is(Fault::HeaderKindNotAsked))
-        && (block[1] == 1 || slip.is(Fault::HeaderEditionNotAsked))
+        && (is_an_edition(block, slip) || slip.is(Fault::HeaderEditionNotAsked))
         && (zero(&block[2..4]) || slip.is(Fault::HeaderBytes2And3NotAsked))
         && (word_at(block, 4) == 0 || slip.is(Fault::HeaderNumberNotAsked))
         && (block[header::KEEP] <= 1 || slip.is(Fault::KeepNotLimited))
         && name_fits(block, header::HOST_LENGTH, header::HOST, 1, LONGEST_HOST, slip)
         && name_fits(block, header::REALM_LENGTH, header::REALM, 1, LONGEST_HOST, slip)
         && networks_are_sound(block, slip)
-        && (zero(&block[header::REST..CHECK_WORD]) || slip.is(Fault::HeaderRestNotAsked))
+        && header_rest_is_zero(block, slip)
 }
 
 /// A length within its bounds, and the field's unused places zero.
@@ -143,7 +151,7 @@ fn record_is_sound(block: &[u8], number: u32, networks: usize, profile_length: u
     let bits = block[record::BITS];
     (sum(block) == 0 || slip.is(Fault::RecordSumNotAsked))
         && (block[0] == 2 || slip.is(Fault::RecordKindNotAsked))
-        && (block[1] == 1 || slip.is(Fault::RecordEditionNotAsked))
+        && (is_an_edition(block, slip) || slip.is(Fault::RecordEditionNotAsked))
         && (zero(&block[2..4]) || slip.is(Fault::RecordBytes2And3NotAsked))
         && number_fits(word_at(block, 4), number, slip)
         && (state <= UNREGISTERED || slip.is(Fault::StateNotLimited))
@@ -156,7 +164,7 @@ fn record_is_sound(block: &[u8], number: u32, networks: usize, profile_length: u
         && name_fits(block, record::SERVER_LENGTH, record::SERVER, 0, LONGEST_SERVER_NAME, slip)
         && server_name_fits_state(state, bits & PENDING != 0, !this.server_name().is_empty(), slip)
         && profile_part_fits(this, profile_length, slip)
-        && (zero(&block[record::REST..CHECK_WORD]) || slip.is(Fault::RecordRestNotAsked))
+        && record_rest_is_zero(block, slip)
 }
 
 #[inline(always)]

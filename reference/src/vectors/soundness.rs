@@ -3,7 +3,7 @@
 use super::layout::{vector, KIND, LEAST_XRES, MOST_VECTORS, MOST_XRES};
 use crate::block::{sum, word_at, zero, BLOCK, CHECK_WORD};
 use crate::slip::{Fault, Slip};
-use crate::table::LONGEST_IDENTITY;
+use crate::table::{BEHIND_ISSUE, EDITION_2, ISSUE, LONGEST_IDENTITY};
 
 /// The number of blocks of a sound file, or the number of its first bad block, from 0.
 pub fn check(vectors: &[u8]) -> Result<u32, u32> {
@@ -68,12 +68,27 @@ fn length_fits(length: usize, slip: Slip) -> Result<u32, u32> {
 fn vector_is_sound(block: &[u8], slip: Slip) -> bool {
     (sum(block) == 0 || slip.is(Fault::VectorSumNotAsked))
         && (block[0] == KIND || slip.is(Fault::VectorKindNotAsked))
-        && (block[vector::USED] <= 1 || slip.is(Fault::UsedNotLimited))
+        && (block[vector::USED] <= 1 || slip.is(Fault::UsedNotLimited) || is_second(block, slip))
         && (block[vector::USED] == 1 || !slip.is(Fault::VectorEditionAsked))
         && xres_fits(block, slip)
         && private_fits(block, slip)
-        && (zero(&block[vector::REST..CHECK_WORD]) || slip.is(Fault::VectorRestNotAsked))
+        && rest_is_zero(block, slip)
         && (word_at(block, vector::RAND_AND_AUTN) != 0 || !slip.is(Fault::RandOfZerosRefused))
+}
+
+/// The file has no edition: only a faulty program takes byte 1 for one.
+#[inline(always)]
+fn is_second(block: &[u8], slip: Slip) -> bool {
+    block[vector::USED] == EDITION_2 && slip.is(Fault::VectorEdition2Taken)
+}
+
+#[inline(always)]
+fn rest_is_zero(block: &[u8], slip: Slip) -> bool {
+    match slip.0 {
+        Some(Fault::VectorRestNotAsked) => true,
+        Some(Fault::VectorIssueTaken) => zero(&block[vector::REST..ISSUE]) && zero(&block[BEHIND_ISSUE..CHECK_WORD]),
+        _ => zero(&block[vector::REST..CHECK_WORD]),
+    }
 }
 
 #[inline(always)]

@@ -15,7 +15,6 @@ check-spec =
     (λ c κs. search needs)
     (λ c. search needs)
     (λ c. search needs)
-    (λ c. search needs)
     (λ c κs. search (needs, header-count, header-networks))
     (λ c. search (needs, table-records))
     (λ c. search (needs, table-length))

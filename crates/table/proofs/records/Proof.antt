@@ -7,11 +7,11 @@ use Rattle.table.proofs.records.Statement.{statement}
 use Rattle.table.proofs.records.Tie as tie
 
 abbrev Inv-loop : tie.InvT-loop
-Inv-loop t count networks file k₀ k =
-    (1 ≤ k) × (k ≤ count + 1) × (checkRecords t count networks file ≡ firstBad (soundAt t networks file) count (count + 1 - k) k)
+Inv-loop t h file count k₀ k =
+    (1 ≤ k) × (k ≤ h .count + 1) × (checkRecords t h file ≡ firstBad (soundAt t h file) (h .count) (h .count + 1 - k) k)
 
 abbrev μ-loop : tie.MeasureT-loop
-μ-loop t count networks file k₀ k = count + 1 - k
+μ-loop t h file count k₀ k = h .count + 1 - k
 
 pub records-spec : {M : Type 1} → statement M
 records-spec =
@@ -19,6 +19,7 @@ records-spec =
     (tie.spec
     Inv-loop
     μ-loop
+    (λ c. search needs)
     (λ c. search (needs, first-all))
     (λ c κs. search needs)
     (λ c. search needs)

@@ -2,7 +2,7 @@
 
 use crate::block::{put_word, word_at};
 use crate::rng::Rng;
-use crate::table::{header, record, LONGEST_HOST, LONGEST_IDENTITY, LONGEST_SERVER_NAME};
+use crate::table::{header, record, EDITION, ISSUE, LONGEST_HOST, LONGEST_IDENTITY, LONGEST_SERVER_NAME};
 
 /// Where a name stands in a block, where its length, and the most that this may be.
 #[derive(Clone, Copy)]
@@ -36,6 +36,27 @@ pub fn other_word(rng: &mut Rng, block: &mut [u8], at: usize) -> Option<()> {
     };
     put_word(block, at, changed);
     Some(())
+}
+
+/// The block of another edition; of one that there is not, as often as not.
+pub fn other_edition(rng: &mut Rng, block: &mut [u8]) -> Option<()> {
+    other_byte(rng, block, EDITION, &[0, 1, 2, 1, 2, 3])
+}
+
+/// Another issue number: in one byte, in 16 bits, by one, or anything else.
+pub fn other_issue(rng: &mut Rng, block: &mut [u8]) -> Option<()> {
+    match rng.below(4) {
+        0 => {
+            let at = ISSUE + rng.below(4);
+            other_byte(rng, block, at, &[0, 1, 255])
+        }
+        1 => {
+            block.swap(ISSUE, ISSUE + 2);
+            block.swap(ISSUE + 1, ISSUE + 3);
+            Some(())
+        }
+        _ => other_word(rng, block, ISSUE),
+    }
 }
 
 pub fn other_bit(rng: &mut Rng, block: &mut [u8], at: usize) -> Option<()> {

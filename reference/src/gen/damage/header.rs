@@ -1,16 +1,17 @@
 //! Damages of the header.
 
 use super::fields::{
-    other_byte, other_count, other_length, other_word, put_name, stray_byte, stray_tail, Name, HOST, REALM,
+    other_byte, other_count, other_edition, other_issue, other_length, other_word, put_name, stray_byte, stray_tail,
+    Name, HOST, REALM,
 };
 use super::shape::{of_header, Damage, Subject};
 use crate::block::{mend, put_word, word_at, BLOCK, CHECK_WORD};
 use crate::rng::Rng;
-use crate::table::{header, MOST_NETWORKS, NETWORK_PLACE};
+use crate::table::{header, record, BEHIND_ISSUE, ISSUE, MOST_NETWORKS, NETWORK_PLACE};
 
 pub const DAMAGES: &[Damage] = &[
     of_header("header: kind", |rng, s| other_byte(rng, s.block(0), 0, &[0, 2, 3])),
-    of_header("header: edition", |rng, s| other_byte(rng, s.block(0), 1, &[0, 2])),
+    of_header("header: edition", |rng, s| other_edition(rng, s.block(0))),
     of_header("header: bytes 2 and 3", |rng, s| stray_byte(rng, s.block(0), 2, 4)),
     of_header("header: block number", |rng, s| other_word(rng, s.block(0), 4)),
     of_header("header: count", other_record_count),
@@ -48,7 +49,10 @@ pub const DAMAGES: &[Damage] = &[
         stray_byte(rng, s.block(0), header::NETWORK_PLACES + used * NETWORK_PLACE, header::REST)
     }),
     of_header("header: two networks alike", alike_networks),
-    of_header("header: bytes 400 to 507", |rng, s| stray_byte(rng, s.block(0), header::REST, CHECK_WORD)),
+    of_header("header: bytes 400 to 405", |rng, s| stray_byte(rng, s.block(0), header::REST, record::SET)),
+    of_header("header: bytes 406 and 407", |rng, s| stray_byte(rng, s.block(0), record::SET, ISSUE)),
+    of_header("header: issue", |rng, s| other_issue(rng, s.block(0))),
+    of_header("header: bytes 412 to 507", |rng, s| stray_byte(rng, s.block(0), BEHIND_ISSUE, CHECK_WORD)),
     of_header("header: check word", |rng, s| other_word(rng, s.block(0), CHECK_WORD)).never_mended(),
     of_header("header: zeros", |_, s| {
         s.block(0).fill(0);

@@ -1,5 +1,6 @@
 //! Tables damaged in one place: every field, every kind of damage, with and without a mended check word.
 
+mod editions;
 pub mod fields;
 mod header;
 mod record;
@@ -13,7 +14,7 @@ use crate::rng::Rng;
 
 /// Every damage.
 pub fn damages() -> impl Iterator<Item = &'static Damage> {
-    [header::DAMAGES, record::DAMAGES, whole::DAMAGES].into_iter().flatten()
+    [header::DAMAGES, record::DAMAGES, editions::DAMAGES, whole::DAMAGES].into_iter().flatten()
 }
 
 /// Does one damage; `notes` learns which, and whether the check word was mended.

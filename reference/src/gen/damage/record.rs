@@ -1,17 +1,17 @@
 //! Damages of one record.
 
 use super::fields::{
-    other_bit, other_byte, other_count, other_length, other_word, put_name, stray_byte, stray_tail, PRIVATE, PUBLIC,
-    SERVER,
+    other_bit, other_byte, other_count, other_edition, other_issue, other_length, other_word, put_name, stray_byte,
+    stray_tail, PRIVATE, PUBLIC, SERVER,
 };
 use super::shape::{of_record, Damage, Subject};
 use crate::block::{put_word, BLOCK, CHECK_WORD};
 use crate::gen::tables::{profile_part, FAR};
-use crate::table::{record, LONGEST_PROFILE, MOST_CAPABILITIES, MOST_NETWORKS, PENDING};
+use crate::table::{record, BEHIND_ISSUE, ISSUE, LONGEST_PROFILE, MOST_CAPABILITIES, MOST_NETWORKS, PENDING};
 
 pub const DAMAGES: &[Damage] = &[
     of_record("record: kind", |rng, s, n| other_byte(rng, s.block(n), 0, &[0, 1, 3])),
-    of_record("record: edition", |rng, s, n| other_byte(rng, s.block(n), 1, &[0, 2])),
+    of_record("record: edition", |rng, s, n| other_edition(rng, s.block(n))),
     of_record("record: bytes 2 and 3", |rng, s, n| stray_byte(rng, s.block(n), 2, 4)),
     of_record("record: block number", |rng, s, n| other_word(rng, s.block(n), 4)),
     of_record("record: state", |rng, s, n| {
@@ -88,7 +88,9 @@ pub const DAMAGES: &[Damage] = &[
         put_part(s, n, 0, length as u16)
     }),
     of_record("record: any profile part", |rng, s, n| put_part(s, n, rng.word(), rng.word() as u16)),
-    of_record("record: bytes 406 to 507", |rng, s, n| stray_byte(rng, s.block(n), record::REST, CHECK_WORD)),
+    of_record("record: set", |rng, s, n| stray_byte(rng, s.block(n), record::SET, ISSUE)),
+    of_record("record: issue", |rng, s, n| other_issue(rng, s.block(n))),
+    of_record("record: bytes 412 to 507", |rng, s, n| stray_byte(rng, s.block(n), BEHIND_ISSUE, CHECK_WORD)),
     of_record("record: check word", |rng, s, n| other_word(rng, s.block(n), CHECK_WORD)).never_mended(),
     of_record("record: zeros", |_, s, n| {
         s.block(n).fill(0);
@@ -107,6 +109,6 @@ pub const DAMAGES: &[Damage] = &[
 fn put_part(s: &mut Subject, n: usize, start: u32, length: u16) -> Option<()> {
     let block = s.block(n);
     put_word(block, record::PROFILE_START, start);
-    block[record::PROFILE_LENGTH..record::REST].copy_from_slice(&length.to_be_bytes());
+    block[record::PROFILE_LENGTH..record::SET].copy_from_slice(&length.to_be_bytes());
     Some(())
 }

@@ -3,7 +3,7 @@
 use crate::block::{mend, put_word, word_at, BLOCK, CHECK_WORD};
 use crate::gen::damage::fields::{other_byte, other_length, other_word, put_name, stray_byte, stray_tail, Name};
 use crate::rng::Rng;
-use crate::table::LONGEST_IDENTITY;
+use crate::table::{BEHIND_ISSUE, ISSUE, LONGEST_IDENTITY};
 use crate::vectors::{vector, LEAST_XRES, MOST_VECTORS, MOST_XRES};
 
 const PRIVATE: Name = Name { length_at: vector::PRIVATE_LENGTH, at: vector::PRIVATE, most: LONGEST_IDENTITY };
@@ -72,6 +72,7 @@ pub const DAMAGES: &[Damage] = &[
         Some(())
     }),
     of_block("vector: bytes 212 to 507", |rng, block| stray_byte(rng, block, vector::REST, CHECK_WORD)),
+    of_block("vector: bytes 408 to 411", |rng, block| stray_byte(rng, block, ISSUE, BEHIND_ISSUE)),
     of_block("vector: check word", |rng, block| other_word(rng, block, CHECK_WORD)).never_mended(),
     of_block("vector: zeros", |_, block| {
         block.fill(0);

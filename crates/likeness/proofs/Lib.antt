@@ -1,0 +1,11 @@
+pub mod Altered
+pub mod Answers
+pub mod Assignments
+pub mod Decisions
+pub mod Effects
+pub mod Fields
+pub mod Likeness
+pub mod Lookups
+pub mod Moved
+pub mod Plans
+pub mod Within

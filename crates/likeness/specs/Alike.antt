@@ -1,0 +1,29 @@
+-- Tables whose blocks agree in every byte that a request can see: 2 to 405, the last of them a record's profile length. Kind and edition stand before,
+-- and no request reads what stands after.
+use Prim.Native.Nat.{ℕ, _<_, _≤_}
+use mathlib.Core.Path.{_≡_}
+use mathlib.Core.List.{List}
+use lib.ListN.{length, getD}
+use Rattle.table.specs.Blocks.{blockOf}
+use Rattle.calling.specs.Lent.{Lent}
+use Rattle.calling.specs.Serve.{Served}
+
+-- two blocks
+pub record Alike (b c : List ℕ) : Type 0 where
+  pub whole : length b ≡ 512
+  pub other-whole : length c ≡ 512
+  pub bytes : (i : ℕ) → 2 ≤ i → i < 406 → getD b i 0 ≡ getD c i 0
+
+-- two tables of so many records, the header too
+pub record AlikeTables (t u : List ℕ) (count : ℕ) : Type 0 where
+  pub blocks : (k : ℕ) → k ≤ count → Alike (blockOf t k) (blockOf u k)
+
+-- the same lent with another table
+abbrev pub holding : Lent → List ℕ → Lent
+holding x table = record { request = x .request; table = table; profile = x .profile; vectors = x .vectors; buffer = x .buffer }
+
+-- two calls come to the same: the answer or the refusal, the vectors and the buffer
+pub record SameCall (r s : Served) : Type 0 where
+  pub call : r .call ≡ s .call
+  pub vectors : r .vectors ≡ s .vectors
+  pub buffer : r .buffer ≡ s .buffer

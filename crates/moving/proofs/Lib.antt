@@ -1,0 +1,11 @@
+pub mod Bytes
+pub mod Carried
+pub mod First
+pub mod Mixed
+pub mod Moved
+pub mod Moving
+pub mod Outcomes
+pub mod Same
+pub mod Turns
+pub mod Ways
+pub mod Worked

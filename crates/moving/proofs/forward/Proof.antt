@@ -1,0 +1,13 @@
+use Rattle.moving.proofs.Ways.{forward-whole}
+use borrow.Author.Needs.{needs}
+use Rattle.moving.proofs.forward.Statement.{statement}
+use Rattle.moving.proofs.forward.Tie as tie
+
+pub forward-spec : {M : Type 1} → statement M
+forward-spec =
+    tie.close
+    (tie.spec
+    (λ c κs. search needs)
+    (λ c κs. search needs)
+    (λ c. search needs)
+    (λ c. search (needs, forward-whole)))

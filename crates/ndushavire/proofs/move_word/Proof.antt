@@ -1,0 +1,14 @@
+use borrow.Author.Needs.{needs}
+use Rattle.ndushavire.proofs.move_word.Statement.{statement}
+use Rattle.ndushavire.proofs.move_word.Tie as tie
+
+pub move-word-spec : {M : Type 1} → statement M
+move-word-spec =
+    tie.close
+    (tie.spec
+    (λ c. search needs)
+    (λ c κs. search needs)
+    (λ c. search needs)
+    (λ c κs. search needs)
+    (λ c. cc)
+    (λ c. cc))

@@ -1,0 +1,13 @@
+use Rattle.ndushavire.proofs.Words.{forward-promised}
+use borrow.Author.Needs.{needs}
+use Rattle.ndushavire.proofs.ndushavire_forward.Statement.{statement}
+use Rattle.ndushavire.proofs.ndushavire_forward.Tie as tie
+
+pub ndushavire-forward-spec : {M : Type 1} → statement M
+ndushavire-forward-spec =
+    tie.close
+    (tie.spec
+    (λ c κs. search needs)
+    (λ c κs. search needs)
+    (λ c. search needs)
+    (λ c. search (needs, forward-promised)))
