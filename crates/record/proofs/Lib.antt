@@ -1,3 +1,4 @@
 pub mod Places
+pub mod Short
 pub mod Sound
 pub mod Tests
