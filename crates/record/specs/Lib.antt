@@ -2,3 +2,4 @@ pub mod Fields
 pub mod HeaderBlock
 pub mod Networks
 pub mod RecordBlock
+pub mod Sets

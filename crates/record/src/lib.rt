@@ -2,4 +2,5 @@
 pub mod fields;
 pub mod header;
 pub mod networks;
+pub mod sets;
 pub mod subscriber;

@@ -4,14 +4,15 @@ use octets::name::Order;
 use record::fields;
 use record::header;
 use record::header::Header;
+use record::sets;
 use record::subscriber;
 ghost use mathlib.Core.Path.{_≡_};
-ghost use Prim.Native.Nat.{_+_, _*_, _≤_};
+ghost use Prim.Native.Nat.{_+_, _*_, _≤_, _<_};
 ghost use lib.ListN.{length};
 ghost use Rattle.octets.specs.Name.{orderOf};
 ghost use Rattle.record.specs.Fields.{publicOf};
 ghost use Rattle.table.specs.Blocks.{blockOf};
-ghost use Rattle.table.specs.Check.{isLess, risesAt, soundAt, checkRecords, checkTable};
+ghost use Rattle.table.specs.Check.{isLess, risesAt, standsAt, agreesWith, agreesAt, soundAt, checkRecords, checkTable};
 
 // "Blocks of 512 bytes"
 pub const BLOCK: usize = 512;
@@ -55,11 +56,44 @@ fn rises(t: &[u8], k: usize) -> bool
 }
 
 // Whether block k is a sound record in its place.
+fn stands(t: &[u8], h: Header, file: usize, k: usize) -> bool
+    requires { ⌜ (1 ≤ k) × (k ≤ 4096) × (h .networks ≤ 8) × (512 * k + 512 ≤ length (now t)) ⌝ }
+    ensures { λ r. ⌜ r ≡ standsAt (now (t .entry)) h file k ⌝ }
+{
+    subscriber::sound(block(t, k), k as u32, h, file) & rises(t, k)
+}
+
+// Whether record i + 1, if it is of the set of block k, agrees with it.
+fn agrees_with(t: &[u8], k: usize, i: usize) -> bool
+    requires { ⌜ (i < k) × (512 * k + 512 ≤ length (now t)) ⌝ }
+    ensures { λ r. ⌜ r ≡ agreesWith (now (t .entry)) k i ⌝ }
+{
+    let a = block(t, i + 1);
+    let b = block(t, k);
+    if sets::same_set(a, b) {
+        sets::agree(a, b)
+    } else {
+        true
+    }
+}
+
+// Whether block k agrees with every record of its set before it.
+fn agrees(t: &[u8], k: usize) -> bool
+    requires { ⌜ (1 ≤ k) × (512 * k + 512 ≤ length (now t)) ⌝ }
+    ensures { λ r. ⌜ r ≡ agreesAt (now (t .entry)) k ⌝ }
+{
+    let mut good = true;
+    for i in 0..k - 1 {
+        good = good & agrees_with(t, k, i);
+    }
+    good
+}
+
 fn record_at(t: &[u8], h: Header, file: usize, k: usize) -> bool
     requires { ⌜ (1 ≤ k) × (k ≤ 4096) × (h .networks ≤ 8) × (512 * k + 512 ≤ length (now t)) ⌝ }
     ensures { λ r. ⌜ r ≡ soundAt (now (t .entry)) h file k ⌝ }
 {
-    subscriber::sound(block(t, k), k as u32, h, file) & rises(t, k)
+    stands(t, h, file, k) & agrees(t, k)
 }
 
 // The records of a table, one after the other, under its header.
