@@ -1,4 +1,4 @@
--- Without sets each rule is what it was: the check, the barring rule, the effects; so is the decision.
+-- Without sets each rule is what it was: the check, the barring rule, the effects.
 use Prim.Native.Nat.{ℕ, suc, zero, _+_, _-_, _*_, _<_, _≤_}
 use mathlib.Core.Bool.{Bool, true, false, not, _&&_, _||_, cond, true≢false}
 use mathlib.Core.Path.{_≡_, refl, sym, _∙_, ap}
@@ -24,16 +24,13 @@ use Rattle.rewrite.specs.Change.{afterOf, reaches}
 use Rattle.rewrite.proofs.Reaching.{reaches-named}
 use Rattle.rewrite.proofs.Tables.{after-choice}
 use Rattle.reading.specs.Rules.{Seen}
-use Rattle.requests.specs.Judged.{Judged, bad, fine}
-use Rattle.requests.specs.Request.{readRequest}
 use Rattle.choices.specs.declared.plan.Deed.{Deed}
 use Rattle.choices.specs.declared.plan.Deed.the-variants.{Leave, Settle, Challenge}
-use Rattle.choices.specs.declared.plan.Plan.{Plan}
 use Rattle.decisions.specs.Authorization.{askedAt, askedOf, authorizeFound, authorize}
 use Rattle.assignment.specs.Assignment.{Assignment, plannedRecords}
-use Rattle.fitting.specs.Decide.{assignmentOf, uarPlan, planRead, performed, decideJudged, decide}
+use Rattle.fitting.specs.Decide.{uarPlan, planRead}
 use Rattle.fitting.specs.Deeds.{carriedOut}
-use Rattle.sets.specs.Before.{NoSets, checkBefore, askedBefore, authorizeBefore, carriedOutBefore, planBefore, performedBefore, judgedBefore, decideBefore}
+use Rattle.before.specs.WithoutSets.{NoSets, checkBefore, askedBefore, authorizeBefore, carriedOutBefore, planBefore}
 
 -- Where the test is the same of each number, the first bad one is.
 first-alike : (p q : ℕ → Bool) (count n k : ℕ) → ((j : ℕ) → k ≤ j → j < k + n → p j ≡ q j) → firstBad p count n k ≡ firstBad q count n k
@@ -88,21 +85,12 @@ module _ (t : List ℕ) (none : NoSets t) where
     reached : (ks : List ℕ) (change : List ℕ → List ℕ) → afterOf t count (isOne ks) change ≡ afterOf t count (reaches t ks) change
     reached ks change = sym (after-choice t count (reaches t ks) (isOne ks) change (λ k h. reaches-named t none ks k))
 
-    carried-is : (s : Assignment) (d : Deed) → carriedOutBefore t count s d ≡ carriedOut t count s d
+    pub carried-is : (s : Assignment) (d : Deed) → carriedOutBefore t count s d ≡ carriedOut t count s d
     unfolding carriedOutBefore carriedOut
     carried-is s Leave = refl
     carried-is s (Settle w) = reached (plannedRecords t count s (w .owned)) _
     carried-is s (Challenge k) = reached (k ∷ []) _
 
-    plan-is : (req v : List ℕ) (seen : Seen) → planBefore req t count v seen ≡ planRead req t count v seen
+    pub plan-is : (req v : List ℕ) (seen : Seen) → planBefore req t count v seen ≡ planRead req t count v seen
     unfolding planBefore planRead uarPlan
     plan-is req v seen = rw (authorize-is _ _ _ _)
-
-    pub decide-is : (req v : List ℕ) → decideBefore req t count v ≡ decide req t count v
-    unfolding decideBefore decide
-    decide-is req v = go (readRequest req)
-      where
-        go : (j : Judged) → judgedBefore req t count v j ≡ decideJudged req t count v j
-        unfolding judgedBefore decideJudged performedBefore performed
-        go (bad f) = refl
-        go (fine seen) = rw (plan-is req v seen, carried-is (assignmentOf t seen req) (planRead req t count v seen .deed))

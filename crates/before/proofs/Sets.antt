@@ -1,4 +1,4 @@
--- Sets (02 [6]), as theorems about `serve`, the check and the decisions. What the rules were before them is in specs/Before.
+-- Sets (02 [6]), as theorems about `serve`, the check and the decisions. What the rules were before them is in specs/WithoutSets.
 use Prim.Native.Nat.{ℕ, _+_, _*_, _<_, _≤_}
 use mathlib.Core.Bool.{Bool, true, false, not, _&&_, _||_, true≢false}
 use mathlib.Core.Path.{_≡_, refl, sym, _∙_}
@@ -26,13 +26,17 @@ use Rattle.moving.proofs.Moved.{tests-record, each-edition}
 use Rattle.calling.specs.Lent.{Lent}
 use Rattle.calling.specs.Serve.{checkOf, serve}
 use Rattle.calling.proofs.Kept.{table-checked}
-use Rattle.sets.specs.Before.{NoSets, serveBefore}
-use Rattle.sets.proofs.Before.{check-is, decide-is}
+use Rattle.before.specs.Rules.{inForce, serveBy}
+use Rattle.before.specs.WithoutSets.{NoSets, beforeSets}
+use Rattle.before.proofs.Rules.{serve-now, rules-same, decided-same}
+use Rattle.before.proofs.WithoutSets.{check-is, plan-is, carried-is}
 
 -- WITHOUT SETS. Over a table without sets every call comes to what it came to before, with the same table, vectors and buffer afterwards.
-pub without-sets : (x : Lent) → NoSets (x .table) → serveBefore x ≡ serve x
-unfolding serveBefore serve
-without-sets x none = rw (check-is (x .table) none (length (x .profile)), decide-is (x .table) none _ (x .request) (x .vectors))
+pub without-sets : (x : Lent) → NoSets (x .table) → serveBy beforeSets x ≡ serve x
+without-sets x none =
+    rules-same beforeSets inForce x (check-is (x .table) none (length (x .profile)))
+    (λ count e. decided-same beforeSets inForce x count (plan-is (x .table) none count (x .request) (x .vectors)) (carried-is (x .table) none count))
+    ∙ serve-now x
 
 -- A sound table of the first edition is one, so that it is untouched.
 module _ (t : List ℕ) (file count : ℕ) (checked : checkTable t file ≡ Sound count) where

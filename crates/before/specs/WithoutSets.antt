@@ -12,7 +12,6 @@ use Rattle.table.specs.Blocks.{blockOf}
 use Rattle.table.specs.Check.{standsAt, firstBad}
 use Rattle.table.specs.declared.Checked.{Checked}
 use Rattle.table.specs.declared.Checked.the-variants.{Bad}
-use Rattle.vectors.specs.VectorFile.{checkVectors}
 use Rattle.lookup.specs.Find.{isAt, findPublic, findPrivate}
 use Rattle.lookup.specs.declared.Found.{Found}
 use Rattle.lookup.specs.declared.Found.the-variants.{At, Nothing}
@@ -22,8 +21,7 @@ use Rattle.rewrite.specs.Renew.{settled, challenged}
 use Rattle.reading.specs.Kinds.{userName, publicIdentity, visitedNetwork, authorizationType}
 use Rattle.reading.specs.Rules.{Seen}
 use Rattle.diameter.specs.Message.{commandOf}
-use Rattle.requests.specs.Judged.{Judged, bad, fine}
-use Rattle.requests.specs.Request.{readRequest, dataSeen, valueSeen}
+use Rattle.requests.specs.Request.{dataSeen, valueSeen}
 use Rattle.choices.specs.Choices.{authorization}
 use Rattle.choices.specs.Plans.{only}
 use Rattle.choices.specs.declared.Given.{Given}
@@ -34,11 +32,8 @@ use Rattle.choices.specs.declared.plan.Plan.{Plan}
 use Rattle.decisions.specs.Authorization.{askedAt}
 use Rattle.decisions.specs.Carried.{blockFound, carried}
 use Rattle.assignment.specs.Assignment.{Assignment, storedName, plannedRecords}
-use Rattle.fitting.specs.Decide.{Decision, faulted, assignmentOf, sarPlan, lirPlan, marPlan}
-use Rattle.fitting.specs.Deeds.{spentBy}
-use Rattle.calling.specs.Lent.{Lent}
-use Rattle.calling.specs.Trial.{Trial, tried}
-use Rattle.calling.specs.Serve.{Served, smallBuffer, wrongSize, wrongLength, noRequest, checkValue, unsound, unsoundVectors, refused, answered}
+use Rattle.fitting.specs.Decide.{sarPlan, lirPlan, marPlan}
+use Rattle.before.specs.Rules.{Rules}
 
 -- a table in which no block has a set number
 abbrev pub NoSets : List ℕ → Type 0
@@ -78,29 +73,5 @@ planBefore req t count v seen =
     (cond (eqb (commandOf req) 302) (lirPlan t count seen)
     (marPlan t count v seen)))
 
-unfoldable pub performedBefore : List ℕ → ℕ → List ℕ → Assignment → Plan → Decision
-performedBefore t count v s p =
-    record { given = p .given; place = 0; table = carriedOutBefore t count s (p .deed); vectors = spentBy v (p .given .sent) (p .deed) }
-
-unfoldable pub judgedBefore : List ℕ → List ℕ → ℕ → List ℕ → Judged → Decision
-judgedBefore req t count v (bad f) = faulted t v f
-judgedBefore req t count v (fine seen) = performedBefore t count v (assignmentOf t seen req) (planBefore req t count v seen)
-
-unfoldable pub decideBefore : List ℕ → List ℕ → ℕ → List ℕ → Decision
-decideBefore req t count v = judgedBefore req t count v (readRequest req)
-
-abbrev pub trialsBefore : Lent → List Trial
-trialsBefore x =
-    record { holds = smallBuffer (x .buffer); number = 1; besides = 0 }
-    ∷ record { holds = wrongSize (x .request); number = 2; besides = 0 }
-    ∷ record { holds = wrongLength (x .request); number = 3; besides = 0 }
-    ∷ record { holds = noRequest (x .request); number = 4; besides = 0 }
-    ∷ unsound (checkBefore (x .table) (length (x .profile)))
-    ∷ unsoundVectors (checkVectors (x .vectors))
-    ∷ []
-
-unfoldable pub serveBefore : Lent → Served
-serveBefore x =
-    tried (refused x)
-    (answered x (decideBefore (x .request) (x .table) (checkValue (checkBefore (x .table) (length (x .profile)))) (x .vectors)))
-    (trialsBefore x)
+abbrev pub beforeSets : Rules
+beforeSets = record { check = checkBefore; plan = planBefore; carry = carriedOutBefore }

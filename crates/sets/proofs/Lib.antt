@@ -1,2 +1,0 @@
-pub mod Before
-pub mod Sets

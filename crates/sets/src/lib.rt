@@ -1,1 +1,0 @@
-// Sets, as theorems about `serve`: proofs/Sets.antt. There is no code here.
