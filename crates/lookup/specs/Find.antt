@@ -49,8 +49,11 @@ unfoldable pub findServer : List ℕ → ℕ → List ℕ → Found
 findServer t count name = firstFrom (servesAt t name) count 1
 
 -- 02 [6]: "B5003 now exactly when the identity is barred and no non-barred one shares its nonzero set": a record of the set of block b that is not barred
+unfoldable pub freeHere : List ℕ → List ℕ → Bool
+freeHere b c = sameSet b c && not (barred (bitsOf c))
+
 unfoldable pub freeAt : List ℕ → List ℕ → ℕ → Bool
-freeAt t b k = sameSet b (blockOf t k) && not (barred (bitsOf (blockOf t k)))
+freeAt t b k = freeHere b (blockOf t k)
 
 unfoldable pub findFree : List ℕ → ℕ → List ℕ → Found
 findFree t count b = firstFrom (freeAt t b) count 1

@@ -96,3 +96,20 @@ agree-trans a b c e f =
     let s : Agree a b = agree-says a b e in
     let t : Agree b c = agree-says b c f in
     agree-holds a c (record { state = s .state ∙ t .state; pending = s .pending ∙ t .pending; server = s .server ∙ t .server })
+
+-- All that sets ask of a record, the same of two blocks.
+pub record SameMember (b c : List ℕ) : Type 0 where
+  pub set : setOf c ≡ setOf b
+  pub private : privateOf c ≡ privateOf b
+  pub state : stateOf c ≡ stateOf b
+  pub bits : bitsOf c ≡ bitsOf b
+  pub server : serverOf c ≡ serverOf b
+
+module _ (a b c d : List ℕ) (first : SameMember a c) (second : SameMember b d) where
+  pub member-set : sameSet c d ≡ sameSet a b
+  unfolding sameSet
+  member-set = rw (first .set, first .private, second .set, second .private)
+
+  pub member-agrees : agreeing c d ≡ agreeing a b
+  unfolding agreeing
+  member-agrees = rw (first .state, first .bits, first .server, second .state, second .bits, second .server)

@@ -5,8 +5,9 @@ use mathlib.Core.Path.{_≡_, refl, sym}
 use mathlib.Core.List.{List}
 use native.Mathlib.Omega.{arith}
 use native.Mathlib.Numerals.{add-one}
-use Rattle.octets.proofs.All.{all-at, all-true}
+use Rattle.octets.proofs.All.{all-at, all-true, all-alike}
 use Rattle.record.specs.Sets.{sameSet, agreeing}
+use Rattle.record.proofs.OneSet.{SameMember, member-set, member-agrees}
 use Rattle.table.specs.Blocks.{blockOf}
 use Rattle.table.specs.Check.{agreesWith, agreesAt}
 
@@ -42,3 +43,16 @@ pub agrees-holds : (t : List ℕ) (k : ℕ)
 unfolding agreesAt agreesWith
 agrees-holds t k h =
     all-true (agreesWith t k) (k - 1) (λ i l. or-holds (sameSet (blockOf t (suc i)) (blockOf t k)) _ (h (suc i) (omega arith) (omega arith)))
+
+-- Tables whose records have the same members, state, bits and server names.
+pub agrees-alike : (t u : List ℕ) (k : ℕ) → ((j : ℕ) → 1 ≤ j → j ≤ k → SameMember (blockOf t j) (blockOf u j)) → 1 ≤ k → agreesAt u k ≡ agreesAt t k
+unfolding agreesAt agreesWith
+agrees-alike t u k h a =
+    all-alike (agreesWith u k) (agreesWith t k) (k - 1)
+    (λ i l.
+    let first : SameMember (blockOf t (suc i)) (blockOf u (suc i)) = h (suc i) (omega arith) (omega arith) in
+    let second : SameMember (blockOf t k) (blockOf u k) = h k a (omega arith) in
+    rw (
+      member-set (blockOf t (suc i)) (blockOf t k) (blockOf u (suc i)) (blockOf u k) first second,
+      member-agrees (blockOf t (suc i)) (blockOf t k) (blockOf u (suc i)) (blockOf u k) first second,
+    ))
