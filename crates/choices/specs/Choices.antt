@@ -13,7 +13,7 @@ use Rattle.choices.specs.declared.choice.Choice.the-variants.{Alone, Ser
 unfoldable pub serverIf : Bool → Outcome → Choice
 serverIf stored r = cond stored (Server r) (Alone (Base 5012))
 
--- "UAR. Either identity unknown: X5001. Not together in one record: X5002. Barred: B5003. Type 0 or 2: the visited network is named in the header and its bit
+-- "UAR. Either identity unknown: X5001. Not together in one record: X5002. Barred: B5003 (02 [6]: and no other of its set free). Type 0 or 2: the visited network is named in the header and its bit
 -- set, else X5004. Type 2: B2001 with capabilities. State 1 or 2: the server name (none stored: B5012), with X2002 for type 0, B2001 for type 1. State 0,
 -- type 1: X5003. State 0, type 0: the first server name in the subscription by table order with X2002; none, capabilities with X2001."
 unfoldable pub authorization : Asked → ℕ → Choice

@@ -10,7 +10,7 @@ use Rattle.record.specs.Fields.{privateOf}
 use Rattle.table.specs.Blocks.{blockOf, privateAt}
 use Rattle.vectors.specs.Chosen.{unusedOf, packed}
 use Rattle.vectors.specs.declared.choice.Sent.{Sent}
-use Rattle.lookup.specs.Find.{isAt, findPublic, findPrivate, findServer}
+use Rattle.lookup.specs.Find.{isAt, findPublic, findPrivate, findServer, barredAlone}
 use Rattle.lookup.specs.declared.Found.{Found}
 use Rattle.lookup.specs.declared.Found.the-variants.{At, Nothing}
 use Rattle.reading.specs.declared.Outcome.{Outcome}
@@ -61,7 +61,7 @@ module _ (t : List ℕ) (count : ℕ) (user : List ℕ) (k : ℕ) (c : Choice) {
 -- A UAR.
 module _ (t : List ℕ) (count : ℕ) (user network : List ℕ) (f : Found) where
   pub asked-known : (k : ℕ) {b : List ℕ} {x : Bool} {a : Asked} → f ≡ At k → b ≡ blockOf t k → x ≡ isAt (findPrivate t count user)
-      → a ≡ askedAt (blockOf t 0) b x user network → a ≡ askedOf t count user network f
+      → a ≡ askedAt (blockOf t 0) b x (barredAlone t count b) user network → a ≡ askedOf t count user network f
   unfolding askedOf
   asked-known k e block known s = rw (e, ← block, ← known) s
 

@@ -4,9 +4,9 @@ use mathlib.Core.List.{List}
 use mathlib.Core.Bool.{Bool, false}
 use lib.Dec.{ltb}
 use Rattle.octets.specs.Name.{same}
-use Rattle.record.specs.Fields.{privateOf, stateOf, bitsOf, serverSize, barred}
+use Rattle.record.specs.Fields.{privateOf, stateOf, serverSize}
 use Rattle.table.specs.Blocks.{blockOf}
-use Rattle.lookup.specs.Find.{isAt, findPublic, findPrivate}
+use Rattle.lookup.specs.Find.{isAt, findPublic, findPrivate, barredAlone}
 use Rattle.lookup.specs.Network.{mayRoam}
 use Rattle.lookup.specs.declared.Found.{Found}
 use Rattle.lookup.specs.declared.Found.the-variants.{At, Nothing}
@@ -15,13 +15,13 @@ use Rattle.choices.specs.declared.Given.{Given}
 use Rattle.choices.specs.declared.choice.Asked.{Asked}
 use Rattle.decisions.specs.Carried.{blockFound, carried}
 
--- of a record's block b, where it is said whether the private identity is known; h is the header block
-unfoldable pub askedAt : List ℕ → List ℕ → Bool → List ℕ → List ℕ → Asked
-askedAt h b known user network =
+-- of a record's block b, where it is said whether the private identity is known and whether the record is barred, and all its set; h is the header block
+unfoldable pub askedAt : List ℕ → List ℕ → Bool → Bool → List ℕ → List ℕ → Asked
+askedAt h b known barred user network =
     record {
       known = known;
       together = same (privateOf b) user;
-      barred = barred (bitsOf b);
+      barred = barred;
       roams = mayRoam h b network;
       present = ltb 0 (stateOf b);
       stored = ltb 0 (serverSize b);
@@ -29,7 +29,7 @@ askedAt h b known user network =
 
 -- of the record that was found; where none was, "either identity" is unknown
 unfoldable pub askedOf : List ℕ → ℕ → List ℕ → List ℕ → Found → Asked
-askedOf t count user network (At k) = askedAt (blockOf t 0) (blockOf t k) (isAt (findPrivate t count user)) user network
+askedOf t count user network (At k) = askedAt (blockOf t 0) (blockOf t k) (isAt (findPrivate t count user)) (barredAlone t count (blockOf t k)) user network
 askedOf t count user network Nothing =
     record { known = false; together = false; barred = false; roams = false; present = false; stored = false }
 

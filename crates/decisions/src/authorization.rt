@@ -11,18 +11,21 @@ ghost use mathlib.Core.Path.{_≡_};
 ghost use lib.ListN.{length};
 ghost use Rattle.table.specs.Blocks.{blockOf};
 ghost use Rattle.table.specs.SoundTable.{SoundTable};
+ghost use Rattle.lookup.specs.Find.{barredAlone};
 ghost use Rattle.decisions.specs.Among.{Among};
 ghost use Rattle.decisions.specs.Authorization.{askedAt, askedOf, authorize};
 
 // The questions, put to a record's block b, where it is known whether the private identity is.
 fn ask_record(t: &[u8], count: usize, b: &[u8], known: bool, user: &[u8], network: &[u8]) -> Asked
     requires { ⌜ SoundTable (now t) count × (length (now b) ≡ 512) ⌝ }
-    ensures { λ r. ⌜ r ≡ askedAt (blockOf (now (t .entry)) 0) (now (b .entry)) known (now (user .entry)) (now (network .entry)) ⌝ }
+    ensures { λ r. ⌜ r
+        ≡ askedAt (blockOf (now (t .entry)) 0) (now (b .entry)) known (barredAlone (now (t .entry)) count (now (b .entry))) (now (user .entry))
+        (now (network .entry)) ⌝ }
 {
     Asked {
         known,
         together: name::same(fields::private(b), user),
-        barred: fields::barred(b),
+        barred: lookup::barred_alone(t, count, b),
         roams: lookup::may_roam(t, count, b, network),
         present: 0 < b[Record::STATE_AT],
         stored: 0 < b[Record::SERVER_LENGTH_AT],

@@ -5,18 +5,18 @@ use lib.ListN.{length}
 use Rattle.vectors.specs.Chosen.{sentOf}
 use Rattle.vectors.specs.Marked.{spent}
 use Rattle.vectors.specs.declared.choice.Sent.{Sent}
-use Rattle.rewrite.specs.Change.{afterOf}
+use Rattle.rewrite.specs.Change.{afterOf, reaches}
 use Rattle.rewrite.specs.Renew.{settled, challenged, Fitting}
 use Rattle.choices.specs.declared.plan.Deed.{Deed}
 use Rattle.choices.specs.declared.plan.Deed.the-variants.{Leave, Settle, Challenge}
 use Rattle.assignment.specs.Assignment.{Assignment, storedName, plannedRecords}
-use Rattle.blocks.specs.Changed.{isOne}
 
--- "Effects": a row of the table of effects, on each of the records meant; "The Server-Name is stored if different", in the one record
+-- "Effects": a row of the table of effects, on each of the records meant and of their sets; "The Server-Name is stored if different", in the one record and
+-- in those of its set
 unfoldable pub carriedOut : List ℕ → ℕ → Assignment → Deed → List ℕ
 carriedOut t count s Leave = t
-carriedOut t count s (Settle w) = afterOf t count (isOne (plannedRecords t count s (w .owned))) (settled (w .state) (storedName (w .named) (s .server)))
-carriedOut t count s (Challenge k) = afterOf t count (isOne (k ∷ [])) (challenged (s .server))
+carriedOut t count s (Settle w) = afterOf t count (reaches t (plannedRecords t count s (w .owned))) (settled (w .state) (storedName (w .named) (s .server)))
+carriedOut t count s (Challenge k) = afterOf t count (reaches t (k ∷ [])) (challenged (s .server))
 
 -- "marked used and sent"
 unfoldable pub spentBy : List ℕ → Sent → Deed → List ℕ

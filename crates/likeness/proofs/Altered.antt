@@ -1,4 +1,4 @@
--- A call alters as many records of the one table as of the other: whether a block is already as it would be renewed, its own bytes 2 to 405 say.
+-- A call alters as many records of the one table as of the other: whether a block is already as it would be renewed, its own bytes 2 to 407 say.
 use Prim.Native.Nat.{ℕ, zero, suc, _+_, _*_, _≤_}
 use mathlib.Core.Bool.{Bool, true, false, _&&_, cond, not, _||_}
 use mathlib.Core.Path.{_≡_, refl, sym, _∙_}
@@ -22,8 +22,8 @@ use Rattle.record.proofs.Tests.{record-says}
 use Rattle.table.specs.Blocks.{blockOf}
 use Rattle.table.specs.SoundTable.{SoundTable}
 use Rattle.table.proofs.Sound.{sound-size, sound-record, sound-limits}
-use Rattle.blocks.specs.Changed.{isOne, changedAt}
-use Rattle.rewrite.specs.Change.{afterOf, Keeps, differ, alteredUpTo}
+use Rattle.blocks.specs.Changed.{changedAt}
+use Rattle.rewrite.specs.Change.{afterOf, reaches, Keeps, differ, alteredUpTo}
 use Rattle.rewrite.specs.Renew.{renewed, settled, challenged}
 use Rattle.rewrite.proofs.Challenged.{challenged-keeps}
 use Rattle.rewrite.proofs.Counts.{altered-none}
@@ -41,7 +41,8 @@ use Rattle.fitting.proofs.Deeds.{plan-fits}
 use Rattle.likeness.specs.Alike.{Alike, AlikeTables}
 use Rattle.likeness.specs.Shown.{SameTables}
 use Rattle.likeness.proofs.Fields.{server-alike, tables-same}
-use Rattle.likeness.proofs.Assignments.{planned-same}
+use Rattle.likeness.proofs.Assignments.{planned-same, planned-ranged}
+use Rattle.likeness.proofs.Effects.{reaches-same}
 use Rattle.likeness.proofs.Plans.{assignment-same, plan-same}
 
 -- Of two sound blocks both or neither get other bytes.
@@ -101,16 +102,17 @@ module _ (t u : List ℕ) (count : ℕ) (sound : SoundTable t count) (other : So
   like = tables-same [] t u count sound alike
 
   -- the same change of the same records
-  after-altered : (chosen : ℕ → Bool) (change : List ℕ → List ℕ) → Keeps change
+  after-altered : (chosen picked : ℕ → Bool) (change : List ℕ → List ℕ) → Keeps change → ((k : ℕ) → k ≤ count → chosen k ≡ picked k)
       → ((k : ℕ) → 1 ≤ k → k ≤ count → differ (blockOf t k) (change (blockOf t k)) ≡ differ (blockOf u k) (change (blockOf u k)))
-      → (n : ℕ) → n ≤ count → alteredUpTo t (afterOf t count chosen change) n ≡ alteredUpTo u (afterOf u count chosen change) n
+      → (n : ℕ) → n ≤ count → alteredUpTo t (afterOf t count chosen change) n ≡ alteredUpTo u (afterOf u count picked change) n
   unfolding alteredUpTo changedAt differ
-  after-altered chosen change keeps each zero h = refl
-  after-altered chosen change keeps each (suc n) h =
+  after-altered chosen picked change keeps same each zero h = refl
+  after-altered chosen picked change keeps same each (suc n) h =
       rw (
-        after-altered chosen change keeps each n (omega arith),
+        after-altered chosen picked change keeps same each n (omega arith),
         after-block t count change (sound-size t count sound) chosen keeps (suc n) h,
-        after-block u count change (sound-size u count other) chosen keeps (suc n) h,
+        after-block u count change (sound-size u count other) picked keeps (suc n) h,
+        ← same (suc n) h,
         go (chosen (suc n)),
       )
     where
@@ -147,11 +149,15 @@ module _ (t u : List ℕ) (count : ℕ) (sound : SoundTable t count) (other : So
   unfolding carriedOut
   deed-altered s Leave f = altered-none t count ∙ sym (altered-none u count)
   deed-altered s (Settle w) f =
+      let ks = plannedRecords t count s (w .owned) in
       rw (← planned-same [] t u count like s (w .owned))
-      (after-altered (isOne (plannedRecords t count s (w .owned))) _ (settled-keeps _ _ f) (λ k a b. settled-at k a b _ (f .most) (w .state)) count
-      (omega arith))
+      (after-altered (reaches t ks) (reaches u ks) _ (settled-keeps _ _ f)
+      (reaches-same t u count sound other alike ks (planned-ranged [] t u count like s (w .owned)))
+      (λ k a b. settled-at k a b _ (f .most) (w .state)) count (omega arith))
   deed-altered s (Challenge k) (a, b, least, most) =
-      after-altered (isOne (k ∷ [])) _ (challenged-keeps (s .server) least most) (λ j l h. challenged-at j l h (s .server) most) count (omega arith)
+      after-altered (reaches t (k ∷ [])) (reaches u (k ∷ [])) _ (challenged-keeps (s .server) least most)
+      (reaches-same t u count sound other alike (k ∷ []) ((a, b), tt))
+      (λ j l h. challenged-at j l h (s .server) most) count (omega arith)
 
   pub altered-same : (req v : List ℕ) → alteredUpTo t (decide req t count v .table) count ≡ alteredUpTo u (decide req u count v .table) count
   unfolding decide decideJudged performed assignmentOf

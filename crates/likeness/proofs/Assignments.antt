@@ -23,7 +23,7 @@ use Rattle.likeness.specs.Shown.{SameRecord, SameTables}
 use Rattle.likeness.proofs.Lookups.{public-same, private-same}
 
 -- one of so many records
-abbrev Ranged : ℕ → ℕ → Type 0
+abbrev pub Ranged : ℕ → ℕ → Type 0
 Ranged count k = (1 ≤ k) × (k ≤ count)
 
 -- tests that agree of all records hold of the same rows of them
@@ -75,6 +75,11 @@ module _ (file t u : List ℕ) (count : ℕ) (like : SameTables file t u count) 
   unfolding plannedRecords
   planned-same s true = owned-same (s .user) count (omega arith)
   planned-same s false = rw (found-all (s .identities))
+
+  pub planned-ranged : (s : Assignment) (owned : Bool) → All (Ranged count) (plannedRecords t count s owned)
+  unfolding plannedRecords
+  planned-ranged s true = owned-ranged t (s .user) count count (omega arith)
+  planned-ranged s false = named-ranged t count (s .identities)
 
   -- what it sees of them
   survey-same : (owner server : List ℕ) (kind : AssignmentType) (known : Bool) (ks : List ℕ) → All (Ranged count) ks

@@ -17,7 +17,7 @@ use Rattle.decisions.specs.Carried.{servedBy, carried}
 use Rattle.decisions.specs.Location.{soughtAt, soughtOf, locateFound, locate}
 use Rattle.decisions.proofs.Among.{public-among}
 use Rattle.likeness.specs.Shown.{SameRecord, SameTables}
-use Rattle.likeness.proofs.Lookups.{roam-same, public-same, private-same, server-same}
+use Rattle.likeness.proofs.Lookups.{roam-same, public-same, private-same, server-same, barred-same}
 
 module _ (file t u : List ℕ) (count : ℕ) (like : SameTables file t u count) where
   -- a record that was found
@@ -40,7 +40,7 @@ module _ (file t u : List ℕ) (count : ℕ) (like : SameTables file t u count) 
         private-same file t u count like user,
         roam-same file (blockOf t 0) (blockOf u 0) (blockOf t k) (blockOf u k) network (like .header) s,
         s .private,
-        s .bits,
+        barred-same file t u count like k (among .from k refl) (among .to k refl),
         s .state,
         s .size,
       )

@@ -1,12 +1,12 @@
 -- What a call writes, it writes into blocks that are alike alike: the tables afterwards are alike again.
-use Prim.Native.Nat.{ℕ, _+_, _-_, _<_, _≤_}
+use Prim.Native.Nat.{ℕ, zero, suc, _+_, _-_, _<_, _≤_}
 use mathlib.Core.Bool.{Bool, true, false, cond, not, _||_, true≢false}
 use mathlib.Core.Path.{_≡_, refl, sym, _∙_}
 use mathlib.Core.List.{List, [], _∷_}
 use native.Mathlib.Omega.{arith}
 use lib.Dec.{eqb, leb, ltb}
 use lib.ListN.{getD}
-use borrow.Author.Tests.{eqb-true, leb-true, ltb-true, lt-leb}
+use borrow.Author.Tests.{eqb-true, ne-eqb, leb-true, ltb-true, lt-leb}
 use Rattle.octets.specs.Name.{same}
 use Rattle.record.specs.Fields.{stateOf, bitsOf, serverSize, serverOf, pendingSet}
 use Rattle.record.specs.RecordBlock.{recordOf}
@@ -14,12 +14,14 @@ use Rattle.table.specs.Blocks.{blockOf}
 use Rattle.table.specs.SoundTable.{SoundTable}
 use Rattle.table.proofs.Sound.{sound-size, sound-limits}
 use Rattle.blocks.specs.Changed.{isOne, changedAt}
-use Rattle.rewrite.specs.Change.{alterable, afterOf, Keeps}
+use Rattle.rewrite.specs.Change.{alterable, afterOf, reaches, Keeps}
 use Rattle.rewrite.specs.Renew.{renewed, settled, challenged}
 use Rattle.rewrite.proofs.Bytes.{renewed-length, renewed-other, renewed-state, renewed-bits, renewed-server, renewed-name}
 use Rattle.rewrite.proofs.Challenged.{challenged-keeps}
+use Rattle.rewrite.proofs.Reaching.{reaches-zero}
 use Rattle.rewrite.proofs.Settled.{settled-keeps}
 use Rattle.rewrite.proofs.Tables.{after-block}
+use Rattle.diameter.specs.Put.{All}
 use Rattle.requests.specs.Judged.{Judged, bad, fine}
 use Rattle.requests.specs.Request.{readRequest}
 use Rattle.choices.specs.declared.plan.Deed.{Deed}
@@ -31,7 +33,8 @@ use Rattle.fitting.proofs.Deeds.{plan-fits}
 use Rattle.likeness.specs.Alike.{Alike, AlikeTables}
 use Rattle.likeness.specs.Shown.{SameTables}
 use Rattle.likeness.proofs.Fields.{server-alike, tables-same}
-use Rattle.likeness.proofs.Assignments.{planned-same}
+use Rattle.likeness.proofs.Assignments.{Ranged, planned-same, planned-ranged}
+use Rattle.likeness.proofs.Lookups.{set-same}
 use Rattle.likeness.proofs.Plans.{assignment-same, plan-same}
 
 module _ (b c : List ℕ) (alike : Alike b c) (name : List ℕ) where
@@ -43,7 +46,7 @@ module _ (b c : List ℕ) (alike : Alike b c) (name : List ℕ) where
     abbrev y : List ℕ
     y = renewed c state bits name
 
-    byte-alike : (i : ℕ) → 2 ≤ i → i < 406 → getD x i 0 ≡ getD y i 0
+    byte-alike : (i : ℕ) → 2 ≤ i → i < 408 → getD x i 0 ≡ getD y i 0
     byte-alike i l h = go (eqb i 8) (eqb i 9) (eqb i 15) (leb 272 i) (ltb i 368) refl refl refl refl refl
       where
         other : alterable i ≡ false → getD x i 0 ≡ getD y i 0
@@ -90,33 +93,46 @@ module _ (t u : List ℕ) (count : ℕ) (sound : SoundTable t count) (other : So
   like = tables-same [] t u count sound alike
 
   -- the same change of the same records
-  after-alike : (chosen : ℕ → Bool) (change : List ℕ → List ℕ) → Keeps change
-      → ((k : ℕ) → k ≤ count → chosen k ≡ true → Alike (change (blockOf t k)) (change (blockOf u k)))
-      → AlikeTables (afterOf t count chosen change) (afterOf u count chosen change) count
+  after-alike : (chosen picked : ℕ → Bool) (change : List ℕ → List ℕ) → Keeps change → chosen 0 ≡ false
+      → ((k : ℕ) → k ≤ count → chosen k ≡ picked k)
+      → ((k : ℕ) → 1 ≤ k → k ≤ count → Alike (change (blockOf t k)) (change (blockOf u k)))
+      → AlikeTables (afterOf t count chosen change) (afterOf u count picked change) count
   unfolding changedAt
-  after-alike chosen change keeps each =
+  after-alike chosen picked change keeps none same each =
       record {
         blocks =
             λ k h.
             rw (
               after-block t count change (sound-size t count sound) chosen keeps k h,
-              after-block u count change (sound-size u count other) chosen keeps k h,
+              after-block u count change (sound-size u count other) picked keeps k h,
+              ← same k h,
             )
             (go k h (chosen k) refl);
       }
     where
       go : (k : ℕ) → k ≤ count → (z : Bool) → chosen k ≡ z
           → Alike (cond z (change (blockOf t k)) (blockOf t k)) (cond z (change (blockOf u k)) (blockOf u k))
-      go k h true e = each k h e
+      go zero h true e = absurd (true≢false (sym e ∙ none))
+      go (suc k) h true e = each (suc k) (omega arith) h
       go k h false e = alike .blocks k h
 
-  one-is : (j k : ℕ) → isOne (k ∷ []) j ≡ true → j ≡ k
+  -- an effect reaches the same records, and no header
+  none-first : (ks : List ℕ) → All (Ranged count) ks → isOne ks 0 ≡ false
   unfolding isOne
-  one-is j k e = go (eqb j k) refl e
-    where
-      go : (z : Bool) → eqb j k ≡ z → (z || false) ≡ true → j ≡ k
-      go true f g = eqb-true j k f
-      go false f g = absurd (true≢false (sym g))
+  none-first [] all = refl
+  none-first (k ∷ ks) all = rw (ne-eqb 0 k (omega (arith, all .0 .0)), none-first ks (all .1))
+
+  pub reaches-none : (ks : List ℕ) → All (Ranged count) ks → reaches t ks 0 ≡ false
+  reaches-none ks all = reaches-zero t count sound ks ∙ none-first ks all
+
+  record-reached : (ks : List ℕ) → All (Ranged count) ks → (j : ℕ) → 1 ≤ j → j ≤ count → reaches t ks j ≡ reaches u ks j
+  unfolding reaches
+  record-reached [] all j a b = refl
+  record-reached (k ∷ ks) all j a b = rw (set-same [] t u count like k j (all .0 .0) (all .0 .1) a b, record-reached ks (all .1) j a b)
+
+  pub reaches-same : (ks : List ℕ) → All (Ranged count) ks → (j : ℕ) → j ≤ count → reaches t ks j ≡ reaches u ks j
+  reaches-same ks all zero h = reaches-none ks all ∙ sym (reaches-zero u count other ks ∙ none-first ks all)
+  reaches-same ks all (suc j) h = record-reached ks all (suc j) (omega arith) h
 
   room : (k : ℕ) → 1 ≤ k → k ≤ count → serverSize (blockOf t k) ≤ 96
   unfolding recordOf
@@ -126,14 +142,15 @@ module _ (t u : List ℕ) (count : ℕ) (sound : SoundTable t count) (other : So
   unfolding carriedOut
   deed-alike s Leave f = alike
   deed-alike s (Settle w) f =
+      let ks = plannedRecords t count s (w .owned) in
+      let all : All (Ranged count) ks = planned-ranged [] t u count like s (w .owned) in
       rw (← planned-same [] t u count like s (w .owned))
-      (after-alike (isOne (plannedRecords t count s (w .owned))) _ (settled-keeps _ _ f)
-      (λ k h e. settled-alike (blockOf t k) (blockOf u k) (alike .blocks k h) _ (w .state)))
+      (after-alike (reaches t ks) (reaches u ks) _ (settled-keeps _ _ f) (reaches-none ks all) (reaches-same ks all)
+      (λ k a h. settled-alike (blockOf t k) (blockOf u k) (alike .blocks k h) _ (w .state)))
   deed-alike s (Challenge k) (a, b, least, most) =
-      after-alike (isOne (k ∷ [])) _ (challenged-keeps (s .server) least most)
-      (λ j h e.
-      let i : j ≡ k = one-is j k e in
-      challenged-alike (blockOf t j) (blockOf u j) (alike .blocks j h) (s .server) (room j (omega arith) h))
+      after-alike (reaches t (k ∷ [])) (reaches u (k ∷ [])) _ (challenged-keeps (s .server) least most) (reaches-none (k ∷ []) ((a, b), tt))
+      (reaches-same (k ∷ []) ((a, b), tt))
+      (λ j l h. challenged-alike (blockOf t j) (blockOf u j) (alike .blocks j h) (s .server) (room j l h))
 
   pub tables-alike : (req v : List ℕ) → AlikeTables (decide req t count v .table) (decide req u count v .table) count
   unfolding decide decideJudged performed assignmentOf

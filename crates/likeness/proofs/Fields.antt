@@ -7,7 +7,7 @@ use lib.ListN.{getD, take, drop}
 use Rattle.octets.proofs.Parts.{part-alike}
 use Rattle.octets.proofs.Numbers.{be16-alike, be32-alike}
 use Rattle.record.specs.Fields.{countOf, hostSize, realmSize, networksOf, hostOf, realmOf, mandatoryCount, optionalCount, publicSize, privateSize}
-use Rattle.record.specs.Fields.{serverSize, publicOf, privateOf, serverOf, mandatoryOf, optionalOf, profileStart, profileSize, profileOf}
+use Rattle.record.specs.Fields.{serverSize, publicOf, privateOf, serverOf, mandatoryOf, optionalOf, profileStart, profileSize, profileOf, setOf}
 use Rattle.record.specs.HeaderBlock.{headerOf}
 use Rattle.record.specs.Networks.{placeAt, networkOf}
 use Rattle.record.specs.RecordBlock.{recordOf}
@@ -20,10 +20,10 @@ use Rattle.likeness.specs.Shown.{SameHeader, SameRecord, SameTables}
 
 module _ (b c : List ℕ) (alike : Alike b c) where
   -- bytes and parts
-  byte : (i : ℕ) → 2 ≤ i → i < 406 → getD b i 0 ≡ getD c i 0
+  byte : (i : ℕ) → 2 ≤ i → i < 408 → getD b i 0 ≡ getD c i 0
   byte i h k = alike .bytes i h k
 
-  part : (at n : ℕ) → 2 ≤ at → at + n ≤ 406 → take n (drop at b) ≡ take n (drop at c)
+  part : (at n : ℕ) → 2 ≤ at → at + n ≤ 408 → take n (drop at b) ≡ take n (drop at c)
   part at n h k = part-alike b c at n (alike .whole ∙ sym (alike .other-whole)) (λ i u v. alike .bytes i (omega arith) (omega arith))
 
   -- the header's
@@ -83,6 +83,9 @@ module _ (b c : List ℕ) (alike : Alike b c) where
   unfolding profileOf
   profile-alike file = rw (start-alike, size-alike)
 
+  set-alike : setOf b ≡ setOf c
+  set-alike = be16-alike b c 406 406 (λ j l. byte (406 + j) (omega arith) (omega arith))
+
   pub record-same : (file : List ℕ) → Limits (recordOf b) → SameRecord file b c
   unfolding recordOf
   record-same file l =
@@ -97,6 +100,7 @@ module _ (b c : List ℕ) (alike : Alike b c) where
         mandatory = mandatory-alike (l .mandatory);
         optional = optional-alike (l .optional);
         profile = profile-alike file;
+        set = set-alike;
       }
 
 -- Tables: one of the two is sound.

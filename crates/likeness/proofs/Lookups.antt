@@ -1,13 +1,14 @@
 -- Tables that show the same give one answer to every look-up.
 use Prim.Native.Nat.{ℕ, zero, suc, _+_, _<_, _≤_}
-use mathlib.Core.Bool.{Bool}
+use mathlib.Core.Bool.{Bool, not, _&&_}
 use mathlib.Core.Path.{_≡_, refl, ap}
 use mathlib.Core.List.{List}
 use native.Mathlib.Omega.{arith}
 use Rattle.octets.specs.Name.{same}
-use Rattle.record.specs.Fields.{networksOf}
+use Rattle.record.specs.Fields.{networksOf, barred}
+use Rattle.record.specs.Sets.{sameSet}
 use Rattle.table.specs.Blocks.{blockOf, publicAt, privateAt}
-use Rattle.lookup.specs.Find.{findPublic, privateIs, findPrivate, serverHere, servesAt, findServer}
+use Rattle.lookup.specs.Find.{findPublic, privateIs, findPrivate, serverHere, servesAt, findServer, freeHere, freeAt, findFree, barredAlone}
 use Rattle.lookup.specs.Network.{networkIs, seek, networkNumber, mayRoam}
 use Rattle.lookup.proofs.First.{first-same}
 use Rattle.lookup.proofs.Halves.{find-alike}
@@ -48,3 +49,21 @@ module _ (file t u : List ℕ) (count : ℕ) (like : SameTables file t u count) 
       (λ j a b.
       let s : SameRecord file (blockOf t j) (blockOf u j) = like .each j a (omega arith) in
       rw (s .size, s .private))
+
+  -- sets
+  pub set-same : (j k : ℕ) → 1 ≤ j → j ≤ count → 1 ≤ k → k ≤ count → sameSet (blockOf t j) (blockOf t k) ≡ sameSet (blockOf u j) (blockOf u k)
+  unfolding sameSet
+  set-same j k a b c d =
+      let x : SameRecord file (blockOf t j) (blockOf u j) = like .each j a b in
+      let y : SameRecord file (blockOf t k) (blockOf u k) = like .each k c d in
+      rw (x .set, x .private, y .set, y .private)
+
+  free-same : (k : ℕ) → 1 ≤ k → k ≤ count → findFree t count (blockOf t k) ≡ findFree u count (blockOf u k)
+  unfolding findFree freeAt freeHere
+  free-same k a b =
+      first-same (freeAt t (blockOf t k)) (freeAt u (blockOf u k)) count 1
+      (λ j h l. rw (set-same k j a b h (omega arith), like .each j h (omega arith) .bits))
+
+  pub barred-same : (k : ℕ) → 1 ≤ k → k ≤ count → barredAlone t count (blockOf t k) ≡ barredAlone u count (blockOf u k)
+  unfolding barredAlone
+  barred-same k a b = rw (free-same k a b, like .each k a b .bits)

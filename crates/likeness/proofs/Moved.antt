@@ -22,7 +22,7 @@ use Rattle.likeness.specs.Alike.{AlikeTables, SameCall, holding}
 use Rattle.likeness.proofs.Likeness.{serve-alike}
 
 -- the bytes that a request can see are none that a move may write
-still : (i : ℕ) → 2 ≤ i → i < 406 → movable i ≡ false
+still : (i : ℕ) → 2 ≤ i → i < 408 → movable i ≡ false
 still i a b = rw (ne-eqb i 1 (omega arith), lt-leb 408 i (omega arith), lt-leb 508 i (omega arith))
 
 module _ (x : Lent) (y : List ℕ) (count edition issue : ℕ) (first : checkOf x ≡ Sound count) (second : checkTable y (length (x .profile)) ≡ Sound count)

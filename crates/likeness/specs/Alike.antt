@@ -1,5 +1,5 @@
--- Tables whose blocks agree in every byte that a request can see: 2 to 405, the last of them a record's profile length. Kind and edition stand before,
--- and no request reads what stands after.
+-- Tables whose blocks agree in every byte that a request can see: 2 to 407, the last of them a record's set number. Kind and edition stand before, and no
+-- request reads what stands after.
 use Prim.Native.Nat.{ℕ, _<_, _≤_}
 use mathlib.Core.Path.{_≡_}
 use mathlib.Core.List.{List}
@@ -12,7 +12,7 @@ use Rattle.calling.specs.Serve.{Served}
 pub record Alike (b c : List ℕ) : Type 0 where
   pub whole : length b ≡ 512
   pub other-whole : length c ≡ 512
-  pub bytes : (i : ℕ) → 2 ≤ i → i < 406 → getD b i 0 ≡ getD c i 0
+  pub bytes : (i : ℕ) → 2 ≤ i → i < 408 → getD b i 0 ≡ getD c i 0
 
 -- two tables of so many records, the header too
 pub record AlikeTables (t u : List ℕ) (count : ℕ) : Type 0 where

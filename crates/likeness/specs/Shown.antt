@@ -3,7 +3,7 @@ use Prim.Native.Nat.{ℕ, _<_, _≤_}
 use mathlib.Core.Path.{_≡_}
 use mathlib.Core.List.{List}
 use Rattle.record.specs.Fields.{keepOf, hostOf, realmOf, networksOf, stateOf, bitsOf, roamingOf, serverSize, publicOf, privateOf, serverOf, mandatoryOf}
-use Rattle.record.specs.Fields.{optionalOf, profileOf}
+use Rattle.record.specs.Fields.{optionalOf, profileOf, setOf}
 use Rattle.record.specs.Networks.{networkOf}
 use Rattle.table.specs.Blocks.{blockOf}
 
@@ -27,6 +27,7 @@ pub record SameRecord (file b c : List ℕ) : Type 0 where
   pub mandatory : mandatoryOf b ≡ mandatoryOf c
   pub optional : optionalOf b ≡ optionalOf c
   pub profile : profileOf b file ≡ profileOf c file
+  pub set : setOf b ≡ setOf c
 
 -- two tables of so many records
 pub record SameTables (file t u : List ℕ) (count : ℕ) : Type 0 where

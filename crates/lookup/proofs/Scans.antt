@@ -1,20 +1,21 @@
 -- Scans by the subscription, and where a record that was found ends.
 use Prim.Native.Nat.{ℕ, _<_, _≤_}
-use mathlib.Core.Bool.{Bool, true, false}
+use mathlib.Core.Bool.{Bool, true, false, not}
 use mathlib.Core.Path.{_≡_, sym, _∙_}
 use mathlib.Core.List.{List}
 use native.Mathlib.Omega.{arith}
 use lib.ListN.{length}
 use borrow.Author.Tests.{lt-ltb}
 use Rattle.octets.specs.Name.{same}
-use Rattle.record.specs.Fields.{privateOf, serverSize}
+use Rattle.record.specs.Fields.{privateOf, serverSize, setOf, bitsOf, barred}
+use Rattle.record.specs.Sets.{sameSet}
 use Rattle.table.specs.Blocks.{blockOf, privateAt}
 use Rattle.table.specs.SoundTable.{SoundTable}
 use Rattle.table.proofs.Sound.{sound-block}
-use Rattle.lookup.specs.Find.{firstFrom, isAt, endOf, findPublic, publicIs, privateIs, findPrivate, serverHere, servesAt}
+use Rattle.lookup.specs.Find.{firstFrom, isAt, endOf, findPublic, publicIs, privateIs, findPrivate, serverHere, servesAt, freeHere, freeAt, findFree, barredAlone}
 use Rattle.lookup.specs.declared.Found.{Found}
 use Rattle.lookup.specs.declared.Found.the-variants.{At, Nothing}
-use Rattle.lookup.proofs.First.{first-some, first-stands}
+use Rattle.lookup.proofs.First.{first-none, first-some, first-stands}
 
 -- The test of a block, by what is read of it.
 pub private-here : (t name : List ℕ) (k : ℕ) {b n : List ℕ} {x : Bool} → b ≡ blockOf t k → n ≡ privateOf b → x ≡ same n name → x ≡ privateIs t name k
@@ -39,6 +40,24 @@ module _ (b name : List ℕ) where
   pub serves-some : {n : List ℕ} {x : Bool} → (serverSize b ≡ 0 → ⊥) → n ≡ privateOf b → x ≡ same n name → x ≡ serverHere b name
   unfolding serverHere
   serves-some h e f = let l : 0 < serverSize b = omega arith in rw (lt-ltb _ _ l, ← e) f
+
+-- Of the set of block b, and not barred.
+pub free-here : (t b : List ℕ) (k : ℕ) {c : List ℕ} {x : Bool} → c ≡ blockOf t k → x ≡ freeHere b c → x ≡ freeAt t b k
+unfolding freeAt
+free-here t b k e g = rw (← e) g
+
+pub free-none : (t : List ℕ) (count : ℕ) (b : List ℕ) {n : ℕ} → n ≡ setOf b → n ≡ 0 → Nothing ≡ findFree t count b
+unfolding findFree freeAt freeHere sameSet
+free-none t count b e z = let s : setOf b ≡ 0 = cc in sym (first-none (freeAt t b) count 1 (λ j h l. rw s))
+
+module _ (t : List ℕ) (count : ℕ) (b : List ℕ) {x : Bool} (e : x ≡ barred (bitsOf b)) where
+  pub alone-free : x ≡ false → false ≡ barredAlone t count b
+  unfolding barredAlone
+  alone-free f = let s : barred (bitsOf b) ≡ false = cc in rw s
+
+  pub alone-barred : {f : Found} {y : Bool} → x ≡ true → f ≡ findFree t count b → y ≡ isAt f → not y ≡ barredAlone t count b
+  unfolding barredAlone
+  alone-barred h g i = let s : barred (bitsOf b) ≡ true = cc in rw (s, ← g, ← i)
 
 -- A record that was found lies in the table.
 module _ (t : List ℕ) (count : ℕ) (sound : SoundTable t count) where

@@ -1,10 +1,11 @@
 -- Look-ups over the whole table, each as a scan in table order.
 use Prim.Native.Nat.{ℕ, zero, suc, _+_, _*_}
-use mathlib.Core.Bool.{Bool, true, false, _&&_, cond}
+use mathlib.Core.Bool.{Bool, true, false, _&&_, not, cond}
 use mathlib.Core.List.{List}
 use lib.Dec.{ltb}
 use Rattle.octets.specs.Name.{same}
-use Rattle.record.specs.Fields.{privateOf, serverSize}
+use Rattle.record.specs.Fields.{bitsOf, privateOf, serverSize, barred}
+use Rattle.record.specs.Sets.{sameSet}
 use Rattle.table.specs.Blocks.{blockOf, publicAt, privateAt}
 use Rattle.lookup.specs.declared.Found.{Found}
 use Rattle.lookup.specs.declared.Found.the-variants.{At, Nothing}
@@ -46,3 +47,16 @@ servesAt t name k = serverHere (blockOf t k) name
 
 unfoldable pub findServer : List ℕ → ℕ → List ℕ → Found
 findServer t count name = firstFrom (servesAt t name) count 1
+
+-- 02 [6]: "B5003 now exactly when the identity is barred and no non-barred one shares its nonzero set": a record of the set of block b that is not barred
+unfoldable pub freeHere : List ℕ → List ℕ → Bool
+freeHere b c = sameSet b c && not (barred (bitsOf c))
+
+unfoldable pub freeAt : List ℕ → List ℕ → ℕ → Bool
+freeAt t b k = freeHere b (blockOf t k)
+
+unfoldable pub findFree : List ℕ → ℕ → List ℕ → Found
+findFree t count b = firstFrom (freeAt t b) count 1
+
+unfoldable pub barredAlone : List ℕ → ℕ → List ℕ → Bool
+barredAlone t count b = barred (bitsOf b) && not (isAt (findFree t count b))

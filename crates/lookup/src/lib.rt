@@ -4,6 +4,7 @@ use octets::name::Order;
 use record::fields;
 use record::header::Header;
 use record::networks;
+use record::sets;
 use record::subscriber::Record;
 ghost use mathlib.Core.Path.{_≡_};
 ghost use Prim.Native.Nat.{_+_, _*_, _/_, _%_, _^_, _≤_, _<_};
@@ -12,7 +13,7 @@ ghost use lib.Dec.{eqb};
 ghost use Rattle.record.specs.Fields.{networksOf};
 ghost use Rattle.table.specs.Blocks.{blockOf};
 ghost use Rattle.table.specs.SoundTable.{SoundTable};
-ghost use Rattle.lookup.specs.Find.{isAt, findPublic, findPrivate, serverHere, findServer};
+ghost use Rattle.lookup.specs.Find.{isAt, findPublic, findPrivate, serverHere, findServer, freeHere, findFree, barredAlone};
 ghost use Rattle.lookup.specs.Network.{agreeAt, networkNumber, roamsIn, mayRoam};
 
 // The number of a record's block, or none.
@@ -122,6 +123,43 @@ pub fn first_server(t: &[u8], count: usize, name: &[u8]) -> Found
         k += 1;
     }
     Found::Nothing
+}
+
+// Whether a record is of the set of block b and not barred.
+fn free(b: &[u8], c: &[u8]) -> bool
+    requires { ⌜ (length (now b) ≡ 512) × (length (now c) ≡ 512) ⌝ }
+    ensures { λ r. ⌜ r ≡ freeHere (now (b .entry)) (now (c .entry)) ⌝ }
+{
+    sets::same_set(b, c) & !fields::barred(c)
+}
+
+// The first record of the set of block b that is not barred. Without a set there is none, and nothing is scanned.
+fn find_free(t: &[u8], count: usize, b: &[u8]) -> Found
+    requires { ⌜ SoundTable (now t) count × (length (now b) ≡ 512) ⌝ }
+    ensures { λ r. ⌜ r ≡ findFree (now (t .entry)) count (now (b .entry)) ⌝ }
+{
+    if sets::set(b) == 0 {
+        return Found::Nothing;
+    }
+    let mut k = 1;
+    while k <= count {
+        if free(b, table::block(t, k)) {
+            return Found::At(k as u32);
+        }
+        k += 1;
+    }
+    Found::Nothing
+}
+
+// Whether a record is barred, and every other of its set. Only a barred one's set is looked for.
+pub fn barred_alone(t: &[u8], count: usize, b: &[u8]) -> bool
+    requires { ⌜ SoundTable (now t) count × (length (now b) ≡ 512) ⌝ }
+    ensures { λ r. ⌜ r ≡ barredAlone (now (t .entry)) count (now (b .entry)) ⌝ }
+{
+    if fields::barred(b) {
+        return !is_at(find_free(t, count, b));
+    }
+    false
 }
 
 // Whether byte i of a network's place, first its length, is as the name asks.

@@ -15,7 +15,7 @@ use Rattle.record.specs.RecordBlock.{recordOf, soundRecord}
 use Rattle.record.specs.declared.header.Header.{Header}
 use Rattle.record.proofs.Tests.{record-says}
 use Rattle.table.specs.Blocks.{blockOf}
-use Rattle.table.specs.Check.{soundAt, checkRecords, checkTable}
+use Rattle.table.specs.Check.{standsAt, soundAt, checkRecords, checkTable}
 use Rattle.table.specs.declared.Checked.the-variants.{Sound, Bad}
 use Rattle.table.proofs.Sound.{table-says}
 use Rattle.moving.specs.Outcomes.{Mixes}
@@ -51,7 +51,7 @@ module _ (t : List ℕ) (file k : ℕ) (m : Mixes t file k) where
   h = headerOf (blockOf t 0)
 
   here : soundAt t h file k ≡ false
-  unfolding soundAt headerOf
+  unfolding soundAt standsAt headerOf
   here = rw (record-bad (blockOf t k) k h file (m .other))
 
   first : FirstNot (soundAt t h file) (h .count) 1 k

@@ -16,17 +16,20 @@ use Rattle.record.specs.HeaderBlock.{headerOf, soundCounts, soundEdition, isHea
 use Rattle.record.specs.Networks.{soundNetworks}
 use Rattle.record.specs.RecordBlock.{recordOf, soundRecord}
 use Rattle.record.specs.declared.header.Header.{Header}
+use Rattle.record.proofs.OneSet.{SameMember}
 use Rattle.record.proofs.Tests.{RecordTests, record-says, record-holds, Limits, limits-say, header-says}
 use Rattle.table.specs.Blocks.{blockOf, publicAt}
-use Rattle.table.specs.Check.{isLess, risesAt, soundAt, checkTable}
+use Rattle.table.specs.Check.{isLess, risesAt, standsAt, agreesAt, soundAt, checkTable}
 use Rattle.table.specs.declared.Checked.the-variants.{Sound}
+use Rattle.table.proofs.Agreement.{agrees-alike}
 use Rattle.table.proofs.Blocks.{block-length, table-is, table-same}
 use Rattle.table.proofs.Sound.{TableTests, table-holds}
 use Rattle.blocks.specs.Changed.{changedAt}
 use Rattle.blocks.proofs.Changed.{all-length, all-block}
 use Rattle.moving.specs.Moves.{moved, movedAll, Carried, headerWith}
 use Rattle.moving.proofs.Bytes.{moved-whole, moved-edition, moved-issue, moved-sum, moved-twice}
-use Rattle.moving.proofs.Carried.{moved-carried, header-same, public-same, record-kept, header-kept}
+use Rattle.moving.proofs.Carried.{moved-carried, first-same, set-same, header-same, public-same, private-same, server-same, record-kept}
+use Rattle.moving.proofs.Carried.{header-kept}
 use Rattle.moving.proofs.Same.{Bytes, block-bytes, moved-same}
 
 -- What a sound table says of each block: its sum, and the header's edition and issue number.
@@ -35,9 +38,10 @@ module _ (t : List ℕ) (file count : ℕ) (was : TableTests t file count) where
   first = blockOf t 0
 
   pub tests-record : (k : ℕ) → 1 ≤ k → k ≤ count → RecordTests (blockOf t k) k (headerOf first) file
-  unfolding soundAt
+  unfolding soundAt standsAt
   tests-record k a b =
-      record-says (blockOf t k) k (headerOf first) file (and-left (soundRecord (blockOf t k) k (headerOf first) file) (risesAt t k) (was .each k a b))
+      record-says (blockOf t k) k (headerOf first) file
+      (and-left (soundRecord (blockOf t k) k (headerOf first) file) (risesAt t k) (and-left (standsAt t (headerOf first) file k) _ (was .each k a b)))
 
   pub tests-limits : (k : ℕ) → 1 ≤ k → k ≤ count → Limits (recordOf (blockOf t k))
   tests-limits k a b = limits-say (recordOf (blockOf t k)) (tests-record k a b .limits)
@@ -158,10 +162,32 @@ module _ (t : List ℕ) (file count edition issue : ℕ) (was : TableTests t fil
       (record-kept (blockOf t k) (blockOf y k) (carried k b) k h (headerWith h edition issue) file (edition-is k b) (issue-is k b) refl
       (sum-new t count edition issue (was .size) k b) (rw (edition-is k b) (sets k a b)) (tests-record t file count was k a b))
 
+  member-is : (k : ℕ) → 1 ≤ k → k ≤ count → SameMember (blockOf t k) (blockOf y k)
+  member-is k a b =
+      let limits : Limits (recordOf (blockOf t k)) = tests-limits t file count was k a b in
+      record {
+        set = set-same (blockOf t k) (blockOf y k) (carried k b);
+        private = private-same (blockOf t k) (blockOf y k) (carried k b) limits;
+        state = first-same (blockOf t k) (blockOf y k) (carried k b) 8 (omega arith) (omega arith);
+        bits = first-same (blockOf t k) (blockOf y k) (carried k b) 9 (omega arith) (omega arith);
+        server = server-same (blockOf t k) (blockOf y k) (carried k b) limits;
+      }
+
+  agrees-is : (k : ℕ) → 1 ≤ k → k ≤ count → agreesAt y k ≡ agreesAt t k
+  agrees-is k a b = agrees-alike t y k (λ j u v. member-is j u (omega arith)) a
+
   at-sound : (k : ℕ) → 1 ≤ k → k ≤ count → soundAt y (headerOf (blockOf y 0)) file k ≡ true
-  unfolding soundAt
+  unfolding soundAt standsAt
   at-sound k a b =
-      rw (head-is, record-sound k a b, rises-is k a b) (and-right (soundRecord (blockOf t k) k h file) (risesAt t k) (was .each k a b))
+      let both : soundAt t h file k ≡ true = was .each k a b in
+      rw (
+        head-is,
+        record-sound k a b,
+        rises-is k a b,
+        and-right (soundRecord (blockOf t k) k h file) (risesAt t k) (and-left (standsAt t h file k) _ both),
+        agrees-is k a b,
+      )
+      (and-right (standsAt t h file k) _ both)
 
   pub moved-tests : TableTests y file count
   moved-tests =

@@ -1,3 +1,5 @@
+pub mod Hashes
+pub mod OneSet
 pub mod Places
 pub mod Short
 pub mod Sound

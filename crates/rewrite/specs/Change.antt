@@ -2,26 +2,25 @@
 use Prim.Native.Nat.{ℕ, zero, suc, _+_, _/_, _<_}
 use mathlib.Core.Bool.{Bool, true, false, _&&_, _||_, cond}
 use mathlib.Core.Path.{_≡_}
-use mathlib.Core.List.{List}
+use mathlib.Core.List.{List, [], _∷_}
 use lib.Dec.{eqb, leb, ltb}
 use lib.ListN.{length, getD}
 use Rattle.octets.specs.Name.{same}
 use Rattle.record.specs.Fields.{bitsOf}
 use Rattle.record.specs.RecordBlock.{soundRecord}
+use Rattle.record.specs.Sets.{sameSet, agreeing}
 use Rattle.record.specs.declared.header.Header.{Header}
 use Rattle.table.specs.Blocks.{blockOf}
-use Rattle.blocks.specs.Changed.{changedAll, changedIn}
-use Rattle.lookup.specs.declared.Found.{Found}
-use Rattle.lookup.specs.declared.Found.the-variants.{At, Nothing}
+use Rattle.blocks.specs.Changed.{changedAll}
 
 -- a choice is a test of block numbers, false of 0
 unfoldable pub afterOf : List ℕ → ℕ → (ℕ → Bool) → (List ℕ → List ℕ) → List ℕ
 afterOf t count chosen change = changedAll t (suc count) chosen change
 
--- a table with a found record changed
-unfoldable pub changedFound : List ℕ → Found → (List ℕ → List ℕ) → List ℕ
-changedFound t (At k) change = changedIn t k change
-changedFound t Nothing change = t
+-- 02 [6]: "Every effect of a SAR or an authentication request reaches the whole set": block j is one of the blocks ks, or of the set of one
+unfoldable pub reaches : List ℕ → List ℕ → ℕ → Bool
+reaches t [] j = false
+reaches t (k ∷ ks) j = eqb j k || sameSet (blockOf t k) (blockOf t j) || reaches t ks j
 
 -- the bytes of a record that an effect may write: state, bits, the server name with its length, the check word
 abbrev pub alterable : ℕ → Bool
@@ -34,9 +33,10 @@ pub record Kept (b c : List ℕ) : Type 0 where
   pub bits : bitsOf c / 2 ≡ bitsOf b / 2
   pub sound : (k : ℕ) (h : Header) (file : ℕ) → soundRecord b k h file ≡ true → soundRecord c k h file ≡ true
 
--- what a change keeps of every block; done twice it is done once
+-- what a change keeps of every block, and of two that agree; done twice it is done once
 pub record Keeps (change : List ℕ → List ℕ) : Type 0 where
   pub each : (b : List ℕ) → length b ≡ 512 → Kept b (change b)
+  pub agree : (a b : List ℕ) → length a ≡ 512 → length b ≡ 512 → agreeing a b ≡ true → agreeing (change a) (change b) ≡ true
   pub twice : (b : List ℕ) → length b ≡ 512 → change (change b) ≡ change b
 
 -- 1 if two pieces have other bytes, else 0; how many of the first n records have other bytes in y than in x

@@ -17,11 +17,13 @@ use Rattle.record.specs.HeaderBlock.{headerOf, soundHeader}
 use Rattle.record.specs.declared.header.Header.{Header}
 use Rattle.record.specs.Networks.{placeAt, usedPlace, soundPlace, soundNetworks}
 use Rattle.record.specs.RecordBlock.{recordOf, soundRecord}
+use Rattle.record.specs.Sets.{sameSet, agreeing}
 use Rattle.record.proofs.Tests.{RecordTests, record-says, Limits, limits-say, HeaderTests, header-says}
 use Rattle.table.specs.Blocks.{blockOf, publicAt}
-use Rattle.table.specs.Check.{isLess, risesAt, soundAt, checkRecords, checkTable}
+use Rattle.table.specs.Check.{isLess, risesAt, standsAt, agreesAt, soundAt, checkRecords, checkTable}
 use Rattle.table.specs.SoundTable.{SoundTable}
 use Rattle.table.specs.declared.Checked.the-variants.{Sound, Bad}
+use Rattle.table.proofs.Agreement.{agrees-says}
 use Rattle.table.proofs.First.{bad-sound, good-each, good-count, all-good}
 
 -- The tests of a table, taken out of the check once.
@@ -111,8 +113,16 @@ module _ (t : List ℕ) (count : ℕ) (s : SoundTable t count) where
 
   -- what each record says
   pub sound-record : (k : ℕ) → 1 ≤ k → k ≤ count → soundRecord (blockOf t k) k (headerOf (blockOf t 0)) (s .file) ≡ true
+  unfolding soundAt standsAt
+  sound-record k a b =
+      and-left (soundRecord (blockOf t k) k (headerOf (blockOf t 0)) (s .file)) _
+      (and-left (standsAt t (headerOf (blockOf t 0)) (s .file) k) _ (sound-tests .each k a b))
+
+  -- the records of each of its sets agree
+  pub sound-agrees : (j k : ℕ) → 1 ≤ j → j < k → k ≤ count → sameSet (blockOf t j) (blockOf t k) ≡ true → agreeing (blockOf t j) (blockOf t k) ≡ true
   unfolding soundAt
-  sound-record k a b = and-left (soundRecord (blockOf t k) k (headerOf (blockOf t 0)) (s .file)) _ (sound-tests .each k a b)
+  sound-agrees j k a b c =
+      agrees-says t k (and-right (standsAt t (headerOf (blockOf t 0)) (s .file) k) _ (sound-tests .each k (omega arith) c)) j a b
 
   pub sound-limits : (k : ℕ) → 1 ≤ k → k ≤ count → Limits (recordOf (blockOf t k))
   sound-limits k a b =
@@ -124,11 +134,11 @@ module _ (t : List ℕ) (count : ℕ) (s : SoundTable t count) where
 
   -- its public identities rise
   pub sound-rises : (k : ℕ) → 1 ≤ k → k < count → orderOf (publicAt t k) (publicAt t (suc k)) ≡ Less
-  unfolding soundAt risesAt
+  unfolding soundAt standsAt risesAt
   sound-rises k a b =
       let g : risesAt t (suc k) ≡ true =
       and-right (soundRecord (blockOf t (suc k)) (suc k) (headerOf (blockOf t 0)) (s .file)) _
-      (sound-tests .each (suc k) (omega arith) (omega arith)) in
+      (and-left (standsAt t (headerOf (blockOf t 0)) (s .file) (suc k)) _ (sound-tests .each (suc k) (omega arith) (omega arith))) in
       let l : 1 < suc k = omega arith in
       let q : suc k - 1 ≡ k = omega arith in
       is-less _ (rw (lt-leb _ _ l, q) at g)

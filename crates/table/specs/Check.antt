@@ -1,14 +1,16 @@
 -- What the check of a table answers: the count of records, or the number of the first bad block.
 use Prim.Native.Nat.{ℕ, zero, suc, _+_, _-_, _*_}
-use mathlib.Core.Bool.{Bool, true, false, _&&_, cond}
+use mathlib.Core.Bool.{Bool, true, false, _&&_, _||_, not, cond}
 use mathlib.Core.List.{List}
 use lib.ListN.{length}
 use lib.Dec.{eqb, leb}
+use Rattle.octets.specs.All.{allBelow}
 use Rattle.octets.specs.Name.{orderOf}
 use Rattle.octets.specs.declared.name.Order.{Order}
 use Rattle.octets.specs.declared.name.Order.the-variants.{Less, Equal, Greater}
 use Rattle.record.specs.HeaderBlock.{headerOf, soundHeader}
 use Rattle.record.specs.RecordBlock.{soundRecord}
+use Rattle.record.specs.Sets.{sameSet, agreeing}
 use Rattle.record.specs.declared.header.Header.{Header}
 use Rattle.table.specs.Blocks.{blockOf, publicAt}
 use Rattle.table.specs.declared.Checked.{Checked}
@@ -24,8 +26,19 @@ unfoldable pub risesAt : List ℕ → ℕ → Bool
 risesAt t k = cond (leb k 1) true (isLess (orderOf (publicAt t (k - 1)) (publicAt t k)))
 
 -- block k is a sound record in its place
+unfoldable pub standsAt : List ℕ → Header → ℕ → ℕ → Bool
+standsAt t h file k = soundRecord (blockOf t k) k h file && risesAt t k
+
+-- 02 [6]: "sound only if all records of a set agree in state, pending and server name, the later block being blamed": block k agrees with record i + 1, if
+-- that is of its set; with every record before it
+unfoldable pub agreesWith : List ℕ → ℕ → ℕ → Bool
+agreesWith t k i = not (sameSet (blockOf t (suc i)) (blockOf t k)) || agreeing (blockOf t (suc i)) (blockOf t k)
+
+unfoldable pub agreesAt : List ℕ → ℕ → Bool
+agreesAt t k = allBelow (agreesWith t k) (k - 1)
+
 unfoldable pub soundAt : List ℕ → Header → ℕ → ℕ → Bool
-soundAt t h file k = soundRecord (blockOf t k) k h file && risesAt t k
+soundAt t h file k = standsAt t h file k && agreesAt t k
 
 -- the first of the n blocks from k on that is not good, and the count where there is none
 unfoldable pub firstBad : (ℕ → Bool) → ℕ → ℕ → ℕ → Checked

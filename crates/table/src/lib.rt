@@ -1,17 +1,22 @@
 // The check of a whole table, block by block.
+mod members;
+
 use octets::name;
 use octets::name::Order;
 use record::fields;
 use record::header;
 use record::header::Header;
+use record::sets;
 use record::subscriber;
 ghost use mathlib.Core.Path.{_≡_};
-ghost use Prim.Native.Nat.{_+_, _*_, _≤_};
+ghost use Prim.Native.Nat.{_+_, _*_, _≤_, _<_};
 ghost use lib.ListN.{length};
 ghost use Rattle.octets.specs.Name.{orderOf};
 ghost use Rattle.record.specs.Fields.{publicOf};
 ghost use Rattle.table.specs.Blocks.{blockOf};
-ghost use Rattle.table.specs.Check.{isLess, risesAt, soundAt, checkRecords, checkTable};
+ghost use Rattle.octets.specs.All.{allBelow};
+ghost use Rattle.table.specs.Check.{isLess, risesAt, standsAt, checkRecords, checkTable};
+ghost use Rattle.table.specs.Leading.{leading, setless, outcomeOf};
 
 // "Blocks of 512 bytes"
 pub const BLOCK: usize = 512;
@@ -55,28 +60,67 @@ fn rises(t: &[u8], k: usize) -> bool
 }
 
 // Whether block k is a sound record in its place.
-fn record_at(t: &[u8], h: Header, file: usize, k: usize) -> bool
+fn stands(t: &[u8], h: Header, file: usize, k: usize) -> bool
     requires { ⌜ (1 ≤ k) × (k ≤ 4096) × (h .networks ≤ 8) × (512 * k + 512 ≤ length (now t)) ⌝ }
-    ensures { λ r. ⌜ r ≡ soundAt (now (t .entry)) h file k ⌝ }
+    ensures { λ r. ⌜ r ≡ standsAt (now (t .entry)) h file k ⌝ }
 {
     subscriber::sound(block(t, k), k as u32, h, file) & rises(t, k)
 }
 
-// The records of a table, one after the other, under its header.
+// How many records from the first on stand in their places, and whether none of them has a set: its bytes are at hand in this pass.
+struct Stood {
+    records: usize,
+    setless: bool,
+}
+
+fn standing(t: &[u8], h: Header, file: usize) -> Stood
+    requires { ⌜ (h .count ≤ 4096) × (h .networks ≤ 8) × (length (now t) ≡ 512 * (h .count + 1)) ⌝ }
+    ensures { λ r. ⌜ (r .records ≡ leading (standsAt (now (t .entry)) h file) (h .count) 1) × (r .records ≤ h .count)
+        × (r .setless ≡ allBelow (setless (now (t .entry))) (r .records)) ⌝ }
+{
+    let count = h.count as usize;
+    let mut m = 0;
+    let mut none = true;
+    while m < count {
+        if stands(t, h, file, m + 1) {
+            none = none & (sets::set(block(t, m + 1)) == 0);
+            m += 1;
+        } else {
+            return Stood {
+                records: m,
+                setless: none,
+            };
+        }
+    }
+    Stood {
+        records: m,
+        setless: none,
+    }
+}
+
+// What the first m records being sound and the next one not, if there is one, says of them all.
+fn outcome(count: usize, m: usize) -> Checked
+    requires { ⌜ (count ≤ 4096) × (m ≤ count) ⌝ }
+    ensures { λ r. ⌜ r ≡ outcomeOf count m ⌝ }
+{
+    let k = m + 1;
+    if k <= count {
+        return Checked::Bad(k as u32);
+    }
+    Checked::Sound(count as u32)
+}
+
+// The records of a table, under its header: first each in its place, then the sets of those that stand.
 fn records(t: &[u8], h: Header, file: usize) -> Checked
     requires { ⌜ (h .count ≤ 4096) × (h .networks ≤ 8) × (length (now t) ≡ 512 * (h .count + 1)) ⌝ }
     ensures { λ r. ⌜ r ≡ checkRecords (now (t .entry)) h file ⌝ }
 {
     let count = h.count as usize;
-    let mut k = 1;
-    while k <= count {
-        if record_at(t, h, file, k) {
-            k += 1;
-        } else {
-            return Checked::Bad(k as u32);
-        }
+    let s = standing(t, h, file);
+    if s.setless {
+        return outcome(count, s.records);
     }
-    Checked::Sound(count as u32)
+    outcome(count, members::agreeing(t, s.records))
 }
 
 // The whole table against a profile file of such a length.

@@ -12,9 +12,11 @@ use Rattle.record.specs.Fields.{hostOf, realmOf, publicOf, privateOf, serverOf,
 use Rattle.record.specs.HeaderBlock.{headerOf, soundHeader}
 use Rattle.record.specs.Networks.{networkOf, usedPlace, soundPlace, sameByte, otherPlace, newPlace, soundNetworks}
 use Rattle.record.specs.RecordBlock.{recordOf, soundRecord}
+use Rattle.record.specs.Sets.{sameSet, agreeing}
 use Rattle.table.specs.Blocks.{blockOf, tableOf, publicAt, privateAt}
-use Rattle.table.specs.Check.{risesAt, soundAt, firstBad, checkRecords, checkTable}
-use Rattle.lookup.specs.Find.{firstFrom, publicIs, findPublic, privateIs, findPrivate, serverHere, servesAt, findServer}
+use Rattle.table.specs.Check.{risesAt, standsAt, agreesWith, agreesAt, soundAt, firstBad, checkRecords, checkTable}
+use Rattle.lookup.specs.Find.{firstFrom, publicIs, findPublic, privateIs, findPrivate, serverHere, servesAt, findServer, freeHere, freeAt, findFree}
+use Rattle.lookup.specs.Find.{barredAlone}
 use Rattle.lookup.specs.Network.{networkIs, seek, networkNumber, roamsIn, mayRoam}
 use Rattle.blocks.specs.Changed.{changedAt, changedAll, isOne}
 use Rattle.blocks.specs.Sealed.{negated, sealed}
@@ -23,7 +25,7 @@ use Rattle.vectors.specs.VectorFile.{piecesOf, soundPiece, checkVectors}
 use Rattle.vectors.specs.Chosen.{firstOnes, unusedHere, unusedAt, unusedOf, packed}
 use Rattle.vectors.specs.Scheme.{scheme}
 use Rattle.vectors.specs.Marked.{markedUsed, spent}
-use Rattle.rewrite.specs.Change.{afterOf}
+use Rattle.rewrite.specs.Change.{afterOf, reaches}
 use Rattle.rewrite.specs.Renew.{renewed, settled, challenged}
 use Rattle.diameter.specs.Avp.{padded, headOf, vendorOf, valueOf, sound}
 use Rattle.diameter.specs.Walk.{walkFrom, walk}
@@ -160,8 +162,8 @@ unfoldable pub opened : ℕ
 unfolding host realm block header subscriber person vector room request reply answer common assignment digest authenticationOf authentication item challenges
     one waiting two s z allBelow orderOf alikeAt same be16At be24At be32At putBe24 putBe32 zeros zeroBetween putName over sumWords hostOf realmOf publicOf
     privateOf serverOf headerOf soundHeader networkOf usedPlace soundPlace sameByte otherPlace newPlace soundNetworks recordOf soundRecord blockOf tableOf
-    publicAt privateAt risesAt soundAt firstBad checkRecords checkTable firstFrom publicIs findPublic privateIs findPrivate serverHere servesAt findServer
-    networkIs seek networkNumber roamsIn negated sealed renewed settled challenged changedAt changedAll afterOf vectorOf soundVector cardOf randAutnOf
+    publicAt privateAt sameSet agreeing risesAt standsAt agreesWith agreesAt soundAt firstBad checkRecords checkTable firstFrom publicIs findPublic privateIs findPrivate serverHere servesAt findServer freeHere freeAt findFree barredAlone
+    networkIs seek networkNumber roamsIn negated sealed renewed settled challenged changedAt changedAll afterOf reaches vectorOf soundVector cardOf randAutnOf
     xresOf confidentialityOf integrityOf piecesOf soundPiece checkVectors firstOnes unusedHere unusedAt unusedOf packed isOne markedUsed spent padded headOf
     vendorOf valueOf sound walkFrom walk avpOf padding vendorHead copied avpBytes vendorBytes numberBytes vendorNumber group vendorGroup ifThere
     vendorApplication experimental failed vendorNumbers capabilities known kindFrom kindBy rowOf useIn numberFault plainFault applicationMembers itemMembers

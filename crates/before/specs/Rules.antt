@@ -1,0 +1,55 @@
+-- A call under some rules: how a table is checked, what a request that was read comes to, and what is written. The rules in force are one such; those that
+-- a later request replaced are others.
+use Prim.Native.Nat.{ℕ}
+use mathlib.Core.List.{List, [], _∷_}
+use lib.ListN.{length}
+use Rattle.table.specs.Check.{checkTable}
+use Rattle.table.specs.declared.Checked.{Checked}
+use Rattle.vectors.specs.VectorFile.{checkVectors}
+use Rattle.reading.specs.Rules.{Seen}
+use Rattle.requests.specs.Judged.{Judged, bad, fine}
+use Rattle.requests.specs.Request.{readRequest}
+use Rattle.choices.specs.declared.plan.Deed.{Deed}
+use Rattle.choices.specs.declared.plan.Plan.{Plan}
+use Rattle.assignment.specs.Assignment.{Assignment}
+use Rattle.fitting.specs.Decide.{Decision, faulted, assignmentOf, planRead}
+use Rattle.fitting.specs.Deeds.{carriedOut, spentBy}
+use Rattle.calling.specs.Lent.{Lent}
+use Rattle.calling.specs.Trial.{Trial, tried}
+use Rattle.calling.specs.Serve.{Served, smallBuffer, wrongSize, wrongLength, noRequest, checkValue, unsound, unsoundVectors, refused, answered}
+
+pub record Rules : Type 0 where
+  pub check : List ℕ → ℕ → Checked
+  pub plan : List ℕ → List ℕ → ℕ → List ℕ → Seen → Plan
+  pub carry : List ℕ → ℕ → Assignment → Deed → List ℕ
+
+-- the rules in force
+abbrev pub inForce : Rules
+inForce = record { check = checkTable; plan = planRead; carry = carriedOut }
+
+abbrev pub performedBy : Rules → List ℕ → ℕ → List ℕ → Assignment → Plan → Decision
+performedBy r t count v s p = record { given = p .given; place = 0; table = r .carry t count s (p .deed); vectors = spentBy v (p .given .sent) (p .deed) }
+
+unfoldable pub judgedBy : Rules → List ℕ → List ℕ → ℕ → List ℕ → Judged → Decision
+judgedBy r req t count v (bad f) = faulted t v f
+judgedBy r req t count v (fine seen) = performedBy r t count v (assignmentOf t seen req) (r .plan req t count v seen)
+
+unfoldable pub decideBy : Rules → List ℕ → List ℕ → ℕ → List ℕ → Decision
+decideBy r req t count v = judgedBy r req t count v (readRequest req)
+
+-- the refusals, the table being found sound or bad
+abbrev pub trialsBy : Lent → Checked → List Trial
+trialsBy x c =
+    record { holds = smallBuffer (x .buffer); number = 1; besides = 0 }
+    ∷ record { holds = wrongSize (x .request); number = 2; besides = 0 }
+    ∷ record { holds = wrongLength (x .request); number = 3; besides = 0 }
+    ∷ record { holds = noRequest (x .request); number = 4; besides = 0 }
+    ∷ unsound c
+    ∷ unsoundVectors (checkVectors (x .vectors))
+    ∷ []
+
+unfoldable pub serveFound : Rules → Lent → Checked → Served
+serveFound r x c = tried (refused x) (answered x (decideBy r (x .request) (x .table) (checkValue c) (x .vectors))) (trialsBy x c)
+
+unfoldable pub serveBy : Rules → Lent → Served
+serveBy r x = serveFound r x (r .check (x .table) (length (x .profile)))

@@ -1,0 +1,40 @@
+use Prim.Native.Nat.{_≤_, _-_, _+_, _*_}
+use lib.ListN.{length}
+use mathlib.Core.Path.{_≡_, refl}
+use Rattle.lookup.specs.Find.{firstFrom, findFree, freeAt}
+use Rattle.lookup.proofs.First.{first-start, first-here, first-next, first-nothing}
+use Rattle.lookup.proofs.Scans.{free-here, free-none}
+use Rattle.table.proofs.Sound.{sound-few, sound-size}
+use borrow.Author.Needs.{needs}
+use Rattle.lookup.proofs.find_free.Statement.{statement}
+use Rattle.lookup.proofs.find_free.Tie as tie
+
+abbrev Inv-loop : tie.InvT-loop
+Inv-loop t count b k₀ k =
+    (count ≤ 4096) × (length t ≡ 512 * (count + 1))
+    × (1 ≤ k) × (k ≤ count + 1) × (findFree t count b ≡ firstFrom (freeAt t b) (count + 1 - k) k)
+
+abbrev μ-loop : tie.MeasureT-loop
+μ-loop t count b k₀ k = count + 1 - k
+
+loop-holds : tie.Need-loop-holds Inv-loop μ-loop
+unfolding findFree
+loop-holds c = (search (needs, sound-few), search (needs, sound-size), search needs, search needs, first-start _ _ refl)
+
+pub find-free-spec : {M : Type 1} → statement M
+find-free-spec =
+    tie.close
+    (tie.spec
+    Inv-loop
+    μ-loop
+    (λ c κs. search needs)
+    (λ c. search (needs, free-none))
+    loop-holds
+    (λ c κs. search needs)
+    (λ c κs. search needs)
+    (λ c. search needs)
+    (λ c. search (needs, first-here, free-here))
+    (λ c. search needs)
+    (λ c. search needs)
+    (λ c. search (needs, first-next, free-here))
+    (λ c. search (needs, first-nothing)))

@@ -1,0 +1,21 @@
+use Rattle.record.specs.Sets.{agreeing}
+use borrow.Author.Needs.{needs}
+use Rattle.record.proofs.sets.agree.Statement.{statement}
+use Rattle.record.proofs.sets.agree.Tie as tie
+
+returns : tie.Need-returns
+unfolding agreeing
+returns c = cc
+
+pub agree-spec : {M : Type 1} → statement M
+agree-spec =
+    tie.close
+    (tie.spec
+    (λ c. search needs)
+    (λ c. search needs)
+    (λ c. search needs)
+    (λ c. search needs)
+    (λ c κs. search needs)
+    (λ c κs. search needs)
+    (λ c κs. search needs)
+    returns)
