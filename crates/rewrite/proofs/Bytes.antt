@@ -7,10 +7,11 @@ use mathlib.Core.List.{List}
 use native.Mathlib.Omega.{arith}
 use lib.Dec.{ltb, leb, eqb}
 use borrow.Author.Tests.{ltb-true, ltb-false, leb-true, leb-false, lt-leb, le-leb, le-ltb, eqb-true, eqb-false, ne-eqb}
-use lib.ListN.{length, getD, set, length-set}
-use lib.Seq.{getD-set-same, getD-set-other}
+use lib.ListN.{length, getD, set, take, drop, length-set, length-take, length-drop}
+use lib.Seq.{getD-set-same, getD-set-other, getD-take, getD-drop, ext-getD}
 use Rattle.octets.specs.Run.{putName}
 use Rattle.octets.proofs.Runs.{name-length, name-apart, name-here}
+use Rattle.record.specs.Fields.{serverOf}
 use Rattle.blocks.specs.Sealed.{sealed}
 use Rattle.blocks.proofs.Sealed.{sealed-length, seal-before, seal-alike}
 use Rattle.rewrite.specs.Change.{alterable}
@@ -127,6 +128,19 @@ module _ (b : List ℕ) (state bits : ℕ) (name : List ℕ) where
     pub renewed-name : (j : ℕ) → j < 96 → getD (renewed b state bits name) (272 + j) 0 ≡ getD name j 0
     unfolding renewed
     renewed-name j h = seal-before _ (272 + j) (omega arith) ∙ drafted-name j h
+
+-- The name that a renewed block stores.
+pub renewed-stores : (b : List ℕ) (state bits : ℕ) (name : List ℕ) → length b ≡ 512 → length name ≤ 96 → serverOf (renewed b state bits name) ≡ name
+unfolding serverOf
+renewed-stores b state bits name whole most =
+    let c = renewed b state bits name in
+    let l : length c ≡ 512 = renewed-length b state bits name ∙ whole in
+    let n : length (take (length name) (drop 272 c)) ≡ length name = simp (length-take, length-drop) (omega arith) in
+    rw (renewed-server b state bits name whole)
+    (ext-getD 0 (take (length name) (drop 272 c)) name n
+    (λ i h.
+    let k : i < length name = omega (arith, n) in
+    getD-take (length name) (drop 272 c) i 0 k ∙ getD-drop 272 c i 0 ∙ renewed-name b state bits name whole i (omega arith)))
 
 -- Blocks that differ at most in what is written anew are alike once they are renewed.
 module _ (b c : List ℕ) (state bits : ℕ) (name : List ℕ) (k : length b ≡ 512) (l : length c ≡ 512)

@@ -6,32 +6,20 @@ use mathlib.Core.List.{List}
 use native.Mathlib.Omega.{arith}
 use lib.Dec.{eqb, ltb}
 use borrow.Author.Tests.{eqb-true, eq-eqb, ne-eqb, lt-ltb}
-use lib.ListN.{length, getD, take, drop, length-take, length-drop}
-use lib.Seq.{getD-take, getD-drop, ext-getD}
+use lib.ListN.{length}
 use Rattle.octets.specs.Name.{same}
 use Rattle.octets.proofs.Names.{same-yes}
 use Rattle.record.specs.Fields.{stateOf, bitsOf, serverOf, pendingSet}
 use Rattle.record.specs.RecordBlock.{recordOf, serverFits, soundRecord}
+use Rattle.record.specs.Sets.{agreeing}
 use Rattle.record.specs.declared.header.Header.{Header}
+use Rattle.record.proofs.OneSet.{Agree, agree-says}
 use Rattle.record.proofs.Tests.{RecordTests, record-says, Limits, limits-say}
 use Rattle.rewrite.specs.Change.{Kept, Keeps}
 use Rattle.rewrite.specs.Renew.{renewed, challenged}
-use Rattle.rewrite.proofs.Bytes.{renewed-length, renewed-other, renewed-state, renewed-bits, renewed-server, renewed-name, renewed-alike}
-use Rattle.rewrite.proofs.Settled.{renewed-sound}
+use Rattle.rewrite.proofs.Bytes.{renewed-length, renewed-other, renewed-state, renewed-bits, renewed-stores, renewed-alike}
+use Rattle.rewrite.proofs.Settled.{renewed-sound, renewed-agree}
 use Rattle.rewrite.proofs.Tables.{kept-same}
-
--- The name that a renewed block stores.
-pub renewed-stores : (b : List ℕ) (state bits : ℕ) (name : List ℕ) → length b ≡ 512 → length name ≤ 96 → serverOf (renewed b state bits name) ≡ name
-unfolding serverOf
-renewed-stores b state bits name whole most =
-    let c = renewed b state bits name in
-    let l : length c ≡ 512 = renewed-length b state bits name ∙ whole in
-    let n : length (take (length name) (drop 272 c)) ≡ length name = simp (length-take, length-drop) (omega arith) in
-    rw (renewed-server b state bits name whole)
-    (ext-getD 0 (take (length name) (drop 272 c)) name n
-    (λ i h.
-    let k : i < length name = omega (arith, n) in
-    getD-take (length name) (drop 272 c) i 0 k ∙ getD-drop 272 c i 0 ∙ renewed-name b state bits name whole i (omega arith)))
 
 module _ (name : List ℕ) (least : 1 ≤ length name) (most : length name ≤ 96) where
   module _ (b : List ℕ) (whole : length b ≡ 512) where
@@ -94,5 +82,18 @@ module _ (name : List ℕ) (least : 1 ≤ length name) (most : length name ≤ 9
         go true e = let q : challenged name b ≡ new = rw e in rw q again
         go false e = let q : challenged name b ≡ b = rw e in rw q q
 
+  -- two that agree are both written or both left
+  challenged-agree : (a b : List ℕ) → length a ≡ 512 → length b ≡ 512 → agreeing a b ≡ true → agreeing (challenged name a) (challenged name b) ≡ true
+  unfolding challenged
+  challenged-agree a b k l e = rw (← s .state, ← s .server) (go (eqb (stateOf a) 0 || not (same (serverOf a) name)))
+    where
+      s : Agree a b
+      s = agree-says a b e
+
+      go : (x : Bool) → agreeing (cond x (renewed a (stateOf a) (pendingSet (bitsOf a)) name) a) (cond x (renewed b (stateOf a) (pendingSet (bitsOf b)) name) b)
+          ≡ true
+      go true = renewed-agree a b (stateOf a) (pendingSet (bitsOf a)) (pendingSet (bitsOf b)) name k l most (omega arith)
+      go false = e
+
   pub challenged-keeps : Keeps (challenged name)
-  challenged-keeps = record { each = challenged-kept; twice = challenged-twice }
+  challenged-keeps = record { each = challenged-kept; agree = challenged-agree; twice = challenged-twice }

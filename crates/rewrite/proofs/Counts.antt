@@ -11,14 +11,10 @@ use lib.ListN.{length}
 use Rattle.octets.specs.Name.{same}
 use Rattle.table.specs.Blocks.{blockOf}
 use Rattle.table.proofs.Blocks.{block-length}
-use Rattle.lookup.specs.Find.{firstFrom}
-use Rattle.lookup.specs.declared.Found.{Found}
-use Rattle.lookup.specs.declared.Found.the-variants.{At, Nothing}
-use Rattle.lookup.proofs.First.{FirstAt, first-stands}
 use Rattle.blocks.specs.Changed.{changedAt, changedIn}
-use Rattle.blocks.proofs.Changed.{in-here, in-other, in-length}
-use Rattle.rewrite.specs.Change.{afterOf, changedFound, Keeps, differ, alteredUpTo}
-use Rattle.rewrite.proofs.Tables.{keeps-whole, after-block, after-none}
+use Rattle.blocks.proofs.Changed.{in-here, in-other}
+use Rattle.rewrite.specs.Change.{afterOf, Keeps, differ, alteredUpTo}
+use Rattle.rewrite.proofs.Tables.{keeps-whole, after-length, after-block}
 use Rattle.rewrite.proofs.Writes.{differ-same, in-differs}
 
 differ-most : (x y : List ℕ) → differ x y ≤ 1
@@ -67,51 +63,51 @@ module _ (x y whole : List ℕ) (k : ℕ) (other : (j : ℕ) → j ≢ k → blo
           rw (other (suc n) (omega arith)) (omega (arith, r (omega arith)))
 
 module _ (change : List ℕ → List ℕ) (keeps : Keeps change) (x : List ℕ) (count : ℕ) (size : length x ≡ 512 * (count + 1)) where
-  module _ (k : ℕ) (a : 1 ≤ k) (b : k ≤ count) (chosen : ℕ → Bool) where
-    abbrev next : List ℕ
-    next = changedIn x k change
-
-    fits : 512 * k + 512 ≤ length x
-    fits = omega arith
-
-    stays : blockOf (afterOf next count chosen change) k ≡ blockOf next k
-    unfolding changedAt
-    stays =
-        after-block next count change (in-length x k change (keeps-whole keeps) fits ∙ size) chosen keeps k b
-        ∙ rw (in-here x k change (keeps-whole keeps) fits) (go (chosen k))
-      where
-        go : (u : Bool) → cond u (change (change (blockOf x k))) (change (blockOf x k)) ≡ change (blockOf x k)
-        go true = keeps .twice (blockOf x k) (block-length x k fits)
-        go false = refl
-
-    in-counts : alteredUpTo x (afterOf next count chosen change) count ≡ differ x next + alteredUpTo next (afterOf next count chosen change) count
-    in-counts =
-        altered-one x next (afterOf next count chosen change) k (in-other x k change (keeps-whole keeps) fits) stays count a b
-        ∙ ap (λ (n : ℕ). n + alteredUpTo next (afterOf next count chosen change) count)
-        (rw (in-here x k change (keeps-whole keeps) fits) (in-differs change x k (keeps .each (blockOf x k) (block-length x k fits) .size) fits))
-
-  pub found-counts : (p : ℕ → Bool) (f : Found) → firstFrom p count 1 ≡ f → (chosen : ℕ → Bool)
-      → alteredUpTo x (afterOf (changedFound x f change) count chosen change) count
-      ≡ differ x (changedFound x f change) + alteredUpTo (changedFound x f change) (afterOf (changedFound x f change) count chosen change) count
-  unfolding changedFound
-  found-counts p (At k) e chosen = let s : FirstAt p count 1 k = first-stands p count 1 k e in in-counts k (s .from) (omega (arith, s .to)) chosen
-  found-counts p Nothing e chosen = rw (differ-same x) (none-more (alteredUpTo x (afterOf x count chosen change) count))
-
-  pub if-counts : (u : Bool) (k : ℕ) → 1 ≤ k → k ≤ count → (chosen : ℕ → Bool)
-      → alteredUpTo x (afterOf (cond u (changedIn x k change) x) count chosen change) count
-      ≡ differ x (cond u (changedIn x k change) x)
-      + alteredUpTo (cond u (changedIn x k change) x) (afterOf (cond u (changedIn x k change) x) count chosen change) count
-  if-counts true k a b chosen = in-counts k a b chosen
-  if-counts false k a b chosen = rw (differ-same x) (none-more (alteredUpTo x (afterOf x count chosen change) count))
-
-  -- one record changed, and nothing after it
+  -- one record changed
   pub one-counts : (k : ℕ) → 1 ≤ k → k ≤ count → differ x (changedIn x k change) ≡ alteredUpTo x (changedIn x k change) count
   one-counts k a b =
       let next = changedIn x k change in
-      let size' : length next ≡ 512 * (count + 1) = in-length x k change (keeps-whole keeps) (omega arith) ∙ size in
-      let same : next ≡ afterOf next count (λ (j : ℕ). false) change = after-none next count change size' (λ (j : ℕ). false) (λ j l. refl) in
-      let sum : alteredUpTo x next count ≡ differ x next + alteredUpTo next next count = rw (← same) at (in-counts k a b (λ (j : ℕ). false)) in
-      omega (arith, sum, altered-none next count)
+      let fits : 512 * k + 512 ≤ length x = omega arith in
+      let here : blockOf next k ≡ change (blockOf x k) = in-here x k change (keeps-whole keeps) fits in
+      let one : differ (blockOf x k) (blockOf next k) ≡ differ x next =
+      rw here (in-differs change x k (keeps .each (blockOf x k) (block-length x k fits) .size) fits) in
+      let sum = altered-one x next next k (in-other x k change (keeps-whole keeps) fits) refl count a b in
+      omega (arith, one, sum, altered-none next count)
+
+  -- an effect after an effect alters what each alters
+  module _ (p q : ℕ → Bool) where
+    abbrev y : List ℕ
+    y = afterOf x count p change
+
+    abbrev z : List ℕ
+    z = afterOf y count q change
+
+    once : (k : ℕ) → k ≤ count → blockOf y k ≡ cond (p k) (change (blockOf x k)) (blockOf x k)
+    unfolding changedAt
+    once k h = after-block x count change size p keeps k h
+
+    twice : (k : ℕ) → k ≤ count → blockOf z k ≡ cond (q k) (change (blockOf y k)) (blockOf y k)
+    unfolding changedAt
+    twice k h = after-block y count change (after-length x count change size p keeps ∙ size) q keeps k h
+
+    each : (k : ℕ) → k ≤ count → differ (blockOf x k) (blockOf z k) ≡ differ (blockOf x k) (blockOf y k) + differ (blockOf y k) (blockOf z k)
+    each k h = rw (twice k h, once k h) (go (blockOf x k) (block-length x k (omega arith)) (p k) (q k))
+      where
+        more : (m : ℕ) → m ≡ m + 0
+        more m = omega arith
+
+        go : (b : List ℕ) → length b ≡ 512 → (u v : Bool)
+            → differ b (cond v (change (cond u (change b) b)) (cond u (change b) b))
+            ≡ differ b (cond u (change b) b) + differ (cond u (change b) b) (cond v (change (cond u (change b) b)) (cond u (change b) b))
+        go b l true true = rw (keeps .twice b l, differ-same (change b)) (more (differ b (change b)))
+        go b l true false = rw (differ-same (change b)) (more (differ b (change b)))
+        go b l false true = rw (differ-same b) (none-more (differ b (change b)))
+        go b l false false = rw (differ-same b)
+
+    pub both-counts : (n : ℕ) → n ≤ count → alteredUpTo x z n ≡ alteredUpTo x y n + alteredUpTo y z n
+    unfolding alteredUpTo
+    both-counts zero h = refl
+    both-counts (suc n) h = omega (arith, both-counts n (omega arith), each (suc n) h)
 
 -- The sum of a loop: it begins with none, it is never more than the records, and at the end it is the number.
 pub sum-start : (t whole : List ℕ) (count : ℕ) → 0 + alteredUpTo t whole count ≡ alteredUpTo t whole count

@@ -1,8 +1,11 @@
 pub mod Bytes
 pub mod Challenged
 pub mod Counts
+pub mod Reaching
 pub mod Settled
 pub mod Sound
 pub mod Tables
+pub mod Together
+pub mod Turns
 pub mod Unchanged
 pub mod Writes

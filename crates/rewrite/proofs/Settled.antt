@@ -12,12 +12,14 @@ use Rattle.octets.proofs.Numbers.{be16-alike, be32-alike}
 use Rattle.octets.proofs.Runs.{at-zero, zero-alike}
 use Rattle.record.specs.Fields.{bitsOf, cleared}
 use Rattle.record.specs.RecordBlock.{recordOf, isRecord, soundSet, serverFits, soundServer, soundRecord}
+use Rattle.record.specs.Sets.{agreeing}
 use Rattle.record.specs.declared.header.Header.{Header}
+use Rattle.record.proofs.OneSet.{agree-holds}
 use Rattle.record.proofs.Tests.{RecordTests, record-says, record-holds, Limits, limits-say, limits-hold, Zeros, rest-says, rest-holds}
 use Rattle.rewrite.specs.Change.{alterable, Kept, Keeps}
 use Rattle.rewrite.specs.Renew.{renewed, settled, Fitting}
 use Rattle.rewrite.proofs.Bytes.{kept-first, kept-low, kept-high, drafted, drafted-length, renewed-length, renewed-other, renewed-state}
-use Rattle.rewrite.proofs.Bytes.{renewed-bits, renewed-server, renewed-name, renewed-alike}
+use Rattle.rewrite.proofs.Bytes.{renewed-bits, renewed-server, renewed-name, renewed-stores, renewed-alike}
 use Rattle.blocks.proofs.Sealed.{sealed-zero}
 
 module _ (b : List ℕ) (state bits : ℕ) (name : List ℕ) (whole : length b ≡ 512) where
@@ -118,6 +120,17 @@ module _ (b : List ℕ) (state bits : ℕ) (name : List ℕ) (whole : length b �
       within : Limits (recordOf b)
       within = limits-say (recordOf b) (was .limits)
 
+-- Renewed alike, two records agree.
+pub renewed-agree : (a b : List ℕ) (state x y : ℕ) (name : List ℕ) → length a ≡ 512 → length b ≡ 512 → length name ≤ 96 → x % 2 ≡ y % 2
+    → agreeing (renewed a state x name) (renewed b state y name) ≡ true
+renewed-agree a b state x y name k l most e =
+    agree-holds (renewed a state x name) (renewed b state y name)
+    (record {
+      state = renewed-state a state x name k ∙ sym (renewed-state b state y name l);
+      pending = rw (renewed-bits a state x name k, renewed-bits b state y name l) e;
+      server = renewed-stores a state x name k most ∙ sym (renewed-stores b state y name l most);
+    })
+
 -- A state 1 or 2 fits with a name, and state 0 with none.
 pub fits-named : (state : ℕ) (name : List ℕ) → 1 ≤ state → state ≤ 2 → 1 ≤ length name → length name ≤ 96 → Fitting state name
 fits-named state name a b c d = record { two = b; most = d; served = rw (ne-eqb (length name) 0 (omega arith), lt-ltb 0 (length name) c, lt-ltb 0 state a) }
@@ -151,5 +164,9 @@ module _ (state : ℕ) (name : List ℕ) (fits : Fitting state name) where
         ap (λ (x : ℕ). renewed again state x name) e
         ∙ renewed-alike again b state bits name (renewed-length b state bits name ∙ whole) whole (λ i l f. renewed-other b state bits name i f)
 
+  settled-agree : (a b : List ℕ) → length a ≡ 512 → length b ≡ 512 → agreeing a b ≡ true → agreeing (settled state name a) (settled state name b) ≡ true
+  unfolding settled
+  settled-agree a b k l e = renewed-agree a b state (cleared (bitsOf a)) (cleared (bitsOf b)) name k l (fits .most) (omega arith)
+
   pub settled-keeps : Keeps (settled state name)
-  settled-keeps = record { each = settled-kept; twice = settled-twice }
+  settled-keeps = record { each = settled-kept; agree = settled-agree; twice = settled-twice }

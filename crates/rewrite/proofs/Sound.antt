@@ -1,28 +1,32 @@
 -- What rests on what every effect keeps: a table stays sound, and what is found in it is found again.
-use Prim.Native.Nat.{ℕ, _-_, _<_, _≤_}
+use Prim.Native.Nat.{ℕ, _+_, _-_, _*_, _<_, _≤_}
 use mathlib.Core.Bool.{Bool, true, false, _&&_, cond}
-use mathlib.Core.Path.{_≡_, refl, _∙_}
-use mathlib.Core.List.{List}
+use mathlib.Core.Path.{_≡_, refl, sym, _∙_}
+use mathlib.Core.List.{List, []}
 use native.Mathlib.Omega.{arith}
-use lib.Dec.{leb}
-use borrow.Author.Tests.{leb-false}
-use lib.ListN.{length, getD}
+use lib.Dec.{eqb, leb}
+use borrow.Author.Tests.{eqb-true, eqb-false, leb-true, leb-false}
+use lib.ListN.{length, getD, drop-of-length-le}
 use Rattle.octets.specs.Name.{orderOf}
-use Rattle.octets.proofs.All.{and-right}
+use Rattle.octets.proofs.All.{and-left, and-right}
+use Rattle.octets.proofs.Numbers.{be16-alike}
 use Rattle.octets.proofs.Parts.{part-alike}
-use Rattle.record.specs.Fields.{publicSize, privateSize, publicOf, privateOf}
+use Rattle.record.specs.Fields.{publicSize, privateSize, publicOf, privateOf, setOf}
 use Rattle.record.specs.HeaderBlock.{headerOf}
-use Rattle.record.specs.RecordBlock.{soundRecord}
+use Rattle.record.specs.RecordBlock.{recordOf, soundRecord}
+use Rattle.record.specs.Sets.{sameSet}
 use Rattle.record.specs.declared.header.Header.{Header}
+use Rattle.record.proofs.OneSet.{set-alike}
 use Rattle.table.specs.Blocks.{blockOf, publicAt}
-use Rattle.table.specs.Check.{isLess, risesAt, soundAt, checkTable}
+use Rattle.table.specs.Check.{isLess, risesAt, standsAt, agreesAt, soundAt, checkTable}
 use Rattle.table.specs.declared.Checked.the-variants.{Sound}
 use Rattle.table.specs.SoundTable.{SoundTable}
-use Rattle.table.proofs.Sound.{TableTests, table-holds, sound-tests, sound-record, sound-public}
+use Rattle.table.proofs.Agreement.{agrees-holds}
+use Rattle.table.proofs.Sound.{TableTests, table-holds, sound-tests, sound-record, sound-agrees, sound-limits, sound-public}
 use Rattle.lookup.specs.Find.{findPublic}
 use Rattle.lookup.proofs.Halves.{find-alike}
 use Rattle.rewrite.specs.Change.{Kept}
-use Rattle.rewrite.proofs.Bytes.{kept-low}
+use Rattle.rewrite.proofs.Bytes.{kept-low, kept-high}
 use Rattle.rewrite.proofs.Tables.{Keeping}
 
 -- The identities of a record, whose names have room.
@@ -38,6 +42,19 @@ module _ (b c : List ℕ) (kept : Kept b c) where
   kept-private h =
       rw (kept .others 14 (omega arith) refl)
       (part-alike c b 144 (privateSize b) (kept .size) (λ i u v. kept .others i (omega arith) (kept-low i (omega arith) (omega arith))))
+
+-- its set
+pub kept-set : (b c : List ℕ) → Kept b c → setOf c ≡ setOf b
+kept-set b c kept = be16-alike c b 406 406 (λ j l. kept .others (406 + j) (omega arith) (kept-high (406 + j) (omega arith) (omega arith)))
+
+pub sound-private : (t : List ℕ) (count : ℕ) → SoundTable t count → (k : ℕ) → 1 ≤ k → k ≤ count → privateSize (blockOf t k) ≤ 128
+unfolding recordOf
+sound-private t count s k a b = sound-limits t count s k a b .private
+
+-- Past the end there is none.
+pub block-past : (t : List ℕ) (k : ℕ) → length t ≤ 512 * k → blockOf t k ≡ []
+unfolding blockOf
+block-past t k h = rw (drop-of-length-le t {i = 512 * k} h)
 
 module _ (x y : List ℕ) (count : ℕ) (keeping : Keeping x y count) (sound : SoundTable x count) where
   abbrev h : Header
@@ -59,11 +76,46 @@ module _ (x y : List ℕ) (count : ℕ) (keeping : Keeping x y count) (sound : S
       go true e = refl
       go false e = let l : 1 < k = leb-false k 1 e in rw (public-same (k - 1) (omega arith) (omega arith), public-same k a b)
 
+  -- what sets are made of stays, whatever the block
+  keeping-block : (k : ℕ) → (setOf (blockOf y k) ≡ setOf (blockOf x k)) × (privateOf (blockOf y k) ≡ privateOf (blockOf x k))
+  keeping-block k = go (eqb k 0) (leb k count) refl refl
+    where
+      alike : blockOf y k ≡ blockOf x k → (setOf (blockOf y k) ≡ setOf (blockOf x k)) × (privateOf (blockOf y k) ≡ privateOf (blockOf x k))
+      alike e = (rw e, rw e)
+
+      go : (u v : Bool) → eqb k 0 ≡ u → leb k count ≡ v
+          → (setOf (blockOf y k) ≡ setOf (blockOf x k)) × (privateOf (blockOf y k) ≡ privateOf (blockOf x k))
+      go true v e f = let q : k ≡ 0 = eqb-true k 0 e in alike (rw q (keeping .header))
+      go false true e f =
+          let a : 1 ≤ k = omega (arith, eqb-false k 0 e) in
+          let b : k ≤ count = leb-true k count f in
+          let kept = keeping .each k a b in
+          (kept-set (blockOf x k) (blockOf y k) kept, kept-private (blockOf x k) (blockOf y k) kept (sound-private x count sound k a b))
+      go false false e f =
+          let b : count < k = leb-false k count f in
+          let n : length x ≤ 512 * k = omega (arith, was .size) in
+          alike (block-past y k (omega (arith, n, keeping .size)) ∙ sym (block-past x k n))
+
+  pub keeping-sets : (j k : ℕ) → sameSet (blockOf y j) (blockOf y k) ≡ sameSet (blockOf x j) (blockOf x k)
+  keeping-sets j k =
+      let u = keeping-block j in
+      let v = keeping-block k in
+      set-alike (blockOf y j) (blockOf y k) (blockOf x j) (blockOf x k) (u .0) (u .1) (v .0) (v .1)
+
+  agrees-still : (k : ℕ) → 1 ≤ k → k ≤ count → agreesAt y k ≡ true
+  agrees-still k a b =
+      agrees-holds y k
+      (λ j u v s.
+      let t : sameSet (blockOf x j) (blockOf x k) ≡ true = sym (keeping-sets j k) ∙ s in
+      keeping .agree j k (omega arith) b t (sound-agrees x count sound j k u v b t))
+
   good-at : (k : ℕ) → 1 ≤ k → k ≤ count → soundAt y h (sound .file) k ≡ true
-  unfolding soundAt
+  unfolding soundAt standsAt
   good-at k a b =
-      rw (keeping .each k a b .sound k h (sound .file) (sound-record x count sound k a b), rises-same k a b)
-      (and-right (soundRecord (blockOf x k) k h (sound .file)) (risesAt x k) (was .each k a b))
+      let r : risesAt x k ≡ true =
+      and-right (soundRecord (blockOf x k) k h (sound .file)) (risesAt x k)
+      (and-left (standsAt x h (sound .file) k) (agreesAt x k) (was .each k a b)) in
+      rw (keeping .each k a b .sound k h (sound .file) (sound-record x count sound k a b), rises-same k a b, agrees-still k a b, r)
 
   pub keeping-sound : checkTable y (sound .file) ≡ Sound count
   keeping-sound =

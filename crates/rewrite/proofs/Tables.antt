@@ -9,13 +9,10 @@ use borrow.Author.Tests.{eqb-true, eqb-false, ne-eqb}
 use lib.ListN.{length}
 use Rattle.table.specs.Blocks.{blockOf}
 use Rattle.table.proofs.Blocks.{block-length, table-is, table-same}
-use Rattle.lookup.specs.Find.{firstFrom}
-use Rattle.lookup.specs.declared.Found.{Found}
-use Rattle.lookup.specs.declared.Found.the-variants.{At, Nothing}
-use Rattle.lookup.proofs.First.{FirstAt, first-stands}
+use Rattle.record.specs.Sets.{sameSet, agreeing}
 use Rattle.blocks.specs.Changed.{changedAt, changedAll, changedIn}
 use Rattle.blocks.proofs.Changed.{Whole, in-length, in-here, in-other, all-none, all-length, all-block}
-use Rattle.rewrite.specs.Change.{afterOf, changedFound, Kept, Keeps}
+use Rattle.rewrite.specs.Change.{afterOf, Kept, Keeps}
 
 pub kept-same : (b c : List ℕ) → c ≡ b → Kept b c
 kept-same b c e = record { size = rw e; others = λ i l a. rw e; bits = rw e; sound = λ k networks file s. rw e s }
@@ -30,29 +27,31 @@ pub after-same : (x t : List ℕ) (count : ℕ) (p q : ℕ → Bool) (change : L
 unfolding afterOf changedAll
 after-same x t count p q change h = table-same _ _ (suc count) (λ k l. h k (omega arith))
 
--- Block j after an effect: as before if the choice and the block are; changed once if it was changed already.
-module _ (y x : List ℕ) (p q : ℕ → Bool) (change : List ℕ → List ℕ) where
-  pub at-same : (j : ℕ) → blockOf y j ≡ blockOf x j → p j ≡ q j → changedAt y p change j ≡ changedAt x q change j
-  unfolding changedAt
-  at-same j e f = rw (e, f)
+-- Block j after an effect, if the choice and the block are as before.
+pub at-same : (y x : List ℕ) (p q : ℕ → Bool) (change : List ℕ → List ℕ) (j : ℕ) → blockOf y j ≡ blockOf x j → p j ≡ q j
+    → changedAt y p change j ≡ changedAt x q change j
+unfolding changedAt
+at-same y x p q change j e f = rw (e, f)
 
-  pub at-twice : (k : ℕ) → Keeps change → blockOf y k ≡ change (blockOf x k) → q k ≡ true → length (blockOf x k) ≡ 512
-      → changedAt y p change k ≡ changedAt x q change k
-  unfolding changedAt
-  at-twice k keeps e f l = rw (e, f) (go (p k))
-    where
-      go : (u : Bool) → cond u (change (change (blockOf x k))) (change (blockOf x k)) ≡ change (blockOf x k)
-      go true = keeps .twice (blockOf x k) l
-      go false = refl
+-- Two choices of the same records.
+pub after-choice : (x : List ℕ) (count : ℕ) (p q : ℕ → Bool) (change : List ℕ → List ℕ) → ((k : ℕ) → k ≤ count → p k ≡ q k)
+    → afterOf x count p change ≡ afterOf x count q change
+after-choice x count p q change h = after-same x x count p q change (λ k l. at-same x x p q change k refl (h k l))
 
--- A table that keeps of another its length, its header, and of each record what every effect keeps.
+-- A choice of whole sets: of two records of one set both or neither.
+abbrev pub Closed : List ℕ → (ℕ → Bool) → Type 0
+Closed t chosen = (j k : ℕ) → sameSet (blockOf t j) (blockOf t k) ≡ true → chosen j ≡ chosen k
+
+-- A table that keeps of another its length, its header, of each record what every effect keeps, and that those of one set agree.
 pub record Keeping (x y : List ℕ) (count : ℕ) : Type 0 where
   pub size : length y ≡ length x
   pub header : blockOf y 0 ≡ blockOf x 0
   pub each : (k : ℕ) → 1 ≤ k → k ≤ count → Kept (blockOf x k) (blockOf y k)
+  pub agree : (j k : ℕ) → j ≤ count → k ≤ count → sameSet (blockOf x j) (blockOf x k) ≡ true → agreeing (blockOf x j) (blockOf x k) ≡ true
+      → agreeing (blockOf y j) (blockOf y k) ≡ true
 
 pub keeping-same : (x : List ℕ) (count : ℕ) → Keeping x x count
-keeping-same x count = record { size = refl; header = refl; each = λ k a b. kept-same _ _ refl }
+keeping-same x count = record { size = refl; header = refl; each = λ k a b. kept-same _ _ refl; agree = λ j k a b s e. e }
 
 module _ (t : List ℕ) (count : ℕ) (change : List ℕ → List ℕ) (size : length t ≡ 512 * (count + 1)) where
   module _ (chosen : ℕ → Bool) where
@@ -62,7 +61,7 @@ module _ (t : List ℕ) (count : ℕ) (change : List ℕ → List ℕ) (size : l
     after-none h = all-none t (suc count) chosen change (omega arith) (λ k l. h k (omega arith))
 
     module _ (keeps : Keeps change) where
-      after-length : length (afterOf t count chosen change) ≡ length t
+      pub after-length : length (afterOf t count chosen change) ≡ length t
       unfolding afterOf
       after-length = all-length t (suc count) chosen change (omega arith) (keeps-whole keeps)
 
@@ -79,36 +78,44 @@ module _ (t : List ℕ) (count : ℕ) (change : List ℕ → List ℕ) (size : l
       unfolding changedAt
       after-chosen k h e = after-block k h ∙ rw e
 
-      pub after-keeping : chosen 0 ≡ false → Keeping t (afterOf t count chosen change) count
-      after-keeping none = record { size = after-length; header = after-frame 0 (omega arith) none; each = λ k a b. go k b (chosen k) refl }
+      pub after-kept : (k : ℕ) → k ≤ count → Kept (blockOf t k) (blockOf (afterOf t count chosen change) k)
+      after-kept k b = go (chosen k) refl
         where
-          go : (k : ℕ) → k ≤ count → (x : Bool) → chosen k ≡ x → Kept (blockOf t k) (blockOf (afterOf t count chosen change) k)
-          go k b true e = rw (after-chosen k b e) (keeps .each (blockOf t k) (block-length t k (omega arith)))
-          go k b false e = kept-same _ _ (after-frame k b e)
+          go : (x : Bool) → chosen k ≡ x → Kept (blockOf t k) (blockOf (afterOf t count chosen change) k)
+          go true e = rw (after-chosen k b e) (keeps .each (blockOf t k) (block-length t k (omega arith)))
+          go false e = kept-same _ _ (after-frame k b e)
 
-  -- One record changed.
+      after-agree : Closed t chosen → (j k : ℕ) → j ≤ count → k ≤ count → sameSet (blockOf t j) (blockOf t k) ≡ true
+          → agreeing (blockOf t j) (blockOf t k) ≡ true → agreeing (blockOf (afterOf t count chosen change) j) (blockOf (afterOf t count chosen change) k) ≡ true
+      after-agree closed j k a b s e = go (chosen k) refl
+        where
+          go : (x : Bool) → chosen k ≡ x → agreeing (blockOf (afterOf t count chosen change) j) (blockOf (afterOf t count chosen change) k) ≡ true
+          go true f =
+              rw (after-chosen j a (closed j k s ∙ f), after-chosen k b f)
+              (keeps .agree (blockOf t j) (blockOf t k) (block-length t j (omega arith)) (block-length t k (omega arith)) e)
+          go false f = rw (after-frame j a (closed j k s ∙ f), after-frame k b f) e
+
+      pub after-keeping : chosen 0 ≡ false → Closed t chosen → Keeping t (afterOf t count chosen change) count
+      after-keeping none closed =
+          record { size = after-length; header = after-frame 0 (omega arith) none; each = λ k a b. after-kept k b; agree = after-agree closed }
+
   module _ (keeps : Keeps change) where
-    pub in-keeping : (k : ℕ) → 1 ≤ k → k ≤ count → Keeping t (changedIn t k change) count
-    in-keeping k a b =
-        record {
-          size = in-length t k change (keeps-whole keeps) (omega arith);
-          header = in-other t k change (keeps-whole keeps) (omega arith) 0 (omega arith);
-          each = λ j u v. go j v (eqb j k) refl;
-        }
+    -- an effect after an effect is that on the records of either, since a record that is changed twice is changed once
+    pub after-both : (p q : ℕ → Bool) → afterOf (afterOf t count p change) count q change ≡ afterOf t count (λ (j : ℕ). p j || q j) change
+    unfolding changedAt
+    after-both p q = after-same (afterOf t count p change) t count q (λ (j : ℕ). p j || q j) change each
       where
-        go : (j : ℕ) → j ≤ count → (x : Bool) → eqb j k ≡ x → Kept (blockOf t j) (blockOf (changedIn t k change) j)
-        go j v true e =
-            let q : j ≡ k = eqb-true j k e in
-            rw (q, in-here t k change (keeps-whole keeps) (omega arith)) (keeps .each (blockOf t k) (block-length t k (omega arith)))
-        go j v false e = kept-same _ _ (in-other t k change (keeps-whole keeps) (omega arith) j (eqb-false j k e))
-
-    pub found-keeping : (p : ℕ → Bool) (f : Found) → firstFrom p count 1 ≡ f → Keeping t (changedFound t f change) count
-    unfolding changedFound
-    found-keeping p (At k) e = let s : FirstAt p count 1 k = first-stands p count 1 k e in in-keeping k (s .from) (omega (arith, s .to))
-    found-keeping p Nothing e = keeping-same t count
+        each : (k : ℕ) → k ≤ count → changedAt (afterOf t count p change) q change k ≡ changedAt t (λ (j : ℕ). p j || q j) change k
+        each k h = rw (after-block p keeps k h) (go (p k) (q k))
+          where
+            go : (x y : Bool) → cond y (change (cond x (change (blockOf t k)) (blockOf t k))) (cond x (change (blockOf t k)) (blockOf t k))
+                ≡ cond (x || y) (change (blockOf t k)) (blockOf t k)
+            go true true = keeps .twice (blockOf t k) (block-length t k (omega arith))
+            go true false = refl
+            go false y = refl
 
     -- the one that is chosen
-    pub one-after : (k : ℕ) → k ≤ count → (chosen : ℕ → Bool) → ((j : ℕ) → chosen j ≡ (eqb j k || false)) → changedIn t k change ≡ afterOf t count chosen change
+    pub one-after : (k : ℕ) → k ≤ count → (chosen : ℕ → Bool) → ((j : ℕ) → chosen j ≡ eqb j k) → changedIn t k change ≡ afterOf t count chosen change
     unfolding afterOf changedAll changedAt
     one-after k b chosen is =
         table-is (changedIn t k change) (suc count) (in-length t k change (keeps-whole keeps) (omega arith) ∙ omega arith)

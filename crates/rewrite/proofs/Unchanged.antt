@@ -24,8 +24,7 @@ use Rattle.blocks.specs.Sealed.{negated, sealed}
 use Rattle.blocks.proofs.Sealed.{sealed-zero}
 use Rattle.rewrite.specs.Change.{differ}
 use Rattle.rewrite.specs.Renew.{renewed}
-use Rattle.rewrite.proofs.Bytes.{drafted, drafted-length, renewed-state, renewed-bits, renewed-name}
-use Rattle.rewrite.proofs.Challenged.{renewed-stores}
+use Rattle.rewrite.proofs.Bytes.{drafted, drafted-length, renewed-state, renewed-bits, renewed-name, renewed-stores}
 
 -- A word that is put where it stands, and a name.
 digits : (a b c d : ℕ) {w : ℕ} → Fits w8 a → Fits w8 b → Fits w8 c → Fits w8 d → w ≡ four a b c d
@@ -61,7 +60,7 @@ module _ (b : List ℕ) (bytes : Bytes b) where
   sealed-held e = rw (word-lacks e) word-held
 
 module _ (b : List ℕ) (state bits : ℕ) (name : List ℕ) (bytes : Bytes b) (whole : length b ≡ 512) (most : length name ≤ 96) where
-  server-size : serverOf b ≡ name → length name ≡ getD b 15 0
+  pub server-size : serverOf b ≡ name → length name ≡ getD b 15 0
   unfolding serverOf
   server-size e =
       let l : length (take (serverSize b) (drop 272 b)) ≡ length name = ap length e in

@@ -14,17 +14,17 @@ use Rattle.octets.proofs.Names.{same-eq, same-refl, same-yes, same-no}
 use Rattle.octets.proofs.Runs.{name-length}
 use Rattle.record.specs.Fields.{stateOf, bitsOf, serverOf, cleared, pendingSet}
 use Rattle.record.specs.RecordBlock.{recordOf}
+use Rattle.record.specs.Sets.{sameSet}
 use Rattle.record.specs.declared.subscriber.Record.{Record}
 use Rattle.table.specs.Blocks.{blockOf}
 use Rattle.blocks.specs.Sealed.{sealed}
 use Rattle.blocks.specs.Changed.{changedIn}
 use Rattle.blocks.proofs.Sealed.{sealed-length}
 use Rattle.blocks.proofs.Changed.{block-put}
-use Rattle.lookup.specs.Find.{endOf}
-use Rattle.lookup.specs.declared.Found.{Found}
-use Rattle.lookup.specs.declared.Found.the-variants.{At, Nothing}
-use Rattle.rewrite.specs.Renew.{renewed, settled, challenged, Fitting}
-use Rattle.rewrite.specs.Change.{changedFound, differ}
+use Rattle.rewrite.specs.Renew.{renewed, settled, challenged, Fitting, changeOf, ChangeFits}
+use Rattle.rewrite.specs.Change.{differ}
+use Rattle.rewrite.specs.declared.Change.{Change}
+use Rattle.rewrite.specs.declared.Change.the-variants.{Settled, Challenged}
 use Rattle.rewrite.proofs.Bytes.{renewed-length}
 
 -- A block: three bytes, the name's field, the check word.
@@ -71,14 +71,27 @@ differ-same x = rw (same-refl x)
 pub differ-none : (x : List ℕ) → 0 ≡ differ x x
 differ-none x = sym (differ-same x)
 
--- A block of a table, lent and come back.
-pub challenge-put : (t : List ℕ) (k : ℕ) (name : List ℕ) {y : List ℕ} → y ≡ challenged name (midOf (512 * k) (512 * k + 512 - 512 * k) t)
-    → putMid (512 * k) (512 * k + 512 - 512 * k) t y ≡ changedIn t k (challenged name)
-challenge-put t k name e = block-put (challenged name) t k e
+-- Either change.
+module _ (c : Change) (name : List ℕ) where
+  pub fits-settled : (state : ℕ) → c ≡ Settled state → ChangeFits c name → Fitting state name
+  fits-settled state e f = rw e at f
 
-pub settle-put : (t : List ℕ) (k state : ℕ) (name : List ℕ) {y : List ℕ} → y ≡ settled state name (midOf (512 * k) (512 * k + 512 - 512 * k) t)
-    → putMid (512 * k) (512 * k + 512 - 512 * k) t y ≡ changedIn t k (settled state name)
-settle-put t k state name e = block-put (settled state name) t k e
+  pub fits-challenged : c ≡ Challenged → ChangeFits c name → length name ≤ 96
+  fits-challenged e f = let g : (1 ≤ length name) × (length name ≤ 96) = rw e at f in g .1
+
+  module _ (b : List ℕ) where
+    pub change-settled : (state : ℕ) {y : List ℕ} → c ≡ Settled state → y ≡ settled state name b → y ≡ changeOf c name b
+    unfolding changeOf
+    change-settled state e f = rw e f
+
+    pub change-challenged : {y : List ℕ} → c ≡ Challenged → y ≡ challenged name b → y ≡ changeOf c name b
+    unfolding changeOf
+    change-challenged e f = rw e f
+
+-- A block of a table, lent and come back.
+pub change-put : (t : List ℕ) (k : ℕ) (c : Change) (name : List ℕ) {y : List ℕ} → y ≡ changeOf c name (midOf (512 * k) (512 * k + 512 - 512 * k) t)
+    → putMid (512 * k) (512 * k + 512 - 512 * k) t y ≡ changedIn t k (changeOf c name)
+change-put t k c name e = block-put (changeOf c name) t k e
 
 -- a table has other bytes exactly if the block that was lent has
 mid-put : (a n : ℕ) (t y : List ℕ) → a ≤ length t → length y ≡ n → midOf a n (putMid a n t y) ≡ y
@@ -111,22 +124,18 @@ challenged-length name b = go (eqb (stateOf b) 0 || not (same (serverOf b) name)
     go true = renewed-length b (stateOf b) (pendingSet (bitsOf b)) name
     go false = refl
 
-pub challenge-differs : (t : List ℕ) (k : ℕ) (name : List ℕ) {y : List ℕ} {r : ℕ} → 512 * k + 512 ≤ length t
-    → y ≡ challenged name (midOf (512 * k) (512 * k + 512 - 512 * k) t) → r ≡ differ (midOf (512 * k) (512 * k + 512 - 512 * k) t) y
-    → r ≡ differ t (putMid (512 * k) (512 * k + 512 - 512 * k) t y)
-challenge-differs t k name h e f =
-    f
-    ∙ lent-differs t _ (512 * k) (512 * k + 512 - 512 * k) (omega arith)
-    (ap length e ∙ challenged-length name _ ∙ mid-len (512 * k) (512 * k + 512) t h)
+change-length : (c : Change) (name b : List ℕ) → length (changeOf c name b) ≡ length b
+unfolding changeOf settled
+change-length (Settled state) name b = renewed-length b state (cleared (bitsOf b)) name
+change-length Challenged name b = challenged-length name b
 
-pub settle-differs : (t : List ℕ) (k state : ℕ) (name : List ℕ) {y : List ℕ} {r : ℕ} → 512 * k + 512 ≤ length t
-    → y ≡ settled state name (midOf (512 * k) (512 * k + 512 - 512 * k) t) → r ≡ differ (midOf (512 * k) (512 * k + 512 - 512 * k) t) y
+pub change-differs : (t : List ℕ) (k : ℕ) (c : Change) (name : List ℕ) {y : List ℕ} {r : ℕ} → 512 * k + 512 ≤ length t
+    → y ≡ changeOf c name (midOf (512 * k) (512 * k + 512 - 512 * k) t) → r ≡ differ (midOf (512 * k) (512 * k + 512 - 512 * k) t) y
     → r ≡ differ t (putMid (512 * k) (512 * k + 512 - 512 * k) t y)
-unfolding settled
-settle-differs t k state name h e f =
+change-differs t k c name h e f =
     f
     ∙ lent-differs t _ (512 * k) (512 * k + 512 - 512 * k) (omega arith)
-    (ap length e ∙ renewed-length _ state _ name ∙ mid-len (512 * k) (512 * k + 512) t h)
+    (ap length e ∙ change-length c name _ ∙ mid-len (512 * k) (512 * k + 512) t h)
 
 pub if-yes : (c : Bool) (a b : List ℕ) {y : List ℕ} → c ≡ true → y ≡ a → y ≡ cond c a b
 if-yes c a b e f = rw e f
@@ -134,14 +143,6 @@ if-yes c a b e f = rw e f
 pub if-no : (c : Bool) (a b : List ℕ) → c ≡ false → b ≡ cond c a b
 if-no c a b e = rw e
 
-pub found-fits : (f : Found) (k n : ℕ) → f ≡ At k → endOf f ≤ n → 512 * k + 512 ≤ n
-found-fits f k n e h = rw e at h
-
-module _ (t : List ℕ) (f : Found) (change : List ℕ → List ℕ) where
-  pub found-put : (k : ℕ) {y : List ℕ} → f ≡ At k → y ≡ changedIn t k change → y ≡ changedFound t f change
-  unfolding changedFound
-  found-put k e h = rw e h
-
-  pub found-none : f ≡ Nothing → t ≡ changedFound t f change
-  unfolding changedFound
-  found-none e = rw e
+-- Two blocks of a table.
+pub set-read : (t : List ℕ) (k j : ℕ) {a b : List ℕ} {r : Bool} → a ≡ blockOf t k → b ≡ blockOf t j → r ≡ sameSet a b → r ≡ sameSet (blockOf t k) (blockOf t j)
+set-read t k j e f g = rw (← e, ← f) g

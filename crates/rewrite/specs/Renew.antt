@@ -10,6 +10,8 @@ use Rattle.octets.specs.Run.{putName}
 use Rattle.blocks.specs.Sealed.{sealed}
 use Rattle.record.specs.Fields.{stateOf, bitsOf, serverOf, cleared, pendingSet}
 use Rattle.record.specs.RecordBlock.{serverFits}
+use Rattle.rewrite.specs.declared.Change.{Change}
+use Rattle.rewrite.specs.declared.Change.the-variants.{Settled, Challenged}
 
 -- a record block with another state, other bits and another server name, all 96 bytes of its field
 unfoldable pub renewed : List ℕ → ℕ → ℕ → List ℕ → List ℕ
@@ -28,3 +30,12 @@ pub record Fitting (state : ℕ) (name : List ℕ) : Type 0 where
   pub two : state ≤ 2
   pub most : length name ≤ 96
   pub served : serverFits (length name) state 0 ≡ true
+
+-- either of them, with the server name that goes with it; what it has to fit
+unfoldable pub changeOf : Change → List ℕ → List ℕ → List ℕ
+changeOf (Settled state) name = settled state name
+changeOf Challenged name = challenged name
+
+abbrev pub ChangeFits : Change → List ℕ → Type 0
+ChangeFits (Settled state) name = Fitting state name
+ChangeFits Challenged name = (1 ≤ length name) × (length name ≤ 96)

@@ -1,19 +1,29 @@
 // Records written anew: another state, pending cleared or set, another server name, a new check word.
-use lookup::Found;
 use octets::name;
 use octets::run;
 use octets::sum;
 use record::fields;
+use record::sets;
 use record::subscriber::Record;
 ghost use mathlib.Core.Path.{_≡_};
 ghost use mathlib.Core.Bool.{cond};
-ghost use Prim.Native.Nat.{_+_, _*_, _≤_};
+ghost use mathlib.Core.List.{[], _∷_};
+ghost use Prim.Native.Nat.{_+_, _*_, _≤_, _<_};
 ghost use lib.ListN.{length};
 ghost use Rattle.octets.specs.Name.{same};
-ghost use Rattle.lookup.specs.Find.{endOf};
+ghost use Rattle.record.specs.Fields.{setOf};
+ghost use Rattle.record.specs.Sets.{sameSet};
+ghost use Rattle.table.specs.Blocks.{blockOf};
+ghost use Rattle.table.specs.SoundTable.{SoundTable};
 ghost use Rattle.blocks.specs.Changed.{changedIn};
-ghost use Rattle.rewrite.specs.Change.{changedFound, differ};
-ghost use Rattle.rewrite.specs.Renew.{renewed, settled, challenged, Fitting};
+ghost use Rattle.rewrite.specs.Change.{afterOf, reaches, differ, alteredUpTo};
+ghost use Rattle.rewrite.specs.Renew.{renewed, settled, challenged, Fitting, changeOf, ChangeFits};
+
+// What an effect does to a record: "Effects, pending cleared", with the state that it gets; or what goes with a challenge.
+pub enum Change {
+    Settled(u8),
+    Challenged,
+}
 
 // Gives a record block another state, other bits and another server name, all bytes of its field.
 fn renew(b: &mut [u8], state: u8, bits: u8, name: &[u8])
@@ -73,46 +83,70 @@ fn challenge_block(b: &mut [u8], name: &[u8]) -> u32
     0
 }
 
-// The same, of block k of a table.
-pub fn challenge(t: &mut [u8], k: usize, name: &[u8]) -> u32
-    requires { ⌜ (512 * k + 512 ≤ length (now t)) × (length (now name) ≤ 96) ⌝ }
-    ensures { λ r. ⌜ (now (t .exit) ≡ changedIn (now (t .entry)) k (challenged (now (name .entry))))
-        × (r ≡ differ (now (t .entry)) (now (t .exit))) × (r ≤ 1) ⌝ }
+// The same of either.
+fn change_block(b: &mut [u8], c: Change, name: &[u8]) -> u32
+    requires { ⌜ (length (now b) ≡ 512) × ChangeFits c (now name) ⌝ }
+    ensures { λ r. ⌜ (now (b .exit) ≡ changeOf c (now (name .entry)) (now (b .entry))) × (r ≡ differ (now (b .entry)) (now (b .exit))) × (r ≤ 1) ⌝ }
 {
-    let at = table::BLOCK * k;
-    challenge_block(&mut t[at..at + table::BLOCK], name)
+    match c {
+        Change::Settled(state) => settle_block(b, state, name),
+        Change::Challenged => challenge_block(b, name),
+    }
 }
 
-// Block k of a table with another state and another server name, and pending cleared.
-fn settle(t: &mut [u8], k: usize, state: u8, name: &[u8]) -> u32
-    requires { ⌜ (512 * k + 512 ≤ length (now t)) × Fitting state (now name) ⌝ }
-    ensures { λ r. ⌜ (now (t .exit) ≡ changedIn (now (t .entry)) k (settled state (now (name .entry))))
+// The same, of block k of a table.
+fn change_at(t: &mut [u8], k: usize, c: Change, name: &[u8]) -> u32
+    requires { ⌜ (512 * k + 512 ≤ length (now t)) × ChangeFits c (now name) ⌝ }
+    ensures { λ r. ⌜ (now (t .exit) ≡ changedIn (now (t .entry)) k (changeOf c (now (name .entry))))
         × (r ≡ differ (now (t .entry)) (now (t .exit))) × (r ≤ 1) ⌝ }
 {
     let at = table::BLOCK * k;
-    settle_block(&mut t[at..at + table::BLOCK], state, name)
+    change_block(&mut t[at..at + table::BLOCK], c, name)
 }
 
 // The same, if the record is chosen.
-pub fn settle_if(t: &mut [u8], k: usize, chosen: bool, state: u8, name: &[u8]) -> u32
-    requires { ⌜ (512 * k + 512 ≤ length (now t)) × Fitting state (now name) ⌝ }
-    ensures { λ r. ⌜ (now (t .exit) ≡ cond chosen (changedIn (now (t .entry)) k (settled state (now (name .entry)))) (now (t .entry)))
+pub fn change_if(t: &mut [u8], k: usize, chosen: bool, c: Change, name: &[u8]) -> u32
+    requires { ⌜ (512 * k + 512 ≤ length (now t)) × ChangeFits c (now name) ⌝ }
+    ensures { λ r. ⌜ (now (t .exit) ≡ cond chosen (changedIn (now (t .entry)) k (changeOf c (now (name .entry)))) (now (t .entry)))
         × (r ≡ differ (now (t .entry)) (now (t .exit))) × (r ≤ 1) ⌝ }
 {
     if chosen {
-        return settle(t, k, state, name);
+        return change_at(t, k, c, name);
     }
     0
 }
 
-// The same, of a record that was found.
-pub fn settle_found(t: &mut [u8], f: Found, state: u8, name: &[u8]) -> u32
-    requires { ⌜ (endOf f ≤ length (now t)) × Fitting state (now name) ⌝ }
-    ensures { λ r. ⌜ (now (t .exit) ≡ changedFound (now (t .entry)) f (settled state (now (name .entry))))
-        × (r ≡ differ (now (t .entry)) (now (t .exit))) × (r ≤ 1) ⌝ }
+// Whether blocks k and j are of one set.
+fn same_set(t: &[u8], k: usize, j: usize) -> bool
+    requires { ⌜ (512 * k + 512 ≤ length (now t)) × (512 * j + 512 ≤ length (now t)) ⌝ }
+    ensures { λ r. ⌜ r ≡ sameSet (blockOf (now (t .entry)) k) (blockOf (now (t .entry)) j) ⌝ }
 {
-    match f {
-        Found::At(k) => settle(t, k as usize, state, name),
-        Found::Nothing => 0,
+    sets::same_set(table::block(t, k), table::block(t, j))
+}
+
+// Every record of the set of block k, which has one. What is asked of block k stays as it is written.
+fn change_members(t: &mut [u8], count: usize, k: usize, c: Change, name: &[u8]) -> u32
+    requires { ⌜ SoundTable (now t) count × (1 ≤ k) × (k ≤ count) × ChangeFits c (now name) × (0 < setOf (blockOf (now t) k)) ⌝ }
+    ensures { λ r. ⌜ (now (t .exit) ≡ afterOf (now (t .entry)) count (reaches (now (t .entry)) (k ∷ [])) (changeOf c (now (name .entry))))
+        × (r ≡ alteredUpTo (now (t .entry)) (now (t .exit)) count) ⌝ }
+{
+    let mut altered = 0;
+    for i in 0..count {
+        let chosen = same_set(t, k, i + 1);
+        altered += change_if(t, i + 1, chosen, c, name);
     }
+    altered
+}
+
+// "Every effect of a SAR or an authentication request reaches the whole set": block k's record and those of its set. Answers how many records have other
+// bytes then.
+pub fn change_set(t: &mut [u8], count: usize, k: usize, c: Change, name: &[u8]) -> u32
+    requires { ⌜ SoundTable (now t) count × (1 ≤ k) × (k ≤ count) × ChangeFits c (now name) ⌝ }
+    ensures { λ r. ⌜ (now (t .exit) ≡ afterOf (now (t .entry)) count (reaches (now (t .entry)) (k ∷ [])) (changeOf c (now (name .entry))))
+        × (r ≡ alteredUpTo (now (t .entry)) (now (t .exit)) count) ⌝ }
+{
+    if sets::set(table::block(t, k)) == 0 {
+        return change_at(t, k, c, name);
+    }
+    change_members(t, count, k, c, name)
 }

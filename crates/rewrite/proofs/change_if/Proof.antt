@@ -1,10 +1,10 @@
 use Rattle.rewrite.proofs.Writes.{if-yes, if-no, differ-none}
 use borrow.Author.Needs.{needs}
-use Rattle.rewrite.proofs.settle_if.Statement.{statement}
-use Rattle.rewrite.proofs.settle_if.Tie as tie
+use Rattle.rewrite.proofs.change_if.Statement.{statement}
+use Rattle.rewrite.proofs.change_if.Tie as tie
 
-pub settle-if-spec : {M : Type 1} → statement M
-settle-if-spec =
+pub change-if-spec : {M : Type 1} → statement M
+change-if-spec =
     tie.close
     (tie.spec
     (λ c κs. search needs)
