@@ -1,5 +1,5 @@
 -- What each function that looks at records says of what its callees said.
-use Prim.Native.Nat.{ℕ, _+_, _≤_}
+use Prim.Native.Nat.{ℕ, _+_, _*_, _≤_}
 use mathlib.Core.List.{List}
 use mathlib.Core.Bool.{Bool, true, false, _&&_, _||_}
 use mathlib.Core.Path.{_≡_, _∙_}
@@ -10,6 +10,7 @@ use lib.Dec.{eqb, ltb}
 use Rattle.octets.specs.Name.{same}
 use Rattle.record.specs.Fields.{privateOf, serverOf}
 use Rattle.table.specs.Blocks.{blockOf}
+use Rattle.lookup.specs.Find.{endOf}
 use Rattle.lookup.specs.declared.Found.{Found}
 use Rattle.lookup.specs.declared.Found.the-variants.{At, Nothing}
 use Rattle.choices.specs.Types.{allowed}
@@ -28,6 +29,9 @@ pub look-all : (b owner server : List ℕ) (kind : AssignmentType) {p s : List �
     → record { known = true; some = true; own = own; stores = stores; fits = eqb (getD b 15 0) 0 || stores; right = right } ≡ lookAt b owner server kind
 unfolding lookAt
 look-all b owner server kind a c d e g = rw (g, e, d, c, a)
+
+pub found-fits : (f : Found) (k n : ℕ) → f ≡ At k → endOf f ≤ n → 512 * k + 512 ≤ n
+found-fits f k n e h = rw e at h
 
 module _ (t owner server : List ℕ) (kind : AssignmentType) (f : Found) where
   pub look-here : (k : ℕ) {b : List ℕ} {r : Survey} → f ≡ At k → b ≡ blockOf t k → r ≡ lookAt b owner server kind → r ≡ lookFound t f owner server kind

@@ -1,27 +1,27 @@
 -- The turns of the loops over a SAR's identities, and what there are of them.
 use Prim.Native.Nat.{ℕ, _+_, _*_, _≤_}
-use mathlib.Core.List.{List, [], _∷_}
-use mathlib.Core.Bool.{Bool, true, false, _&&_}
+use mathlib.Core.List.{List, [], _∷_, _++_}
+use mathlib.Core.Bool.{Bool, true, false, _&&_, _||_}
 use mathlib.Core.Path.{_≡_, refl, sym, ap, _∙_}
 use native.Mathlib.Omega.{arith}
 use lib.ListN.{length, drop}
-use lib.Dec.{eqb}
-use borrow.Author.Tests.{eqb-true, eqb-false, eq-eqb}
+use borrow.Author.Tests.{ne-eqb}
 use Rattle.table.specs.SoundTable.{SoundTable}
-use Rattle.table.proofs.Blocks.{block-length}
-use Rattle.table.proofs.Sound.{sound-size, sound-few, sound-block}
+use Rattle.table.proofs.Sound.{sound-size, sound-few}
 use Rattle.lookup.specs.Find.{firstFrom, publicIs, findPublic}
 use Rattle.lookup.specs.declared.Found.{Found}
 use Rattle.lookup.specs.declared.Found.the-variants.{At, Nothing}
 use Rattle.lookup.proofs.First.{FirstAt, first-stands}
-use Rattle.blocks.specs.Changed.{changedAt, changedIn, isOne}
-use Rattle.blocks.proofs.Changed.{in-here, in-other}
-use Rattle.rewrite.specs.Change.{afterOf, changedFound, Keeps, differ, alteredUpTo}
-use Rattle.rewrite.specs.Renew.{settled, Fitting}
-use Rattle.rewrite.proofs.Counts.{found-counts, sum-few}
+use Rattle.blocks.specs.Changed.{isOne}
+use Rattle.rewrite.specs.Change.{afterOf, reaches, Keeps, alteredUpTo}
+use Rattle.rewrite.specs.Renew.{settled, Fitting, changeOf, ChangeFits}
+use Rattle.rewrite.specs.declared.Change.{Change}
+use Rattle.rewrite.specs.declared.Change.the-variants.{Settled}
+use Rattle.rewrite.proofs.Counts.{altered-most, altered-none, both-counts, sum-few}
+use Rattle.rewrite.proofs.Reaching.{reaches-closed, reaches-append, reaches-zero, reaches-kept}
 use Rattle.rewrite.proofs.Settled.{settled-keeps}
 use Rattle.rewrite.proofs.Sound.{keeping-says, keeping-found}
-use Rattle.rewrite.proofs.Tables.{keeps-whole, after-same, after-none, at-same, at-twice, Keeping, found-keeping}
+use Rattle.rewrite.proofs.Tables.{Keeping, after-choice, after-none, after-keeping, after-both}
 use Rattle.diameter.specs.Avp.{dataOf}
 use Rattle.diameter.specs.Walk.{walk}
 use Rattle.diameter.specs.Reader.{dataAt}
@@ -86,66 +86,80 @@ unfolding findAll
 find-kept x y count sound keeping [] = refl
 find-kept x y count sound keeping (a ∷ avps) = rw (keeping-found x y count keeping sound (dataOf a), find-kept x y count sound keeping avps)
 
--- The effect of what is left, on the table as it is now, is the effect of all on the table as it came: the record of the next identity is changed.
-module _ (change : List ℕ → List ℕ) (keeps : Keeps change) (x : List ℕ) (count : ℕ) (sound : SoundTable x count) where
-  one-turn : (k : ℕ) → 1 ≤ k → k ≤ count → (ks : List ℕ) → afterOf (changedIn x k change) count (isOne ks) change ≡ afterOf x count (isOne (k ∷ ks)) change
-  unfolding isOne
-  one-turn k a b ks = after-same (changedIn x k change) x count (isOne ks) (isOne (k ∷ ks)) change (λ j l. go j l (eqb j k) refl)
-    where
-      fits : 512 * k + 512 ≤ length x
-      fits = sound-block x count sound k b
+-- One that was found is reached with its set, and no header.
+found-later : (p : ℕ → Bool) (count : ℕ) (f : Found) → firstFrom p count 1 ≡ f → isOne (numbersOf (f ∷ [])) 0 ≡ false
+unfolding numbersOf isOne
+found-later p count (At k) e = let s : FirstAt p count 1 k = first-stands p count 1 k e in rw (ne-eqb 0 k (omega (arith, s .from)))
+found-later p count Nothing e = refl
 
-      go : (j : ℕ) → j ≤ count → (u : Bool) → eqb j k ≡ u → changedAt (changedIn x k change) (isOne ks) change j ≡ changedAt x (isOne (k ∷ ks)) change j
-      go j l true e =
-          let q : j ≡ k = eqb-true j k e in
-          rw q (at-twice (changedIn x k change) x (isOne ks) (isOne (k ∷ ks)) change k keeps
-          (in-here x k change (keeps-whole keeps) fits) (rw (eq-eqb k k refl))
-          (block-length x k fits))
-      go j l false e =
-          at-same (changedIn x k change) x (isOne ks) (isOne (k ∷ ks)) change j (in-other x k change (keeps-whole keeps) fits j (eqb-false j k e)) (rw e)
+numbers-cons : (f : Found) (fs : List Found) → numbersOf (f ∷ fs) ≡ numbersOf (f ∷ []) ++ numbersOf fs
+unfolding numbersOf
+numbers-cons (At k) fs = refl
+numbers-cons Nothing fs = refl
+
+none-reached : (change : List ℕ → List ℕ) (x : List ℕ) (count : ℕ) → SoundTable x count → x ≡ afterOf x count (reaches x []) change
+unfolding reaches
+none-reached change x count sound = after-none x count change (sound-size x count sound) (reaches x []) (λ j l. refl)
+
+-- The effect of what is left, on the table as it is now, is the effect of all on the table as it came: the set of the next identity's record is changed.
+module _ (change : List ℕ → List ℕ) (keeps : Keeps change) (x : List ℕ) (count : ℕ) (sound : SoundTable x count) where
+  size : length x ≡ 512 * (count + 1)
+  size = sound-size x count sound
+
+  abbrev next-table : Found → List ℕ
+  next-table f = afterOf x count (reaches x (numbersOf (f ∷ []))) change
+
+  found-keeping : (p : ℕ → Bool) (f : Found) → firstFrom p count 1 ≡ f → Keeping x (next-table f) count
+  found-keeping p f e =
+      after-keeping x count change size (reaches x (numbersOf (f ∷ []))) keeps (reaches-zero x count sound (numbersOf (f ∷ [])) ∙ found-later p count f e)
+      (reaches-closed x (numbersOf (f ∷ [])))
 
   found-turn : (p : ℕ → Bool) (f : Found) → firstFrom p count 1 ≡ f → (fs : List Found)
-      → afterOf (changedFound x f change) count (isOne (numbersOf fs)) change ≡ afterOf x count (isOne (numbersOf (f ∷ fs))) change
-  unfolding changedFound numbersOf
-  found-turn p (At k) e fs = let s : FirstAt p count 1 k = first-stands p count 1 k e in one-turn k (s .from) (omega (arith, s .to)) (numbersOf fs)
-  found-turn p Nothing e fs = refl
+      → afterOf (next-table f) count (reaches (next-table f) (numbersOf fs)) change ≡ afterOf x count (reaches x (numbersOf (f ∷ fs))) change
+  found-turn p f e fs =
+      after-choice (next-table f) count (reaches (next-table f) (numbersOf fs)) (reaches x (numbersOf fs)) change
+      (λ j l. reaches-kept x (next-table f) count (found-keeping p f e) sound (numbersOf fs) j)
+      ∙ after-both x count change size keeps (reaches x (numbersOf (f ∷ []))) (reaches x (numbersOf fs))
+      ∙ after-choice x count (λ (j : ℕ). reaches x (numbersOf (f ∷ [])) j || reaches x (numbersOf fs) j) (reaches x (numbersOf (f ∷ fs))) change
+      (λ j l. rw (numbers-cons f fs) (sym (reaches-append x (numbersOf (f ∷ [])) (numbersOf fs) j)))
 
-  module _ (s : List ℕ) (at : ℕ) {whole : List ℕ} (left : afterOf x count (isOne (numbersOf (findAll x count (restOf s at)))) change ≡ whole) where
+  module _ (s : List ℕ) (at : ℕ) {whole : List ℕ} (left : afterOf x count (reaches x (numbersOf (findAll x count (restOf s at)))) change ≡ whole) where
     ended : length s ≤ at → x ≡ whole
-    unfolding findAll numbersOf isOne
-    ended h = after-none x count change (sound-size x count sound) (isOne []) (λ j l. refl) ∙ rw (rest-past s at h) at left
+    unfolding findAll numbersOf
+    ended h = none-reached change x count sound ∙ rw (rest-past s at h) at left
 
     module _ (r : Next) (n : identity.Named s at r) where
       none-left : r ≡ next.Nothing → x ≡ whole
-      unfolding findAll numbersOf isOne restOf
-      none-left d = after-none x count change (sound-size x count sound) (isOne []) (λ j l. refl) ∙ rw (named-none s at r n d) at left
+      unfolding findAll numbersOf restOf
+      none-left d = none-reached change x count sound ∙ rw (named-none s at r n d) at left
 
       module _ (place past : ℕ) {m : List ℕ} {f : Found} {y : List ℕ} (d : r ≡ next.At place past) (em : m ≡ dataAt s place) (ef : f ≡ findPublic x count m)
-          (ey : y ≡ changedFound x f change) where
+          (ey : y ≡ next-table f) where
         stood : firstFrom (publicIs x m) count 1 ≡ f
         unfolding findPublic
         stood = sym ef
 
-        keeping : Keeping x (changedFound x f change) count
-        keeping = found-keeping x count change (sound-size x count sound) keeps (publicIs x m) f stood
+        keeping : Keeping x (next-table f) count
+        keeping = found-keeping (publicIs x m) f stood
 
-        turned : afterOf y count (isOne (numbersOf (findAll y count (restOf s past)))) change ≡ whole
+        turned : afterOf y count (reaches y (numbersOf (findAll y count (restOf s past)))) change ≡ whole
         unfolding findAll restOf
         turned =
-            rw (ey, find-kept x (changedFound x f change) count sound keeping (restOf s past))
+            rw (ey, find-kept x (next-table f) count sound keeping (restOf s past))
             (found-turn (publicIs x m) f stood (findAll x count (restOf s past)) ∙ rw (ef, em) ((rw (named-first s at r n place past d) at left)))
 
         turned-sound : SoundTable y count
-        turned-sound = rw ey (keeping-says x (changedFound x f change) count keeping sound)
+        turned-sound = rw ey (keeping-says x (next-table f) count keeping sound)
 
-        turned-counts : alteredUpTo x whole count ≡ differ x y + alteredUpTo y whole count
+        turned-counts : alteredUpTo x whole count ≡ alteredUpTo x y count + alteredUpTo y whole count
         turned-counts =
-            rw (← turned, ey) (found-counts change keeps x count (sound-size x count sound) (publicIs x m) f stood
-            (isOne (numbersOf (findAll (changedFound x f change) count (restOf s past)))))
+            rw (← turned, ey)
+            (both-counts change keeps x count size (reaches x (numbersOf (f ∷ [])))
+            (reaches (next-table f) (numbersOf (findAll (next-table f) count (restOf s past)))) count (omega arith))
 
 -- The same of settling, as the loop has it.
 module _ (x : List ℕ) (count : ℕ) (sound : SoundTable x count) (state : ℕ) (name : List ℕ) (fits : Fitting state name) (s : List ℕ) (at : ℕ) {whole : List ℕ}
-    (left : afterOf x count (isOne (numbersOf (findAll x count (restOf s at)))) (settled state name) ≡ whole) where
+    (left : afterOf x count (reaches x (numbersOf (findAll x count (restOf s at)))) (settled state name) ≡ whole) where
   keeps : Keeps (settled state name)
   keeps = settled-keeps state name fits
 
@@ -157,17 +171,17 @@ module _ (x : List ℕ) (count : ℕ) (sound : SoundTable x count) (state : ℕ)
     settle-none = none-left (settled state name) keeps x count sound s at left r n
 
     module _ (place past : ℕ) {m : List ℕ} {f : Found} {y : List ℕ} (d : r ≡ next.At place past) (em : m ≡ dataAt s place) (ef : f ≡ findPublic x count m)
-        (ey : y ≡ changedFound x f (settled state name)) where
-      pub settle-turn : afterOf y count (isOne (numbersOf (findAll y count (restOf s past)))) (settled state name) ≡ whole
+        (ey : y ≡ afterOf x count (reaches x (numbersOf (f ∷ []))) (settled state name)) where
+      pub settle-turn : afterOf y count (reaches y (numbersOf (findAll y count (restOf s past)))) (settled state name) ≡ whole
       settle-turn = turned (settled state name) keeps x count sound s at left r n place past d em ef ey
 
       pub settle-sound : SoundTable y count
       settle-sound = turned-sound (settled state name) keeps x count sound s at left r n place past d em ef ey
 
-      pub settle-counts : (c : ℕ) {e w : ℕ} → e ≡ differ x y → c + alteredUpTo x whole count ≡ w → c + e + alteredUpTo y whole count ≡ w
+      pub settle-counts : (c : ℕ) {e w : ℕ} → e ≡ alteredUpTo x y count → c + alteredUpTo x whole count ≡ w → c + e + alteredUpTo y whole count ≡ w
       settle-counts c {e} h sum = omega (arith, h, sum, turned-counts (settled state name) keeps x count sound s at left r n place past d em ef ey)
 
-      pub settle-few : (c : ℕ) {e : ℕ} (t : List ℕ) → e ≡ differ x y → c + alteredUpTo x whole count ≡ alteredUpTo t whole count → c + e ≤ 4096
+      pub settle-few : (c : ℕ) {e : ℕ} (t : List ℕ) → e ≡ alteredUpTo x y count → c + alteredUpTo x whole count ≡ alteredUpTo t whole count → c + e ≤ 4096
       settle-few c {e} t h sum = sum-few t y whole count (c + e) (settle-counts c h sum) (sound-few x count sound)
 
 -- Whom the identities mean.
@@ -200,7 +214,27 @@ module _ (s : List ℕ) (removal named : Bool) (r : Next) (n : identity.Named s 
       means-second place2 past2 g e = rw (first-place s 20 r n place past d, first-place s past q m place2 past2 g, e)
 
 pub settle-start : (t : List ℕ) (count : ℕ) (s : List ℕ) (state : ℕ) (name : List ℕ)
-    → afterOf t count (isOne (numbersOf (findAll t count (restOf s 20)))) (settled state name)
-    ≡ afterOf t count (isOne (numbersOf (findAll t count (identities (bodyOf s))))) (settled state name)
+    → afterOf t count (reaches t (numbersOf (findAll t count (restOf s 20)))) (settled state name)
+    ≡ afterOf t count (reaches t (numbersOf (findAll t count (identities (bodyOf s))))) (settled state name)
 unfolding restOf
 settle-start t count s state name = refl
+
+-- One record, found or not.
+pub change-fits : (state : ℕ) (name : List ℕ) {c : Change} → c ≡ Settled state → Fitting state name → ChangeFits c name
+change-fits state name e f = rw e f
+
+module _ (t : List ℕ) (count : ℕ) (f : Found) (state : ℕ) (name : List ℕ) where
+  pub found-settled : (k : ℕ) {c : Change} {y : List ℕ} → f ≡ At k → c ≡ Settled state → y ≡ afterOf t count (reaches t (k ∷ [])) (changeOf c name)
+      → y ≡ afterOf t count (reaches t (numbersOf (f ∷ []))) (settled state name)
+  unfolding numbersOf changeOf
+  found-settled k e g h = rw e (h ∙ rw g)
+
+  pub found-none : SoundTable t count → f ≡ Nothing → t ≡ afterOf t count (reaches t (numbersOf (f ∷ []))) (settled state name)
+  unfolding numbersOf
+  found-none sound e = rw e (none-reached (settled state name) t count sound)
+
+pub none-altered : (t : List ℕ) (count : ℕ) → 0 ≡ alteredUpTo t t count
+none-altered t count = sym (altered-none t count)
+
+pub few-altered : (t y : List ℕ) (count : ℕ) {r : ℕ} → SoundTable t count → r ≡ alteredUpTo t y count → r ≤ 4096
+few-altered t y count sound e = omega (arith, e, altered-most t y count, sound-few t count sound)

@@ -1,27 +1,28 @@
--- The turns of the loop that settles a subscription's records: the effect of what is left, on the table as it is now, is the effect of all on the
--- table as it came.
+-- The turns of the loop that settles a subscription's records: those not in state 0, which are whole sets.
 use Prim.Native.Nat.{ℕ, zero, suc, _+_, _*_, _<_, _≤_}
 use mathlib.Core.List.{List, [], _∷_, _++_}
-use mathlib.Core.Bool.{Bool, true, false, cond, _&&_, _||_, and-true, or-false, or-assoc}
-use mathlib.Core.Path.{_≡_, refl, sym, _∙_}
+use mathlib.Core.Bool.{Bool, true, false, cond, _&&_, _||_, and-true, or-false, or-assoc, true≢false}
+use mathlib.Core.Path.{_≡_, refl, sym, ap, _∙_}
 use mathlib.Core.Logic.{_≢_}
 use native.Mathlib.Omega.{arith}
 use lib.ListN.{length}
 use lib.Dec.{eqb, leb, ltb}
 use borrow.Author.Tests.{eqb-true, eqb-false, ltb-true, ltb-false, le-leb, lt-leb, ne-eqb}
+use Rattle.record.specs.Sets.{sameSet}
+use Rattle.record.proofs.OneSet.{OneSet, set-says, Agree, agree-says}
 use Rattle.table.specs.Blocks.{blockOf}
-use Rattle.blocks.specs.Changed.{changedAt, changedIn, isOne}
-use Rattle.blocks.proofs.Changed.{in-length, in-here, in-other}
-use Rattle.rewrite.specs.Change.{afterOf, Keeps, differ, alteredUpTo}
-use Rattle.rewrite.specs.Renew.{settled, Fitting}
-use Rattle.rewrite.proofs.Counts.{if-counts, sum-few}
+use Rattle.table.specs.SoundTable.{SoundTable}
+use Rattle.table.proofs.Sound.{sound-size}
+use Rattle.blocks.specs.Changed.{changedIn, isOne}
+use Rattle.rewrite.specs.Change.{afterOf, reaches, Keeps, differ, alteredUpTo}
+use Rattle.rewrite.specs.Renew.{settled, Fitting, changeOf}
+use Rattle.rewrite.specs.declared.Change.{Change}
+use Rattle.rewrite.specs.declared.Change.the-variants.{Settled}
+use Rattle.rewrite.proofs.Reaching.{both-ways, reaches-named-one, reaches-one, reaches-append, reaches-zero}
 use Rattle.rewrite.proofs.Settled.{settled-keeps}
-use Rattle.rewrite.proofs.Tables.{keeps-whole, after-same, after-none, at-same}
+use Rattle.rewrite.proofs.Together.{members-agree}
+use Rattle.rewrite.proofs.Turns.{Going, going-start, going-next, going-turn, going-end, going-sum}
 use Rattle.assignment.specs.Assignment.{ownedHere, ownedUpTo}
-
--- a subscription's records not in state 0, from a block on
-unfoldable pub ownedFrom : List ℕ → List ℕ → ℕ → ℕ → Bool
-ownedFrom t user k j = leb k j && ownedHere (blockOf t j) user
 
 pub one-append : (xs ys : List ℕ) (j : ℕ) → isOne (xs ++ ys) j ≡ (isOne xs j || isOne ys j)
 unfolding isOne
@@ -66,82 +67,65 @@ no-zero t user (suc n) = one-append (ownedUpTo t user n) (cond (ownedHere (block
     go true = rw (ne-eqb 0 (suc n) (λ e. omega arith))
     go false = refl
 
-pub owned-start : (t : List ℕ) (count : ℕ) (user : List ℕ) (state : ℕ) (name : List ℕ)
-    → afterOf t count (ownedFrom t user 1) (settled state name) ≡ afterOf t count (isOne (ownedUpTo t user count)) (settled state name)
-unfolding ownedFrom
-owned-start t count user state name =
-    after-same t t count (ownedFrom t user 1) (isOne (ownedUpTo t user count)) (settled state name)
-    (λ j l. at-same t t (ownedFrom t user 1) (isOne (ownedUpTo t user count)) (settled state name) j refl (each j l))
-  where
-    each : (j : ℕ) → j ≤ count → ownedFrom t user 1 j ≡ isOne (ownedUpTo t user count) j
-    each zero l = rw (no-zero t user count)
-    each (suc j) l = rw (owned-one t user count (suc j) (omega arith), le-leb (suc j) count l, le-leb 1 (suc j) (omega arith))
+-- The records of a set are such together, so that they are whole sets.
+module _ (t : List ℕ) (count : ℕ) (sound : SoundTable t count) (user : List ℕ) where
+  members-owned : (k j : ℕ) → 1 ≤ k → k ≤ count → 1 ≤ j → j ≤ count → sameSet (blockOf t k) (blockOf t j) ≡ true
+      → ownedHere (blockOf t k) user ≡ true → ownedHere (blockOf t j) user ≡ true
+  unfolding ownedHere
+  members-owned k j a b c d s e =
+      let one : OneSet (blockOf t k) (blockOf t j) = set-says (blockOf t k) (blockOf t j) s in
+      let agree : Agree (blockOf t k) (blockOf t j) = agree-says (blockOf t k) (blockOf t j) (members-agree t count sound k j a b c d s) in
+      rw (← agree .state, ← one .private) e
 
-later : (k j : ℕ) → j ≢ k → leb (k + 1) j ≡ leb k j
-later k j h = go (ltb j k) refl
-  where
-    go : (u : Bool) → ltb j k ≡ u → leb (k + 1) j ≡ leb k j
-    go true e = let l : j < k = ltb-true j k e in rw (lt-leb (k + 1) j (omega arith), lt-leb k j l)
-    go false e = let l : k ≤ j = ltb-false j k e in rw (le-leb (k + 1) j (omega arith), le-leb k j l)
-
--- Block k is looked at, and changed if it is one of them.
-module _ (change : List ℕ → List ℕ) (keeps : Keeps change) (x : List ℕ) (count : ℕ) (user : List ℕ) (k : ℕ) (size : length x ≡ 512 * (count + 1))
-    (last : k ≤ count)
-    (u : Bool) (is : ownedHere (blockOf x k) user ≡ u) (y : List ℕ) (put : y ≡ cond u (changedIn x k change) x) where
-  turn : (j : ℕ) → j ≤ count → changedAt y (ownedFrom y user (k + 1)) change j ≡ changedAt x (ownedFrom x user k) change j
-  unfolding changedAt ownedFrom
-  turn j l = go (eqb j k) refl
+  reached-owned : (n j : ℕ) → n ≤ count → 1 ≤ j → j ≤ count → reaches t (ownedUpTo t user n) j ≡ true → ownedHere (blockOf t j) user ≡ true
+  unfolding ownedUpTo reaches
+  reached-owned zero j h a b e = absurd (true≢false (sym e))
+  reached-owned (suc n) j h a b e =
+      go (ownedHere (blockOf t (suc n)) user) (reaches t (ownedUpTo t user n) j) refl refl
+      (sym (reaches-append t (ownedUpTo t user n) (cond (ownedHere (blockOf t (suc n)) user) (suc n ∷ []) []) j) ∙ e)
+      (reached-owned n j (omega arith) a b)
     where
-      here : (v : Bool) → u ≡ v → blockOf y k ≡ cond v (change (blockOf x k)) (blockOf x k)
-      here true g = rw (put, g) (in-here x k change (keeps-whole keeps) (omega arith))
-      here false g = rw (put, g)
+      go : (u v : Bool) → ownedHere (blockOf t (suc n)) user ≡ u → reaches t (ownedUpTo t user n) j ≡ v
+          → (v || reaches t (cond (ownedHere (blockOf t (suc n)) user) (suc n ∷ []) []) j) ≡ true
+          → (reaches t (ownedUpTo t user n) j ≡ true → ownedHere (blockOf t j) user ≡ true) → ownedHere (blockOf t j) user ≡ true
+      go u true f g i next = next g
+      go true false f g i next =
+          reaches-one t (suc n) j (rw f at i) (λ q. rw q f) (λ s. members-owned (suc n) j (omega arith) h a b s f)
+      go false false f g i next = let z : false ≡ true = rw f at i in absurd (true≢false (sym z))
 
-      there : (v : Bool) → u ≡ v → j ≢ k → blockOf y j ≡ blockOf x j
-      there true g n = rw (put, g) (in-other x k change (keeps-whole keeps) (omega arith) j n)
-      there false g n = rw (put, g)
+  pub owned-reached : (j : ℕ) → 1 ≤ j → j ≤ count → reaches t (ownedUpTo t user count) j ≡ ownedHere (blockOf t j) user
+  owned-reached j a b =
+      both-ways (reaches t (ownedUpTo t user count) j) (ownedHere (blockOf t j) user) (reached-owned count j (omega arith) a b)
+      (λ e. reaches-named-one t (ownedUpTo t user count) j (owned-one t user count j a ∙ rw (le-leb j count b) e))
 
-      go : (v : Bool) → eqb j k ≡ v → changedAt y (ownedFrom y user (k + 1)) change j ≡ changedAt x (ownedFrom x user k) change j
-      go true g = let q : j ≡ k = eqb-true j k g in rw (q, lt-leb (k + 1) k (omega arith), le-leb k k (omega arith), is) (here u refl)
-      go false g = let n : j ≢ k = eqb-false j k g in rw (there u refl n, later k j n)
+-- The turns of the loop over all records.
+module _ (x : List ℕ) (count : ℕ) (user : List ℕ) (state : ℕ) (name : List ℕ) (sound : SoundTable x count) (fits : Fitting state name) where
+  abbrev picked : ℕ → Bool
+  picked = reaches x (ownedUpTo x user count)
 
-  turned : afterOf y count (ownedFrom y user (k + 1)) change ≡ afterOf x count (ownedFrom x user k) change
-  turned = after-same y x count (ownedFrom y user (k + 1)) (ownedFrom x user k) change turn
+  keeps : Keeps (settled state name)
+  keeps = settled-keeps state name fits
 
-  turned-size : length y ≡ 512 * (count + 1)
-  turned-size = go u refl
-    where
-      go : (v : Bool) → u ≡ v → length y ≡ 512 * (count + 1)
-      go true g = rw (put, g) (in-length x k change (keeps-whole keeps) (omega arith) ∙ size)
-      go false g = rw (put, g) size
+  size : length x ≡ 512 * (count + 1)
+  size = sound-size x count sound
 
-  turned-counts : 1 ≤ k → {whole : List ℕ} → afterOf y count (ownedFrom y user (k + 1)) change ≡ whole
-      → alteredUpTo x whole count ≡ differ x y + alteredUpTo y whole count
-  turned-counts a e = rw (← e, put) (if-counts change keeps x count size u k a last (ownedFrom (cond u (changedIn x k change) x) user (k + 1)))
+  pub owned-start : Going x count (reaches x (ownedUpTo x user count)) (settled state name) 0 x 0
+  owned-start = going-start x count picked (settled state name) keeps size (reaches-zero x count sound (ownedUpTo x user count) ∙ no-zero x user count)
 
--- The same of settling, as the loop has it.
-module _ (x : List ℕ) (count : ℕ) (user : List ℕ) (state : ℕ) (name : List ℕ) (k : ℕ) (size : length x ≡ 512 * (count + 1)) where
-  module _ (fits : Fitting state name) (last : k ≤ count) {b y : List ℕ} {u : Bool} (at : b ≡ blockOf x k) (is : u ≡ ownedHere b user)
-      (put : y ≡ cond u (changedIn x k (settled state name)) x) where
-    here : ownedHere (blockOf x k) user ≡ u
-    here = cc
+  module _ (i : ℕ) (y : List ℕ) (altered : ℕ) (going : Going x count (reaches x (ownedUpTo x user count)) (settled state name) i y altered) where
+    pub owned-turn : {b z : List ℕ} {u : Bool} {c : Change} {e : ℕ} → i < count → b ≡ blockOf y (i + 1) → u ≡ ownedHere b user → c ≡ Settled state
+        → z ≡ cond u (changedIn y (i + 1) (changeOf c name)) y → e ≡ differ y z
+        → Going x count (reaches x (ownedUpTo x user count)) (settled state name) (i + 1) z (altered + e)
+    unfolding changeOf
+    owned-turn {b} {z} {u} {c} {e} h at is by put d =
+        going-turn x count picked (settled state name) keeps size i y altered going h u
+        (owned-reached x count sound user (i + 1) (omega arith) (omega arith)
+        ∙ ap (λ (v : List ℕ). ownedHere v user) (sym (at ∙ going-next x count picked (settled state name) keeps size i y altered going h))
+        ∙ sym is) z
+        (put ∙ rw by) e d
 
-    pub owned-turn : {whole : List ℕ} → afterOf x count (ownedFrom x user k) (settled state name) ≡ whole
-        → afterOf y count (ownedFrom y user (k + 1)) (settled state name) ≡ whole
-    owned-turn left = turned (settled state name) (settled-keeps state name fits) x count user k size last u here y put ∙ left
+    pub owned-end : count ≤ i → i ≤ count → y ≡ afterOf x count (reaches x (ownedUpTo x user count)) (settled state name)
+    owned-end = going-end x count picked (settled state name) keeps size i y altered going
 
-    pub owned-size : length y ≡ 512 * (count + 1)
-    owned-size = turned-size (settled state name) (settled-keeps state name fits) x count user k size last u here y put
-
-    pub owned-counts : {whole : List ℕ} → 1 ≤ k → afterOf x count (ownedFrom x user k) (settled state name) ≡ whole → (c : ℕ) {e w : ℕ} → e ≡ differ x y
-        → c + alteredUpTo x whole count ≡ w → c + e + alteredUpTo y whole count ≡ w
-    owned-counts a left c {e} h sum =
-        omega (arith, h, sum, turned-counts (settled state name) (settled-keeps state name fits) x count user k size last u here y put a (owned-turn left))
-
-    pub owned-few : {whole : List ℕ} → 1 ≤ k → count ≤ 4096 → afterOf x count (ownedFrom x user k) (settled state name) ≡ whole → (c : ℕ) {e : ℕ} (t : List ℕ)
-        → e ≡ differ x y
-        → c + alteredUpTo x whole count ≡ alteredUpTo t whole count → c + e ≤ 4096
-    owned-few {whole} a few left c {e} t h sum = sum-few t y whole count (c + e) (owned-counts a left c h sum) few
-
-  pub owned-end : {whole : List ℕ} → count < k → afterOf x count (ownedFrom x user k) (settled state name) ≡ whole → x ≡ whole
-  unfolding ownedFrom
-  owned-end h e = after-none x count (settled state name) size (ownedFrom x user k) (λ j l. rw (lt-leb k j (omega arith))) ∙ e
+    pub owned-sum : count ≤ i → i ≤ count → altered ≡ alteredUpTo x y count
+    owned-sum = going-sum x count picked (settled state name) keeps size i y altered going

@@ -4,22 +4,25 @@ use crate::looking;
 use choices::plan::Survey;
 use choices::types::AssignmentType;
 use diameter::message;
+use lookup::Found;
 use reading::Outcome;
 use reading::Verdict;
 use reading::kinds;
 use requests::identities;
 use requests::identities::Next;
+use rewrite::Change;
 ghost use mathlib.Core.Path.{_≡_};
+ghost use mathlib.Core.List.{[], _∷_};
 ghost use Prim.Native.Nat.{_≤_};
 ghost use lib.ListN.{length};
 ghost use Rattle.table.specs.SoundTable.{SoundTable};
-ghost use Rattle.rewrite.specs.Change.{afterOf, alteredUpTo};
+ghost use Rattle.rewrite.specs.Change.{afterOf, reaches, alteredUpTo};
 ghost use Rattle.rewrite.specs.Renew.{settled, Fitting};
 ghost use Rattle.diameter.specs.Message.{bodyOf};
 ghost use Rattle.requests.specs.Request.{identities};
 ghost use Rattle.requests.specs.Identity.{placesFrom};
+ghost use Rattle.decisions.specs.Among.{Among};
 ghost use Rattle.assignment.specs.Assignment.{meantBy, findAll, numbersOf};
-ghost use Rattle.blocks.specs.Changed.{isOne};
 ghost use Rattle.assignment.specs.Survey.{foundSurvey};
 
 // "Others need exactly one identity"; "A removal without identity needs a User-Name".
@@ -79,11 +82,23 @@ pub fn survey_all(
     seen
 }
 
-// The effect on each record that is named. Answers how many records have other bytes then.
+// The effect on a record that was found, and on those of its set. Answers how many records have other bytes then.
+fn settle_found(t: &mut [u8], count: usize, f: Found, state: u8, server: &[u8]) -> u32
+    requires { ⌜ SoundTable (now t) count × Among count f × Fitting state (now server) ⌝ }
+    ensures { λ r. ⌜ (now (t .exit) ≡ afterOf (now (t .entry)) count (reaches (now (t .entry)) (numbersOf (f ∷ []))) (settled state (now (server .entry))))
+        × (r ≡ alteredUpTo (now (t .entry)) (now (t .exit)) count) × (r ≤ 4096) ⌝ }
+{
+    match f {
+        Found::At(k) => rewrite::change_set(t, count, k as usize, Change::Settled(state), server),
+        Found::Nothing => 0,
+    }
+}
+
+// The effect on each record that is named, and on those of their sets. Answers the same.
 pub fn settle_named(t: &mut [u8], count: usize, req: &[u8], state: u8, server: &[u8]) -> u32
     requires { ⌜ SoundTable (now t) count × Fitting state (now server) ⌝ }
     ensures { λ r. ⌜ (now (t .exit)
-        ≡ afterOf (now (t .entry)) count (isOne (numbersOf (findAll (now (t .entry)) count (identities (bodyOf (now (req .entry)))))))
+        ≡ afterOf (now (t .entry)) count (reaches (now (t .entry)) (numbersOf (findAll (now (t .entry)) count (identities (bodyOf (now (req .entry)))))))
         (settled state (now (server .entry))))
         × (r ≡ alteredUpTo (now (t .entry)) (now (t .exit)) count) ⌝ }
 {
@@ -94,7 +109,7 @@ pub fn settle_named(t: &mut [u8], count: usize, req: &[u8], state: u8, server: &
             return altered;
         };
         let f = lookup::find_public(t, count, diameter::data_at(req, place));
-        altered += rewrite::settle_found(t, f, state, server);
+        altered += settle_found(t, count, f, state, server);
         at = past;
     }
     altered

@@ -5,14 +5,14 @@ use choices::types::AssignmentType;
 use octets::name;
 use record::fields;
 use record::subscriber::Record;
+use rewrite::Change;
 ghost use mathlib.Core.Path.{_≡_};
 ghost use mathlib.Core.Bool.{true};
 ghost use lib.ListN.{length};
 ghost use Rattle.table.specs.SoundTable.{SoundTable};
-ghost use Rattle.rewrite.specs.Change.{afterOf, alteredUpTo};
+ghost use Rattle.rewrite.specs.Change.{afterOf, reaches, alteredUpTo};
 ghost use Rattle.rewrite.specs.Renew.{settled, Fitting};
 ghost use Rattle.assignment.specs.Assignment.{ownedHere, ownedUpTo, surveyOf};
-ghost use Rattle.blocks.specs.Changed.{isOne};
 ghost use Rattle.assignment.specs.Survey.{glimpsed};
 
 fn owned(b: &[u8], user: &[u8]) -> bool
@@ -52,19 +52,19 @@ pub fn survey_owned(
     seen
 }
 
-// The effect on each of them. Answers how many records have other bytes then.
+// The effect on each of them, which are whole sets, since the records of a set agree in state. Answers how many records have other bytes then.
 pub fn settle_owned(t: &mut [u8], count: usize, user: &[u8], state: u8, server: &[u8]) -> u32
     requires { ⌜ SoundTable (now t) count × Fitting state (now server) ⌝ }
     ensures { λ r. ⌜ (now (t .exit)
-        ≡ afterOf (now (t .entry)) count (isOne (ownedUpTo (now (t .entry)) (now (user .entry)) count)) (settled state (now (server .entry))))
+        ≡ afterOf (now (t .entry)) count (reaches (now (t .entry)) (ownedUpTo (now (t .entry)) (now (user .entry)) count))
+        (settled state (now (server .entry))))
         × (r ≡ alteredUpTo (now (t .entry)) (now (t .exit)) count) ⌝ }
 {
     let mut altered = 0;
-    let mut k = 1;
-    while k <= count {
+    for i in 0..count {
+        let k = i + 1;
         let chosen = owned(table::block(t, k), user);
-        altered += rewrite::settle_if(t, k, chosen, state, server);
-        k += 1;
+        altered += rewrite::change_if(t, k, chosen, Change::Settled(state), server);
     }
     altered
 }

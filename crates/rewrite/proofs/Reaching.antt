@@ -57,6 +57,21 @@ module _ (t : List ℕ) where
   one-closed : (k : ℕ) → Closed t (one k)
   one-closed k i j s = both-ways (one k i) (one k j) (one-next k i j s) (one-next k j i (set-sym (blockOf t i) (blockOf t j) s))
 
+  -- What is named is reached, and what one name reaches is its block or of its set.
+  pub reaches-named-one : (ks : List ℕ) (j : ℕ) → isOne ks j ≡ true → reaches t ks j ≡ true
+  unfolding reaches isOne
+  reaches-named-one [] j e = e
+  reaches-named-one (k ∷ ks) j e = go (eqb j k) (sameSet (blockOf t k) (blockOf t j)) e (reaches-named-one ks j)
+    where
+      go : (x y : Bool) → (x || isOne ks j) ≡ true → (isOne ks j ≡ true → reaches t ks j ≡ true) → (x || y || reaches t ks j) ≡ true
+      go true y f next = refl
+      go false true f next = refl
+      go false false f next = next f
+
+  pub reaches-one : {P : Type 0} (k j : ℕ) → reaches t (k ∷ []) j ≡ true → (j ≡ k → P) → (sameSet (blockOf t k) (blockOf t j) ≡ true → P) → P
+  unfolding reaches
+  reaches-one k j e = one-says k j (sym (or-false (one k j)) ∙ e)
+
   -- An effect reaches whole sets.
   pub reaches-closed : (ks : List ℕ) → Closed t (reaches t ks)
   unfolding reaches

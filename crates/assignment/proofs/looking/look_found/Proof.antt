@@ -1,5 +1,4 @@
-use Rattle.rewrite.proofs.Writes.{found-fits}
-use Rattle.assignment.proofs.Looks.{look-here, look-none}
+use Rattle.assignment.proofs.Looks.{found-fits, look-here, look-none}
 use borrow.Author.Needs.{needs}
 use Rattle.assignment.proofs.looking.look_found.Statement.{statement}
 use Rattle.assignment.proofs.looking.look_found.Tie as tie

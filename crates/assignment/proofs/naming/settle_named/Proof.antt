@@ -2,15 +2,14 @@ use Prim.Native.Nat.{_+_, _-_, _≤_}
 use mathlib.Core.Path.{_≡_}
 use lib.ListN.{length}
 use Rattle.table.specs.SoundTable.{SoundTable}
-use Rattle.lookup.proofs.Scans.{public-end}
-use Rattle.rewrite.specs.Change.{afterOf, alteredUpTo}
+use Rattle.rewrite.specs.Change.{afterOf, reaches, alteredUpTo}
 use Rattle.rewrite.specs.Renew.{settled}
 use Rattle.rewrite.proofs.Counts.{sum-start, sum-end}
 use Rattle.diameter.specs.Message.{bodyOf}
 use Rattle.requests.specs.Request.{identities}
 use Rattle.requests.proofs.Naming.{named-less}
+use Rattle.decisions.proofs.Among.{public-among}
 use Rattle.assignment.specs.Assignment.{findAll, numbersOf}
-use Rattle.blocks.specs.Changed.{isOne}
 use Rattle.assignment.proofs.NameTurns.{restOf, settle-start, settle-none, settle-turn, settle-sound, settle-counts, settle-few, settle-end}
 use borrow.Author.Needs.{needs}
 use Rattle.assignment.proofs.naming.settle_named.Statement.{statement}
@@ -19,10 +18,10 @@ use Rattle.assignment.proofs.naming.settle_named.Tie as tie
 abbrev Inv-loop : tie.InvT-loop
 Inv-loop t₀ count req state server altered₀ at₀ t altered at =
     SoundTable t count × (length t ≡ length t₀) × (altered ≤ 4096)
-    × (afterOf t count (isOne (numbersOf (findAll t count (restOf req at)))) (settled state server)
-    ≡ afterOf t₀ count (isOne (numbersOf (findAll t₀ count (identities (bodyOf req))))) (settled state server))
-    × (altered + alteredUpTo t (afterOf t₀ count (isOne (numbersOf (findAll t₀ count (identities (bodyOf req))))) (settled state server)) count
-    ≡ alteredUpTo t₀ (afterOf t₀ count (isOne (numbersOf (findAll t₀ count (identities (bodyOf req))))) (settled state server)) count)
+    × (afterOf t count (reaches t (numbersOf (findAll t count (restOf req at)))) (settled state server)
+    ≡ afterOf t₀ count (reaches t₀ (numbersOf (findAll t₀ count (identities (bodyOf req))))) (settled state server))
+    × (altered + alteredUpTo t (afterOf t₀ count (reaches t₀ (numbersOf (findAll t₀ count (identities (bodyOf req))))) (settled state server)) count
+    ≡ alteredUpTo t₀ (afterOf t₀ count (reaches t₀ (numbersOf (findAll t₀ count (identities (bodyOf req))))) (settled state server)) count)
 
 abbrev μ-loop : tie.MeasureT-loop
 μ-loop t₀ count req state server altered₀ at₀ t altered at = length req - at
@@ -41,7 +40,7 @@ settle-named-spec =
     (λ c. (search (needs, settle-none), search (needs, sum-end, settle-none)))
     (λ c κs. search needs)
     (λ c κs. search needs)
-    (λ c κs. search (needs, public-end))
+    (λ c κs. search (needs, public-among))
     (λ c. search needs)
     (λ c. search (needs, named-less))
     (λ c. (search (needs, settle-sound), search needs, search (needs, settle-few), search (needs, settle-turn), search (needs, settle-counts)))
