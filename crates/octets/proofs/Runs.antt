@@ -1,5 +1,5 @@
 -- Laws of zero runs, of the tail of a field, and of a name put into its field.
-use Prim.Native.Nat.{ℕ, zero, suc, _+_, _-_, _<_, _≤_, min, max}
+use Prim.Native.Nat.{ℕ, zero, suc, _+_, _-_, _*_, _<_, _≤_, min, max}
 use mathlib.Core.Bool.{Bool, true, false, _&&_, and-true}
 use mathlib.Core.Path.{_≡_, refl, sym, _∙_, ap}
 use mathlib.Core.Logic.{_≢_}
@@ -12,6 +12,7 @@ use lib.ListN.{length, getD, set, length-set, List·getD-eq-default}
 use lib.Seq.{getD-set-same, getD-set-other}
 use borrow.Author.Tests.{eq-eqb, ne-eqb, eqb-true, eqb-false, ltb-true, ltb-false}
 use Rattle.octets.specs.All.{allBelow}
+use Rattle.octets.specs.Number.{le32At}
 use Rattle.octets.specs.Run.{zeros, zeroBetween, putName}
 use Rattle.octets.proofs.All.{all-at, all-true, all-alike, all-join}
 
@@ -52,7 +53,7 @@ module _ (s : List ℕ) (at n k to : ℕ) where
   tail-second a e = let p : at + k + (n - k) ≡ at + n = omega arith in rw (← p) e
 
 -- The turns of the loop over a field whose first n bytes do not count.
-or-zero : (a b : ℕ) → eqb (bitOr a b) 0 ≡ (eqb a 0 && eqb b 0)
+pub or-zero : (a b : ℕ) → eqb (bitOr a b) 0 ≡ (eqb a 0 && eqb b 0)
 or-zero a b = go (eqb a 0) (eqb b 0) refl refl
   where
     go : (x y : Bool) → eqb a 0 ≡ x → eqb b 0 ≡ y → eqb (bitOr a b) 0 ≡ (x && y)
@@ -90,6 +91,46 @@ pub tail-all : (s : List ℕ) (at n i to left : ℕ) → at ≤ to → i ≤ to 
     → eqb left 0 ≡ zeroBetween s (at + n) to
 unfolding zeroBetween
 tail-all s at n i to left h a b e = let k : at + i ≡ to = omega arith in rw (← k) e
+
+-- The turns of the loop over words: none has a bit set so far, one more, and all.
+word-zero : (s : List ℕ) (at : ℕ) → eqb (le32At s at) 0 ≡ zeros s at 4
+unfolding zeros le32At
+word-zero s at = go (eqb (le32At s at) 0) (zeros s at 4) refl refl
+  where
+    byte : zeros s at 4 ≡ true → (j : ℕ) → j < 4 → getD s (at + j) 0 ≡ 0
+    byte f j h = eqb-true (getD s (at + j) 0) 0 (all-at (λ (i : ℕ). eqb (getD s (at + i) 0) 0) 4 f j h)
+
+    none : le32At s at ≡ 0 → (j : ℕ) → j < 4 → getD s (at + j) 0 ≡ 0
+    none e zero h = let k : at + 0 ≡ at = omega arith in rw k (omega arith)
+    none e (suc zero) h = omega arith
+    none e (suc (suc zero)) h = omega arith
+    none e (suc (suc (suc zero))) h = omega arith
+    none e (suc (suc (suc (suc j)))) h = absurd (omega arith)
+
+    go : (x y : Bool) → eqb (le32At s at) 0 ≡ x → zeros s at 4 ≡ y → eqb (le32At s at) 0 ≡ y
+    go true y e f =
+        e ∙ sym (all-true (λ (i : ℕ). eqb (getD s (at + i) 0) 0) 4 (λ j h. eq-eqb (getD s (at + j) 0) 0 (none (eqb-true _ _ e) j h))) ∙ f
+    go false false e f = e
+    go false true e f =
+        let k : at + 0 ≡ at = omega arith in
+        absurd (eqb-false (le32At s at) 0 e (omega (arith, rw k at (byte f 0 (omega arith)), byte f 1 (omega arith), byte f 2 (omega arith), byte f 3 (omega arith))))
+
+module _ (s : List ℕ) (at : ℕ) where
+  pub set-none : eqb 0 0 ≡ zeros s at (4 * 0)
+  unfolding zeros allBelow
+  set-none = refl
+
+  pub set-more : (i bits w : ℕ) → eqb bits 0 ≡ zeros s at (4 * i) → w ≡ le32At s (at + 4 * i) → eqb (bitOr bits w) 0 ≡ zeros s at (4 * (i + 1))
+  unfolding zeros
+  set-more i bits w e f =
+      let n : 4 * (i + 1) ≡ 4 * i + 4 = omega arith in
+      let j = all-join (λ (k : ℕ). eqb (getD s (at + k) 0) 0) (λ (k : ℕ). eqb (getD s (at + 4 * i + k) 0) 0) (4 * i)
+      (λ k. let p : at + 4 * i + k ≡ at + (4 * i + k) = omega arith in rw p) 4 in
+      rw (n, j, or-zero bits w, e, f, word-zero s (at + 4 * i))
+
+  pub set-all : (i n bits : ℕ) → i ≤ n → n ≤ i → eqb bits 0 ≡ zeros s at (4 * i) → eqb bits 0 ≡ zeroBetween s at (at + 4 * n)
+  unfolding zeroBetween
+  set-all i n bits a b e = let k : at + 4 * n - at ≡ 4 * i = omega arith in rw k e
 
 -- The turns of the loop that puts a name.
 pub name-none : (s : List ℕ) (at : ℕ) (name : List ℕ) → s ≡ putName s at name 0
@@ -133,6 +174,22 @@ module _ (s : List ℕ) (from to : ℕ) where
   pub at-zero : ((i : ℕ) → from ≤ i → i < to → getD s i 0 ≡ 0) → zeroBetween s from to ≡ true
   unfolding zeroBetween zeros
   at-zero h = all-true _ (to - from) (λ i l. eq-eqb _ _ (h (from + i) (omega arith) (omega arith)))
+
+-- Zeros from the end of a name on, as many as its first part has bytes, and those past that part: the two runs meet.
+pub zero-overlap : (s : List ℕ) (at n k to : ℕ) → n ≤ k → at + n + k ≤ to → (zeroBetween s (at + n) (at + n + k) && zeroBetween s (at + k) to) ≡ zeroBetween s (at + n) to
+zero-overlap s at n k to h l = go _ _ _ refl refl refl
+  where
+    go : (x y z : Bool) → zeroBetween s (at + n) (at + n + k) ≡ x → zeroBetween s (at + k) to ≡ y → zeroBetween s (at + n) to ≡ z → (x && y) ≡ z
+    go true true true e f g = refl
+    go true false false e f g = refl
+    go false y false e f g = refl
+    go false y true e f g = sym e ∙ at-zero s (at + n) (at + n + k) (λ i a b. zero-at s (at + n) to g i (omega arith) (omega arith))
+    go true false true e f g = sym f ∙ at-zero s (at + k) to (λ i a b. zero-at s (at + n) to g i (omega arith) (omega arith))
+    go true true false e f g = sym (at-zero s (at + n) to (λ i a b. either i a b (ltb i (at + n + k)) refl)) ∙ g
+      where
+        either : (i : ℕ) → at + n ≤ i → i < to → (x : Bool) → ltb i (at + n + k) ≡ x → getD s i 0 ≡ 0
+        either i a b true m = zero-at s (at + n) (at + n + k) e i a (ltb-true i (at + n + k) m)
+        either i a b false m = zero-at s (at + k) to f i (omega (arith, ltb-false i (at + n + k) m)) b
 
 pub zero-alike : (x y : List ℕ) (from to : ℕ) → ((i : ℕ) → from ≤ i → i < to → getD x i 0 ≡ getD y i 0) → zeroBetween x from to ≡ zeroBetween y from to
 unfolding zeroBetween zeros

@@ -1,7 +1,9 @@
 // Runs of bytes: zeros that are looked for, bytes that are written.
+use crate::number;
 ghost use mathlib.Core.Path.{_≡_};
 ghost use mathlib.Core.List.{[]};
-ghost use Prim.Native.Nat.{_+_, _-_, _≤_, _<_, min};
+ghost use Prim.Native.Nat.{_+_, _-_, _*_, _≤_, _<_, min};
+ghost use lib.Dec.{eqb};
 ghost use lib.ListN.{length, replicate};
 ghost use Rattle.octets.specs.Run.{zeroBetween, putName, Wrote};
 
@@ -15,6 +17,18 @@ pub fn zero_between(s: &[u8], from: usize, to: usize) -> bool
         clear = clear & (s[i] == 0);
     }
     clear
+}
+
+// The bits that are set in any of n words from a place on: none, where they are all zero. Several of these are one test.
+pub fn set_bits(s: &[u8], at: usize, n: usize) -> u32
+    requires { ⌜ at + 4 * n ≤ length (now s) ⌝ }
+    ensures { λ r. ⌜ eqb r 0 ≡ zeroBetween (now (s .entry)) at (at + 4 * n) ⌝ }
+{
+    let mut bits: u32 = 0;
+    for i in 0..n {
+        bits = bits | number::le32(s, at + 4 * i);
+    }
+    bits
 }
 
 // The smaller of two bytes.

@@ -1,4 +1,5 @@
 pub mod OneSet
 pub mod Places
+pub mod Short
 pub mod Sound
 pub mod Tests

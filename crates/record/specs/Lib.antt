@@ -3,3 +3,4 @@ pub mod HeaderBlock
 pub mod Networks
 pub mod RecordBlock
 pub mod Sets
+pub mod Short

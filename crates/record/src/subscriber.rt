@@ -3,12 +3,15 @@ use crate::header::Header;
 use octets::number;
 use octets::run;
 use octets::sum;
+use octets::sum::Sums;
 ghost use mathlib.Core.Path.{_≡_};
 ghost use Prim.Native.Nat.{_≤_};
+ghost use lib.Dec.{eqb};
 ghost use lib.ListN.{length};
 ghost use Rattle.record.specs.Fields.{pending, barred, unregisteredServices, cleared, pendingSet};
 ghost use Rattle.record.specs.RecordBlock.{recordOf, isRecord, soundSet, soundLimits, soundServer, soundRoaming, soundProfile, soundRest};
 ghost use Rattle.record.specs.RecordBlock.{soundRecord};
+ghost use Rattle.record.specs.Short.{shortNames, shortOthers, shortSum, shortZeros, soundBytes};
 
 // The numbers of a record block. Its names stay in the table.
 pub struct Record {
@@ -94,6 +97,9 @@ impl Record {
     pub const MOST_SERVER: u8 = 96;
 
     pub const MOST_PROFILE: u32 = 4096;
+
+    // Names of at most so many bytes are short: a block of which each name is has few words that are not zero.
+    pub const SHORT: u8 = 32;
 
     // The numbers of a block.
     pub fn read(b: &[u8]) -> Record
@@ -227,7 +233,93 @@ fn rest(b: &[u8], r: Record) -> bool
             Record::PROFILE_START_AT,
             4 * r.optional,
         )
-        & run::zero_between(b, Record::REST_AT, Record::CHECK_AT)
+        & (run::set_bits(b, Record::REST_AT, 24) == 0)
+}
+
+// The words of a block whose names are short, but for those that its check finds zero: up to the end of each name, and from the capabilities on.
+fn short_names(b: &[u8]) -> Sums
+    requires { ⌜ length (now b) ≡ 512 ⌝ }
+    ensures { λ x. ⌜ (x ≡ shortNames (now (b .entry))) × (x .odd ≤ 467934180) ⌝ }
+{
+    let public = sum::columns(b, Record::KIND_AT, 12);
+    let private = sum::columns(b, Record::PRIVATE_AT, 8);
+    sum::both(
+        sum::both(public, private),
+        sum::columns(b, Record::SERVER_AT, 8),
+    )
+}
+
+fn short_others(b: &[u8]) -> Sums
+    requires { ⌜ length (now b) ≡ 512 ⌝ }
+    ensures { λ x. ⌜ (x ≡ shortOthers (now (b .entry))) × (x .odd ≤ 217255155) ⌝ }
+{
+    sum::both(
+        sum::columns(b, Record::MANDATORY_AT, 12),
+        sum::columns(b, Record::CHECK_AT, 1),
+    )
+}
+
+// The sum of such a block's words: those that are zero add nothing.
+fn short_sum(b: &[u8]) -> u32
+    requires { ⌜ length (now b) ≡ 512 ⌝ }
+    ensures { λ x. ⌜ x ≡ shortSum (now (b .entry)) ⌝ }
+{
+    sum::total(sum::both(short_names(b), short_others(b)))
+}
+
+// The bits that are set past short names and past the last named byte.
+fn short_past(b: &[u8], r: Record) -> u32
+    requires { ⌜ (length (now b) ≡ 512) × (r .public ≤ 32) × (r .private ≤ 32) × (r .server ≤ 32) ⌝ }
+    ensures { λ x. ⌜ eqb x 0 ≡ shortZeros (now (b .entry)) r ⌝ }
+{
+    run::set_bits(b, Record::PUBLIC_AT + r.public as usize, 8)
+        | run::set_bits(b, Record::PUBLIC_AT + 32, 24)
+        | run::set_bits(b, Record::PRIVATE_AT + r.private as usize, 8)
+        | run::set_bits(b, Record::PRIVATE_AT + 32, 24)
+        | run::set_bits(b, Record::SERVER_AT + r.server as usize, 8)
+        | run::set_bits(b, Record::SERVER_AT + 32, 16)
+        | run::set_bits(b, Record::REST_AT, 24)
+}
+
+// What `rest` asks, where the names are short.
+fn short_rest(b: &[u8], r: Record) -> bool
+    requires { ⌜ (length (now b) ≡ 512) × (r .mandatory ≤ 4) × (r .optional ≤ 4) × (r .public ≤ 32) × (r .private ≤ 32) × (r .server ≤ 32) ⌝ }
+    ensures { λ x. ⌜ x ≡ soundRest (now (b .entry)) r ⌝ }
+{
+    run::zero_between(b, Record::BLANK_AT, Record::NUMBER_AT)
+        & (short_past(b, r) == 0)
+        & run::zero_tail(
+            b,
+            Record::MANDATORY_AT,
+            Record::OPTIONAL_AT,
+            4 * r.mandatory,
+        )
+        & run::zero_tail(
+            b,
+            Record::OPTIONAL_AT,
+            Record::PROFILE_START_AT,
+            4 * r.optional,
+        )
+}
+
+// Whether a block's words sum to zero and its unused places are zero, where the names are short.
+fn short_sound(b: &[u8], r: Record) -> bool
+    requires { ⌜ (length (now b) ≡ 512) × (r .mandatory ≤ 4) × (r .optional ≤ 4) × (r .public ≤ 32) × (r .private ≤ 32) × (r .server ≤ 32) ⌝ }
+    ensures { λ x. ⌜ x ≡ soundBytes (now (b .entry)) r ⌝ }
+{
+    (short_sum(b) == 0) & short_rest(b, r)
+}
+
+// The same of any names. The words past the last named byte are left out of the sum: they are zero, or the block is unsound.
+fn bytes_sound(b: &[u8], r: Record) -> bool
+    requires { ⌜ (length (now b) ≡ 512) × (r .mandatory ≤ 4) × (r .optional ≤ 4) ⌝ }
+    ensures { λ x. ⌜ x ≡ soundBytes (now (b .entry)) r ⌝ }
+{
+    if (r.public <= Record::SHORT) & (r.private <= Record::SHORT) & (r.server <= Record::SHORT) {
+        short_sound(b, r)
+    } else {
+        (sum::sum_ends(b, 104) == 0) & rest(b, r)
+    }
 }
 
 // Whether a block is sound as record k, under a header and beside a profile file of such a length.
@@ -235,17 +327,15 @@ pub fn sound(b: &[u8], k: u32, h: Header, file: usize) -> bool
     requires { ⌜ (length (now b) ≡ 512) × (h .networks ≤ 8) ⌝ }
     ensures { λ x. ⌜ x ≡ soundRecord (now (b .entry)) k h file ⌝ }
 {
-    let total = sum::sum_words(b, 128);
     let r = Record::read(b);
-    if (total == 0)
-        & is_record(r, k, h)
+    if is_record(r, k, h)
         & set_sound(r)
         & limits(r)
         & server_sound(r)
         & roams(r, h.networks as u32)
         & within(r, file)
     {
-        rest(b, r)
+        bytes_sound(b, r)
     } else {
         false
     }

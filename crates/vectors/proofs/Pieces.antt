@@ -9,20 +9,35 @@ use lib.ListN.{length}
 use lib.Dec.{ltb, leb, eqb}
 use borrow.Author.Tests.{le-leb, lt-leb, lt-ltb, le-ltb, eq-eqb, ne-eqb, ltb-true}
 use Rattle.octets.proofs.Chains.{chain-says}
+use Rattle.octets.proofs.Columns.{ends-sum}
+use Rattle.octets.proofs.Numbers.{Bytes}
 use Rattle.table.specs.Blocks.{blockOf}
 use Rattle.table.specs.Check.{firstBad}
 use Rattle.table.specs.declared.Checked.{Checked}
 use Rattle.table.specs.declared.Checked.the-variants.{Sound, Bad}
-use Rattle.octets.specs.Sum.{sumWords}
+use Rattle.octets.specs.Run.{zeroBetween}
+use Rattle.octets.specs.Sum.{sumWords, endsSum}
 use Rattle.vectors.specs.VectorBlock.{vectorOf, soundLimits, soundRest, soundVector}
 use Rattle.vectors.specs.declared.vector.Vector.{Vector}
 use Rattle.vectors.specs.VectorFile.{piecesOf, soundPiece, checkVectors}
 
--- A vector's tests, all of them.
-pub vector-all : (b : List ℕ) (v : Vector) (s : ℕ) (l r : Bool) → v ≡ vectorOf b → s ≡ sumWords b 128 → l ≡ soundLimits v → r ≡ soundRest b v
+-- A vector's tests, all of them: what its sum leaves out is zero, or it is unsound.
+pub vector-all : (b : List ℕ) (v : Vector) (s : ℕ) (l r : Bool) → Bytes b → v ≡ vectorOf b → s ≡ endsSum b 53 → l ≡ soundLimits v → r ≡ soundRest b v
     → (eqb s 0 && l && r) ≡ soundVector b
 unfolding soundVector
-vector-all b v s l r ev es el er = rw (er, el, es, ev)
+vector-all b v s l r h ev es el er = rw (el, er, ev) (go (soundRest b (vectorOf b)) refl)
+  where
+    refused : (x y : Bool) → (x && y && false) ≡ false
+    refused true true = refl
+    refused true false = refl
+    refused false y = refl
+
+    go : (x : Bool) → soundRest b (vectorOf b) ≡ x
+        → (eqb s 0 && soundLimits (vectorOf b) && soundRest b (vectorOf b)) ≡ (eqb (sumWords b 128) 0 && soundLimits (vectorOf b) && soundRest b (vectorOf b))
+    go true g =
+        let z = chain-says (zeroBetween b (4 + vectorOf b .private) 132) (zeroBetween b (164 + vectorOf b .xres) 180 ∷ zeroBetween b 212 508 ∷ []) g 2 in
+        rw (es, ends-sum b 53 h (omega arith) z)
+    go false g = rw (g, refused (eqb s 0) (soundLimits (vectorOf b)), refused (eqb (sumWords b 128) 0) (soundLimits (vectorOf b)))
 
 module _ (v : List ℕ) where
   pub pieces-whole : length v % 512 ≡ 0 → length v / 512 ≡ piecesOf v

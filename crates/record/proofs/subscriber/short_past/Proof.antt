@@ -1,0 +1,26 @@
+use Rattle.record.proofs.Short.{past-zeros}
+use borrow.Author.Needs.{needs}
+use Rattle.record.proofs.subscriber.short_past.Statement.{statement}
+use Rattle.record.proofs.subscriber.short_past.Tie as tie
+
+pub short-past-spec : {M : Type 1} → statement M
+short-past-spec =
+    tie.close
+    (tie.spec
+    (λ c. search needs)
+    (λ c. search needs)
+    (λ c κs. search needs)
+    (λ c. search needs)
+    (λ c κs. search needs)
+    (λ c. search needs)
+    (λ c. search needs)
+    (λ c κs. search needs)
+    (λ c. search needs)
+    (λ c κs. search needs)
+    (λ c. search needs)
+    (λ c. search needs)
+    (λ c κs. search needs)
+    (λ c. search needs)
+    (λ c κs. search needs)
+    (λ c κs. search needs)
+    (λ c. search (needs, past-zeros)))

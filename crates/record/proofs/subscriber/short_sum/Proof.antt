@@ -1,0 +1,14 @@
+use Rattle.record.proofs.Short.{short-is}
+use borrow.Author.Needs.{needs}
+use Rattle.record.proofs.subscriber.short_sum.Statement.{statement}
+use Rattle.record.proofs.subscriber.short_sum.Tie as tie
+
+pub short-sum-spec : {M : Type 1} → statement M
+short-sum-spec =
+    tie.close
+    (tie.spec
+    (λ c κs. search needs)
+    (λ c κs. search needs)
+    (λ c κs. search needs)
+    (λ c κs. search needs)
+    (λ c. search (needs, short-is)))
