@@ -1,3 +1,4 @@
+pub mod Hashes
 pub mod OneSet
 pub mod Places
 pub mod Short

@@ -1,4 +1,5 @@
 pub mod Fields
+pub mod Hash
 pub mod HeaderBlock
 pub mod Networks
 pub mod RecordBlock

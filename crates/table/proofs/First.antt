@@ -2,20 +2,13 @@
 use Prim.Native.Nat.{ℕ, zero, suc, _+_, _-_, _<_, _≤_}
 use mathlib.Core.Bool.{Bool, true, false, cond}
 use mathlib.Core.Path.{_≡_, refl}
-use mathlib.Core.List.{List}
 use native.Mathlib.Omega.{arith}
-use native.Mathlib.Nat.{add-sub-cancel}
 use native.Mathlib.Numerals.{add-one}
 use lib.Dec.{ltb}
 use borrow.Author.Tests.{ltb-true, ltb-false}
-use Rattle.record.specs.declared.header.Header.{Header}
-use Rattle.table.specs.Check.{soundAt, firstBad, checkRecords}
+use Rattle.table.specs.Check.{firstBad}
 use Rattle.table.specs.declared.Checked.{Checked}
 use Rattle.table.specs.declared.Checked.the-variants.{Sound, Bad}
-
-pub first-all : (t : List ℕ) (h : Header) (file : ℕ) → checkRecords t h file ≡ firstBad (soundAt t h file) (h .count) (h .count + 1 - 1) 1
-unfolding checkRecords
-first-all t h file = rw add-sub-cancel
 
 -- the loop goes from some number up to `stop`, and k is the next
 module _ (good : ℕ → Bool) (count stop k : ℕ) {whole : Checked} (left : whole ≡ firstBad good count (stop - k) k) where

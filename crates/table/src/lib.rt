@@ -1,4 +1,6 @@
 // The check of a whole table, block by block.
+mod members;
+
 use octets::name;
 use octets::name::Order;
 use record::fields;
@@ -12,7 +14,9 @@ ghost use lib.ListN.{length};
 ghost use Rattle.octets.specs.Name.{orderOf};
 ghost use Rattle.record.specs.Fields.{publicOf};
 ghost use Rattle.table.specs.Blocks.{blockOf};
-ghost use Rattle.table.specs.Check.{isLess, risesAt, standsAt, agreesWith, agreesAt, soundAt, checkRecords, checkTable};
+ghost use Rattle.octets.specs.All.{allBelow};
+ghost use Rattle.table.specs.Check.{isLess, risesAt, standsAt, checkRecords, checkTable};
+ghost use Rattle.table.specs.Leading.{leading, setless, outcomeOf};
 
 // "Blocks of 512 bytes"
 pub const BLOCK: usize = 512;
@@ -63,54 +67,60 @@ fn stands(t: &[u8], h: Header, file: usize, k: usize) -> bool
     subscriber::sound(block(t, k), k as u32, h, file) & rises(t, k)
 }
 
-// Whether record i + 1, if it is of the set of block k, agrees with it.
-fn agrees_with(t: &[u8], k: usize, i: usize) -> bool
-    requires { ⌜ (i < k) × (512 * k + 512 ≤ length (now t)) ⌝ }
-    ensures { λ r. ⌜ r ≡ agreesWith (now (t .entry)) k i ⌝ }
+// How many records from the first on stand in their places, and whether none of them has a set: its bytes are at hand in this pass.
+struct Stood {
+    records: usize,
+    setless: bool,
+}
+
+fn standing(t: &[u8], h: Header, file: usize) -> Stood
+    requires { ⌜ (h .count ≤ 4096) × (h .networks ≤ 8) × (length (now t) ≡ 512 * (h .count + 1)) ⌝ }
+    ensures { λ r. ⌜ (r .records ≡ leading (standsAt (now (t .entry)) h file) (h .count) 1) × (r .records ≤ h .count)
+        × (r .setless ≡ allBelow (setless (now (t .entry))) (r .records)) ⌝ }
 {
-    let a = block(t, i + 1);
-    let b = block(t, k);
-    if sets::same_set(a, b) {
-        sets::agree(a, b)
-    } else {
-        true
+    let count = h.count as usize;
+    let mut m = 0;
+    let mut none = true;
+    while m < count {
+        if stands(t, h, file, m + 1) {
+            none = none & (sets::set(block(t, m + 1)) == 0);
+            m += 1;
+        } else {
+            return Stood {
+                records: m,
+                setless: none,
+            };
+        }
+    }
+    Stood {
+        records: m,
+        setless: none,
     }
 }
 
-// Whether block k agrees with every record of its set before it.
-fn agrees(t: &[u8], k: usize) -> bool
-    requires { ⌜ (1 ≤ k) × (512 * k + 512 ≤ length (now t)) ⌝ }
-    ensures { λ r. ⌜ r ≡ agreesAt (now (t .entry)) k ⌝ }
+// What the first m records being sound and the next one not, if there is one, says of them all.
+fn outcome(count: usize, m: usize) -> Checked
+    requires { ⌜ (count ≤ 4096) × (m ≤ count) ⌝ }
+    ensures { λ r. ⌜ r ≡ outcomeOf count m ⌝ }
 {
-    let mut good = true;
-    for i in 0..k - 1 {
-        good = good & agrees_with(t, k, i);
+    let k = m + 1;
+    if k <= count {
+        return Checked::Bad(k as u32);
     }
-    good
+    Checked::Sound(count as u32)
 }
 
-fn record_at(t: &[u8], h: Header, file: usize, k: usize) -> bool
-    requires { ⌜ (1 ≤ k) × (k ≤ 4096) × (h .networks ≤ 8) × (512 * k + 512 ≤ length (now t)) ⌝ }
-    ensures { λ r. ⌜ r ≡ soundAt (now (t .entry)) h file k ⌝ }
-{
-    stands(t, h, file, k) & agrees(t, k)
-}
-
-// The records of a table, one after the other, under its header.
+// The records of a table, under its header: first each in its place, then the sets of those that stand.
 fn records(t: &[u8], h: Header, file: usize) -> Checked
     requires { ⌜ (h .count ≤ 4096) × (h .networks ≤ 8) × (length (now t) ≡ 512 * (h .count + 1)) ⌝ }
     ensures { λ r. ⌜ r ≡ checkRecords (now (t .entry)) h file ⌝ }
 {
     let count = h.count as usize;
-    let mut k = 1;
-    while k <= count {
-        if record_at(t, h, file, k) {
-            k += 1;
-        } else {
-            return Checked::Bad(k as u32);
-        }
+    let s = standing(t, h, file);
+    if s.setless {
+        return outcome(count, s.records);
     }
-    Checked::Sound(count as u32)
+    outcome(count, members::agreeing(t, s.records))
 }
 
 // The whole table against a profile file of such a length.

@@ -4,8 +4,8 @@ use Rattle.octets.specs.All.{allBelow}
 use Rattle.octets.proofs.All.{all-none, all-more, all-end}
 use Rattle.table.specs.Check.{agreesWith, agreesAt}
 use borrow.Author.Needs.{needs}
-use Rattle.table.proofs.agrees.Statement.{statement}
-use Rattle.table.proofs.agrees.Tie as tie
+use Rattle.table.proofs.members.agrees.Statement.{statement}
+use Rattle.table.proofs.members.agrees.Tie as tie
 
 abbrev Inv-loop : tie.InvT-loop
 Inv-loop t k good₀ i₀ i-end good i = (i ≤ k - 1) × (good ≡ allBelow (agreesWith t k) i)

@@ -1,7 +1,7 @@
 use Rattle.table.proofs.Agreement.{with-other, with-same}
 use borrow.Author.Needs.{needs}
-use Rattle.table.proofs.agrees_with.Statement.{statement}
-use Rattle.table.proofs.agrees_with.Tie as tie
+use Rattle.table.proofs.members.agrees_with.Statement.{statement}
+use Rattle.table.proofs.members.agrees_with.Tie as tie
 
 pub agrees-with-spec : {M : Type 1} → statement M
 agrees-with-spec =
