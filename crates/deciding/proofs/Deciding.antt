@@ -10,16 +10,15 @@ use borrow.Author.Tests.{ne-eqb}
 use Rattle.record.specs.Fields.{keepOf}
 use Rattle.table.specs.Blocks.{blockOf}
 use Rattle.table.specs.SoundTable.{SoundTable}
-use Rattle.table.proofs.Sound.{sound-size, sound-block}
-use Rattle.blocks.specs.Changed.{changedIn, isOne}
+use Rattle.table.proofs.Sound.{sound-size}
 use Rattle.vectors.specs.Chosen.{sentOf}
 use Rattle.vectors.specs.Marked.{spent}
 use Rattle.vectors.specs.declared.choice.Sent.{Sent}
-use Rattle.rewrite.specs.Change.{afterOf, differ, alteredUpTo}
-use Rattle.rewrite.specs.Renew.{settled, challenged, Fitting}
-use Rattle.rewrite.proofs.Challenged.{challenged-keeps}
-use Rattle.rewrite.proofs.Counts.{altered-none, one-counts}
-use Rattle.rewrite.proofs.Tables.{one-after}
+use Rattle.rewrite.specs.Change.{afterOf, reaches, alteredUpTo}
+use Rattle.rewrite.specs.Renew.{settled, challenged, Fitting, changeOf, ChangeFits}
+use Rattle.rewrite.specs.declared.Change.{Change}
+use Rattle.rewrite.specs.declared.Change.the-variants.{Challenged}
+use Rattle.rewrite.proofs.Counts.{altered-none}
 use Rattle.reading.specs.Kinds.{userName, publicIdentity, visitedNetwork, serverName, assignmentType, dataAvailable, authorizationType, numberAuthItems}
 use Rattle.reading.specs.Rules.{Seen}
 use Rattle.diameter.specs.Message.{commandOf, bodyOf}
@@ -94,30 +93,21 @@ module _ (req t : List ℕ) (count : ℕ) (v : List ℕ) (seen : Seen) {p : Plan
 module _ (t : List ℕ) (count : ℕ) (req : List ℕ) (seen : Seen) where
   module _ (w : Settling) where
     pub settled-owned : {name server user y : List ℕ} → name ≡ dataSeen seen serverName → server ≡ storedName (w .named) name → user ≡ dataSeen seen userName
-        → w .owned ≡ true → y ≡ afterOf t count (isOne (ownedUpTo t user count)) (settled (w .state) server)
+        → w .owned ≡ true → y ≡ afterOf t count (reaches t (ownedUpTo t user count)) (settled (w .state) server)
         → y ≡ carriedOut t count (assignmentOf t seen req) (Settle w)
     unfolding carriedOut plannedRecords assignmentOf
     settled-owned a b c e f = rw e (f ∙ rw (b, a, c))
 
     pub settled-named : {name server y : List ℕ} → name ≡ dataSeen seen serverName → server ≡ storedName (w .named) name → w .owned ≡ false
-        → y ≡ afterOf t count (isOne (numbersOf (findAll t count (identities (bodyOf req))))) (settled (w .state) server)
+        → y ≡ afterOf t count (reaches t (numbersOf (findAll t count (identities (bodyOf req))))) (settled (w .state) server)
         → y ≡ carriedOut t count (assignmentOf t seen req) (Settle w)
     unfolding carriedOut plannedRecords assignmentOf
     settled-named a b e f = rw e (f ∙ rw (b, a))
 
-  pub challenged-one : (k : ℕ) {name y : List ℕ} → SoundTable t count → DeedFits count (dataSeen seen serverName) (Challenge k)
-      → name ≡ dataSeen seen serverName → y ≡ changedIn t k (challenged name) → y ≡ carriedOut t count (assignmentOf t seen req) (Challenge k)
-  unfolding carriedOut assignmentOf isOne
-  challenged-one k sound (a, b, least, most) e f =
-      f ∙ rw e (one-after t count (challenged (dataSeen seen serverName)) (sound-size t count sound)
-      (challenged-keeps (dataSeen seen serverName) least most) k b (isOne (k ∷ [])) (λ j. refl))
-
-  -- how many records that alters: the one, if it has other bytes then
-  pub challenged-counts : (k : ℕ) {name y : List ℕ} {r : ℕ} → SoundTable t count → DeedFits count (dataSeen seen serverName) (Challenge k)
-      → name ≡ dataSeen seen serverName → y ≡ changedIn t k (challenged name) → r ≡ differ t y → r ≡ alteredUpTo t y count
-  challenged-counts k sound (a, b, least, most) e f g =
-      g ∙ rw (f, e) (one-counts (challenged (dataSeen seen serverName)) (challenged-keeps (dataSeen seen serverName) least most) t count
-      (sound-size t count sound) k a b)
+  pub challenged-set : (k : ℕ) {c : Change} {name y : List ℕ} → c ≡ Challenged → name ≡ dataSeen seen serverName
+      → y ≡ afterOf t count (reaches t (k ∷ [])) (changeOf c name) → y ≡ carriedOut t count (assignmentOf t seen req) (Challenge k)
+  unfolding carriedOut assignmentOf changeOf
+  challenged-set k b e f = f ∙ rw (b, e)
 
   -- by the deed
   module _ (d : Deed) where
@@ -147,11 +137,15 @@ pub stored-fits : (seen : Seen) (w : Settling) (name server : List ℕ) → name
     → Fitting (w .state) (storedName (w .named) (dataSeen seen serverName)) → Fitting (w .state) server
 stored-fits seen w name server a b f = rw (b, a) f
 
-pub challenge-room : (t : List ℕ) (count : ℕ) (server : List ℕ) (k : ℕ) → SoundTable t count → DeedFits count server (Challenge k) → 512 * k + 512 ≤ length t
-challenge-room t count server k sound (a, b, least, most) = sound-block t count sound k b
+module _ (count : ℕ) (server : List ℕ) (k : ℕ) where
+  pub challenge-from : DeedFits count server (Challenge k) → 1 ≤ k
+  challenge-from (a, b, least, most) = a
 
-pub challenge-name : (count : ℕ) (server : List ℕ) (k : ℕ) {name : List ℕ} → DeedFits count server (Challenge k) → name ≡ server → length name ≤ 96
-challenge-name count server k (a, b, least, most) e = rw e most
+  pub challenge-to : DeedFits count server (Challenge k) → k ≤ count
+  challenge-to (a, b, least, most) = b
+
+  pub challenge-fits : {c : Change} {name : List ℕ} → c ≡ Challenged → name ≡ server → DeedFits count server (Challenge k) → ChangeFits c name
+  challenge-fits d e (a, b, least, most) = rw (d, e) (least, most)
 
 pub table-whole : (t : List ℕ) (count : ℕ) → SoundTable t count → 512 ≤ length t
 table-whole t count sound = omega (arith, sound-size t count sound)

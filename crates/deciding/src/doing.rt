@@ -6,6 +6,7 @@ use choices::plan::Plan;
 use choices::plan::Settling;
 use reading::kinds;
 use requests::places;
+use rewrite::Change;
 use vectors::choice::Sent;
 use vectors::mark;
 ghost use mathlib.Core.Path.{_≡_};
@@ -43,7 +44,7 @@ fn settle(t: &mut [u8], count: usize, req: &[u8], found: [usize; kinds::KINDS], 
     naming::settle_named(t, count, req, w.state, server)
 }
 
-// The name that goes with a challenge. Answers the same.
+// The name that goes with a challenge, in the record and in those of its set. Answers the same.
 fn challenge(t: &mut [u8], count: usize, req: &[u8], found: [usize; kinds::KINDS], k: u32) -> u32
     requires { ⌜ SoundTable (now t) count × DeedFits count (dataSeen (seenOf (now req) found) serverName) (Deed.Challenge k) ⌝ }
     ensures { λ r. ⌜ (now (t .exit) ≡ carriedOut (now (t .entry)) count
@@ -51,7 +52,7 @@ fn challenge(t: &mut [u8], count: usize, req: &[u8], found: [usize; kinds::KINDS
         × (r ≡ alteredUpTo (now (t .entry)) (now (t .exit)) count) ⌝ }
 {
     let server = places::data_of(req, found, kinds::SERVER_NAME);
-    rewrite::challenge(t, k as usize, server)
+    rewrite::change_set(t, count, k as usize, Change::Challenged, server)
 }
 
 // The records. Answers the same.

@@ -1,10 +1,9 @@
 -- A decision keeps a sound table sound, with as many records, and a sound vector file sound: whoever checked them need not check again.
-use Prim.Native.Nat.{ℕ, _+_, _*_, _≤_}
+use Prim.Native.Nat.{ℕ, _≤_}
 use mathlib.Core.List.{List, [], _∷_}
 use mathlib.Core.Bool.{Bool, true, false, cond}
-use mathlib.Core.Path.{_≡_, refl, sym}
+use mathlib.Core.Path.{_≡_, refl, sym, _∙_}
 use native.Mathlib.Omega.{arith}
-use lib.ListN.{length}
 use borrow.Author.Tests.{ne-eqb}
 use Rattle.table.specs.SoundTable.{SoundTable}
 use Rattle.table.proofs.Sound.{sound-size}
@@ -16,7 +15,9 @@ use Rattle.vectors.proofs.Spent.{spent-sound}
 use Rattle.lookup.specs.Find.{findPublic}
 use Rattle.lookup.specs.declared.Found.{Found}
 use Rattle.lookup.specs.declared.Found.the-variants.{At, Nothing}
+use Rattle.rewrite.specs.Change.{afterOf, reaches, Keeps}
 use Rattle.rewrite.proofs.Challenged.{challenged-keeps}
+use Rattle.rewrite.proofs.Reaching.{reaches-zero, reaches-closed}
 use Rattle.rewrite.proofs.Settled.{settled-keeps}
 use Rattle.rewrite.proofs.Tables.{Keeping, keeping-same, after-keeping}
 use Rattle.diameter.specs.Avp.{dataOf}
@@ -50,14 +51,16 @@ planned-later t count s true = no-zero t (s .user) count
 planned-later t count s false = named-later t count (s .identities)
 
 -- what is written keeps what every effect keeps
-deed-keeping : (t : List ℕ) (count : ℕ) (s : Assignment) (d : Deed) → length t ≡ 512 * (count + 1) → DeedFits count (s .server) d
-    → Keeping t (carriedOut t count s d) count
-unfolding carriedOut isOne
-deed-keeping t count s Leave size f = keeping-same t count
-deed-keeping t count s (Settle w) size f =
-    after-keeping t count _ size (isOne (plannedRecords t count s (w .owned))) (settled-keeps _ _ f) (planned-later t count s (w .owned))
-deed-keeping t count s (Challenge k) size (a, b, least, most) =
-    after-keeping t count _ size (isOne (k ∷ [])) (challenged-keeps (s .server) least most) (rw (ne-eqb 0 k (omega arith)))
+module _ (t : List ℕ) (count : ℕ) (sound : SoundTable t count) where
+  reached-keeping : (ks : List ℕ) (change : List ℕ → List ℕ) → Keeps change → isOne ks 0 ≡ false → Keeping t (afterOf t count (reaches t ks) change) count
+  reached-keeping ks change keeps none =
+      after-keeping t count change (sound-size t count sound) (reaches t ks) keeps (reaches-zero t count sound ks ∙ none) (reaches-closed t ks)
+
+  deed-keeping : (s : Assignment) (d : Deed) → DeedFits count (s .server) d → Keeping t (carriedOut t count s d) count
+  unfolding carriedOut isOne
+  deed-keeping s Leave f = keeping-same t count
+  deed-keeping s (Settle w) f = reached-keeping (plannedRecords t count s (w .owned)) _ (settled-keeps _ _ f) (planned-later t count s (w .owned))
+  deed-keeping s (Challenge k) (a, b, least, most) = reached-keeping (k ∷ []) _ (challenged-keeps (s .server) least most) (rw (ne-eqb 0 k (omega arith)))
 
 pub decide-keeping : (req t : List ℕ) (count : ℕ) (v : List ℕ) → SoundTable t count → Keeping t (decide req t count v .table) count
 unfolding decide decideJudged performed assignmentOf
@@ -66,7 +69,7 @@ decide-keeping req t count v sound = go (readRequest req) refl
     go : (j : Judged) → readRequest req ≡ j → Keeping t (decideJudged req t count v j .table) count
     go (bad f) e = keeping-same t count
     go (fine seen) e =
-        deed-keeping t count (assignmentOf t seen req) (planRead req t count v seen .deed) (sound-size t count sound) (plan-fits req t count v seen sound e)
+        deed-keeping t count sound (assignmentOf t seen req) (planRead req t count v seen .deed) (plan-fits req t count v seen sound e)
 
 spent-kept : (v : List ℕ) → SoundVectors v → (sent : Sent) (d : Deed) → checkVectors (spentBy v sent d) ≡ checkVectors v
 unfolding spentBy

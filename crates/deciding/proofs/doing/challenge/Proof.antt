@@ -1,4 +1,4 @@
-use Rattle.deciding.proofs.Deciding.{challenge-room, challenge-name, challenged-one, challenged-counts}
+use Rattle.deciding.proofs.Deciding.{challenge-from, challenge-to, challenge-fits, challenged-set}
 use borrow.Author.Needs.{needs}
 use Rattle.deciding.proofs.doing.challenge.Statement.{statement}
 use Rattle.deciding.proofs.doing.challenge.Tie as tie
@@ -8,6 +8,6 @@ challenge-spec =
     tie.close
     (tie.spec
     (λ c κs. search needs)
-    (λ c κs. search (needs, challenge-room, challenge-name))
+    (λ c κs. (search needs, search (needs, challenge-from), search (needs, challenge-to), search (needs, challenge-fits)))
     (λ c. search needs)
-    (λ c. (search (needs, challenged-one), search (needs, challenged-counts))))
+    (λ c. (search (needs, challenged-set), search needs)))
