@@ -2,5 +2,6 @@ pub mod Asked
 pub mod Calls
 pub mod Challenges
 pub mod Insertions
+pub mod Moves
 pub mod Places
 pub mod Run

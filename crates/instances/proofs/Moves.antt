@@ -1,0 +1,65 @@
+-- No answer shows a move between editions: the hypotheses can be met by the removal, over the table in both editions, computed.
+use Prim.Native.Nat.{ℕ}
+use mathlib.Core.Path.{_≡_, refl, sym, ap, _∙_}
+use mathlib.Core.List.{List, [], _++_}
+use lib.Dec.{lit<}
+use Rattle.octets.specs.Run.{over}
+use Rattle.pen.specs.Bytes.{numberBytes}
+use Rattle.moving.specs.Moves.{moved, movedAll, noSet, firstSet}
+use Rattle.moving.specs.Outcomes.{Outcome, came, forwardSound, backPast, backSound, forwardChecked, backChecked, forward, back}
+use Rattle.moving.specs.declared.Move.the-variants.{Moved}
+use Rattle.calling.specs.Call.{Answered}
+use Rattle.calling.specs.Lent.{Lent}
+use Rattle.calling.specs.Serve.{Served, serve}
+use Rattle.likeness.specs.Alike.{SameCall, holding}
+use Rattle.likeness.proofs.Moved.{forward-answers, back-answers}
+use Rattle.worked.proofs.Sample.{header, person, answer, s}
+use Rattle.instances.proofs.Asked.{table, removed, room, sar, asked, comes, all}
+use Rattle.instances.proofs.Calls.{removal}
+
+-- the table in edition 2, of issue 7, block by block, and it after `a` was removed
+unfoldable second : List ℕ
+second = moved 2 7 (header 2 0) ++ (moved 2 7 (person 1 0x61 0x70 1 s) ++ moved 2 7 (person 2 0x62 0x71 1 s))
+
+unfoldable remaining : List ℕ
+remaining = moved 2 7 (header 2 0) ++ (moved 2 7 (person 1 0x61 0x70 0 []) ++ moved 2 7 (person 2 0x62 0x71 1 s))
+
+-- the moves, computed
+there : forward table 0 7 ≡ came (Moved 2) second
+unfolding all second moved movedAll forwardSound forwardChecked forward
+there = refl
+
+again : back second 0 ≡ came (Moved 2) table
+unfolding all second moved movedAll noSet firstSet backPast backSound backChecked back
+again = refl
+
+-- the removal, and the same over edition 2: its answer, computed, and the table afterwards, which keeps edition and issue number
+abbrev x : Lent
+x = asked (sar s 5)
+
+abbrev y : Lent
+y = holding x second
+
+computed : serve y ≡ comes remaining (answer (numberBytes 268 2001) [])
+unfolding all second remaining moved
+computed = refl
+
+-- The theorems at them: over edition 2 it is answered as over edition 1, and over edition 1 as over edition 2.
+met-forward-answers : SameCall (serve x) (serve y)
+met-forward-answers = rw (← ap (λ (o : Outcome). o .table) there) (forward-answers x 7 2 (lit< tt) (ap (λ (o : Outcome). o .move) there))
+
+met-back-answers : SameCall (serve y) (serve x)
+met-back-answers = rw (← ap (λ (o : Outcome). o .table) again) (back-answers y 2 (ap (λ (o : Outcome). o .move) again))
+
+-- and the one is read off the other: 116 bytes, and which
+forward-call : serve y .call ≡ Answered (record { length = 116; place = 0 })
+unfolding all
+forward-call = sym (met-forward-answers .call) ∙ ap (λ (r : Served). r .call) removal
+
+forward-buffer : serve y .buffer ≡ over (answer (numberBytes 268 2001) []) room
+unfolding all
+forward-buffer = sym (met-forward-answers .buffer) ∙ ap (λ (r : Served). r .buffer) removal
+
+back-call : serve x .call ≡ Answered (record { length = 116; place = 0 })
+unfolding all second remaining moved
+back-call = sym (met-back-answers .call) ∙ ap (λ (r : Served). r .call) computed
