@@ -1,31 +1,49 @@
 -- Sets (02 [6]), as theorems about `serve`, the check and the decisions. What the rules were before them is in specs/WithoutSets.
 use Prim.Native.Nat.{ℕ, _+_, _*_, _<_, _≤_}
 use mathlib.Core.Bool.{Bool, true, false, not, _&&_, _||_, true≢false}
-use mathlib.Core.Path.{_≡_, refl, sym, _∙_}
+use mathlib.Core.Path.{_≡_, refl, sym, _∙_, ap}
 use mathlib.Core.List.{List, [], _∷_}
 use native.Mathlib.Omega.{arith}
 use lib.Dec.{eqb, leb}
-use lib.ListN.{length, getD, take, drop, drop-of-length-le}
+use lib.ListN.{length, getD, take, drop, drop-of-length-le, length-take, length-drop}
 use borrow.Author.Tests.{eqb-true, leb-true, leb-false}
 use Rattle.octets.specs.Number.{be16At}
 use Rattle.octets.proofs.All.{and-left, and-right}
-use Rattle.record.specs.Fields.{editionOf, setOf, bitsOf, barred}
+use Rattle.octets.proofs.Numbers.{Bytes}
+use Rattle.record.specs.Fields.{editionOf, setOf, bitsOf, barred, serverSize, serverOf}
 use Rattle.record.specs.RecordBlock.{recordOf}
 use Rattle.record.specs.Sets.{sameSet, agreeing}
+use Rattle.record.proofs.OneSet.{Agree, agree-says}
 use Rattle.table.specs.Blocks.{blockOf}
 use Rattle.table.specs.Check.{checkTable}
 use Rattle.table.specs.SoundTable.{SoundTable}
 use Rattle.table.specs.declared.Checked.the-variants.{Sound}
-use Rattle.table.proofs.Sound.{TableTests, table-says, sound-agrees}
+use Rattle.table.proofs.Blocks.{block-length}
+use Rattle.table.proofs.Sound.{TableTests, table-says, sound-agrees, sound-block, sound-limits}
 use Rattle.lookup.specs.Find.{isAt, freeHere, freeAt, findFree, barredAlone}
 use Rattle.lookup.specs.declared.Found.{Found}
 use Rattle.lookup.specs.declared.Found.the-variants.{At, Nothing}
 use Rattle.lookup.proofs.First.{first-none, first-fails}
+use Rattle.rewrite.specs.Change.{differ}
+use Rattle.rewrite.specs.Renew.{changeOf}
+use Rattle.rewrite.specs.declared.Change.the-variants.{Settled, Challenged}
 use Rattle.rewrite.proofs.Reaching.{header-set}
+use Rattle.rewrite.proofs.Together.{altered-together}
+use Rattle.rewrite.proofs.Together as members
+use Rattle.rewrite.proofs.Writes.{differ-same}
 use Rattle.moving.proofs.Moved.{tests-record, each-edition}
+use Rattle.requests.specs.Judged.{Judged, bad, fine}
+use Rattle.requests.specs.Request.{readRequest}
+use Rattle.choices.specs.declared.types.AssignmentType.{AssignmentType}
+use Rattle.choices.specs.declared.plan.Deed.{Deed}
+use Rattle.choices.specs.declared.plan.Deed.the-variants.{Leave, Settle, Challenge}
+use Rattle.assignment.specs.Assignment.{Assignment, storedName, plannedRecords, storesAt, fitsAt, rightAt}
+use Rattle.fitting.specs.Decide.{assignmentOf, planRead, performed, decideJudged, decide}
+use Rattle.fitting.specs.Deeds.{carriedOut, DeedFits}
+use Rattle.fitting.proofs.Deeds.{plan-fits}
 use Rattle.calling.specs.Lent.{Lent}
-use Rattle.calling.specs.Serve.{checkOf, serve}
-use Rattle.calling.proofs.Kept.{table-checked}
+use Rattle.calling.specs.Serve.{checkOf, refused, answered, serve}
+use Rattle.calling.proofs.Kept.{serve-by, table-checked}
 use Rattle.before.specs.Rules.{inForce, serveBy}
 use Rattle.before.specs.WithoutSets.{NoSets, beforeSets}
 use Rattle.before.proofs.Rules.{serve-now, rules-same, decided-same}
@@ -111,3 +129,67 @@ module _ (t : List ℕ) (count k : ℕ) where
           go : (x : Bool) → sameSet (blockOf t k) (blockOf t j) ≡ x → (x && not (barred (bitsOf (blockOf t j)))) ≡ false
           go true e = rw (s .others j a b e)
           go false e = refl
+
+-- A SAR's checks of a record's server name and state (type 0's B5012, X5005, X5007) say of every record of its set what they say of it, so that closing the
+-- records under sets before them would change nothing.
+module _ (t : List ℕ) (count : ℕ) (table : SoundTable t count) (j k : ℕ) (a : 1 ≤ j) (b : j ≤ count) (c : 1 ≤ k) (d : k ≤ count)
+    (one : sameSet (blockOf t j) (blockOf t k) ≡ true) where
+  agree : Agree (blockOf t j) (blockOf t k)
+  agree = agree-says (blockOf t j) (blockOf t k) (members.members-agree t count table j k a b c d one)
+
+  size-is : (i : ℕ) → 1 ≤ i → i ≤ count → length (serverOf (blockOf t i)) ≡ serverSize (blockOf t i)
+  unfolding serverOf recordOf
+  size-is i u v =
+      let w : length (blockOf t i) ≡ 512 = block-length t i (sound-block t count table i v) in
+      simp (length-take, length-drop) (omega (arith, w, sound-limits t count table i u v .server))
+
+  sizes : serverSize (blockOf t j) ≡ serverSize (blockOf t k)
+  sizes = sym (size-is j a b) ∙ ap length (agree .server) ∙ size-is k c d
+
+  pub stores-same : (server : List ℕ) → storesAt t server j ≡ storesAt t server k
+  unfolding storesAt
+  stores-same server = rw (agree .server)
+
+  pub fits-same : (server : List ℕ) → fitsAt t server j ≡ fitsAt t server k
+  unfolding fitsAt
+  fits-same server = rw (agree .server, sizes)
+
+  pub right-same : (kind : AssignmentType) → rightAt t kind j ≡ rightAt t kind k
+  unfolding rightAt
+  right-same kind = rw (agree .state)
+
+-- TOGETHER. Of two records of one set a call alters both or neither.
+module _ (t : List ℕ) (count : ℕ) (table : SoundTable t count) (bytes : Bytes t) (j k : ℕ) (a : 1 ≤ j) (b : j ≤ count) (c : 1 ≤ k) (d : k ≤ count)
+    (one : sameSet (blockOf t j) (blockOf t k) ≡ true) where
+  abbrev Both : List ℕ → Type 0
+  Both u = differ (blockOf t j) (blockOf u j) ≡ differ (blockOf t k) (blockOf u k)
+
+  pub both-left : Both t
+  both-left = differ-same (blockOf t j) ∙ sym (differ-same (blockOf t k))
+
+  deed-both : (s : Assignment) (e : Deed) → DeedFits count (s .server) e → Both (carriedOut t count s e)
+  unfolding carriedOut changeOf
+  deed-both s Leave f = both-left
+  deed-both s (Settle w) f =
+      altered-together t count table bytes (Settled (w .state)) (storedName (w .named) (s .server)) f (plannedRecords t count s (w .owned)) j k a b c d one
+  deed-both s (Challenge i) (u, v, least, most) = altered-together t count table bytes Challenged (s .server) (least, most) (i ∷ []) j k a b c d one
+
+  pub decided-both : (req v : List ℕ) → Both (decide req t count v .table)
+  unfolding decide decideJudged performed assignmentOf
+  decided-both req v = go (readRequest req) refl
+    where
+      go : (q : Judged) → readRequest req ≡ q → Both (decideJudged req t count v q .table)
+      go (bad f) e = both-left
+      go (fine seen) e = deed-both (assignmentOf t seen req) (planRead req t count v seen .deed) (plan-fits req t count v seen table e)
+
+pub set-altered-together : (x : Lent) (count : ℕ) → checkOf x ≡ Sound count → Bytes (x .table) → (j k : ℕ) → 1 ≤ j → j ≤ count → 1 ≤ k → k ≤ count
+    → sameSet (blockOf (x .table) j) (blockOf (x .table) k) ≡ true
+    → differ (blockOf (x .table) j) (blockOf (serve x .table) j) ≡ differ (blockOf (x .table) k) (blockOf (serve x .table) k)
+unfolding refused answered
+set-altered-together x count e bytes j k a b c d one =
+    serve-by x (λ s. differ (blockOf (x .table) j) (blockOf (s .table) j) ≡ differ (blockOf (x .table) k) (blockOf (s .table) k))
+    (λ r u v. both-left (x .table) count table bytes j k a b c d one)
+    (λ taken. rw e (decided-both (x .table) count table bytes j k a b c d one (x .request) (x .vectors)))
+  where
+    table : SoundTable (x .table) count
+    table = record { file = length (x .profile); checked = e }

@@ -1,5 +1,5 @@
 -- What is proved of the moves, on one page: the statements alone, each by the law that has its proof.
-use Prim.Native.Nat.{ℕ, _^_, _<_}
+use Prim.Native.Nat.{ℕ, _^_, _<_, _≤_}
 use mathlib.Core.Path.{_≡_, sym, _∙_}
 use mathlib.Core.List.{List}
 use Rattle.record.specs.Fields.{editionOf, issueOf}
@@ -7,11 +7,25 @@ use Rattle.table.specs.Blocks.{blockOf}
 use Rattle.table.specs.Check.{checkTable}
 use Rattle.table.specs.declared.Checked.the-variants.{Sound, Bad}
 use Rattle.moving.specs.Outcomes.{Outcome, came, refusing, moving, forward, back, OtherEdition, HasSets, WithoutSets}
-use Rattle.moving.specs.Outcomes.{ForwardMoves, BackMoves, ForwardRefuses, BackRefuses, SameTable}
+use Rattle.moving.specs.Outcomes.{Mixes, ForwardMoves, BackMoves, ForwardRefuses, BackRefuses, SameTable}
 use Rattle.moving.specs.declared.Move.{Move}
 use Rattle.moving.specs.declared.Move.the-variants.{Moved, Refused}
 use Rattle.moving.proofs.Same.{Bytes}
 use Rattle.moving.proofs.Outcomes as outcomes
+use Rattle.moving.proofs.Mixed as mixed
+
+-- "an issue number (bytes 408-411 of every block, the same throughout)", and so the edition
+pub throughout : (t : List ℕ) (file count k : ℕ) → checkTable t file ≡ Sound count → k ≤ count
+    → (editionOf (blockOf t k) ≡ editionOf (blockOf t 0)) × (issueOf (blockOf t k) ≡ issueOf (blockOf t 0))
+throughout t file count k e h = mixed.throughout t file count k e h
+
+-- "a table that mixes editions or issue numbers is unsound, .. blaming the later block"
+pub mixed-blamed : (t : List ℕ) (file k : ℕ) → Mixes t file k → checkTable t file ≡ Bad k
+mixed-blamed t file k m = mixed.mixed t file k m
+
+-- "Edition 1 remains readable, with every set 0"
+pub first-sets : (t : List ℕ) (file count : ℕ) → checkTable t file ≡ Sound count → editionOf (blockOf t 0) ≡ 1 → WithoutSets t count
+first-sets t file count e d = outcomes.none-first t file count e d
 
 -- "There and back yields the first bytes again"
 pub there-and-back : (t : List ℕ) (file count issue : ℕ) → Bytes t → issue < 2 ^ 32 → checkTable t file ≡ Sound count → editionOf (blockOf t 0) ≡ 1

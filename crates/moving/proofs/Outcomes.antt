@@ -205,7 +205,7 @@ module _ (t : List ℕ) (file count : ℕ) (e : checkTable t file ≡ Sound coun
   was = table-says t file count e
 
   -- edition 1 has no set and no issue number
-  none-first : editionOf (blockOf t 0) ≡ 1 → WithoutSets t count
+  pub none-first : editionOf (blockOf t 0) ≡ 1 → WithoutSets t count
   unfolding recordOf headerOf
   none-first d k a b = go (eqb (setOf (blockOf t k)) 0) refl
     where

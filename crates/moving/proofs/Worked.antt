@@ -1,11 +1,12 @@
 -- Moves of a small table, computed by the definitions, and each theorem of the page at it.
-use Prim.Native.Nat.{ℕ, zero, suc, _≤_}
+use Prim.Native.Nat.{ℕ, zero, suc, _+_, _*_, _≤_}
 use mathlib.Core.Bool.{Bool, true, _&&_}
 use mathlib.Core.List.{List, [], _∷_, _++_}
 use mathlib.Core.Path.{_≡_, refl, sym, ap, _∙_}
+use mathlib.Core.Logic.{inl}
 use native.Mathlib.Omega.{arith}
 use lib.Dec.{ltb, lit<, lit≤}
-use lib.ListN.{replicate, set}
+use lib.ListN.{length, replicate, set}
 use lib.Seq.{sets}
 use borrow.Author.Tests.{ltb-true}
 use Rattle.octets.specs.All.{allBelow}
@@ -25,7 +26,7 @@ use Rattle.blocks.specs.Sealed.{negated, sealed}
 use Rattle.blocks.specs.Changed.{changedAt, changedAll}
 use Rattle.moving.specs.Moves.{moved, movedAll, noSet, firstSet}
 use Rattle.moving.specs.Outcomes.{came, refusing, moving, forwardSound, backPast, backSound, forwardChecked, backChecked, forward, back}
-use Rattle.moving.specs.Outcomes.{OtherEdition, HasSets, WithoutSets, ForwardMoves, BackMoves, ForwardRefuses, BackRefuses, SameTable}
+use Rattle.moving.specs.Outcomes.{OtherEdition, HasSets, WithoutSets, Mixes, ForwardMoves, BackMoves, ForwardRefuses, BackRefuses, SameTable}
 use Rattle.moving.specs.declared.Move.the-variants.{Moved}
 use Rattle.moving.proofs.Moving as page
 use Rattle.moving.proofs.Same.{Bytes}
@@ -165,7 +166,47 @@ first-other = record { count = 1; checked = first-checked; other = λ e. let z :
 second-other : OtherEdition second 0 1
 second-other = record { count = 1; checked = second-checked; other = λ e. let z : _≡_ {A = ℕ} 2 1 = sym second-edition ∙ e in absurd (omega arith) }
 
+mixed-header : soundHeader (blockOf mixed 0) ≡ true
+unfolding opened
+mixed-header = refl
+
+mixed-size : length mixed ≡ 512 * (headerOf (blockOf mixed 0) .count + 1)
+unfolding opened
+mixed-size = refl
+
+mixed-count : headerOf (blockOf mixed 0) .count ≡ 1
+unfolding opened
+mixed-count = refl
+
+mixed-first : editionOf (blockOf mixed 0) ≡ 2
+unfolding opened
+mixed-first = refl
+
+mixed-second : editionOf (blockOf mixed 1) ≡ 1
+unfolding opened
+mixed-second = refl
+
+mixed-mixes : Mixes mixed 0 1
+mixed-mixes =
+    record {
+      header = mixed-header;
+      size = mixed-size;
+      from = lit≤ tt;
+      to = omega (arith, mixed-count);
+      before = λ j a b. absurd (omega arith);
+      other = inl (λ e. let z : _≡_ {A = ℕ} 1 2 = sym mixed-second ∙ e ∙ mixed-first in absurd (omega arith));
+    }
+
 -- The theorems at them.
+met-throughout : issueOf (blockOf second 1) ≡ 0x01020304
+met-throughout = page.throughout second 0 1 1 second-checked (lit≤ tt) .1 ∙ second-issue
+
+met-mixed-blamed : checkTable mixed 0 ≡ Bad 1
+met-mixed-blamed = page.mixed-blamed mixed 0 1 mixed-mixes
+
+met-first-sets : setOf (blockOf first 1) ≡ 0
+met-first-sets = page.first-sets first 0 1 first-checked first-edition 1 (lit≤ tt) (lit≤ tt)
+
 met-there-and-back : back (forward first 0 0x01020304 .table) 0 ≡ came (Moved 1) first
 met-there-and-back = page.there-and-back first 0 1 0x01020304 first-bytes (lit< tt) first-checked first-edition
 

@@ -1,17 +1,17 @@
 -- What comes of a move, for any bytes: the count of records or a refusal, and the table afterwards.
-use Prim.Native.Nat.{ℕ, _<_, _≤_}
-use mathlib.Core.Bool.{cond}
+use Prim.Native.Nat.{ℕ, _+_, _*_, _<_, _≤_}
+use mathlib.Core.Bool.{true, cond}
 use mathlib.Core.List.{List}
 use mathlib.Core.Logic.{_≢_, _⊎_}
 use mathlib.Core.Path.{_≡_}
 use lib.Dec.{eqb}
 use lib.ListN.{length}
-use Rattle.record.specs.Fields.{editionOf, setOf, networksOf, hostOf, realmOf, publicOf, privateOf, serverOf, mandatoryOf, optionalOf, profileOf}
-use Rattle.record.specs.HeaderBlock.{headerOf}
+use Rattle.record.specs.Fields.{editionOf, issueOf, setOf, networksOf, hostOf, realmOf, publicOf, privateOf, serverOf, mandatoryOf, optionalOf, profileOf}
+use Rattle.record.specs.HeaderBlock.{headerOf, soundHeader}
 use Rattle.record.specs.Networks.{networkOf}
 use Rattle.record.specs.RecordBlock.{recordOf}
 use Rattle.table.specs.Blocks.{blockOf}
-use Rattle.table.specs.Check.{checkTable}
+use Rattle.table.specs.Check.{soundAt, checkTable}
 use Rattle.table.specs.declared.Checked.{Checked}
 use Rattle.table.specs.declared.Checked.the-variants.{Sound, Bad}
 use Rattle.moving.specs.Moves.{movedAll, firstSet, Carried, recordWith, headerWith}
@@ -82,6 +82,15 @@ pub record HasSets (t : List ℕ) (file k : ℕ) : Type 0 where
 -- no record has a set
 abbrev pub WithoutSets : List ℕ → ℕ → Type 0
 WithoutSets t count = (k : ℕ) → 1 ≤ k → k ≤ count → setOf (blockOf t k) ≡ 0
+
+-- block k is the first that is bad under a sound header and the right length, and it has not the header's edition or not its issue number
+pub record Mixes (t : List ℕ) (file k : ℕ) : Type 0 where
+  pub header : soundHeader (blockOf t 0) ≡ true
+  pub size : length t ≡ 512 * (headerOf (blockOf t 0) .count + 1)
+  pub from : 1 ≤ k
+  pub to : k ≤ headerOf (blockOf t 0) .count
+  pub before : (j : ℕ) → 1 ≤ j → j < k → soundAt t (headerOf (blockOf t 0)) file j ≡ true
+  pub other : (editionOf (blockOf t k) ≢ editionOf (blockOf t 0)) ⊎ (issueOf (blockOf t k) ≢ issueOf (blockOf t 0))
 
 -- a move that was made, and one that was refused, with their conditions
 pub record ForwardMoves (t : List ℕ) (file issue count : ℕ) (o : Outcome) : Type 0 where

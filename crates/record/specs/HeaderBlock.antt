@@ -43,7 +43,8 @@ soundNumbers h = leb (h .keep) 1 && leb 1 (h .host) && leb (h .host) 64 && leb 1
 
 -- "Bytes not named are zero, and so are unused places in a field."
 abbrev pub soundHeaderRest : List ℕ → Header → Bool
-soundHeaderRest b h = zeroBetween b 2 4 && zeroBetween b (16 + h .host) 80 && zeroBetween b (80 + h .realm) 144 && zeroBetween b 400 408 && zeroBetween b 412 508
+soundHeaderRest b h =
+    zeroBetween b 2 4 && zeroBetween b (16 + h .host) 80 && zeroBetween b (80 + h .realm) 144 && zeroBetween b 400 408 && zeroBetween b 412 508
 
 -- a sound header block; the counts stand first, since the check of the records rests on them
 unfoldable pub soundHeader : List ℕ → Bool

@@ -1,12 +1,11 @@
 -- Which records an effect reaches: whole sets, each of them once, and never the header.
-use Prim.Native.Nat.{ℕ, _+_, _*_, _<_, _≤_}
+use Prim.Native.Nat.{ℕ, _<_, _≤_}
 use mathlib.Core.Bool.{Bool, true, false, _||_, or-false, or-assoc, true≢false}
 use mathlib.Core.Path.{_≡_, refl, sym, ap, _∙_}
 use mathlib.Core.List.{List, [], _∷_, _++_}
 use native.Mathlib.Omega.{arith}
-use lib.Dec.{eqb, leb}
-use borrow.Author.Tests.{eqb-true, eqb-false, ne-eqb, leb-true, leb-false}
-use lib.ListN.{length}
+use lib.Dec.{eqb}
+use borrow.Author.Tests.{eqb-true, ne-eqb}
 use Rattle.octets.specs.Number.{be16At}
 use Rattle.octets.specs.Run.{zeroBetween}
 use Rattle.octets.specs.Sum.{sumWords}
@@ -19,10 +18,10 @@ use Rattle.record.specs.Sets.{sameSet}
 use Rattle.record.proofs.OneSet.{OneSet, set-apart, set-says, set-sym, set-trans, set-own}
 use Rattle.table.specs.Blocks.{blockOf}
 use Rattle.table.specs.SoundTable.{SoundTable}
-use Rattle.table.proofs.Sound.{sound-tests, sound-size}
+use Rattle.table.proofs.Sound.{sound-tests}
 use Rattle.blocks.specs.Changed.{isOne}
 use Rattle.rewrite.specs.Change.{afterOf, reaches}
-use Rattle.rewrite.proofs.Sound.{block-past, keeping-sets}
+use Rattle.rewrite.proofs.Sound.{keeping-sets}
 use Rattle.rewrite.proofs.Tables.{Closed, Keeping, after-choice}
 
 -- Two answers are the same if each follows from the other.
@@ -103,7 +102,7 @@ module _ (t : List ℕ) where
       go false e = refl
 
   -- Where no record has a set, an effect reaches the records named and no other.
-  reaches-named : ((k : ℕ) → setOf (blockOf t k) ≡ 0) → (ks : List ℕ) (j : ℕ) → reaches t ks j ≡ isOne ks j
+  pub reaches-named : ((k : ℕ) → setOf (blockOf t k) ≡ 0) → (ks : List ℕ) (j : ℕ) → reaches t ks j ≡ isOne ks j
   unfolding reaches isOne
   reaches-named none [] j = refl
   reaches-named none (k ∷ ks) j = rw (alone k j (none k), reaches-named none ks j, or-false (eqb j k))
@@ -144,23 +143,6 @@ module _ (t : List ℕ) (count : ℕ) (sound : SoundTable t count) where
   pub reaches-later : (k : ℕ) → 1 ≤ k → reaches t (k ∷ []) 0 ≡ false
   unfolding isOne
   reaches-later k a = reaches-zero (k ∷ []) ∙ rw (ne-eqb 0 k (omega arith))
-
--- Over a table without sets an effect reaches the records named and no other.
-module _ (t : List ℕ) (count : ℕ) (sound : SoundTable t count) (none : (k : ℕ) → 1 ≤ k → k ≤ count → setOf (blockOf t k) ≡ 0) where
-  no-set : (k : ℕ) → setOf (blockOf t k) ≡ 0
-  unfolding be16At
-  no-set k = go (eqb k 0) (leb k count) refl refl
-    where
-      go : (x y : Bool) → eqb k 0 ≡ x → leb k count ≡ y → setOf (blockOf t k) ≡ 0
-      go true y e f = let q : k ≡ 0 = eqb-true k 0 e in rw q (header-set t count sound)
-      go false true e f = none k (omega (arith, eqb-false k 0 e)) (leb-true k count f)
-      go false false e f = rw (block-past t k (omega (arith, sound-size t count sound, leb-false k count f)))
-
-  pub reaches-only : (ks : List ℕ) (j : ℕ) → reaches t ks j ≡ isOne ks j
-  reaches-only = reaches-named t no-set
-
-  pub reaches-only-after : (ks : List ℕ) (change : List ℕ → List ℕ) → afterOf t count (reaches t ks) change ≡ afterOf t count (isOne ks) change
-  reaches-only-after ks change = after-choice t count (reaches t ks) (isOne ks) change (λ j l. reaches-only ks j)
 
 -- A table that keeps what every effect keeps has the same sets, so that effects reach the same records.
 pub reaches-kept : (x y : List ℕ) (count : ℕ) → Keeping x y count → SoundTable x count → (ks : List ℕ) (j : ℕ) → reaches y ks j ≡ reaches x ks j

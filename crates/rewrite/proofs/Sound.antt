@@ -52,7 +52,7 @@ unfolding recordOf
 sound-private t count s k a b = sound-limits t count s k a b .private
 
 -- Past the end there is none.
-pub block-past : (t : List ℕ) (k : ℕ) → length t ≤ 512 * k → blockOf t k ≡ []
+block-past : (t : List ℕ) (k : ℕ) → length t ≤ 512 * k → blockOf t k ≡ []
 unfolding blockOf
 block-past t k h = rw (drop-of-length-le t {i = 512 * k} h)
 

@@ -132,8 +132,9 @@ fn change_members(t: &mut [u8], count: usize, k: usize, c: Change, name: &[u8]) 
 {
     let mut altered = 0;
     for i in 0..count {
-        let chosen = same_set(t, k, i + 1);
-        altered += change_if(t, i + 1, chosen, c, name);
+        let j = i + 1;
+        let chosen = same_set(t, k, j);
+        altered += change_if(t, j, chosen, c, name);
     }
     altered
 }

@@ -27,7 +27,6 @@ change-members-spec =
     (λ c. (search (needs, sound-few), search needs, search (needs, sound-size), search (needs, sound-size), search needs, search (needs, members-start)))
     (λ c. search needs)
     (λ c κs. search needs)
-    (λ c. search needs)
     (λ c κs. search needs)
     (λ c. search needs)
     (λ c. search needs)

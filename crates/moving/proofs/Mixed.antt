@@ -1,0 +1,64 @@
+-- A sound table is of one edition and one issue number throughout; of one that mixes them the later block is blamed.
+use Prim.Native.Nat.{ℕ, _+_, _*_, _<_, _≤_}
+use mathlib.Core.Bool.{Bool, true, false, true≢false}
+use mathlib.Core.Logic.{_≢_, _⊎_, inl, inr}
+use mathlib.Core.Path.{_≡_, refl, sym}
+use mathlib.Core.List.{List, [], _∷_}
+use native.Mathlib.Omega.{arith}
+use lib.Dec.{eqb}
+use lib.ListN.{length}
+use borrow.Author.Tests.{eq-eqb, le-leb, eqb-true}
+use Rattle.octets.proofs.Chains.{chain-says}
+use Rattle.record.specs.Fields.{editionOf, issueOf}
+use Rattle.record.specs.HeaderBlock.{headerOf, soundHeader}
+use Rattle.record.specs.RecordBlock.{recordOf, soundRecord}
+use Rattle.record.specs.declared.header.Header.{Header}
+use Rattle.record.proofs.Tests.{record-says}
+use Rattle.table.specs.Blocks.{blockOf}
+use Rattle.table.specs.Check.{standsAt, soundAt, checkRecords, checkTable}
+use Rattle.table.specs.declared.Checked.the-variants.{Sound, Bad}
+use Rattle.table.proofs.Sound.{table-says}
+use Rattle.moving.specs.Outcomes.{Mixes}
+use Rattle.moving.proofs.First.{FirstNot, bad-holds}
+use Rattle.moving.proofs.Moved.{each-edition, each-issue}
+
+pub throughout : (t : List ℕ) (file count k : ℕ) → checkTable t file ≡ Sound count → k ≤ count
+    → (editionOf (blockOf t k) ≡ editionOf (blockOf t 0)) × (issueOf (blockOf t k) ≡ issueOf (blockOf t 0))
+throughout t file count k e h =
+    let was = table-says t file count e in
+    (each-edition t file count was k h, each-issue t file count was k h)
+
+-- a record that has not its header's is bad itself
+module _ (b : List ℕ) (k : ℕ) (h : Header) (file : ℕ) where
+  record-edition : soundRecord b k h file ≡ true → editionOf b ≡ h .edition
+  unfolding recordOf
+  record-edition e = eqb-true _ _ (chain-says (eqb (recordOf b .kind) 2) (_ ∷ _ ∷ _ ∷ []) (record-says b k h file e .head) 1)
+
+  record-issue : soundRecord b k h file ≡ true → issueOf b ≡ h .issue
+  unfolding recordOf
+  record-issue e = eqb-true _ _ (chain-says (eqb (recordOf b .kind) 2) (_ ∷ _ ∷ _ ∷ []) (record-says b k h file e .head) 3)
+
+  record-bad : (editionOf b ≢ h .edition) ⊎ (issueOf b ≢ h .issue) → soundRecord b k h file ≡ false
+  record-bad other = go (soundRecord b k h file) refl other
+    where
+      go : (x : Bool) → soundRecord b k h file ≡ x → (editionOf b ≢ h .edition) ⊎ (issueOf b ≢ h .issue) → x ≡ false
+      go false e n = refl
+      go true e (inl n) = absurd (n (record-edition e))
+      go true e (inr n) = absurd (n (record-issue e))
+
+module _ (t : List ℕ) (file k : ℕ) (m : Mixes t file k) where
+  abbrev h : Header
+  h = headerOf (blockOf t 0)
+
+  here : soundAt t h file k ≡ false
+  unfolding soundAt standsAt headerOf
+  here = rw (record-bad (blockOf t k) k h file (m .other))
+
+  first : FirstNot (soundAt t h file) (h .count) 1 k
+  first = record { from = m .from; to = omega (arith, m .to); here = here; before = m .before }
+
+  pub mixed : checkTable t file ≡ Bad k
+  unfolding checkTable checkRecords
+  mixed =
+      rw (m .header, le-leb 512 (length t) (omega (arith, m .size)), eq-eqb (length t) (512 * (h .count + 1)) (m .size))
+      (bad-holds (soundAt t h file) (h .count) (h .count) 1 k first)
