@@ -6,7 +6,7 @@
 
 #include "vectors.h"
 
-enum { STACK = 1 << 20, PATTERN = 0xA5, AIM = 4096 };
+enum { STACK = 1 << 20, PATTERN = 0xA5, AIM = 12288 };
 
 static const Sample *s;
 static Request request;

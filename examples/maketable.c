@@ -440,6 +440,25 @@ static void read_vectors(Text *text) {
     }
 }
 
+/* ---- implicit sets: the records of one private identity with the same number, other than 0 */
+
+static const Record *first_of_set(const Record *record) {
+    const Record *first = records;
+    while (first < record && (first->set != record->set || !same(first->private_identity, record->private_identity))) first++;
+    return first;
+}
+
+/* The records of a set agree in state, pending and server's name, since they are registered and removed together. */
+static void refuse_disagreement(void) {
+    for (const Record *record = records; record < records + count; record++) {
+        if (record->set == 0) continue;
+        const Record *first = first_of_set(record);
+        const Key other = first->state != record->state ? STATE : first->pending != record->pending ? PENDING : SERVER;
+        if (other == SERVER && same(first->server, record->server)) continue;
+        refuse(record->line, "%s is not as at line %lu, which is of the same set", keys[other].name, (unsigned long)first->line);
+    }
+}
+
 /* ---- the order of the records */
 
 /* Bytewise, a prefix first. */
@@ -630,6 +649,7 @@ static int print(const uint8_t *bytes, size_t length) {
 /* Each of these writes a file of a text. */
 static int make_pair(Text *text, int profile_wanted) {
     read_table(text);
+    refuse_disagreement();
     sort_records();
     const size_t profile_length = lay_out();
     uint8_t *table = (uint8_t *)got(calloc(count + 1, BLOCK)), *profile = (uint8_t *)got(calloc(profile_length + 1, 1));

@@ -96,6 +96,18 @@ static int rises(const uint8_t *before, const uint8_t *block) {
     return order != 0 ? order < 0 : a < b;
 }
 
+/* An implicit set is the records of one private identity with the same number, other than 0. */
+static int same_set(const uint8_t *a, const uint8_t *b) {
+    return set_of(a) != 0 && set_of(a) == set_of(b) && a[14] == b[14] && memcmp(a + 144, b + 144, a[14]) == 0;
+}
+
+/* Whether a record agrees in state, pending and server's name with the first of its set, which is sound. */
+static int agrees(const uint8_t *table, const uint8_t *block) {
+    const uint8_t *first = table + BLOCK;
+    while (first < block && !same_set(first, block)) first += BLOCK;
+    return first[8] == block[8] && (first[9] & 1) == (block[9] & 1) && first[15] == block[15] && memcmp(first + 272, block + 272, block[15]) == 0;
+}
+
 /* Whether the table is sound; if not, `bad` is its first bad block. */
 static int sound_table(const uint8_t *table, size_t table_len, size_t profile_len, size_t *bad) {
     *bad = 0;
@@ -106,6 +118,7 @@ static int sound_table(const uint8_t *table, size_t table_len, size_t profile_le
         const uint8_t *block = table + BLOCK * *bad;
         if (!sound_record(block, (uint32_t)*bad, table, profile_len)) return 0;
         if (*bad > 1 && !rises(block - BLOCK, block)) return 0;
+        if (!agrees(table, block)) return 0;
     }
     return 1;
 }

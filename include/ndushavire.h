@@ -16,8 +16,10 @@
  * Editions. A table is of edition 1, or of edition 2, which has an issue number in every block and in each record the number
  * of an implicit set, 0 for none. One that mixes editions or issue numbers is unsound. Every function reads both editions, and no
  * answer depends on edition or issue; ndushavire_forward and ndushavire_back move a table from one to the other.
- * This version reads set numbers and heeds none of them: each record is still altered by itself. A table in which some set
- * number is not 0 waits for the version that heeds them.
+ *
+ * Sets. The records of one private identity with the same set number, other than 0, are an implicit set: what a request does to one
+ * of them it does to all. A table is sound only if the records of each set agree in state, pending and server name; the later block
+ * is the bad one. A version before 0.7.0 reads set numbers and heeds none of them: it must not serve a table that has sets.
  *
  * The vector file has the authentication vectors of the subscribers' cards, a block for each: of a private identity, and
  * used or not. A call that sends vectors marks their blocks as used, and no block is sent twice. It is stored before the
@@ -27,8 +29,8 @@
  * The month's numbers. ndushavire_report decides a whole file of requests again and counts. It alters its table and marks its
  * vectors as those decisions did, so it is lent copies from before the first of them, and never the live ones.
  *
- * Stack. A call takes under 4 KiB (some 1.5 KiB measured, of a report 2.7). The archive has no unwind tables: a debugger's backtrace
- * ends at the call.
+ * Stack. A call takes under 12 KiB, most of it to remember the sets that the check has met. The archive has no unwind tables: a
+ * debugger's backtrace ends at the call.
  *
  * What comes here. User-Authorization, Server-Assignment, Location-Info and Multimedia-Auth requests. The base protocol's
  * own (Capabilities-Exchange, Device-Watchdog, Disconnect-Peer) are the daemon's: a call would answer each with B3001.
@@ -46,8 +48,8 @@
 extern "C" {
 #endif
 
-#define NDUSHAVIRE_VERSION "0.6.0"
-#define NDUSHAVIRE_VERSION_NUMBER 600 /* the same to compare: major x 10,000 + minor x 100 + patch */
+#define NDUSHAVIRE_VERSION "0.8.0"
+#define NDUSHAVIRE_VERSION_NUMBER 800 /* the same to compare: major x 10,000 + minor x 100 + patch */
 
 #define NDUSHAVIRE_ANSWER_ROOM 36864       /* the least answer buffer, in bytes: no answer is longer */
 #define NDUSHAVIRE_REQUEST_MIN 20          /* the shortest request, a Diameter header alone */
@@ -73,9 +75,10 @@ extern "C" {
 #define NDUSHAVIRE_TABLE_HAS_SETS 8  /* of the move back: the value is the first block whose set number is not 0 */
 #define NDUSHAVIRE_OUTPUT_SHORT 15   /* the report area is under NDUSHAVIRE_REPORT_ROOM */
 
-/* Answers one request, rewrites the records that it changes, and marks the vectors that it sends. The word's value is the
- * answer's length; the buffer's bytes past it stay as they were. Its place says which AVP of the request is at fault, if one
- * is: see ndushavire_place. The vectors must be sound whatever is asked. */
+/* Answers one request, rewrites the records that it changes, those of their sets with them, and marks the vectors that it sends. The
+ * word's value is the answer's length; the buffer's bytes past it stay as they were. Its place says which AVP of the request is at
+ * fault, if one is: see ndushavire_place. The vectors must be sound whatever is asked. What a call altered is stored whole, all blocks
+ * or none: half of a set on disk is an unsound table. */
 uint64_t ndushavire_decide(const uint8_t *request, size_t request_len, uint8_t *table, size_t table_len,
                            const uint8_t *profile, size_t profile_len, uint8_t *vectors, size_t vectors_len,
                            uint8_t *answer, size_t answer_len);

@@ -1,7 +1,7 @@
 #!/usr/bin/env bash
 # decide.sh ROOM MAKETABLE DECIDE..: each DECIDE gives the worked answer over the sample, the refusals that a request, a table
-# or a vector file can bring about, and says which vectors were used, and which AVP of a request is at fault. RUN, if set, is the
-# emulator that runs a DECIDE.
+# or a vector file can bring about, and says which vectors were used, and which AVP of a request is at fault; and over the family of
+# docs/TABLE.md what a set shares. RUN, if set, is the emulator that runs a DECIDE.
 set -euo pipefail
 shopt -s lastpipe
 room=$1 maketable=$2
@@ -72,6 +72,7 @@ uses icscf-20-lir
 
 # ---- the place of the AVP at fault
 . "$(dirname "$0")/messages.sh"
+. "$(dirname "$0")/blocks.sh"
 uar=$front$(private bob@isle)$(public sip:bob@isle)
 unknown=$(avp 999 00 - "$(many 30)")
 
@@ -170,6 +171,49 @@ painless 'a MAR with another scheme' X5006 "$(message 303 $cx "$(mar bob@isle si
 painless 'a MAR for no vectors' B5012 "$(message 303 $cx "$(mar bob@isle sip:bob@isle "$item" 0)")"
 : >"$vectors"
 uses mar-33
+# ---- a family in one set, blocks 1, 3 and 4, and a line beside it, as TABLE.md has them
+reaches() { # ABOUT RESULT MESSAGE BLOCK..
+    painless "$1" "$2" "$3"
+    [ "$behind" = "$(printf 'block %s rewritten\n' "${@:4}")" ] || [ -z "$behind$4" ] || { echo "decide.sh: $1: rewritten: $behind"; exit 1; } >&2
+}
+sar() { message 301 $cx "$front$server$(assigned "$1")$available$2"; } # TYPE IDENTITIES
+family() { # SED: the family's text with lines edited
+    sed -n '/^### A family/,/^- /{/^    /s/^    //p; /^$/p}' "$(dirname "$0")/../docs/TABLE.md" | sed -n '/^host=/,$p' | sed -e "$1" >"$room/family.txt"
+    "$maketable" table "$room/family.txt" >"$table"
+    "$maketable" profile "$room/family.txt" >"$profile"
+}
+kids=$(public sip:finn.kids@isle) shop=$(public sip:finn.shop@isle) finn=$(public sip:finn@isle) tel=$(public tel:+29035507)
+family ''
+reaches 'one of a set registered' B2001 "$(sar 1 "$finn")" 1 3 4
+reaches 'the barred one of a set registered' B2001 "$(sar 1 "$tel")" 1 3 4
+reaches 'one beside the set registered' B2001 "$(sar 1 "$shop")" 2
+reaches 'one of a set taken for its voicemail' B2001 "$(sar 3 "$kids")" 1 3 4
+reaches 'two of a set registered' B5009 "$(sar 1 "$finn$kids")" ''
+reaches 'a set that is in state 0 removed' X5007 "$(sar 5 "$finn")" ''
+reaches 'a barred line with free ones in its set' X2001 "$(message 300 $cx "$front$(private finn@isle)$tel$visited")" ''
+family '/ set=1$/s/$/ state=registered server=sip:scscf1.isle:6060/'
+reaches 'one of a registered set registered again' B2001 "$(sar 2 "$kids")" ''
+reaches 'one of a set removed' B2001 "$(sar 5 "$kids")" 1 3 4
+reaches 'two of a set removed' B2001 "$(sar 5 "$tel$kids")" 1 3 4
+reaches 'all of a card removed' B2001 "$(sar 5 "$(private finn@isle)")" 1 3 4
+reaches 'one of a set and one beside it removed' X5007 "$(sar 5 "$kids$shop")" ''
+family '/ set=1$/s/$/ state=registered server=s/'
+reaches 'another server for one of a set' X5005 "$(sar 1 "$tel")" ''
+family 's/ set=1//'
+reaches 'a barred line without a set' B5003 "$(message 300 $cx "$front$(private finn@isle)$tel$visited")" ''
+reaches 'one of no set registered' B2001 "$(sar 1 "$finn")" 3
+family '/ set=1$/s/$/ barred/; /^barred$/d'
+reaches 'a line whose whole set is barred' B5003 "$(message 300 $cx "$front$(private finn@isle)$kids$visited")" ''
+"$maketable" vectors <(sed 's/private=erin@isle/private=finn@isle/' "$examples/vectors.txt") >"$vectors"
+decided "$(message 303 $cx "$(mar finn@isle sip:finn@isle "$item" 1)")" 'one of a set challenged'
+[ "$(sed '/^vector /d' <<<"$behind")" = "$(printf 'block %s rewritten\n' 1 3 4)" ] || { echo "decide.sh: one of a set challenged: $behind"; exit 1; } >&2
+family '/^public=tel:/s/set=1/set=2/; /^public=sip:finn@/s/$/ state=registered server=s/; /^public=sip:finn@/s/set=1/set=3/'
+painless 'three lines of three sets' B2001 "$(message 302 $cx "$front$finn")"
+set_byte "$table" $((512 * 3 + 407)) 1
+mend "$table" 3
+refused '5, block 3 is bad' 'a set that does not agree' <"$examples/no-avps.hex"
+"$maketable" table "$examples/households.txt" >"$table"
+"$maketable" profile "$examples/households.txt" >"$profile"
 "$maketable" vectors "$examples/vectors.txt" >"$vectors"
 truncate -s -1 "$vectors"
 refused '6, vector block 8 is bad' 'a vector file cut short, whatever is asked' <"$examples/no-avps.hex"

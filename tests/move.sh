@@ -89,6 +89,13 @@ refused 'refused 5, block 0: the table is of edition 1' 'edition 1, back' back
 of_issue 7 "$table" '/^public=sip:bob@isle / { $0 = $0 " set=258" } /^public=sip:erin@isle / { $0 = $0 " set=3" }'
 refused 'refused 8, block 4 has set 258' 'two sets, back' back
 refused 'refused 5, block 0: the table is of edition 2' 'two sets, forward' forward 7
+# Two of one card and one set, of which one is registered: unsound, and 5 comes before 8.
+copy_block "$room/second" "$table" 3 3
+set_byte "$table" $((512 * 3 + 406)) 1
+set_byte "$table" $((512 * 3 + 407)) 2
+mend "$table" 3
+refused 'refused 5, block 4 is bad' 'a set that does not agree, back' back
+refused 'refused 5, block 4 is bad' 'a set that does not agree, forward' forward 7
 of_issue 0 "$table" '/^public=tel:/ { $0 = $0 " set=65535" }'
 refused "refused 8, block $((blocks - 1)) has set 65535" 'the last record in a set' back
 for block in $(seq 0 $((blocks - 1))); do

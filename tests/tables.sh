@@ -75,6 +75,13 @@ printf '%s\n\npublic=aa private=q\n\npublic="a\\x00" private=q\n\npublic=a priva
     sound 4096 'the most records, in sets'
 echo "issue=0 $head" | sound 0 'edition 2, and no record'
 printf '%s\nissue=07\n\n%s set=1\n\npublic=r private=q set=00001\n\npublic=s private=r set=0\n' "$head" "$one" | sound 3 'a set'
+# A set agrees in state, pending and server, and in nothing else.
+printf '%s issue=1 network=n\n\n%s set=1 %s\n\npublic=a private=q set=1 %s %s\n' "$head" "$one" 'state=unregistered pending server=s' \
+    'state=unregistered pending server=s' 'barred unregistered-services roaming=n mandatory=1 optional=2,3 profile=p' | sound 2 'a set that agrees'
+# Lines with another number, or under another card, are of another set, and those with 0 of none.
+printf '%s issue=1\n\n%s set=256\n\npublic=a private=q set=1 pending server=s\n\npublic=b private=r set=256 state=registered server=s\n%s' "$head" "$one" \
+    "$(printf '\npublic=%s private=q set=0 state=registered server=%s\n' c s d t)" | sound 5 'lines that are in no set together'
+{ echo "$head issue=1"; for i in $(seq 4096); do printf '\npublic=%d private=q set=1 pending server=s\n' "$i"; done; } | sound 4096 'the largest set'
 printf '%s\n\n%s set=0\n' "$head" "$one" | sound 1 'set 0 in edition 1'
 
 refused 1 'host is missing' </dev/null
@@ -122,6 +129,18 @@ for number in '' -1 1x 65536 99999999999999999999999; do
     printf '%s issue=1\n\n%s\nset=%s\n' "$head" "$one" "$number" | refused 4 'set is a number of up to 16 bits'
 done
 printf '%s issue=1\n\n%s set=1 set=1\n' "$head" "$one" | refused 3 'set stands there twice'
+registered='set=1 state=registered server=s'
+disagrees() { # WORDS OF THE FIRST, OF ANOTHER, WHAT
+    printf '%s issue=1\n\n%s %s\n\npublic=a private=q\n\npublic=b private=q %s\n\npublic=c private=q %s\n' "$head" "$one" "$1" "$1" "$2" |
+        refused 9 "$3 is not as at line 3, which is of the same set"
+}
+disagrees "$registered" 'set=1' state
+disagrees "$registered" 'set=1 state=unregistered server=s' state
+disagrees "$registered" "$registered pending" pending
+disagrees "$registered pending" "$registered" pending
+disagrees 'set=1' 'set=1 pending server=s' pending
+disagrees "$registered" 'set=1 state=registered server=t' server
+disagrees "$registered" 'set=1 state=registered server=ss' server
 printf '%s\n\n%s\nprofile="open\n' "$head" "$one" | refused 4 'a quote is not closed'
 printf '%s\n\n%s\nprofile="a"b\n' "$head" "$one" | refused 4 'a blank is missing'
 printf '%s\n\n%s\nprofile="\\x4"\n' "$head" "$one" | refused 4 'a backslash wants'
@@ -242,6 +261,64 @@ for block in $(seq 0 $((blocks - 1))); do
         says "$said" "edition 2, byte $place of block $block, which in a record is the set's"
     done
 done
+# The guest house, blocks 5, 7 and 8 of the sample, as one set: what they disagree in is the later block's fault.
+household() { # the desk, registered, and two lines like it, in set 258
+    local line
+    fresh
+    for line in 7 8; do
+        set_byte "$table" $((512 * line + 8)) 1
+        set_byte "$table" $((512 * line + 9)) $(($(get_byte "$table" $((512 * line + 9))) & 6))
+    done
+    for line in 5 7 8; do
+        set_byte "$table" $((512 * line + 406)) 1
+        set_byte "$table" $((512 * line + 407)) 2
+        mend "$table" "$line"
+    done
+}
+household
+says "sound, $((blocks - 1)) records" 'a set that agrees'
+for block in 5 7 8; do
+    later=$((block > 5 ? block : 7))
+    for damage in '8 3' '9 1' '272 1'; do # another state, pending, another server
+        household
+        flip "$table" $((512 * block + ${damage% *})) "${damage#* }"
+        mend "$table" "$block"
+        says "block $later is bad" "a set, byte ${damage% *} of block $block"
+        # In a set of its own, of another number or of none, the line may be so.
+        set_byte "$table" $((512 * block + 406)) 0
+        mend "$table" "$block"
+        says "sound, $((blocks - 1)) records" "byte ${damage% *} of block $block, in another set"
+        set_byte "$table" $((512 * block + 407)) 0
+        mend "$table" "$block"
+        says "sound, $((blocks - 1)) records" "byte ${damage% *} of block $block, in no set"
+    done
+    # A server's name that goes on where the others' end.
+    household
+    length=$(get_byte "$table" $((512 * block + 15)))
+    set_byte "$table" $((512 * block + 15)) $((length + 1))
+    set_byte "$table" $((512 * block + 272 + length)) 48
+    mend "$table" "$block"
+    says "block $later is bad" "a set, a longer server in block $block"
+    # Barring, services and networks are each line's own; under another card it is another set.
+    household
+    flip "$table" $((512 * block + 9)) 6
+    flip "$table" $((512 * block + 10)) 3
+    mend "$table" "$block"
+    says "sound, $((blocks - 1)) records" "a set, other bits in block $block"
+    flip "$table" $((512 * block + 8)) 3
+    flip "$table" $((512 * block + 144)) 1
+    mend "$table" "$block"
+    says "sound, $((blocks - 1)) records" "another state under another card in block $block"
+done
+# Two sets that disagree: the lowest later block is named.
+household
+for block in 3 4; do
+    set_byte "$table" $((512 * block + 407)) 9
+    mend "$table" "$block"
+done
+flip "$table" $((512 * 7 + 8)) 3
+mend "$table" 7
+says 'block 4 is bad' 'two sets that disagree'
 cp "$room/issue-0" "$table"
 set_byte "$table" 1 1
 mend "$table" 0

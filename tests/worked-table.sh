@@ -1,7 +1,7 @@
 #!/usr/bin/env bash
 # worked-table.sh ROOM MAKETABLE SHOWTABLE: the worked table, in both editions, and vector of docs/TABLE.md. Their texts make the blocks that
-# stand there, byte for byte, showtable writes these texts again, the sum that the page works out is right, and the sample's vectors are
-# counted as it says.
+# stand there, byte for byte, showtable writes these texts again, the sum that the page works out is right, the family's text is shown again and
+# refused as the page says once one line of its set is registered alone, and the sample's vectors are counted as it says.
 set -euo pipefail
 room=$1 maketable=$2 showtable=$3
 page=$(dirname "$0")/../docs/TABLE.md
@@ -46,6 +46,19 @@ grep -q -x -F "The record's first 127 words sum to $sum, and $sum + $check = 2^3
 shown "$room/vectors" | diff "$room/vector-blocks" - >&2 || fail 'the vector on the page is not that of its text'
 [ "$(stat -c %s "$room/vectors")" = 512 ] || fail 'the vector file has another length'
 "$showtable" --vectors "$room/vectors" | diff "$room/vector-text" - >&2 || fail 'the text of the vector is shown otherwise'
+
+# The family in one set.
+sed -n '/^### A family/,/^### The text of vectors/p' "$page" >"$room/family-section"
+sed -n '/^    host=/,/^- /p' "$room/family-section" | sed '/^- /d; s/^    //' | sed '$d' >"$room/family.txt"
+"$maketable" table "$room/family.txt" >"$room/table"
+"$maketable" profile "$room/family.txt" >"$room/profile"
+"$showtable" "$room/table" "$room/profile" | diff "$room/family.txt" - >&2 || fail 'the family is shown otherwise'
+registered=$(grep -o '`state=registered server=[^`]*`' "$room/family-section" | tr -d '`')
+[ -n "$registered" ] || fail 'the page does not say how a line is registered'
+sed -i "/^public=sip:finn.kids@isle /s/\$/ $registered/" "$room/family.txt"
+! "$maketable" table "$room/family.txt" >"$room/none" 2>"$room/said" || fail 'a set that does not agree makes a table'
+sed -i "s|$room/||" "$room/said"
+grep -q -x -F "      $(cat "$room/said")" "$room/family-section" || fail "the page has not what is said of the family: $(cat "$room/said")"
 
 examples=$(dirname "$0")/../examples
 "$maketable" table "$examples/households.txt" >"$room/table"
