@@ -15,7 +15,7 @@ use Rattle.table.specs.Blocks.{privateAt}
 use Rattle.lookup.specs.Find.{isAt, findPublic}
 use Rattle.lookup.specs.declared.Found.{Found}
 use Rattle.lookup.specs.declared.Found.the-variants.{At, Nothing}
-use Rattle.rewrite.specs.Change.{afterOf, Keeps}
+use Rattle.rewrite.specs.Change.{afterOf, reaches, Keeps}
 use Rattle.rewrite.specs.Renew.{settled, challenged}
 use Rattle.rewrite.proofs.Settled.{settled-keeps}
 use Rattle.rewrite.proofs.Challenged.{challenged-keeps}
@@ -59,15 +59,15 @@ use Rattle.fitting.proofs.Kept.{named-later}
 use Rattle.fitting.proofs.Tests.{either}
 use Rattle.demands.specs.Frame.{succeeds, ownerAt, firstOwner, askedIn, subscriptionOf}
 
--- It writes: a success, with one change, which keeps what every effect keeps, of records of one subscription, none of them the header. It is the effect of a
--- SAR, and then the vectors are as they were, or of a MAR.
+-- It writes: a success, with one change, which keeps what every effect keeps, of records of one subscription, none of them the header, and of their sets. It
+-- is the effect of a SAR, and then the vectors are as they were, or of a MAR.
 pub record Altered (command : ℕ) (t : List ℕ) (count : ℕ) (v : List ℕ) (subscription : Option (List ℕ)) (d : Decision) : Type 0 where
   pub good : succeeds (d .given .verdict .result) ≡ true
   pub by : ((command ≡ 301) × (d .vectors ≡ v)) ⊎ (command ≡ 303)
   pub records : List ℕ
   pub change : List ℕ → List ℕ
   pub keeps : Keeps change
-  pub table : d .table ≡ afterOf t count (isOne records) change
+  pub table : d .table ≡ afterOf t count (reaches t records) change
   pub later : isOne records 0 ≡ false
   pub owned : (k : ℕ) → isOne records k ≡ true → some (privateAt t k) ≡ subscription
 
@@ -194,7 +194,7 @@ module _ (command : ℕ) (t : List ℕ) (count : ℕ) (v : List ℕ) (s : Assign
             (and-left (every isAt found) (userKnown t count (s .numbers .named) (s .user)) (c .known)))
             (c .own) (named-later t count (s .identities))
 
-  -- A MAR: the record that it names stores the name.
+  -- A MAR: the record that it names stores the name, and so do those of its set.
   module _ (is : command ≡ 303) (named : s .numbers .named ≡ true) (asked : List ℕ) (sent : Sent) where
     one-is : (j k : ℕ) → isOne (k ∷ []) j ≡ true → j ≡ k
     unfolding isOne

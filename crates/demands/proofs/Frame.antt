@@ -1,18 +1,23 @@
 -- Demand 2: what a call leaves alone, and that a sound table stays sound.
 use Prim.Native.Nat.{ℕ, zero, suc, _+_, _*_, _/_, _≤_, _<_}
-use mathlib.Core.List.{List}
+use mathlib.Core.List.{List, [], _∷_}
 use mathlib.Core.Option.{Option, some}
-use mathlib.Core.Bool.{Bool, true, false, true≢false}
+use mathlib.Core.Bool.{Bool, true, false, _||_, true≢false}
 use mathlib.Core.Path.{_≡_, refl, sym, _∙_}
 use mathlib.Core.Logic.{_⊎_, inl, inr, _≢_}
 use native.Mathlib.Omega.{arith}
+use lib.Dec.{eqb}
 use lib.ListN.{length, getD}
+use borrow.Author.Tests.{eqb-true, eq-eqb}
+use Rattle.record.specs.Sets.{sameSet}
+use Rattle.record.proofs.OneSet.{OneSet, set-says}
 use Rattle.table.specs.Blocks.{blockOf, privateAt}
 use Rattle.table.specs.Check.{checkTable}
 use Rattle.table.specs.declared.Checked.the-variants.{Sound}
 use Rattle.table.specs.SoundTable.{SoundTable}
 use Rattle.table.proofs.Sound.{sound-size}
-use Rattle.rewrite.specs.Change.{alterable, Kept}
+use Rattle.rewrite.specs.Change.{alterable, reaches, Kept}
+use Rattle.rewrite.proofs.Reaching.{reaches-zero, reaches-closed}
 use Rattle.rewrite.proofs.Tables.{Keeping, keeping-same, kept-same, after-frame, after-keeping}
 use Rattle.diameter.specs.Message.{commandOf}
 use Rattle.blocks.specs.Changed.{isOne}
@@ -25,18 +30,47 @@ use Rattle.calling.proofs.Kept.{taken, table-checked}
 use Rattle.demands.proofs.Refusals.{refused-kept, answered-is}
 use Rattle.demands.proofs.Effects.{Altered, Does, decide-does}
 
+-- The records of a set are of one subscription, so that an effect on records of a subscription reaches no record of another.
+reached-owned : (t : List ℕ) (subscription : Option (List ℕ)) (ks : List ℕ) → ((k : ℕ) → isOne ks k ≡ true → some (privateAt t k) ≡ subscription)
+    → (j : ℕ) → reaches t ks j ≡ true → some (privateAt t j) ≡ subscription
+unfolding reaches isOne privateAt
+reached-owned t subscription [] own j e = absurd (true≢false (sym e))
+reached-owned t subscription (k ∷ ks) own j e =
+    go (eqb j k) (sameSet (blockOf t k) (blockOf t j)) refl refl e (reached-owned t subscription ks (λ i f. own i (rw f (or-true (eqb i k)))) j)
+  where
+    or-true : (x : Bool) → (x || true) ≡ true
+    or-true true = refl
+    or-true false = refl
+
+    first : isOne (k ∷ ks) k ≡ true
+    first = rw (eq-eqb k k refl)
+
+    go : (x y : Bool) → eqb j k ≡ x → sameSet (blockOf t k) (blockOf t j) ≡ y → (x || y || reaches t ks j) ≡ true
+        → (reaches t ks j ≡ true → some (privateAt t j) ≡ subscription) → some (privateAt t j) ≡ subscription
+    go true y f g i next = let q : j ≡ k = eqb-true j k f in rw q (own k first)
+    go false true f g i next =
+        let s : OneSet (blockOf t k) (blockOf t j) = set-says (blockOf t k) (blockOf t j) g in
+        rw (← s .private) (own k first)
+    go false false f g i next = next i
+
 -- What an effect leaves: of the table what every effect keeps, and the blocks of another subscription.
-module _ (command : ℕ) (t : List ℕ) (count : ℕ) (v : List ℕ) (subscription : Option (List ℕ)) (d : Decision) (size : length t ≡ 512 * (count + 1))
+module _ (command : ℕ) (t : List ℕ) (count : ℕ) (v : List ℕ) (subscription : Option (List ℕ)) (d : Decision) (sound : SoundTable t count)
     (a : Altered command t count v subscription d) where
+  size : length t ≡ 512 * (count + 1)
+  size = sound-size t count sound
+
   altered-keeping : Keeping t (d .table) count
-  altered-keeping = rw (a .table) (after-keeping t count (a .change) size (isOne (a .records)) (a .keeps) (a .later))
+  altered-keeping =
+      rw (a .table)
+      (after-keeping t count (a .change) size (reaches t (a .records)) (a .keeps) (reaches-zero t count sound (a .records) ∙ a .later)
+      (reaches-closed t (a .records)))
 
   altered-others : (k : ℕ) → k ≤ count → some (privateAt t k) ≢ subscription → blockOf (d .table) k ≡ blockOf t k
-  altered-others k h n = go (isOne (a .records) k) refl
+  altered-others k h n = go (reaches t (a .records) k) refl
     where
-      go : (x : Bool) → isOne (a .records) k ≡ x → blockOf (d .table) k ≡ blockOf t k
-      go true e = absurd (n (a .owned k e))
-      go false e = rw (a .table) (after-frame t count (a .change) size (isOne (a .records)) (a .keeps) k h e)
+      go : (x : Bool) → reaches t (a .records) k ≡ x → blockOf (d .table) k ≡ blockOf t k
+      go true e = absurd (n (reached-owned t subscription (a .records) (a .owned) k e))
+      go false e = rw (a .table) (after-frame t count (a .change) size (reaches t (a .records)) (a .keeps) k h e)
 
 -- What holds of the table and the vectors as they came, and of those that an effect leaves, holds after every call.
 module _ (x : Lent) (count : ℕ) (sound : checkOf x ≡ Sound count) where
@@ -92,18 +126,15 @@ module _ (x : Lent) (count : ℕ) (sound : checkOf x ≡ Sound count) where
   abbrev says : SoundTable t count
   says = record { file = length (x .profile); checked = sound }
 
-  size : length t ≡ 512 * (count + 1)
-  size = sound-size t count says
-
   pub others-kept : (k : ℕ) → k ≤ count → some (privateAt t k) ≢ asked → blockOf (serve x .table) k ≡ blockOf t k
   others-kept k h n =
-      after-call (λ y z. blockOf y k ≡ blockOf t k) refl (λ a. altered-others (commandOf (x .request)) t count v asked (decision x count) size a k h n)
+      after-call (λ y z. blockOf y k ≡ blockOf t k) refl (λ a. altered-others (commandOf (x .request)) t count v asked (decision x count) says a k h n)
 
   -- what every effect keeps is kept by every call
   call-keeping : Keeping t (serve x .table) count
   call-keeping =
       after-call (λ y z. Keeping t y count) (keeping-same t count)
-      (λ a. altered-keeping (commandOf (x .request)) t count v asked (decision x count) size a)
+      (λ a. altered-keeping (commandOf (x .request)) t count v asked (decision x count) says a)
 
   pub header-kept : blockOf (serve x .table) 0 ≡ blockOf t 0
   header-kept = call-keeping .header
