@@ -18,11 +18,10 @@ use Rattle.calling.specs.Serve.{Served, checkOf, checkValue, serve}
 use Rattle.before.specs.Rules.{Rules, inForce, judgedBy, decideBy, serveFound, serveBy}
 
 decide-now : (req t : List ℕ) (count : ℕ) (v : List ℕ) → decideBy inForce req t count v ≡ decide req t count v
-unfolding decideBy decide
+unfolding decideBy decide judgedBy decideJudged performed
 decide-now req t count v = go (readRequest req)
   where
     go : (j : Judged) → judgedBy inForce req t count v j ≡ decideJudged req t count v j
-    unfolding judgedBy decideJudged performed
     go (bad f) = refl
     go (fine seen) = refl
 
@@ -51,10 +50,9 @@ module _ (r s : Rules) (x : Lent) where
       → ((seen : Seen) → r .plan (x .request) (x .table) count (x .vectors) seen ≡ s .plan (x .request) (x .table) count (x .vectors) seen)
       → ((a : Assignment) (d : Deed) → r .carry (x .table) count a d ≡ s .carry (x .table) count a d)
       → decideBy r (x .request) (x .table) count (x .vectors) ≡ decideBy s (x .request) (x .table) count (x .vectors)
-  unfolding decideBy
+  unfolding decideBy judgedBy
   decided-same count plans carries = go (readRequest (x .request))
     where
       go : (j : Judged) → judgedBy r (x .request) (x .table) count (x .vectors) j ≡ judgedBy s (x .request) (x .table) count (x .vectors) j
-      unfolding judgedBy
       go (bad f) = refl
       go (fine seen) = rw (plans seen, carries _ _)

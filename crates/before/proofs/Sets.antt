@@ -103,7 +103,7 @@ module _ (t : List ℕ) (count k : ℕ) where
   not-free false y e f = absurd (true≢false (sym f))
 
   pub barred-says : barredAlone t count (blockOf t k) ≡ true → AllBarred
-  unfolding barredAlone findFree
+  unfolding barredAlone findFree freeAt freeHere
   barred-says e =
       record {
         own = and-left (barred (bitsOf (blockOf t k))) _ e;
@@ -115,7 +115,6 @@ module _ (t : List ℕ) (count k : ℕ) where
       none Nothing g = refl
 
       fails : (j : ℕ) → 1 ≤ j → j ≤ count → (sameSet (blockOf t k) (blockOf t j) && not (barred (bitsOf (blockOf t j)))) ≡ false
-      unfolding freeAt freeHere
       fails j a b =
           first-fails (freeAt t (blockOf t k)) count 1 (none (findFree t count (blockOf t k)) (and-right (barred (bitsOf (blockOf t k))) _ e)) j a (omega arith)
 

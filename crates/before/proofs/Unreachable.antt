@@ -77,7 +77,7 @@ oldAuthorize t count user network kind f =
 unfoldable oldLocate : List ℕ → ℕ → Found → Given
 oldLocate t count f = carried t count (privateAt t (blockFound f)) (blockFound f) (oldLocation (storedIn t f) (soughtOf t f))
 
-unfoldable oldPlan : List ℕ → List ℕ → ℕ → List ℕ → Seen → Plan
+unfoldable pub oldPlan : List ℕ → List ℕ → ℕ → List ℕ → Seen → Plan
 oldPlan req t count v seen =
     cond (eqb (commandOf req) 300)
     (only
