@@ -44,10 +44,10 @@ use Rattle.before.specs.Rules.{Rules, inForce, serveBy}
 use Rattle.before.proofs.Rules.{serve-now, rules-same, decided-same}
 
 -- "the server name (none stored: B5012)"
-unfoldable serverIf : Bool → Outcome → Choice
+unfoldable pub serverIf : Bool → Outcome → Choice
 serverIf stored r = cond stored (Server r) (Alone (Base 5012))
 
-unfoldable oldAuthorization : Bool → Asked → ℕ → Choice
+unfoldable pub oldAuthorization : Bool → Asked → ℕ → Choice
 oldAuthorization stored a kind =
     cond (not (a .known)) (Alone (Experimental 5001))
     (cond (not (a .together)) (Alone (Experimental 5002))
@@ -58,7 +58,7 @@ oldAuthorization stored a kind =
     (cond (eqb kind 1) (Alone (Experimental 5003))
     (First (Experimental 2002) (Experimental 2001))))))))
 
-unfoldable oldLocation : Bool → Sought → Choice
+unfoldable pub oldLocation : Bool → Sought → Choice
 oldLocation stored a =
     cond (not (a .known)) (Alone (Experimental 5001))
     (cond (a .present) (serverIf stored (Base 2001))
@@ -66,15 +66,15 @@ oldLocation stored a =
     (First (Base 2001) (Experimental 2003))))
 
 -- whether the record that was found stores a server name
-abbrev storedIn : List ℕ → Found → Bool
+abbrev pub storedIn : List ℕ → Found → Bool
 storedIn t (At k) = ltb 0 (serverSize (blockOf t k))
 storedIn t Nothing = false
 
-unfoldable oldAuthorize : List ℕ → ℕ → List ℕ → List ℕ → ℕ → Found → Given
+unfoldable pub oldAuthorize : List ℕ → ℕ → List ℕ → List ℕ → ℕ → Found → Given
 oldAuthorize t count user network kind f =
     carried t count user (blockFound f) (oldAuthorization (storedIn t f) (askedOf t count user network f) kind)
 
-unfoldable oldLocate : List ℕ → ℕ → Found → Given
+unfoldable pub oldLocate : List ℕ → ℕ → Found → Given
 oldLocate t count f = carried t count (privateAt t (blockFound f)) (blockFound f) (oldLocation (storedIn t f) (soughtOf t f))
 
 unfoldable pub oldPlan : List ℕ → List ℕ → ℕ → List ℕ → Seen → Plan
