@@ -13,4 +13,5 @@ pub mod Messages
 pub mod Moved
 pub mod Place
 pub mod Refusals
+pub mod Together
 pub mod Trials

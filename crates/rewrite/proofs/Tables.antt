@@ -86,7 +86,8 @@ module _ (t : List ℕ) (count : ℕ) (change : List ℕ → List ℕ) (size : l
           go false e = kept-same _ _ (after-frame k b e)
 
       after-agree : Closed t chosen → (j k : ℕ) → j ≤ count → k ≤ count → sameSet (blockOf t j) (blockOf t k) ≡ true
-          → agreeing (blockOf t j) (blockOf t k) ≡ true → agreeing (blockOf (afterOf t count chosen change) j) (blockOf (afterOf t count chosen change) k) ≡ true
+          → agreeing (blockOf t j) (blockOf t k) ≡ true
+          → agreeing (blockOf (afterOf t count chosen change) j) (blockOf (afterOf t count chosen change) k) ≡ true
       after-agree closed j k a b s e = go (chosen k) refl
         where
           go : (x : Bool) → chosen k ≡ x → agreeing (blockOf (afterOf t count chosen change) j) (blockOf (afterOf t count chosen change) k) ≡ true
