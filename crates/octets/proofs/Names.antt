@@ -1,18 +1,22 @@
 -- Laws of names: alike is equal, and the order is strict and passes on.
-use Prim.Native.Nat.{ℕ, _+_, _-_, _<_, _≤_}
+use Prim.Native.Nat.{ℕ, zero, suc, _+_, _-_, _*_, _<_, _≤_}
 use mathlib.Core.Bool.{Bool, true, false, cond}
 use mathlib.Core.Path.{_≡_, refl, sym, ap, _∙_}
 use mathlib.Core.Logic.{_⊎_, inl, inr}
 use mathlib.Core.List.{List, [], _∷_}
 use native.Mathlib.Omega.{arith}
+use lib.Bits.{bitOr, bitXor, xor-self, xor-add-and, and-le-l, and-le-r}
 use lib.Dec.{eqb, ltb}
 use lib.ListN.{length, getD}
 use lib.Seq.{ext-getD}
-use borrow.Author.Tests.{lt-ltb, le-ltb, ltb-true, ltb-false, eqb-true, eq-eqb, ne-eqb}
+use borrow.Author.Tests.{lt-ltb, le-ltb, ltb-true, ltb-false, eqb-true, eqb-false, eq-eqb, ne-eqb}
 use Rattle.octets.specs.All.{allBelow}
 use Rattle.octets.specs.Name.{orderOf, alikeAt, alikeFrom, same}
+use Rattle.octets.specs.Number.{le32At}
 use Rattle.octets.specs.declared.name.Order.the-variants.{Less, Equal, Greater}
-use Rattle.octets.proofs.All.{and-left, and-right, all-at, all-true, all-stretch, all-failing}
+use Rattle.octets.proofs.All.{and-left, and-right, all-at, all-true, all-join, all-stretch, all-failing}
+use Rattle.octets.proofs.Numbers.{Bytes}
+use Rattle.octets.proofs.Runs.{or-zero}
 
 pub same-eq : (s t : List ℕ) → same s t ≡ true → s ≡ t
 unfolding same alikeAt
@@ -59,6 +63,54 @@ same-lengths s t h = rw (ne-eqb _ _ h)
 pub same-within : (s t : List ℕ) {x : Bool} → length s ≡ length t → x ≡ allBelow (alikeAt s t) (length s) → x ≡ same s t
 unfolding same
 same-within s t e f = rw (eq-eqb _ _ e) f
+
+-- The turns of the loop over words: none differs so far, one more, and all.
+xor-none : (a b : ℕ) → eqb (bitXor a b) 0 ≡ eqb a b
+xor-none a b = go (eqb a b) refl
+  where
+    go : (x : Bool) → eqb a b ≡ x → eqb (bitXor a b) 0 ≡ x
+    go true e = eq-eqb (bitXor a b) 0 (rw (eqb-true a b e) (xor-self b))
+    go false e = ne-eqb (bitXor a b) 0 (λ z. eqb-false a b e (omega (arith, xor-add-and a b, and-le-l a b, and-le-r a b)))
+
+word-alike : (s t : List ℕ) (i : ℕ) → Bytes s → Bytes t → eqb (le32At s i) (le32At t i) ≡ allBelow (alikeFrom s t i) 4
+unfolding alikeFrom alikeAt le32At
+word-alike s t i g h = go (eqb (le32At s i) (le32At t i)) (allBelow (alikeFrom s t i) 4) refl refl
+  where
+    byte : allBelow (alikeFrom s t i) 4 ≡ true → (j : ℕ) → j < 4 → getD s (i + j) 0 ≡ getD t (i + j) 0
+    byte f j l = eqb-true (getD s (i + j) 0) (getD t (i + j) 0) (all-at (alikeFrom s t i) 4 f j l)
+
+    each : le32At s i ≡ le32At t i → (j : ℕ) → j < 4 → getD s (i + j) 0 ≡ getD t (i + j) 0
+    each e zero l = let k : i + 0 ≡ i = omega arith in rw k (omega (arith, g i, g (i + 1), g (i + 2), g (i + 3), h i, h (i + 1), h (i + 2), h (i + 3)))
+    each e (suc zero) l = omega (arith, g i, g (i + 1), g (i + 2), g (i + 3), h i, h (i + 1), h (i + 2), h (i + 3))
+    each e (suc (suc zero)) l = omega (arith, g i, g (i + 1), g (i + 2), g (i + 3), h i, h (i + 1), h (i + 2), h (i + 3))
+    each e (suc (suc (suc zero))) l = omega (arith, g i, g (i + 1), g (i + 2), g (i + 3), h i, h (i + 1), h (i + 2), h (i + 3))
+    each e (suc (suc (suc (suc j)))) l = absurd (omega arith)
+
+    go : (x y : Bool) → eqb (le32At s i) (le32At t i) ≡ x → allBelow (alikeFrom s t i) 4 ≡ y → eqb (le32At s i) (le32At t i) ≡ y
+    go true y e f =
+        e ∙ sym (all-true (alikeFrom s t i) 4 (λ j l. eq-eqb (getD s (i + j) 0) (getD t (i + j) 0) (each (eqb-true _ _ e) j l))) ∙ f
+    go false false e f = e
+    go false true e f =
+        let k : i + 0 ≡ i = omega arith in
+        absurd
+        (eqb-false (le32At s i) (le32At t i) e
+        (omega (arith, rw k at (byte f 0 (omega arith)), byte f 1 (omega arith), byte f 2 (omega arith), byte f 3 (omega arith))))
+
+module _ (s t : List ℕ) (i : ℕ) where
+  pub words-none : eqb 0 0 ≡ allBelow (alikeFrom s t i) (4 * 0)
+  unfolding allBelow
+  words-none = refl
+
+  pub words-more : (j bits a b : ℕ) → Bytes s → Bytes t → eqb bits 0 ≡ allBelow (alikeFrom s t i) (4 * j) → a ≡ le32At s (i + 4 * j) → b ≡ le32At t (i + 4 * j)
+      → eqb (bitOr bits (bitXor a b)) 0 ≡ allBelow (alikeFrom s t i) (4 * (j + 1))
+  unfolding alikeFrom
+  words-more j bits a b g h e ea eb =
+      let n : 4 * (j + 1) ≡ 4 * j + 4 = omega arith in
+      let k = all-join (alikeFrom s t i) (alikeFrom s t (i + 4 * j)) (4 * j) (λ m. let p : i + 4 * j + m ≡ i + (4 * j + m) = omega arith in rw p) 4 in
+      rw (n, k, or-zero bits (bitXor a b), xor-none a b, e, ea, eb, word-alike s t (i + 4 * j) g h)
+
+  pub words-all : (j bits : ℕ) → j ≤ 8 → 8 ≤ j → eqb bits 0 ≡ allBelow (alikeFrom s t i) (4 * j) → eqb bits 0 ≡ allBelow (alikeFrom s t i) 32
+  words-all j bits a b e = let k : 4 * j ≡ 32 = omega arith in rw (← k) e
 
 -- The order.
 less-head : (x y : ℕ) (s t : List ℕ) → x < y → orderOf (x ∷ s) (y ∷ t) ≡ Less
