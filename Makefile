@@ -300,10 +300,11 @@ TUNE := -mcpu=native
 TIMED := target/native/libndushavire.a
 endif
 CHECKED := 1-short 16-short 300-short 4096-short 4096-long
-SECOND := 4096-short-2 4096-long-2
+SECOND := 4096-short-2 4096-long-2 4096-short-2-1 4096-short-2-2 4096-short-2-4 4096-long-2-4 4096-alike-2-4 4096-alike-2-1
 DECIDED := 1-short 16-short 300-short 4096-short 1-tiny 16-tiny 300-tiny 4096-tiny
 REPORTED := 16-short 300-short 4096-short
-# A program's arguments: each table, its profile file and how its names are. A table is named by its records, its names and, for edition 2, 2.
+# A program's arguments: each table, its profile file and how its names are. A table is named by its records, its names, for edition 2 by 2 and,
+# if it has sets, by how many records are in each.
 samples = $(foreach size,$(1),target/bench/$(size).table target/bench/$(size).profile $(word 2,$(subst -, ,$(size))))
 
 #: bench              times beside the aims, a minute once their parts are made; a missed aim is marked
