@@ -566,7 +566,7 @@ fn sets_add_nothing_but_barring_and_reach() {
 fn every_table_made_is_sound() {
     let (mut in_sets, mut disagreeing) = (0, 0);
     for stream in [Stream::Tables, Stream::Calls, Stream::Reports, Stream::Moves] {
-        for number in 0..600 {
+        for number in 0..300 {
             let made = make(stream, 64, number);
             let (table, profile) = (made.case.held(Slice::Table), made.case.held(Slice::Profile));
             let sound = check(&table, profile.len());
@@ -583,5 +583,5 @@ fn every_table_made_is_sound() {
             in_sets += (1..sets.len()).any(|at| sets[..at].contains(&sets[at])) as u32;
         }
     }
-    assert!(in_sets > 200 && disagreeing > 30, "{in_sets} {disagreeing}");
+    assert!(in_sets > 100 && disagreeing > 15, "{in_sets} {disagreeing}");
 }
