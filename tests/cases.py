@@ -1,12 +1,12 @@
 #!/usr/bin/env python3
 """cases.py REFERENCE CRATE: writes CRATE/stdin, the cases that the program `cases` runs, and CRATE/stdout, their outcomes.
 
-Both are the independent program's: it makes the cases and says their outcomes. Chosen are small cases: for each of its deliberate
-faults one that shows it; of each result one, and then more: a refusal with what it returns besides; a command with its result; of a
-SAR past the reading rules also its type, and where it succeeds or meets a wrong state also keep, the state and whether it names many
-identities; of a MAR that succeeds the state and whether the record changes; of a report how it ends and what it counts; of all the table's
-edition. After them stand the requests of real software in captured/, each over the table and the vectors that their heads describe. Nothing
-here is random: a second run writes the same bytes."""
+Both are the independent program's: it makes the cases and says their outcomes. Chosen are small cases: for each of its deliberate faults
+one that shows it; of each result one, and then more: a refusal with what it returns besides; a command with its result; of a SAR past the
+reading rules also its type, and where it succeeds or meets a wrong state also keep, the state, whether it names many identities and whether
+it is about a set; of a MAR that succeeds the state, whether it is about a set and whether the record changes; of a UAR whether it is about
+a set; of a report how it ends and what it counts; of all the table's edition. After them stand the requests of real software in captured/,
+each over the table and the vectors that their heads describe. Nothing here is random: a second run writes the same bytes."""
 import collections, pathlib, struct, sys
 
 import streams
@@ -63,9 +63,13 @@ def row(case, outcome):
         names = [data for kind, data in given if kind == (601, CX)]
         result += (next((number(data) for kind, data in given if kind == (614, CX)), None),)
         if said in EFFECTS:
-            result += len(names) > 1, table[12], streams.state(table, names[0]) if names else None
+            of_first = (streams.state(table, names[0]), streams.set_size(table, names[0]) > 1) if names else None
+            result += len(names) > 1, table[12], of_first
     if command == 303 and said == ('B', 2001):
-        result += streams.state(table, dict(given)[601, CX]), streams.changes(case, outcome)['table'][1] == b''
+        named = dict(given)[601, CX]
+        result += streams.state(table, named), streams.set_size(table, named) > 1, streams.changes(case, outcome)['table'][1] == b''
+    if command == 300 and (601, CX) in dict(given):
+        result += streams.set_size(table, dict(given)[601, CX]),
     return result, tuple(carried)
 
 

@@ -2,7 +2,8 @@
  * without, damaged ones, and such as mix editions or issues.
  *   - Each move returns the word that it should, and leaves the bytes that it should, also behind the table, and the profile as it was.
  *   - There and back gives the first bytes, and so does back and there with the same issue.
- *   - A request gets the same answer in either edition, with sets and without, and alters the same records; the sets stay.
+ *   - A request gets the same answer in either edition, and alters the same records. What it does to a record of a set it does to the whole set,
+ *     and a barred line goes on with a free one of its set; else sets change nothing, and they stay.
  * How a table was damaged says which block is bad, so the model needs no rules of its own for soundness.
  * Exit status: 0 all as it should be, 1 not so, or too little was tried, 2 wrong use. */
 #include "../bench/requests.h"
@@ -13,7 +14,7 @@ enum { BEHIND = 64, FILL = 0xEE };
 static unsigned long number; /* of the table */
 static const char *seed;
 static struct {
-    unsigned long forward, back, other_edition, sets, unsound, mixed, answers, altering;
+    unsigned long forward, back, other_edition, sets, unsound, mixed, disagreeing, answers, altering, reaching, freed;
 } seen;
 
 static void fail(const char *what) {
@@ -123,11 +124,42 @@ static Verdict mixed_at(Bytes table, size_t block) {
     return table.length == BLOCK ? SOUND : bad_at(1);
 }
 
+/* A record that is sound by itself, and in another state than it was. */
+static void change_state(uint8_t *block) {
+    block[8] = block[8] == 1 ? 2 : 1;
+    if (block[15] > 0) return;
+    block[15] = 1;
+    block[272] = 's';
+}
+
+/* In one thing a record differs from the one it agreed with. */
+static void differ(uint8_t *block) {
+    const uint32_t what = below(4);
+    if (what == 0 || block[15] == 0) change_state(block);
+    else if (what == 1 && block[8] > 0) block[9] ^= 1;
+    else if (what == 2 && block[15] < 96) block[15]++; /* by a zero byte */
+    else block[272 + below(block[15])] ^= (uint8_t)(1u << below(8));
+    seal(block);
+}
+
+/* The first record from a block on that is a later one of its set differs from the first, if there is one. */
+static Verdict disagree(Bytes table, size_t from) {
+    const size_t count = table.length / BLOCK - 1;
+    for (size_t n = 0; n < count; n++) {
+        const size_t k = 1 + (from + n) % count;
+        if (first_of_set(table.bytes, k) == k) continue;
+        differ(table.bytes + BLOCK * k);
+        seen.disagreeing++;
+        return bad_at(k);
+    }
+    return SOUND;
+}
+
 static Verdict damage(Bytes *table, Bytes profile) {
     const size_t k = below((uint32_t)(table->length / BLOCK));
     uint8_t *block = table->bytes + BLOCK * k;
     const uint32_t issue = get32(block + 408);
-    switch (below(9)) {
+    switch (below(11)) {
     case 0: /* a bit of any byte, and so another sum; the count of a header is its length too */
         block[below(BLOCK)] ^= (uint8_t)(1u << below(8));
         return bad_at(k);
@@ -163,6 +195,8 @@ static Verdict damage(Bytes *table, Bytes profile) {
         put32(block + 400, (uint32_t)profile.length + 1 - ((uint32_t)block[404] << 8 | block[405]));
         seal(block);
         return bad_at(k);
+    case 8: /* a set whose records differ */
+    case 9: return disagree(*table, k);
     default: return SOUND;
     }
 }
@@ -204,40 +238,71 @@ static void decide(Said *said, const Request *r, Bytes table, Bytes profile) {
                                    sizeof said->answer);
 }
 
-/* The table in edition 1, without sets, and in edition 2 as it is or moved: the same answer, and then the same records. */
+/* Whether one of its set lets a barred line go on. */
+static int goes_on(Bytes table, const uint8_t *record) {
+    int found = 0;
+    for (size_t at = BLOCK; at < table.length; at += BLOCK) found |= of_one_set(record, table.bytes + at) && (table.bytes[at + 9] & 2) == 0;
+    return found;
+}
+
+/* The table in edition 1, without sets; a barred line that goes on is free there. */
+static Bytes without_sets(Bytes table) {
+    const Bytes plain = copy_of(table);
+    for (size_t at = BLOCK; at < plain.length; at += BLOCK) {
+        if (goes_on(table, table.bytes + at)) plain.bytes[at + 9] &= (uint8_t)~2u;
+        seen.freed += plain.bytes[at + 9] != table.bytes[at + 9];
+        memset(plain.bytes + at + 406, 0, 2);
+    }
+    stamp(plain, 1, 0);
+    return plain;
+}
+
+/* What was done to a record without sets, done to the whole set of it. */
+static void reach(Bytes table, Bytes plain, Bytes done) {
+    const Bytes before = copy_of(table);
+    for (size_t at = BLOCK; at < table.length; at += BLOCK) {
+        if (memcmp(plain.bytes + at, done.bytes + at, BLOCK) == 0) continue;
+        for (size_t to = BLOCK; to < table.length; to += BLOCK) {
+            if (to != at && !of_one_set(before.bytes + at, before.bytes + to)) continue;
+            seen.reaching += to != at;
+            agree_with(table.bytes + to, done.bytes + at);
+            seal(table.bytes + to);
+        }
+    }
+    free(before.bytes);
+}
+
+/* The table in edition 1, without sets, and in edition 2 as it is or moved: the same answer, and the same records but for what sets add. */
 static void try_request(Bytes table, Bytes profile) {
     static Request r;
     static Said first, second;
     if (table.length == BLOCK) return; /* nobody to ask about */
-    const Bytes plain = copy_of(table), with = copy_of(table);
-    for (size_t at = 0; at < plain.length; at += BLOCK) memset(plain.bytes + at + 406, 0, 2);
-    stamp(plain, 1, 0);
+    const Bytes plain = without_sets(table), done = copy_of(plain), with = copy_of(table);
     if (table.bytes[1] == 1) stamp(with, 2, below(9));
-    const Bytes before = copy_of(with);
+    const Bytes expected = copy_of(with);
     ask(&r, table);
-    decide(&first, &r, plain, profile);
+    decide(&first, &r, done, profile);
     decide(&second, &r, with, profile);
     if (!ndushavire_answered(first.word)) fail("a request is refused");
     if (first.word != second.word || memcmp(first.answer, second.answer, sizeof first.answer) != 0) fail("another answer in edition 2");
     seen.answers++;
-    seen.altering += !alike(before, with);
-    /* The sets stay, and without them edition 2 is edition 1 moved. */
-    for (size_t at = 0; at < with.length; at += BLOCK) {
-        if (memcmp(before.bytes + at + 406, with.bytes + at + 406, 6) != 0) fail("a request alters a set or the issue");
-        memset(with.bytes + at + 406, 0, 2);
-    }
-    stamp(with, 1, 0);
-    if (!alike(plain, with)) fail("a request alters other records in edition 2");
-    free(before.bytes);
+    seen.altering += !alike(expected, with);
+    reach(expected, plain, done);
+    if (!alike(expected, with)) fail("a request alters other records in edition 2, or a set or the issue");
+    free(expected.bytes);
     free(plain.bytes);
+    free(done.bytes);
     free(with.bytes);
 }
 
 /* Whether there was something of everything. */
 static int enough(void) {
-    printf("moves: %lu forward, %lu back; refused: %lu of the other edition, %lu for a set, %lu unsound, of which %lu mix; %lu requests, %lu alter\n",
-           seen.forward, seen.back, seen.other_edition, seen.sets, seen.unsound, seen.mixed, seen.answers, seen.altering);
-    return seen.forward > 0 && seen.back > 0 && seen.other_edition > 0 && seen.sets > 0 && seen.unsound > 0 && seen.mixed > 0 && seen.altering > 0;
+    printf("moves: %lu forward, %lu back; refused: %lu of the other edition, %lu for a set, %lu unsound; of the tables %lu mix and %lu disagree;\n",
+           seen.forward, seen.back, seen.other_edition, seen.sets, seen.unsound, seen.mixed, seen.disagreeing);
+    printf("moves: %lu requests, %lu alter, and %lu records more by sets; %lu barred lines go on with a set\n", seen.answers, seen.altering,
+           seen.reaching, seen.freed);
+    return seen.forward > 0 && seen.back > 0 && seen.other_edition > 0 && seen.sets > 0 && seen.unsound > 0 && seen.mixed > 0 &&
+           seen.disagreeing > 0 && seen.altering > 0 && seen.reaching > 0 && seen.freed > 0;
 }
 
 int main(int argc, char **argv) {

@@ -133,15 +133,48 @@ static Bytes put_parts(uint8_t *table, size_t count) {
     return profile;
 }
 
-/* The issue of a whole table of edition 2, and the sets of some of its records, or of none. */
+/* Some records get the private identity of one before them. */
+static void put_cards(uint8_t *table, size_t count) {
+    const uint32_t rarely = 1 + below(4);
+    for (size_t k = 2; k <= count; k++) {
+        const uint8_t *from = table + BLOCK * (1 + below((uint32_t)k - 1));
+        if (!one_in(rarely)) continue;
+        table[BLOCK * k + 14] = from[14];
+        memcpy(table + BLOCK * k + 144, from + 144, 128);
+    }
+}
+
+/* Two records of one set: the same private identity and the same number, which is not 0. */
+static int of_one_set(const uint8_t *a, const uint8_t *b) {
+    return (a[406] != 0 || a[407] != 0) && memcmp(a + 406, b + 406, 2) == 0 && a[14] == b[14] && memcmp(a + 144, b + 144, 128) == 0;
+}
+
+/* What the records of a set agree in: state, pending and the server's name. */
+static void agree_with(uint8_t *record, const uint8_t *from) {
+    record[8] = from[8];
+    record[9] = (uint8_t)((record[9] & ~1u) | (from[9] & 1u));
+    record[15] = from[15];
+    memcpy(record + 272, from + 272, 96);
+}
+
+/* The first record of the set that a record is of: itself if it is alone, or of none. */
+static size_t first_of_set(const uint8_t *table, size_t k) {
+    for (size_t first = 1; first < k; first++)
+        if (of_one_set(table + BLOCK * first, table + BLOCK * k)) return first;
+    return k;
+}
+
+/* The issue of a whole table of edition 2, and the sets of some of its records, or of none; each set agrees. */
 static void put_issue(uint8_t *table, size_t count) {
-    const uint32_t issue = one_in(4) ? 0 : one_in(4) ? UINT32_MAX : one_in(2) ? below(9) : below(UINT32_MAX), rarely = one_in(2) ? 0 : 1 + below(6);
+    const uint32_t issue = one_in(4) ? 0 : one_in(4) ? UINT32_MAX : one_in(2) ? below(9) : below(UINT32_MAX), rarely = one_in(3) ? 0 : 1 + below(4);
+    const int few = !one_in(3);
     for (size_t k = 0; k <= count; k++) {
         put32(table + BLOCK * k + 408, issue);
         if (k == 0 || rarely == 0 || !one_in(rarely)) continue;
-        const uint32_t set = one_in(2) ? below(4) : below(UINT16_MAX + 1);
+        const uint32_t set = few ? below(3) : one_in(2) ? below(4) : below(UINT16_MAX + 1);
         table[BLOCK * k + 406] = (uint8_t)(set >> 8);
         table[BLOCK * k + 407] = (uint8_t)set;
+        agree_with(table + BLOCK * k, table + BLOCK * first_of_set(table, k));
     }
 }
 
@@ -161,6 +194,7 @@ static Bytes put_table(uint8_t edition, Bytes *profile) {
         put32(table + BLOCK * count + 4, (uint32_t)count);
     }
     put32(table + 8, (uint32_t)count);
+    put_cards(table, count);
     *profile = put_parts(table, count);
     if (edition == 2) put_issue(table, count);
     for (size_t k = 0; k <= count; k++) seal(table + BLOCK * k);

@@ -93,6 +93,14 @@ def state(table, public):
     return next((b[8] for b in blocks if b[16:16 + b[13]] == public), None)
 
 
+def set_size(table, public):
+    """How many records the set of a public identity has: 0 without a set, 1, or 2 for several."""
+    blocks = [table[at:at + 512] for at in range(512, len(table), 512)]
+    sets = [(b[144:144 + b[14]], b[406:408]) for b in blocks]
+    own = next((s for b, s in zip(blocks, sets) if b[16:16 + b[13]] == public), None)
+    return min(sets.count(own), 2) if own and own[1] != b'\0\0' else 0
+
+
 def avps(body):
     """Code and vendor (0 without V), and data, of each AVP up to one whose length is wrong."""
     at = 0

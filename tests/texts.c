@@ -230,6 +230,8 @@ static void damage(Bytes table) {
         block[1] ^= 3;
     } else if (way == 4) { /* another issue, or one where there is none */
         put32(block + 408, one_in(2) ? 0 : get32(block + 408) + 1);
+    } else if (way == 5 && k > 0 && first_of_set(table.bytes, k) < k && block[15] > 0) { /* a set whose records differ */
+        block[one_in(2) ? 8 : 272] ^= block[8] > 0 ? 3 : 0x10;
     } else {
         change(block);
     }

@@ -23,7 +23,7 @@ reference gen      --kind K --seed S [--from F] --count N   write cases
 reference outcomes [--fault NAME]                           read cases, write outcomes
 reference compare  --kind K --seed S [--from F] --count N -- DRIVER [ARGUMENT ...]
 reference stats    --kind K --seed S [--from F] --count N   histogram
-reference faults                                            list the deliberate faults
+reference faults   [--silent]                               list the deliberate faults, or those that no case can show
 reference mutants  --seed S [--from F] --count N            whether each deliberate fault is noticed
 kinds: tables, vectors, calls, reports, moves; compare alone: demand3, runs";
 
@@ -74,7 +74,8 @@ fn run(arguments: &[String]) -> Result<bool, String> {
         "stats" => Ok(stats::stats(options.stream()?, options.seed, options.numbers()?)),
         "mutants" => Ok(mutants::mutants(options.seed, options.numbers()?)),
         "faults" => {
-            for (fault, what) in slip::FAULTS {
+            let faults = if options.silent { slip::SILENT } else { slip::FAULTS };
+            for (fault, what) in faults {
                 println!("{:30} {what}", format!("{fault:?}"));
             }
             Ok(true)
@@ -99,17 +100,23 @@ struct Options {
     from: u64,
     count: Option<u64>,
     slip: Slip,
+    silent: bool,
     command: Vec<String>,
 }
 
 impl Options {
     fn parse(arguments: &[String]) -> Result<Options, String> {
-        let mut options = Options { kind: None, seed: 0, from: 0, count: None, slip: Slip::NONE, command: Vec::new() };
+        let mut options =
+            Options { kind: None, seed: 0, from: 0, count: None, slip: Slip::NONE, silent: false, command: vec![] };
         let mut rest = arguments.iter();
         while let Some(name) = rest.next() {
             if name == "--" {
                 options.command = rest.cloned().collect();
                 break;
+            }
+            if name == "--silent" {
+                options.silent = true;
+                continue;
             }
             let value = rest.next().ok_or_else(|| format!("{name} needs a value"))?;
             let number = || value.parse::<u64>().map_err(|_| format!("{name} needs a number"));

@@ -41,7 +41,7 @@ fn is_of_edition(edition: u8, table: &mut [u8], profile_length: usize, slip: Sli
     if other && slip.is(Fault::EditionBeforeSoundness) {
         return Err((5, 0));
     }
-    match sound(table, profile_length, slip) {
+    match sound(edition, table, profile_length, slip) {
         Err(block) => {
             if slip.is(Fault::RefusedMoveWrites) && block > 0 && !other {
                 write(&mut table[..block as usize * BLOCK], EDITION_1 + EDITION_2 - edition, 0, slip);
@@ -59,10 +59,16 @@ fn is_of_edition(edition: u8, table: &mut [u8], profile_length: usize, slip: Sli
     }
 }
 
-/// The check, with the profile file.
-fn sound(table: &[u8], profile_length: usize, slip: Slip) -> Result<u32, u32> {
+/// The check, with the profile file, for a move from this edition.
+fn sound(edition: u8, table: &[u8], profile_length: usize, slip: Slip) -> Result<u32, u32> {
     let needed = || (word_at(table, header::COUNT) as usize).saturating_add(1).saturating_mul(BLOCK);
     match slip.0 {
+        Some(Fault::AgreementNotAskedForward) if edition == EDITION_1 => {
+            check_with(table, profile_length, Slip::of(Fault::SetsMayDisagree))
+        }
+        Some(Fault::AgreementAskedAfterSets) if edition == EDITION_2 => {
+            check_with(table, profile_length, Slip::of(Fault::SetsMayDisagree))
+        }
         Some(Fault::MoveWithoutProfile) => check_with(table, u32::MAX as usize + LONGEST_PROFILE, slip),
         Some(Fault::MoveUnchecked) => match check_with(table, profile_length, slip) {
             Err(block) if block > 0 => Ok(word_at(table, header::COUNT)),

@@ -3,16 +3,18 @@
 use std::ops::Range;
 
 use crate::gen::{make, Stream, STREAMS};
-use crate::slip::{Fault, Slip, FAULTS};
+use crate::slip::{Fault, Slip, FAULTS, SILENT};
 
-/// Prints for each fault after how many cases one shows it; true if every fault is noticed.
+/// Prints for each fault after how many cases one shows it; true if every fault is noticed, and none of those that no case can show.
 pub fn mutants(seed: u64, numbers: Range<u64>) -> bool {
     let mut noticed: Vec<Option<(Stream, u64)>> = vec![None; FAULTS.len()];
+    let mut heard: Vec<Option<(Stream, u64)>> = vec![None; SILENT.len()];
     for (tried, number) in (1..).zip(numbers) {
         for stream in STREAMS {
             let case = make(stream, seed, number).case;
             let truly = case.outcome(Slip::NONE);
-            for (place, (fault, _)) in noticed.iter_mut().zip(FAULTS) {
+            let all = noticed.iter_mut().zip(FAULTS).chain(heard.iter_mut().zip(SILENT));
+            for (place, (fault, _)) in all {
                 if place.is_none() && case.outcome(Slip::of(*fault)) != truly {
                     *place = Some((stream, tried));
                 }
@@ -22,12 +24,14 @@ pub fn mutants(seed: u64, numbers: Range<u64>) -> bool {
             break;
         }
     }
-    for ((fault, what), found) in FAULTS.iter().zip(&noticed) {
+    for ((fault, what), found) in FAULTS.iter().zip(&noticed).chain(SILENT.iter().zip(&heard)) {
         println!("{} {:30} {what}", told(*found), name(*fault));
     }
     let missed = noticed.iter().filter(|found| found.is_none()).count();
+    let shown = heard.iter().filter(|found| found.is_some()).count();
     println!("{} of {} faults noticed", FAULTS.len() - missed, FAULTS.len());
-    missed == 0
+    println!("{shown} of {} noticed that no case can show", SILENT.len());
+    missed == 0 && shown == 0
 }
 
 fn name(fault: Fault) -> String {

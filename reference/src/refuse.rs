@@ -77,7 +77,13 @@ fn bad_block(lent: &Lent, slip: Slip) -> Option<u32> {
     if slip.is(Fault::TableOnlyForDecisions) && lent.table.len() >= BLOCK && faulty() {
         return None;
     }
-    let found = table::check_with(lent.table, lent.profile.len(), slip);
+    let found = match slip.0 {
+        Some(Fault::AgreementNotAskedInDecisions) => {
+            table::check_with(lent.table, lent.profile.len(), Slip::of(Fault::SetsMayDisagree))
+        }
+        Some(Fault::AgreementAskedInDecisionsAlone) => table::check(lent.table, lent.profile.len()),
+        _ => table::check_with(lent.table, lent.profile.len(), slip),
+    };
     let refused = match slip.0 {
         Some(Fault::Edition1NotDecided) => Some(EDITION_1),
         Some(Fault::Edition2NotDecided) => Some(EDITION_2),

@@ -1,7 +1,7 @@
 //! One call of the library: refused, or answered with what it does to the files.
 
 use crate::answer::answer;
-use crate::block::{mend, BLOCK};
+use crate::block::{mend, BLOCK, CHECK_WORD};
 use crate::decide::{decide, Files};
 use crate::kinds::Command;
 use crate::message::Message;
@@ -10,7 +10,7 @@ use crate::place;
 use crate::read::read;
 use crate::refuse::{refusal, Lent};
 use crate::slip::{Fault, Slip};
-use crate::table::{rewrite, Record, Table, EDITION};
+use crate::table::{record, rewrite, Table, EDITION};
 use crate::vectors::{mark, vector, Vectors};
 use crate::verdict::{Code, Verdict, Why};
 
@@ -96,9 +96,11 @@ pub fn call(
             mend(vector);
         }
     }
-    for (block, rewriting) in &rewritings {
-        for block in reached(table, *block, slip) {
-            rewrite(&mut table[block * BLOCK..][..BLOCK], rewriting, slip);
+    for (place, (block, rewriting)) in rewritings.iter().enumerate() {
+        let before = table[block * BLOCK..][..BLOCK].to_vec();
+        rewrite(&mut table[block * BLOCK..][..BLOCK], rewriting, slip);
+        if place > 0 {
+            astray_member(table, rewritings[0].0, *block, &before, slip);
         }
     }
     if slip.is(Fault::RewritingFreesVectors) && message.command() == 301 && !rewritings.is_empty() {
@@ -108,14 +110,19 @@ pub fn call(
     Done { word: place | answer.len() as u64, result: Some(result), rewritten: rewritings.len(), why }
 }
 
-/// The record alone: only a faulty program asks which others have its set number.
-fn reached(table: &[u8], block: usize, slip: Slip) -> Vec<usize> {
-    if !slip.is(Fault::EffectReachesSet) {
-        return vec![block];
+/// What a faulty program does to a rewritten record that is not the first.
+fn astray_member(table: &mut [u8], first: usize, block: usize, before: &[u8], slip: Slip) {
+    let of_one_set = Table(table).record(first).implicit_set() == Table(table).record(block).implicit_set();
+    let bits = table[first * BLOCK + record::BITS];
+    let this = &mut table[block * BLOCK..][..BLOCK];
+    match slip.0 {
+        Some(Fault::OneCheckWordWritten) => this[CHECK_WORD..].copy_from_slice(&before[CHECK_WORD..]),
+        Some(Fault::SetTakesBits) if of_one_set => {
+            this[record::BITS] = bits;
+            mend(this);
+        }
+        _ => {}
     }
-    let this = Table(table).record(block);
-    let same = |it: &Record| it.private() == this.private() && it.set() == this.set() && it.set() != 0;
-    Table(table).records().filter(|(at, it)| *at == block || same(it)).map(|(at, _)| at).collect()
 }
 
 /// Only a faulty answer may have no room.

@@ -19,12 +19,15 @@ impl Slip {
 }
 
 macro_rules! faults {
-    ($($name:ident: $what:literal,)*) => {
+    ($($name:ident: $what:literal,)* -- $($silent:ident: $done:literal,)*) => {
         #[derive(Clone, Copy, PartialEq, Eq, Debug)]
-        pub enum Fault { $($name,)* }
+        pub enum Fault { $($name,)* $($silent,)* }
 
-        /// Every deliberate fault, with what it does.
+        /// Every deliberate fault that a case can show, with what it does.
         pub const FAULTS: &[(Fault, &str)] = &[$((Fault::$name, $what),)*];
+
+        /// Those that no case can show: over a sound table they come to the same.
+        pub const SILENT: &[(Fault, &str)] = &[$((Fault::$silent, $done),)*];
     };
 }
 
@@ -95,7 +98,6 @@ faults! {
     GreatIssueRefused: "issue numbers of 2^31 and more are unsound",
     SetsRefused: "set numbers must be 0 in edition 2",
     GreatSetsRefused: "set numbers over 255 are unsound",
-    SetsMustAgree: "records of one subscription and set must agree in state, pending and server name",
     SetInHeaderTaken: "bytes 406 and 407 of the header need not be zero in edition 2",
     HeaderBytes400To405NotAsked: "bytes 400 to 405 of the header need not be zero in edition 2",
     HeaderRestOfEdition2NotAsked: "bytes 412 to 507 of the header need not be zero in edition 2",
@@ -148,11 +150,41 @@ faults! {
     RewritingResetsEdition: "a rewritten record is of edition 1",
     RewritingLosesSet: "a rewritten record loses its set number",
     RewritingLosesIssue: "a rewritten record loses its issue number",
-    EffectReachesSet: "an effect reaches the other records of the set number",
-    BarredGoesWithSet: "a barred identity goes on with one of its set number that is not barred",
     Edition1NotDecided: "a decision refuses tables of edition 1",
     Edition2NotDecided: "a decision refuses tables of edition 2",
     Edition2NotReported: "each request of a report over edition 2 is refused",
+
+    // The agreement of sets.
+    SetsMayDisagree: "the records of a set need not agree",
+    SetStateNotAsked: "the records of a set may be in different states",
+    SetPendingNotAsked: "the records of a set may differ in pending",
+    SetNameNotAsked: "the records of a set may have different server names",
+    SetNameByLength: "of a set's server names only the lengths are compared",
+    SetNameByField: "of a set's server names the lengths are not compared",
+    SetNamePrefixTaken: "of a set's server names one may begin with the other",
+    SetNameAskedInState1: "a set's server names are compared in state 1 alone",
+    EarlierOfSetBlamed: "of a set that disagrees the earlier block is blamed",
+    DisagreementBlamesHeader: "a set that disagrees is bad in block 0",
+    DisagreementBlamesNext: "of a set that disagrees the block behind is blamed",
+    NumberMustAgree: "records of one set number must agree across subscriptions",
+    SetZeroMustAgree: "records of one subscription and set number 0 must agree",
+    SubscriptionMustAgree: "records of one subscription must agree whatever their set numbers",
+    SetsAgreeIn8Bits: "the last byte of set numbers tells the sets that must agree",
+    SetsAgreeByFirstByte: "the first byte of set numbers tells the sets that must agree",
+    GreatSetsMayDisagree: "sets of numbers from 2^15 on need not agree",
+    SetsByLengthOfName: "private identities of one length share their sets",
+    SetsByBeginningOfName: "private identities that begin alike share their sets",
+    NeighboursMustAgree: "only records of a set that follow one another must agree",
+    SetBarringMustAgree: "the records of a set must agree in barring",
+    SetServicesMustAgree: "the records of a set must agree in unregistered services",
+    SetRoamingMustAgree: "the records of a set must agree in roaming",
+    SetCapabilitiesMustAgree: "the records of a set must agree in capabilities",
+    SetProfileMustAgree: "the records of a set must agree in their profile parts",
+    AgreementNotAskedInDecisions: "a decision takes a table whose sets disagree",
+    AgreementAskedInDecisionsAlone: "only a decision refuses a table whose sets disagree",
+    AgreementNotAskedInReports: "a report takes a table whose sets disagree",
+    AgreementNotAskedForward: "the move forward takes sets that disagree for edition 2",
+    AgreementAskedAfterSets: "the move back asks for set numbers before the agreement of sets",
 
     // The moves.
     MoveUnchecked: "a move looks at the header's block alone, and at the length",
@@ -510,6 +542,23 @@ faults! {
     NetworkPrefixTaken: "the beginning of a network's name is enough",
     BarringNotAsked: "barring is ignored",
     BarringFreeForType1: "type 1 does not ask for barring",
+    BarringIgnoresSets: "a barred identity is rejected whatever its set",
+    SetFreesType0Alone: "a free identity in the set counts for type 0 alone",
+    FreeOfNumberCounts: "a free identity of the same set number counts in any subscription",
+    FreeOfSetZeroCounts: "a free identity of the subscription without a set counts for one without",
+    FreeOfSubscriptionCounts: "a free identity of the subscription counts whatever its set",
+    FreeIn8BitsCounts: "a free identity of the subscription counts if the last byte of its set number is the same",
+    BarredOfSetGoesOn: "a barred identity of a set goes on though all of the set are barred",
+    AllOthersMustBeFree: "a barred identity goes on only if all others of its set are free",
+    FirstOfSetMustBeFree: "only the first record of a set is asked for barring",
+    LastOfSetMustBeFree: "only the last record of a set is asked for barring",
+    FreeMustBeRegistered: "a free identity in the set counts only if it is registered",
+    SetBarsFree: "a free identity is rejected if one of its set is barred",
+    RoamingOfSet: "a network where one of the set may roam is allowed to all",
+    CapabilitiesOfSet: "the capabilities are those of the set's first record",
+    NameOfSetAlone: "the first server name is looked for in the set alone",
+    ServicesOfSet: "LIR takes the unregistered services of any record of the set",
+    BarredSetNotLocated: "LIR asks for barring, of the whole set",
     BarredIsExperimental: "X5003 is sent where B5003 is meant",
     Type2NamesServer: "type 2 gives the server name of a registered record",
     DeregistrationIsSubsequent: "type 1 in states 1 and 2 is X2002",
@@ -580,6 +629,43 @@ faults! {
     Types4And5MayKeep: "types 4 and 5 go by keep",
     Type8MayKeep: "type 8 goes by keep",
     NotStoredIsSuccess: "types 6 and 7 with keep 0 are B2001",
+    BarredNotAssigned: "SAR asks for barring",
+    BarredSetNotAssigned: "SAR asks for barring, of the whole set",
+    SetIsOneInAssignments: "two identities of one set are one for types 0 to 3",
+    SetIsOneInFailures: "two identities of one set are one for types 9 and 10",
+    TwoOfSetTooMany: "a removal of two identities of one set is B5009",
+    SecondOfSetIsGone: "a removal finds the second identity of a set removed with the first",
+    Type0ReachesSet: "type 0 clears pending in the other records of the set",
+    UserDataOfSetsFirst: "User-Data is that of the set's first record",
+    UserDataOfSetsLast: "User-Data is that of the set's last record",
+    UserDataForEachOfSet: "each record of the set has a User-Data",
+    UserDataOfSetJoined: "User-Data is that of all records of the set, one behind the other",
+
+    // Whom an effect reaches.
+    EffectOnNamedAlone: "an effect reaches no other record of the set",
+    AssignmentOnNamedAlone: "a SAR's effect reaches no other record of the set",
+    RegistrationOnNamedAlone: "the effect of types 1 and 2 reaches no other record of the set",
+    Type3OnNamedAlone: "the effect of type 3 reaches no other record of the set",
+    RemovalOnNamedAlone: "the effect of a removal reaches no other record of the set",
+    KeepingOnNamedAlone: "the effect of types 6 and 7 reaches no other record of the set",
+    FailuresOnNamedAlone: "the effect of types 9 and 10 reaches no other record of the set",
+    AuthenticationOnNamedAlone: "a MAR's effect reaches no other record of the set",
+    AuthenticationNamesOneAlone: "a MAR stores the name in no other record of the set",
+    AuthenticationPendsOneAlone: "a MAR sets pending in no other record of the set",
+    EffectReachesNumber: "an effect reaches the records of the set number in all subscriptions",
+    EffectReachesSetZero: "an effect on a record without a set reaches the subscription's others without one",
+    EffectReachesIn8Bits: "an effect reaches the subscription's records with the last byte of the set number",
+    GreatSetsNotReached: "an effect does not reach sets of numbers from 2^15 on",
+    EffectReachesLaterMembers: "an effect reaches the later records of the set alone",
+    EffectReachesEarlierMembers: "an effect reaches the earlier records of the set alone",
+    EffectReachesOneMore: "an effect reaches one other record of the set alone",
+    EffectReachesUnbarred: "an effect does not reach the barred records of the set",
+    SetKeepsState: "the other records of a set keep their state",
+    SetKeepsPending: "the other records of a set keep their pending",
+    SetKeepsName: "the other records of a set keep their server name",
+    SetTakesBits: "the other records of a set get the barring and the services of the named one",
+    OneCheckWordWritten: "of the records that are rewritten one alone gets a new check word",
+    SetCountedOnce: "the report counts the altered records of a set as one",
 
     // MAR.
     IdentitiesNotCompared: "MAR does not compare the identities",
@@ -592,6 +678,7 @@ faults! {
     NoVectorIsExperimental: "X5012 is sent where a MAR's B5012 is meant",
     NoVectorIsSuccess: "no vector to send is B2001",
     BarredNotAuthenticated: "MAR asks for barring",
+    BarredSetNotAuthenticated: "MAR asks for barring, of the whole set",
     RoamingAskedInAuthentication: "MAR of a record that roams nowhere is X5004",
     State0NotAuthenticated: "MAR in state 0 is X5003",
     AnotherServerNotAuthenticated: "MAR with another name than the stored one is X5005",
@@ -651,6 +738,8 @@ faults! {
     OtherNameUnregisters: "another name leaves state 0",
     AuthenticationRegisters: "MAR leaves state 1",
     SubscriptionNamed: "MAR stores the name in the whole subscription",
+    VectorsForEachOfSet: "MAR marks vectors for each record of the set",
+    IdentityOfSetsFirst: "a MAR's answer has the Public-Identity of the set's first record",
 
     // The answer.
     EBitLeftOut: "3xxx has no E bit",
@@ -726,8 +815,17 @@ faults! {
     KeysInOtherOrder: "626 stands before 625",
     ConfidentialityKeyLeftOut: "an item has no 625",
     KeysLeftOut: "an item has no keys",
+
+    --
+
+    LatestOfSetAsked: "a record is compared with the latest record of its set, not with the first",
+    NamedAskedAlone: "X5005 and X5007 are asked of the named records alone, not of their sets",
+    NamelessNotClosed: "a removal without identity does not look for sets",
+    UserNameOfSetsFirst: "the User-Name is that of the set's first record",
+    NoNameUnableInAuthorization: "UAR in state 1 or 2 without a stored name is B5012",
+    NoNameUnableInLocation: "LIR in state 1 or 2 without a stored name is B5012",
 }
 
 pub fn by_name(name: &str) -> Option<Fault> {
-    FAULTS.iter().map(|(fault, _)| *fault).find(|fault| format!("{fault:?}") == name)
+    FAULTS.iter().chain(SILENT).map(|(fault, _)| *fault).find(|fault| format!("{fault:?}") == name)
 }

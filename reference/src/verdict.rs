@@ -115,7 +115,8 @@ pub struct Verdict<'a> {
     pub server_name: Option<&'a [u8]>,
     /// The record whose capabilities the answer carries.
     pub capabilities: Option<Record<'a>>,
-    pub user_data: Option<&'a [u8]>,
+    /// At most one, but for a faulty program.
+    pub user_data: Vec<&'a [u8]>,
     pub authentication: Option<Authentication<'a>>,
     /// By block number.
     pub rewritings: Vec<(usize, Rewriting)>,
@@ -133,7 +134,7 @@ impl<'a> Verdict<'a> {
             user_name: None,
             server_name: None,
             capabilities: None,
-            user_data: None,
+            user_data: Vec::new(),
             authentication: None,
             rewritings: Vec::new(),
             marked: Vec::new(),

@@ -1,11 +1,10 @@
 //! Document 02's second stored form: what a sound table of edition 2 is, mixed tables, the moves, and that no answer depends on
-//! edition, issue or set.
+//! edition, issue or a set of one.
 
 mod common;
 
 use common::*;
 use reference::cases::{Case, Entry, Slice};
-use reference::gen::model::{RecordModel, TableModel};
 use reference::gen::{make, Stream};
 use reference::moves::{back, forward, Refusal};
 use reference::report;
@@ -147,15 +146,6 @@ fn there_is_no_other_edition() {
     }
 }
 
-/// Records agree in nothing because of their set, yet.
-#[test]
-fn sets_ask_for_nothing() {
-    let mut model = TableModel { issue: Some(3), ..isle(vec![record("a", "p"), record("b", "p"), record("c", "q")]) };
-    model.records.iter_mut().for_each(|record| record.set = 4);
-    model.records[1] = RecordModel { state: 1, server_name: b"s".to_vec(), ..model.records[1].clone() };
-    assert_eq!(check(&model.encode(), 0), Ok(3));
-}
-
 #[test]
 fn a_move_writes_edition_issue_and_check_word_and_nothing_else() {
     for issue in ISSUES {
@@ -250,12 +240,12 @@ fn laws_of_every_move() {
     assert!(there > 50 && and_back > 50 && refused > 50, "{there} {and_back} {refused}");
 }
 
-/// The table in edition 2, with any issue and any sets; none if it is not a sound one of edition 1.
+/// The table in edition 2, with any issue, some records in sets of one; none if it is not a sound one of edition 1.
 fn in_edition_2(rng: &mut Rng, table: &[u8], profile: usize) -> Option<Vec<u8>> {
     let mut table = table.to_vec();
     forward(&mut table, profile, rng.word(), Slip::NONE).ok()?;
-    for block in table.chunks_mut(512).skip(1) {
-        block[406..408].copy_from_slice(&(rng.word() as u16 % 3 * 0x101).to_be_bytes());
+    for (number, block) in table.chunks_mut(512).enumerate().skip(1) {
+        block[406..408].copy_from_slice(&(rng.coin() as u16 * number as u16 * 0x101).to_be_bytes());
         let right = summed(block.to_vec());
         block.copy_from_slice(&right);
     }
@@ -279,7 +269,7 @@ fn forms(table: &[u8]) -> Vec<Vec<u8>> {
 }
 
 #[test]
-fn no_answer_depends_on_edition_issue_or_set() {
+fn no_answer_depends_on_edition_issue_or_a_set_of_one() {
     let (mut rng, mut decided, mut rewritten) = (Rng::new(8), 0, 0);
     for (number, case) in cases(Stream::Calls, 42, 700).enumerate() {
         let held = |slice| case.held(slice).into_owned();
@@ -304,7 +294,7 @@ fn no_answer_depends_on_edition_issue_or_set() {
 }
 
 #[test]
-fn no_report_depends_on_edition_issue_or_set() {
+fn no_report_depends_on_edition_issue_or_a_set_of_one() {
     let (mut rng, mut altered) = (Rng::new(9), 0);
     for (number, case) in cases(Stream::Reports, 43, 60).enumerate() {
         let held = |slice| case.held(slice).into_owned();
@@ -353,10 +343,10 @@ fn the_vector_file_is_the_same_beside_either_edition() {
     }
 }
 
-/// An effect is the named record's alone, and leaves its set.
+/// An effect leaves them, and is not another set's.
 #[test]
 fn an_effect_keeps_edition_set_and_issue() {
-    let table = second(0x0102_0304, [5, 5, 0]);
+    let table = second(0x0102_0304, [5, 6, 0]);
     let done = call(&sar("a", b"sip:s1", 1), &table, b"");
     assert_eq!(result(&done.answer), "B2001");
     assert_eq!(forms(&done.table), forms(&table));

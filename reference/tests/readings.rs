@@ -1,7 +1,7 @@
 //! README.md's tables of what shows each reading of document 02's requests name rows and faults that there are.
 
 use reference::gen::STREAMS;
-use reference::slip::{by_name, FAULTS};
+use reference::slip::{by_name, FAULTS, SILENT};
 use reference::stats::required_rows;
 
 /// The rows of the table under this heading, each as its columns.
@@ -17,7 +17,7 @@ fn spans(column: &str) -> impl Iterator<Item = &str> {
 }
 
 /// Each request's heading, and its readings that cases can show.
-fn requests() -> [(&'static str, Vec<u32>); 4] {
+fn requests() -> [(&'static str, Vec<u32>); 5] {
     [
         // 19 is about programs over files.
         ("The authentication request", (1..=25).filter(|number| *number != 19).collect()),
@@ -25,8 +25,9 @@ fn requests() -> [(&'static str, Vec<u32>); 4] {
         ("The place of the AVP at fault", vec![1, 2, 3, 4, 5, 6, 9, 10]),
         // 14 is about later requests, 15 about speed, 16 about counts that no file reaches.
         ("The month's numbers", (1..=13).collect()),
-        // 8 is about a later request.
-        ("The second stored form", vec![1, 2, 3, 4, 5, 6, 7, 9]),
+        ("The second stored form", (1..=9).collect()),
+        // 13 is about speed.
+        ("Registering one registers the set", (1..=12).collect()),
     ]
 }
 
@@ -61,10 +62,21 @@ fn every_fault_about_a_request_goes_against_a_reading() {
     let of_place = ["the place", "place 0", "as its place"];
     let of_report = ["report", "piece", "counts", "counted", "largest answer", "word 1", "word 4", "left end"];
     let of_editions = ["edition", "issue", "set number", "move"];
+    let of_sets = ["a set", "the set", "one set", "its set", "of sets", "sets ", "free identity"];
     let is_about = |what: &str| {
-        words.iter().chain(&of_place).chain(&of_report).chain(&of_editions).any(|word| what.contains(word))
+        let all = words.iter().chain(&of_place).chain(&of_report).chain(&of_editions).chain(&of_sets);
+        all.into_iter().any(|word| what.contains(word))
     };
     for (fault, what) in FAULTS.iter().filter(|(_, what)| is_about(what)) {
         assert!(named.contains(&format!("{fault:?}").as_str()), "{fault:?}: {what}");
+    }
+}
+
+#[test]
+fn the_readme_says_why_no_case_shows_a_silent_fault() {
+    let readme = include_str!("../README.md");
+    for (fault, _) in SILENT {
+        let said = readme.split("No case can show").skip(1).filter_map(|it| it.split("\n\n").next());
+        assert!(said.into_iter().any(|it| it.contains(&format!("`{fault:?}`"))), "{fault:?}");
     }
 }

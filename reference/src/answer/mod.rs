@@ -37,8 +37,11 @@ pub fn answer(message: Message, header: Header, verdict: &Verdict, slip: Slip) -
     if let Some(record) = verdict.capabilities {
         capabilities(&mut avps, record, slip);
     }
-    if let Some(data) = verdict.user_data {
-        avps.own(Some(VENDOR), USER_DATA, data);
+    match slip.0 {
+        Some(Fault::UserDataOfSetJoined) if !verdict.user_data.is_empty() => {
+            avps.own(Some(VENDOR), USER_DATA, &verdict.user_data.concat());
+        }
+        _ => verdict.user_data.iter().for_each(|data| avps.own(Some(VENDOR), USER_DATA, data)),
     }
     if !slip.is(Fault::FailedAvpLast) {
         failed_avp(&mut avps, &verdict.failed, slip);

@@ -1,15 +1,13 @@
 //! SAR.
 
 use super::lookup::{by_public, is_private_known};
+use super::sets::{closed, first_of_set, is_barred, members, shared, Records};
 use crate::kinds::Kind;
 use crate::read::Request;
 use crate::slip::{Fault, Slip};
-use crate::table::{Record, Rewriting, Table, NOT_REGISTERED, PENDING, REGISTERED, UNREGISTERED};
+use crate::table::{Record, Rewriting, Table, BARRED, NOT_REGISTERED, PENDING, REGISTERED, UNREGISTERED};
 use crate::verdict::Code::{Base, Experimental};
 use crate::verdict::{Code, Failed, Verdict};
-
-/// Records with their block numbers.
-type Records<'a> = Vec<(usize, Record<'a>)>;
 
 /// What a sentence of document 01 asks for holds, or this is decided.
 type Holds<'a, T> = Result<T, Box<Verdict<'a>>>;
@@ -57,11 +55,14 @@ impl<'a> Assignment<'_, 'a> {
             self.known_records()?;
         }
         self.identities_fit()?;
-        let records = self.known_records()?;
-        self.of_one_subscription(&records)?;
+        let named = self.known_records()?;
+        self.of_one_subscription(&named)?;
+        self.none_is_barred(&named)?;
         if self.request.assignment_type == 0 {
-            return self.no_assignment(records[0]);
+            return self.no_assignment(named[0]);
         }
+        self.each_set_once(&named)?;
+        let records = self.with_sets(&named);
         if self.slip.is(Fault::StateBeforeName) {
             self.states_fit(&records)?;
         }
@@ -71,9 +72,52 @@ impl<'a> Assignment<'_, 'a> {
                 self.states_fit(record)?;
             }
         }
-        self.names_fit(&records)?;
-        self.states_fit(&records)?;
-        Ok(self.effects(&records))
+        let asked = if self.slip.is(Fault::NamedAskedAlone) { &named } else { &records };
+        self.names_fit(asked)?;
+        self.states_fit(asked)?;
+        Ok(self.effects(named.len(), &records))
+    }
+
+    /// The records of the request and all others of their sets. Those of a removal without identity are whole sets already.
+    fn with_sets(&self, named: &Records<'a>) -> Records<'a> {
+        let alone = match (self.slip.0, self.request.assignment_type) {
+            (Some(Fault::AssignmentOnNamedAlone), _) => true,
+            (Some(Fault::RegistrationOnNamedAlone), 1 | 2) => true,
+            (Some(Fault::Type3OnNamedAlone), 3) => true,
+            (Some(Fault::RemovalOnNamedAlone), _) => self.removal,
+            (Some(Fault::KeepingOnNamedAlone), 6 | 7) => true,
+            (Some(Fault::FailuresOnNamedAlone), 9 | 10) => true,
+            (Some(Fault::NamelessNotClosed), _) => self.request.identities.is_empty(),
+            _ => false,
+        };
+        if alone {
+            named.clone()
+        } else {
+            closed(self.table, named, self.slip)
+        }
+    }
+
+    /// Only a faulty program asks for barring here.
+    fn none_is_barred(&self, named: &Records<'a>) -> Holds<'a, ()> {
+        let barred = |record: Record| match self.slip.0 {
+            Some(Fault::BarredNotAssigned) => record.has(BARRED),
+            Some(Fault::BarredSetNotAssigned) => is_barred(self.table, record, 0, self.slip),
+            _ => false,
+        };
+        match named.iter().any(|(_, record)| barred(*record)) {
+            true => Err(Box::new(Verdict::of(Base(5003)))),
+            false => Ok(()),
+        }
+    }
+
+    /// Several of one set are like one: only a faulty program finds the second of them removed with the first.
+    fn each_set_once(&self, named: &Records<'a>) -> Holds<'a, ()> {
+        let gone = self.slip.is(Fault::SecondOfSetIsGone) && self.effect().0.state == NOT_REGISTERED;
+        let again = |at: usize| named[..at].iter().any(|(_, it)| is_of_one_set(*it, named[at].1));
+        match self.removal && gone && !self.request.identities.is_empty() && (0..named.len()).any(again) {
+            true => Err(Box::new(Verdict::of(Experimental(5007)))),
+            false => Ok(()),
+        }
     }
 
     /// Others than removals need exactly one identity; a removal without one needs a User-Name.
@@ -85,7 +129,8 @@ impl<'a> Assignment<'_, 'a> {
             0 if self.removal && self.slip.is(Fault::NamelessMissesUserName) => missing(Kind::UserName),
             0 => missing(Kind::PublicIdentity),
             1 => Ok(()),
-            _ if self.removal => Ok(()),
+            _ if self.removal && !(self.slip.is(Fault::TwoOfSetTooMany) && self.name_one_set()) => Ok(()),
+            _ if self.set_is_one() && self.name_one_set() => Ok(()),
             _ if self.slip.is(Fault::SameIdentityTwiceTaken)
                 && identities.iter().all(|avp| avp.data == identities[0].data) =>
             {
@@ -97,6 +142,22 @@ impl<'a> Assignment<'_, 'a> {
                 Err(Box::new(Verdict { failed, ..Verdict::of(Base(5009)) }))
             }
         }
+    }
+
+    /// Whether a faulty program takes the identities of a set for one, also for B5009.
+    fn set_is_one(&self) -> bool {
+        match self.slip.0 {
+            Some(Fault::SetIsOneInAssignments) => self.request.assignment_type <= 3,
+            Some(Fault::SetIsOneInFailures) => matches!(self.request.assignment_type, 9 | 10),
+            _ => false,
+        }
+    }
+
+    /// Whether all identities are known and of one set.
+    fn name_one_set(&self) -> bool {
+        let find = |public: &[u8]| by_public(self.table, public, self.slip).map(|(_, record)| record);
+        let found: Option<Vec<Record>> = self.request.identities.iter().map(|avp| find(avp.data)).collect();
+        found.map_or(false, |records| records.iter().all(|record| is_of_one_set(records[0], *record)))
     }
 
     /// Any named identity, or a User-Name given, unknown: X5001. An identity named twice counts once.
@@ -159,8 +220,14 @@ impl<'a> Assignment<'_, 'a> {
             return Err(Box::new(Verdict::of(result)));
         }
         let mut verdict = self.success(Base(2001), record);
-        if slip.is(Fault::Type0ClearsPending) {
-            verdict.rewritings.push((block, Rewriting { state: record.state(), pending: false, server_name: None }));
+        let cleared = Rewriting { state: record.state(), pending: false, server_name: None };
+        match slip.0 {
+            Some(Fault::Type0ClearsPending) => verdict.rewritings.push((block, cleared)),
+            Some(Fault::Type0ReachesSet) => {
+                let others = closed(self.table, &[(block, record)], slip).into_iter().skip(1);
+                verdict.rewritings = others.map(|(block, _)| (block, cleared.clone())).collect();
+            }
+            _ => {}
         }
         Ok(verdict)
     }
@@ -218,7 +285,8 @@ impl<'a> Assignment<'_, 'a> {
         }
     }
 
-    fn effects(&self, records: &[(usize, Record<'a>)]) -> Verdict<'a> {
+    /// The named ones stand before the others of their sets.
+    fn effects(&self, named: usize, records: &[(usize, Record<'a>)]) -> Verdict<'a> {
         let (_, result) = self.effect();
         let mut verdict = match records.first() {
             Some((_, record)) => self.success(result, *record),
@@ -230,7 +298,13 @@ impl<'a> Assignment<'_, 'a> {
                 let all = self.table.records().filter(|(_, record)| record.private() == first.private());
                 self.rewritings(&all.collect::<Records>())
             }
-            _ => self.rewritings(records),
+            _ => {
+                let mut rewritings = self.rewritings(records);
+                for ((_, rewriting), (_, record)) in rewritings.iter_mut().zip(records).skip(named) {
+                    *rewriting = shared(rewriting.clone(), *record, self.slip);
+                }
+                rewritings
+            }
         };
         verdict
     }
@@ -272,7 +346,10 @@ impl<'a> Assignment<'_, 'a> {
         let (asked_type, slip) = (self.request.assignment_type, self.slip);
         let mut verdict = Verdict::of(result);
         if asked_type <= 3 || slip.is(Fault::RemovalsCarryUserName) {
-            verdict.user_name = Some(record.private());
+            verdict.user_name = Some(match slip.0 {
+                Some(Fault::UserNameOfSetsFirst) => first_of_set(self.table, record).private(),
+                _ => record.private(),
+            });
         }
         if asked_type > 3 {
             return verdict;
@@ -283,17 +360,34 @@ impl<'a> Assignment<'_, 'a> {
         if slip.is(Fault::AssignmentNamesServer) {
             verdict.server_name = Some(self.request.server_name);
         }
-        let start = match slip.0 {
+        let asked = (self.request.already_available == 0 || slip.is(Fault::UserDataAlways))
+            && !(slip.is(Fault::NoUserDataForType0) && asked_type == 0);
+        if asked {
+            let of_set = || members(self.table, record).collect::<Vec<Record>>();
+            let shown = match slip.0 {
+                Some(Fault::UserDataOfSetsFirst) => vec![first_of_set(self.table, record)],
+                Some(Fault::UserDataOfSetsLast) => vec![of_set().pop().unwrap_or(record)],
+                Some(Fault::UserDataForEachOfSet | Fault::UserDataOfSetJoined) if record.set() != 0 => of_set(),
+                _ => vec![record],
+            };
+            verdict.user_data = shown.into_iter().filter_map(|record| self.user_data(record)).collect();
+        }
+        verdict
+    }
+
+    /// A record's part of the profile file; none if it is empty.
+    fn user_data(&self, record: Record<'a>) -> Option<&'a [u8]> {
+        let start = match self.slip.0 {
             Some(Fault::UserDataFromTheStart) => 0,
             Some(Fault::ProfileStartIn16Bits) => record.profile_start() & 0xFFFF,
             _ => record.profile_start(),
         };
         let length = record.profile_length();
-        let asked = (self.request.already_available == 0 || slip.is(Fault::UserDataAlways))
-            && !(slip.is(Fault::NoUserDataForType0) && asked_type == 0);
-        if asked && (length != 0 || slip.is(Fault::EmptyUserData)) {
-            verdict.user_data = self.profile.get(start..start + length);
-        }
-        verdict
+        let shown = length != 0 || self.slip.is(Fault::EmptyUserData);
+        self.profile.get(start..start + length).filter(|_| shown)
     }
+}
+
+fn is_of_one_set(one: Record, other: Record) -> bool {
+    one.implicit_set().is_some() && one.implicit_set() == other.implicit_set()
 }

@@ -2,6 +2,7 @@
 
 use std::cmp::Ordering;
 
+use super::sets::first_of_set;
 use crate::read::Request;
 use crate::slip::{Fault, Slip};
 use crate::table::{Record, Table};
@@ -37,6 +38,9 @@ pub fn verdict<'a>(verdict: &mut Verdict<'a>, request: &Request<'a>, table: Tabl
     if let (Some(asked), true) = (verdict.capabilities, slip.is(Fault::CapabilitiesOfFirstRecord)) {
         let first = table.records().find(|(_, record)| record.private() == asked.private());
         verdict.capabilities = first.map(|(_, record)| record);
+    }
+    if let (Some(asked), true) = (verdict.capabilities, slip.is(Fault::CapabilitiesOfSet)) {
+        verdict.capabilities = Some(first_of_set(table, asked));
     }
     if let Experimental(code) = verdict.result {
         if BASE_FOR.iter().any(|(fault, of)| slip.is(*fault) && code == *of) {

@@ -2,6 +2,7 @@
 
 use super::chosen::{chosen, marked, unused};
 use super::lookup::{by_public, is_private_known};
+use super::sets::{closed, first_of_set, is_barred, shared};
 use crate::kinds::SCHEME;
 use crate::read::Request;
 use crate::slip::{Fault, Slip};
@@ -15,7 +16,7 @@ pub fn multimedia_auth<'a>(request: &Request<'a>, table: Table<'a>, vectors: Vec
     let found = request.identities.first().and_then(|public| by_public(table, public.data, slip));
     let sent = chosen(request, vectors, slip);
     let known = is_private_known(table, request.user_name.unwrap_or(&[])) || astray_known(request, vectors, slip);
-    let fault = steps(request, found.map(|(_, record)| record), known, sent.is_empty(), slip)
+    let fault = steps(request, table, found.map(|(_, record)| record), known, sent.is_empty(), slip)
         .into_iter()
         .find_map(|(result, holds)| holds.then_some(result));
     match (found, fault) {
@@ -40,7 +41,14 @@ fn astray_known(request: &Request, vectors: Vectors, slip: Slip) -> bool {
 }
 
 /// The faults in the order in which they are asked for.
-fn steps(request: &Request, record: Option<Record>, known: bool, none_to_send: bool, slip: Slip) -> Vec<(Code, bool)> {
+fn steps(
+    request: &Request,
+    table: Table,
+    record: Option<Record>,
+    known: bool,
+    none_to_send: bool,
+    slip: Slip,
+) -> Vec<(Code, bool)> {
     let private = request.user_name.unwrap_or(&[]);
     let differs = |record: Record| record.private() != private && !slip.is(Fault::IdentitiesNotCompared);
     let unable = if slip.is(Fault::NoVectorIsExperimental) { Experimental(5012) } else { Base(5012) };
@@ -59,6 +67,9 @@ fn steps(request: &Request, record: Option<Record>, known: bool, none_to_send: b
         Some(Fault::NoVectorBeforeMatch) => steps[1..].rotate_right(1),
         Some(Fault::ZeroAskedBeforeScheme) => steps.insert(2, (Base(5012), request.number_asked == 0)),
         Some(Fault::BarredNotAuthenticated) => steps.insert(2, (Base(5003), is(&|record| record.has(BARRED)))),
+        Some(Fault::BarredSetNotAuthenticated) => {
+            steps.insert(2, (Base(5003), is(&|record| is_barred(table, record, 0, slip))));
+        }
         Some(Fault::RoamingAskedInAuthentication) => {
             steps.insert(2, (Experimental(5004), is(&|record| (0..8).all(|network| !record.roams_in(network)))));
         }
@@ -97,13 +108,27 @@ fn success<'a>(
     verdict.marked = marked(&sent, slip);
     let unused = unused(request, files.vectors);
     verdict.authentication = Some(Authentication {
-        public: record.public(),
+        public: match slip.0 {
+            Some(Fault::IdentityOfSetsFirst) => first_of_set(files.table, record).public(),
+            _ => record.public(),
+        },
         asked: request.number_asked,
         unused: unused.len(),
         vectors: sent.into_iter().map(|(_, vector)| vector).collect(),
     });
-    verdict.rewritings = vec![(block, effect(request, record, slip))];
+    let reached = match slip.0 {
+        Some(Fault::AuthenticationOnNamedAlone) => vec![(block, record)],
+        _ => closed(files.table, &[(block, record)], slip),
+    };
+    let effect_on = |(place, (block, member)): (usize, &(usize, Record))| {
+        let same = effect(request, record, slip);
+        (*block, if place == 0 { same } else { of_others(same, *member, slip) })
+    };
+    verdict.rewritings = reached.iter().enumerate().map(effect_on).collect();
     match slip.0 {
+        Some(Fault::VectorsForEachOfSet) => {
+            verdict.marked = unused.into_iter().take(verdict.marked.len() * reached.len()).collect();
+        }
         Some(Fault::SubscriptionNamed) => {
             let others = files.table.records().filter(|(_, other)| other.private() == record.private());
             verdict.rewritings = others.map(|(block, other)| (block, effect(request, other, slip))).collect();
@@ -114,6 +139,15 @@ fn success<'a>(
         _ => {}
     }
     verdict
+}
+
+/// The name and pending reach the set.
+fn of_others(rewriting: Rewriting, member: Record, slip: Slip) -> Rewriting {
+    match slip.0 {
+        Some(Fault::AuthenticationNamesOneAlone) => Rewriting { server_name: None, ..rewriting },
+        Some(Fault::AuthenticationPendsOneAlone) => Rewriting { pending: member.has(PENDING), ..rewriting },
+        _ => shared(rewriting, member, slip),
+    }
 }
 
 /// The name is stored if it is another one; pending is set in state 0 and where the name changes.

@@ -1,9 +1,10 @@
 //! UAR.
 
 use super::lookup::{by_public, first_server_name, is_private_known};
+use super::sets::{is_barred, members};
 use crate::read::Request;
 use crate::slip::{Fault, Slip};
-use crate::table::{Record, Table, BARRED, NOT_REGISTERED, UNREGISTERED};
+use crate::table::{Record, Table, NOT_REGISTERED, UNREGISTERED};
 use crate::verdict::Code::{Base, Experimental};
 use crate::verdict::Verdict;
 
@@ -24,25 +25,13 @@ pub fn user_authorization<'a>(request: &Request<'a>, table: Table<'a>, slip: Sli
     if slip.is(Fault::RoamingBeforeBarring) && !roaming {
         return Verdict::of(Experimental(5004));
     }
-    let barring_free = match slip.0 {
-        Some(Fault::BarringNotAsked) => true,
-        Some(Fault::BarringFreeForType1) => asked_type == 1,
-        Some(Fault::BarredGoesWithSet) => goes_with_set(record, table),
-        _ => false,
-    };
-    if record.has(BARRED) && !barring_free {
+    if is_barred(table, record, asked_type, slip) {
         return Verdict::of(if slip.is(Fault::BarredIsExperimental) { Experimental(5003) } else { Base(5003) });
     }
     if !roaming {
         return Verdict::of(Experimental(5004));
     }
     by_type_and_state(asked_type, record, table, slip)
-}
-
-/// Only a faulty program asks for the set number: whether a record of its subscription has the same and is not barred.
-fn goes_with_set(record: Record, table: Table) -> bool {
-    let same = |it: &Record| it.private() == record.private() && it.set() == record.set() && it.set() != 0;
-    table.records().any(|(_, it)| same(&it) && !it.has(BARRED))
 }
 
 fn is_roaming_asked(asked_type: u32, slip: Slip) -> bool {
@@ -60,6 +49,7 @@ fn may_roam(visited: &[u8], record: Record, table: Table, slip: Slip) -> bool {
     let allowed = |n: usize| match slip.0 {
         Some(Fault::RoamingBitNotAsked) => true,
         Some(Fault::RoamingBitsFromTheTop) => record.roams_in(7 - n),
+        Some(Fault::RoamingOfSet) => record.roams_in(n) || members(table, record).any(|it| it.roams_in(n)),
         _ => record.roams_in(n),
     };
     (0..header.networks()).any(|n| alike(header.network(n)) && allowed(n))
@@ -78,7 +68,7 @@ fn by_type_and_state<'a>(asked_type: u32, record: Record<'a>, table: Table<'a>, 
         return Verdict::of(Base(2001)).with_capabilities(record);
     }
     if state != NOT_REGISTERED {
-        if record.server_name().is_empty() {
+        if slip.is(Fault::NoNameUnableInAuthorization) && record.server_name().is_empty() {
             return Verdict::of(Base(5012));
         }
         let result = match asked_type {

@@ -23,6 +23,7 @@ pub fn first_server_name<'a>(table: Table<'a>, asked: Record<'a>, slip: Slip) ->
     let mut names = table
         .records()
         .filter(|(_, record)| record.private() == asked.private() || slip.is(Fault::NameOfAnySubscription))
+        .filter(|(_, record)| !slip.is(Fault::NameOfSetAlone) || record.set() == asked.set())
         .filter(|(_, record)| !slip.is(Fault::PendingNamesLeftOut) || record.state() != NOT_REGISTERED)
         .map(|(_, record)| record.server_name())
         .filter(|name| !name.is_empty());

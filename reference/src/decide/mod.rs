@@ -7,6 +7,7 @@ mod authorization;
 mod chosen;
 mod location;
 mod lookup;
+mod sets;
 
 use crate::kinds::Command;
 use crate::read::Request;

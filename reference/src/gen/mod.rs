@@ -11,11 +11,12 @@ mod names;
 pub mod reports;
 pub mod request;
 mod runs;
+mod sets;
 mod tables;
 pub mod twists;
 pub mod vectors;
 
-pub use calls::MIXED;
+pub use calls::{MIXED, OF_SETS};
 pub use made::{Made, Stream, STREAMS};
 pub use runs::{run, Step};
 pub use tables::FAR;

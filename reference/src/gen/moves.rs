@@ -3,6 +3,7 @@
 use super::damage;
 use super::made::Made;
 use super::model::TableModel;
+use super::sets;
 use super::tables::{self, Sound};
 use crate::cases::Case;
 use crate::moves::{back, forward};
@@ -54,14 +55,16 @@ fn to_edition_1(model: &mut TableModel) {
 fn to_edition_2(rng: &mut Rng, model: &mut TableModel) {
     model.issue = Some(tables::issue(rng));
     let which = rng.below(5);
-    if which < 4 {
-        model.records.iter_mut().for_each(|record| record.set = 0);
+    match which {
+        0..=3 => model.records.iter_mut().for_each(|record| record.set = 0),
+        _ => sets::put(rng, &mut model.records),
     }
     if which >= 2 && !model.records.is_empty() {
         let last = model.records.len() - 1;
         let any = rng.below(last + 1);
         let one = *rng.pick(&[0, last, any]);
-        model.records[one].set = tables::set(rng).max(1);
+        model.records[one].set = sets::number(rng).max(1);
+        sets::settle(&mut model.records);
     }
 }
 

@@ -4,6 +4,7 @@ use std::collections::BTreeSet;
 
 use super::model::{RecordModel, TableModel};
 use super::names;
+use super::sets;
 use crate::rng::Rng;
 use crate::table::{
     BARRED, LONGEST_HOST, LONGEST_IDENTITY, LONGEST_PROFILE, LONGEST_SERVER_NAME, MOST_CAPABILITIES, MOST_NETWORKS,
@@ -50,7 +51,7 @@ pub fn sound(rng: &mut Rng, records: usize) -> Sound {
         model.records.push(record);
     }
     if model.issue.is_some() && rng.below(3) > 0 {
-        model.records.iter_mut().for_each(|record| record.set = set(rng));
+        sets::put(rng, &mut model.records);
     }
     Sound { model, profile }
 }
@@ -64,18 +65,6 @@ pub fn issue(rng: &mut Rng) -> u32 {
         3 => 1 << rng.below(32),
         4 => u32::from(rng.byte()),
         _ => rng.word(),
-    }
-}
-
-/// A set number: none, one that others have too, or at an edge.
-pub fn set(rng: &mut Rng) -> u16 {
-    match rng.below(10) {
-        0..=3 => 0,
-        4 | 5 => 1,
-        6 => rng.between(2, 4) as u16,
-        7 => 256 * rng.between(1, 255) as u16,
-        8 => u16::MAX,
-        _ => rng.word() as u16,
     }
 }
 

@@ -10,6 +10,7 @@ use std::collections::BTreeSet;
 use crate::block::BLOCK;
 use crate::serve::{call, Done};
 use crate::slip::{Fault, Slip};
+use crate::table::{Set, Table};
 use crate::verdict::Why;
 
 use lent::Files;
@@ -64,6 +65,10 @@ fn refusal(lent: &mut Lent, slip: Slip) -> Option<u64> {
 /// A piece is decided as its bytes.
 fn decided(lent: &mut Lent, piece: &[u8], at: usize, slip: Slip) -> Done {
     let piece = if slip.is(Fault::PieceWithRest) { &lent.requests[at..] } else { piece };
+    let slip = match slip.0 {
+        Some(Fault::AgreementNotAskedInReports) => Slip::of(Fault::AgreementNotAskedInDecisions),
+        _ => slip,
+    };
     astray::refused(lent, slip)
         .unwrap_or_else(|| call(piece, lent.table, lent.profile, lent.vectors, lent.buffer, slip))
 }
@@ -86,6 +91,10 @@ fn altered(before: &Files, lent: &Lent, piece: &[u8], done: &Done, ever: &mut BT
         Some(Fault::AlteredIn8Bits) => records.len() & 0xFF,
         Some(Fault::LastRecordNotCompared) => {
             records.iter().filter(|block| (**block + 1) * BLOCK != lent.table.len()).count()
+        }
+        Some(Fault::SetCountedOnce) => {
+            let of = |block: usize| Table(lent.table).record(block).implicit_set().ok_or(block);
+            records.iter().map(|block| of(*block)).collect::<BTreeSet<Result<Set, usize>>>().len()
         }
         Some(Fault::AlteredSpanCounted) => records.last().map_or(0, |last| last - records[0] + 1),
         _ => records.len(),

@@ -5,6 +5,7 @@ mod moves;
 mod places;
 mod reports;
 mod required;
+mod sets;
 mod sizes;
 
 use std::collections::{BTreeMap, BTreeSet};
@@ -48,6 +49,7 @@ impl Histogram {
             self.add(format!("sound table of {} records", size(records as usize)));
             let table = made.case.held(Slice::Table);
             moves::of_table(&table).into_iter().for_each(|row| self.add(format!("sound table, {row}")));
+            sets::of_table(&table).into_iter().for_each(|row| self.add(format!("sound table, {row}")));
             if made.case.held(Slice::Profile).len() > FAR {
                 self.add("sound table, profile over 65,536 bytes".to_string());
             }
@@ -98,6 +100,7 @@ impl Histogram {
         let row = match why {
             Why::Checked(_) | Why::CheckedVectors(_) | Why::Reported | Why::Moved(_) => return,
             Why::Refused(6) => format!("refused 6 to {}", asker(&made.case.held(Slice::Request))),
+            Why::Refused(5) if disagrees(&made.case) => "refused 5, a set disagrees".to_string(),
             Why::Refused(number) => format!("refused {number}"),
             Why::Header(code) => format!("header: B{code}"),
             Why::Rule(letter, what) => format!("rule ({letter}): {what}"),
@@ -106,6 +109,8 @@ impl Histogram {
                 let table = made.case.held(Slice::Table);
                 self.add(format!("decided over {} records", size(table.len() / BLOCK - 1)));
                 moves::of_table(&table).into_iter().for_each(|row| self.add(format!("decided over {row}")));
+                sets::of_table(&table).into_iter().for_each(|row| self.add(format!("decided over {row}")));
+                sets::of_decision(&made.case, outcome, decision).into_iter().for_each(|row| self.add(row));
                 if decision.vectors.2 > 0 {
                     self.add(format!("sent of {} vectors", size(made.case.held(Slice::Vectors).len() / BLOCK)));
                 }
@@ -223,6 +228,11 @@ impl Histogram {
         }
         println!("{:9} cases", self.cases);
     }
+}
+
+/// Whether the table of a case is unsound by a set that disagrees.
+fn disagrees(case: &Case) -> bool {
+    sets::disagrees(&case.held(Slice::Table), case.held(Slice::Profile).len())
 }
 
 /// What a call that is refused by 6 would be answered as.

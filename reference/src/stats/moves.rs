@@ -1,5 +1,6 @@
 //! The rows of moves, and of the editions of tables.
 
+use super::sets;
 use super::sizes::size;
 use crate::block::{word_at, BLOCK};
 use crate::cases::{Case, Entry, Outcome, Slice};
@@ -30,6 +31,9 @@ pub fn rows(case: &Case, outcome: &Outcome) -> Vec<String> {
         rows.push(format!("back: refused 8, {}", set(Table(&table).record(value as usize).set())));
         let sets = Table(&table).records().filter(|(_, record)| record.set() != 0).count();
         rows.extend((sets > 1).then(|| "back: refused 8, several".to_string()));
+    }
+    if number == 5 && sets::disagrees(&table, case.held(Slice::Profile).len()) {
+        rows.push(format!("{which}: refused 5, a set disagrees"));
     }
     if number == 5 && has_sets(&table) {
         rows.push(format!("{which}: refused 5, though a set is there"));
@@ -109,7 +113,7 @@ pub fn wanted() -> Vec<(String, u64)> {
             wanted.push((format!("{which}: {size} records"), times));
         }
         wanted.extend(ISSUES.map(|issue| (format!("{which}: {issue}"), 1)));
-        for what in ["the other edition", "block 0", "a record", "though a set is there"] {
+        for what in ["the other edition", "block 0", "a record", "though a set is there", "a set disagrees"] {
             wanted.push((format!("{which}: refused 5, {what}"), 1));
         }
     }

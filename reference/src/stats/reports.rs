@@ -3,6 +3,7 @@
 use std::collections::BTreeSet;
 
 use super::moves;
+use super::sets;
 use crate::block::word_at;
 use crate::cases::{Case, Outcome, Slice};
 use crate::gen::reports::NOTES;
@@ -33,6 +34,10 @@ pub fn rows(case: &Case, outcome: &Outcome) -> Vec<String> {
     let table = case.held(Slice::Table);
     if table::check(&table, case.held(Slice::Profile).len()).is_ok() {
         rows.extend(moves::of_table(&table).into_iter().map(|row| format!("over {row}")));
+        rows.extend(sets::of_table(&table).into_iter().map(|row| format!("over {row}")));
+    }
+    if words[word::ANSWERED + 5] > 0 && sets::disagrees(&table, case.held(Slice::Profile).len()) {
+        rows.push("refused 5 in it, a set disagrees".to_string());
     }
     if read < 1000 {
         rows.extend(of_requests(case));
@@ -81,6 +86,7 @@ fn of_requests(case: &Case) -> BTreeSet<String> {
             ("a record altered", altered.len() == 1),
             ("records altered", altered.len() > 1),
             ("over 255 records altered", altered.len() > 255),
+            ("records of a set altered", sets::shares_set(&table, &altered)),
             ("a record altered again", again),
             ("a record rewritten to what it was", done.rewritten > altered.len()),
             ("vectors marked and no record altered", before.1 != vectors && altered.is_empty()),
@@ -133,6 +139,7 @@ pub fn wanted() -> Vec<(String, u64)> {
         "a record altered",
         "records altered",
         "over 255 records altered",
+        "records of a set altered",
         "a record altered again",
         "a record rewritten to what it was",
         "vectors marked and no record altered",
@@ -143,6 +150,8 @@ pub fn wanted() -> Vec<(String, u64)> {
         wanted.push((format!("a request: {what}"), 1));
     }
     wanted.extend(moves::editions().into_iter().map(|row| (format!("over {row}"), 1)));
+    wanted.extend(sets::of_tables_wanted().into_iter().map(|(row, times)| (format!("over {row}"), times)));
+    wanted.push(("refused 5 in it, a set disagrees".to_string(), 1));
     wanted.extend(NOTES.map(|note| (format!("made by: {note}"), 1)));
     wanted.push(("made by: a request of 16 MiB".to_string(), 20));
     wanted

@@ -4,10 +4,11 @@ use super::authentication;
 use super::moves;
 use super::places;
 use super::reports;
+use super::sets;
 use crate::gen::damage::damages;
 use crate::gen::twists::twists;
 use crate::gen::vectors::damage::{DAMAGES, OVER_THE_MOST};
-use crate::gen::{Stream, MIXED};
+use crate::gen::{Stream, MIXED, OF_SETS};
 use crate::kinds::{needed, Command, Kind, COMMANDS, KINDS};
 
 /// A row has at least one case in so many; where a stream is short, at least one.
@@ -34,6 +35,12 @@ fn of_tables() -> Vec<(String, u64)> {
     }
     wanted.push(("sound table, profile over 65,536 bytes".to_string(), 2 * ONE_IN));
     wanted.extend(moves::editions().into_iter().map(|row| (format!("sound table, {row}"), ONE_IN)));
+    wanted.extend(
+        sets::of_tables_wanted().into_iter().map(|(row, times)| (format!("sound table, {row}"), times * ONE_IN)),
+    );
+    for (damage, outcome) in DAMAGED_SETS {
+        wanted.push((format!("set: {damage} -> {outcome}"), ONE_IN));
+    }
     for outcome in ["sound", "block 0", "the damaged block", "the block after the damaged one"] {
         wanted.push((format!("all -> {outcome}"), ONE_IN));
     }
@@ -43,6 +50,20 @@ fn of_tables() -> Vec<(String, u64)> {
     }
     wanted
 }
+
+/// What comes of sets that disagree, and of such as only seem to.
+const DAMAGED_SETS: [(&str, &str); 10] = [
+    ("another state", "the damaged block"),
+    ("pending turned", "the damaged block"),
+    ("another server name", "the damaged block"),
+    ("another server name of another length", "the damaged block"),
+    ("a server name with a zero behind it", "the damaged block"),
+    ("one without registration", "the damaged block"),
+    ("all that may differ", "sound"),
+    ("none, of one subscription", "sound"),
+    ("one number in two subscriptions", "sound"),
+    ("numbers that share a byte", "sound"),
+];
 
 fn of_vectors() -> Vec<(String, u64)> {
     let mut wanted = Vec::new();
@@ -65,6 +86,7 @@ fn of_vectors() -> Vec<(String, u64)> {
 fn of_calls() -> Vec<(String, u64)> {
     let mut wanted = Vec::new();
     wanted.extend((1..=6).map(|number| format!("refused {number}")));
+    wanted.push("refused 5, a set disagrees".to_string());
     wanted.extend([5011, 3008, 3001, 3007].map(|code| format!("header: B{code}")));
     rules(&mut wanted);
     missing(&mut wanted);
@@ -76,11 +98,15 @@ fn of_calls() -> Vec<(String, u64)> {
     wanted.extend(moves::editions().into_iter().map(|row| format!("decided over {row}")));
     wanted.push("request: 16,384 bytes".to_string());
     wanted.push("request: over 65,536 bytes".to_string());
-    wanted.extend(twists().map(|twist| twist.name).chain(MIXED).map(|name| format!("made by: {name}")));
+    wanted.extend(twists().map(|twist| twist.name).chain(MIXED).chain(OF_SETS).map(|name| format!("made by: {name}")));
     wanted.extend(["UAR", "SAR", "LIR", "MAR"].map(|command| format!("refused 6 to a {command}")));
     let mut rows: Vec<(String, u64)> = wanted.into_iter().map(|row| (row, ONE_IN)).collect();
     rows.push(("refused 6 to a header fault".to_string(), 10 * ONE_IN));
     rows.extend(authentication::wanted().into_iter().map(|(row, times)| (row, times * ONE_IN)));
+    rows.extend(sets::of_decisions_wanted().into_iter().map(|(row, times)| (row, times * ONE_IN)));
+    rows.extend(
+        sets::of_tables_wanted().into_iter().map(|(row, times)| (format!("decided over {row}"), times * ONE_IN)),
+    );
     for size in ["13 to 255", "256 to 4,095", "4,096"] {
         rows.push((format!("decided over {size} records"), 5 * ONE_IN));
     }

@@ -1,7 +1,7 @@
 //! What the editions of the table differ in: the bytes that a block of each names, and that the blocks of a table agree.
 //! All inlined, as the check is.
 
-use super::layout::{header, record, Record, BEHIND_ISSUE, EDITION, EDITION_1, EDITION_2, ISSUE, PENDING};
+use super::layout::{header, record, BEHIND_ISSUE, EDITION, EDITION_1, EDITION_2, ISSUE};
 use crate::block::{word_at, zero, BLOCK, CHECK_WORD};
 use crate::slip::{Fault, Slip};
 
@@ -90,17 +90,4 @@ pub fn mixing_blames(head: &[u8], block: &[u8], number: u32, slip: Slip) -> u32 
         Some(Fault::MixingBlamesHeader) => 0,
         _ => number,
     }
-}
-
-/// Sets ask for nothing: only a faulty program compares the records of one.
-#[inline(always)]
-pub fn set_agrees(table: &[u8], number: u32, slip: Slip) -> bool {
-    if !slip.is(Fault::SetsMustAgree) {
-        return true;
-    }
-    let of = |number: u32| Record(&table[number as usize * BLOCK..][..BLOCK]);
-    let told = |it: Record| (it.state(), it.has(PENDING), it.server_name().to_vec());
-    let this = of(number);
-    let same = |it: &Record| it.set() != 0 && it.set() == this.set() && it.private() == this.private();
-    (1..number).map(of).filter(same).all(|it| told(it) == told(this))
 }

@@ -2,7 +2,9 @@
 
 mod editions;
 mod layout;
+mod sets;
 mod soundness;
 
 pub use layout::*;
+pub use sets::Set;
 pub use soundness::{check, check_with};

@@ -1,13 +1,12 @@
-//! The check: what document 01 says of a sound table, and document 02 of its two editions.
+//! The check: what document 01 says of a sound table, and document 02 of its two editions and of sets.
 
-use super::editions::{
-    header_rest_is_zero, is_an_edition, is_like_header, mixing_blames, record_rest_is_zero, set_agrees,
-};
+use super::editions::{header_rest_is_zero, is_an_edition, is_like_header, mixing_blames, record_rest_is_zero};
 use super::layout::{
     header, record, Header, Record, BARRED, LONGEST_HOST, LONGEST_IDENTITY, LONGEST_PROFILE, LONGEST_SERVER_NAME,
     MOST_CAPABILITIES, MOST_NETWORKS, MOST_RECORDS, NETWORK_PLACE, NOT_REGISTERED, PENDING, UNREGISTERED,
     UNREGISTERED_SERVICES,
 };
+use super::sets::Sets;
 use crate::block::{sum, word_at, zero, BLOCK};
 use crate::slip::{Fault, Slip};
 
@@ -37,16 +36,20 @@ fn checked(table: &[u8], profile_length: usize, slip: Slip) -> Result<u32, u32> 
     }
     let networks = head[header::NETWORKS] as usize;
     let mut before: &[u8] = &[];
+    let mut sets = Sets::default();
     let mut last_bad = None;
     for number in 1..=count {
         let block = &table[number as usize * BLOCK..][..BLOCK];
         let sound = record_is_sound(block, number, networks, profile_length, slip);
         let alike = is_like_header(table, block, slip);
         let public = Record(block).public();
-        if !sound || !alike || !rises(before, public, slip) || !set_agrees(table, number, slip) {
-            let blamed = match slip.0 {
-                Some(Fault::EarlierBlockBlamed) if sound && alike => number - 1,
-                Some(_) if !alike => mixing_blames(head, block, number, slip),
+        let in_order = rises(before, public, slip);
+        let agreed = if sound { sets.agree(number, Record(block), slip) } else { Ok(()) };
+        if !sound || !alike || !in_order || agreed.is_err() {
+            let blamed = match (slip.0, agreed) {
+                (Some(Fault::EarlierBlockBlamed), _) if sound && alike && !in_order => number - 1,
+                (Some(_), _) if !alike => mixing_blames(head, block, number, slip),
+                (_, Err(of_set)) if sound && alike && in_order => of_set,
                 _ => number,
             };
             if !slip.is(Fault::LastBadBlockTold) {

@@ -9,6 +9,7 @@ pub use people::{unknown_private, unknown_public, ABSENT};
 use super::model::{RecordModel, TableModel};
 use super::names;
 use super::request::{application, Piece, RequestModel};
+use super::sets;
 use crate::kinds::{Command, Kind, APPLICATION};
 use crate::message::{P, R};
 use crate::rng::Rng;
@@ -46,6 +47,19 @@ pub fn user_data(rng: &mut Rng, table: &mut TableModel) -> RequestModel {
     let asked_type = rng.below(4) as u32;
     let mut own = server_assignment(rng, table, asked_type);
     surround(rng, Command::ServerAssignment, &mut own)
+}
+
+/// A SAR of any type.
+pub fn one_assignment(rng: &mut Rng, table: &mut TableModel) -> RequestModel {
+    let asked_type = rng.below(12) as u32;
+    let mut own = server_assignment(rng, table, asked_type);
+    surround(rng, Command::ServerAssignment, &mut own)
+}
+
+/// A UAR.
+pub fn authorization(rng: &mut Rng, table: &TableModel) -> RequestModel {
+    let mut own = user_authorization(rng, table);
+    surround(rng, Command::UserAuthorization, &mut own)
 }
 
 /// A MAR.
@@ -178,6 +192,7 @@ fn server_assignment(rng: &mut Rng, table: &mut TableModel, asked_type: u32) -> 
                 publics.extend((0..more).map(|_| some_record(rng, table).public));
                 publics
             }
+            4 => of_one_set(rng, table, &record),
             3 => vec![unknown_public(rng, &record)],
             _ => vec![record.public.clone()],
         }
@@ -216,6 +231,15 @@ pub fn assignment(
     own
 }
 
+/// Its identity and that of another of its set, where there is one.
+fn of_one_set(rng: &mut Rng, table: &TableModel, record: &RecordModel) -> Vec<Vec<u8>> {
+    let others = sets::others(table, record);
+    let other = if others.is_empty() { None } else { Some(rng.pick(&others).public.clone()) };
+    let mut publics: Vec<Vec<u8>> = other.into_iter().chain([record.public.clone()]).collect();
+    rng.shuffle(&mut publics);
+    publics
+}
+
 /// Leaves one subscription without any server name.
 fn forget_names(rng: &mut Rng, table: &mut TableModel) {
     let private = some_record(rng, table).private;
@@ -239,6 +263,7 @@ fn agree(rng: &mut Rng, table: &mut TableModel) {
             record.server_name = name.clone();
         }
     }
+    sets::settle(&mut table.records);
 }
 
 /// The identities of a removal: none, one, many, repeated, one foreign or unknown among them.
@@ -248,10 +273,11 @@ fn removed(rng: &mut Rng, table: &TableModel, record: &RecordModel) -> Vec<Vec<u
     if rng.once_in(24) {
         return vec![unknown_public(rng, record)];
     }
-    let mut identities = match rng.below(6) {
+    let mut identities = match rng.below(7) {
         0 => vec![],
         1 | 2 => vec![record.public.clone()],
         3 => same.clone(),
+        4 => of_one_set(rng, table, record),
         _ => same.iter().filter(|_| rng.coin()).cloned().collect(),
     };
     if identities.is_empty() {

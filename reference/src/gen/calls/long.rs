@@ -6,6 +6,7 @@ use crate::gen::made::Made;
 use crate::gen::model::TableModel;
 use crate::gen::names;
 use crate::gen::request::{Piece, RequestModel};
+use crate::gen::sets;
 use crate::gen::tables::{self, FAR};
 use crate::gen::twists;
 use crate::kinds::{Command, Kind};
@@ -55,7 +56,7 @@ pub fn identities(rng: &mut Rng) -> Made {
     call.finish(rng)
 }
 
-/// Up to 900 records of one subscription, with short names, and one record of another.
+/// Up to 900 records of one subscription, with short names, and one record of another; in edition 2 in one set, few or none.
 fn big_subscription(rng: &mut Rng, model: &TableModel) -> TableModel {
     let mut big = model.clone();
     let pattern = match model.records.first() {
@@ -66,8 +67,10 @@ fn big_subscription(rng: &mut Rng, model: &TableModel) -> TableModel {
     big.records.clear();
     let most = if rng.coin() { 150 } else { 900 };
     let count = rng.between(13, most);
+    let sets = if model.issue.is_some() { *rng.pick(&[0, 1, 7]) } else { 0 };
     for n in 1..=count {
         let mut record = pattern.clone();
+        record.set = if sets == 0 { 0 } else { (1 + n % sets) as u16 };
         record.public = format!("{n:03}").into_bytes();
         record.state = rng.between(1, 2) as u8;
         record.bits ^= if rng.coin() { PENDING } else { 0 };
@@ -78,6 +81,7 @@ fn big_subscription(rng: &mut Rng, model: &TableModel) -> TableModel {
         }
         big.records.push(record);
     }
+    sets::settle(&mut big.records);
     big
 }
 
@@ -97,6 +101,7 @@ pub fn table(rng: &mut Rng) -> Made {
             *place = record;
         }
     }
+    sets::settle(&mut sound.model.records);
     Call::new(rng, sound, request).noted("4,096 records").finish(rng)
 }
 

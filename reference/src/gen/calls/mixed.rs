@@ -7,6 +7,7 @@ use crate::gen::made::Made;
 use crate::gen::model::{RecordModel, TableModel};
 use crate::gen::names;
 use crate::gen::request::Piece;
+use crate::gen::sets;
 use crate::gen::tables;
 use crate::kinds::Command;
 use crate::rng::Rng;
@@ -36,6 +37,7 @@ fn own_and_foreign(rng: &mut Rng, table: &mut TableModel) -> (RecordModel, Recor
     let private = table.records[own].private.clone();
     if table.records[foreign].private == private {
         table.records[foreign].private = names::near(rng, &private, LONGEST_IDENTITY);
+        sets::settle(&mut table.records);
     }
     (table.records[own].clone(), table.records[foreign].clone())
 }
@@ -94,6 +96,7 @@ fn names_and_states(rng: &mut Rng, table: &mut TableModel) -> Vec<Piece> {
         };
         identities.push(record.public.clone());
     }
+    sets::settle(&mut table.records);
     rng.shuffle(&mut identities);
     let asked_type = if rng.below(4) > 0 { *rng.pick(&REMOVALS) } else { rng.between(1, 3) as u32 };
     let most = if REMOVALS.contains(&asked_type) { 4 } else { 1 };

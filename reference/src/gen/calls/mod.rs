@@ -5,8 +5,10 @@ mod call;
 mod long;
 mod mixed;
 mod refused;
+mod sets;
 
 pub use mixed::NOTES as MIXED;
+pub use sets::NOTES as OF_SETS;
 
 use super::made::Made;
 use super::twists;
@@ -33,6 +35,7 @@ pub fn case(rng: &mut Rng) -> Made {
         53..=67 => authentication::case(rng),
         68..=71 => refused::damaged_vectors(rng),
         72..=73 => long::far_fault(rng),
+        74..=85 => sets::case(rng),
         _ => plain(rng),
     }
 }

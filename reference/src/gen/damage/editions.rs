@@ -3,7 +3,8 @@
 use super::fields::other_issue;
 use super::shape::{of_whole, Damage, Subject};
 use crate::block::{mend, put_word, word_at};
-use crate::gen::tables::{issue, set};
+use crate::gen::sets;
+use crate::gen::tables::issue;
 use crate::rng::Rng;
 use crate::table::{record, EDITION, EDITION_1, EDITION_2, ISSUE};
 use std::ops::RangeInclusive;
@@ -80,7 +81,7 @@ pub const DAMAGES: &[Damage] = &[
     })
     .never_mended(),
     of_whole("edition: 1 with a set", |rng, s| {
-        let (block, number) = (s.some_record(rng)?, set(rng).max(1));
+        let (block, number) = (s.some_record(rng)?, sets::number(rng).max(1));
         to_edition_1(s);
         s.block(block)[record::SET..ISSUE].copy_from_slice(&number.to_be_bytes());
         mend(s.block(block));

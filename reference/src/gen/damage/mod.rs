@@ -4,6 +4,7 @@ mod editions;
 pub mod fields;
 mod header;
 mod record;
+mod sets;
 mod shape;
 mod whole;
 
@@ -14,7 +15,7 @@ use crate::rng::Rng;
 
 /// Every damage.
 pub fn damages() -> impl Iterator<Item = &'static Damage> {
-    [header::DAMAGES, record::DAMAGES, editions::DAMAGES, whole::DAMAGES].into_iter().flatten()
+    [header::DAMAGES, record::DAMAGES, editions::DAMAGES, sets::DAMAGES, whole::DAMAGES].into_iter().flatten()
 }
 
 /// Does one damage; `notes` learns which, and whether the check word was mended.
@@ -24,7 +25,11 @@ pub fn damage(rng: &mut Rng, subject: &mut Subject, notes: &mut Vec<&'static str
     }
     let count = damages().count();
     loop {
-        let damage = damages().nth(rng.below(count))?;
+        // Only edition 2 has sets: theirs are tried more often.
+        let damage = match rng.once_in(8) {
+            true => rng.pick(sets::DAMAGES),
+            false => damages().nth(rng.below(count))?,
+        };
         // Over 2 MiB each: they are few.
         if damage.name == whole::OVER_THE_MOST && !rng.once_in(20) {
             continue;

@@ -1,6 +1,7 @@
 //! A month in the making: the files as they came, and as the requests so far left them.
 
 use crate::gen::model::{RecordModel, TableModel};
+use crate::gen::sets;
 use crate::gen::tables::{self, Sound};
 use crate::gen::vectors::{self, model};
 use crate::refuse::LEAST_BUFFER;
@@ -49,6 +50,7 @@ impl Month {
         let record =
             |n| RecordModel { public: format!("{n:03}").into_bytes(), state: 1 + n as u8 % 2, ..pattern.clone() };
         model.records = (0..rng.between(250, 520)).map(record).collect();
+        sets::settle(&mut model.records);
         Month::over(Files { table: model.encode(), profile, vectors: vec![] })
     }
 
