@@ -7,6 +7,7 @@ use mathlib.Core.List.{List, [], _∷_, _++_}
 use native.Mathlib.Omega.{arith}
 use lib.ListN.{getD, replicate, set}
 use Rattle.octets.specs.Run.{over}
+use Rattle.record.specs.Fields.{editionOf}
 use Rattle.record.specs.Sets.{sameSet, agreeing}
 use Rattle.table.specs.Blocks.{blockOf}
 use Rattle.table.specs.Check.{checkTable}
@@ -147,8 +148,13 @@ alone-sound : checkTable (one 0 1 s) 0 ≡ Sound 1
 unfolding opened
 alone-sound = refl
 
+alone-first : editionOf (blockOf (one 0 1 s) 0) ≡ 1
+unfolding opened
+alone-first = refl
+
 met-without-sets : serveBy beforeSets alone ≡ serve alone
-met-without-sets = without-sets alone (first-edition (one 0 1 s) 0 1 alone-sound refl)
+unfolding alone
+met-without-sets = without-sets alone (first-edition (one 0 1 s) 0 1 alone-sound alone-first)
 
 met-every-input : serveBy withBranch admitted ≡ serve admitted
 met-every-input = same-for-every-input admitted
