@@ -113,9 +113,7 @@ word-zero s at = go (eqb (le32At s at) 0) (zeros s at 4) refl refl
     go false false e f = e
     go false true e f =
         let k : at + 0 ≡ at = omega arith in
-        absurd
-        (eqb-false (le32At s at) 0 e
-        (omega (arith, rw k at (byte f 0 (omega arith)), byte f 1 (omega arith), byte f 2 (omega arith), byte f 3 (omega arith))))
+        absurd (eqb-false (le32At s at) 0 e (omega (arith, rw k at (byte f 0 (omega arith)), byte f 1 (omega arith), byte f 2 (omega arith), byte f 3 (omega arith))))
 
 module _ (s : List ℕ) (at : ℕ) where
   pub set-none : eqb 0 0 ≡ zeros s at (4 * 0)
@@ -178,8 +176,7 @@ module _ (s : List ℕ) (from to : ℕ) where
   at-zero h = all-true _ (to - from) (λ i l. eq-eqb _ _ (h (from + i) (omega arith) (omega arith)))
 
 -- Zeros from the end of a name on, as many as its first part has bytes, and those past that part: the two runs meet.
-pub zero-overlap : (s : List ℕ) (at n k to : ℕ) → n ≤ k → at + n + k ≤ to
-    → (zeroBetween s (at + n) (at + n + k) && zeroBetween s (at + k) to) ≡ zeroBetween s (at + n) to
+pub zero-overlap : (s : List ℕ) (at n k to : ℕ) → n ≤ k → at + n + k ≤ to → (zeroBetween s (at + n) (at + n + k) && zeroBetween s (at + k) to) ≡ zeroBetween s (at + n) to
 zero-overlap s at n k to h l = go _ _ _ refl refl refl
   where
     go : (x y z : Bool) → zeroBetween s (at + n) (at + n + k) ≡ x → zeroBetween s (at + k) to ≡ y → zeroBetween s (at + n) to ≡ z → (x && y) ≡ z
