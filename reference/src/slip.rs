@@ -822,6 +822,8 @@ faults! {
     NamedAskedAlone: "X5005 and X5007 are asked of the named records alone, not of their sets",
     NamelessNotClosed: "a removal without identity does not look for sets",
     UserNameOfSetsFirst: "the User-Name is that of the set's first record",
+    NoNameUnableInAuthorization: "UAR in state 1 or 2 without a stored name is B5012",
+    NoNameUnableInLocation: "LIR in state 1 or 2 without a stored name is B5012",
 }
 
 pub fn by_name(name: &str) -> Option<Fault> {

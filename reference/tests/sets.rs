@@ -3,13 +3,13 @@
 mod common;
 
 use common::*;
-use reference::cases::{Case, Entry, Slice};
+use reference::cases::{Case, Slice};
 use reference::gen::model::{RecordModel, TableModel};
-use reference::gen::{make, Stream, STREAMS};
+use reference::gen::{make, Stream};
 use reference::moves::{back, forward};
 use reference::report;
 use reference::serve::{parts, serve};
-use reference::slip::{Slip, FAULTS, SILENT};
+use reference::slip::Slip;
 use reference::table::{check, Table};
 
 const REMOVALS: [u32; 6] = [4, 5, 6, 7, 8, 11];
@@ -561,33 +561,12 @@ fn sets_add_nothing_but_barring_and_reach() {
     assert!(decided > 400 && spread > 100 && freed > 60, "{decided} {spread} {freed}");
 }
 
-/// What some faults do otherwise comes to the same over every sound table: no case shows one of them.
-#[test]
-fn no_case_shows_a_silent_fault() {
-    let mut of_sets = 0;
-    for stream in STREAMS {
-        for number in 0..300 {
-            let case = make(stream, 63, number).case;
-            if !is_small(&case) {
-                continue;
-            }
-            let truly = case.outcome(Slip::NONE);
-            for (fault, what) in SILENT {
-                assert!(case.outcome(Slip::of(*fault)) == truly, "{stream:?} {number} shows {fault:?}: {what}");
-            }
-            of_sets += (case.entry == Entry::Decide && case.entry.changed(&truly, Slice::Table)) as u32;
-        }
-    }
-    assert!(of_sets > 20, "{of_sets}");
-    assert!(SILENT.iter().all(|(silent, _)| FAULTS.iter().all(|(fault, _)| fault != silent)));
-}
-
 /// But for those that are damaged on purpose.
 #[test]
 fn every_table_made_is_sound() {
     let (mut in_sets, mut disagreeing) = (0, 0);
     for stream in [Stream::Tables, Stream::Calls, Stream::Reports, Stream::Moves] {
-        for number in 0..600 {
+        for number in 0..300 {
             let made = make(stream, 64, number);
             let (table, profile) = (made.case.held(Slice::Table), made.case.held(Slice::Profile));
             let sound = check(&table, profile.len());
@@ -604,5 +583,5 @@ fn every_table_made_is_sound() {
             in_sets += (1..sets.len()).any(|at| sets[..at].contains(&sets[at])) as u32;
         }
     }
-    assert!(in_sets > 200 && disagreeing > 30, "{in_sets} {disagreeing}");
+    assert!(in_sets > 100 && disagreeing > 15, "{in_sets} {disagreeing}");
 }

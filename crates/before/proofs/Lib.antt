@@ -1,3 +1,4 @@
 pub mod Rules
 pub mod Sets
+pub mod Unreachable
 pub mod WithoutSets

@@ -51,7 +51,7 @@ unfoldable pub askedBefore : List ℕ → ℕ → List ℕ → List ℕ → Foun
 askedBefore t count user network (At k) =
     askedAt (blockOf t 0) (blockOf t k) (isAt (findPrivate t count user)) (barred (bitsOf (blockOf t k))) user network
 askedBefore t count user network Nothing =
-    record { known = false; together = false; barred = false; roams = false; present = false; stored = false }
+    record { known = false; together = false; barred = false; roams = false; present = false }
 
 unfoldable pub authorizeBefore : List ℕ → ℕ → List ℕ → List ℕ → List ℕ → ℕ → Given
 authorizeBefore t count user public network kind =

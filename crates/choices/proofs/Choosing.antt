@@ -1,25 +1,14 @@
 -- The ways through the decision on a UAR and on a LIR.
 use Prim.Native.Nat.{ℕ}
-use mathlib.Core.Bool.{Bool, true, false, not, _&&_}
+use mathlib.Core.Bool.{true, false, not, _&&_}
 use mathlib.Core.Path.{_≡_}
 use lib.Dec.{eqb}
 use borrow.Author.Tests.{eq-eqb, ne-eqb}
-use Rattle.reading.specs.declared.Outcome.{Outcome}
 use Rattle.reading.specs.declared.Outcome.the-variants.{Base, Experimental}
-use Rattle.choices.specs.Choices.{serverIf, authorization, location}
+use Rattle.choices.specs.Choices.{authorization, location}
 use Rattle.choices.specs.declared.choice.Asked.{Asked}
 use Rattle.choices.specs.declared.choice.Sought.{Sought}
-use Rattle.choices.specs.declared.choice.Choice.{Choice}
 use Rattle.choices.specs.declared.choice.Choice.the-variants.{Alone, Server, Capabilities, First}
-
-module _ (stored : Bool) (r : Outcome) where
-  pub server-stored : stored ≡ true → Server r ≡ serverIf stored r
-  unfolding serverIf
-  server-stored e = rw e
-
-  pub server-none : stored ≡ false → Alone (Base 5012) ≡ serverIf stored r
-  unfolding serverIf
-  server-none e = rw e
 
 module _ (a : Asked) (kind : ℕ) where
   pub choose-unknown : not (a .known) ≡ true → Alone (Experimental 5001) ≡ authorization a kind
@@ -47,13 +36,13 @@ module _ (a : Asked) (kind : ℕ) where
           choose-capable e = rw (k, p, q, s, eq-eqb kind 2 e)
 
           module _ (n : kind ≡ 2 → ⊥) where
-            pub choose-registered : {c : Choice} → a .present ≡ true → kind ≡ 0 → c ≡ serverIf (a .stored) (Experimental 2002) → c ≡ authorization a kind
+            pub choose-registered : a .present ≡ true → kind ≡ 0 → Server (Experimental 2002) ≡ authorization a kind
             unfolding authorization
-            choose-registered h e f = rw (k, p, q, s, ne-eqb kind 2 n, h, eq-eqb kind 0 e) f
+            choose-registered h e = rw (k, p, q, s, ne-eqb kind 2 n, h, eq-eqb kind 0 e)
 
-            pub choose-present : {c : Choice} → a .present ≡ true → (kind ≡ 0 → ⊥) → c ≡ serverIf (a .stored) (Base 2001) → c ≡ authorization a kind
+            pub choose-present : a .present ≡ true → (kind ≡ 0 → ⊥) → Server (Base 2001) ≡ authorization a kind
             unfolding authorization
-            choose-present h e f = rw (k, p, q, s, ne-eqb kind 2 n, h, ne-eqb kind 0 e) f
+            choose-present h e = rw (k, p, q, s, ne-eqb kind 2 n, h, ne-eqb kind 0 e)
 
             pub choose-gone : a .present ≡ false → kind ≡ 1 → Alone (Experimental 5003) ≡ authorization a kind
             unfolding authorization
@@ -69,9 +58,9 @@ module _ (a : Sought) where
   locate-unknown p = rw p
 
   module _ (k : not (a .known) ≡ false) where
-    pub locate-present : {c : Choice} → a .present ≡ true → c ≡ serverIf (a .stored) (Base 2001) → c ≡ location a
+    pub locate-present : a .present ≡ true → Server (Base 2001) ≡ location a
     unfolding location
-    locate-present e f = rw (k, e) f
+    locate-present e = rw (k, e)
 
     pub locate-nothing : a .present ≡ false → not (a .services) ≡ true → Alone (Experimental 5003) ≡ location a
     unfolding location

@@ -1,25 +1,22 @@
 // "UAR." and "LIR.": what each comes to, by the answers to its questions.
 use reading::Outcome;
 ghost use mathlib.Core.Path.{_≡_};
-ghost use Rattle.choices.specs.Choices.{serverIf, authorization, location};
+ghost use Rattle.choices.specs.Choices.{authorization, location};
 
 // What a UAR asks: whether both identities are known, and of the record with the public one whether it has the private one too, whether it is
-// barred, whether it may roam in the visited network, whether it is in state 1 or 2, and whether it stores a server name.
+// barred, whether it may roam in the visited network, and whether it is in state 1 or 2.
 pub struct Asked {
     pub known: bool,
     pub together: bool,
     pub barred: bool,
     pub roams: bool,
     pub present: bool,
-    pub stored: bool,
 }
 
-// What a LIR asks: whether the identity is known, and of its record whether it is in state 1 or 2, whether it stores a server name, and whether it
-// has unregistered services.
+// What a LIR asks: whether the identity is known, and of its record whether it is in state 1 or 2 and whether it has unregistered services.
 pub struct Sought {
     pub known: bool,
     pub present: bool,
-    pub stored: bool,
     pub services: bool,
 }
 
@@ -32,16 +29,6 @@ pub enum Choice {
     Capabilities(Outcome),
     // The first server name in the subscription; none, capabilities with the other result.
     First(Outcome, Outcome),
-}
-
-// "State 1 or 2: the server name (none stored: B5012)"
-fn server(stored: bool, result: Outcome) -> Choice
-    ensures { λ r. ⌜ r ≡ serverIf stored result ⌝ }
-{
-    if stored {
-        return Choice::Server(result);
-    }
-    Choice::Alone(Outcome::Base(5012))
 }
 
 // The decision on a UAR, in the document's order.
@@ -65,9 +52,9 @@ pub fn authorization(a: Asked, kind: u32) -> Choice
     }
     if a.present {
         if kind == 0 {
-            return server(a.stored, Outcome::Experimental(2002));
+            return Choice::Server(Outcome::Experimental(2002));
         }
-        return server(a.stored, Outcome::Base(2001));
+        return Choice::Server(Outcome::Base(2001));
     }
     if kind == 1 {
         return Choice::Alone(Outcome::Experimental(5003));
@@ -83,7 +70,7 @@ pub fn location(a: Sought) -> Choice
         return Choice::Alone(Outcome::Experimental(5001));
     }
     if a.present {
-        return server(a.stored, Outcome::Base(2001));
+        return Choice::Server(Outcome::Base(2001));
     }
     if !a.services {
         return Choice::Alone(Outcome::Experimental(5003));

@@ -66,7 +66,7 @@ module _ (t : List ℕ) (count : ℕ) (user network : List ℕ) (f : Found) wher
   asked-known k e block known s = rw (e, ← block, ← known) s
 
   pub asked-nothing : f ≡ Nothing
-      → record { known = false; together = false; barred = false; roams = false; present = false; stored = false } ≡ askedOf t count user network f
+      → record { known = false; together = false; barred = false; roams = false; present = false } ≡ askedOf t count user network f
   unfolding askedOf
   asked-nothing e = rw e
 
@@ -82,7 +82,7 @@ module _ (t : List ℕ) (f : Found) where
   unfolding soughtOf
   sought-known k e block s = rw (e, ← block) s
 
-  pub sought-nothing : f ≡ Nothing → record { known = false; present = false; stored = false; services = false } ≡ soughtOf t f
+  pub sought-nothing : f ≡ Nothing → record { known = false; present = false; services = false } ≡ soughtOf t f
   unfolding soughtOf
   sought-nothing e = rw e
 

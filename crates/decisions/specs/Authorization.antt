@@ -4,7 +4,7 @@ use mathlib.Core.List.{List}
 use mathlib.Core.Bool.{Bool, false}
 use lib.Dec.{ltb}
 use Rattle.octets.specs.Name.{same}
-use Rattle.record.specs.Fields.{privateOf, stateOf, serverSize}
+use Rattle.record.specs.Fields.{privateOf, stateOf}
 use Rattle.table.specs.Blocks.{blockOf}
 use Rattle.lookup.specs.Find.{isAt, findPublic, findPrivate, barredAlone}
 use Rattle.lookup.specs.Network.{mayRoam}
@@ -24,14 +24,13 @@ askedAt h b known barred user network =
       barred = barred;
       roams = mayRoam h b network;
       present = ltb 0 (stateOf b);
-      stored = ltb 0 (serverSize b);
     }
 
 -- of the record that was found; where none was, "either identity" is unknown
 unfoldable pub askedOf : List ℕ → ℕ → List ℕ → List ℕ → Found → Asked
 askedOf t count user network (At k) = askedAt (blockOf t 0) (blockOf t k) (isAt (findPrivate t count user)) (barredAlone t count (blockOf t k)) user network
 askedOf t count user network Nothing =
-    record { known = false; together = false; barred = false; roams = false; present = false; stored = false }
+    record { known = false; together = false; barred = false; roams = false; present = false }
 
 unfoldable pub authorizeFound : List ℕ → ℕ → List ℕ → List ℕ → ℕ → Found → Given
 authorizeFound t count user network kind f = carried t count user (blockFound f) (authorization (askedOf t count user network f) kind)

@@ -3,7 +3,7 @@ use Prim.Native.Nat.{ℕ}
 use mathlib.Core.List.{List}
 use mathlib.Core.Bool.{true, false}
 use lib.Dec.{ltb}
-use Rattle.record.specs.Fields.{stateOf, bitsOf, serverSize, unregisteredServices}
+use Rattle.record.specs.Fields.{stateOf, bitsOf, unregisteredServices}
 use Rattle.table.specs.Blocks.{blockOf, privateAt}
 use Rattle.lookup.specs.Find.{findPublic}
 use Rattle.lookup.specs.declared.Found.{Found}
@@ -15,12 +15,12 @@ use Rattle.decisions.specs.Carried.{blockFound, carried}
 
 -- of a record's block
 unfoldable pub soughtAt : List ℕ → Sought
-soughtAt b = record { known = true; present = ltb 0 (stateOf b); stored = ltb 0 (serverSize b); services = unregisteredServices (bitsOf b) }
+soughtAt b = record { known = true; present = ltb 0 (stateOf b); services = unregisteredServices (bitsOf b) }
 
 -- of the record that was found or not
 unfoldable pub soughtOf : List ℕ → Found → Sought
 soughtOf t (At k) = soughtAt (blockOf t k)
-soughtOf t Nothing = record { known = false; present = false; stored = false; services = false }
+soughtOf t Nothing = record { known = false; present = false; services = false }
 
 -- "the subscription's first server name": that of the asked record's private identity
 unfoldable pub locateFound : List ℕ → ℕ → Found → Given

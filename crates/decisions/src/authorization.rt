@@ -28,7 +28,6 @@ fn ask_record(t: &[u8], count: usize, b: &[u8], known: bool, user: &[u8], networ
         barred: lookup::barred_alone(t, count, b),
         roams: lookup::may_roam(t, count, b, network),
         present: 0 < b[Record::STATE_AT],
-        stored: 0 < b[Record::SERVER_LENGTH_AT],
     }
 }
 
@@ -52,7 +51,6 @@ fn ask(t: &[u8], count: usize, user: &[u8], network: &[u8], f: Found) -> Asked
             barred: false,
             roams: false,
             present: false,
-            stored: false,
         },
     }
 }

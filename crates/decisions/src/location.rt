@@ -20,7 +20,6 @@ fn seek_record(b: &[u8]) -> Sought
     Sought {
         known: true,
         present: 0 < b[Record::STATE_AT],
-        stored: 0 < b[Record::SERVER_LENGTH_AT],
         services: fields::unregistered_services(b),
     }
 }
@@ -35,7 +34,6 @@ fn seek(t: &[u8], count: usize, f: Found) -> Sought
         Found::Nothing => Sought {
             known: false,
             present: false,
-            stored: false,
             services: false,
         },
     }

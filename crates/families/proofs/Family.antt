@@ -22,6 +22,7 @@ use Rattle.ndushavire.specs.Promise.{DecidePromise}
 use Rattle.before.specs.Rules.{serveBy}
 use Rattle.before.specs.WithoutSets.{beforeSets}
 use Rattle.before.proofs.Sets.{without-sets, first-edition, members-agree}
+use Rattle.before.proofs.Unreachable.{withBranch, same-for-every-input}
 use Rattle.worked.proofs.Sample.{header, subscriber, request, reply, answer, common, assignment, authentication, vector, item, challenges, one, s, z, opened}
 
 -- a header of the second edition; a line of the private identity `p`, or of another, with a set number
@@ -128,7 +129,7 @@ turned-away : serve (lent asking shut [] [] room)
 unfolding opened head line shut asking room
 turned-away = refl
 
--- The theorems have instances: the registered family's members agree; a first edition's table is served as it was before sets.
+-- The theorems have instances: the registered family's members agree; a first edition's table is served as it was before sets, and before 02 [7].
 family-sound : checkOf registration ≡ Sound 3
 unfolding opened head line family room registration
 family-sound = refl
@@ -154,6 +155,9 @@ alone-first = refl
 met-without-sets : serveBy beforeSets alone ≡ serve alone
 unfolding alone
 met-without-sets = without-sets alone (first-edition (one 0 1 s) 0 1 alone-sound alone-first)
+
+met-every-input : serveBy withBranch admitted ≡ serve admitted
+met-every-input = same-for-every-input admitted
 
 -- WRONG SERVERS. Each is any function of what is lent; at an input above its outcome does not meet the promise.
 record Outcome : Type 0 where

@@ -42,7 +42,6 @@ module _ (file t u : List ℕ) (count : ℕ) (like : SameTables file t u count) 
         s .private,
         barred-same file t u count like k (among .from k refl) (among .to k refl),
         s .state,
-        s .size,
       )
   asked-same user network Nothing among = refl
 
@@ -57,7 +56,7 @@ module _ (file t u : List ℕ) (count : ℕ) (like : SameTables file t u count) 
   unfolding locateFound soughtOf soughtAt privateAt
   there-same k among =
       let s : SameRecord file (blockOf t k) (blockOf u k) = found-same k among in
-      rw (s .private, s .state, s .size, s .bits) (carried-same (privateAt u k) k (location (soughtOf u (At k))))
+      rw (s .private, s .state, s .bits) (carried-same (privateAt u k) k (location (soughtOf u (At k))))
 
   absent-same : locateFound t count Nothing ≡ locateFound u count Nothing
   unfolding locateFound soughtOf location carried

@@ -33,7 +33,7 @@ use Rattle.lookup.specs.declared.Found.{Found}
 use Rattle.lookup.specs.declared.Found.the-variants.{At, Nothing}
 use Rattle.vectors.specs.declared.choice.Sent.{Sent}
 use Rattle.choices.specs.Challenges.{claimOf, challengeOf}
-use Rattle.choices.specs.Choices.{serverIf, authorization, location}
+use Rattle.choices.specs.Choices.{authorization, location}
 use Rattle.choices.specs.Plans.{findingOf, grant, planOf}
 use Rattle.choices.specs.Types.{isRemoval, asksOnly, carriesUser, effectOf}
 use Rattle.choices.specs.declared.Given.{Given}
@@ -151,10 +151,6 @@ ChoiceListed (Server r) = Listed r
 ChoiceListed (Capabilities r) = Listed r
 ChoiceListed (First r other) = Listed r × Listed other
 
-server-listed : (stored : Bool) (r : Outcome) → Listed r → ChoiceListed (serverIf stored r)
-unfolding serverIf listed indexIn baseResults
-server-listed stored r l = either ChoiceListed stored l refl
-
 authorization-listed : (a : Asked) (kind : ℕ) → ChoiceListed (authorization a kind)
 unfolding authorization listed indexIn baseResults experimentalResults
 authorization-listed a kind =
@@ -163,7 +159,7 @@ authorization-listed a kind =
     (either ChoiceListed (a .barred) refl
     (either ChoiceListed (not (eqb kind 1) && not (a .roams)) refl
     (either ChoiceListed (eqb kind 2) refl
-    (either ChoiceListed (a .present) (server-listed (a .stored) (cond (eqb kind 0) (Experimental 2002) (Base 2001)) (either Listed (eqb kind 0) refl refl))
+    (either ChoiceListed (a .present) (either Listed (eqb kind 0) refl refl)
     (either ChoiceListed (eqb kind 1) refl
     (refl, refl)))))))
 
@@ -171,7 +167,7 @@ location-listed : (a : Sought) → ChoiceListed (location a)
 unfolding location listed indexIn baseResults experimentalResults
 location-listed a =
     either ChoiceListed (not (a .known)) refl
-    (either ChoiceListed (a .present) (server-listed (a .stored) (Base 2001) refl)
+    (either ChoiceListed (a .present) refl
     (either ChoiceListed (not (a .services)) refl
     (refl, refl)))
 

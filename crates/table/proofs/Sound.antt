@@ -1,18 +1,18 @@
 -- What a sound table says, and that a table that says so is sound.
 use Prim.Native.Nat.{ℕ, suc, _+_, _-_, _*_, _<_, _≤_}
-use mathlib.Core.Bool.{Bool, true, false, _&&_, cond, true≢false}
+use mathlib.Core.Bool.{Bool, true, false, _&&_, _||_, not, cond, true≢false}
 use mathlib.Core.Path.{_≡_, refl, sym, _∙_, ap}
 use mathlib.Core.List.{List}
 use native.Mathlib.Omega.{arith}
 use lib.ListN.{length, getD}
-use lib.Dec.{leb, eqb}
-use borrow.Author.Tests.{eqb-true, leb-true, lt-leb, le-leb, eq-eqb, lt-ltb}
+use lib.Dec.{leb, ltb, eqb}
+use borrow.Author.Tests.{eqb-true, leb-true, ltb-true, lt-leb, le-leb, eq-eqb, ne-eqb, lt-ltb}
 use Rattle.octets.specs.Name.{orderOf}
 use Rattle.octets.specs.declared.name.Order.{Order}
 use Rattle.octets.specs.declared.name.Order.the-variants.{Less, Equal, Greater}
 use Rattle.octets.specs.All.{allBelow}
 use Rattle.octets.proofs.All.{and-left, and-right, all-at}
-use Rattle.record.specs.Fields.{networksOf, publicSize, privateSize}
+use Rattle.record.specs.Fields.{networksOf, stateOf, bitsOf, publicSize, privateSize, serverSize, pending}
 use Rattle.record.specs.HeaderBlock.{headerOf, soundHeader}
 use Rattle.record.specs.declared.header.Header.{Header}
 use Rattle.record.specs.Networks.{placeAt, usedPlace, soundPlace, soundNetworks}
@@ -67,6 +67,10 @@ table-holds t file count s = go ∙ ap Sound (s .counted)
     go =
         rw (s .header, le-leb 512 (length t) (omega (arith, s .size)), eq-eqb (length t) (512 * (h .count + 1)) long)
         (all-good (soundAt t h file) (h .count) (h .count) 1 (λ j a b. s .each j a (omega (arith, s .counted))))
+
+drop-false : (x : Bool) {y : Bool} → (x && false || y) ≡ true → y ≡ true
+drop-false true e = e
+drop-false false e = e
 
 is-less : (o : Order) → isLess o ≡ true → o ≡ Less
 is-less Less e = refl
@@ -131,6 +135,19 @@ module _ (t : List ℕ) (count : ℕ) (s : SoundTable t count) where
   pub sound-public : (k : ℕ) → 1 ≤ k → k ≤ count → publicSize (blockOf t k) ≤ 128
   unfolding recordOf
   sound-public k a b = sound-limits k a b .public
+
+  -- "State 1 or 2 needs a server name": a registered line has one
+  pub sound-served : (k : ℕ) → 1 ≤ k → k ≤ count → 0 < stateOf (blockOf t k) → 0 < serverSize (blockOf t k)
+  unfolding recordOf
+  sound-served k a b l =
+      go (eqb (serverSize (blockOf t k)) 0) refl
+      (rw (ne-eqb (stateOf (blockOf t k)) 0 (omega arith)) at (record-says (blockOf t k) k (headerOf (blockOf t 0)) (s .file) (sound-record k a b) .server))
+    where
+      go : (x : Bool) → eqb (serverSize (blockOf t k)) 0 ≡ x
+          → (x && (false && not (pending (bitsOf (blockOf t k))))
+          || ltb 0 (serverSize (blockOf t k)) && (ltb 0 (stateOf (blockOf t k)) || pending (bitsOf (blockOf t k)))) ≡ true
+          → 0 < serverSize (blockOf t k)
+      go x e f = ltb-true 0 (serverSize (blockOf t k)) (and-left (ltb 0 (serverSize (blockOf t k))) _ (drop-false x f))
 
   -- its public identities rise
   pub sound-rises : (k : ℕ) → 1 ≤ k → k < count → orderOf (publicAt t k) (publicAt t (suc k)) ≡ Less

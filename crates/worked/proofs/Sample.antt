@@ -40,7 +40,7 @@ use Rattle.requests.specs.Judged.{nothing, judge}
 use Rattle.requests.specs.Request.{headerFault, missingFrom, missing, complete, readWalk, readIn, identities}
 use Rattle.items.specs.Items.{challengeBytes, keyBytes, itemBytes, itemsBytes, numberedBytes, sentBytes}
 use Rattle.choices.specs.Challenges.{claimOf, challengeOf}
-use Rattle.choices.specs.Choices.{serverIf, authorization, location}
+use Rattle.choices.specs.Choices.{authorization, location}
 use Rattle.choices.specs.Plans.{findingOf, grant, deedOf, planOf}
 use Rattle.choices.specs.Types.{typeOf}
 use Rattle.decisions.specs.Carried.{carried}
@@ -168,7 +168,7 @@ unfolding host realm block header subscriber person vector room request reply an
     vendorOf valueOf sound walkFrom walk avpOf padding vendorHead copied avpBytes vendorBytes numberBytes vendorNumber group vendorGroup ifThere
     vendorApplication experimental failed vendorNumbers capabilities known kindFrom kindBy rowOf useIn numberFault plainFault applicationMembers itemMembers
     membersOf isOf fits unlike onlyOf countOf enough enoughAt gathers contentFault nothing ruleBy rule judge headerFault headPart alone failedOf sample
-    exampleOf failedBy missingFrom missing complete readWalk readIn identities placesFrom mandatoryOf optionalOf profileOf mayRoam serverIf authorization
+    exampleOf failedBy missingFrom missing complete readWalk readIn identities placesFrom mandatoryOf optionalOf profileOf mayRoam authorization
     location findingOf grant deedOf planOf claimOf challengeOf typeOf carried askedAt askedOf authorizeFound authorize soughtAt soughtOf locateFound locate
     claimedAt claimedOf toSend authenticateFound authenticate meantBy every findAll numbersOf ownedHere ownedUpTo ownAt storesAt fitsAt rightAt
     surveyOf userKnown ownerBy namedSurvey ownedSurvey assignMeant assign storedName plannedRecords carriedOut spentBy assignmentOf uarPlan sarPlan lirPlan

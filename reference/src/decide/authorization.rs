@@ -68,7 +68,7 @@ fn by_type_and_state<'a>(asked_type: u32, record: Record<'a>, table: Table<'a>, 
         return Verdict::of(Base(2001)).with_capabilities(record);
     }
     if state != NOT_REGISTERED {
-        if record.server_name().is_empty() {
+        if slip.is(Fault::NoNameUnableInAuthorization) && record.server_name().is_empty() {
             return Verdict::of(Base(5012));
         }
         let result = match asked_type {

@@ -23,7 +23,7 @@ pub fn location_info<'a>(request: &Request<'a>, table: Table<'a>, slip: Slip) ->
     }
     let overlooked = slip.is(Fault::State2IsState0InLocation) && record.state() == UNREGISTERED;
     if record.state() != NOT_REGISTERED && !overlooked {
-        if record.server_name().is_empty() {
+        if slip.is(Fault::NoNameUnableInLocation) && record.server_name().is_empty() {
             return Verdict::of(Base(5012));
         }
         return Verdict::of(Base(2001)).with_server_name(record.server_name());

@@ -8,7 +8,6 @@ location-spec =
     tie.close
     (tie.spec
     (λ c. search (needs, locate-unknown))
-    (λ c κs. search needs)
     (λ c. search (needs, locate-present))
     (λ c. search (needs, locate-nothing))
     (λ c. search (needs, locate-first)))

@@ -12,6 +12,5 @@ seek-record-spec =
     tie.close
     (tie.spec
     (λ c. search needs)
-    (λ c. search needs)
     (λ c κs. search needs)
     returns)
