@@ -8,7 +8,7 @@ SHELL := /bin/bash
 .NOTPARALLEL:
 export PYTHONDONTWRITEBYTECODE := 1
 .PHONY: help run test clean fmt kit pages header examples tables texts aims stores programs reference installs cited narrow bench stack installable install uninstall
-.PHONY: unsound reports moves differential noticed soak mutants stats definitions-check cases
+.PHONY: unsound reports moves daemon differential noticed soak mutants stats definitions-check cases
 
 MACHINE := $(shell uname -m)
 ifeq ($(MACHINE),x86_64)
@@ -60,7 +60,7 @@ target/bin/%: $(PROVED)
 	touch $@
 
 #: test               every test from fmt to differential below, 5 minutes once the library is proved, a quarter of an hour under an emulator
-test: fmt kit pages header examples tables texts aims stores programs unsound reports moves reference installs cited narrow noticed differential
+test: fmt kit pages header examples tables texts aims stores programs unsound reports moves daemon reference installs cited narrow noticed differential
 
 #: fmt                whether crates/ is in the kit's layout
 fmt:
@@ -129,6 +129,10 @@ COUNT_moved := 2000
 #: moves              the moves between editions beside a model in C, and requests over either edition, over 2,000 random tables; SEED=N runs a seed again
 moves: target/c99/moves
 	$(RUN) $< $(SEED) $(COUNT_moved)
+
+#: daemon             the daemon of the examples with a client of its own: cut frames, garbage, slow peers, new tables, kills; 1 to 3 minutes
+daemon: target/c/maketable $(ARCHIVE)
+	RUN='$(RUN)' tests/served.sh target/test/served target/c/maketable $(ARCHIVE) $(X86_CC)
 
 #: reference          the independent program's own tests
 reference:
