@@ -9,7 +9,7 @@
 
 #include "fault.h"
 
-enum { HEADER = 20, CAPABILITIES = 257, WATCHDOG = 280, DISCONNECT = 282 };
+enum { HEADER = 20, CAPABILITIES = 257, WATCHDOG = 280, DISCONNECT = 282, PRODUCT_NAME = 269 };
 enum { PROXIABLE = 0x40, REQUEST = 0x80 };
 enum { SUCCESS = 2001, NO_COMMON_APPLICATION = 5010 };
 #define CX 16777216u
@@ -67,8 +67,9 @@ static inline void set_length(uint8_t *message, size_t length) { put_four(messag
 static inline void put_avp(uint8_t *message, unsigned long code, const void *data, size_t size) {
     uint8_t *avp = message + message_length(message);
     const size_t padded = (size + 3) / 4 * 4;
+    const unsigned long flags = code == PRODUCT_NAME ? 0 : 0x40; /* by the standard it is the one without M */
     put_four(avp, code);
-    put_four(avp + 4, 0x40000000ul | (8 + size));
+    put_four(avp + 4, flags << 24 | (8 + size));
     memset(avp + 8, 0, padded);
     memcpy(avp + 8, data, size);
     set_length(message, message_length(message) + 8 + padded);
@@ -102,7 +103,7 @@ static inline void put_answer(uint8_t *answer, const uint8_t *request, const uin
 }
 
 /* What a CEA has besides: Host-IP-Address (257), of ADDRESS as the AVP has it, Vendor-Id, Product-Name, Supported-Vendor-Id and the
- * one application. Product-Name has no M by the standard, and no peer minds it. */
+ * one application. */
 static inline void put_capabilities(uint8_t *answer, const uint8_t *address, size_t size) {
     static const char product[] = "ndushavire example daemon";
     uint8_t application[HEADER + 24] = {0};
@@ -111,7 +112,7 @@ static inline void put_capabilities(uint8_t *answer, const uint8_t *address, siz
     put_number(application, 258, CX);
     put_avp(answer, 257, address, size);
     put_number(answer, 266, VENDOR_3GPP);
-    put_avp(answer, 269, product, sizeof product - 1);
+    put_avp(answer, PRODUCT_NAME, product, sizeof product - 1);
     put_number(answer, 265, VENDOR_3GPP);
     put_avp(answer, 260, application + HEADER, 24);
 }
