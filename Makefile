@@ -8,7 +8,7 @@ SHELL := /bin/bash
 .NOTPARALLEL:
 export PYTHONDONTWRITEBYTECODE := 1
 .PHONY: help run test clean fmt kit pages header examples tables texts aims stores programs reference installs cited narrow bench stack installable install uninstall
-.PHONY: unsound reports moves daemon differential noticed soak mutants stats definitions-check cases
+.PHONY: unsound reports moves daemon peers differential noticed soak mutants stats definitions-check cases
 
 MACHINE := $(shell uname -m)
 ifeq ($(MACHINE),x86_64)
@@ -189,6 +189,10 @@ soak: target/c99/driver $(BINARY)
 	    done; \
 	done
 
+#: peers              the daemon of the examples with Kamailio, freeDiameter, Erlang's diameter and tshark, which it installs from Debian as root; 2 minutes
+peers: target/c99/daemon target/c/maketable
+	tests/peers.sh target/test/peers target/c/maketable $(RUN) target/c99/daemon
+
 # After how many cases each deliberate fault of the independent program shows; what the cases are made of.
 COUNT_mutants := 100000
 #: mutants            whether 664 deliberate faults would be noticed, and after how many cases
@@ -287,6 +291,7 @@ target/c99/month: tests/month.c bench/requests.h examples/load.h $(HEADER) $(ARC
 	mkdir -p $(@D)
 	$(X86_CC) -std=c99 $(STRICT) -o $@ $< $(ARCHIVE)
 
+target/c99/daemon: $(addprefix examples/,base.h files.h log.h remember.h)
 target/c99/%: examples/%.c examples/load.h examples/fault.h examples/store.h $(HEADER) $(ARCHIVE)
 	mkdir -p $(@D)
 	$(X86_CC) -std=c99 $(STRICT) -o $@ $< $(ARCHIVE)

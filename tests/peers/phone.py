@@ -198,7 +198,7 @@ def main():
     carol = Phone("carol", "192.0.2.12")
     status, headers = carol.register(600)
     want(status == 403, "carol, who is barred, gets %d" % status)
-    step("carol is barred: UAR X5003, 403")
+    step("carol is barred: UAR B5003, 403")
     status, headers = Phone("dave", "192.0.2.13").register(600)
     want(status == 403, "dave, who has no vectors, gets %d" % status)
     step("dave has no vectors left: MAR B5012, 403")
