@@ -215,7 +215,9 @@ if there freeDiameterd openssl; then
     finish "$relay_pid" || true
     daemon_down kamailio-relay
 else
-    cannot 'relay: freeDiameter' 'freeDiameterd or openssl is missing'
+    for what in 'freeDiameter connects' "Erlang's diameter" 'it comes back' "Kamailio's phones" 'a call server by TLS'; do
+        cannot "relay: $what" 'freeDiameterd or openssl is missing'
+    done
 fi
 
 # ---- the judge

@@ -67,7 +67,7 @@ def main():
     print("judge.py: SARs by type: %s; results: %s" % (said(types), said(results)))
     noticed = bool(judge(damaged(capture))[3])
     print("judge.py: of a copy with a damaged answer tshark %s" % ("complains" if noticed else "says nothing"))
-    good = sum(answers.values()) > 50 and unpaired == 0 and not complaints and noticed
+    good = sum(answers.values()) > 50 and {"CEA", "DWA", "DPA"} <= set(answers) and unpaired == 0 and not complaints and noticed
     return 0 if good and {"1", "2", "3", "5"} <= set(types) and {"B2001", "B5003", "B5012", "X2001", "X5001", "X5003", "X5004", "X5006"} <= set(results) else 1
 
 

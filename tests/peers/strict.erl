@@ -52,10 +52,12 @@ trials(Address, Port) ->
     connect(lenient, Address, Port),
     {answer, #{'Result-Code' := 3001}} = plain(ask(lenient, ['PPR'])),
     io:format("strict.erl: the same with strict_mbit off: B3001~n"),
-    %% The watchdog of the stack itself, and the end.
+    %% The stack's own DWRs, after 6 seconds of silence, and then the end by DPR.
+    timer:sleep(8000),
+    step({"LIR of alice, after some DWRs", ['LIR', {'Public-Identity', Alice}], {x, 5003}}),
     ok = diameter:stop_service(strict),
     ok = diameter:stop_service(lenient),
-    length(Steps) + 1.
+    length(Steps) + 2.
 
 step({What, Request, Wanted}) ->
     Got = result(plain(ask(strict, Request))),
@@ -85,7 +87,7 @@ service(Name, Strict) ->
 connect(Name, Address, Port) ->
     {ok, Ip} = inet:parse_address(Address),
     true = diameter:subscribe(Name),
-    {ok, _} = diameter:add_transport(Name, {connect, [{transport_module, diameter_tcp}, {transport_config, [{raddr, Ip}, {rport, Port}, {reuseaddr, true}]}]}),
+    {ok, _} = diameter:add_transport(Name, {connect, [{watchdog_timer, 6000}, {transport_module, diameter_tcp}, {transport_config, [{raddr, Ip}, {rport, Port}, {reuseaddr, true}]}]}),
     await(Name).
 
 await(Name) ->
