@@ -59,7 +59,7 @@ target/bin/%: $(PROVED)
 	rt check $*
 	touch $@
 
-#: test               every test from fmt to differential below, 5 minutes once the library is proved, a quarter of an hour under an emulator
+#: test               every test from fmt to differential below, 7 minutes once the library is proved, 20 under an emulator
 test: fmt kit pages header examples tables texts aims stores programs unsound reports moves daemon reference installs cited narrow noticed differential
 
 #: fmt                whether crates/ is in the kit's layout
@@ -131,7 +131,8 @@ moves: target/c99/moves
 	$(RUN) $< $(SEED) $(COUNT_moved)
 
 #: daemon             the daemon of the examples with a client of its own: cut frames, garbage, slow peers, new tables, kills; 1 to 3 minutes
-daemon: target/c/maketable $(ARCHIVE)
+daemon: target/c/remember target/c/maketable $(ARCHIVE)
+	ASAN_OPTIONS=detect_leaks=0 $< $(SEED) 20000
 	RUN='$(RUN)' tests/served.sh target/test/served target/c/maketable $(ARCHIVE) $(X86_CC)
 
 #: reference          the independent program's own tests
@@ -255,6 +256,10 @@ target/c/fault: tests/fault.c examples/fault.h
 target/c++/fault: tests/fault.c examples/fault.h
 	mkdir -p $(@D)
 	$(CXX) $(STRICT) -o $@ -x c++ $<
+
+target/c/remember: tests/remember.c $(addprefix examples/,remember.h base.h fault.h) $(HEADER)
+	mkdir -p $(@D)
+	$(CC) -std=c99 $(STRICT) -g -fsanitize=address,undefined -fno-sanitize-recover=all -o $@ $<
 
 target/c/store: tests/store.c examples/store.h examples/load.h
 	mkdir -p $(@D)

@@ -1,6 +1,7 @@
 #!/usr/bin/env python3
 """client.py ROOM MAKETABLE KILLS TRIAL.. -- DAEMON..: a client for the daemon of the examples, which it starts anew for each trial.
-The daemon is built with QUIET=3, GREETING=1, FAREWELL=1 and slow-disk.h. KILLS is how often the trial `kills` kills it.
+The daemon is built with slow-disk.h, and for the trials greeting, slow and ending with QUIET=3, GREETING=1, FAREWELL=1. KILLS is about how
+often the trial `kills` kills it.
 Status 0 if all trials went as they should, 1 if one did not."""
 import os
 import random
@@ -16,7 +17,7 @@ import time
 CX, CER, DWR, DPR, UAR, SAR, LIR, MAR = 16777216, 257, 280, 282, 300, 301, 302, 303
 USERS, VECTORS = 40, 22
 SERVER = b"sip:scscf1.isle:6060"
-PATIENCE = float(os.environ.get("PATIENCE", 20))  # seconds until an answer is missed
+PATIENCE = float(os.environ.get("PATIENCE", 60))  # seconds until an answer is missed
 
 
 class Wrong(Exception):
@@ -305,32 +306,36 @@ def greeting(room):
 
 
 def cut(room):
-    """Frames cut at every byte, and a byte at a time."""
+    """Frames cut at every byte, by fifty peers at once, and a byte at a time."""
     room.start()
-    client = Client(room)
+    clients = [Client(room) for _ in range(50)]
     asked = [lir(1, end=1), base(DWR, end=2), uar(2, end=3), request(999, b"", end=4), lir(77, end=5)]
-    expected = [client.ask(one) for one in asked]
+    expected = [clients[0].ask(one) for one in asked]
     want([result(one) for one in expected] == ["X2003", "B2001", "X2001", "B3001", "X5001"], "other results")
     stream = b"".join(asked)
 
-    def again(at):
-        head = stream[:16] + struct.pack(">I", 1000 + at) + stream[20:]  # another request to the daemon
-        client.send(head[:at])
-        time.sleep(0.0005)
-        client.send(head[at:])
-        for number, answer in enumerate(expected):
-            got = client.answer()
-            want(got is not None, "cut at %d: no answer" % at)
-            want(got[:16] == answer[:16] and got[20:] == answer[20:], "cut at %d: another answer" % at)
-            want(number == 0 or got == answer, "cut at %d: another answer" % at)
+    def again(places):
+        """The stream from each of some peers, each cut at its own place; the first request of each is a new one to the daemon."""
+        streams = [stream[:16] + struct.pack(">I", 1000 + at) + stream[20:] for at in places]
+        for client, one, at in zip(clients, streams, places):
+            client.send(one[:at])
+        time.sleep(0.002)
+        for client, one, at in zip(clients, streams, places):
+            client.send(one[at:])
+        for client, at in zip(clients, places):
+            for number, answer in enumerate(expected):
+                got = client.answer()
+                want(got is not None, "cut at %d: no answer" % at)
+                want(got[:16] == answer[:16] and got[20:] == answer[20:], "cut at %d: another answer" % at)
+                want(number == 0 or got == answer, "cut at %d: another answer" % at)
 
-    for at in range(1, len(stream)):
-        again(at)
+    for first in range(1, len(stream), len(clients)):
+        again(range(first, min(first + len(clients), len(stream))))
     for at in range(len(stream)):
-        client.send(stream[at:at + 1])
-        time.sleep(0.0002)
+        clients[0].send(stream[at:at + 1])
+        time.sleep(0)
     for answer in expected:
-        want(client.answer() == answer, "a byte at a time: another answer")
+        want(clients[0].answer() == answer, "a byte at a time: another answer")
     room.end()
 
 
@@ -415,7 +420,7 @@ def slow(room):
         longest = max(longest, time.time() - asked)
         want(alive.answer(0.01) is None, "a peer that asks nothing is answered")
         hung_up = room.log().count("no whole message came")
-    want(longest < 1.5, "slow peers hold another one up: %.2f s" % longest)
+    want(longest < 5, "slow peers hold another one up: %.2f s" % longest)
     want(hung_up == 3 and sent > 100000, "%d of 3 slow peers are hung up on" % hung_up)
     want(head.is_gone() and half.answer() is None and half.is_gone(), "a slow peer is hung up on in the log alone")
     want(alive.watchdogs >= 1, "the daemon sends no DWR")
@@ -603,7 +608,7 @@ def full(room):
 
 
 def spoilt(room):
-    """A daemon whose table and then vectors are damaged in memory, which it reads again. Not among `all`: it takes another build."""
+    """A daemon whose table and then vectors are damaged in memory, which it reads again: a build of its own."""
     room.start()
     client = Client(room)
     want(result(client.ask(sar(1, 1))) == "B2001", "over a table that is damaged in memory it does not answer")
@@ -726,7 +731,7 @@ def main():
     path, maketable, kill_count = sys.argv[1:4]
     room = Room(path, os.path.realpath(maketable), sys.argv[split + 1:], int(kill_count))
     names = sys.argv[4:split]
-    for name in names if names != ["all"] else list(TRIALS)[:-1]:
+    for name in names:
         begun = time.time()
         room.prepare()
         try:
