@@ -103,7 +103,7 @@ texts: target/c/maketable target/c/showtable target/c/texts
 aims: target/c/aims
 	tests/aims.sh target/test/aims target/c/aims
 
-#: stores             store.h by itself, and the daemon that ndushavire(3) shows, on a disk that fails
+#: stores             store.h by itself, the daemon that ndushavire(3) shows and that of the examples, on a disk that fails
 stores: target/c/store target/c++/store target/c/maketable $(ARCHIVE)
 	for store in target/c/store target/c++/store; do rm -rf target/test/store; mkdir -p target/test/store; $$store target/test/store; done
 	RUN='$(RUN)' tests/daemon.sh target/test/daemon target/c/maketable $(ARCHIVE) $(X86_CC)

@@ -1,6 +1,7 @@
 /* daemon [-a ADDRESS] [-p PORT] LIVE CARDS: the smallest whole daemon over the library, to be copied: what ndushavire(3) tells, running.
  * LIVE is the folder of table and profile, or a link to it; CARDS is that of the vector file, vectors. It listens on 127.0.0.1, port 3868,
- * unless it is told otherwise, writes its log to standard error, and stays in the foreground.
+ * unless it is told otherwise, and stays in the foreground. Its log goes to standard error, which somebody must read, or it is a file: a
+ * pipe that is full would be waited for.
  *
  * - One thread, one loop over poll. No peer is waited for: one that sends a byte a minute, or reads nothing, has its place and no more.
  * - CER, DWR and DPR are answered here (base.h). Every other message goes to ndushavire_decide, unless it came before and its answer is
@@ -276,9 +277,16 @@ static void write_some(Peer *peer) {
 
 static volatile sig_atomic_t told_to_end;
 
-static void on_signal(int signal) {
+static void end_later(int signal) {
     (void)signal;
     told_to_end = 1;
+}
+
+static void on(int signal, void (*what)(int)) {
+    struct sigaction action;
+    memset(&action, 0, sizeof action);
+    action.sa_handler = what;
+    sigaction(signal, &action, NULL);
 }
 
 static int listen_at(const char *address, unsigned long port) {
@@ -391,12 +399,12 @@ static void say_farewell(void) {
 int main(int argc, char **argv) {
     const char *address = "127.0.0.1";
     unsigned long port = 3868;
-    struct sigaction ends;
     int option, wrong = 0;
     while ((option = getopt(argc, argv, "a:p:")) != -1) {
+        char *end = "";
         if (option == 'a') address = optarg;
-        if (option == 'p') port = strtoul(optarg, NULL, 10);
-        wrong |= option == '?';
+        if (option == 'p') port = strtoul(optarg, &end, 10);
+        wrong |= option == '?' || *end != '\0';
     }
     if (wrong || argc - optind != 2 || port > 65535) {
         fprintf(stderr, "usage: daemon [-a ADDRESS] [-p PORT] LIVE CARDS\n");
@@ -404,10 +412,9 @@ int main(int argc, char **argv) {
     }
     setvbuf(stderr, NULL, _IOLBF, 0);
     look_at_clock();
-    memset(&ends, 0, sizeof ends);
-    ends.sa_handler = on_signal;
-    sigaction(SIGTERM, &ends, NULL);
-    sigaction(SIGINT, &ends, NULL);
+    on(SIGTERM, end_later);
+    on(SIGINT, end_later);
+    on(SIGPIPE, SIG_IGN); /* a log that nobody reads any more */
     take_all(argv[optind], argv[optind + 1]);
     for (int i = 0; i < PEERS; i++) peers[i].socket = -1;
     const int listening = listen_at(address, port);
