@@ -295,6 +295,8 @@ def greeting(room):
     want(result(client.ask(cer(application=0xFFFFFFFF))) == "B2001", "a relay is not taken")
     want(result(client.ask(base(DPR, avp(273, 0), hop=5))) == "B2001" and client.is_gone(), "a DPR is not answered, or not the last")
     client = Client(room, greet=False)
+    want(result(client.ask(base(CER, avp(258, CX)))) == "B2001", "a CER with less in it, as some send it first, is not taken")
+    client = Client(room, greet=False)
     want(result(client.ask(cer(application=4))) == "B5010" and client.is_gone(), "a peer without Cx stays")
     for first in lir(1), base(DWR), cer()[:4] + b"\0" + cer()[5:], message(CER, b"", application=0, flags=0x80), message(CER, avp(264, b"x")):
         client = Client(room, greet=False)
