@@ -303,7 +303,7 @@ def greeting(room):
         client.send(first)
         want(client.is_gone(), "a peer that does not begin with a CER stays")
     client = Client(room, greet=False)
-    want(client.is_gone(3), "a peer that sends no CER stays")
+    want(client.is_gone(), "a peer that sends no CER stays")
     room.end()
 
 
@@ -475,7 +475,7 @@ def replaced(room):
     # Without a request, within a second or two.
     room.pair("fifth", households(3))
     room.link("fifth")
-    room.logged("a new table is taken over, 3 records", 5)
+    room.logged("a new table is taken over, 3 records")
     room.end()
 
 
@@ -534,14 +534,14 @@ def ending(room):
     client.ask(sar(1, 1))
     client.close()
     room.process.send_signal(signal.SIGTERM)
-    begun = time.time()
     for peer in polite, deaf:
         told = peer.answer()
         want(told is not None and told[4:8] == b"\x80\0\1\x1a" and all_of(told, 273) == [b"\0\0\0\0"], "a peer is not told by a DPR")
     want(waiting.is_gone(), "a peer without a CEA is not hung up on")
     polite.send(base(DPR, avp(268, 2001), flags=0, hop=struct.unpack(">I", told[12:16])[0]))
-    want(polite.is_gone(0.5), "a DPA is not the last")
-    want(room.process.wait(PATIENCE) == 0 and time.time() - begun < 4, "it does not end")
+    want(polite.is_gone(), "a DPA is not the last")
+    room.logged("hung up: as agreed")
+    want(room.process.wait(PATIENCE) == 0, "it does not end, or ends with another status")
     want("daemon: ended" in room.log(), "it does not say that it ended")
     want(room.lines()[b"sip:user1@isle"][0] == 1, "a registration is gone")
     room.start()
