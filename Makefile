@@ -132,7 +132,7 @@ moves: target/c99/moves
 
 #: daemon             the daemon of the examples with a client of its own: cut frames, garbage, slow peers, new tables, kills; 1 to 3 minutes
 daemon: target/c/remember target/c/maketable $(ARCHIVE)
-	ASAN_OPTIONS=detect_leaks=0 $< $(SEED) 20000
+	$< $(SEED) 20000
 	RUN='$(RUN)' tests/served.sh target/test/served target/c/maketable $(ARCHIVE) $(X86_CC)
 
 #: reference          the independent program's own tests
@@ -259,7 +259,7 @@ target/c++/fault: tests/fault.c examples/fault.h
 
 target/c/remember: tests/remember.c $(addprefix examples/,remember.h base.h fault.h) $(HEADER)
 	mkdir -p $(@D)
-	$(CC) -std=c99 $(STRICT) -g -fsanitize=address,undefined -fno-sanitize-recover=all -o $@ $<
+	$(CC) -std=c99 $(STRICT) -o $@ $<
 
 target/c/store: tests/store.c examples/store.h examples/load.h
 	mkdir -p $(@D)

@@ -3,7 +3,8 @@
  * unless it is told otherwise, and stays in the foreground. Its log goes to standard error, which somebody must read, or it is a file: a
  * pipe that is full would be waited for.
  *
- * - One thread, one loop over poll. No peer is waited for: one that sends a byte a minute, or reads nothing, has its place and no more.
+ * - One thread, one loop over poll. No peer is waited for: one that sends a byte a minute, or reads nothing, has its place and no more. Of one
+ *   that sends much at once 16 KiB are served, and then come the others.
  * - CER, DWR and DPR are answered here (base.h). Every other message goes to ndushavire_decide, unless it came before and its answer is
  *   remembered (remember.h).
  * - What a call altered is stored and flushed before the answer is sent, the vector file and then the table (files.h, store.h). What cannot be

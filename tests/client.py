@@ -295,13 +295,15 @@ def greeting(room):
     want(result(client.ask(cer(application=0xFFFFFFFF))) == "B2001", "a relay is not taken")
     want(result(client.ask(base(DPR, avp(273, 0), hop=5))) == "B2001" and client.is_gone(), "a DPR is not answered, or not the last")
     client = Client(room, greet=False)
+    want(result(client.ask(base(CER, avp(258, CX)))) == "B2001", "a CER with less in it, as some send it first, is not taken")
+    client = Client(room, greet=False)
     want(result(client.ask(cer(application=4))) == "B5010" and client.is_gone(), "a peer without Cx stays")
     for first in lir(1), base(DWR), cer()[:4] + b"\0" + cer()[5:], message(CER, b"", application=0, flags=0x80), message(CER, avp(264, b"x")):
         client = Client(room, greet=False)
         client.send(first)
         want(client.is_gone(), "a peer that does not begin with a CER stays")
     client = Client(room, greet=False)
-    want(client.is_gone(3), "a peer that sends no CER stays")
+    want(client.is_gone(), "a peer that sends no CER stays")
     room.end()
 
 
@@ -473,7 +475,7 @@ def replaced(room):
     # Without a request, within a second or two.
     room.pair("fifth", households(3))
     room.link("fifth")
-    room.logged("a new table is taken over, 3 records", 5)
+    room.logged("a new table is taken over, 3 records")
     room.end()
 
 
@@ -532,14 +534,14 @@ def ending(room):
     client.ask(sar(1, 1))
     client.close()
     room.process.send_signal(signal.SIGTERM)
-    begun = time.time()
     for peer in polite, deaf:
         told = peer.answer()
         want(told is not None and told[4:8] == b"\x80\0\1\x1a" and all_of(told, 273) == [b"\0\0\0\0"], "a peer is not told by a DPR")
     want(waiting.is_gone(), "a peer without a CEA is not hung up on")
     polite.send(base(DPR, avp(268, 2001), flags=0, hop=struct.unpack(">I", told[12:16])[0]))
-    want(polite.is_gone(0.5), "a DPA is not the last")
-    want(room.process.wait(PATIENCE) == 0 and time.time() - begun < 4, "it does not end")
+    want(polite.is_gone(), "a DPA is not the last")
+    room.logged("hung up: as agreed")
+    want(room.process.wait(PATIENCE) == 0, "it does not end, or ends with another status")
     want("daemon: ended" in room.log(), "it does not say that it ended")
     want(room.lines()[b"sip:user1@isle"][0] == 1, "a registration is gone")
     room.start()

@@ -43,7 +43,11 @@ mkdir -p "$room/live" "$room/cards" "$room/database"
 room=$(cd "$room" && pwd)
 [[ ${daemon[-1]} = /* ]] || daemon[-1]=$(realpath "${daemon[-1]}")
 cp "$tests/peers/"* "$room/"
+# The relay's files are those that docs/INTEROPERABILITY.md shows, one indented piece after the other.
+sed -n '/^## A relay in front/,/^## Requests/p' "$tests/../docs/INTEROPERABILITY.md" >"$room/page"
 cd "$room"
+awk '/^    / { if (!within) piece++; within = 1; print substr($0, 5) > (piece == 1 ? "relay.conf" : piece == 2 ? "callers.conf" : "routes.conf"); next } { within = 0 }' page
+grep -q '^ConnectPeer' relay.conf && grep -q '^ALLOW_IPSEC' callers.conf && grep -q 'FINALDEST' routes.conf || fail "docs/INTEROPERABILITY.md shows no relay"
 ip link set lo up
 for last in 2 3 4 10 11 12 13; do ip address add "192.0.2.$last/32" dev lo; done
 printf '127.0.0.1 hss.isle localhost\n192.0.2.2 relay.isle\n192.0.2.3 icscf.isle\n192.0.2.4 scscf1.isle\n' >hosts

@@ -1,6 +1,9 @@
 /* remember SEED COUNT: remember.h and base.h by themselves. How long an answer is remembered, how many and how much at most; and COUNT random
- * messages, each in a piece of memory that is exactly as long, so that a byte too far is noticed by the compiler's own checks. */
+ * messages, each of which ends where memory ends that may be touched. */
+#define _GNU_SOURCE /* MAP_ANONYMOUS */
 #include <stdio.h>
+#include <sys/mman.h>
+#include <unistd.h>
 
 #include "../examples/remember.h"
 
@@ -77,11 +80,17 @@ static void draw_message(uint8_t *to, size_t length, uint32_t *state) {
     }
 }
 
-static int survives(uint32_t *state) {
+/* The end of a page behind which is one that nobody may touch, or NULL. */
+static uint8_t *edge(void) {
+    const size_t page = (size_t)sysconf(_SC_PAGESIZE);
+    uint8_t *two = (uint8_t *)mmap(NULL, 2 * page, PROT_READ | PROT_WRITE, MAP_PRIVATE | MAP_ANONYMOUS, -1, 0);
+    return two != MAP_FAILED && mprotect(two + page, page, PROT_NONE) == 0 ? two + page : NULL;
+}
+
+static int survives(uint8_t *edges[2], uint32_t *state) {
     static uint8_t plain[NDUSHAVIRE_REQUEST_MAX], answer[NDUSHAVIRE_ANSWER_ROOM];
     const size_t length = HEADER + drawn(state) % 200, other = HEADER + drawn(state) % 200;
-    uint8_t *message = (uint8_t *)malloc(length), *first = (uint8_t *)malloc(other);
-    if (message == NULL || first == NULL) return wrong("no memory");
+    uint8_t *message = edges[0] - length, *first = edges[1] - other;
     draw_message(message, length, state);
     draw_message(first, other, state);
     find_avp(message + HEADER, length - HEADER, 264);
@@ -93,8 +102,6 @@ static int survives(uint32_t *state) {
         const size_t again = answer_again(answer, one, message, length);
         good = again <= sizeof answer && again == message_length(answer) && memcmp(answer + 12, message + 12, 4) == 0;
     }
-    free(message);
-    free(first);
     return good ? 1 : wrong("a random request is not remembered as it was");
 }
 
@@ -102,9 +109,11 @@ int main(int argc, char **argv) {
     if (argc != 3) return 2;
     uint32_t state = (uint32_t)strtoul(argv[1], NULL, 10) | 1;
     const unsigned long count = strtoul(argv[2], NULL, 10);
+    uint8_t *edges[2] = {edge(), edge()};
+    if (edges[0] == NULL || edges[1] == NULL) return 2;
     if (!keeps_its_time() || !keeps_the_newest() || !keeps_within_its_bytes()) return 1;
     for (unsigned long i = 0; i < count; i++)
-        if (!survives(&state)) return 1;
+        if (!survives(edges, &state)) return 1;
     forget_all();
     printf("remember: seed %s, %lu random messages; answers are remembered as long, as many and as much as they may\n", argv[1], count);
     return 0;
