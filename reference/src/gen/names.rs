@@ -36,6 +36,7 @@ pub fn any(rng: &mut Rng, most: usize) -> Vec<u8> {
 pub fn near(rng: &mut Rng, name: &[u8], most: usize) -> Vec<u8> {
     let mut other = name.to_vec();
     match rng.below(4) {
+        _ if other.is_empty() => other.push(*rng.pick(FEW)),
         0 if other.len() < most => other.push(*rng.pick(FEW)),
         1 if other.len() < most => other.push(0),
         2 if other.len() > 1 => {
