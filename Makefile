@@ -8,7 +8,7 @@ SHELL := /bin/bash
 .NOTPARALLEL:
 export PYTHONDONTWRITEBYTECODE := 1
 .PHONY: help run test clean fmt kit pages header examples tables texts aims stores programs reference installs cited narrow bench stack installable install uninstall
-.PHONY: unsound reports moves differential noticed soak mutants stats definitions-check cases
+.PHONY: unsound reports moves daemon peers differential noticed soak mutants stats definitions-check cases
 
 MACHINE := $(shell uname -m)
 ifeq ($(MACHINE),x86_64)
@@ -59,8 +59,8 @@ target/bin/%: $(PROVED)
 	rt check $*
 	touch $@
 
-#: test               every test from fmt to differential below, 5 minutes once the library is proved, a quarter of an hour under an emulator
-test: fmt kit pages header examples tables texts aims stores programs unsound reports moves reference installs cited narrow noticed differential
+#: test               every test from fmt to differential below, 7 minutes once the library is proved, 20 under an emulator
+test: fmt kit pages header examples tables texts aims stores programs unsound reports moves daemon reference installs cited narrow noticed differential
 
 #: fmt                whether crates/ is in the kit's layout
 fmt:
@@ -103,7 +103,7 @@ texts: target/c/maketable target/c/showtable target/c/texts
 aims: target/c/aims
 	tests/aims.sh target/test/aims target/c/aims
 
-#: stores             store.h by itself, and the daemon that ndushavire(3) shows, on a disk that fails
+#: stores             store.h by itself, the daemon that ndushavire(3) shows and that of the examples, on a disk that fails
 stores: target/c/store target/c++/store target/c/maketable $(ARCHIVE)
 	for store in target/c/store target/c++/store; do rm -rf target/test/store; mkdir -p target/test/store; $$store target/test/store; done
 	RUN='$(RUN)' tests/daemon.sh target/test/daemon target/c/maketable $(ARCHIVE) $(X86_CC)
@@ -129,6 +129,11 @@ COUNT_moved := 2000
 #: moves              the moves between editions beside a model in C, and requests over either edition, over 2,000 random tables; SEED=N runs a seed again
 moves: target/c99/moves
 	$(RUN) $< $(SEED) $(COUNT_moved)
+
+#: daemon             the daemon of the examples with a client of its own: cut frames, garbage, slow peers, new tables, kills; 1 to 3 minutes
+daemon: target/c/remember target/c/maketable $(ARCHIVE)
+	$< $(SEED) 20000
+	RUN='$(RUN)' tests/served.sh target/test/served target/c/maketable $(ARCHIVE) $(X86_CC)
 
 #: reference          the independent program's own tests
 reference:
@@ -184,6 +189,10 @@ soak: target/c99/driver $(BINARY)
 	        $(BINARY) compare --kind $$kind --seed $$(($(SEED) + round)) --count $(COUNT_round) -- $(DRIVER); \
 	    done; \
 	done
+
+#: peers              the daemon of the examples with Kamailio, freeDiameter, Erlang's diameter and tshark, which it installs from Debian as root; 2 minutes
+peers: target/c99/daemon target/c/maketable
+	tests/peers.sh target/test/peers target/c/maketable $(RUN) target/c99/daemon
 
 # After how many cases each deliberate fault of the independent program shows; what the cases are made of.
 COUNT_mutants := 100000
@@ -248,6 +257,10 @@ target/c++/fault: tests/fault.c examples/fault.h
 	mkdir -p $(@D)
 	$(CXX) $(STRICT) -o $@ -x c++ $<
 
+target/c/remember: tests/remember.c $(addprefix examples/,remember.h base.h fault.h) $(HEADER)
+	mkdir -p $(@D)
+	$(CC) -std=c99 $(STRICT) -o $@ $<
+
 target/c/store: tests/store.c examples/store.h examples/load.h
 	mkdir -p $(@D)
 	$(CC) -std=c99 $(STRICT) -o $@ $<
@@ -283,6 +296,7 @@ target/c99/month: tests/month.c bench/requests.h examples/load.h $(HEADER) $(ARC
 	mkdir -p $(@D)
 	$(X86_CC) -std=c99 $(STRICT) -o $@ $< $(ARCHIVE)
 
+target/c99/daemon: $(addprefix examples/,base.h files.h log.h remember.h)
 target/c99/%: examples/%.c examples/load.h examples/fault.h examples/store.h $(HEADER) $(ARCHIVE)
 	mkdir -p $(@D)
 	$(X86_CC) -std=c99 $(STRICT) -o $@ $< $(ARCHIVE)

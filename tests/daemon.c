@@ -1,7 +1,7 @@
-/* daemon FOLDER TABLE PROFILE VECTORS QUESTION ASSIGNMENT CHALLENGE RUBBISH: the daemon of ndushavire(3), example.c, on a disk that fails. Its
- * system calls fail, or are its last, or the last before a power cut, one by one and two by two; it is started again, and its peer asks
- * until it is answered. No answer may go out while a power cut could bring back another table or vector file than it was given from, and
- * no vector twice. To RUBBISH, which has an AVP at fault, its log says where it hurts.
+/* daemon FOLDER TABLE PROFILE VECTORS QUESTION ASSIGNMENT CHALLENGE RUBBISH: example.c, which is the daemon of ndushavire(3) or that of the
+ * examples, on a disk that fails. Its system calls fail, or are its last, or the last before a power cut, one by one and two by two; it is
+ * started again, and its peer asks until it is answered. No answer may go out while a power cut could bring back another table or vector
+ * file than it was given from, and no vector twice. To RUBBISH, which has an AVP at fault, its log says where it hurts.
  * The disk is a model: what is in the folders is what every reader sees, and only what was flushed is on disk. */
 #define _GNU_SOURCE /* memmem, MAP_ANONYMOUS */
 #include <stdarg.h>
@@ -229,6 +229,13 @@ static int disk_close(int file) {
 #undef fchmod
 #undef close
 
+#ifndef MORE_LOGGED
+#define MORE_LOGGED "" /* what else the log has of a request with an AVP at fault */
+#endif
+#ifndef PAIRED
+#define PAIRED WAYS /* how many of the ways are tried two by two */
+#endif
+
 /* ---- the peer */
 
 static Bytes old_file[NAMES], old_profile, question, assignment, challenge, rubbish;
@@ -396,7 +403,7 @@ static unsigned try_all(unsigned whole) {
             const Fault first = {call, (Way)way};
             if (!try_faults(first, none, 1)) return 0;
             runs++;
-            for (int later_way = 0; later_way < WAYS; later_way++)
+            for (int later_way = 0; way < PAIRED && later_way < PAIRED; later_way++)
                 for (unsigned later = call + 1, most = model->calls; later <= most; later++) {
                     const Fault second = {later, (Way)later_way};
                     if (!try_faults(first, second, 0)) return 0;
@@ -424,7 +431,7 @@ static int try_rubbish(void) {
     static const char fault[] = "daemon: peer 6: B5004 at byte 208: AVP 612 vendor 10415 flags 0xc0 length 84\n"
                                 "    192: 0000025F C0000010 000028AF 00000001\n"
                                 "    208:[00000264 C0000054 000028AF]00000260\n"
-                                "    224: C000001C 000028AF 44696765 73742D41\n";
+                                "    224: C000001C 000028AF 44696765 73742D41\n" MORE_LOGGED;
     const Fault none = {0, FAILS};
     char logged[2 * sizeof fault];
     int status;

@@ -1,6 +1,7 @@
 #!/usr/bin/env bash
 # daemon.sh ROOM MAKETABLE ARCHIVE CC..: builds the daemon that ndushavire(3) shows and runs it on a disk that fails (daemon.c). Then
-# it leaves out one thing after the other, of the page or of store.h, and sees that each is noticed. RUN, if set, is the emulator.
+# it leaves out one thing after the other, of the page or of store.h, and sees that each is noticed. Then the same with the daemon of the
+# examples. RUN, if set, is the emulator.
 set -euo pipefail
 room=$1 maketable=$2 archive=$3
 shift 3
@@ -39,8 +40,9 @@ sed -n '/^\.Sh EXAMPLES/,/^\.Ed/{/^\.Bd/,/^\.Ed/p}' "$top/man/ndushavire.3" | se
 grep -q -F 'ndushavire_decide(' "$room/source/example.c" || fail 'the page has no daemon'
 cp "$top"/examples/{fault,load,store}.h "$room/source/"
 
+source=source flags=()
 build() { # SOURCES PROGRAM
-    "${compiler[@]}" -std=c99 -O2 -Wall -Wextra -pedantic -Werror -I"$top/include" -I"$1" -o "$2" "$tests/daemon.c" "$archive"
+    "${compiler[@]}" -std=c99 -O2 -Wall -Wextra -pedantic -Werror "${flags[@]}" -I"$top/include" -I"$1" -o "$2" "$tests/daemon.c" "$archive"
 }
 tried() { # PROGRAM
     "${run[@]}" "$1" "$disk" "$room/table" "$room/profile" "$room/vectors" "$room/question" "$room/assignment" "$room/challenge" "$room/rubbish"
@@ -52,9 +54,9 @@ tried "$room/daemon"
 without() { # ABOUT FILE SED..
     local status=0
     rm -rf "$room/changed"
-    cp -r "$room/source" "$room/changed"
+    cp -r "$room/$source" "$room/changed"
     sed -i "${@:3}" "$room/changed/$2"
-    ! cmp -s "$room/source/$2" "$room/changed/$2" || fail "$1: nothing to leave out"
+    ! cmp -s "$room/$source/$2" "$room/changed/$2" || fail "$1: nothing to leave out"
     build "$room/changed" "$room/changed/daemon"
     tried "$room/changed/daemon" >"$room/said" 2>&1 || status=$?
     [ "$status" = 1 ] || { cat "$room/said" >&2; fail "$1: not noticed, status $status"; }
@@ -81,3 +83,19 @@ without 'a word taken for a length' example.c 's/return send_all(peer, answer, n
 without 'a file that is not flushed' store.h 's/ \&\& flushed(file);$/;/'
 without 'a folder that is not flushed' store.h 's/return flushed(folder) ? STORED : UNSURE;/return STORED;/'
 echo "daemon.sh: the page's daemon answers from what is on disk and logs an AVP at fault, and each of $noticed things left out is noticed"
+
+# The daemon of the examples. Two calls that fail are tried, and of the other ways each by itself: store.h is the same.
+mkdir "$room/whole"
+cp "$top"/examples/{daemon.c,base.h,fault.h,files.h,log.h,remember.h,store.h} "$room/whole/"
+cp "$tests/whole.c" "$room/whole/example.c"
+source=whole flags=(-DPAIRED=1) noticed=0
+build "$room/whole" "$room/whole/daemon"
+tried "$room/whole/daemon"
+without 'a start that does not flush' files.h 's/ || !flushed(from) || !flushed(file->folder)) return/) return/'
+without 'a file that is unsure and answered from' files.h 's/if (stored == UNSURE \&\& store(/if (0 \&\& store(/'
+without 'a table that was not stored and is kept in memory' daemon.c 's/^ *put_back(&table);.*//'
+without 'vectors that were not stored and are kept in memory' daemon.c 's/^ *put_back(&vectors);.*//'
+without 'an answer sent whether stored or not' files.h '/if (stored == NOT_STORED) {/,/}/s/return 0;/return 1;/'
+without 'a table that is stored before the vectors' daemon.c 's/if (!durable(&vectors) || !durable(&table)) {/if (!durable(\&table) || !durable(\&vectors)) {/'
+without 'vectors that are unsound and lent as they are' files.h 's/vectors.length = 0;/;/'
+echo "daemon.sh: so does the daemon of the examples, and each of $noticed things left out is noticed"

@@ -1,0 +1,426 @@
+/* daemon [-a ADDRESS] [-p PORT] LIVE CARDS: the smallest whole daemon over the library, to be copied: what ndushavire(3) tells, running.
+ * LIVE is the folder of table and profile, or a link to it; CARDS is that of the vector file, vectors. It listens on 127.0.0.1, port 3868,
+ * unless it is told otherwise, and stays in the foreground. Its log goes to standard error, which somebody must read, or it is a file: a
+ * pipe that is full would be waited for.
+ *
+ * - One thread, one loop over poll. No peer is waited for: one that sends a byte a minute, or reads nothing, has its place and no more. Of one
+ *   that sends much at once 16 KiB are served, and then come the others.
+ * - CER, DWR and DPR are answered here (base.h). Every other message goes to ndushavire_decide, unless it came before and its answer is
+ *   remembered (remember.h).
+ * - What a call altered is stored and flushed before the answer is sent, the vector file and then the table (files.h, store.h). What cannot be
+ *   stored is undone and not answered: the peer asks again.
+ * - A table that is put in the live one's place is taken over if it is sound. Vectors are put in with the daemon stopped.
+ * - It never stores over files that nobody may write to: those are a last good copy.
+ *
+ * Who may connect, TLS, failover and routing are a relay's in front of it; INTEROPERABILITY.md shows one.
+ * Exit status: 0 ended by SIGTERM or SIGINT; 1 it cannot start or go on; 2 the arguments are others. */
+#define _POSIX_C_SOURCE 200809L
+#include <arpa/inet.h>
+#include <netinet/in.h>
+#include <netinet/tcp.h>
+#include <poll.h>
+#include <signal.h>
+#include <sys/socket.h>
+
+#include <ndushavire.h>
+
+#include "base.h"
+#include "fault.h"
+#include "files.h"
+#include "log.h"
+#include "remember.h"
+
+#ifndef QUIET
+#define QUIET 120 /* seconds without a whole message until a peer is hung up on; at half of them it is asked by a DWR */
+#endif
+#ifndef GREETING
+#define GREETING 10 /* seconds that a new connection has for its CER */
+#endif
+#ifndef FAREWELL
+#define FAREWELL 3 /* seconds that peers have to answer our DPR */
+#endif
+enum { PEERS = 64, NAME_ROOM = 80, OUT_ROOM = 2 * NDUSHAVIRE_ANSWER_ROOM, BASE_ROOM = 512 };
+
+typedef struct {
+    int socket;             /* -1: nobody */
+    int open, ending;       /* whether it has its CEA; whether it is hung up on once all is written */
+    int asked;              /* whether a DWR of ours is out */
+    time_t heard;           /* when its last whole message came */
+    char name[NAME_ROOM];   /* for the log */
+    size_t have, over, out; /* bytes that were read; that are yet to be read over; that are yet to be written */
+    uint8_t in[NDUSHAVIRE_REQUEST_MAX], to_write[OUT_ROOM];
+} Peer;
+
+static Peer peers[PEERS];
+static uint8_t answer[NDUSHAVIRE_ANSWER_ROOM];
+
+static void hang_up(Peer *peer, const char *why) {
+    say("peer %s: hung up: %s", peer->name, why);
+    close(peer->socket);
+    peer->socket = -1;
+}
+
+static int has_room(const Peer *peer) { return OUT_ROOM - peer->out >= NDUSHAVIRE_ANSWER_ROOM; }
+
+/* Puts a message behind those that wait to be written. A peer is served only while it has room. */
+static void send_later(Peer *peer, const uint8_t *message, size_t length) {
+    memcpy(peer->to_write + peer->out, message, length);
+    peer->out += length;
+}
+
+/* ---- the base protocol */
+
+/* Asks a peer by a DWR, or tells it by a DPR that we end; without room it would not read that either. */
+static void ask(Peer *peer, unsigned long command) {
+    static unsigned long identifier;
+    uint8_t request[BASE_ROOM], identifiers[8];
+    if (identifier == 0) identifier = (unsigned long)time(NULL) << 20;
+    identifier = (identifier + 1) & 0xFFFFFFFFul;
+    put_four(identifiers, identifier);
+    put_four(identifiers + 4, identifier);
+    put_header(request, REQUEST, command, identifiers);
+    put_origin(request, table.bytes);
+    if (command == DISCONNECT) put_number(request, 273, 0); /* Disconnect-Cause: REBOOTING */
+    if (has_room(peer)) send_later(peer, request, message_length(request));
+}
+
+/* Our address on this connection, as Host-IP-Address has it: 1 or 2 for its family, in two bytes, and the address. */
+static size_t own_address(const Peer *peer, uint8_t *to) {
+    union {
+        struct sockaddr any;
+        struct sockaddr_in four;
+        struct sockaddr_in6 six;
+    } own;
+    socklen_t size = sizeof own;
+    memset(&own, 0, sizeof own);
+    getsockname(peer->socket, &own.any, &size);
+    const int six = own.any.sa_family == AF_INET6;
+    to[0] = 0;
+    to[1] = six ? 2 : 1;
+    if (six) memcpy(to + 2, &own.six.sin6_addr, 16);
+    else memcpy(to + 2, &own.four.sin_addr, 4);
+    return six ? 18 : 6;
+}
+
+static void greet(Peer *peer, const uint8_t *request, size_t length) {
+    uint8_t reply[BASE_ROOM], address[18];
+    const uint8_t *host = find_avp(request + HEADER, length - HEADER, 264);
+    if (host == NULL) {
+        hang_up(peer, "its CER has no Origin-Host");
+        return;
+    }
+    write_name(peer->name, sizeof peer->name, host + 8, avp_length(host) - 8);
+    const int common = names_cx(request + HEADER, length - HEADER);
+    put_answer(reply, request, table.bytes, common ? SUCCESS : NO_COMMON_APPLICATION);
+    put_capabilities(reply, address, own_address(peer, address));
+    send_later(peer, reply, message_length(reply));
+    peer->open = common;
+    peer->ending = !common;
+    say("peer %s: %s", peer->name, common ? "open" : "it does not speak Cx");
+}
+
+/* CER, DWR, DPR, and the answers to ours. */
+static void serve_base(Peer *peer, const uint8_t *message, size_t length) {
+    uint8_t reply[BASE_ROOM];
+    const unsigned long command = base_command(message);
+    if (command == DISCONNECT) peer->ending = 1;
+    if (!is_request(message)) return;
+    if (command == CAPABILITIES) {
+        greet(peer, message, length);
+        return;
+    }
+    put_answer(reply, message, table.bytes, SUCCESS);
+    send_later(peer, reply, message_length(reply));
+}
+
+/* ---- the library's requests */
+
+static uint64_t decide_once(const uint8_t *request, size_t length) {
+    keep(&table);
+    keep(&vectors);
+    return ndushavire_decide(request, length, table.bytes, table.length, profile.bytes, profile.length, vectors.bytes, vectors.length, answer,
+                             sizeof answer);
+}
+
+static uint64_t decide(const uint8_t *request, size_t length) {
+    const uint64_t word = decide_once(request, length);
+    const uint32_t number = ndushavire_number(word);
+    if (number != NDUSHAVIRE_TABLE_UNSOUND && number != NDUSHAVIRE_VECTORS_UNSOUND) return word;
+    read_again(number);
+    return decide_once(request, length);
+}
+
+/* A refusal has no answer. A stream that is out of step is hung up on; anything else is dropped. */
+static void refused(Peer *peer, uint64_t word) {
+    const uint32_t number = ndushavire_number(word);
+    say("peer %s: refused %lu, place %lu, value %lu", peer->name, (unsigned long)number, (unsigned long)ndushavire_place(word),
+        (unsigned long)ndushavire_value(word));
+    if (number == NDUSHAVIRE_REQUEST_SIZE || number == NDUSHAVIRE_REQUEST_LENGTH) hang_up(peer, "it is out of step");
+}
+
+/* For the night man: the AVP at fault, and where it stands. */
+static void log_fault(const Peer *peer, const uint8_t *request, size_t request_len, size_t length, size_t place) {
+    if (place == 0 || !may_say()) return;
+    fprintf(stderr, "daemon: peer %s: ", peer->name);
+    print_fault(stderr, answer, length, request, request_len, place);
+}
+
+/* A phone that is not challenged sees the same whatever the reason is: only here do they differ. */
+static void log_challenge(const Peer *peer, const uint8_t *request, size_t request_len, size_t length) {
+    const unsigned long base = base_result(answer, length);
+    const uint8_t *user = find_avp(request + HEADER, request_len - HEADER, 1), *other = find_avp(answer + HEADER, length - HEADER, 297);
+    char name[NAME_ROOM] = "";
+    if ((four_bytes(answer + 4) & 0xFFFFFFu) != 303 || base == SUCCESS) return;
+    if (user != NULL) write_name(name, sizeof name, user + 8, avp_length(user) - 8);
+    if (other != NULL) say("peer %s: no challenge for %s: X%lu", peer->name, name, four_bytes(other + 28));
+    else say("peer %s: no challenge for %s: B%lu", peer->name, name, base);
+}
+
+/* Decides a request. What it altered is on disk before its answer is put where it is sent from. */
+static void serve_new(Peer *peer, const uint8_t *request, size_t length) {
+    const uint64_t word = decide(request, length);
+    const size_t answer_len = ndushavire_value(word);
+    if (!ndushavire_answered(word)) {
+        refused(peer, word);
+        return;
+    }
+    log_fault(peer, request, length, answer_len, ndushavire_place(word));
+    log_challenge(peer, request, length, answer_len);
+    if (!durable(&vectors) || !durable(&table)) {
+        put_back(&table); /* nothing is sent: as if it had not come */
+        put_back(&vectors);
+        return;
+    }
+    remember(now, request, length, answer, answer_len);
+    send_later(peer, answer, answer_len);
+}
+
+static void serve(Peer *peer, const uint8_t *request, size_t length) {
+    const Remembered *before = length >= HEADER ? recall(now, request, length) : NULL;
+    look_for_table();
+    if (before == NULL) serve_new(peer, request, length);
+    else send_later(peer, answer, answer_again(answer, before, request, length));
+}
+
+/* ---- messages out of a stream of bytes */
+
+/* Before its CEA a peer may send a CER and nothing else. */
+static int may_come(const Peer *peer, const uint8_t *message) {
+    return peer->open || (is_request(message) && base_command(message) == CAPABILITIES && message_length(message) <= NDUSHAVIRE_REQUEST_MAX);
+}
+
+/* Reads over what is left of a message that is too long, and gives how much of it was there. */
+static size_t read_over(Peer *peer, size_t left) {
+    const size_t there = peer->over < left ? peer->over : left;
+    peer->over -= there;
+    return there;
+}
+
+/* A message that is longer than any request here: it is dropped, since a relay brings others' behind it. */
+static size_t too_long(Peer *peer, const uint8_t *message, size_t left) {
+    say("peer %s: refused %d, length %lu", peer->name, NDUSHAVIRE_REQUEST_SIZE, (unsigned long)message_length(message));
+    if (message[0] != 1) {
+        hang_up(peer, "it is out of step");
+        return 0;
+    }
+    peer->over = message_length(message);
+    return read_over(peer, left);
+}
+
+/* Takes the message that LEFT bytes begin with, and gives its length; 0 if it is not whole yet. */
+static size_t take_message(Peer *peer, const uint8_t *message, size_t left) {
+    if (left < HEADER) return 0;
+    const size_t length = message_length(message);
+    if (!may_come(peer, message)) {
+        hang_up(peer, "it began with something else than a CER");
+        return 0;
+    }
+    if (length > NDUSHAVIRE_REQUEST_MAX) return too_long(peer, message, left);
+    if (length > left) return 0;
+    peer->heard = now;
+    peer->asked = 0;
+    if (length >= HEADER && base_command(message) != 0) serve_base(peer, message, length);
+    else serve(peer, message, length);
+    return length;
+}
+
+/* Serves the whole messages that were read, as long as there is room for their answers. */
+static void work(Peer *peer) {
+    size_t at = 0, step = 1;
+    while (step > 0 && peer->socket >= 0 && !peer->ending && has_room(peer)) {
+        step = peer->over > 0 ? read_over(peer, peer->have - at) : take_message(peer, peer->in + at, peer->have - at);
+        at += step;
+    }
+    peer->have -= at;
+    memmove(peer->in, peer->in + at, peer->have);
+}
+
+static int for_later(void) { return errno == EAGAIN || errno == EWOULDBLOCK || errno == EINTR; }
+
+static void read_some(Peer *peer) {
+    const ssize_t got = recv(peer->socket, peer->in + peer->have, sizeof peer->in - peer->have, 0);
+    if (got < 0 && !for_later()) hang_up(peer, strerror(errno));
+    if (got == 0) peer->ending = 1; /* it still gets the answers that wait */
+    if (got <= 0) return;
+    peer->have += (size_t)got;
+    work(peer);
+}
+
+static void write_some(Peer *peer) {
+    const ssize_t sent = send(peer->socket, peer->to_write, peer->out, MSG_NOSIGNAL);
+    if (sent < 0 && !for_later()) hang_up(peer, strerror(errno));
+    if (sent <= 0) return;
+    peer->out -= (size_t)sent;
+    memmove(peer->to_write, peer->to_write + sent, peer->out);
+}
+
+/* ---- the loop */
+
+static volatile sig_atomic_t told_to_end;
+
+static void end_later(int signal) {
+    (void)signal;
+    told_to_end = 1;
+}
+
+static void on(int signal, void (*what)(int)) {
+    struct sigaction action;
+    memset(&action, 0, sizeof action);
+    action.sa_handler = what;
+    sigaction(signal, &action, NULL);
+}
+
+static int listen_at(const char *address, unsigned long port) {
+    union {
+        struct sockaddr any;
+        struct sockaddr_in four;
+        struct sockaddr_in6 six;
+    } at;
+    const int six = strchr(address, ':') != NULL, yes = 1;
+    socklen_t size = six ? sizeof at.six : sizeof at.four;
+    memset(&at, 0, sizeof at);
+    at.any.sa_family = six ? AF_INET6 : AF_INET;
+    at.four.sin_port = htons((uint16_t)port); /* in either, it stands at one place */
+    if (inet_pton(at.any.sa_family, address, six ? (void *)&at.six.sin6_addr : (void *)&at.four.sin_addr) != 1) stop(address, "no address");
+    const int listening = socket(at.any.sa_family, SOCK_STREAM, 0);
+    if (listening < 0 || setsockopt(listening, SOL_SOCKET, SO_REUSEADDR, &yes, sizeof yes) != 0 || fcntl(listening, F_SETFL, O_NONBLOCK) != 0 ||
+        bind(listening, &at.any, size) != 0 || listen(listening, PEERS) != 0 || getsockname(listening, &at.any, &size) != 0)
+        stop(address, strerror(errno));
+    say("listening on %s port %u, %lu records", address, ntohs(at.four.sin_port), (unsigned long)(table.length / NDUSHAVIRE_BLOCK - 1));
+    return listening;
+}
+
+static Peer *free_place(void) {
+    for (int i = 0; i < PEERS; i++)
+        if (peers[i].socket < 0) return &peers[i];
+    return NULL;
+}
+
+/* Whoever finds no free place waits until there is one. */
+static void welcome(int listening) {
+    const int yes = 1;
+    Peer *peer = free_place();
+    const int fresh = peer != NULL ? accept(listening, NULL, NULL) : -1;
+    if (fresh < 0) return;
+    if (fcntl(fresh, F_SETFL, O_NONBLOCK) != 0 || setsockopt(fresh, IPPROTO_TCP, TCP_NODELAY, &yes, sizeof yes) != 0) {
+        close(fresh);
+        return;
+    }
+    peer->socket = fresh;
+    peer->open = peer->ending = peer->asked = 0;
+    peer->have = peer->over = peer->out = 0;
+    peer->heard = now;
+    snprintf(peer->name, sizeof peer->name, "%d", fresh);
+}
+
+/* A peer is read from only while there is room for its answers. */
+static short waits_for(const Peer *peer) {
+    const int reads = !peer->ending && has_room(peer) && peer->have < sizeof peer->in;
+    return (short)((reads ? POLLIN : 0) | (peer->out > 0 ? POLLOUT : 0));
+}
+
+static void attend(Peer *peer, short events) {
+    if (events & (POLLIN | POLLHUP | POLLERR)) read_some(peer);
+    if (peer->socket >= 0 && peer->out > 0) write_some(peer);
+    if (peer->socket >= 0) work(peer); /* on what waited for room */
+    if (peer->socket >= 0 && peer->ending && peer->out == 0) hang_up(peer, "as agreed");
+}
+
+/* Peers from which no whole message comes, be they slow or dead. */
+static void mind_silence(Peer *peer) {
+    const time_t silence = now - peer->heard;
+    if (silence >= (peer->open ? QUIET : GREETING)) {
+        hang_up(peer, "no whole message came");
+    } else if (peer->open && !peer->asked && silence >= QUIET / 2) {
+        ask(peer, WATCHDOG);
+        peer->asked = 1;
+    }
+}
+
+static void wait_for(struct pollfd *events, int listening) {
+    for (int i = 0; i < PEERS; i++) {
+        events[i].fd = peers[i].socket;
+        events[i].events = peers[i].socket >= 0 ? waits_for(&peers[i]) : 0;
+        events[i].revents = 0;
+    }
+    events[PEERS].fd = free_place() != NULL ? listening : -1;
+    events[PEERS].events = POLLIN;
+    if (poll(events, PEERS + 1, 1000) < 0 && errno != EINTR) stop("poll", strerror(errno));
+    look_at_clock();
+}
+
+static void turn(int listening) {
+    struct pollfd events[PEERS + 1];
+    wait_for(events, listening);
+    for (int i = 0; i < PEERS; i++) {
+        if (peers[i].socket >= 0 && events[i].revents != 0) attend(&peers[i], events[i].revents);
+        if (peers[i].socket >= 0) mind_silence(&peers[i]);
+    }
+    if (listening >= 0) welcome(listening);
+    look_for_table();
+}
+
+static int somebody_there(void) {
+    int there = 0;
+    for (int i = 0; i < PEERS; i++) there |= peers[i].socket >= 0;
+    return there;
+}
+
+/* Each peer is told, so that it goes elsewhere, and has a moment to say that it heard. */
+static void say_farewell(void) {
+    const time_t told = now;
+    for (int i = 0; i < PEERS; i++) {
+        if (peers[i].socket >= 0 && peers[i].open) ask(&peers[i], DISCONNECT);
+        if (peers[i].socket >= 0 && !peers[i].open) hang_up(&peers[i], "we end");
+    }
+    while (somebody_there() && now - told < FAREWELL) turn(-1);
+    say("ended");
+}
+
+int main(int argc, char **argv) {
+    const char *address = "127.0.0.1";
+    unsigned long port = 3868;
+    int option, wrong = 0;
+    while ((option = getopt(argc, argv, "a:p:")) != -1) {
+        char *end = "";
+        if (option == 'a') address = optarg;
+        if (option == 'p') port = strtoul(optarg, &end, 10);
+        wrong |= option == '?' || *end != '\0';
+    }
+    if (wrong || argc - optind != 2 || port > 65535) {
+        fprintf(stderr, "usage: daemon [-a ADDRESS] [-p PORT] LIVE CARDS\n");
+        return 2;
+    }
+    setvbuf(stderr, NULL, _IOLBF, 0);
+    look_at_clock();
+    on(SIGTERM, end_later);
+    on(SIGINT, end_later);
+    on(SIGPIPE, SIG_IGN); /* a log that nobody reads any more */
+    take_all(argv[optind], argv[optind + 1]);
+    for (int i = 0; i < PEERS; i++) peers[i].socket = -1;
+    const int listening = listen_at(address, port);
+    while (!told_to_end) turn(listening);
+    close(listening);
+    say_farewell();
+    return 0;
+}

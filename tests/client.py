@@ -1,0 +1,754 @@
+#!/usr/bin/env python3
+"""client.py ROOM MAKETABLE KILLS TRIAL.. -- DAEMON..: a client for the daemon of the examples, which it starts anew for each trial.
+The daemon is built with slow-disk.h, and for the trials greeting, slow and ending with QUIET=3, GREETING=1, FAREWELL=1. KILLS is about how
+often the trial `kills` kills it.
+Status 0 if all trials went as they should, 1 if one did not."""
+import os
+import random
+import re
+import shutil
+import signal
+import socket
+import struct
+import subprocess
+import sys
+import time
+
+CX, CER, DWR, DPR, UAR, SAR, LIR, MAR = 16777216, 257, 280, 282, 300, 301, 302, 303
+USERS, VECTORS = 40, 22
+SERVER = b"sip:scscf1.isle:6060"
+PATIENCE = float(os.environ.get("PATIENCE", 60))  # seconds until an answer is missed
+
+
+class Wrong(Exception):
+    pass
+
+
+def want(condition, what):
+    if not condition:
+        raise Wrong(what)
+
+
+# ---- messages
+
+def avp(code, data, vendor=0, flags=0x40):
+    if isinstance(data, int):
+        data = struct.pack(">I", data)
+    head = struct.pack(">II", code, (flags | (0x80 if vendor else 0)) << 24 | 8 + (4 if vendor else 0) + len(data))
+    return head + (struct.pack(">I", vendor) if vendor else b"") + data + b"\0" * (-len(data) % 4)
+
+
+def cx(code, data):
+    return avp(code, data, 10415)
+
+
+def message(command, avps, application=CX, flags=0xC0, hop=0, end=0):
+    return struct.pack(">IIIII", 1 << 24 | 20 + len(avps), flags << 24 | command, application, hop, end) + avps
+
+
+def avps_of(data):
+    found, at = [], 0
+    while at < len(data):
+        code, word = struct.unpack_from(">II", data, at)
+        length, head = word & 0xFFFFFF, 12 if word >> 31 else 8
+        want(length >= head and at + length <= len(data), "an answer with an AVP that is cut off")
+        found.append((code, data[at + head:at + length]))
+        at += (length + 3) // 4 * 4
+    return found
+
+
+def result(answer):
+    """B and the number, or X and the number."""
+    for code, data in avps_of(answer[20:]):
+        if code == 268:
+            return "B%d" % struct.unpack(">I", data)
+        if code == 297:
+            return "X%d" % dict((c, struct.unpack(">I", d)[0]) for c, d in avps_of(data))[298]
+    raise Wrong("an answer without a result")
+
+
+def all_of(answer, code):
+    return [data for found, data in avps_of(answer[20:]) if found == code]
+
+
+def rands(answer):
+    """What the vectors of an answer begin with: RAND and AUTN."""
+    return [dict(avps_of(item))[609] for item in all_of(answer, 612)]
+
+
+ends = 0
+
+
+def fresh_end():
+    global ends
+    ends += 1
+    return ends
+
+
+def base(command, avps=b"", flags=0x80, **more):
+    return message(command, avp(264, b"scscf1.isle") + avp(296, b"isle") + avps, application=0, flags=flags, **more)
+
+
+def cer(application=CX, **more):
+    return base(CER, avp(257, b"\0\1\x7f\0\0\1") + avp(266, 10415) + avp(269, b"client", flags=0) +
+                avp(260, avp(266, 10415) + avp(258, application)), **more)
+
+
+def request(command, own, end=None, hop=None, route=b"", flags=0xC0, host=b"scscf1.isle"):
+    end = fresh_end() if end is None else end
+    head = avp(263, b"scscf1.isle;1;%d" % end) + avp(264, host) + avp(296, b"isle") + avp(283, b"isle")
+    head += avp(260, avp(266, 10415) + avp(258, CX)) + avp(277, 1)
+    return message(command, head + own + route, end=end, hop=end if hop is None else hop, flags=flags)
+
+
+def public(user):
+    return cx(601, b"sip:user%d@isle" % user)
+
+
+def private(user):
+    return avp(1, b"user%d@isle" % user)
+
+
+def lir(user, **more):
+    return request(LIR, public(user), **more)
+
+
+def uar(user, **more):
+    return request(UAR, public(user) + private(user) + cx(600, b"isle"), **more)
+
+
+def sar(user, kind, **more):
+    return request(SAR, public(user) + private(user) + cx(602, SERVER) + cx(614, kind) + cx(624, 0), **more)
+
+
+def mar(user, many=1, **more):
+    return request(MAR, public(user) + private(user) + cx(607, many) + cx(612, cx(608, b"Digest-AKAv1-MD5")) + cx(602, SERVER), **more)
+
+
+# ---- the daemon and its files
+
+class Room:
+    def __init__(self, path, maketable, command, kills):
+        self.path, self.maketable, self.command, self.kills = path, maketable, command, kills
+        self.process = self.port = None
+        self.logs, self.clients = 0, []
+
+    def at(self, *names):
+        return os.path.join(self.path, *names)
+
+    def make(self, what, text, to):
+        with open(self.at("text"), "w") as file:
+            file.write(text)
+        with open(to, "wb") as file:
+            subprocess.run([self.maketable, what, self.at("text")], stdout=file, check=True)
+
+    def pair(self, folder, text):
+        os.makedirs(self.at("tables", folder), exist_ok=True)
+        for what in "table", "profile":
+            self.make(what, text, self.at("tables", folder, what))
+        return self.at("tables", folder)
+
+    def link(self, folder):
+        os.symlink(os.path.join("tables", folder), self.at("live.new"))
+        os.rename(self.at("live.new"), self.at("live"))
+
+    def prepare(self):
+        shutil.rmtree(self.path, ignore_errors=True)
+        os.makedirs(self.at("cards"))
+        self.pair("first", households())
+        self.link("first")
+        self.make("vectors", cards(), self.at("cards", "vectors"))
+
+    def start(self, ready=True):
+        self.logs += 1
+        self.log_path = self.at("log%d" % self.logs)
+        with open(self.log_path, "w") as log:
+            self.process = subprocess.Popen(self.command + ["-p", "0", self.at("live"), self.at("cards")], stderr=log,
+                                            env=dict(os.environ, SLOW_DISK=self.path))
+        if ready:
+            self.port = int(self.logged(r"listening on 127\.0\.0\.1 port (\d+)").group(1))
+
+    def log(self):
+        with open(self.log_path) as log:
+            return log.read()
+
+    def logged(self, pattern, patience=PATIENCE):
+        until = time.time() + patience
+        while time.time() < until:
+            found = re.search(pattern, self.log())
+            if found:
+                return found
+            time.sleep(0.005)
+        raise Wrong("the log has no '%s'" % pattern)
+
+    def end(self):
+        while self.clients:
+            self.clients.pop().close()
+        self.process.send_signal(signal.SIGTERM)
+        want(self.process.wait(PATIENCE) == 0, "it ends with status %s" % self.process.returncode)
+
+    def kill(self):
+        if self.process is not None and self.process.poll() is None:
+            self.process.kill()
+            self.process.wait()
+
+    def blocks(self, *names):
+        with open(self.at(*names), "rb") as file:
+            data = file.read()
+        return [data[at:at + 512] for at in range(0, len(data), 512)]
+
+    def lines(self):
+        """State, pending and server by public identity, as the table on disk has them."""
+        return {b[16:16 + b[13]]: (b[8], b[9] & 1, b[272:272 + b[15]]) for b in self.blocks("live", "table")[1:]}
+
+    def used(self):
+        return {b[132:164] for b in self.blocks("cards", "vectors") if b[1] == 1}
+
+
+def households(users=USERS, host="hss.isle"):
+    text = ["host=%s realm=isle keep=1\nnetwork=isle\n" % host]
+    for user in range(users):
+        text.append('public=sip:user%d@isle private=user%d@isle\nunregistered-services\nroaming=isle\nprofile="<P>user%d</P>"\n' % (user, user, user))
+    return "\n".join(text)
+
+
+def cards():
+    draw = random.Random(1)
+    word = lambda: "%032x" % draw.getrandbits(128)
+    one = "private=user%d@isle rand=%s autn=%s xres=%s confidentiality=%s integrity=%s\n"
+    return "\n".join(one % (user, word(), word(), word()[:16], word(), word()) for _ in range(VECTORS) for user in range(USERS))
+
+
+class Client:
+    def __init__(self, room, greet=True):
+        self.socket = socket.create_connection(("127.0.0.1", room.port), PATIENCE)
+        self.socket.setsockopt(socket.IPPROTO_TCP, socket.TCP_NODELAY, 1)
+        self.rest = b""
+        self.watchdogs = 0
+        room.clients.append(self)
+        if greet:
+            self.greeting = self.ask(cer())
+            want(result(self.greeting) == "B2001", "a CER is not answered with success")
+
+    def send(self, data):
+        self.socket.sendall(data)
+
+    def answer(self, patience=PATIENCE):
+        """The next message that is no DWR, which is answered; None if the daemon hung up, or patience ran out."""
+        until = time.time() + patience
+        whole = self.message(patience)
+        while whole is not None and whole[4:8] == b"\x80\0\1\x18":
+            self.watchdogs += 1
+            try:
+                self.send(base(DWR, avp(268, 2001), flags=0, hop=struct.unpack(">I", whole[12:16])[0]))
+            except ConnectionError:
+                pass  # what came before is still to be read
+            whole = self.message(max(0.001, until - time.time()))
+        return whole
+
+    def message(self, patience):
+        self.socket.settimeout(patience)
+        try:
+            while len(self.rest) < 20 or len(self.rest) < struct.unpack(">I", self.rest[:4])[0] & 0xFFFFFF:
+                more = self.socket.recv(65536)
+                if not more:
+                    return None
+                self.rest += more
+        except (socket.timeout, ConnectionError):
+            return None
+        length = struct.unpack(">I", self.rest[:4])[0] & 0xFFFFFF
+        whole, self.rest = self.rest[:length], self.rest[length:]
+        return whole
+
+    def ask(self, data):
+        self.send(data)
+        answer = self.answer()
+        want(answer is not None, "no answer")
+        want(answer[12:20] == data[12:20] and not answer[4] & 0x80 and answer[4:8] != data[4:8], "an answer to something else")
+        return answer
+
+    def is_gone(self, patience=PATIENCE):
+        self.socket.settimeout(patience)
+        try:
+            return self.socket.recv(65536) == b""
+        except ConnectionError:
+            return True
+        except socket.timeout:
+            return False
+
+    def close(self):
+        self.socket.close()
+
+
+# ---- the trials
+
+def greeting(room):
+    room.start()
+    client = Client(room)
+    have = dict(avps_of(client.greeting[20:]))
+    want(have[264] == b"hss.isle" and have[296] == b"isle" and have[257] == b"\0\1\x7f\0\0\1" and have[266] == struct.pack(">I", 10415),
+         "a CEA with another origin")
+    want(dict(avps_of(have[260])) == {266: struct.pack(">I", 10415), 258: struct.pack(">I", CX)} and 269 in have, "a CEA with another application")
+    want(client.greeting[4] == 0 and client.greeting[12:20] == cer()[12:20], "a CEA with another header")
+    want(result(client.ask(base(DWR, hop=7, end=8))) == "B2001", "a DWR is not answered with success")
+    want(result(client.ask(cer(hop=9))) == "B2001", "a second CER is not answered")
+    want(result(client.ask(cer(application=0xFFFFFFFF))) == "B2001", "a relay is not taken")
+    want(result(client.ask(base(DPR, avp(273, 0), hop=5))) == "B2001" and client.is_gone(), "a DPR is not answered, or not the last")
+    client = Client(room, greet=False)
+    want(result(client.ask(base(CER, avp(258, CX)))) == "B2001", "a CER with less in it, as some send it first, is not taken")
+    client = Client(room, greet=False)
+    want(result(client.ask(cer(application=4))) == "B5010" and client.is_gone(), "a peer without Cx stays")
+    for first in lir(1), base(DWR), cer()[:4] + b"\0" + cer()[5:], message(CER, b"", application=0, flags=0x80), message(CER, avp(264, b"x")):
+        client = Client(room, greet=False)
+        client.send(first)
+        want(client.is_gone(), "a peer that does not begin with a CER stays")
+    client = Client(room, greet=False)
+    want(client.is_gone(), "a peer that sends no CER stays")
+    room.end()
+
+
+def cut(room):
+    """Frames cut at every byte, by fifty peers at once, and a byte at a time."""
+    room.start()
+    clients = [Client(room) for _ in range(50)]
+    asked = [lir(1, end=1), base(DWR, end=2), uar(2, end=3), request(999, b"", end=4), lir(77, end=5)]
+    expected = [clients[0].ask(one) for one in asked]
+    want([result(one) for one in expected] == ["X2003", "B2001", "X2001", "B3001", "X5001"], "other results")
+    stream = b"".join(asked)
+
+    def again(places):
+        """The stream from each of some peers, each cut at its own place; the first request of each is a new one to the daemon."""
+        streams = [stream[:16] + struct.pack(">I", 1000 + at) + stream[20:] for at in places]
+        for client, one, at in zip(clients, streams, places):
+            client.send(one[:at])
+        time.sleep(0.002)
+        for client, one, at in zip(clients, streams, places):
+            client.send(one[at:])
+        for client, at in zip(clients, places):
+            for number, answer in enumerate(expected):
+                got = client.answer()
+                want(got is not None, "cut at %d: no answer" % at)
+                want(got[:16] == answer[:16] and got[20:] == answer[20:], "cut at %d: another answer" % at)
+                want(number == 0 or got == answer, "cut at %d: another answer" % at)
+
+    for first in range(1, len(stream), len(clients)):
+        again(range(first, min(first + len(clients), len(stream))))
+    for at in range(len(stream)):
+        clients[0].send(stream[at:at + 1])
+        time.sleep(0)
+    for answer in expected:
+        want(clients[0].answer() == answer, "a byte at a time: another answer")
+    room.end()
+
+
+def many(room):
+    """Several in one write, and more than are read at once."""
+    room.start()
+    client = Client(room)
+    asked = [(lir if number % 3 else uar)(number % USERS, end=10000 + number) for number in range(400)]
+    client.send(b"".join(asked))
+    for one in asked:
+        answer = client.answer()
+        want(answer is not None and answer[12:20] == one[12:20], "many in one write: an answer is missing")
+    room.end()
+
+
+def garbage(room):
+    room.start()
+    steady = Client(room)
+    draw = random.Random(2)
+
+    def serves():
+        want(result(steady.ask(lir(1))) == "X2003", "another peer is not served as ever")
+
+    for first in b"GET / HTTP/1.1\r\nHost: hss.isle\r\n\r\n", b"\x16\x03\x01\x02\x00\x01\x00\x01\xfc\x03\x03" + b"a" * 40, b"\0" * 100, b"\xff" * 100:
+        client = Client(room, greet=False)
+        client.send(first)
+        want(client.is_gone(), "garbage before a CER: it is not hung up on")
+        serves()
+    for length, number in (0, 2), (4, 2), (16, 2), (21, 3), (22, 3), (62, 3):
+        client = Client(room)
+        client.send(struct.pack(">I", 1 << 24 | length) + lir(1)[4:] + b"\0" * 100)
+        want(client.is_gone(), "a length of %d: it is not hung up on" % length)
+        room.logged("refused %d, place 0" % number)
+        serves()
+    client = Client(room)
+    client.send(b"\x47\xff\xff\xff" + lir(1)[4:])
+    want(client.is_gone(), "a length without end, of another version: it is not hung up on")
+    client = Client(room)
+    long = request(LIR, public(1) + avp(999, b"x" * 20000, flags=0))
+    for wrong in long, message(LIR, b"", flags=0x40), message(DWR, b"", application=0, flags=0):
+        client.send(wrong + lir(3, end=77))
+        answer = client.answer()
+        want(answer is not None and answer[16:20] == b"\0\0\0\x4d", "a message that is dropped takes the next one along")
+    room.logged("refused 2, length %d" % len(long))
+    room.logged("refused 4, place 0")
+    faulty = request(LIR, avp(601, b"sip:user1@isle", flags=0x40) + public(1))
+    want(result(client.ask(faulty)) == "B5001", "an AVP at fault is not answered")
+    room.logged(r"peer scscf1\.isle: B5001 at byte \d+: AVP 601 flags 0x40 length 22")
+    want(result(client.ask(request(MAR, public(1) + private(1) + cx(607, 1) + cx(612, cx(608, b"MD5")) + cx(602, SERVER)))) == "X5006", "another scheme is taken")
+    room.logged(r"peer scscf1\.isle: no challenge for user1@isle: X5006")
+    for _ in range(60):
+        client = Client(room)
+        client.send(draw.randbytes(draw.randrange(1, 3000)))
+        client.close()
+        serves()
+    room.end()
+
+
+def slow(room):
+    """Peers that send half a message, read nothing, or say nothing hold nobody up, and are hung up on in the end."""
+    room.start()
+    half = Client(room)
+    half.send(lir(1)[:-1])
+    head = Client(room, greet=False)
+    head.send(cer()[:7])
+    deaf = Client(room, greet=False)
+    deaf.socket.setsockopt(socket.SOL_SOCKET, socket.SO_RCVBUF, 4096)
+    deaf.send(cer())
+    deaf.socket.setblocking(False)
+    alive = Client(room)
+    busy = Client(room)
+    flood = b"".join(sar(1, 0) for _ in range(100))
+    begun, sent, longest, hung_up = time.time(), 0, 0, 0
+    while hung_up < 3 and time.time() - begun < PATIENCE:
+        try:
+            while True:
+                sent += deaf.socket.send(flood[sent % len(flood):])
+        except (BlockingIOError, ConnectionError):
+            pass
+        asked = time.time()
+        want(result(busy.ask(lir(2))) == "X2003", "beside slow peers another one gets another answer")
+        longest = max(longest, time.time() - asked)
+        want(alive.answer(0.01) is None, "a peer that asks nothing is answered")
+        hung_up = room.log().count("no whole message came")
+    want(longest < 5, "slow peers hold another one up: %.2f s" % longest)
+    want(hung_up == 3 and sent > 100000, "%d of 3 slow peers are hung up on" % hung_up)
+    want(head.is_gone() and half.answer() is None and half.is_gone(), "a slow peer is hung up on in the log alone")
+    want(alive.watchdogs >= 1, "the daemon sends no DWR")
+    want(result(alive.ask(lir(2))) == "X2003", "a peer that answers DWRs is hung up on")
+    room.end()
+
+
+def replaced(room):
+    """A table that is put in the live one's place: by its link and by its name, sound and not."""
+    room.start()
+    client = Client(room)
+    want(result(client.ask(lir(USERS))) == "X5001" and result(client.ask(sar(1, 1))) == "B2001", "the first table is another")
+    room.pair("second", households(USERS + 1))
+    room.link("second")
+    want(result(client.ask(lir(USERS))) != "X5001", "a new table is not taken over")
+    room.logged("a new table is taken over, %d records" % (USERS + 1))
+    want(result(client.ask(sar(2, 1))) == "B2001" and room.lines()[b"sip:user2@isle"][0] == 1, "what is stored is not in the new table")
+    want(room.lines()[b"sip:user1@isle"][0] == 0, "the new table was written over")
+    third = room.pair("third", households(USERS + 2))
+    with open(third + "/table", "r+b") as file:
+        file.seek(512 * 7 + 20)
+        file.write(b"?")
+    room.link("third")
+    want(result(client.ask(lir(USERS + 1))) == "X5001" and result(client.ask(lir(2))) == "B2001", "an unsound table is taken over")
+    room.logged("a new table is NOT taken over: block 7 is bad")
+    want(result(client.ask(sar(3, 1))) == "B2001", "beside an unsound table nothing is stored")
+    want(room.log().count("NOT taken over") == 1, "an unsound table is looked at again and again")
+    room.link("second")
+    want(room.lines()[b"sip:user3@isle"][0] == 1, "beside an unsound table nothing is stored")
+    client.ask(lir(3))
+    # By its name, in the folder that is stored in: what was answered must be there again at once.
+    with open(room.at("live", "table.x"), "wb") as file:
+        file.write(b"rubbish")
+    os.rename(room.at("live", "table.x"), room.at("live", "table"))
+    want(result(client.ask(lir(3))) == "B2001", "rubbish in the table's place is taken over")
+    want(room.lines()[b"sip:user3@isle"][0] == 1 and room.lines()[b"sip:user2@isle"][0] == 1, "what was answered is not on disk any more")
+    with open(room.at("live", "table.declined"), "rb") as file:
+        want(file.read() == b"rubbish", "what was declined is not kept")
+    room.make("table", households(USERS + 1, "other.isle"), room.at("live", "table.x"))
+    os.rename(room.at("live", "table.x"), room.at("live", "table"))
+    want(all_of(client.ask(lir(3)), 264) == [b"other.isle"], "a sound table in the table's place is not taken over")
+    fourth = room.pair("fourth", households(1))
+    os.chmod(fourth + "/table", 0o444)
+    room.link("fourth")
+    want(result(client.ask(lir(3))) != "X5001", "a last good file is taken over")
+    room.logged("NOT taken over: nobody may write to it")
+    want(sorted(os.listdir(fourth)) == ["profile", "table"], "the folder of a last good file was written to")
+    room.link("second")
+    client.ask(lir(3))
+    # Without a request, within a second or two.
+    room.pair("fifth", households(3))
+    room.link("fifth")
+    room.logged("a new table is taken over, 3 records")
+    room.end()
+
+
+def last_good(room):
+    """A last good file is never touched, and a daemon that is told to write to it does not start. Nor does a second one."""
+    def state():
+        return [(name, os.stat(room.at(name)).st_mtime_ns, os.stat(room.at(name)).st_ino, sorted(os.listdir(room.at(name))) if os.path.isdir(room.at(name)) else "")
+                for name in ("tables/first", "tables/first/table", "tables/first/profile", "cards", "cards/vectors")]
+
+    def refuses(why):
+        before = state()
+        room.start(ready=False)
+        try:
+            status = room.process.wait(PATIENCE if why else 1)
+        except subprocess.TimeoutExpired:
+            status = None
+        want(status == 1, "it starts though %s" % why)
+        want(state() == before, "it does not start, and wrote something: %s" % why)
+        room.logged(why)
+
+    for name, mode, why in (("tables/first/table", 0o444, "nobody may write"), ("tables/first", 0o555, "nobody may write"),
+                            ("cards/vectors", 0o400, "nobody may write"), ("cards", 0o555, "nobody may write")):
+        mode_before = os.stat(room.at(name)).st_mode & 0o777
+        os.chmod(room.at(name), mode)
+        refuses(why)
+        os.chmod(room.at(name), mode_before)
+    os.rename(room.at("tables/first/table"), room.at("tables/first/good"))
+    os.symlink("good", room.at("tables/first/table"))
+    refuses("table: ")
+    os.unlink(room.at("tables/first/table"))
+    os.rename(room.at("tables/first/good"), room.at("tables/first/table"))
+    room.start()
+    first = room.process
+    client = Client(room)
+    refuses("another daemon")
+    room.process = first
+    room.log_path = room.at("log%d" % (room.logs - 1))
+    client.ask(lir(1))
+    room.end()
+    # A rotten vector: no challenge, and all else as ever.
+    with open(room.at("cards", "vectors"), "r+b") as file:
+        file.write(b"\7")
+    rotten = room.blocks("cards", "vectors")
+    room.start()
+    client = Client(room)
+    want(result(client.ask(mar(1))) == "B5012" and result(client.ask(sar(1, 1))) == "B2001", "over rotten vectors it answers otherwise")
+    want(room.blocks("cards", "vectors") == rotten, "rotten vectors were stored over")
+    room.end()
+
+
+def ending(room):
+    room.start()
+    polite, deaf = Client(room), Client(room)
+    waiting = Client(room, greet=False)
+    client = Client(room)
+    client.ask(sar(1, 1))
+    client.close()
+    room.process.send_signal(signal.SIGTERM)
+    for peer in polite, deaf:
+        told = peer.answer()
+        want(told is not None and told[4:8] == b"\x80\0\1\x1a" and all_of(told, 273) == [b"\0\0\0\0"], "a peer is not told by a DPR")
+    want(waiting.is_gone(), "a peer without a CEA is not hung up on")
+    polite.send(base(DPR, avp(268, 2001), flags=0, hop=struct.unpack(">I", told[12:16])[0]))
+    want(polite.is_gone(), "a DPA is not the last")
+    room.logged("hung up: as agreed")
+    want(room.process.wait(PATIENCE) == 0, "it does not end, or ends with another status")
+    want("daemon: ended" in room.log(), "it does not say that it ended")
+    want(room.lines()[b"sip:user1@isle"][0] == 1, "a registration is gone")
+    room.start()
+    want(result(Client(room).ask(lir(1))) == "B2001", "a registration is gone")
+    room.end()
+
+
+def twice(room):
+    """A request that comes again gets the answer that it got; one that only looks like it does not."""
+    room.start()
+    one, other = Client(room), Client(room)
+
+    def again(data, hop):
+        return data[:4] + bytes([data[4] | 0x10]) + data[5:12] + struct.pack(">I", hop) + data[16:]
+
+    for asked in uar(1), mar(1, 2), sar(1, 1), lir(1), sar(1, 5):
+        first = one.ask(asked)
+        want(result(first)[1] == "2", "no success")
+        used = len(room.used())
+        second = other.ask(again(asked, 4711))
+        want(second == first[:12] + struct.pack(">I", 4711) + first[16:], "a request that comes again gets another answer")
+        want(len(room.used()) == used, "a request that comes again uses vectors up")
+    # By another relay: its Route-Record, and its Proxy-Info, which it wants back.
+    proxies = [avp(284, avp(280, b"relay%d" % n) + avp(33, b"s" * n)) for n in (1, 2, 3)]
+    asked = mar(2, route=avp(282, b"relay1.isle") + proxies[0], end=500)
+    first = one.ask(asked)
+    want(avps_of(first[20:])[-1] == avps_of(proxies[0])[0], "no Proxy-Info")
+    dirty = proxies[2][:-1] + b"\7" if len(avps_of(proxies[2])[0][1]) % 4 else proxies[2]
+    second = other.ask(again(mar(2, route=proxies[1] + avp(282, b"relay2.isle") + dirty, end=500), 4712))
+    want(second == struct.pack(">I", 1 << 24 | len(second)) + first[4:12] + struct.pack(">I", 4712) + first[16:-len(proxies[0])] + proxies[1] + proxies[2],
+         "by another relay the answer is another one")
+    third = other.ask(again(mar(2, end=500), 4713))
+    want(third[20:] == first[20:-len(proxies[0])], "without a relay the answer is another one")
+    # The same identifiers on another request.
+    want(rands(one.ask(mar(3, end=500))) != rands(first), "another request gets this one's answer")
+    one.ask(lir(9, end=501, host=b"icscf.isle"))
+    want(result(one.ask(sar(9, 1, end=501, host=b"icscf.isle"))) == "B2001", "another request gets this one's answer")
+    room.end()
+
+
+def full(room):
+    """A disk without room: what cannot be stored is undone and not answered, and all else is; and a disk that may have lost what it said it had."""
+    room.start()
+    client, other = Client(room), Client(room)
+    want(result(client.ask(sar(1, 1))) == "B2001", "no room from the start")
+    before = room.lines(), room.used()
+    open(room.at("disk-full"), "w").close()
+    for asked in sar(2, 1), mar(2), sar(1, 5), mar(1):
+        client.send(asked)
+        want(client.answer(0.3) is None, "what is not stored is answered")
+        want(result(other.ask(lir(1))) == "B2001" and result(other.ask(lir(2))) != "B2001", "what is not stored is told to others")
+        want(result(client.ask(sar(1, 2))) == "B2001", "what alters nothing is not answered")
+    room.logged("NOT STORED")
+    want((room.lines(), room.used()) == before, "what is not stored is on disk")
+    os.unlink(room.at("disk-full"))
+    want(result(client.ask(sar(2, 1))) == "B2001" and len(rands(client.ask(mar(2)))) == 1, "once there is room it is not answered")
+    want(len(room.used()) == len(before[1]) + 1, "a vector was wasted")
+    open(room.at("folder-fails"), "w").close()
+    client.send(sar(3, 1))
+    want(client.answer(5) is None, "what may be lost again is answered")
+    want(room.process.wait(PATIENCE) == 1, "it goes on over a file that may be lost again")
+    os.unlink(room.at("folder-fails"))
+    room.start()
+    want(result(Client(room).ask(lir(2))) == "B2001", "a registration is gone")
+    room.end()
+
+
+def spoilt(room):
+    """A daemon whose table and then vectors are damaged in memory, which it reads again: a build of its own."""
+    room.start()
+    client = Client(room)
+    want(result(client.ask(sar(1, 1))) == "B2001", "over a table that is damaged in memory it does not answer")
+    want(len(rands(client.ask(mar(1)))) == 1, "over vectors that are damaged in memory it does not answer")
+    room.logged("refused 5: the files are read again")
+    room.logged("refused 6: the files are read again")
+    want(room.lines()[b"sip:user1@isle"] == (1, 0, SERVER) and len(room.used()) == 1, "what is on disk is another")
+    room.end()
+
+
+class Line:
+    """A line's cycle: challenge, register, challenge, remove. What the table should have after each."""
+    after = [(0, 1, SERVER), (1, 0, SERVER), (1, 0, SERVER), (0, 0, b"")]
+
+    def __init__(self, user):
+        self.user, self.step, self.flying, self.done = user, 0, None, False
+
+    def next(self):
+        self.flying = (mar(self.user), sar(self.user, 1), mar(self.user), sar(self.user, 5))[self.step % 4]
+        return self.flying
+
+    def before(self):
+        return self.after[(self.step + 3) % 4]
+
+    def behind(self):
+        return self.after[self.step % 4]
+
+
+def kills(room):
+    """1,000 SARs and MARs, and a kill at any moment; the files are read again, and the daemon goes on with them."""
+    draw = random.Random(int.from_bytes(os.urandom(4), "big"))
+    lines = [Line(user) for user in range(USERS)]
+    sent, tally = set(), {"answers": 0, "stored": 0, "unstored": 0, "wasted": 0}
+
+    def took(line, answer, done_before):
+        """An answer to the request that flies; DONE_BEFORE if its work was on disk already when it was asked again."""
+        is_mar = line.step % 2 == 0
+        expected = "X5007" if done_before and line.step % 4 == 3 else "B2001"
+        want(result(answer) == expected, "%s instead of %s" % (result(answer), expected))
+        got = rands(answer)
+        want(len(got) == (1 if is_mar else 0), "%d vectors" % len(got))
+        for one in got:
+            want(one not in sent, "a vector was sent twice")
+            sent.add(one)
+        line.step += 1
+        line.flying, line.done = None, False
+        tally["answers"] += 1
+
+    def life(last):
+        room.start()
+        clients = [Client(room), Client(room)]
+        on_disk = room.lines()
+        flying = {}
+
+        def launch(line):
+            asked = line.flying or line.next()
+            flying[asked[16:20]] = line, line.done
+            clients[line.user % 2].send(asked)
+
+        for line in lines:
+            line.done = line.flying is not None and line.before() != line.behind() and on_disk[b"sip:user%d@isle" % line.user] == line.behind()
+        goal = draw.randrange(1, 1 + 2 * 1000 // room.kills)
+        moment = draw.choice([0, draw.random() * 0.004])
+        for line in draw.sample([one for one in lines if one.flying] + [one for one in lines if not one.flying], 12):
+            launch(line)
+        for line in lines:
+            if line.flying and line.flying[16:20] not in flying:
+                launch(line)
+        count = 0
+        while flying and (last or count < goal) and tally["answers"] < 1000:
+            client = clients[count % 2]
+            if not any(line.user % 2 == count % 2 for line, _ in flying.values()):
+                client = clients[1 - count % 2]
+            answer = client.answer()
+            want(answer is not None, "no answer")
+            line, known = flying.pop(answer[16:20])
+            took(line, answer, known)
+            count += 1
+            resting = [one for one in lines if one.flying is None and one.step < 4 * VECTORS // 2 - 4]
+            if resting:
+                launch(draw.choice(resting))
+        time.sleep(moment)
+        room.kill()
+        for client in clients:  # what is on its way was answered too
+            while True:
+                answer = client.answer(PATIENCE)
+                if answer is None:
+                    break
+                line, known = flying.pop(answer[16:20])
+                took(line, answer, known)
+            client.close()
+
+    def reread():
+        table, used = room.lines(), room.used()
+        for line in lines:
+            now = table[b"sip:user%d@isle" % line.user]
+            allowed = {line.before()} if line.step else {(0, 0, b"")}
+            if line.flying:
+                allowed.add(line.behind())
+                if line.behind() != line.before():
+                    tally["stored" if now == line.behind() else "unstored"] += 1
+            want(now in allowed, "user%d is %s on disk, and was answered %s" % (line.user, now, allowed))
+        want(sent <= used, "a vector was sent that is unused on disk")
+        tally["wasted"] = len(used - sent)
+
+    rounds = 0
+    while tally["answers"] < 1000:
+        rounds += 1
+        life(last=rounds >= 2 * room.kills)
+        reread()
+    print("client.py: %d SARs and MARs answered over %d kills; %d requests had been stored and not answered, %d not stored; %d vectors sent, none twice, %d wasted" %
+          (tally["answers"], rounds, tally["stored"], tally["unstored"], len(sent), tally["wasted"]))
+
+
+TRIALS = {trial.__name__: trial for trial in (greeting, cut, many, garbage, slow, replaced, last_good, ending, twice, full, kills, spoilt)}
+
+
+def main():
+    split = sys.argv.index("--")
+    path, maketable, kill_count = sys.argv[1:4]
+    room = Room(path, os.path.realpath(maketable), sys.argv[split + 1:], int(kill_count))
+    names = sys.argv[4:split]
+    for name in names:
+        begun = time.time()
+        room.prepare()
+        try:
+            TRIALS[name](room)
+        except Wrong as wrong:
+            print("client.py: %s: %s" % (name, wrong), file=sys.stderr)
+            return 1
+        except (subprocess.TimeoutExpired, ConnectionError, socket.timeout, KeyError) as wrong:
+            print("client.py: %s: %r" % (name, wrong), file=sys.stderr)
+            return 1
+        finally:
+            room.kill()
+        print("client.py: %s, %.1f s" % (name, time.time() - begun))
+    return 0
+
+
+if __name__ == "__main__":
+    sys.exit(main())

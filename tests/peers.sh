@@ -1,0 +1,238 @@
+#!/usr/bin/env bash
+# peers.sh ROOM MAKETABLE DAEMON..: the daemon of the examples with real software, in a network namespace of its own: Erlang's diameter as a strict
+# client, Kamailio's I-CSCF and S-CSCF with two phones, both again through freeDiameter as a relay, a call server that comes to the relay by
+# TLS, and tshark, which judges every answer that went over the wire. What is missing is installed from Debian, for which it must be root.
+# What cannot run on a machine is said and counted. Status 0 if everything ran and went as it should, 1 if something went wrong, 2 if
+# something could not run.
+set -euo pipefail
+tests=$(cd "$(dirname "$0")" && pwd)
+packages=(freediameter kamailio kamailio-ims-modules kamailio-presence-modules erlang-diameter erlang-dev tshark iproute2 openssl python3)
+
+fail() {
+    echo "peers.sh: $*" >&2
+    exit 1
+}
+
+# ---- outside: packages, and a namespace for the rest
+if [ -z "${PEERS_INSIDE-}" ]; then
+    missing=()
+    for package in "${packages[@]}"; do
+        [ "$(dpkg-query -W -f '${db:Status-Status}' "$package" 2>/dev/null)" = installed ] || missing+=("$package")
+    done
+    if [ ${#missing[@]} -gt 0 ]; then
+        [ "$(id -u)" = 0 ] || fail "these packages are missing, and only root can install them: ${missing[*]}"
+        policy=/usr/sbin/policy-rc.d # by which no service is started for having been installed
+        [ -e "$policy" ] || { trap 'rm -f "$policy"' EXIT && printf '#!/bin/sh\nexit 101\n' >"$policy" && chmod +x "$policy"; }
+        apt-get update -q
+        for package in "${missing[@]}"; do # one by one: what there is not is said below, by whatever cannot run
+            DEBIAN_FRONTEND=noninteractive apt-get install -y -q --no-install-recommends "$package" || echo "peers.sh: no package $package" >&2
+        done
+    fi
+    unshare --net --mount true 2>/dev/null || fail 'no network namespace can be made here: it takes root, or a kernel that lets others'
+    status=0
+    PEERS_INSIDE=1 unshare --net --mount "$0" "$@" || status=$?
+    exit "$status"
+fi
+
+# ---- inside: the isle's addresses and names, and nobody else's
+room=$1 maketable=$(realpath "$2")
+shift 2
+daemon=("$@")
+rm -rf "$room"
+mkdir -p "$room/live" "$room/cards" "$room/database"
+room=$(cd "$room" && pwd)
+[[ ${daemon[-1]} = /* ]] || daemon[-1]=$(realpath "${daemon[-1]}")
+cp "$tests/peers/"* "$room/"
+# The relay's files are those that docs/INTEROPERABILITY.md shows, one indented piece after the other.
+sed -n '/^## A relay in front/,/^## Requests/p' "$tests/../docs/INTEROPERABILITY.md" >"$room/page"
+cd "$room"
+awk '/^    / { if (!within) piece++; within = 1; print substr($0, 5) > (piece == 1 ? "relay.conf" : piece == 2 ? "callers.conf" : "routes.conf"); next } { within = 0 }' page
+grep -q '^ConnectPeer' relay.conf && grep -q '^ALLOW_IPSEC' callers.conf && grep -q 'FINALDEST' routes.conf || fail "docs/INTEROPERABILITY.md shows no relay"
+ip link set lo up
+for last in 2 3 4 10 11 12 13; do ip address add "192.0.2.$last/32" dev lo; done
+printf '127.0.0.1 hss.isle localhost\n192.0.2.2 relay.isle\n192.0.2.3 icscf.isle\n192.0.2.4 scscf1.isle\n' >hosts
+echo 'nameserver 127.0.0.1' >resolv.conf
+mount --bind hosts /etc/hosts
+mount --bind resolv.conf /etc/resolv.conf
+
+passed=0 failed=0 could_not=0 running=()
+ended() { for pid in "${running[@]}"; do kill "$pid" 2>/dev/null || true; done; }
+trap ended EXIT
+passes() { # WHAT
+    passed=$((passed + 1))
+    echo "peers.sh: PASSED: $1"
+}
+fails() { # WHAT LOG..
+    failed=$((failed + 1))
+    echo "peers.sh: FAILED: $1"
+    for log in "${@:2}"; do echo "--- $log"; tail -n 15 "$log"; done
+}
+cannot() { # WHAT WHY
+    could_not=$((could_not + 1))
+    echo "peers.sh: COULD NOT RUN: $1: $2"
+}
+there() { # COMMAND..
+    local command
+    for command in "$@"; do command -v "$command" >/dev/null || return 1; done
+}
+says() { # FILE TEXT: waits until the file has it
+    local try
+    for try in $(seq 300); do
+        ! grep -q -e "$2" "$1" 2>/dev/null || return 0
+        sleep 0.1
+    done
+    echo "peers.sh: $1 does not say '$2'" >&2
+    return 1
+}
+start() { # LOG COMMAND..
+    "${@:2}" >>"$1" 2>&1 &
+    running+=($!)
+    last_pid=$!
+}
+finish() { # PID: by SIGTERM, and its status
+    local status=0
+    kill "$1" 2>/dev/null || true
+    wait "$1" || status=$?
+    return "$status"
+}
+
+# ---- the daemon's files: alice and bob, carol, who is barred, dave, who has no vectors, erin, who has a voicemail
+random() { od -An -tx1 -N"$1" /dev/urandom | tr -d ' \n'; }
+profile='<IMSSubscription><PrivateID>%s@isle</PrivateID><ServiceProfile><PublicIdentity><BarringIndication>0</BarringIndication><Identity>sip:%s@isle</Identity>'
+profile+='<Extension><IdentityType>0</IdentityType></Extension></PublicIdentity></ServiceProfile></IMSSubscription>'
+{
+    printf 'host=hss.isle realm=isle keep=1\nnetwork=isle\n\n'
+    for of in alice bob carol:barred dave erin:unregistered-services; do
+        name=${of%:*} more=${of#"${of%:*}"}
+        printf "public=sip:%s@isle private=%s@isle %s\nroaming=isle mandatory=1\nprofile=\"$profile\"\n\n" "$name" "$name" "${more#:}" "$name" "$name"
+    done
+} >lines.txt
+for _ in $(seq 20); do
+    for of in alice:8 bob:16 carol:4; do
+        printf 'private=%s@isle rand=%s autn=%s xres=%s confidentiality=%s integrity=%s\n\n' \
+            "${of%:*}" "$(random 16)" "$(random 16)" "$(random "${of#*:}")" "$(random 16)" "$(random 16)"
+    done
+done >cards.txt
+"$maketable" profile lines.txt >live/profile
+daemon_pid=
+daemon_up() { # ABOUT: over fresh registrations; vectors are never put back
+    "$maketable" table lines.txt >live/table
+    [ -e cards/vectors ] || "$maketable" vectors cards.txt >cards/vectors
+    start "daemon-$1.log" "${daemon[@]}" -a 127.0.0.1 -p 3868 live cards
+    daemon_pid=$last_pid
+    says "daemon-$1.log" 'listening on'
+}
+daemon_down() { # ABOUT
+    if finish "$daemon_pid" && grep -q 'daemon: ended' "daemon-$1.log"; then passes "$1: the daemon ends"; else fails "$1: the daemon does not end" "daemon-$1.log"; fi
+}
+
+# ---- the wire
+if there tshark; then
+    start capture.log tshark -i lo -f 'tcp port 3868' -w wire.pcapng
+    capture_pid=$last_pid
+    says capture.log 'Capturing on'
+    sleep 1
+else
+    capture_pid=
+fi
+
+# ---- Erlang
+erlang() { # ABOUT ADDRESS
+    if ! there erl erlc diameterc; then cannot "$1: Erlang's diameter" 'erl, erlc or diameterc is missing'; return; fi
+    [ -e strict.beam ] || { diameterc cx.dia && erlc cx.erl strict.erl; } >erlc.log 2>&1 || { fails 'Erlang: the client does not compile' erlc.log; return; }
+    if timeout 90 erl -noshell -s strict run "$2" 3868 >"erlang-$1.log" 2>&1; then
+        cat "erlang-$1.log"
+        passes "$1: Erlang's diameter as a strict client"
+    else
+        fails "$1: Erlang's diameter as a strict client" "erlang-$1.log" "daemon-$1.log"
+    fi
+}
+
+# ---- Kamailio
+database() {
+    [ -d /usr/share/kamailio/dbtext/kamailio ] && cp /usr/share/kamailio/dbtext/kamailio/* database/
+    printf '100:nds_trusted_domains:1\n101:s_cscf:1\n102:s_cscf_capabilities:1\n' >>database/version
+    printf 'id(int,auto) trusted_domain(string)\n1:isle\n' >database/nds_trusted_domains
+    printf 'id(int,auto) name(string) s_cscf_uri(string)\n1:scscf1:sip\\:scscf1.isle\\:6060\n' >database/s_cscf
+    printf 'id(int,auto) id_s_cscf(int) capability(int)\n1:1:1\n' >database/s_cscf_capabilities
+}
+module_folder=$(dirname "$(find /usr/lib -path '*kamailio/modules/ims_icscf.so' 2>/dev/null | head -n 1)" 2>/dev/null || true)
+phones() { # ABOUT NAME LOG: Kamailio asks NAME, whose log says when it is open
+    local who pids=() relayed=
+    [ "$2" != relay.isle ] || relayed='s/^#RELAY //' # it goes to no relay by itself
+    local modules=(ims_icscf ims_auth ims_registrar_scscf presence db_text cdp)
+    there kamailio || { cannot "$1: Kamailio" 'kamailio is missing'; return; }
+    for who in "${modules[@]}"; do
+        [ -e "$module_folder/$who.so" ] || { cannot "$1: Kamailio" "its module $who is missing"; return; }
+    done
+    [ -e database/s_cscf ] || database
+    for who in icscf scscf; do
+        mkdir -p "$who-$1"
+        sed "s|ROOM|$room|; s|\"$who.xml\"|\"$room/$who-$1/peer.xml\"|; $relayed" "$who.cfg" >"$who-$1/kamailio.cfg"
+        sed "s|HSS|$2|" "$who.xml" >"$who-$1/peer.xml"
+        start "$who-$1.log" kamailio -DD -f "$room/$who-$1/kamailio.cfg" -Y "$room/$who-$1" -w "$room/$who-$1" -m 64 -M 8
+        pids+=("$last_pid")
+    done
+    if says "$3" 'icscf.isle.*[oO][pP][eE][nN]\|OPEN.*icscf.isle' && says "$3" 'scscf1.isle.*[oO][pP][eE][nN]\|OPEN.*scscf1.isle' &&
+        timeout 120 ./phone.py cards/vectors live/table >"phones-$1.log" 2>&1; then
+        cat "phones-$1.log"
+        passes "$1: phones over Kamailio's I-CSCF and S-CSCF"
+    else
+        fails "$1: phones over Kamailio's I-CSCF and S-CSCF" "phones-$1.log" "icscf-$1.log" "scscf-$1.log" "daemon-$1.log"
+    fi
+    for who in "${pids[@]}"; do finish "$who" || true; done
+}
+
+# ---- straight at the daemon
+daemon_up direct
+erlang direct 127.0.0.1
+daemon_down direct
+daemon_up kamailio
+phones kamailio hss.isle daemon-kamailio.log
+daemon_down kamailio
+
+# ---- through a relay, which has TLS outside; its keys are for this run alone
+keys() {
+    openssl req -x509 -newkey rsa:2048 -nodes -days 2 -subj '/CN=the isle' -keyout ca.key -out ca.pem
+    for name in relay.isle scscf.abroad; do
+        openssl req -newkey rsa:2048 -nodes -subj "/CN=$name" -keyout "$name.key" -out "$name.request"
+        openssl x509 -req -days 2 -in "$name.request" -CA ca.pem -CAkey ca.key -CAcreateserial -out "$name.pem"
+    done
+}
+if there freeDiameterd openssl; then
+    keys >keys.log 2>&1 || fails 'keys for the relay' keys.log
+    daemon_up relay
+    start relay.log freeDiameterd -c relay.conf
+    relay_pid=$last_pid
+    if says daemon-relay.log 'peer relay.isle: open' && says relay.log "STATE_OPEN.*hss.isle"; then passes 'relay: freeDiameter connects'; else fails 'relay: freeDiameter connects' relay.log; fi
+    erlang relay 192.0.2.2
+    daemon_down relay
+    daemon_up kamailio-relay
+    if says daemon-kamailio-relay.log 'peer relay.isle: open'; then passes 'relay: it comes back to a daemon that was started again'; else fails 'relay: it does not come back' relay.log; fi
+    phones kamailio-relay relay.isle relay.log
+    if ./tls.py >tls.log 2>&1; then
+        cat tls.log
+        passes 'relay: a call server by TLS, and who is turned away'
+    else
+        fails 'relay: a call server by TLS' tls.log relay.log
+    fi
+    finish "$relay_pid" || true
+    daemon_down kamailio-relay
+else
+    for what in 'freeDiameter connects' "Erlang's diameter" 'it comes back' "Kamailio's phones" 'a call server by TLS'; do
+        cannot "relay: $what" 'freeDiameterd or openssl is missing'
+    done
+fi
+
+# ---- the judge
+if [ -n "$capture_pid" ]; then
+    sleep 2
+    kill -INT "$capture_pid"
+    wait "$capture_pid" || true
+    if ./judge.py wire.pcapng; then passes 'tshark: every answer of the daemon'; else fails 'tshark: every answer of the daemon'; fi
+else
+    cannot "tshark's judgement" 'tshark is missing'
+fi
+echo "peers.sh: $passed trials passed, $failed failed, $could_not could not run"
+[ "$failed" = 0 ] || exit 1
+[ "$could_not" = 0 ] || exit 2

@@ -1,0 +1,74 @@
+#!/usr/bin/env python3
+"""judge.py CAPTURE: what tshark says of every message that the daemon sent: whole, without a complaint, and each answer to a request. Then the
+same of a copy in which one answer is damaged: it must complain."""
+import collections
+import subprocess
+import sys
+
+TO_DAEMON = "diameter && ip.dst == 127.0.0.1 && tcp.dstport == 3868"
+BY_DAEMON = "diameter && ip.src == 127.0.0.1 && tcp.srcport == 3868"
+NAMES = {"257": "CEA", "280": "DWA", "282": "DPA", "300": "UAA", "301": "SAA", "302": "LIA", "303": "MAA"}
+
+
+def fields(capture, which, names):
+    command = ["tshark", "-r", capture, "-d", "tcp.port==3868,diameter", "-2", "-Y", which, "-T", "fields", "-E", "separator=|", "-E", "occurrence=a", "-E", "aggregator=,"]
+    for name in names:
+        command += ["-e", name]
+    lines = subprocess.run(command, stdout=subprocess.PIPE, stderr=subprocess.DEVNULL, check=True, text=True).stdout.splitlines()
+    return [line.split("|") for line in lines]
+
+
+def listed(text):
+    return [one for one in text.split(",") if one]
+
+
+def judge(capture):
+    """Answers by name, requests, answers without their request, complaints."""
+    answers, requests, unpaired, complaints = collections.Counter(), 0, 0, []
+    names = ["frame.number", "diameter.flags.request", "diameter.cmd.code", "diameter.answer_to", "_ws.malformed", "_ws.expert.message"]
+    for frame, flags, codes, to, malformed, expert in (line[:6] for line in fields(capture, BY_DAEMON, names)):
+        of = [NAMES.get(code, "other") for code, flag in zip(listed(codes), listed(flags)) if flag not in ("1", "True")]
+        answers.update(of)
+        requests += len(listed(flags)) - len(of)
+        unpaired += len(of) - len(listed(to))
+        spoken = [one for one in listed(expert) if not one.startswith(("Connection", "TCP"))]
+        if malformed or spoken:
+            complaints.append("frame %s: %s %s" % (frame, malformed, "; ".join(spoken)))
+    return answers, requests, unpaired, complaints
+
+
+def tally(capture, which, name, letter):
+    return collections.Counter(letter + one for line in fields(capture, which, [name]) for one in listed(line[0]))
+
+
+def said(counter):
+    return ", ".join("%s %d" % (name, count) for name, count in sorted(counter.items())) or "none"
+
+
+def damaged(capture):
+    """A copy whose first MAA has a Session-Id that is longer than the message."""
+    with open(capture, "rb") as file:
+        data = file.read()
+    at = data.index(b"\x40\x00\x01\x2f\x01\x00\x00\x00") + 16
+    with open(capture + ".damaged", "wb") as file:
+        file.write(data[:at + 5] + b"\x00\xff\xff" + data[at + 8:])
+    return capture + ".damaged"
+
+
+def main():
+    capture = sys.argv[1]
+    answers, requests, unpaired, complaints = judge(capture)
+    print("judge.py: tshark read %d answers of the daemon (%s) and %d requests; %d without their request, %d with a complaint" %
+          (sum(answers.values()), said(answers), requests, unpaired, len(complaints)))
+    for complaint in complaints[:20]:
+        print("judge.py: " + complaint)
+    types = tally(capture, TO_DAEMON, "diameter.Server-Assignment-Type", "")
+    results = tally(capture, BY_DAEMON, "diameter.Result-Code", "B") + tally(capture, BY_DAEMON, "diameter.Experimental-Result-Code", "X")
+    print("judge.py: SARs by type: %s; results: %s" % (said(types), said(results)))
+    noticed = bool(judge(damaged(capture))[3])
+    print("judge.py: of a copy with a damaged answer tshark %s" % ("complains" if noticed else "says nothing"))
+    good = sum(answers.values()) > 50 and {"CEA", "DWA", "DPA"} <= set(answers) and unpaired == 0 and not complaints and noticed
+    return 0 if good and {"1", "2", "3", "5"} <= set(types) and {"B2001", "B5003", "B5012", "X2001", "X5001", "X5003", "X5004", "X5006"} <= set(results) else 1
+
+
+sys.exit(main())

@@ -1,0 +1,34 @@
+/* slow-disk.h: included before a daemon by its test. A flush takes a millisecond, so that a kill often comes before it; it fails where
+ * the folder that SLOW_DISK names has a file disk-full, and that of a folder where it has a file folder-fails. */
+#ifndef SLOW_DISK_H
+#define SLOW_DISK_H
+
+#ifndef _POSIX_C_SOURCE
+#define _POSIX_C_SOURCE 200809L
+#endif
+#include <errno.h>
+#include <stdio.h>
+#include <stdlib.h>
+#include <sys/stat.h>
+#include <time.h>
+#include <unistd.h>
+
+static int test_has(const char *name) {
+    char path[4096];
+    const char *folder = getenv("SLOW_DISK");
+    snprintf(path, sizeof path, "%s/%s", folder != NULL ? folder : "", name);
+    return folder != NULL && access(path, F_OK) == 0;
+}
+
+static int slow_fsync(int file) {
+    const struct timespec millisecond = {0, 1000000};
+    struct stat about;
+    nanosleep(&millisecond, NULL);
+    const int folder = fstat(file, &about) == 0 && S_ISDIR(about.st_mode);
+    if (!test_has("disk-full") && !(folder && test_has("folder-fails"))) return fsync(file);
+    errno = ENOSPC;
+    return -1;
+}
+
+#define fsync slow_fsync
+#endif

@@ -1,0 +1,30 @@
+/* whole.c: the daemon of the examples in the shape of the one that ndushavire(3) shows, so that daemon.c can run it on a disk that fails: how it
+ * takes its files up, and what it does with a new request. Its peers and its loop are served.sh's. */
+#define main daemon_main
+#define live live_path
+#define serve serve_peer
+#define refused refused_peer
+#define read_all read_whole
+#define fcntl(...) 0 /* the lock is a process's, and here one process forks lives */
+#include "daemon.c"
+#undef main
+#undef live
+#undef serve
+#undef refused
+#undef read_all
+#undef fcntl
+
+#define MORE_LOGGED "daemon: peer 6: no challenge for user1@isle: B5004\n"
+
+int send_all(int peer, const uint8_t *bytes, size_t length);
+int refused(int peer, uint64_t word);
+
+static void start(const char *folder, const char *cards) { take_all(folder, cards); }
+
+static int serve(int peer, const uint8_t *request, size_t length) {
+    static Peer one;
+    one.out = 0;
+    snprintf(one.name, sizeof one.name, "%d", peer);
+    serve_new(&one, request, length);
+    return one.out == 0 || send_all(peer, one.to_write, one.out);
+}
