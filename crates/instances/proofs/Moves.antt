@@ -17,7 +17,7 @@ use Rattle.worked.proofs.Sample.{header, person, answer, s}
 use Rattle.instances.proofs.Asked.{table, removed, room, sar, asked, comes, all}
 use Rattle.instances.proofs.Calls.{removal}
 
--- the table in edition 2, of issue 7, block by block, and it after `a` was removed
+-- the table in edition 2, of issue number 7, block by block, and it after `a` was removed
 unfoldable second : List ℕ
 second = moved 2 7 (header 2 0) ++ (moved 2 7 (person 1 0x61 0x70 1 s) ++ moved 2 7 (person 2 0x62 0x71 1 s))
 
