@@ -132,6 +132,10 @@ module _ (s t : List ℕ) (i : ℕ) (bs : Bytes s) (bt : Bytes t) (alike : true 
       → r ≡ byNumber a b → r ≡ orderOf s t
   eight-differ n a b m h l x y d e = number-differ 8 a b (omega arith) (omega arith) (x ∙ be64-is s i) (y ∙ be64-is t i) d e
 
+  pub front-differ : (n m a b : ℕ) {r : Order} → n ≡ min (length s) (length t) → m ≤ n → i ≤ m → 8 ≤ m - i → a ≡ be64At s i → b ≡ be64At t i
+      → (a ≡ b → ⊥) → r ≡ byNumber a b → r ≡ orderOf s t
+  front-differ n m a b e k h l x y d f = eight-differ n a b e (omega arith) (omega arith) x y d f
+
 -- The last eight bytes: what was compared of them is alike.
 pub alike-last : (s t : List ℕ) (i n : ℕ) → true ≡ allBelow (alikeAt s t) i → n - i < 8 → true ≡ allBelow (alikeAt s t) (n - 8)
 alike-last s t i n e h = sym (all-true (alikeAt s t) (n - 8) (λ k l. all-at (alikeAt s t) i (sym e) k (omega arith)))
