@@ -2,7 +2,7 @@
 use crate::number;
 ghost use mathlib.Core.Path.{_≡_};
 ghost use mathlib.Core.Bool.{true};
-ghost use Prim.Native.Nat.{_+_, _-_, _≤_, min};
+ghost use Prim.Native.Nat.{_+_, _-_, _%_, _≤_, min};
 ghost use lib.ListN.{length};
 ghost use Rattle.octets.specs.All.{allBelow};
 ghost use Rattle.octets.specs.Name.{orderOf, same, alikeAt, alikeFrom, byNumber, byLength};
@@ -64,7 +64,7 @@ fn alike_words(s: &[u8], t: &[u8], i: usize) -> bool
 // Passes over what is the same from a place on, before which the names are alike, 32 bytes at a time, below n.
 fn passed(s: &[u8], t: &[u8], n: usize, from: usize) -> usize
     requires { ⌜ (n ≤ length (now s)) × (n ≤ length (now t)) × (from ≤ n) × (true ≡ allBelow (alikeAt (now s) (now t)) from) ⌝ }
-    ensures { λ r. ⌜ (r ≤ n) × (true ≡ allBelow (alikeAt (now (s .entry)) (now (t .entry))) r) ⌝ }
+    ensures { λ r. ⌜ (r ≤ n) × (r % 8 ≡ from % 8) × (true ≡ allBelow (alikeAt (now (s .entry)) (now (t .entry))) r) ⌝ }
 {
     let mut i = from;
     while 32 <= n - i {
@@ -91,12 +91,12 @@ fn by_last(s: &[u8], t: &[u8], n: usize) -> Order
     }
 }
 
-// The order of two names that are alike before a place, eight bytes at a time. The last eight may have been compared in part, and are alike there.
-fn by_eights(s: &[u8], t: &[u8], n: usize, from: usize) -> Order
-    requires { ⌜ (n ≡ min (length (now s)) (length (now t))) × (8 ≤ n) × (from ≤ n) × (true ≡ allBelow (alikeAt (now s) (now t)) from) ⌝ }
+// The order of two names, eight bytes at a time. The last eight may have been compared in part, and are alike there.
+fn by_eights(s: &[u8], t: &[u8], n: usize) -> Order
+    requires { ⌜ (n ≡ min (length (now s)) (length (now t))) × (8 ≤ n) ⌝ }
     ensures { λ r. ⌜ r ≡ orderOf (now (s .entry)) (now (t .entry)) ⌝ }
 {
-    let mut i = from;
+    let mut i = 0;
     while 8 <= n - i {
         let a = number::be64(s, i);
         let b = number::be64(t, i);
@@ -107,25 +107,6 @@ fn by_eights(s: &[u8], t: &[u8], n: usize, from: usize) -> Order
         }
     }
     by_last(s, t, n)
-}
-
-// The order of two names by their first sixteen bytes, in which most that are compared differ; what is alike beyond is passed over in larger steps.
-fn by_front(s: &[u8], t: &[u8], n: usize) -> Order
-    requires { ⌜ (n ≡ min (length (now s)) (length (now t))) × (8 ≤ n) ⌝ }
-    ensures { λ r. ⌜ r ≡ orderOf (now (s .entry)) (now (t .entry)) ⌝ }
-{
-    let m = smaller(n, 16);
-    let mut i = 0;
-    while 8 <= m - i {
-        let a = number::be64(s, i);
-        let b = number::be64(t, i);
-        if a == b {
-            i += 8;
-        } else {
-            return by_number(a, b);
-        }
-    }
-    by_eights(s, t, n, passed(s, t, n, i))
 }
 
 // The order of two names of which one is shorter than eight bytes.
@@ -154,8 +135,46 @@ pub fn order_of(s: &[u8], t: &[u8]) -> Order
     if n < 8 {
         by_bytes(s, t, n)
     } else {
-        by_front(s, t, n)
+        by_eights(s, t, n)
     }
+}
+
+// The order of two fields of one length, of whole eights, that are alike before a place.
+fn field_eights(s: &[u8], t: &[u8], from: usize) -> Order
+    requires { ⌜ (length (now s) ≡ length (now t)) × (length (now s) % 8 ≡ 0) × (from % 8 ≡ 0) × (from ≤ length (now s))
+        × (true ≡ allBelow (alikeAt (now s) (now t)) from) ⌝ }
+    ensures { λ r. ⌜ r ≡ orderOf (now (s .entry)) (now (t .entry)) ⌝ }
+{
+    let mut i = from;
+    while i < s.len() {
+        let a = number::be64(s, i);
+        let b = number::be64(t, i);
+        if a == b {
+            i += 8;
+        } else {
+            return by_number(a, b);
+        }
+    }
+    Order::Equal
+}
+
+// The order of two fields of one length, of whole eights. Most differ in their first sixteen bytes; in others what is alike is passed over in larger steps.
+// Its loops are its own and not those of `order_of`, so that they become part of the loop over a table that calls it.
+pub fn field_order(s: &[u8], t: &[u8]) -> Order
+    requires { ⌜ (length (now s) ≡ length (now t)) × (length (now s) % 8 ≡ 0) × (16 ≤ length (now s)) ⌝ }
+    ensures { λ r. ⌜ r ≡ orderOf (now (s .entry)) (now (t .entry)) ⌝ }
+{
+    let mut i = 0;
+    while i < 16 {
+        let a = number::be64(s, i);
+        let b = number::be64(t, i);
+        if a == b {
+            i += 8;
+        } else {
+            return by_number(a, b);
+        }
+    }
+    field_eights(s, t, passed(s, t, s.len(), i))
 }
 
 // Whether two names of one length that are alike before a place are the same, eight bytes at a time. The last eight may have been compared in part.

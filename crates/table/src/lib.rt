@@ -44,7 +44,7 @@ fn less(a: &[u8], b: &[u8]) -> bool
     requires { ⌜ (length (now a) ≡ 512) × (length (now b) ≡ 512) × Padded (now a) × Padded (now b) ⌝ }
     ensures { λ r. ⌜ r ≡ isLess (orderOf (publicOf (now (a .entry))) (publicOf (now (b .entry)))) ⌝ }
 {
-    match name::order_of(fields::public_field(a), fields::public_field(b)) {
+    match name::field_order(fields::public_field(a), fields::public_field(b)) {
         Order::Less => true,
         Order::Equal => a[Record::PUBLIC_LENGTH_AT] < b[Record::PUBLIC_LENGTH_AT],
         Order::Greater => false,

@@ -165,7 +165,8 @@ blocks-fails : (f : List ℕ → ℕ) → f (vector 0 0x70 1) ≢ word 0 0 1 →
 unfolding opened
 blocks-fails f h p = h (p .answer)
 
-cut-fails : (f : List ℕ → ℕ) → f (take 511 (vector 0 0x70 1)) ≢ word 6 0 0 → CheckVectorsPromise (take 511 (vector 0 0x70 1)) (f (take 511 (vector 0 0x70 1))) → ⊥
+cut-fails : (f : List ℕ → ℕ) → f (take 511 (vector 0 0x70 1)) ≢ word 6 0 0
+    → CheckVectorsPromise (take 511 (vector 0 0x70 1)) (f (take 511 (vector 0 0x70 1))) → ⊥
 unfolding opened
 cut-fails f h p = h (p .answer)
 

@@ -1,4 +1,4 @@
-use Prim.Native.Nat.{_≤_, _-_}
+use Prim.Native.Nat.{_≤_, _-_, _%_}
 use mathlib.Core.Bool.{true}
 use mathlib.Core.Path.{_≡_}
 use Rattle.octets.specs.All.{allBelow}
@@ -9,7 +9,7 @@ use Rattle.octets.proofs.name.passed.Statement.{statement}
 use Rattle.octets.proofs.name.passed.Tie as tie
 
 abbrev Inv-loop : tie.InvT-loop
-Inv-loop s t n from i₀ i = (i ≤ n) × (true ≡ allBelow (alikeAt s t) i)
+Inv-loop s t n from i₀ i = (i ≤ n) × (i % 8 ≡ from % 8) × (true ≡ allBelow (alikeAt s t) i)
 
 abbrev μ-loop : tie.MeasureT-loop
 μ-loop s t n from i₀ i = n - i
@@ -25,6 +25,6 @@ passed-spec =
     (λ c κs. search needs)
     (λ c. search needs)
     (λ c. search needs)
-    (λ c. (search needs, search (needs, same-more)))
+    (λ c. (search needs, search needs, search (needs, same-more)))
     (λ c. search needs)
     (λ c. search needs))
