@@ -313,7 +313,7 @@ else
 TUNE := -mcpu=native
 TIMED := target/native/libndushavire.a
 endif
-CHECKED := 1-short 16-short 300-short 4096-short 4096-long
+CHECKED := 1-short 16-short 300-short 4096-short 4096-ims 4096-long
 SECOND := 4096-short-2 4096-long-2 4096-short-2-1 4096-short-2-2 4096-short-2-4 4096-long-2-4 4096-alike-2-4 4096-alike-2-1
 DECIDED := 1-short 16-short 300-short 4096-short 1-tiny 16-tiny 300-tiny 4096-tiny
 REPORTED := 16-short 300-short 4096-short
@@ -321,7 +321,7 @@ REPORTED := 16-short 300-short 4096-short
 # if it has sets, by how many records are in each.
 samples = $(foreach size,$(1),target/bench/$(size).table target/bench/$(size).profile $(word 2,$(subst -, ,$(size))))
 
-#: bench              times beside the aims, a minute once their parts are made; a missed aim is marked
+#: bench              times beside the aims, two minutes once their parts are made; a missed aim is marked
 bench: $(addprefix target/bench/,check vectors moves decide report) $(patsubst %,target/bench/%.table,$(sort $(CHECKED) $(SECOND) $(DECIDED)))
 	@{ $(CC) --version | head -n 1; \
 	   target/bench/check $(call samples,$(CHECKED) $(SECOND)); \

@@ -52,7 +52,7 @@ static unsigned members(const Sample *s) {
 static Aim aim_of(const Sample *s) {
     if (s->records != NDUSHAVIRE_RECORDS_MAX || strcmp(s->names, "alike") == 0) return NONE;
     if (members(s) > 0) return SETS_AIM;
-    return strcmp(s->names, "long") == 0 ? LONG_AIM : SHORT_AIM;
+    return strcmp(s->names, "short") == 0 ? SHORT_AIM : LONG_AIM;
 }
 
 static int measure(const Sample *s) {

@@ -9,7 +9,7 @@
 typedef struct {
     uint8_t *table, *profile;
     size_t table_len, profile_len, records;
-    const char *path, *names; /* names as bench/households.sh has them: short, long, tiny, alike */
+    const char *path, *names; /* names as bench/households.sh has them: short, ims, long, tiny, alike */
 } Sample;
 
 /* The program's exit status: 2 if the arguments are no triples, 1 if a sample fails. */

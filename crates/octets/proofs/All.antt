@@ -1,7 +1,7 @@
 -- Laws of conjunctions, and of a test of every number below a bound.
 use Prim.Native.Nat.{ℕ, zero, suc, _+_, _<_, _≤_}
 use mathlib.Core.Bool.{Bool, true, false, _&&_, and-assoc, and-true, true≢false}
-use mathlib.Core.Path.{_≡_, refl, sym, _∙_}
+use mathlib.Core.Path.{_≡_, refl, sym}
 use native.Mathlib.Omega.{arith}
 use native.Mathlib.Numerals.{add-one}
 use lib.Dec.{ltb}
@@ -49,7 +49,7 @@ unfolding allBelow
 all-alike p q zero h = refl
 all-alike p q (suc n) h = rw (all-alike p q n (λ i k. h i (omega arith)), h n (omega arith))
 
--- A stretch after the first i of them: with it, and if it fails.
+-- A stretch after the first i of them.
 module _ (p q : ℕ → Bool) (i : ℕ) (later : (j : ℕ) → q j ≡ p (i + j)) where
   pub all-join : (k : ℕ) → allBelow p (i + k) ≡ (allBelow p i && allBelow q k)
   unfolding allBelow
@@ -58,10 +58,3 @@ module _ (p q : ℕ → Bool) (i : ℕ) (later : (j : ℕ) → q j ≡ p (i + j)
 
   pub all-stretch : (k : ℕ) → true ≡ allBelow p i → allBelow q k ≡ allBelow p (i + k)
   all-stretch k e = rw (all-join k, ← e)
-
-  pub all-failing : (k n : ℕ) → i + k ≤ n → allBelow q k ≡ false → allBelow p n ≡ false
-  all-failing k n h e = go (allBelow p n) refl
-    where
-      go : (x : Bool) → allBelow p n ≡ x → x ≡ false
-      go false f = refl
-      go true f = absurd (true≢false (sym (all-true q k (λ j l. later j ∙ all-at p n f (i + j) (omega arith))) ∙ e))

@@ -4,7 +4,7 @@ use mathlib.Core.Bool.{true}
 use mathlib.Core.Path.{_≡_, refl, sym, ap, _∙_}
 use mathlib.Core.List.{List}
 use native.Mathlib.Omega.{arith}
-use native.Mathlib.Nat.{mod-lt, mod-add-mod}
+use native.Mathlib.Nat.{mod-add-mod}
 use native.Mathlib.Numerals.{add-one}
 use lib.Dec.{lit<}
 use lib.ListN.{getD}
@@ -136,7 +136,9 @@ pub joined-held : (x y : Sums) (f g : ℕ → ℕ) → Held x f → Held y g →
 unfolding joined
 joined-held x y f g p q =
     record {
-      whole-is = rw (p .whole-is, q .whole-is) (wrapped (four (f 3) (f 2) (f 1) (f 0)) (four (g 3) (g 2) (g 1) (g 0)) ∙ ap (λ (n : ℕ). n % 2 ^ 32) (omega arith));
+      whole-is =
+          rw (p .whole-is, q .whole-is)
+          (wrapped (four (f 3) (f 2) (f 1) (f 0)) (four (g 3) (g 2) (g 1) (g 0)) ∙ ap (λ (n : ℕ). n % 2 ^ 32) (omega arith));
       odd-is = rw (p .odd-is, q .odd-is) (omega arith);
     }
   where

@@ -1,9 +1,11 @@
 pub mod All
 pub mod Chains
 pub mod Columns
+pub mod Eights
 pub mod Names
 pub mod Numbers
 pub mod Orders
+pub mod Padded
 pub mod Parts
 pub mod Runs
 pub mod Sums

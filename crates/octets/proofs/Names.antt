@@ -1,7 +1,7 @@
 -- Laws of names: alike is equal, and the order is strict and passes on.
 use Prim.Native.Nat.{ℕ, zero, suc, _+_, _-_, _*_, _<_, _≤_}
 use mathlib.Core.Bool.{Bool, true, false, cond}
-use mathlib.Core.Path.{_≡_, refl, sym, ap, _∙_}
+use mathlib.Core.Path.{_≡_, refl, sym, _∙_}
 use mathlib.Core.Logic.{_⊎_, inl, inr}
 use mathlib.Core.List.{List, [], _∷_}
 use native.Mathlib.Omega.{arith}
@@ -14,7 +14,7 @@ use Rattle.octets.specs.All.{allBelow}
 use Rattle.octets.specs.Name.{orderOf, alikeAt, alikeFrom, same}
 use Rattle.octets.specs.Number.{le32At}
 use Rattle.octets.specs.declared.name.Order.the-variants.{Less, Equal, Greater}
-use Rattle.octets.proofs.All.{and-left, and-right, all-at, all-true, all-join, all-stretch, all-failing}
+use Rattle.octets.proofs.All.{and-left, and-right, all-at, all-true, all-join, all-stretch}
 use Rattle.octets.proofs.Numbers.{Bytes}
 use Rattle.octets.proofs.Runs.{or-zero}
 
@@ -38,23 +38,11 @@ same-no s t h = go (same s t) refl
     go true e = absurd (h (same-eq s t e))
     go false e = e
 
--- The turns of the loop that compares: a stretch that is alike, one that is not, and the last.
+-- The turns of the loop that passes over what is alike.
 module _ (s t : List ℕ) (i : ℕ) where
   pub same-more : (k : ℕ) {x : Bool} → true ≡ allBelow (alikeAt s t) i → x ≡ allBelow (alikeFrom s t i) k → x ≡ true → true ≡ allBelow (alikeAt s t) (i + k)
   unfolding alikeFrom
   same-more k e f g = sym g ∙ f ∙ all-stretch (alikeAt s t) (alikeFrom s t i) i (λ j. refl) k e
-
-  pub same-differ : (k : ℕ) {x : Bool} → i ≤ length s → k ≤ length s - i → x ≡ allBelow (alikeFrom s t i) k → x ≡ false
-      → false ≡ allBelow (alikeAt s t) (length s)
-  unfolding alikeFrom
-  same-differ k a b f g = sym (all-failing (alikeAt s t) (alikeFrom s t i) i (λ j. refl) k (length s) (omega arith) (sym f ∙ g))
-
-  pub same-rest : {x : Bool} → i ≤ length s → true ≡ allBelow (alikeAt s t) i → x ≡ allBelow (alikeFrom s t i) (length s - i)
-      → x ≡ allBelow (alikeAt s t) (length s)
-  unfolding alikeFrom
-  same-rest a e f =
-      let n : i + (length s - i) ≡ length s = omega arith in
-      f ∙ all-stretch (alikeAt s t) (alikeFrom s t i) i (λ j. refl) (length s - i) e ∙ ap (allBelow (alikeAt s t)) n
 
 pub same-lengths : (s t : List ℕ) → (length s ≡ length t → ⊥) → false ≡ same s t
 unfolding same

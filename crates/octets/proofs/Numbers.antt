@@ -53,6 +53,9 @@ module _ (x y : List ℕ) (a b : ℕ) where
   pub be32-alike : ((j : ℕ) → j < 4 → getD x (a + j) 0 ≡ getD y (b + j) 0) → be32At x a ≡ be32At y b
   be32-alike h = be32-is x a ∙ be-alike 4 x y a b h ∙ sym (be32-is y b)
 
+  pub be64-alike : ((j : ℕ) → j < 8 → getD x (a + j) 0 ≡ getD y (b + j) 0) → be64At x a ≡ be64At y b
+  be64-alike h = be64-is x a ∙ be-alike 8 x y a b h ∙ sym (be64-is y b)
+
 -- A number of a part is a number of the whole.
 pub be24-drop : (s : List ℕ) (at i : ℕ) → be24At (drop at s) i ≡ be24At s (at + i)
 be24-drop s at i = be24-alike (drop at s) s i (at + i) (λ j l. rw (getD-drop, add-assoc))

@@ -1,5 +1,5 @@
 -- The order of two names that are alike before a place, by what stands there: the turns of the loop that compares.
-use Prim.Native.Nat.{ℕ, zero, suc, _+_, _-_, _<_, _≤_, min}
+use Prim.Native.Nat.{ℕ, zero, suc, _+_, _-_, _%_, _<_, _≤_, min}
 use mathlib.Core.Bool.{Bool, true, false, cond}
 use mathlib.Core.Path.{_≡_, refl, sym, _∙_}
 use mathlib.Core.List.{List}
@@ -131,6 +131,18 @@ module _ (s t : List ℕ) (i : ℕ) (bs : Bytes s) (bt : Bytes t) (alike : true 
   pub eight-differ : (n a b : ℕ) {r : Order} → n ≡ min (length s) (length t) → i ≤ n → 8 ≤ n - i → a ≡ be64At s i → b ≡ be64At t i → (a ≡ b → ⊥)
       → r ≡ byNumber a b → r ≡ orderOf s t
   eight-differ n a b m h l x y d e = number-differ 8 a b (omega arith) (omega arith) (x ∙ be64-is s i) (y ∙ be64-is t i) d e
+
+  -- The same of fields of one length: a later eight, and one of the first two.
+  module _ (a b : ℕ) {r : Order} (one : length s ≡ length t) (x : a ≡ be64At s i) (y : b ≡ be64At t i) (d : a ≡ b → ⊥) (e : r ≡ byNumber a b) where
+    pub field-differ : length s % 8 ≡ 0 → i % 8 ≡ 0 → i < length s → r ≡ orderOf s t
+    field-differ h k l = eight-differ (length s) a b (omega arith) (omega arith) (omega arith) x y d e
+
+    pub front-differ : 16 ≤ length s → i < 16 → i % 8 ≡ 0 → r ≡ orderOf s t
+    front-differ h k l = eight-differ (length s) a b (omega arith) (omega arith) (omega arith) x y d e
+
+-- Two fields of one length that are alike all through.
+pub field-same : (s t : List ℕ) (i : ℕ) → length s ≡ length t → i ≤ length s → length s ≤ i → true ≡ allBelow (alikeAt s t) i → Equal ≡ orderOf s t
+field-same s t i l a b e = order-end s t i (order-alike s t i a (omega arith) e) b (omega arith)
 
 -- The last eight bytes: what was compared of them is alike.
 pub alike-last : (s t : List ℕ) (i n : ℕ) → true ≡ allBelow (alikeAt s t) i → n - i < 8 → true ≡ allBelow (alikeAt s t) (n - 8)

@@ -40,6 +40,18 @@ zero-join s from middle to a b =
     let e : to - from ≡ middle - from + (to - middle) = omega arith in
     sym (ap (allBelow _) e ∙ all-join _ _ (middle - from) (λ j. let f : from + (middle - from + j) ≡ middle + j = omega arith in rw f) (to - middle))
 
+-- A run that begins before another ends makes one with it.
+pub zero-overlap : (s : List ℕ) (from middle end to : ℕ) → from ≤ middle → middle ≤ end → end ≤ to
+    → (zeroBetween s from end && zeroBetween s middle to) ≡ zeroBetween s from to
+zero-overlap s from middle end to h k l =
+    rw (← zero-join s from end to (omega arith) l, ← zero-join s from middle end h k, ← zero-join s middle end to k l)
+    (once (zeroBetween s from middle) (zeroBetween s middle end) (zeroBetween s end to))
+  where
+    once : (x y z : Bool) → (x && y && (y && z)) ≡ (x && y && z)
+    once false y z = refl
+    once true false z = refl
+    once true true z = refl
+
 -- A field in two parts: its first n bytes end in the first part, or they go on in the second.
 module _ (s : List ℕ) (at n k to : ℕ) where
   pub tail-first : {x y : Bool} → n ≤ k → at + k ≤ to → x ≡ zeroBetween s (at + n) (at + k) → x ≡ true → y ≡ zeroBetween s (at + k) to
@@ -113,7 +125,9 @@ word-zero s at = go (eqb (le32At s at) 0) (zeros s at 4) refl refl
     go false false e f = e
     go false true e f =
         let k : at + 0 ≡ at = omega arith in
-        absurd (eqb-false (le32At s at) 0 e (omega (arith, rw k at (byte f 0 (omega arith)), byte f 1 (omega arith), byte f 2 (omega arith), byte f 3 (omega arith))))
+        absurd
+        (eqb-false (le32At s at) 0 e
+        (omega (arith, rw k at (byte f 0 (omega arith)), byte f 1 (omega arith), byte f 2 (omega arith), byte f 3 (omega arith))))
 
 module _ (s : List ℕ) (at : ℕ) where
   pub set-none : eqb 0 0 ≡ zeros s at (4 * 0)
@@ -174,22 +188,6 @@ module _ (s : List ℕ) (from to : ℕ) where
   pub at-zero : ((i : ℕ) → from ≤ i → i < to → getD s i 0 ≡ 0) → zeroBetween s from to ≡ true
   unfolding zeroBetween zeros
   at-zero h = all-true _ (to - from) (λ i l. eq-eqb _ _ (h (from + i) (omega arith) (omega arith)))
-
--- Zeros from the end of a name on, as many as its first part has bytes, and those past that part: the two runs meet.
-pub zero-overlap : (s : List ℕ) (at n k to : ℕ) → n ≤ k → at + n + k ≤ to → (zeroBetween s (at + n) (at + n + k) && zeroBetween s (at + k) to) ≡ zeroBetween s (at + n) to
-zero-overlap s at n k to h l = go _ _ _ refl refl refl
-  where
-    go : (x y z : Bool) → zeroBetween s (at + n) (at + n + k) ≡ x → zeroBetween s (at + k) to ≡ y → zeroBetween s (at + n) to ≡ z → (x && y) ≡ z
-    go true true true e f g = refl
-    go true false false e f g = refl
-    go false y false e f g = refl
-    go false y true e f g = sym e ∙ at-zero s (at + n) (at + n + k) (λ i a b. zero-at s (at + n) to g i (omega arith) (omega arith))
-    go true false true e f g = sym f ∙ at-zero s (at + k) to (λ i a b. zero-at s (at + n) to g i (omega arith) (omega arith))
-    go true true false e f g = sym (at-zero s (at + n) to (λ i a b. either i a b (ltb i (at + n + k)) refl)) ∙ g
-      where
-        either : (i : ℕ) → at + n ≤ i → i < to → (x : Bool) → ltb i (at + n + k) ≡ x → getD s i 0 ≡ 0
-        either i a b true m = zero-at s (at + n) (at + n + k) e i a (ltb-true i (at + n + k) m)
-        either i a b false m = zero-at s (at + k) to f i (omega (arith, ltb-false i (at + n + k) m)) b
 
 pub zero-alike : (x y : List ℕ) (from to : ℕ) → ((i : ℕ) → from ≤ i → i < to → getD x i 0 ≡ getD y i 0) → zeroBetween x from to ≡ zeroBetween y from to
 unfolding zeroBetween zeros

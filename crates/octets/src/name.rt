@@ -2,7 +2,7 @@
 use crate::number;
 ghost use mathlib.Core.Path.{_≡_};
 ghost use mathlib.Core.Bool.{true};
-ghost use Prim.Native.Nat.{_+_, _-_, _≤_, min};
+ghost use Prim.Native.Nat.{_+_, _-_, _%_, _≤_, min};
 ghost use lib.ListN.{length};
 ghost use Rattle.octets.specs.All.{allBelow};
 ghost use Rattle.octets.specs.Name.{orderOf, same, alikeAt, alikeFrom, byNumber, byLength};
@@ -37,14 +37,14 @@ fn by_length(m: usize, n: usize) -> Order
     if n < m { Order::Greater } else { Order::Equal }
 }
 
-// Whether k bytes from place i on are the same in both names. No early exit: eight bytes become one comparison.
-fn alike(s: &[u8], t: &[u8], i: usize, k: usize) -> bool
-    requires { ⌜ (i + k ≤ length (now s)) × (i + k ≤ length (now t)) ⌝ }
-    ensures { λ r. ⌜ r ≡ allBelow (alikeFrom (now (s .entry)) (now (t .entry)) i) k ⌝ }
+// Whether the first n bytes are the same in both names.
+fn alike(s: &[u8], t: &[u8], n: usize) -> bool
+    requires { ⌜ (n ≤ length (now s)) × (n ≤ length (now t)) ⌝ }
+    ensures { λ r. ⌜ r ≡ allBelow (alikeAt (now (s .entry)) (now (t .entry))) n ⌝ }
 {
     let mut same = true;
-    for j in 0..k {
-        same = same & (s[i + j] == t[i + j]);
+    for j in 0..n {
+        same = same & (s[j] == t[j]);
     }
     same
 }
@@ -61,12 +61,12 @@ fn alike_words(s: &[u8], t: &[u8], i: usize) -> bool
     bits == 0
 }
 
-// Passes over what is the same at the front, 32 bytes at a time, below n.
-fn passed(s: &[u8], t: &[u8], n: usize) -> usize
-    requires { ⌜ (n ≤ length (now s)) × (n ≤ length (now t)) ⌝ }
-    ensures { λ r. ⌜ (r ≤ n) × (true ≡ allBelow (alikeAt (now (s .entry)) (now (t .entry))) r) ⌝ }
+// Passes over what is the same from a place on, before which the names are alike, 32 bytes at a time, below n.
+fn passed(s: &[u8], t: &[u8], n: usize, from: usize) -> usize
+    requires { ⌜ (n ≤ length (now s)) × (n ≤ length (now t)) × (from ≤ n) × (true ≡ allBelow (alikeAt (now s) (now t)) from) ⌝ }
+    ensures { λ r. ⌜ (r ≤ n) × (r % 8 ≡ from % 8) × (true ≡ allBelow (alikeAt (now (s .entry)) (now (t .entry))) r) ⌝ }
 {
-    let mut i = 0;
+    let mut i = from;
     while 32 <= n - i {
         if alike_words(s, t, i) {
             i += 32;
@@ -91,12 +91,12 @@ fn by_last(s: &[u8], t: &[u8], n: usize) -> Order
     }
 }
 
-// The order of two names that are alike before a place, eight bytes at a time. The last eight may have been compared in part, and are alike there.
-fn by_eights(s: &[u8], t: &[u8], n: usize, from: usize) -> Order
-    requires { ⌜ (n ≡ min (length (now s)) (length (now t))) × (8 ≤ n) × (from ≤ n) × (true ≡ allBelow (alikeAt (now s) (now t)) from) ⌝ }
+// The order of two names, eight bytes at a time. The last eight may have been compared in part, and are alike there.
+fn by_eights(s: &[u8], t: &[u8], n: usize) -> Order
+    requires { ⌜ (n ≡ min (length (now s)) (length (now t))) × (8 ≤ n) ⌝ }
     ensures { λ r. ⌜ r ≡ orderOf (now (s .entry)) (now (t .entry)) ⌝ }
 {
-    let mut i = from;
+    let mut i = 0;
     while 8 <= n - i {
         let a = number::be64(s, i);
         let b = number::be64(t, i);
@@ -135,24 +135,80 @@ pub fn order_of(s: &[u8], t: &[u8]) -> Order
     if n < 8 {
         by_bytes(s, t, n)
     } else {
-        by_eights(s, t, n, passed(s, t, n))
+        by_eights(s, t, n)
     }
 }
 
-// Whether two names of one length are the same, eight bytes at a time: a scan over many names leaves most of them at the first eight.
-fn same_bytes(s: &[u8], t: &[u8]) -> bool
-    requires { ⌜ length (now s) ≡ length (now t) ⌝ }
-    ensures { λ r. ⌜ r ≡ allBelow (alikeAt (now (s .entry)) (now (t .entry))) (length (now (s .entry))) ⌝ }
+// The order of two fields of one length, of whole eights, that are alike before a place.
+fn field_eights(s: &[u8], t: &[u8], from: usize) -> Order
+    requires { ⌜ (length (now s) ≡ length (now t)) × (length (now s) % 8 ≡ 0) × (from % 8 ≡ 0) × (from ≤ length (now s))
+        × (true ≡ allBelow (alikeAt (now s) (now t)) from) ⌝ }
+    ensures { λ r. ⌜ r ≡ orderOf (now (s .entry)) (now (t .entry)) ⌝ }
+{
+    let mut i = from;
+    while i < s.len() {
+        let a = number::be64(s, i);
+        let b = number::be64(t, i);
+        if a == b {
+            i += 8;
+        } else {
+            return by_number(a, b);
+        }
+    }
+    Order::Equal
+}
+
+// The order of two fields of one length, of whole eights. Most differ in their first sixteen bytes; in others what is alike is passed over in larger steps.
+// Its loops are its own and not those of `order_of`, so that they become part of the loop over a table that calls it.
+pub fn field_order(s: &[u8], t: &[u8]) -> Order
+    requires { ⌜ (length (now s) ≡ length (now t)) × (length (now s) % 8 ≡ 0) × (16 ≤ length (now s)) ⌝ }
+    ensures { λ r. ⌜ r ≡ orderOf (now (s .entry)) (now (t .entry)) ⌝ }
 {
     let mut i = 0;
-    while 8 <= s.len() - i {
-        if alike(s, t, i, 8) {
+    while i < 16 {
+        let a = number::be64(s, i);
+        let b = number::be64(t, i);
+        if a == b {
+            i += 8;
+        } else {
+            return by_number(a, b);
+        }
+    }
+    field_eights(s, t, passed(s, t, s.len(), i))
+}
+
+// Whether two names of one length that are alike before a place are the same, eight bytes at a time. The last eight may have been compared in part.
+fn same_eights(s: &[u8], t: &[u8], from: usize) -> bool
+    requires { ⌜ (length (now s) ≡ length (now t)) × (8 ≤ length (now s)) × (from ≤ length (now s))
+        × (true ≡ allBelow (alikeAt (now s) (now t)) from) ⌝ }
+    ensures { λ r. ⌜ r ≡ allBelow (alikeAt (now (s .entry)) (now (t .entry))) (length (now (s .entry))) ⌝ }
+{
+    let n = s.len();
+    let mut i = from;
+    while 8 <= n - i {
+        if number::be64(s, i) == number::be64(t, i) {
             i += 8;
         } else {
             return false;
         }
     }
-    alike(s, t, i, s.len() - i)
+    number::be64(s, n - 8) == number::be64(t, n - 8)
+}
+
+// Whether two names of one length are the same: a scan over many names leaves most of them at the first eight bytes.
+fn same_bytes(s: &[u8], t: &[u8]) -> bool
+    requires { ⌜ length (now s) ≡ length (now t) ⌝ }
+    ensures { λ r. ⌜ r ≡ allBelow (alikeAt (now (s .entry)) (now (t .entry))) (length (now (s .entry))) ⌝ }
+{
+    let n = s.len();
+    if n < 8 {
+        return alike(s, t, n);
+    }
+    if number::be64(s, 0) == number::be64(t, 0) {
+        same_eights(s, t, passed(s, t, n, 8))
+    } else {
+        false
+    }
 }
 
 // Whether two names are the same.

@@ -1,6 +1,7 @@
-pub mod Hashes
+pub mod Heads
 pub mod OneSet
 pub mod Places
-pub mod Short
+pub mod RecordBytes
 pub mod Sound
 pub mod Tests
+pub mod Windows

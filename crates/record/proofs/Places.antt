@@ -1,12 +1,12 @@
 -- The places of visited networks: one in use, one that is not, and all together.
 use Prim.Native.Nat.{ℕ, _+_, _<_, _≤_}
-use mathlib.Core.Bool.{Bool, _&&_}
+use mathlib.Core.Bool.{Bool, true, _&&_}
 use mathlib.Core.Path.{_≡_}
 use mathlib.Core.List.{List}
-use borrow.Author.Tests.{lt-ltb, le-ltb}
+use borrow.Author.Tests.{lt-ltb, le-ltb, lt-leb, le-leb}
 use Rattle.octets.specs.All.{allBelow}
 use Rattle.octets.specs.Run.{zeroBetween}
-use Rattle.record.specs.Networks.{placeAt, usedPlace, soundPlace, newPlace, soundNetworks}
+use Rattle.record.specs.Networks.{placeAt, usedPlace, soundPlace, otherPlace, newPlace, soundNetworks}
 
 pub place-used : (b : List ℕ) (n i : ℕ) {x : Bool} → i < n → x ≡ usedPlace b i → x ≡ soundPlace b n i
 unfolding soundPlace
@@ -15,6 +15,14 @@ place-used b n i h e = rw (lt-ltb _ _ h) e
 pub place-unused : (b : List ℕ) (n i at : ℕ) {x : Bool} → n ≤ i → at ≡ placeAt i → x ≡ zeroBetween b at (at + 32) → x ≡ soundPlace b n i
 unfolding soundPlace
 place-unused b n i at h a e = rw (le-ltb _ _ h, ← a) e
+
+pub new-unused : (b : List ℕ) (n j : ℕ) → n ≤ j → true ≡ newPlace b n j
+unfolding newPlace
+new-unused b n j h = rw (le-leb _ _ h)
+
+pub new-used : (b : List ℕ) (n j : ℕ) {x : Bool} → j < n → x ≡ allBelow (otherPlace b j) j → x ≡ newPlace b n j
+unfolding newPlace
+new-used b n j h e = rw (lt-leb _ _ h) e
 
 pub places-all : (b : List ℕ) (n : ℕ) {x y : Bool} → x ≡ allBelow (soundPlace b n) 8 → y ≡ allBelow (newPlace b n) 8 → (x && y) ≡ soundNetworks b n
 unfolding soundNetworks

@@ -59,6 +59,10 @@ serverSize b = getD b 15 0
 unfoldable pub publicOf : List ℕ → List ℕ
 publicOf b = take (publicSize b) (drop 16 b)
 
+-- the whole field of the first, with the zeros past the name
+unfoldable pub publicField : List ℕ → List ℕ
+publicField b = take 128 (drop 16 b)
+
 unfoldable pub privateOf : List ℕ → List ℕ
 privateOf b = take (privateSize b) (drop 144 b)
 

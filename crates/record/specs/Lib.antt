@@ -1,7 +1,6 @@
 pub mod Fields
-pub mod Hash
 pub mod HeaderBlock
 pub mod Networks
 pub mod RecordBlock
+pub mod RecordBytes
 pub mod Sets
-pub mod Short

@@ -5,7 +5,7 @@ use octets::name;
 ghost use mathlib.Core.Path.{_≡_};
 ghost use Prim.Native.Nat.{_≤_};
 ghost use lib.ListN.{length, take, drop};
-ghost use Rattle.record.specs.Fields.{hostOf, realmOf, publicOf, privateOf, serverOf, bitsOf, barred, unregisteredServices};
+ghost use Rattle.record.specs.Fields.{hostOf, realmOf, publicOf, publicField, privateOf, serverOf, bitsOf, barred, unregisteredServices};
 
 // The n bytes from a place on, cut at the block's end.
 fn part(b: &[u8], at: usize, n: usize) -> &[u8]
@@ -43,6 +43,14 @@ pub fn public(b: &[u8]) -> &[u8]
         Record::PUBLIC_AT,
         octets::byte(b, Record::PUBLIC_LENGTH_AT),
     )
+}
+
+// The whole field of the public identity, with the zeros past the name.
+pub fn public_field(b: &[u8]) -> &[u8]
+    requires { ⌜ length (now b) ≡ 512 ⌝ }
+    ensures { λ r. ⌜ (now r ≡ publicField (now (b .entry))) × (length (now r) ≡ 128) ⌝ }
+{
+    &b[Record::PUBLIC_AT..Record::PRIVATE_AT]
 }
 
 pub fn private(b: &[u8]) -> &[u8]

@@ -1,6 +1,5 @@
 // One block of the table: the header with its networks, and a record.
 pub mod fields;
-pub mod hash;
 pub mod header;
 pub mod networks;
 pub mod sets;

@@ -77,12 +77,15 @@ fn others(b: &[u8], j: usize) -> bool
     apart
 }
 
-// The same of place j, if it is in use.
+// The same of place j, if it is in use: most headers use few places, and only those are compared.
 fn new_place(b: &[u8], n: usize, j: usize) -> bool
     requires { ⌜ (length (now b) ≡ 512) × (j < 8) ⌝ }
     ensures { λ r. ⌜ r ≡ newPlace (now (b .entry)) n j ⌝ }
 {
-    (n <= j) | others(b, j)
+    if n <= j {
+        return true;
+    }
+    others(b, j)
 }
 
 // Each place by itself.

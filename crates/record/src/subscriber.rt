@@ -5,13 +5,12 @@ use octets::run;
 use octets::sum;
 use octets::sum::Sums;
 ghost use mathlib.Core.Path.{_≡_};
-ghost use Prim.Native.Nat.{_≤_};
+ghost use Prim.Native.Nat.{_≤_, max};
 ghost use lib.Dec.{eqb};
 ghost use lib.ListN.{length};
 ghost use Rattle.record.specs.Fields.{pending, barred, unregisteredServices, cleared, pendingSet};
-ghost use Rattle.record.specs.RecordBlock.{recordOf, isRecord, soundSet, soundLimits, soundServer, soundRoaming, soundProfile, soundRest};
-ghost use Rattle.record.specs.RecordBlock.{soundRecord};
-ghost use Rattle.record.specs.Short.{shortNames, shortOthers, shortSum, shortZeros, soundBytes};
+ghost use Rattle.record.specs.RecordBlock.{recordOf, soundLimits, soundServer, soundRoaming, soundProfile, soundRecord};
+ghost use Rattle.record.specs.RecordBytes.{NamesWithin, headed, setUnder, pastNames, pastRest, soundBytes, namesOf, othersOf, usedSum};
 
 // The numbers of a record block. Its names stay in the table.
 pub struct Record {
@@ -37,8 +36,6 @@ impl Record {
     pub const KIND_AT: usize = 0;
 
     pub const EDITION_AT: usize = 1;
-
-    pub const BLANK_AT: usize = 2;
 
     pub const NUMBER_AT: usize = 4;
 
@@ -98,8 +95,10 @@ impl Record {
 
     pub const MOST_PROFILE: u32 = 4096;
 
-    // Names of at most so many bytes are short: a block of which each name is has few words that are not zero.
+    // Names of at most so many bytes are short, and of at most so many medium: a block of which each name is has few words that are not zero.
     pub const SHORT: u8 = 32;
+
+    pub const MEDIUM: u8 = 64;
 
     // The numbers of a block.
     pub fn read(b: &[u8]) -> Record
@@ -159,18 +158,23 @@ impl Record {
     }
 }
 
-// The kind and the block's number; the edition and the issue number are the header's.
-fn is_record(r: Record, k: u32, h: Header) -> bool
-    ensures { λ x. ⌜ x ≡ isRecord r k h ⌝ }
+// The kind, the edition and the block's number, with the blank bytes between them; the issue number with the four blank bytes behind it: whole words,
+// so that each takes one comparison.
+fn is_headed(b: &[u8], k: u32, h: Header) -> bool
+    requires { ⌜ length (now b) ≡ 512 ⌝ }
+    ensures { λ x. ⌜ x ≡ headed (now (b .entry)) k h ⌝ }
 {
-    (r.kind == Record::KIND) & (r.edition == h.edition) & (r.number == k) & (r.issue == h.issue)
+    (number::be32(b, Record::KIND_AT)
+        == (Record::KIND as u32) * 16777216 + (h.edition as u32) * 65536)
+        & (number::be32(b, Record::NUMBER_AT) == k)
+        & (number::be64(b, Record::ISSUE_AT) == (h.issue as usize) * 4294967296)
 }
 
-// No set number in the first edition.
-fn set_sound(r: Record) -> bool
-    ensures { λ x. ⌜ x ≡ soundSet r ⌝ }
+// No set number in the first edition, which is the header's here: the record's is not read by itself a second time.
+fn set_sound(r: Record, h: Header) -> bool
+    ensures { λ x. ⌜ x ≡ setUnder r h ⌝ }
 {
-    (r.set == 0) | (r.edition == Header::SECOND_EDITION)
+    (r.set == 0) | (h.edition == Header::SECOND_EDITION)
 }
 
 // Each number within its limits.
@@ -212,13 +216,12 @@ fn within(r: Record, file: usize) -> bool
     (r.start as usize) + (r.size as usize) <= file
 }
 
-// The tails of the names and of the capabilities, whose counts are within their limits, and the bytes not named.
+// The tails of the names and of the capabilities, whose counts are within their limits, and the bytes not named that stand in no word of the head.
 fn rest(b: &[u8], r: Record) -> bool
     requires { ⌜ (length (now b) ≡ 512) × (r .mandatory ≤ 4) × (r .optional ≤ 4) ⌝ }
-    ensures { λ x. ⌜ x ≡ soundRest (now (b .entry)) r ⌝ }
+    ensures { λ x. ⌜ x ≡ pastRest (now (b .entry)) r ⌝ }
 {
-    run::zero_between(b, Record::BLANK_AT, Record::NUMBER_AT)
-        & run::zero_long_tail(b, Record::PUBLIC_AT, Record::PRIVATE_AT, r.public)
+    run::zero_long_tail(b, Record::PUBLIC_AT, Record::PRIVATE_AT, r.public)
         & run::zero_long_tail(b, Record::PRIVATE_AT, Record::SERVER_AT, r.private)
         & run::zero_long_tail(b, Record::SERVER_AT, Record::MANDATORY_AT, r.server)
         & run::zero_tail(
@@ -233,13 +236,14 @@ fn rest(b: &[u8], r: Record) -> bool
             Record::PROFILE_START_AT,
             4 * r.optional,
         )
-        & (run::set_bits(b, Record::REST_AT, 24) == 0)
+        & (run::set_bits(b, Record::REST_AT + 4, 23) == 0)
 }
 
-// The words of a block whose names are short, but for those that its check finds zero: up to the end of each name, and from the capabilities on.
+// The words of a block whose names are short, or medium, but for those that its check finds zero: up to the end of each name, and from the
+// capabilities on. Each of the two has functions of its own: with the limit as a parameter they do not become vectors.
 fn short_names(b: &[u8]) -> Sums
     requires { ⌜ length (now b) ≡ 512 ⌝ }
-    ensures { λ x. ⌜ (x ≡ shortNames (now (b .entry))) × (x .odd ≤ 467934180) ⌝ }
+    ensures { λ x. ⌜ (x ≡ namesOf (now (b .entry)) 8) × (x .odd ≤ 467934180) ⌝ }
 {
     let public = sum::columns(b, Record::KIND_AT, 12);
     let private = sum::columns(b, Record::PRIVATE_AT, 8);
@@ -249,9 +253,21 @@ fn short_names(b: &[u8]) -> Sums
     )
 }
 
-fn short_others(b: &[u8]) -> Sums
+fn medium_names(b: &[u8]) -> Sums
     requires { ⌜ length (now b) ≡ 512 ⌝ }
-    ensures { λ x. ⌜ (x ≡ shortOthers (now (b .entry))) × (x .odd ≤ 217255155) ⌝ }
+    ensures { λ x. ⌜ (x ≡ namesOf (now (b .entry)) 16) × (x .odd ≤ 869020620) ⌝ }
+{
+    let public = sum::columns(b, Record::KIND_AT, 20);
+    let private = sum::columns(b, Record::PRIVATE_AT, 16);
+    sum::both(
+        sum::both(public, private),
+        sum::columns(b, Record::SERVER_AT, 16),
+    )
+}
+
+fn others(b: &[u8]) -> Sums
+    requires { ⌜ length (now b) ≡ 512 ⌝ }
+    ensures { λ x. ⌜ (x ≡ othersOf (now (b .entry))) × (x .odd ≤ 217255155) ⌝ }
 {
     sum::both(
         sum::columns(b, Record::MANDATORY_AT, 12),
@@ -262,15 +278,22 @@ fn short_others(b: &[u8]) -> Sums
 // The sum of such a block's words: those that are zero add nothing.
 fn short_sum(b: &[u8]) -> u32
     requires { ⌜ length (now b) ≡ 512 ⌝ }
-    ensures { λ x. ⌜ x ≡ shortSum (now (b .entry)) ⌝ }
+    ensures { λ x. ⌜ x ≡ usedSum (now (b .entry)) 8 ⌝ }
 {
-    sum::total(sum::both(short_names(b), short_others(b)))
+    sum::total(sum::both(short_names(b), others(b)))
+}
+
+fn medium_sum(b: &[u8]) -> u32
+    requires { ⌜ length (now b) ≡ 512 ⌝ }
+    ensures { λ x. ⌜ x ≡ usedSum (now (b .entry)) 16 ⌝ }
+{
+    sum::total(sum::both(medium_names(b), others(b)))
 }
 
 // The bits that are set past short names and past the last named byte.
 fn short_past(b: &[u8], r: Record) -> u32
-    requires { ⌜ (length (now b) ≡ 512) × (r .public ≤ 32) × (r .private ≤ 32) × (r .server ≤ 32) ⌝ }
-    ensures { λ x. ⌜ eqb x 0 ≡ shortZeros (now (b .entry)) r ⌝ }
+    requires { ⌜ (length (now b) ≡ 512) × NamesWithin r 32 ⌝ }
+    ensures { λ x. ⌜ eqb x 0 ≡ pastNames (now (b .entry)) r ⌝ }
 {
     run::set_bits(b, Record::PUBLIC_AT + r.public as usize, 8)
         | run::set_bits(b, Record::PUBLIC_AT + 32, 24)
@@ -278,16 +301,42 @@ fn short_past(b: &[u8], r: Record) -> u32
         | run::set_bits(b, Record::PRIVATE_AT + 32, 24)
         | run::set_bits(b, Record::SERVER_AT + r.server as usize, 8)
         | run::set_bits(b, Record::SERVER_AT + 32, 16)
-        | run::set_bits(b, Record::REST_AT, 24)
+        | run::set_bits(b, Record::REST_AT + 4, 23)
 }
 
-// What `rest` asks, where the names are short.
-fn short_rest(b: &[u8], r: Record) -> bool
-    requires { ⌜ (length (now b) ≡ 512) × (r .mandatory ≤ 4) × (r .optional ≤ 4) × (r .public ≤ 32) × (r .private ≤ 32) × (r .server ≤ 32) ⌝ }
-    ensures { λ x. ⌜ x ≡ soundRest (now (b .entry)) r ⌝ }
+// The larger of two lengths.
+fn larger(m: usize, n: usize) -> usize
+    ensures { λ r. ⌜ r ≡ max m n ⌝ }
 {
-    run::zero_between(b, Record::BLANK_AT, Record::NUMBER_AT)
-        & (short_past(b, r) == 0)
+    if m < n { n } else { m }
+}
+
+// The same past medium names: the 32 bytes past the end of a name may end before its 64th, and 32 more from its 32nd on reach it.
+fn medium_past(b: &[u8], r: Record) -> u32
+    requires { ⌜ (length (now b) ≡ 512) × NamesWithin r 64 ⌝ }
+    ensures { λ x. ⌜ eqb x 0 ≡ pastNames (now (b .entry)) r ⌝ }
+{
+    let public = r.public as usize;
+    let private = r.private as usize;
+    let server = r.server as usize;
+    run::set_bits(b, Record::PUBLIC_AT + public, 8)
+        | run::set_bits(b, Record::PUBLIC_AT + larger(public, 32), 8)
+        | run::set_bits(b, Record::PUBLIC_AT + 64, 16)
+        | run::set_bits(b, Record::PRIVATE_AT + private, 8)
+        | run::set_bits(b, Record::PRIVATE_AT + larger(private, 32), 8)
+        | run::set_bits(b, Record::PRIVATE_AT + 64, 16)
+        | run::set_bits(b, Record::SERVER_AT + server, 8)
+        | run::set_bits(b, Record::SERVER_AT + larger(server, 32), 8)
+        | run::set_bits(b, Record::SERVER_AT + 64, 8)
+        | run::set_bits(b, Record::REST_AT + 4, 23)
+}
+
+// What `rest` asks, where the names are short; where they are medium.
+fn short_rest(b: &[u8], r: Record) -> bool
+    requires { ⌜ (length (now b) ≡ 512) × (r .mandatory ≤ 4) × (r .optional ≤ 4) × NamesWithin r 32 ⌝ }
+    ensures { λ x. ⌜ x ≡ pastRest (now (b .entry)) r ⌝ }
+{
+    (short_past(b, r) == 0)
         & run::zero_tail(
             b,
             Record::MANDATORY_AT,
@@ -302,12 +351,38 @@ fn short_rest(b: &[u8], r: Record) -> bool
         )
 }
 
-// Whether a block's words sum to zero and its unused places are zero, where the names are short.
+fn medium_rest(b: &[u8], r: Record) -> bool
+    requires { ⌜ (length (now b) ≡ 512) × (r .mandatory ≤ 4) × (r .optional ≤ 4) × NamesWithin r 64 ⌝ }
+    ensures { λ x. ⌜ x ≡ pastRest (now (b .entry)) r ⌝ }
+{
+    (medium_past(b, r) == 0)
+        & run::zero_tail(
+            b,
+            Record::MANDATORY_AT,
+            Record::OPTIONAL_AT,
+            4 * r.mandatory,
+        )
+        & run::zero_tail(
+            b,
+            Record::OPTIONAL_AT,
+            Record::PROFILE_START_AT,
+            4 * r.optional,
+        )
+}
+
+// Whether a block's words sum to zero and its unused places are zero, where the names are short; where they are medium.
 fn short_sound(b: &[u8], r: Record) -> bool
-    requires { ⌜ (length (now b) ≡ 512) × (r .mandatory ≤ 4) × (r .optional ≤ 4) × (r .public ≤ 32) × (r .private ≤ 32) × (r .server ≤ 32) ⌝ }
+    requires { ⌜ (length (now b) ≡ 512) × (r .mandatory ≤ 4) × (r .optional ≤ 4) × NamesWithin r 32 ⌝ }
     ensures { λ x. ⌜ x ≡ soundBytes (now (b .entry)) r ⌝ }
 {
     (short_sum(b) == 0) & short_rest(b, r)
+}
+
+fn medium_sound(b: &[u8], r: Record) -> bool
+    requires { ⌜ (length (now b) ≡ 512) × (r .mandatory ≤ 4) × (r .optional ≤ 4) × NamesWithin r 64 ⌝ }
+    ensures { λ x. ⌜ x ≡ soundBytes (now (b .entry)) r ⌝ }
+{
+    (medium_sum(b) == 0) & medium_rest(b, r)
 }
 
 // The same of any names. The words past the last named byte are left out of the sum: they are zero, or the block is unsound.
@@ -318,7 +393,14 @@ fn bytes_sound(b: &[u8], r: Record) -> bool
     if (r.public <= Record::SHORT) & (r.private <= Record::SHORT) & (r.server <= Record::SHORT) {
         short_sound(b, r)
     } else {
-        (sum::sum_ends(b, 104) == 0) & rest(b, r)
+        if (r.public <= Record::MEDIUM)
+            & (r.private <= Record::MEDIUM)
+            & (r.server <= Record::MEDIUM)
+        {
+            medium_sound(b, r)
+        } else {
+            (sum::sum_ends(b, 104) == 0) & rest(b, r)
+        }
     }
 }
 
@@ -328,8 +410,8 @@ pub fn sound(b: &[u8], k: u32, h: Header, file: usize) -> bool
     ensures { λ x. ⌜ x ≡ soundRecord (now (b .entry)) k h file ⌝ }
 {
     let r = Record::read(b);
-    if is_record(r, k, h)
-        & set_sound(r)
+    if is_headed(b, k, h)
+        & set_sound(r, h)
         & limits(r)
         & server_sound(r)
         & roams(r, h.networks as u32)

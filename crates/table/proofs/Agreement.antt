@@ -1,25 +1,14 @@
--- That the records of every set agree: the test of one pair, and what it says of every pair.
-use Prim.Native.Nat.{ℕ, suc, _+_, _-_, _<_, _≤_}
+-- That the records of every set agree: what the test says of every pair.
+use Prim.Native.Nat.{ℕ, suc, _-_, _<_, _≤_}
 use mathlib.Core.Bool.{Bool, true, false, _||_, not, true≢false}
 use mathlib.Core.Path.{_≡_, refl, sym}
 use mathlib.Core.List.{List}
 use native.Mathlib.Omega.{arith}
-use native.Mathlib.Numerals.{add-one}
 use Rattle.octets.proofs.All.{all-at, all-true, all-alike}
 use Rattle.record.specs.Sets.{sameSet, agreeing}
 use Rattle.record.proofs.OneSet.{SameMember, member-set, member-agrees}
 use Rattle.table.specs.Blocks.{blockOf}
 use Rattle.table.specs.Check.{agreesWith, agreesAt}
-
--- The test of a pair, by what is read of it.
-module _ (t : List ℕ) (k i : ℕ) {a b : List ℕ} {x : Bool} (first : a ≡ blockOf t (i + 1)) (second : b ≡ blockOf t k) (set : x ≡ sameSet a b) where
-  pub with-other : x ≡ false → true ≡ agreesWith t k i
-  unfolding agreesWith
-  with-other f = let s : sameSet a b ≡ false = cc in rw (← add-one i, ← first, ← second, s)
-
-  pub with-same : {y : Bool} → x ≡ true → y ≡ agreeing a b → y ≡ agreesWith t k i
-  unfolding agreesWith
-  with-same f e = let s : sameSet a b ≡ true = cc in rw (← add-one i, ← first, ← second, s) e
 
 or-says : (x y : Bool) → (not x || y) ≡ true → x ≡ true → y ≡ true
 or-says true y e f = e

@@ -8,14 +8,13 @@ use native.Mathlib.Numerals.{add-one}
 use lib.Dec.{leb, eqb}
 use borrow.Author.Tests.{le-leb, lt-leb, leb-true, leb-false, eqb-true}
 use Rattle.octets.specs.All.{allBelow}
-use Rattle.octets.proofs.All.{all-at, all-more}
+use Rattle.octets.proofs.All.{and-left, all-at}
 use Rattle.record.specs.Fields.{setOf}
-use Rattle.record.specs.Sets.{sameSet, agreeing}
 use Rattle.record.specs.declared.header.Header.{Header}
 use Rattle.record.proofs.OneSet.{OneSet, set-says}
 use Rattle.table.specs.Blocks.{blockOf}
 use Rattle.table.specs.Check.{standsAt, agreesAt, soundAt, firstBad, checkRecords}
-use Rattle.table.specs.Leading.{leading, setless, outcomeOf}
+use Rattle.table.specs.Leading.{leading, setless, Setless, outcomeOf}
 use Rattle.table.specs.declared.Checked.{Checked}
 use Rattle.table.specs.declared.Checked.the-variants.{Sound, Bad}
 use Rattle.table.proofs.Agreement.{agrees-holds}
@@ -45,11 +44,17 @@ module _ (good : ℕ → Bool) (n m : ℕ) {whole : ℕ} (left : whole ≡ m + l
   unfolding leading
   leading-end h = let d : n - m ≡ 0 = omega arith in let l : whole ≡ m + 0 = rw d at left in omega arith
 
--- One record more that is of no set, or is of one.
-pub setless-more : (t : List ℕ) (m : ℕ) (b : List ℕ) {none : Bool} {n : ℕ} → none ≡ allBelow (setless t) m → b ≡ blockOf t (m + 1) → n ≡ setOf b
-    → (none && eqb n 0) ≡ allBelow (setless t) (m + 1)
+-- One record, by what is read of it.
+pub setless-read : (t : List ℕ) (i : ℕ) (b : List ℕ) {n : ℕ} → b ≡ blockOf t (i + 1) → n ≡ setOf b → eqb n 0 ≡ setless t i
 unfolding setless
-setless-more t m b e is f = all-more (setless t) m e (rw (← add-one m, ← is, ← f))
+setless-read t i b is e = rw (← add-one i, ← is, ← e)
+
+-- What the loop says where it ends, and where it leaves off at a record that it has looked at.
+pub setless-end : (t : List ℕ) (m : ℕ) {none : Bool} → none ≡ allBelow (setless t) m → Setless t m none
+setless-end t m e = record { each = λ f. sym e ∙ f }
+
+pub setless-left : (t : List ℕ) (m : ℕ) {none : Bool} (x : Bool) → none ≡ allBelow (setless t) m → Setless t m (none && x)
+setless-left t m {none} x e = record { each = λ f. sym e ∙ and-left none x f }
 
 -- All are good, and counted.
 pub leading-full : (good : ℕ → Bool) (n k : ℕ) → ((j : ℕ) → k ≤ j → j < k + n → good j ≡ true) → leading good n k ≡ n
@@ -121,5 +126,5 @@ module _ (t : List ℕ) (h : Header) (file : ℕ) {m : ℕ} {r : Checked} (stand
   records-two e f =
       rw (two-passes (soundAt t h file) (standsAt t h file) (agreesAt t) (λ j. refl) (h .count) (h .count) 1, ← stand, ← e) f
 
-  pub records-one : {x : Bool} → x ≡ allBelow (setless t) m → x ≡ true → r ≡ outcomeOf (h .count) m → r ≡ checkRecords t h file
-  records-one e g f = let s : allBelow (setless t) m ≡ true = cc in records-two (sym (setless-all t m s)) f
+  pub records-one : {x : Bool} → Setless t m x → x ≡ true → r ≡ outcomeOf (h .count) m → r ≡ checkRecords t h file
+  records-one s g f = records-two (sym (setless-all t m (s .each g))) f

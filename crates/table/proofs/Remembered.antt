@@ -1,22 +1,21 @@
--- The sets that are remembered: a slot is empty only where no earlier record is of the set looked for, and to agree with the remembered one is to agree with all.
+-- The sets that are remembered: a slot is empty only where no earlier record is of the set looked for; to agree with the remembered one is to agree with all.
 use Prim.Native.Nat.{ℕ, zero, suc, _+_, _-_, _*_, _/_, _%_, _<_, _≤_}
-use mathlib.Core.Bool.{Bool, true, false, _&&_, _||_, true≢false}
+use mathlib.Core.Bool.{Bool, true, false, _&&_, _||_, cond, true≢false}
 use mathlib.Core.Path.{_≡_, refl, sym, _∙_, ap}
 use mathlib.Core.List.{List}
 use native.Mathlib.Omega.{arith}
-use native.Mathlib.Numerals.{add-one}
 use lib.Dec.{eqb, ltb}
-use lib.ListN.{length, getD, set, replicate, length-set, length-replicate, getD-replicate}
+use lib.ListN.{length, getD, set, replicate, length-set, length-replicate}
 use lib.Seq.{getD-set-same, getD-set-other}
 use borrow.Author.Tests.{eqb-true, eqb-false, eq-eqb, ne-eqb, ltb-true, ltb-false}
 use Rattle.record.specs.Fields.{setOf}
-use Rattle.record.specs.Hash.{hashOf}
+use Rattle.table.specs.Hash.{hashOf}
 use Rattle.record.specs.Sets.{sameSet, agreeing}
-use Rattle.record.proofs.Hashes.{hash-same}
+use Rattle.table.proofs.Hashes.{hash-same}
 use Rattle.record.proofs.OneSet.{OneSet, set-says, set-sym, set-trans, set-own, agree-refl, agree-sym, agree-trans}
 use Rattle.table.specs.Blocks.{blockOf}
 use Rattle.table.specs.Check.{agreesAt}
-use Rattle.table.specs.Remembered.{tagOf, wordOf, probe, slotAt, stopsAt, Word, Kept, Remembers, Passed, Found, Agreed}
+use Rattle.table.specs.Remembered.{tagOf, wordOf, probe, slotAt, stopsAt, filled, Word, Kept, Remembers, Passed, Found, Agreed}
 use Rattle.table.proofs.Agreement.{agrees-says, agrees-holds}
 use Rattle.table.proofs.Leading.{setless-agrees}
 
@@ -55,38 +54,6 @@ module _ (t : List ℕ) (hash k word : ℕ) where
       go true g = g
       go false g = absurd (true≢false (sym g))
 
--- The turns of the search.
-pub find-first : (t slots : List ℕ) (hash k : ℕ) → Passed t slots hash k 0
-find-first t slots hash k = record { each = λ i h. absurd (omega arith) }
-
-module _ (t slots : List ℕ) (hash k i : ℕ) {at w : ℕ} {x : Bool} (p : Passed t slots hash k i) (place : at ≡ (hash % 4608 + i) % 4608)
-    (is : w ≡ getD slots at 0) (e : x ≡ stopsAt t hash k w) where
-  stops-here : stopsAt t hash k (slotAt slots hash i) ≡ x
-  unfolding slotAt probe
-  stops-here = rw (← place, ← is) (sym e)
-
-  pub find-more : x ≡ false → Passed t slots hash k (i + 1)
-  find-more f = record { each = λ j h. go j h (ltb j i) refl }
-    where
-      go : (j : ℕ) → j < i + 1 → (y : Bool) → ltb j i ≡ y → stopsAt t hash k (slotAt slots hash j) ≡ false
-      go j h true g = p .each j (ltb-true j i g)
-      go j h false g = let q : j ≡ i = omega (arith, ltb-false j i g) in rw q (stops-here ∙ f)
-
-  pub find-here : i < 1024 → x ≡ true → Found t slots hash k at
-  unfolding probe
-  find-here h f =
-      record {
-        turn = i;
-        passed = p;
-        most = omega arith;
-        here = λ _. (h, place, stops-here ∙ f);
-        nowhere = λ l. absurd (omega arith);
-      }
-
-pub find-none : (t slots : List ℕ) (hash k i : ℕ) → Passed t slots hash k i → i ≤ 1024 → 1024 ≤ i → Found t slots hash k 4608
-find-none t slots hash k i p a b =
-    record { turn = i; passed = p; most = a; here = λ l. absurd (omega arith); nowhere = λ _. omega arith }
-
 -- The block of a slot is an earlier one.
 pub slot-before : (t slots : List ℕ) (k a : ℕ) {w : ℕ} → Remembers t slots k → w ≡ getD slots a 0 → w % 8192 < k
 slot-before t slots k a m e = rw e (m .before a)
@@ -101,14 +68,98 @@ zeros zero a = refl
 zeros (suc n) zero = refl
 zeros (suc n) (suc a) = zeros n a
 
+-- The filled slots: none of empty ones, all of filled ones, one more where an empty one is filled.
+filled-none : (slots : List ℕ) → ((a : ℕ) → getD slots a 0 ≡ 0) → (n : ℕ) → filled slots n ≡ 0
+unfolding filled
+filled-none slots h zero = refl
+filled-none slots h (suc n) = rw (h n) (filled-none slots h n)
+
+filled-all : (slots : List ℕ) (n : ℕ) → ((a : ℕ) → a < n → 0 < getD slots a 0) → filled slots n ≡ n
+unfolding filled
+filled-all slots zero h = refl
+filled-all slots (suc n) h =
+    let l : 0 < getD slots n 0 = h n (omega arith) in
+    let e : getD slots n 0 ≡ 0 → ⊥ = λ z. omega arith in
+    rw (ne-eqb _ _ e, filled-all slots n (λ a b. h a (omega arith)))
+
+filled-same : (slots later : List ℕ) (n : ℕ) → ((a : ℕ) → a < n → getD later a 0 ≡ getD slots a 0) → filled later n ≡ filled slots n
+unfolding filled
+filled-same slots later zero h = refl
+filled-same slots later (suc n) h = rw (h n (omega arith), filled-same slots later n (λ a b. h a (omega arith)))
+
+either : (x y : Bool) (f : ℕ) → cond x f (suc f) ≤ cond y f (suc f) + 1
+either true true f = omega arith
+either true false f = omega arith
+either false true f = omega arith
+either false false f = omega arith
+
+both : (y : Bool) (f g : ℕ) → f ≤ g + 1 → cond y f (suc f) ≤ cond y g (suc g) + 1
+both true f g h = h
+both false f g h = omega arith
+
+filled-one : (slots : List ℕ) (at v n : ℕ) → filled (set slots at v) n ≤ filled slots n + 1
+unfolding filled
+filled-one slots at v zero = omega arith
+filled-one slots at v (suc n) = go (eqb n at) refl (filled-one slots at v n)
+  where
+    go : (x : Bool) → eqb n at ≡ x → filled (set slots at v) n ≤ filled slots n + 1
+        → cond (eqb (getD (set slots at v) n 0) 0) (filled (set slots at v) n) (suc (filled (set slots at v) n))
+        ≤ cond (eqb (getD slots n 0) 0) (filled slots n) (suc (filled slots n)) + 1
+    go true e h =
+        let q : n ≡ at = eqb-true n at e in
+        let same : filled (set slots at v) n ≡ filled slots n =
+        filled-same slots (set slots at v) n (λ a l. getD-set-other slots at a v 0 (λ z. omega arith)) in
+        rw same (either (eqb (getD (set slots at v) n 0) 0) (eqb (getD slots n 0) 0) (filled slots n))
+    go false e h = rw (getD-set-other slots at n v 0 (eqb-false n at e)) (both (eqb (getD slots n 0) 0) (filled (set slots at v) n) (filled slots n) h)
+
 pub remember-none : (t : List ℕ) → Remembers t (replicate 4608 0) 1
 remember-none t =
     record {
       size = length-replicate {A = ℕ} 4608 0;
+      few = omega (arith, filled-none (replicate 4608 0) (zeros 4608) 4608);
       before = λ a. rw (zeros 4608 a) (omega arith);
       word = λ a l. absurd (omega (arith, zeros 4608 a));
       kept = λ j a b s. absurd (omega arith);
     }
+
+-- A search that passed every slot would have found all of them filled, and there are not so many records.
+search-ends : (t slots : List ℕ) (hash k i : ℕ) → Remembers t slots k → k ≤ 4096
+    → ((j : ℕ) → j < i → stopsAt t hash k (slotAt slots hash j) ≡ false) → i < 4608
+unfolding slotAt probe
+search-ends t slots hash k i m most p = go (ltb i 4608) refl
+  where
+    every : 4608 ≤ i → (a : ℕ) → a < 4608 → 0 < getD slots a 0
+    every l a b =
+        let q : (hash % 4608 + (a + 4608 - hash % 4608) % 4608) % 4608 ≡ a = omega arith in
+        rw q at (stops-not _ _ _ _ (p ((a + 4608 - hash % 4608) % 4608) (omega arith)))
+
+    go : (x : Bool) → ltb i 4608 ≡ x → i < 4608
+    go true e = ltb-true i 4608 e
+    go false e = absurd (omega (arith, filled-all slots 4608 (every (ltb-false i 4608 e)), m .few))
+
+-- The turns of the search.
+pub find-first : (t slots : List ℕ) (hash k : ℕ) → Passed t slots hash k 0
+find-first t slots hash k = record { few = omega arith; each = λ i h. absurd (omega arith) }
+
+module _ (t slots : List ℕ) (hash k i : ℕ) {at w : ℕ} {x : Bool} (p : Passed t slots hash k i) (place : at ≡ (hash % 4608 + i) % 4608)
+    (is : w ≡ getD slots at 0) (e : x ≡ stopsAt t hash k w) where
+  stops-here : stopsAt t hash k (slotAt slots hash i) ≡ x
+  unfolding slotAt probe
+  stops-here = rw (← place, ← is) (sym e)
+
+  pub find-more : x ≡ false → Remembers t slots k → k ≤ 4096 → Passed t slots hash k (i + 1)
+  find-more f m most = record { few = search-ends t slots hash k (i + 1) m most later; each = later }
+    where
+      go : (j : ℕ) → j < i + 1 → (y : Bool) → ltb j i ≡ y → stopsAt t hash k (slotAt slots hash j) ≡ false
+      go j h true g = p .each j (ltb-true j i g)
+      go j h false g = let q : j ≡ i = omega (arith, ltb-false j i g) in rw q (stops-here ∙ f)
+
+      later : (j : ℕ) → j < i + 1 → stopsAt t hash k (slotAt slots hash j) ≡ false
+      later j h = go j h (ltb j i) refl
+
+  pub find-here : x ≡ true → Found t slots hash k at
+  unfolding probe
+  find-here f = record { turn = i; passed = p; place = place; stopped = stops-here ∙ f }
 
 -- Every record so far agrees: none yet, and one more.
 pub agreed-none : (t : List ℕ) → Agreed t (0 + 1)
@@ -128,7 +179,13 @@ hash-own t k b is e = rw is at e
 module _ (t slots : List ℕ) (k : ℕ) (m : Remembers t slots k) where
   one-more : (0 < setOf (blockOf t k) → Kept t slots k) → Remembers t slots (k + 1)
   one-more f =
-      record { size = m .size; before = λ a. omega (arith, m .before a); word = m .word; kept = λ j a b s. go j a b s (ltb j k) refl }
+      record {
+        size = m .size;
+        few = omega (arith, m .few);
+        before = λ a. omega (arith, m .before a);
+        word = m .word;
+        kept = λ j a b s. go j a b s (ltb j k) refl;
+      }
     where
       go : (j : ℕ) → 1 ≤ j → j < k + 1 → 0 < setOf (blockOf t j) → (y : Bool) → ltb j k ≡ y → Kept t slots j
       go j a b s true g = m .kept j a (ltb-true j k g) s
@@ -146,30 +203,14 @@ module _ (t slots : List ℕ) (k : ℕ) (m : Remembers t slots k) where
     passed : (i : ℕ) → i < f .turn → stopsAt t (hashOf (blockOf t k)) k (slotAt slots (hashOf (blockOf t k)) i) ≡ false
     passed = rw own at (f .passed .each)
 
-    -- block k was not found and not remembered
-    pub nowhere-kept : 4608 ≤ at → Remembers t slots (k + 1)
-    nowhere-kept l =
-        let e : f .turn ≡ 1024 = f .nowhere l in
-        one-more
-        (λ _. record {
-          turn = f .turn;
-          most = f .most;
-          filled = λ i h. stops-not _ _ _ _ (passed i h);
-          full = λ h. absurd (omega arith);
-          own = λ h. absurd (omega arith);
-        })
-
     -- the slot where the search for block k's set ended
     module _ (l : at < 4608) {w : ℕ} (is : w ≡ getD slots at 0) where
-      few : f .turn < 1024
-      few = f .here l .0
-
       at-turn : slotAt slots (hashOf (blockOf t k)) (f .turn) ≡ w
       unfolding slotAt
-      at-turn = let e : at ≡ probe (hashOf (blockOf t k)) (f .turn) = rw own at (f .here l .1) in rw (← e) (sym is)
+      at-turn = let e : at ≡ probe (hashOf (blockOf t k)) (f .turn) = rw own at (f .place) in rw (← e) (sym is)
 
       stopped : stopsAt t (hashOf (blockOf t k)) k w ≡ true
-      stopped = let e : stopsAt t (hashOf (blockOf t k)) k (slotAt slots (hashOf (blockOf t k)) (f .turn)) ≡ true = rw own at (f .here l .2) in rw at-turn at e
+      stopped = let e : stopsAt t (hashOf (blockOf t k)) k (slotAt slots (hashOf (blockOf t k)) (f .turn)) ≡ true = rw own at (f .stopped) in rw at-turn at e
 
       -- an empty one: no earlier record is of the set
       module _ (empty : w ≡ 0) where
@@ -185,9 +226,8 @@ module _ (t slots : List ℕ) (k : ℕ) (m : Remembers t slots k) where
 
             later : (q : Kept t slots j) → q .turn < f .turn → (v : ℕ) → slotAt slots (hashOf (blockOf t j)) (q .turn) ≡ v → ⊥
             later q h v e =
-                let i : q .turn < 1024 = omega (arith, few) in
-                let n : 0 < v = rw e at (q .full i) in
-                let g : sameSet (blockOf t (v % 8192)) (blockOf t j) ≡ true = rw e at (q .own i) in
+                let n : 0 < v = rw e at (q .full) in
+                let g : sameSet (blockOf t (v % 8192)) (blockOf t j) ≡ true = rw e at (q .own) in
                 let d : sameSet (blockOf t (v % 8192)) (blockOf t k) ≡ true = set-trans _ _ _ g s in
                 let u : Word t v = rw e at (m .word (probe (hashOf (blockOf t j)) (q .turn)) (rw (sym e) at n)) in
                 let c : tagOf (hashOf (blockOf t (v % 8192))) ≡ tagOf (hashOf (blockOf t k)) = ap tagOf (hash-same _ _ d) in
@@ -202,7 +242,7 @@ module _ (t slots : List ℕ) (k : ℕ) (m : Remembers t slots k) where
                 omega (arith, at-turn)
             go q false false d e =
                 let i : q .turn ≡ f .turn = omega (arith, ltb-false (q .turn) (f .turn) d, ltb-false (f .turn) (q .turn) e) in
-                let n : 0 < slotAt slots (hashOf (blockOf t k)) (f .turn) = rw (hashes, i) at (q .full (omega (arith, few))) in
+                let n : 0 < slotAt slots (hashOf (blockOf t k)) (f .turn) = rw (hashes, i) at (q .full) in
                 omega (arith, at-turn)
 
         pub empty-agrees : true ≡ agreesAt t k
@@ -240,24 +280,22 @@ module _ (t slots : List ℕ) (k : ℕ) (m : Remembers t slots k) where
           kept-stays j q =
               record {
                 turn = q .turn;
-                most = q .most;
                 filled = λ i h. rw (slot-stays (hashOf (blockOf t j)) i (q .filled i h)) (q .filled i h);
-                full = λ h. rw (slot-stays (hashOf (blockOf t j)) (q .turn) (q .full h)) (q .full h);
-                own = λ h. rw (slot-stays (hashOf (blockOf t j)) (q .turn) (q .full h)) (q .own h);
+                full = rw (slot-stays (hashOf (blockOf t j)) (q .turn) (q .full)) (q .full);
+                own = rw (slot-stays (hashOf (blockOf t j)) (q .turn) (q .full)) (q .own);
               }
 
           there-turn : slotAt after (hashOf (blockOf t k)) (f .turn) ≡ wordOf (hashOf (blockOf t k)) k
           unfolding slotAt
-          there-turn = let e : at ≡ probe (hashOf (blockOf t k)) (f .turn) = rw own at (f .here l .1) in rw (← e) put-there
+          there-turn = let e : at ≡ probe (hashOf (blockOf t k)) (f .turn) = rw own at (f .place) in rw (← e) put-there
 
           kept-there : 0 < setOf (blockOf t k) → Kept t after k
           kept-there s =
               record {
                 turn = f .turn;
-                most = f .most;
                 filled = λ i h. let n : 0 < slotAt slots (hashOf (blockOf t k)) i = stops-not _ _ _ _ (passed i h) in rw (slot-stays _ i n) n;
-                full = λ h. rw there-turn (omega arith);
-                own = λ h. rw (there-turn, word-block) (set-own (blockOf t k) s);
+                full = rw there-turn (omega arith);
+                own = rw (there-turn, word-block) (set-own (blockOf t k) s);
               }
 
           pub empty-kept : {x : ℕ} → x ≡ tagOf hash → Remembers t (set slots at (x * 8192 + k)) (k + 1)
@@ -265,6 +303,7 @@ module _ (t slots : List ℕ) (k : ℕ) (m : Remembers t slots k) where
               rw (e, own)
               (record {
                 size = rw length-set (m .size);
+                few = omega (arith, filled-one slots at (wordOf (hashOf (blockOf t k)) k) 4608, m .few);
                 before = λ a. each-slot a (λ w. w % 8192 < k + 1) (omega arith) (omega (arith, m .before a));
                 word = λ a. each-slot a (λ w. 0 < w → Word t w) (λ _. record { block = rw word-block least; tag = rw word-block word-tag }) (m .word a);
                 kept = λ j a b s. go j a b s (ltb j k) refl;
@@ -293,10 +332,9 @@ module _ (t slots : List ℕ) (k : ℕ) (m : Remembers t slots k) where
             one-more
             (λ _. record {
               turn = f .turn;
-              most = f .most;
               filled = λ i h. stops-not _ _ _ _ (passed i h);
-              full = λ h. rw at-turn full-one;
-              own = λ h. rw at-turn same-one;
+              full = rw at-turn full-one;
+              own = rw at-turn same-one;
             })
 
         -- to agree with it is to agree with all

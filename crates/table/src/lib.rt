@@ -1,4 +1,5 @@
 // The check of a whole table, block by block.
+mod hash;
 mod members;
 
 use octets::name;
@@ -8,15 +9,16 @@ use record::header;
 use record::header::Header;
 use record::sets;
 use record::subscriber;
+use record::subscriber::Record;
 ghost use mathlib.Core.Path.{_≡_};
 ghost use Prim.Native.Nat.{_+_, _*_, _≤_, _<_};
 ghost use lib.ListN.{length};
 ghost use Rattle.octets.specs.Name.{orderOf};
 ghost use Rattle.record.specs.Fields.{publicOf};
 ghost use Rattle.table.specs.Blocks.{blockOf};
-ghost use Rattle.octets.specs.All.{allBelow};
 ghost use Rattle.table.specs.Check.{isLess, risesAt, standsAt, checkRecords, checkTable};
-ghost use Rattle.table.specs.Leading.{leading, setless, outcomeOf};
+ghost use Rattle.table.specs.Leading.{leading, setless, Setless, outcomeOf};
+ghost use Rattle.table.specs.Padded.{Padded, Before};
 
 // "Blocks of 512 bytes"
 pub const BLOCK: usize = 512;
@@ -36,21 +38,22 @@ pub fn block(t: &[u8], k: usize) -> &[u8]
     &t[at..at + BLOCK]
 }
 
-// Whether the public identity of one block is less than that of another.
+// Whether the public identity of one block is less than that of another. Both have zeros past it, so that the whole fields are compared, which
+// have one length; where they are the same, the shorter name comes first.
 fn less(a: &[u8], b: &[u8]) -> bool
-    requires { ⌜ (length (now a) ≡ 512) × (length (now b) ≡ 512) ⌝ }
+    requires { ⌜ (length (now a) ≡ 512) × (length (now b) ≡ 512) × Padded (now a) × Padded (now b) ⌝ }
     ensures { λ r. ⌜ r ≡ isLess (orderOf (publicOf (now (a .entry))) (publicOf (now (b .entry)))) ⌝ }
 {
-    match name::order_of(fields::public(a), fields::public(b)) {
+    match name::field_order(fields::public_field(a), fields::public_field(b)) {
         Order::Less => true,
-        Order::Equal => false,
+        Order::Equal => a[Record::PUBLIC_LENGTH_AT] < b[Record::PUBLIC_LENGTH_AT],
         Order::Greater => false,
     }
 }
 
 // Whether the public identity of block k comes after that of the record before, if there is one.
 fn rises(t: &[u8], k: usize) -> bool
-    requires { ⌜ (1 ≤ k) × (512 * k + 512 ≤ length (now t)) ⌝ }
+    requires { ⌜ (1 ≤ k) × (512 * k + 512 ≤ length (now t)) × Before (now t) k × Padded (blockOf (now t) k) ⌝ }
     ensures { λ r. ⌜ r ≡ risesAt (now (t .entry)) k ⌝ }
 {
     if k <= 1 {
@@ -59,15 +62,27 @@ fn rises(t: &[u8], k: usize) -> bool
     less(block(t, k - 1), block(t, k))
 }
 
-// Whether block k is a sound record in its place.
+// Whether block k is a sound record in its place. Only a sound one is compared with the record before.
 fn stands(t: &[u8], h: Header, file: usize, k: usize) -> bool
-    requires { ⌜ (1 ≤ k) × (k ≤ 4096) × (h .networks ≤ 8) × (512 * k + 512 ≤ length (now t)) ⌝ }
+    requires { ⌜ (1 ≤ k) × (k ≤ 4096) × (h .networks ≤ 8) × (512 * k + 512 ≤ length (now t)) × Before (now t) k ⌝ }
     ensures { λ r. ⌜ r ≡ standsAt (now (t .entry)) h file k ⌝ }
 {
-    subscriber::sound(block(t, k), k as u32, h, file) & rises(t, k)
+    if subscriber::sound(block(t, k), k as u32, h, file) {
+        rises(t, k)
+    } else {
+        false
+    }
 }
 
-// How many records from the first on stand in their places, and whether none of them has a set: its bytes are at hand in this pass.
+// Whether record i + 1 is of no set.
+fn setless(t: &[u8], i: usize) -> bool
+    requires { ⌜ 512 * i + 1024 ≤ length (now t) ⌝ }
+    ensures { λ r. ⌜ r ≡ setless (now (t .entry)) i ⌝ }
+{
+    sets::set(block(t, i + 1)) == 0
+}
+
+// How many records from the first on stand in their places, and whether none of them nor the next one has a set: its bytes are at hand in this pass.
 struct Stood {
     records: usize,
     setless: bool,
@@ -76,14 +91,14 @@ struct Stood {
 fn standing(t: &[u8], h: Header, file: usize) -> Stood
     requires { ⌜ (h .count ≤ 4096) × (h .networks ≤ 8) × (length (now t) ≡ 512 * (h .count + 1)) ⌝ }
     ensures { λ r. ⌜ (r .records ≡ leading (standsAt (now (t .entry)) h file) (h .count) 1) × (r .records ≤ h .count)
-        × (r .setless ≡ allBelow (setless (now (t .entry))) (r .records)) ⌝ }
+        × Setless (now (t .entry)) (r .records) (r .setless) ⌝ }
 {
     let count = h.count as usize;
     let mut m = 0;
     let mut none = true;
     while m < count {
+        none = none & setless(t, m);
         if stands(t, h, file, m + 1) {
-            none = none & (sets::set(block(t, m + 1)) == 0);
             m += 1;
         } else {
             return Stood {

@@ -1,49 +1,21 @@
 // The agreement of sets, in one pass: of each set the first block is remembered, and a later one is held against it.
 use crate::block;
-use record::hash;
+use crate::hash;
 use record::sets;
 ghost use mathlib.Core.Path.{_≡_};
 ghost use Prim.Native.Nat.{_+_, _*_, _%_, _≤_, _<_};
 ghost use lib.ListN.{length, getD};
-ghost use Rattle.record.specs.Hash.{hashOf};
+ghost use Rattle.table.specs.Hash.{hashOf};
 ghost use Rattle.table.specs.Blocks.{blockOf};
-ghost use Rattle.table.specs.Check.{agreesWith, agreesAt};
+ghost use Rattle.table.specs.Check.{agreesAt};
 ghost use Rattle.table.specs.Leading.{leading};
-ghost use Rattle.table.specs.Remembered.{tagOf, wordOf, probe, stopsAt, Remembers, Found, Agreed};
+ghost use Rattle.table.specs.Remembered.{tagOf, stopsAt, Remembers, Found, Agreed};
 
-// More slots than a table has records, so that some stay empty; how many of them are looked at for one set.
+// More slots than a table has records: some stay empty, so that a search ends.
 const SLOTS: usize = 4608;
-
-const PROBES: usize = 1024;
 
 // A slot is 0, or a block's number with three bits of its hash above it, so that few blocks of other sets are looked at.
 const TAG: usize = 8192;
-
-// Whether record i + 1, if it is of the set of block k, agrees with it.
-fn agrees_with(t: &[u8], k: usize, i: usize) -> bool
-    requires { ⌜ (i < k) × (512 * k + 512 ≤ length (now t)) ⌝ }
-    ensures { λ r. ⌜ r ≡ agreesWith (now (t .entry)) k i ⌝ }
-{
-    let a = block(t, i + 1);
-    let b = block(t, k);
-    if sets::same_set(a, b) {
-        sets::agree(a, b)
-    } else {
-        true
-    }
-}
-
-// Whether block k agrees with every record of its set before it.
-fn agrees(t: &[u8], k: usize) -> bool
-    requires { ⌜ (1 ≤ k) × (512 * k + 512 ≤ length (now t)) ⌝ }
-    ensures { λ r. ⌜ r ≡ agreesAt (now (t .entry)) k ⌝ }
-{
-    let mut good = true;
-    for i in 0..k - 1 {
-        good = good & agrees_with(t, k, i);
-    }
-    good
-}
 
 fn tag(hash: usize) -> usize
     ensures { λ r. ⌜ (r ≡ tagOf hash) × (r < 8) ⌝ }
@@ -80,19 +52,20 @@ fn stops(t: &[u8], hash: usize, k: usize, word: usize) -> bool
     }
 }
 
-// The place of the first slot at which block k's set is looked for no further, and SLOTS if none of those looked at is.
+// The place of the first slot of a hash at which block k's set is looked for no further.
 fn find(t: &[u8], slots: &[u16], hash: usize, k: usize) -> usize
-    requires { ⌜ Remembers (now t) (now slots) k × (512 * k + 512 ≤ length (now t)) ⌝ }
-    ensures { λ r. ⌜ Found (now (t .entry)) (now (slots .entry)) hash k r ⌝ }
+    requires { ⌜ Remembers (now t) (now slots) k × (k ≤ 4096) × (512 * k + 512 ≤ length (now t)) ⌝ }
+    ensures { λ r. ⌜ Found (now (t .entry)) (now (slots .entry)) hash k r × (r < 4608) ⌝ }
 {
     let home = hash % SLOTS;
-    for i in 0..PROBES {
+    let mut i = 0;
+    loop {
         let at = (home + i) % SLOTS;
         if stops(t, hash, k, slot(slots, at)) {
             return at;
         }
+        i += 1;
     }
-    SLOTS
 }
 
 // Whether block k agrees with the one in the slot where its set was looked for, if there is one; if not, block k is remembered there.
@@ -120,11 +93,7 @@ fn agrees_by(t: &[u8], slots: &mut [u16], k: usize) -> bool
     }
     let hash = hash::hash(b);
     let at = find(t, slots, hash, k);
-    if at < SLOTS {
-        held(t, slots, hash, k, at)
-    } else {
-        agrees(t, k)
-    }
+    held(t, slots, hash, k, at)
 }
 
 // How many of the first n records agree with those before them, up to the first that does not.

@@ -1,13 +1,12 @@
 -- The first unused vectors: the turns of the scan that chooses them.
 use Prim.Native.Nat.{ℕ, zero, suc, _+_, _-_, _/_, _<_, _≤_}
-use mathlib.Core.Bool.{Bool, true, false, cond}
+use mathlib.Core.Bool.{Bool, true, false}
 use mathlib.Core.Path.{_≡_, refl, sym, _∙_, ap}
 use mathlib.Core.List.{List, [], _∷_, _++_, append-nil, append-assoc}
 use native.Mathlib.Omega.{arith}
 use native.Mathlib.Numerals.{add-one}
 use lib.ListN.{length, getD, take, drop, set, replicate, length-drop, length-append}
 use lib.Seq.{length-take-le}
-use lib.Dec.{eqb}
 use borrow.Author.Tests.{eq-eqb, ne-eqb}
 use Rattle.octets.specs.Name.{same}
 use Rattle.table.specs.Blocks.{blockOf}
@@ -36,17 +35,9 @@ pub unused-block : (b name v : List ℕ) (k : ℕ) {x : Bool} → b ≡ blockOf 
 unfolding unusedAt
 unused-block b name v k e f = rw (← e) f
 
-module _ (s : Sent) (k : ℕ) where
-  pub also-next : {x y : Bool} {r : Sent} → x ≡ y → r ≡ sentAlso s x k → r ≡ sentAlso s y k
-  also-next e f = rw (← e) f
-
-  pub also-chosen : {chosen : Bool} → chosen ≡ true → record { blocks = set (s .blocks) (s .count) k; count = s .count + 1 } ≡ sentAlso s chosen k
-  unfolding sentAlso
-  also-chosen e = rw e
-
-  pub also-not : {chosen : Bool} → chosen ≡ false → s ≡ sentAlso s chosen k
-  unfolding sentAlso
-  also-not e = rw e
+pub also-is : (s : Sent) (k : ℕ) → record { blocks = set (s .blocks) (s .count) k; count = s .count + 1 } ≡ sentAlso s k
+unfolding sentAlso
+also-is s k = refl
 
 -- One block more in the array.
 set-packed : (ks : List ℕ) (m k : ℕ) → set (ks ++ replicate (suc m) 0) (length ks) k ≡ (ks ++ (k ∷ [])) ++ replicate m 0
@@ -95,24 +86,27 @@ module _ (v name : List ℕ) (most : ℕ) where
         let i : most - s .count ≡ 0 = omega arith in
         left .packs ∙ rw (left .whole, i, ones-none (unusedAt v name) (length v / 512 - k) k, append-nil (left .ones))
 
-    pub left-next : (s' : Sent) → k < length v / 512 → s .count < most → most ≤ 16 → s' ≡ sentAlso s (unusedAt v name k) k → Left v name most s' (k + 1)
-    unfolding firstOnes sentAlso packed
-    left-next s' h n m g = go (unusedAt v name k) refl
-      where
-        i : length v / 512 - k ≡ suc (length v / 512 - (k + 1))
-        i = omega arith
+    module _ {x : Bool} (h : k < length v / 512) (n : s .count < most) (is : x ≡ unusedAt v name k) where
+      i : length v / 512 - k ≡ suc (length v / 512 - (k + 1))
+      i = omega arith
 
-        j : most - s .count ≡ suc (most - (s .count + 1))
-        j = omega arith
+      j : most - s .count ≡ suc (most - (s .count + 1))
+      j = omega arith
 
-        go : (y : Bool) → unusedAt v name k ≡ y → Left v name most s' (k + 1)
-        go true q =
-            rw (g, q)
-            (record {
-              ones = left .ones ++ (k ∷ []);
-              packs = rw (left .packs) (also-packed (left .ones) k (omega (arith, count-is)));
-              few = omega arith;
-              whole = rw (left .whole, i, j, q, add-one k) (sym (append-assoc (left .ones) (k ∷ []) _));
-            })
-        go false q =
-            rw (g, q) (record { ones = left .ones; packs = left .packs; few = left .few; whole = rw (left .whole, i, j, q, add-one k) })
+      pub left-taken : (s' : Sent) → most ≤ 16 → x ≡ true → s' ≡ sentAlso s k → Left v name most s' (k + 1)
+      unfolding firstOnes sentAlso packed
+      left-taken s' m e g =
+          let q : unusedAt v name k ≡ true = sym is ∙ e in
+          rw g
+          (record {
+            ones = left .ones ++ (k ∷ []);
+            packs = rw (left .packs) (also-packed (left .ones) k (omega (arith, count-is)));
+            few = omega arith;
+            whole = rw (left .whole, i, j, q, add-one k) (sym (append-assoc (left .ones) (k ∷ []) _));
+          })
+
+      pub left-passed : x ≡ false → Left v name most s (k + 1)
+      unfolding firstOnes
+      left-passed e =
+          let q : unusedAt v name k ≡ false = sym is ∙ e in
+          record { ones = left .ones; packs = left .packs; few = left .few; whole = rw (left .whole, i, j, q, add-one k) }

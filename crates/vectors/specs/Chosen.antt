@@ -1,6 +1,6 @@
 -- "that name's first unused vectors in file order, as many as asked or as remain, at most 16"
 use Prim.Native.Nat.{ℕ, zero, suc, _+_, _-_, _*_, _/_, _≤_, _<_}
-use mathlib.Core.Bool.{Bool, false, cond, _||_, _&&_}
+use mathlib.Core.Bool.{Bool, cond, _&&_}
 use mathlib.Core.Path.{_≡_}
 use mathlib.Core.List.{List, [], _∷_, _++_}
 use lib.ListN.{length, getD, set, take, replicate}
@@ -36,9 +36,9 @@ packed ks = record { blocks = ks ++ replicate (16 - length ks) 0; count = length
 abbrev pub sentOf : Sent → List ℕ
 sentOf s = take (s .count) (s .blocks)
 
--- one block more, if it is chosen
-unfoldable pub sentAlso : Sent → Bool → ℕ → Sent
-sentAlso s chosen k = cond chosen (record { blocks = set (s .blocks) (s .count) k; count = s .count + 1 }) s
+-- one block more
+unfoldable pub sentAlso : Sent → ℕ → Sent
+sentAlso s k = record { blocks = set (s .blocks) (s .count) k; count = s .count + 1 }
 
 -- how many of the n numbers from k on a test holds of
 unfoldable pub howMany : (ℕ → Bool) → ℕ → ℕ → ℕ

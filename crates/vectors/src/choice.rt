@@ -38,32 +38,29 @@ fn unused(b: &[u8], name: &[u8]) -> bool
     false
 }
 
-// One block more, if it is chosen.
-fn also(s: Sent, chosen: bool, k: u32) -> Sent
+// The same of block k.
+fn unused_at(v: &[u8], k: usize, name: &[u8]) -> bool
+    requires { ⌜ 512 * k + 512 ≤ length (now v) ⌝ }
+    ensures { λ r. ⌜ r ≡ unusedAt (now (v .entry)) (now (name .entry)) k ⌝ }
+{
+    unused(table::block(v, k), name)
+}
+
+// One block more.
+fn also(s: Sent, k: u32) -> Sent
     requires { ⌜ s .count < 16 ⌝ }
-    ensures { λ r. ⌜ r ≡ sentAlso s chosen k ⌝ }
+    ensures { λ r. ⌜ r ≡ sentAlso s k ⌝ }
 {
-    if chosen {
-        let at = s.count;
-        let mut blocks = s.blocks;
-        blocks[at] = k;
-        return Sent {
-            blocks,
-            count: at + 1,
-        };
+    let at = s.count;
+    let mut blocks = s.blocks;
+    blocks[at] = k;
+    Sent {
+        blocks,
+        count: at + 1,
     }
-    s
 }
 
-// Block k more, if it is unused and for this private identity.
-fn next(s: Sent, v: &[u8], k: usize, name: &[u8]) -> Sent
-    requires { ⌜ (s .count < 16) × (k < 4096) × (512 * k + 512 ≤ length (now v)) ⌝ }
-    ensures { λ r. ⌜ r ≡ sentAlso s (unusedAt (now (v .entry)) (now (name .entry)) k) k ⌝ }
-{
-    also(s, unused(table::block(v, k), name), k as u32)
-}
-
-// The first unused vectors of a private identity, at most so many.
+// The first unused vectors of a private identity, at most so many. The array is touched only where one is found.
 pub fn first_unused(v: &[u8], name: &[u8], most: usize) -> Sent
     requires { ⌜ SoundVectors (now v) × (most ≤ 16) ⌝ }
     ensures { λ r. ⌜ r ≡ packed (unusedOf (now (v .entry)) (now (name .entry)) most) ⌝ }
@@ -75,7 +72,11 @@ pub fn first_unused(v: &[u8], name: &[u8], most: usize) -> Sent
         if most <= sent.count {
             return sent;
         }
-        sent = next(sent, v, k, name);
+        if unused_at(v, k, name) {
+            sent = also(sent, k as u32);
+            k += 1;
+            continue;
+        }
         k += 1;
     }
     sent

@@ -5,7 +5,7 @@ use mathlib.Core.Path.{_≡_, refl, ap, _∙_}
 use mathlib.Core.Logic.{_≢_}
 use mathlib.Core.List.{List, [], _∷_, _++_}
 use native.Mathlib.Omega.{arith}
-use lib.ListN.{getD, replicate}
+use lib.ListN.{getD, take, replicate}
 use Rattle.octets.specs.Run.{over}
 use Rattle.pen.specs.Bytes.{vendorHead, vendorBytes, numberBytes, vendorNumber}
 use Rattle.pen.specs.Groups.{failed}
@@ -14,7 +14,7 @@ use Rattle.calling.specs.Serve.{Served, serve}
 use Rattle.calling.specs.Call.{Answered}
 use Rattle.ndushavire.specs.Word.{word, callWord}
 use Rattle.ndushavire.specs.Reads.{placeIn}
-use Rattle.ndushavire.specs.Promise.{CheckPromise, DecidePromise}
+use Rattle.ndushavire.specs.Promise.{CheckPromise, CheckVectorsPromise, DecidePromise}
 use Rattle.worked.proofs.Sample.{request, reply, answer, common, assignment, authentication, vector, item, challenges, one, waiting, two, s, z, opened}
 
 -- what a call leaves
@@ -106,13 +106,13 @@ fixed-fails : (w : ℕ) (bytes : List ℕ) (after spent : Lent → List ℕ) (n 
 unfolding fixed removal question
 fixed-fails w bytes after spent n = alike-fails (fixed w bytes after spent) n refl
 
--- 3. "one that writes no record": any word and any buffer, and the table as it came
-unwriting : (Lent → ℕ) → (Lent → List ℕ) → Server
-unwriting word bytes n x = record { word = word x; table = x .table; vectors = x .vectors; buffer = bytes x }
+-- 3. "one that writes no record": any word, any vectors and any buffer, and the table as it came
+unwriting : (Lent → ℕ) → (Lent → List ℕ) → (Lent → List ℕ) → Server
+unwriting word spent bytes n x = record { word = word x; table = x .table; vectors = spent x; buffer = bytes x }
 
-unwriting-fails : (word : Lent → ℕ) (bytes : Lent → List ℕ) (n : ℕ) → Meets (unwriting word bytes) n removal → ⊥
+unwriting-fails : (word : Lent → ℕ) (spent bytes : Lent → List ℕ) (n : ℕ) → Meets (unwriting word spent bytes) n removal → ⊥
 unfolding unwriting removal state opened
-unwriting-fails word bytes n p = omega (arith, removal-state (unwriting word bytes) n p)
+unwriting-fails word spent bytes n p = omega (arith, removal-state (unwriting word spent bytes) n p)
 
 -- 4. "one that serves the first request of a run truly and only imitates later". It meets the promise at the first call; at each later one it does what the
 -- imitator does ..
@@ -137,8 +137,8 @@ unfolding imitating
 once-fails outcome n p q =
     alike-fails (imitating outcome) n refl (once-later (imitating outcome) n removal p) (once-later (imitating outcome) n question q)
 
-once-unwriting-fails : (word : Lent → ℕ) (bytes : Lent → List ℕ) (n : ℕ) → Meets (once (unwriting word bytes)) (suc n) removal → ⊥
-once-unwriting-fails word bytes n p = unwriting-fails word bytes n (once-later (unwriting word bytes) n removal p)
+once-unwriting-fails : (word : Lent → ℕ) (spent bytes : Lent → List ℕ) (n : ℕ) → Meets (once (unwriting word spent bytes)) (suc n) removal → ⊥
+once-unwriting-fails word spent bytes n p = unwriting-fails word spent bytes n (once-later (unwriting word spent bytes) n removal p)
 
 -- 5. "one that invents the answer's length": any other word, beside the true table and the true answer ..
 inventing : (Lent → ℕ) → Server
@@ -159,6 +159,16 @@ count-fails f h p = h (p .answer)
 block-fails : (f : Checker) → f two [] ≢ word 5 0 2 → CheckPromise two [] (f two []) → ⊥
 unfolding opened
 block-fails f h p = h (p .answer)
+
+-- .. and of the check of vectors, any word but the number of blocks of a sound file, and any but the first bad block of another
+blocks-fails : (f : List ℕ → ℕ) → f (vector 0 0x70 1) ≢ word 0 0 1 → CheckVectorsPromise (vector 0 0x70 1) (f (vector 0 0x70 1)) → ⊥
+unfolding opened
+blocks-fails f h p = h (p .answer)
+
+cut-fails : (f : List ℕ → ℕ) → f (take 511 (vector 0 0x70 1)) ≢ word 6 0 0
+    → CheckVectorsPromise (take 511 (vector 0 0x70 1)) (f (take 511 (vector 0 0x70 1))) → ⊥
+unfolding opened
+cut-fails f h p = h (p .answer)
 
 -- Document 02 [1]. Over a line in state 0 that has one unused vector: a MAR for two, which gets one; and a MAR for none, B5012.
 challenge : Lent

@@ -1,3 +1,4 @@
+use Rattle.table.proofs.Padded.{field-less, field-equal, field-greater}
 use borrow.Author.Needs.{needs}
 use Rattle.table.proofs.less.Statement.{statement}
 use Rattle.table.proofs.less.Tie as tie
@@ -12,6 +13,8 @@ less-spec =
     (λ c. search needs)
     (λ c. search needs)
     (λ c. search needs)
-    (λ c. cc)
-    (λ c. cc)
-    (λ c. cc))
+    (λ c. search needs)
+    (λ c. search needs)
+    (λ c. search (needs, field-less))
+    (λ c. search (needs, field-equal))
+    (λ c. search (needs, field-greater)))

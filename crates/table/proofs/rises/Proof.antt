@@ -1,4 +1,5 @@
 use Rattle.table.proofs.Blocks.{rises-first, rises-later}
+use Rattle.table.proofs.Padded.{padded-before, padded-lent}
 use borrow.Author.Needs.{needs}
 use Rattle.table.proofs.rises.Statement.{statement}
 use Rattle.table.proofs.rises.Tie as tie
@@ -11,5 +12,5 @@ rises-spec =
     (λ c. search needs)
     (λ c κs. search needs)
     (λ c κs. search needs)
-    (λ c κs. search needs)
+    (λ c κs. (search needs, search needs, search (needs, padded-before), search (needs, padded-lent)))
     (λ c. search (needs, rises-later)))

@@ -1,11 +1,7 @@
-use Rattle.table.specs.Check.{standsAt}
+use Rattle.table.proofs.Padded.{padded-here, stands-here, stands-not}
 use borrow.Author.Needs.{needs}
 use Rattle.table.proofs.stands.Statement.{statement}
 use Rattle.table.proofs.stands.Tie as tie
-
-returns : tie.Need-returns
-unfolding standsAt
-returns c = cc
 
 pub stands-spec : {M : Type 1} → statement M
 stands-spec =
@@ -14,5 +10,6 @@ stands-spec =
     (λ c κs. search needs)
     (λ c. search needs)
     (λ c κs. search needs)
-    (λ c κs. search needs)
-    returns)
+    (λ c κs. (search needs, search needs, search needs, search (needs, padded-here)))
+    (λ c. search (needs, stands-here))
+    (λ c. search (needs, stands-not)))

@@ -1,20 +1,20 @@
 use Prim.Native.Nat.{_≤_, _-_}
 use mathlib.Core.Path.{_≡_}
 use Rattle.octets.specs.All.{allBelow}
-use Rattle.octets.specs.Name.{alikeAt, alikeFrom}
+use Rattle.octets.specs.Name.{alikeAt}
 use Rattle.octets.proofs.All.{all-none, all-more, all-end}
 use borrow.Author.Needs.{needs}
 use Rattle.octets.proofs.name.alike.Statement.{statement}
 use Rattle.octets.proofs.name.alike.Tie as tie
 
 abbrev Inv-loop : tie.InvT-loop
-Inv-loop s t i k same₀ j₀ same j = (j ≤ k) × (same ≡ allBelow (alikeFrom s t i) j)
+Inv-loop s t n same₀ j₀ same j = (j ≤ n) × (same ≡ allBelow (alikeAt s t) j)
 
 abbrev μ-loop : tie.MeasureT-loop
-μ-loop s t i k same₀ j₀ same j = k - j
+μ-loop s t n same₀ j₀ same j = n - j
 
 loop-again : tie.Need-loop-again Inv-loop μ-loop
-unfolding alikeFrom alikeAt
+unfolding alikeAt
 loop-again c = search (needs, all-more)
 
 pub alike-spec : {M : Type 1} → statement M
@@ -24,8 +24,6 @@ alike-spec =
     Inv-loop
     μ-loop
     (λ c. search (needs, all-none))
-    (λ c. search needs)
-    (λ c. search needs)
     (λ c. search needs)
     (λ c. search needs)
     (λ c. search needs)

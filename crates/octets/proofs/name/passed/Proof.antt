@@ -1,19 +1,18 @@
-use Prim.Native.Nat.{_≤_, _-_}
+use Prim.Native.Nat.{_≤_, _-_, _%_}
 use mathlib.Core.Bool.{true}
 use mathlib.Core.Path.{_≡_}
 use Rattle.octets.specs.All.{allBelow}
 use Rattle.octets.specs.Name.{alikeAt}
-use Rattle.octets.proofs.All.{all-none}
 use Rattle.octets.proofs.Names.{same-more}
 use borrow.Author.Needs.{needs}
 use Rattle.octets.proofs.name.passed.Statement.{statement}
 use Rattle.octets.proofs.name.passed.Tie as tie
 
 abbrev Inv-loop : tie.InvT-loop
-Inv-loop s t n i₀ i = (i ≤ n) × (true ≡ allBelow (alikeAt s t) i)
+Inv-loop s t n from i₀ i = (i ≤ n) × (i % 8 ≡ from % 8) × (true ≡ allBelow (alikeAt s t) i)
 
 abbrev μ-loop : tie.MeasureT-loop
-μ-loop s t n i₀ i = n - i
+μ-loop s t n from i₀ i = n - i
 
 pub passed-spec : {M : Type 1} → statement M
 passed-spec =
@@ -21,11 +20,11 @@ passed-spec =
     (tie.spec
     Inv-loop
     μ-loop
-    (λ c. search (needs, all-none))
+    (λ c. search needs)
     (λ c. search needs)
     (λ c κs. search needs)
     (λ c. search needs)
     (λ c. search needs)
-    (λ c. (search needs, search (needs, same-more)))
+    (λ c. (search needs, search needs, search (needs, same-more)))
     (λ c. search needs)
     (λ c. search needs))

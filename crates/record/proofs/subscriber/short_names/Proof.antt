@@ -1,4 +1,4 @@
-use Rattle.record.proofs.Short.{names-are}
+use Rattle.record.proofs.RecordBytes.{names-are}
 use borrow.Author.Needs.{needs}
 use Rattle.record.proofs.subscriber.short_names.Statement.{statement}
 use Rattle.record.proofs.subscriber.short_names.Tie as tie

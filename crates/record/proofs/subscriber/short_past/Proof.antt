@@ -1,4 +1,4 @@
-use Rattle.record.proofs.Short.{past-zeros}
+use Rattle.record.proofs.RecordBytes.{past-short}
 use borrow.Author.Needs.{needs}
 use Rattle.record.proofs.subscriber.short_past.Statement.{statement}
 use Rattle.record.proofs.subscriber.short_past.Tie as tie
@@ -22,5 +22,6 @@ short-past-spec =
     (λ c κs. search needs)
     (λ c. search needs)
     (λ c κs. search needs)
+    (λ c. search needs)
     (λ c κs. search needs)
-    (λ c. search (needs, past-zeros)))
+    (λ c. search (needs, past-short)))

@@ -1,4 +1,4 @@
-use Rattle.record.proofs.Short.{rest-short}
+use Rattle.record.proofs.RecordBytes.{rest-names}
 use borrow.Author.Needs.{needs}
 use Rattle.record.proofs.subscriber.short_rest.Statement.{statement}
 use Rattle.record.proofs.subscriber.short_rest.Tie as tie
@@ -8,9 +8,8 @@ short-rest-spec =
     tie.close
     (tie.spec
     (λ c κs. search needs)
-    (λ c κs. search needs)
     (λ c. search needs)
     (λ c κs. search needs)
     (λ c. search needs)
     (λ c κs. search needs)
-    (λ c. search (needs, rest-short)))
+    (λ c. search (needs, rest-names)))

@@ -1,4 +1,4 @@
-use Rattle.record.proofs.Short.{short-bytes}
+use Rattle.record.proofs.RecordBytes.{used-bytes}
 use borrow.Author.Needs.{needs}
 use Rattle.record.proofs.subscriber.short_sound.Statement.{statement}
 use Rattle.record.proofs.subscriber.short_sound.Tie as tie
@@ -9,4 +9,4 @@ short-sound-spec =
     (tie.spec
     (λ c κs. search needs)
     (λ c κs. search needs)
-    (λ c. search (needs, short-bytes)))
+    (λ c. search (needs, used-bytes)))

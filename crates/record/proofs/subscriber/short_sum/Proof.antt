@@ -1,4 +1,4 @@
-use Rattle.record.proofs.Short.{short-is}
+use Rattle.record.proofs.RecordBytes.{used-is}
 use borrow.Author.Needs.{needs}
 use Rattle.record.proofs.subscriber.short_sum.Statement.{statement}
 use Rattle.record.proofs.subscriber.short_sum.Tie as tie
@@ -11,4 +11,4 @@ short-sum-spec =
     (λ c κs. search needs)
     (λ c κs. search needs)
     (λ c κs. search needs)
-    (λ c. search (needs, short-is)))
+    (λ c. search (needs, used-is)))

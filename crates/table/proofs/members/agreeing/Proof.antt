@@ -1,6 +1,5 @@
 use Prim.Native.Nat.{_+_, _-_, _≤_}
 use mathlib.Core.Path.{_≡_}
-use lib.ListN.{length}
 use Rattle.table.specs.Check.{agreesAt}
 use Rattle.table.specs.Leading.{leading}
 use Rattle.table.specs.Remembered.{Remembers, Agreed}

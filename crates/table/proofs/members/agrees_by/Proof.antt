@@ -1,4 +1,4 @@
-use Rattle.table.proofs.Remembered.{apart-agrees, apart-kept, nowhere-kept, hash-own}
+use Rattle.table.proofs.Remembered.{apart-agrees, apart-kept, hash-own}
 use borrow.Author.Needs.{needs}
 use Rattle.table.proofs.members.agrees_by.Statement.{statement}
 use Rattle.table.proofs.members.agrees_by.Tie as tie
@@ -13,8 +13,5 @@ agrees-by-spec =
     (λ c κs. search needs)
     (λ c κs. search needs)
     (λ c κs. search (needs, hash-own))
-    (λ c κs. search needs)
     (λ c. search needs)
-    (λ c. search needs)
-    (λ c. search needs)
-    (λ c. search (needs, nowhere-kept, hash-own)))
+    (λ c. search needs))

@@ -1,15 +1,15 @@
-use Prim.Native.Nat.{_-_, _≤_}
+use Prim.Native.Nat.{_-_}
 use Rattle.table.specs.Remembered.{Passed}
-use Rattle.table.proofs.Remembered.{find-first, find-more, find-here, find-none, slot-before}
+use Rattle.table.proofs.Remembered.{find-first, find-more, find-here, slot-before}
 use borrow.Author.Needs.{needs}
 use Rattle.table.proofs.members.find.Statement.{statement}
 use Rattle.table.proofs.members.find.Tie as tie
 
 abbrev Inv-loop : tie.InvT-loop
-Inv-loop t slots hash k home i₀ i = (i ≤ 1024) × Passed t slots hash k i
+Inv-loop t slots hash k home i₀ i = Passed t slots hash k i
 
 abbrev μ-loop : tie.MeasureT-loop
-μ-loop t slots hash k home i₀ i = 1024 - i
+μ-loop t slots hash k home i₀ i = 4608 - i
 
 pub find-spec : {M : Type 1} → statement M
 find-spec =
@@ -24,5 +24,4 @@ find-spec =
     (λ c. search (needs, find-here))
     (λ c. search needs)
     (λ c. search needs)
-    (λ c. search (needs, find-more))
-    (λ c. search (needs, find-none)))
+    (λ c. search (needs, find-more)))

@@ -1,14 +1,7 @@
-use Rattle.vectors.proofs.Choosing.{also-chosen, also-not}
+use Rattle.vectors.proofs.Choosing.{also-is}
 use borrow.Author.Needs.{needs}
 use Rattle.vectors.proofs.choice.also.Statement.{statement}
 use Rattle.vectors.proofs.choice.also.Tie as tie
 
 pub also-spec : {M : Type 1} → statement M
-also-spec =
-    tie.close
-    (tie.spec
-    (λ c. search needs)
-    (λ c. search needs)
-    (λ c. search needs)
-    (λ c. search (needs, also-chosen))
-    (λ c. search (needs, also-not)))
+also-spec = tie.close (tie.spec (λ c. search needs) (λ c. search needs) (λ c. search needs) (λ c. search (needs, also-is)))

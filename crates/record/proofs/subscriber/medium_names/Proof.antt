@@ -1,0 +1,15 @@
+use Rattle.record.proofs.RecordBytes.{names-are}
+use borrow.Author.Needs.{needs}
+use Rattle.record.proofs.subscriber.medium_names.Statement.{statement}
+use Rattle.record.proofs.subscriber.medium_names.Tie as tie
+
+pub medium-names-spec : {M : Type 1} → statement M
+medium-names-spec =
+    tie.close
+    (tie.spec
+    (λ c κs. search needs)
+    (λ c κs. search needs)
+    (λ c κs. search needs)
+    (λ c κs. search needs)
+    (λ c κs. search needs)
+    (λ c. search (needs, names-are)))
