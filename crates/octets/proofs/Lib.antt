@@ -2,6 +2,7 @@ pub mod All
 pub mod Chains
 pub mod Columns
 pub mod Eights
+pub mod Masks
 pub mod Names
 pub mod Numbers
 pub mod Orders

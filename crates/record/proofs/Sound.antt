@@ -1,6 +1,6 @@
 -- The tests of a header together, those of a record, what a sound header says of its counts, and the bits.
 use Prim.Native.Nat.{ℕ, _+_, _*_, _≤_}
-use mathlib.Core.Bool.{Bool, true, false, _&&_, and-false}
+use mathlib.Core.Bool.{Bool, true, false, _&&_, and-false, and-assoc}
 use mathlib.Core.Path.{_≡_, refl, sym, _∙_}
 use mathlib.Core.List.{List, [], _∷_}
 use native.Mathlib.Omega.{arith}
@@ -9,12 +9,11 @@ use borrow.Author.Tests.{eqb-true}
 use Rattle.octets.specs.Run.{zeroBetween}
 use Rattle.octets.specs.Sum.{sumWords}
 use Rattle.octets.proofs.Chains.{chain-says}
-use Rattle.octets.proofs.Runs.{zero-join}
 use Rattle.record.specs.Fields.{bitsOf, barred, unregisteredServices}
 use Rattle.record.specs.HeaderBlock.{headerOf, soundCounts, isHeader, soundNumbers, soundHeaderRest, soundHeader}
 use Rattle.record.specs.Networks.{soundNetworks}
 use Rattle.record.specs.RecordBlock.{recordOf, isRecord, soundSet, soundLimits, soundServer, soundRoaming, soundProfile, soundRest, soundRecord}
-use Rattle.record.specs.RecordBytes.{headed, setUnder, pastRest, soundBytes}
+use Rattle.record.specs.RecordBytes.{NamesWithin, headed, setUnder, pastRest, soundBytes}
 use Rattle.record.specs.declared.header.Header.{Header}
 use Rattle.record.specs.declared.subscriber.Record.{Record}
 use Rattle.record.proofs.Tests.{Limits, limits-say, HeaderTests, header-says}
@@ -36,17 +35,12 @@ module _ (q : Record) (h t l n r w : Bool) (el : l ≡ soundLimits q) (good : (h
   pub limits-optional : q .optional ≤ 4
   limits-optional = within .optional
 
--- The bytes that stand in the head's words, and the rest of those that are to be zero.
-rest-parts : (b : List ℕ) (q : Record) → (zeroBetween b 2 4 && zeroBetween b 412 416 && pastRest b q) ≡ soundRest b q
-rest-parts b q =
-    rw (← zero-join b 412 416 508 (omega arith) (omega arith))
-    (ordered (zeroBetween b 2 4) (zeroBetween b 412 416) (zeroBetween b (16 + q .public) 144) (zeroBetween b (144 + q .private) 272)
-    (zeroBetween b (272 + q .server) 368) (zeroBetween b (368 + 4 * q .mandatory) 384) (zeroBetween b (384 + 4 * q .optional) 400) (zeroBetween b 416 508))
-  where
-    ordered : (k a p q s m o z : Bool) → (k && a && (p && q && s && m && o && z)) ≡ (k && p && q && s && m && o && (a && z))
-    ordered false a p q s m o z = refl
-    ordered true true p q s m o z = refl
-    ordered true false p q s m o z = rw and-false
+  pub limits-names : NamesWithin q 128
+  limits-names = record { public = within .public; private = within .private; server = omega (arith, within .server) }
+
+-- The bytes that stand in the head's first word, and the rest of those that are to be zero.
+rest-parts : (b : List ℕ) (q : Record) → (zeroBetween b 2 4 && pastRest b q) ≡ soundRest b q
+rest-parts b q = simp and-assoc
 
 -- Where the head is right the edition is the header's.
 set-is : (q : Record) (k : ℕ) (x : Header) → isRecord q k x ≡ true → setUnder q x ≡ soundSet q
@@ -58,17 +52,16 @@ module _ (b : List ℕ) (k : ℕ) (x : Header) (file : ℕ) (q : Record) (h t l 
   unfolding soundRecord soundBytes headed
   record-whole =
       rw (ew, er, en, el, et, eh, eq, ← rest-parts b (recordOf b))
-      (ordered (eqb (sumWords b 128) 0) (isRecord (recordOf b) k x) (zeroBetween b 2 4) (zeroBetween b 412 416) _ (soundSet (recordOf b)) _ _ _ _
+      (ordered (eqb (sumWords b 128) 0) (isRecord (recordOf b) k x) (zeroBetween b 2 4) _ (soundSet (recordOf b)) _ _ _ _
       (pastRest b (recordOf b)) (set-is (recordOf b) k x))
     where
-      ordered : (s i k a u t l n r w z : Bool) → (i ≡ true → u ≡ t)
-          → ((i && k && a && u && l && n && r && w) && (s && z)) ≡ (s && i && t && l && n && r && w && (k && a && z))
-      ordered true false k a u t l n r w z f = refl
-      ordered false false k a u t l n r w z f = refl
-      ordered s true false a u t l n r w z f = rw and-false
-      ordered s true true false u t l n r w z f = rw and-false
-      ordered true true true true u t l n r w z f = rw (f refl)
-      ordered false true true true u t l n r w z f = rw and-false
+      ordered : (s i k u t l n r w z : Bool) → (i ≡ true → u ≡ t)
+          → ((i && k && u && l && n && r && w) && (s && z)) ≡ (s && i && t && l && n && r && w && (k && z))
+      ordered true false k u t l n r w z f = refl
+      ordered false false k u t l n r w z f = refl
+      ordered s true false u t l n r w z f = rw and-false
+      ordered true true true u t l n r w z f = rw (f refl)
+      ordered false true true u t l n r w z f = rw and-false
 
   pub record-bytes : {p : Bool} → (h && t && l && n && r && w) ≡ true → p ≡ soundBytes b q → p ≡ soundRecord b k x file
   record-bytes g e = e ∙ rw g at record-whole
