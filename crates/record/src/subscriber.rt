@@ -229,7 +229,7 @@ pub fn limits_of(networks: u8) -> Limits
 }
 
 // Each of the eight numbers within its limits, and no roaming bit past the last network: one subtraction for all. The lowest byte past its limit shows in its
-// own highest bit or in its difference's; what it borrows changes only the bytes above it, which then count no more.
+// own highest bit or in its difference's; what it borrows changes only bytes above it, and the record is refused already.
 fn numbers(b: &[u8], h: Header, l: Limits) -> bool
     requires { ⌜ (length (now b) ≡ 512) × (h .networks ≤ 8) × (l ≡ limitsOf (h .networks)) ⌝ }
     ensures { λ x. ⌜ x ≡ (withinLimits (recordOf (now (b .entry))) && soundRoaming (recordOf (now (b .entry))) (h .networks)) ⌝ }
