@@ -10,4 +10,5 @@ pub mod Padded
 pub mod Parts
 pub mod Runs
 pub mod Sums
+pub mod Within
 pub mod Writes

@@ -24,7 +24,7 @@ fn of_four(a: u8, b: u8, c: u8, d: u8) -> u32
 }
 
 // Eight bytes, the first the highest: what a comparison of bytes in their order compares.
-fn of_eight(a: u8, b: u8, c: u8, d: u8, e: u8, f: u8, g: u8, h: u8) -> usize
+pub fn of_eight(a: u8, b: u8, c: u8, d: u8, e: u8, f: u8, g: u8, h: u8) -> usize
     ensures { λ r. ⌜ r ≡ eight a b c d e f g h ⌝ }
 {
     (of_four(a, b, c, d) as usize) * 4294967296 + (of_four(e, f, g, h) as usize)

@@ -1,4 +1,5 @@
 pub mod Heads
+pub mod Limits
 pub mod OneSet
 pub mod Places
 pub mod RecordBytes

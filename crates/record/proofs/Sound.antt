@@ -1,16 +1,18 @@
 -- The tests of a header together, those of a record, what a sound header says of its counts, and the bits.
 use Prim.Native.Nat.{ℕ, _+_, _*_, _≤_}
-use mathlib.Core.Bool.{Bool, true, false, _&&_, and-false, and-assoc}
+use mathlib.Core.Bool.{Bool, true, false, _&&_, _||_, not, and-true, and-false, and-assoc, or-false}
 use mathlib.Core.Path.{_≡_, refl, sym, _∙_}
 use mathlib.Core.List.{List, [], _∷_}
 use native.Mathlib.Omega.{arith}
-use lib.Dec.{eqb}
-use borrow.Author.Tests.{eqb-true}
+use lib.Dec.{eqb, leb, ltb}
+use borrow.Author.Tests.{eqb-true, eqb-false, ne-eqb, lt-ltb}
 use Rattle.octets.specs.Run.{zeroBetween}
 use Rattle.octets.specs.Sum.{sumWords}
-use Rattle.octets.proofs.Chains.{chain-says}
-use Rattle.record.specs.Fields.{bitsOf, barred, unregisteredServices}
+use Rattle.octets.proofs.All.{and-left}
+use Rattle.octets.proofs.Chains.{chain-says, _also_}
+use Rattle.record.specs.Fields.{bitsOf, pending, barred, unregisteredServices}
 use Rattle.record.specs.HeaderBlock.{headerOf, soundCounts, isHeader, soundNumbers, soundHeaderRest, soundHeader}
+use Rattle.record.specs.Limits.{withinLimits}
 use Rattle.record.specs.Networks.{soundNetworks}
 use Rattle.record.specs.RecordBlock.{recordOf, isRecord, soundSet, soundLimits, soundServer, soundRoaming, soundProfile, soundRest, soundRecord}
 use Rattle.record.specs.RecordBytes.{NamesWithin, headed, setUnder, pastRest, soundBytes}
@@ -24,10 +26,17 @@ pub header-all : (b : List ℕ) (h : Header) (s : ℕ) (c t n r w : Bool) → h 
 unfolding soundHeader
 header-all b h s c t n r w eh ec es et en er ew = rw (ew, er, en, et, es, ec, eh)
 
+pub limits-whole : (r : Record) → soundLimits r ≡ (withinLimits r && leb (r .size) 4096)
+limits-whole r = refl
+
 -- A record's numbers are tested first, and its bytes only where the numbers are within their limits.
-module _ (q : Record) (h t l n r w : Bool) (el : l ≡ soundLimits q) (good : (h && t && l && n && r && w) ≡ true) where
+module _ (b : List ℕ) (q : Record) (networks : ℕ) (h t m n w : Bool) (eq : q ≡ recordOf b)
+    (em : m ≡ (withinLimits (recordOf b) && soundRoaming (recordOf b) networks)) (good : (h && t && m && leb (q .size) 4096 && n && w) ≡ true) where
   within : Limits q
-  within = limits-say q (sym el ∙ chain-says h (t ∷ l ∷ n ∷ r ∷ w ∷ []) good 2)
+  within =
+      let s = chain-says h (t ∷ m ∷ leb (q .size) 4096 ∷ n ∷ w ∷ []) good in
+      let small : withinLimits q ≡ true = rw eq (and-left (withinLimits (recordOf b)) _ (sym em ∙ s 2)) in
+      limits-say q (small also s 3)
 
   pub limits-mandatory : q .mandatory ≤ 4
   limits-mandatory = within .mandatory
@@ -36,7 +45,20 @@ module _ (q : Record) (h t l n r w : Bool) (el : l ≡ soundLimits q) (good : (h
   limits-optional = within .optional
 
   pub limits-names : NamesWithin q 128
-  limits-names = record { public = within .public; private = within .private; server = omega (arith, within .server) }
+  limits-names = record { public = within .public; private = within .private; server = let l = within .server in omega arith }
+
+-- A server name exactly where the record is not idle.
+module _ (r : Record) {p : Bool} (ep : p ≡ pending (r .bits)) where
+  pub server-none : r .server ≡ 0 → (eqb (r .state) 0 && not p) ≡ soundServer r
+  server-none e = rw (ep, e) (sym (or-false (eqb (r .state) 0 && not (pending (r .bits)))))
+
+  pub server-some : (r .server ≡ 0 → ⊥) → not (eqb (r .state) 0 && not p) ≡ soundServer r
+  server-some d = rw (ep, ne-eqb (r .server) 0 d, lt-ltb 0 (r .server) (omega arith)) (go (eqb (r .state) 0) (pending (r .bits)) refl)
+    where
+      go : (z q : Bool) → eqb (r .state) 0 ≡ z → not (z && not q) ≡ (ltb 0 (r .state) || q)
+      go true true e = rw (eqb-true (r .state) 0 e)
+      go true false e = rw (eqb-true (r .state) 0 e)
+      go false q e = rw (lt-ltb 0 (r .state) (omega (arith, eqb-false (r .state) 0 e)))
 
 -- The bytes that stand in the head's first word, and the rest of those that are to be zero.
 rest-parts : (b : List ℕ) (q : Record) → (zeroBetween b 2 4 && pastRest b q) ≡ soundRest b q
@@ -46,27 +68,33 @@ rest-parts b q = simp and-assoc
 set-is : (q : Record) (k : ℕ) (x : Header) → isRecord q k x ≡ true → setUnder q x ≡ soundSet q
 set-is q k x e = rw (eqb-true (q .edition) (x .edition) (chain-says (eqb (q .kind) 2) (_ ∷ _ ∷ _ ∷ []) e 1))
 
-module _ (b : List ℕ) (k : ℕ) (x : Header) (file : ℕ) (q : Record) (h t l n r w : Bool) (eq : q ≡ recordOf b) (eh : h ≡ headed b k x) (et : t ≡ setUnder q x)
-    (el : l ≡ soundLimits q) (en : n ≡ soundServer q) (er : r ≡ soundRoaming q (x .networks)) (ew : w ≡ soundProfile q file) where
-  record-whole : ((h && t && l && n && r && w) && soundBytes b q) ≡ soundRecord b k x file
+module _ (b : List ℕ) (k : ℕ) (x : Header) (file : ℕ) (q : Record) (h t m n w : Bool) (eq : q ≡ recordOf b) (eh : h ≡ headed b k x) (et : t ≡ setUnder q x)
+    (em : m ≡ (withinLimits (recordOf b) && soundRoaming (recordOf b) (x .networks))) (en : n ≡ soundServer q) (ew : w ≡ soundProfile q file) where
+  record-whole : ((h && t && m && leb (q .size) 4096 && n && w) && soundBytes b q) ≡ soundRecord b k x file
   unfolding soundRecord soundBytes headed
   record-whole =
-      rw (ew, er, en, el, et, eh, eq, ← rest-parts b (recordOf b))
-      (ordered (eqb (sumWords b 128) 0) (isRecord (recordOf b) k x) (zeroBetween b 2 4) _ (soundSet (recordOf b)) _ _ _ _
-      (pastRest b (recordOf b)) (set-is (recordOf b) k x))
+      rw (ew, en, em, et, eh, eq, ← rest-parts b (recordOf b))
+      (ordered (eqb (sumWords b 128) 0) (isRecord (recordOf b) k x) (zeroBetween b 2 4) _ (soundSet (recordOf b))
+      (withinLimits (recordOf b)) _ _ (soundRoaming (recordOf b) (x .networks)) _ (pastRest b (recordOf b)) (set-is (recordOf b) k x))
     where
-      ordered : (s i k u t l n r w z : Bool) → (i ≡ true → u ≡ t)
-          → ((i && k && u && l && n && r && w) && (s && z)) ≡ (s && i && t && l && n && r && w && (k && z))
-      ordered true false k u t l n r w z f = refl
-      ordered false false k u t l n r w z f = refl
-      ordered s true false u t l n r w z f = rw and-false
-      ordered true true true u t l n r w z f = rw (f refl)
-      ordered false true true u t l n r w z f = rw and-false
+      last : (t l p n r w z : Bool) → (t && (l && r) && p && n && w && z) ≡ (t && (l && p) && n && r && w && z)
+      last false l p n r w z = refl
+      last true false p n r w z = refl
+      last true true p n false w z = simp and-false
+      last true true p n true w z = simp and-true
 
-  pub record-bytes : {p : Bool} → (h && t && l && n && r && w) ≡ true → p ≡ soundBytes b q → p ≡ soundRecord b k x file
+      ordered : (s i k u t l p n r w z : Bool) → (i ≡ true → u ≡ t)
+          → ((i && k && u && (l && r) && p && n && w) && (s && z)) ≡ (s && i && t && (l && p) && n && r && w && (k && z))
+      ordered true false k u t l p n r w z f = refl
+      ordered false false k u t l p n r w z f = refl
+      ordered s true false u t l p n r w z f = rw and-false
+      ordered false true true u t l p n r w z f = rw and-false
+      ordered true true true u t l p n r w z f = rw (f refl) (last t l p n r w z)
+
+  pub record-bytes : {p : Bool} → (h && t && m && leb (q .size) 4096 && n && w) ≡ true → p ≡ soundBytes b q → p ≡ soundRecord b k x file
   record-bytes g e = e ∙ rw g at record-whole
 
-  pub record-refused : (h && t && l && n && r && w) ≡ false → false ≡ soundRecord b k x file
+  pub record-refused : (h && t && m && leb (q .size) 4096 && n && w) ≡ false → false ≡ soundRecord b k x file
   record-refused g = rw g at record-whole
 
 module _ (b : List ℕ) (h : Header) {x : Bool} (is : h ≡ headerOf b) (e : x ≡ soundHeader b) (good : x ≡ true) where

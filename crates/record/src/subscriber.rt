@@ -5,12 +5,14 @@ use octets::run;
 use octets::sum;
 use octets::sum::Sums;
 ghost use mathlib.Core.Path.{_≡_};
-ghost use Prim.Native.Nat.{_≤_, max};
+ghost use Prim.Native.Nat.{_-_, _^_, _≤_, max};
+ghost use mathlib.Core.Bool.{_&&_};
 ghost use lib.Dec.{eqb};
 ghost use lib.ListN.{length};
 ghost use Rattle.octets.specs.Run.{Mask};
 ghost use Rattle.record.specs.Fields.{pending, barred, unregisteredServices, cleared, pendingSet};
-ghost use Rattle.record.specs.RecordBlock.{recordOf, soundLimits, soundServer, soundRoaming, soundProfile, soundRecord};
+ghost use Rattle.record.specs.Limits.{roamingHigh, limitsOf, withinLimits};
+ghost use Rattle.record.specs.RecordBlock.{recordOf, soundServer, soundRoaming, soundProfile, soundRecord};
 ghost use Rattle.record.specs.RecordBytes.{NamesWithin, headed, setUnder, pastNames, pastOthers, soundBytes, namesOf, othersOf, usedSum};
 
 // The numbers of a record block. Its names stay in the table.
@@ -177,36 +179,72 @@ fn set_sound(r: Record, h: Header) -> bool
     (r.set == 0) | (h.edition == Header::SECOND_EDITION)
 }
 
-// Each number within its limits.
-fn limits(r: Record) -> bool
-    ensures { λ x. ⌜ x ≡ soundLimits r ⌝ }
+// What the header says of the eight bytes of a record from its state on: the most that each may hold, the first byte the lowest; which of their highest
+// bits may not be set; and which highest bits of the differences tell that one holds too much or too little.
+pub struct Limits {
+    pub most: usize,
+    pub plain: usize,
+    pub high: usize,
+}
+
+// No roaming bit past the last network.
+fn roaming_most(networks: u8) -> u8
+    requires { ⌜ networks ≤ 8 ⌝ }
+    ensures { λ r. ⌜ r ≡ 2 ^ networks - 1 ⌝ }
 {
-    (r.state <= Record::MOST_STATE)
-        & (r.bits <= Record::MOST_BITS)
-        & (r.mandatory <= Record::MOST_CAPABILITIES)
-        & (r.optional <= Record::MOST_CAPABILITIES)
-        & (1 <= r.public)
-        & (r.public <= Record::MOST_IDENTITY)
-        & (1 <= r.private)
-        & (r.private <= Record::MOST_IDENTITY)
-        & (r.server <= Record::MOST_SERVER)
-        & (r.size <= Record::MOST_PROFILE)
+    ((1u32 << (networks as u32)) - 1) as u8
+}
+
+// Where there are eight networks no bit tells: every roaming byte is right.
+fn roaming_high(networks: u8) -> u8
+    ensures { λ r. ⌜ r ≡ roamingHigh networks ⌝ }
+{
+    if networks == Header::MOST_NETWORKS {
+        0
+    } else {
+        128
+    }
+}
+
+// Made once a table. An identity's length may be 128, so its highest bit may be set; a length of 0 leaves the highest bit in the difference.
+pub fn limits_of(networks: u8) -> Limits
+    requires { ⌜ networks ≤ 8 ⌝ }
+    ensures { λ r. ⌜ r ≡ limitsOf networks ⌝ }
+{
+    let roaming = roaming_high(networks);
+    Limits {
+        most: number::of_eight(
+            Record::MOST_SERVER,
+            Record::MOST_IDENTITY,
+            Record::MOST_IDENTITY,
+            Record::MOST_CAPABILITIES,
+            Record::MOST_CAPABILITIES,
+            roaming_most(networks),
+            Record::MOST_BITS,
+            Record::MOST_STATE,
+        ),
+        plain: number::of_eight(128, 0, 0, 128, 128, roaming, 128, 128),
+        high: number::of_eight(128, 128, 128, 128, 128, roaming, 128, 128),
+    }
+}
+
+// Each of the eight numbers within its limits, and no roaming bit past the last network: one subtraction for all. The lowest byte past its limit shows in its
+// own highest bit or in its difference's; what it borrows changes only bytes above it, and the record is refused already.
+fn numbers(b: &[u8], h: Header, l: Limits) -> bool
+    requires { ⌜ (length (now b) ≡ 512) × (h .networks ≤ 8) × (l ≡ limitsOf (h .networks)) ⌝ }
+    ensures { λ x. ⌜ x ≡ (withinLimits (recordOf (now (b .entry))) && soundRoaming (recordOf (now (b .entry))) (h .networks)) ⌝ }
+{
+    let x = number::le64(b, Record::STATE_AT);
+    let left = std::num::wrapping_sub_usize(l.most, x);
+    (((x & l.plain) | left) & l.high) == 0
 }
 
 // "State 1 or 2 needs a server name; state 0 has one exactly if pending is set."
 fn server_sound(r: Record) -> bool
     ensures { λ x. ⌜ x ≡ soundServer r ⌝ }
 {
-    let pending = r.pending();
-    (r.server == 0) & ((r.state == 0) & !pending) | (0 < r.server) & ((0 < r.state) | pending)
-}
-
-// No roaming bit past the last network.
-fn roams(r: Record, networks: u32) -> bool
-    requires { ⌜ networks ≤ 8 ⌝ }
-    ensures { λ x. ⌜ x ≡ soundRoaming r networks ⌝ }
-{
-    (r.roaming as u32) < (1u32 << networks)
+    let idle = (r.state == 0) & !r.pending();
+    if r.server == 0 { idle } else { !idle }
 }
 
 // The profile within the profile file.
@@ -369,16 +407,16 @@ fn bytes_sound(b: &[u8], r: Record, mask: &[u8]) -> bool
 }
 
 // Whether a block is sound as record k, under a header and beside a profile file of such a length.
-pub fn sound(b: &[u8], k: u32, h: Header, file: usize, mask: &[u8]) -> bool
-    requires { ⌜ (length (now b) ≡ 512) × (h .networks ≤ 8) × Mask (now mask) ⌝ }
+pub fn sound(b: &[u8], k: u32, h: Header, file: usize, l: Limits, mask: &[u8]) -> bool
+    requires { ⌜ (length (now b) ≡ 512) × (h .networks ≤ 8) × (l ≡ limitsOf (h .networks)) × Mask (now mask) ⌝ }
     ensures { λ x. ⌜ x ≡ soundRecord (now (b .entry)) k h file ⌝ }
 {
     let r = Record::read(b);
     if is_headed(b, k, h)
         & set_sound(r, h)
-        & limits(r)
+        & numbers(b, h, l)
+        & (r.size <= Record::MOST_PROFILE)
         & server_sound(r)
-        & roams(r, h.networks as u32)
         & within(r, file)
     {
         bytes_sound(b, r, mask)

@@ -12,8 +12,6 @@ sound-spec =
     (λ c κs. search needs)
     (λ c κs. search needs)
     (λ c κs. search needs)
-    (λ c. search needs)
-    (λ c κs. search needs)
     (λ c κs. search needs)
     (λ c κs. search (needs, limits-mandatory, limits-optional, limits-names))
     (λ c. search (needs, record-bytes))
