@@ -1,15 +1,18 @@
 -- The tests of a header together, those of a record, what a sound header says of its counts, and the bits.
-use Prim.Native.Nat.{ℕ, _+_, _*_, _≤_}
+use Prim.Native.Nat.{ℕ, _+_, _*_, _/_, _%_, _<_, _≤_}
 use mathlib.Core.Bool.{Bool, true, false, _&&_, _||_, not, and-true, and-false, and-assoc, or-false}
-use mathlib.Core.Path.{_≡_, refl, sym, _∙_}
+use mathlib.Core.Path.{_≡_, refl, sym, ap, _∙_}
 use mathlib.Core.List.{List, [], _∷_}
 use native.Mathlib.Omega.{arith}
 use lib.Dec.{eqb, leb, ltb}
-use borrow.Author.Tests.{eqb-true, eqb-false, ne-eqb, lt-ltb}
+use lib.ListN.{getD}
+use borrow.Author.Tests.{eqb-true, eqb-false, eq-eqb, ne-eqb, lt-ltb}
+use Rattle.octets.specs.Number.{le64At}
 use Rattle.octets.specs.Run.{zeroBetween}
 use Rattle.octets.specs.Sum.{sumWords}
 use Rattle.octets.proofs.All.{and-left}
 use Rattle.octets.proofs.Chains.{chain-says, _also_}
+use Rattle.octets.proofs.Numbers.{Bytes}
 use Rattle.record.specs.Fields.{bitsOf, pending, barred, unregisteredServices}
 use Rattle.record.specs.HeaderBlock.{headerOf, soundCounts, isHeader, soundNumbers, soundHeaderRest, soundHeader}
 use Rattle.record.specs.Limits.{withinLimits}
@@ -48,17 +51,53 @@ module _ (b : List ℕ) (q : Record) (networks : ℕ) (h t m n w : Bool) (eq : q
   limits-names = record { public = within .public; private = within .private; server = let l = within .server in omega arith }
 
 -- A server name exactly where the record is not idle.
-module _ (r : Record) {p : Bool} (ep : p ≡ pending (r .bits)) where
-  pub server-none : r .server ≡ 0 → (eqb (r .state) 0 && not p) ≡ soundServer r
-  server-none e = rw (ep, e) (sym (or-false (eqb (r .state) 0 && not (pending (r .bits)))))
+module _ (r : Record) where
+  without-server : r .server ≡ 0 → (eqb (r .state) 0 && not (pending (r .bits))) ≡ soundServer r
+  without-server e = rw e (sym (or-false (eqb (r .state) 0 && not (pending (r .bits)))))
 
-  pub server-some : (r .server ≡ 0 → ⊥) → not (eqb (r .state) 0 && not p) ≡ soundServer r
-  server-some d = rw (ep, ne-eqb (r .server) 0 d, lt-ltb 0 (r .server) (omega arith)) (go (eqb (r .state) 0) (pending (r .bits)) refl)
+  with-server : (r .server ≡ 0 → ⊥) → not (eqb (r .state) 0 && not (pending (r .bits))) ≡ soundServer r
+  with-server d = rw (ne-eqb (r .server) 0 d, lt-ltb 0 (r .server) (omega arith)) (go (eqb (r .state) 0) (pending (r .bits)) refl)
     where
       go : (z q : Bool) → eqb (r .state) 0 ≡ z → not (z && not q) ≡ (ltb 0 (r .state) || q)
       go true true e = rw (eqb-true (r .state) 0 e)
       go true false e = rw (eqb-true (r .state) 0 e)
       go false q e = rw (lt-ltb 0 (r .state) (omega (arith, eqb-false (r .state) 0 e)))
+
+-- The same of the eight bytes from the state on, the first the lowest.
+module _ (b : List ℕ) (byte : Bytes b) (x : ℕ) (is : x ≡ le64At b 8) where
+  idle : eqb (x % 512) 0 ≡ (eqb (recordOf b .state) 0 && not (pending (recordOf b .bits)))
+  unfolding recordOf le64At
+  idle = go (eqb (getD b 8 0) 0) (eqb (getD b 9 0 % 2) 1) refl refl
+    where
+      upper : ℕ
+      upper =
+          getD b 9 0 / 2 + 128 * getD b 10 0 + 32768 * getD b 11 0 + 8388608 * getD b 12 0 + 2147483648 * getD b 13 0 + 549755813888 * getD b 14 0
+          + 140737488355328 * getD b 15 0
+
+      apart : (k m : ℕ) → m < 512 → (512 * k + m) % 512 ≡ m
+      apart k m h = omega arith
+
+      parts : x ≡ 512 * upper + (getD b 9 0 % 2 * 256 + getD b 8 0)
+      parts = omega arith
+
+      low : x % 512 ≡ getD b 9 0 % 2 * 256 + getD b 8 0
+      low = ap (λ (z : ℕ). z % 512) parts ∙ apart upper (getD b 9 0 % 2 * 256 + getD b 8 0) (omega (arith, byte 8))
+
+      go : (z p : Bool) → eqb (getD b 8 0) 0 ≡ z → eqb (getD b 9 0 % 2) 1 ≡ p → eqb (x % 512) 0 ≡ (z && not p)
+      go true false e f = eq-eqb (x % 512) 0 (low ∙ omega (arith, eqb-true (getD b 8 0) 0 e, eqb-false (getD b 9 0 % 2) 1 f))
+      go true true e f = ne-eqb (x % 512) 0 (λ w. absurd (omega (arith, low, eqb-true (getD b 9 0 % 2) 1 f)))
+      go false p e f = ne-eqb (x % 512) 0 (λ w. eqb-false (getD b 8 0) 0 e (omega (arith, low)))
+
+  pub server-none : x < 72057594037927936 → eqb (x % 512) 0 ≡ soundServer (recordOf b)
+  unfolding recordOf le64At
+  server-none h = idle ∙ without-server (recordOf b) (omega (arith, byte 15))
+
+  pub server-some : 72057594037927936 ≤ x → not (eqb (x % 512) 0) ≡ soundServer (recordOf b)
+  unfolding recordOf le64At
+  server-some h =
+      ap not idle
+      ∙ with-server (recordOf b)
+      (λ e. absurd (omega (arith, byte 8, byte 9, byte 10, byte 11, byte 12, byte 13, byte 14)))
 
 -- The bytes that stand in the head's first word, and the rest of those that are to be zero.
 rest-parts : (b : List ℕ) (q : Record) → (zeroBetween b 2 4 && pastRest b q) ≡ soundRest b q
@@ -68,8 +107,8 @@ rest-parts b q = simp and-assoc
 set-is : (q : Record) (k : ℕ) (x : Header) → isRecord q k x ≡ true → setUnder q x ≡ soundSet q
 set-is q k x e = rw (eqb-true (q .edition) (x .edition) (chain-says (eqb (q .kind) 2) (_ ∷ _ ∷ _ ∷ []) e 1))
 
-module _ (b : List ℕ) (k : ℕ) (x : Header) (file : ℕ) (q : Record) (h t m n w : Bool) (eq : q ≡ recordOf b) (eh : h ≡ headed b k x) (et : t ≡ setUnder q x)
-    (em : m ≡ (withinLimits (recordOf b) && soundRoaming (recordOf b) (x .networks))) (en : n ≡ soundServer q) (ew : w ≡ soundProfile q file) where
+module _ (b : List ℕ) (k : ℕ) (x : Header) (file : ℕ) (q : Record) (h t m n w : Bool) (eq : q ≡ recordOf b) (eh : h ≡ headed b k x) (et : t ≡ setUnder (recordOf b) x)
+    (em : m ≡ (withinLimits (recordOf b) && soundRoaming (recordOf b) (x .networks))) (en : n ≡ soundServer (recordOf b)) (ew : w ≡ soundProfile q file) where
   record-whole : ((h && t && m && leb (q .size) 4096 && n && w) && soundBytes b q) ≡ soundRecord b k x file
   unfolding soundRecord soundBytes headed
   record-whole =

@@ -10,13 +10,18 @@ use Rattle.record.specs.declared.subscriber.Record.{Record}
 abbrev pub roamingHigh : ℕ → ℕ
 roamingHigh networks = cond (eqb networks 8) 0 128
 
+-- the bits of a set number that may not be set: all of them in the first edition, none in the second
+abbrev pub noSets : ℕ → ℕ
+noSets edition = cond (eqb edition 2) 0 65535
+
 -- server length, private and public length, optional and mandatory count, roaming, bits, state
-unfoldable pub limitsOf : ℕ → Limits
-limitsOf networks =
+unfoldable pub limitsOf : ℕ → ℕ → Limits
+limitsOf networks edition =
     record {
       most = eight 96 128 128 4 4 (2 ^ networks - 1) 7 2;
       plain = eight 128 0 0 128 128 (roamingHigh networks) 128 128;
       high = eight 128 128 128 128 128 (roamingHigh networks) 128 128;
+      sets = noSets edition;
     }
 
 -- the limits of a record that stand in one byte each, without roaming: all of `soundLimits` but the profile's

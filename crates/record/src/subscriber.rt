@@ -11,7 +11,7 @@ ghost use lib.Dec.{eqb};
 ghost use lib.ListN.{length};
 ghost use Rattle.octets.specs.Run.{Mask};
 ghost use Rattle.record.specs.Fields.{pending, barred, unregisteredServices, cleared, pendingSet};
-ghost use Rattle.record.specs.Limits.{roamingHigh, limitsOf, withinLimits};
+ghost use Rattle.record.specs.Limits.{roamingHigh, noSets, limitsOf, withinLimits};
 ghost use Rattle.record.specs.RecordBlock.{recordOf, soundServer, soundRoaming, soundProfile, soundRecord};
 ghost use Rattle.record.specs.RecordBytes.{NamesWithin, headed, setUnder, pastNames, pastOthers, soundBytes, namesOf, othersOf, usedSum};
 
@@ -161,30 +161,29 @@ impl Record {
     }
 }
 
-// The kind, the edition and the block's number, with the blank bytes between them, which stand in their word; the issue number.
+// What the length of a server name counts in the eight bytes from the state on, 2^56.
+const SERVER: usize = 72057594037927936;
+
+// What the kind and the edition count in the first eight bytes, 2^48.
+const HEAD: usize = 281474976710656;
+
+// The kind, the edition and the block's number, with the blank bytes between them, as one number; the issue number.
 fn is_headed(b: &[u8], k: u32, h: Header) -> bool
     requires { ⌜ length (now b) ≡ 512 ⌝ }
     ensures { λ x. ⌜ x ≡ headed (now (b .entry)) k h ⌝ }
 {
-    (number::be32(b, Record::KIND_AT)
-        == (Record::KIND as u32) * 16777216 + (h.edition as u32) * 65536)
-        & (number::be32(b, Record::NUMBER_AT) == k)
+    (number::be64(b, Record::KIND_AT)
+        == ((Record::KIND as usize) * 256 + (h.edition as usize)) * HEAD + (k as usize))
         & (number::be32(b, Record::ISSUE_AT) == h.issue)
 }
 
-// No set number in the first edition, which is the header's here: the record's is not read by itself a second time.
-fn set_sound(r: Record, h: Header) -> bool
-    ensures { λ x. ⌜ x ≡ setUnder r h ⌝ }
-{
-    (r.set == 0) | (h.edition == Header::SECOND_EDITION)
-}
-
 // What the header says of the eight bytes of a record from its state on: the most that each may hold, the first byte the lowest; which of their highest
-// bits may not be set; and which highest bits of the differences tell that one holds too much or too little.
+// bits may not be set; and which highest bits of the differences tell that one holds too much or too little. Which bits of a set number may not be set.
 pub struct Limits {
     pub most: usize,
     pub plain: usize,
     pub high: usize,
+    pub sets: u32,
 }
 
 // No roaming bit past the last network.
@@ -206,10 +205,21 @@ fn roaming_high(networks: u8) -> u8
     }
 }
 
+// The second edition has set numbers, and the first has none.
+fn no_sets(edition: u8) -> u32
+    ensures { λ r. ⌜ r ≡ noSets edition ⌝ }
+{
+    if edition == Header::SECOND_EDITION {
+        0
+    } else {
+        65535
+    }
+}
+
 // Made once a table. An identity's length may be 128, so its highest bit may be set; a length of 0 leaves the highest bit in the difference.
-pub fn limits_of(networks: u8) -> Limits
+pub fn limits_of(networks: u8, edition: u8) -> Limits
     requires { ⌜ networks ≤ 8 ⌝ }
-    ensures { λ r. ⌜ r ≡ limitsOf networks ⌝ }
+    ensures { λ r. ⌜ r ≡ limitsOf networks edition ⌝ }
 {
     let roaming = roaming_high(networks);
     Limits {
@@ -225,13 +235,22 @@ pub fn limits_of(networks: u8) -> Limits
         ),
         plain: number::of_eight(128, 0, 0, 128, 128, roaming, 128, 128),
         high: number::of_eight(128, 128, 128, 128, 128, roaming, 128, 128),
+        sets: no_sets(edition),
     }
+}
+
+// No set number in the first edition, which is the header's here: the record's is not read by itself a second time.
+fn set_sound(b: &[u8], h: Header, l: Limits) -> bool
+    requires { ⌜ (length (now b) ≡ 512) × (l ≡ limitsOf (h .networks) (h .edition)) ⌝ }
+    ensures { λ x. ⌜ x ≡ setUnder (recordOf (now (b .entry))) h ⌝ }
+{
+    (number::be16(b, Record::SET_AT) & l.sets) == 0
 }
 
 // Each of the eight numbers within its limits, and no roaming bit past the last network: one subtraction for all. The lowest byte past its limit shows in its
 // own highest bit or in its difference's; what it borrows changes only bytes above it, and the record is refused already.
 fn numbers(b: &[u8], h: Header, l: Limits) -> bool
-    requires { ⌜ (length (now b) ≡ 512) × (h .networks ≤ 8) × (l ≡ limitsOf (h .networks)) ⌝ }
+    requires { ⌜ (length (now b) ≡ 512) × (h .networks ≤ 8) × (l ≡ limitsOf (h .networks) (h .edition)) ⌝ }
     ensures { λ x. ⌜ x ≡ (withinLimits (recordOf (now (b .entry))) && soundRoaming (recordOf (now (b .entry))) (h .networks)) ⌝ }
 {
     let x = number::le64(b, Record::STATE_AT);
@@ -239,12 +258,15 @@ fn numbers(b: &[u8], h: Header, l: Limits) -> bool
     (((x & l.plain) | left) & l.high) == 0
 }
 
-// "State 1 or 2 needs a server name; state 0 has one exactly if pending is set."
-fn server_sound(r: Record) -> bool
-    ensures { λ x. ⌜ x ≡ soundServer r ⌝ }
+// "State 1 or 2 needs a server name; state 0 has one exactly if pending is set": of the same eight bytes, the state and the lowest of the bits are 0 exactly
+// if the highest, the name's length, is.
+fn server_sound(b: &[u8]) -> bool
+    requires { ⌜ length (now b) ≡ 512 ⌝ }
+    ensures { λ x. ⌜ x ≡ soundServer (recordOf (now (b .entry))) ⌝ }
 {
-    let idle = (r.state == 0) & !r.pending();
-    if r.server == 0 { idle } else { !idle }
+    let x = number::le64(b, Record::STATE_AT);
+    let idle = x % 512 == 0;
+    if x < SERVER { idle } else { !idle }
 }
 
 // The profile within the profile file.
@@ -408,15 +430,15 @@ fn bytes_sound(b: &[u8], r: Record, mask: &[u8]) -> bool
 
 // Whether a block is sound as record k, under a header and beside a profile file of such a length.
 pub fn sound(b: &[u8], k: u32, h: Header, file: usize, l: Limits, mask: &[u8]) -> bool
-    requires { ⌜ (length (now b) ≡ 512) × (h .networks ≤ 8) × (l ≡ limitsOf (h .networks)) × Mask (now mask) ⌝ }
+    requires { ⌜ (length (now b) ≡ 512) × (h .networks ≤ 8) × (l ≡ limitsOf (h .networks) (h .edition)) × Mask (now mask) ⌝ }
     ensures { λ x. ⌜ x ≡ soundRecord (now (b .entry)) k h file ⌝ }
 {
     let r = Record::read(b);
     if is_headed(b, k, h)
-        & set_sound(r, h)
+        & set_sound(b, h, l)
         & numbers(b, h, l)
         & (r.size <= Record::MOST_PROFILE)
-        & server_sound(r)
+        & server_sound(b)
         & within(r, file)
     {
         bytes_sound(b, r, mask)

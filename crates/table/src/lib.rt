@@ -69,7 +69,7 @@ fn rises(t: &[u8], k: usize) -> bool
 
 // Whether block k is a sound record in its place. Only a sound one is compared with the record before.
 fn stands(t: &[u8], h: Header, file: usize, l: Limits, mask: &[u8], k: usize) -> bool
-    requires { ⌜ (1 ≤ k) × (k ≤ 4096) × (h .networks ≤ 8) × (l ≡ limitsOf (h .networks)) × (512 * k + 512 ≤ length (now t)) × Before (now t) k
+    requires { ⌜ (1 ≤ k) × (k ≤ 4096) × (h .networks ≤ 8) × (l ≡ limitsOf (h .networks) (h .edition)) × (512 * k + 512 ≤ length (now t)) × Before (now t) k
         × Mask (now mask) ⌝ }
     ensures { λ r. ⌜ r ≡ standsAt (now (t .entry)) h file k ⌝ }
 {
@@ -100,7 +100,7 @@ fn standing(t: &[u8], h: Header, file: usize) -> Stood
         × Setless (now (t .entry)) (r .records) (r .setless) ⌝ }
 {
     let count = h.count as usize;
-    let l = subscriber::limits_of(h.networks);
+    let l = subscriber::limits_of(h.networks, h.edition);
     let mask = run::mask();
     let mut m = 0;
     let mut sets: u32 = 0;
