@@ -4,9 +4,9 @@ use mathlib.Core.Bool.{Bool, true, false, _&&_, and-false, and-assoc}
 use mathlib.Core.Path.{_≡_, refl, _∙_}
 use mathlib.Core.List.{List, [], _∷_}
 use native.Mathlib.Omega.{arith}
-use lib.Bits.{bitOr}
+use lib.Bits.{bitOr, or-comm}
 use lib.Dec.{eqb, leb}
-use borrow.Author.Tests.{leb-true}
+use borrow.Author.Tests.{leb-true, eq-eqb, ne-eqb}
 use Rattle.octets.specs.Run.{zeroBetween}
 use Rattle.octets.specs.Sum.{sumWords, columnsOf, joined, totalOf, endsSum}
 use Rattle.octets.specs.declared.sum.Sums.{Sums}
@@ -141,20 +141,30 @@ module _ (b : List ℕ) (r : Record) where
   unfolding pastOthers
   past-others c d e ec ed ee = simp or-zero (rw (ec, ed, ee))
 
-  past-rest : (c d : ℕ) → eqb c 0 ≡ pastNames b r → eqb d 0 ≡ pastOthers b r → eqb (bitOr c d) 0 ≡ pastRest b r
+  past-rest : (c d : ℕ) → eqb c 0 ≡ pastOthers b r → eqb d 0 ≡ pastNames b r → eqb (bitOr c d) 0 ≡ pastRest b r
   unfolding pastNames pastOthers
-  past-rest c d ec ed = rw (or-zero c d, ec, ed) (simp and-assoc)
+  past-rest c d ec ed = rw (or-comm c d, or-zero d c, ec, ed) (simp and-assoc)
 
-  pub used-bytes : (n m c d : ℕ) → Bytes b → m ≡ usedSum b n → leb n 24 ≡ true → NamesWithin r (4 * n) → eqb c 0 ≡ pastNames b r → eqb d 0 ≡ pastOthers b r
-      → (eqb m 0 && eqb (bitOr c d) 0) ≡ soundBytes b r
-  used-bytes n m c d h e room names ec ed = sum-serves m _ (past-rest c d ec ed) (λ z. e ∙ used-sum n (leb-true n 24 room) names h z)
+  module _ (n m : ℕ) (h : Bytes b) (e : m ≡ usedSum b n) (room : leb n 24 ≡ true) (names : NamesWithin r (4 * n)) where
+    pub used-bytes : (c d : ℕ) → eqb c 0 ≡ pastOthers b r → eqb d 0 ≡ pastNames b r → (eqb m 0 && eqb (bitOr c d) 0) ≡ soundBytes b r
+    used-bytes c d ec ed = sum-serves m _ (past-rest c d ec ed) (λ z. e ∙ used-sum n (leb-true n 24 room) names h z)
+
+    pub used-right : (c d : ℕ) → m ≡ 0 → eqb c 0 ≡ pastOthers b r → eqb d 0 ≡ pastNames b r → eqb (bitOr c d) 0 ≡ soundBytes b r
+    used-right c d z ec ed = rw (eq-eqb m 0 z) at (used-bytes c d ec ed)
+
+    pub used-wrong : (m ≡ 0 → ⊥) → false ≡ soundBytes b r
+    used-wrong d = rw (ne-eqb m 0 d) at (sum-serves m (pastRest b r) refl (λ z. e ∙ used-sum n (leb-true n 24 room) names h z))
 
   last-zero : zeroBetween b 412 508 ≡ true → zeroBetween b 416 508 ≡ true
   last-zero e = and-right (zeroBetween b 412 416) (zeroBetween b 416 508) (zero-join b 412 416 508 (omega arith) (omega arith) ∙ e)
 
   -- Where a name is long only the words past the last named byte are left out.
-  pub long-bytes : (m c d : ℕ) → Bytes b → m ≡ endsSum b 104 → eqb c 0 ≡ pastNames b r → eqb d 0 ≡ pastOthers b r
-      → (eqb m 0 && eqb (bitOr c d) 0) ≡ soundBytes b r
-  long-bytes m c d h e ec ed =
-      sum-serves m _ (past-rest c d ec ed)
-      (λ z. e ∙ ends-sum b 104 h (omega arith) (last-zero (chain-says (zeroBetween b (16 + r .public) 144) (_ ∷ _ ∷ _ ∷ _ ∷ _ ∷ []) z 5)))
+  module _ (m : ℕ) (h : Bytes b) (e : m ≡ endsSum b 104) where
+    ends-serve : pastRest b r ≡ true → m ≡ sumWords b 128
+    ends-serve z = e ∙ ends-sum b 104 h (omega arith) (last-zero (chain-says (zeroBetween b (16 + r .public) 144) (_ ∷ _ ∷ _ ∷ _ ∷ _ ∷ []) z 5))
+
+    pub long-right : (c d : ℕ) → m ≡ 0 → eqb c 0 ≡ pastOthers b r → eqb d 0 ≡ pastNames b r → eqb (bitOr c d) 0 ≡ soundBytes b r
+    long-right c d z ec ed = rw (eq-eqb m 0 z) at (sum-serves m _ (past-rest c d ec ed) ends-serve)
+
+    pub long-wrong : (m ≡ 0 → ⊥) → false ≡ soundBytes b r
+    long-wrong d = rw (ne-eqb m 0 d) at (sum-serves m (pastRest b r) refl ends-serve)

@@ -391,14 +391,18 @@ fn short_sound(b: &[u8], r: Record, mask: &[u8]) -> bool
     requires { ⌜ (length (now b) ≡ 512) × (r .mandatory ≤ 4) × (r .optional ≤ 4) × NamesWithin r 32 × Mask (now mask) ⌝ }
     ensures { λ x. ⌜ x ≡ soundBytes (now (b .entry)) r ⌝ }
 {
-    (short_sum(b) == 0) & ((short_past(b, r) | others_past(b, r, mask)) == 0)
+    (short_sum(b) == 0) & ((others_past(b, r, mask) | short_past(b, r)) == 0)
 }
 
 fn medium_sound(b: &[u8], r: Record, mask: &[u8]) -> bool
     requires { ⌜ (length (now b) ≡ 512) × (r .mandatory ≤ 4) × (r .optional ≤ 4) × NamesWithin r 64 × Mask (now mask) ⌝ }
     ensures { λ x. ⌜ x ≡ soundBytes (now (b .entry)) r ⌝ }
 {
-    (medium_sum(b) == 0) & ((medium_past(b, r) | others_past(b, r, mask)) == 0)
+    if medium_sum(b) == 0 {
+        (others_past(b, r, mask) | medium_past(b, r)) == 0
+    } else {
+        false
+    }
 }
 
 // The same of any names. The words past the last named byte are left out of the sum: they are zero, or the block is unsound.
@@ -406,7 +410,11 @@ fn long_sound(b: &[u8], r: Record, mask: &[u8]) -> bool
     requires { ⌜ (length (now b) ≡ 512) × (r .mandatory ≤ 4) × (r .optional ≤ 4) × NamesWithin r 128 × Mask (now mask) ⌝ }
     ensures { λ x. ⌜ x ≡ soundBytes (now (b .entry)) r ⌝ }
 {
-    (sum::sum_ends(b, 104) == 0) & ((long_past(b, r, mask) | others_past(b, r, mask)) == 0)
+    if sum::sum_ends(b, 104) == 0 {
+        (others_past(b, r, mask) | long_past(b, r, mask)) == 0
+    } else {
+        false
+    }
 }
 
 // The same, in the way that the names' lengths ask for.

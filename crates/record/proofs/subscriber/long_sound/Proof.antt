@@ -1,4 +1,4 @@
-use Rattle.record.proofs.RecordBytes.{long-bytes}
+use Rattle.record.proofs.RecordBytes.{long-right, long-wrong}
 use borrow.Author.Needs.{needs}
 use Rattle.record.proofs.subscriber.long_sound.Statement.{statement}
 use Rattle.record.proofs.subscriber.long_sound.Tie as tie
@@ -10,4 +10,5 @@ long-sound-spec =
     (λ c κs. search needs)
     (λ c κs. search needs)
     (λ c κs. search needs)
-    (λ c. search (needs, long-bytes)))
+    (λ c. search (needs, long-right))
+    (λ c. search (needs, long-wrong)))

@@ -1,4 +1,4 @@
-use Rattle.record.proofs.RecordBytes.{used-bytes}
+use Rattle.record.proofs.RecordBytes.{used-right, used-wrong}
 use borrow.Author.Needs.{needs}
 use Rattle.record.proofs.subscriber.medium_sound.Statement.{statement}
 use Rattle.record.proofs.subscriber.medium_sound.Tie as tie
@@ -10,4 +10,5 @@ medium-sound-spec =
     (λ c κs. search needs)
     (λ c κs. search needs)
     (λ c κs. search needs)
-    (λ c. search (needs, used-bytes)))
+    (λ c. search (needs, used-right))
+    (λ c. search (needs, used-wrong)))
