@@ -1,21 +1,18 @@
 -- Laws of the mask: what a field holds past its first bytes, eight bytes at a time.
-use Prim.Native.Nat.{ℕ, zero, suc, _+_, _-_, _*_, _^_, _<_, _≤_}
+use Prim.Native.Nat.{ℕ, zero, suc, _+_, _-_, _*_, _<_, _≤_}
 use mathlib.Core.Bool.{Bool, true, false, _&&_, and-true, and-assoc}
-use mathlib.Core.Path.{_≡_, refl, sym, _∙_}
+use mathlib.Core.Path.{_≡_, refl, _∙_}
 use mathlib.Core.Logic.{_≢_}
 use mathlib.Core.List.{List}
 use native.Mathlib.Omega.{arith}
-use mir.Syntax.{w8}
-use mir.Val.{Fits}
-use lib.Bits.{bitAnd, bitOr, and-block, and-lt, and-mask, and-zero-r}
+use lib.Bits.{bitAnd, bitOr, and-block, and-mask, and-zero-r}
 use lib.Dec.{eqb, ltb}
 use lib.ListN.{length, getD, set, length-set, replicate, length-replicate, getD-replicate}
 use lib.Seq.{getD-set-same, getD-set-other}
 use borrow.Author.Tests.{eqb-true, eqb-false, ltb-true, ltb-false}
 use Rattle.octets.specs.All.{allBelow}
-use Rattle.octets.specs.Number.{four, eight, le64At}
+use Rattle.octets.specs.Number.{eight, le64At}
 use Rattle.octets.specs.Run.{zeros, zeroBetween, Mask}
-use Rattle.octets.proofs.All.{all-alike}
 use Rattle.octets.proofs.Numbers.{Bytes}
 use Rattle.octets.proofs.Runs.{or-zero, eight-zero, zeros-more, zero-join}
 

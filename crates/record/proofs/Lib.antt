@@ -1,5 +1,5 @@
+pub mod Bounded
 pub mod Heads
-pub mod Limits
 pub mod OneSet
 pub mod Places
 pub mod RecordBytes

@@ -15,7 +15,7 @@ use Rattle.octets.proofs.Chains.{chain-says, _also_}
 use Rattle.octets.proofs.Numbers.{Bytes}
 use Rattle.record.specs.Fields.{bitsOf, pending, barred, unregisteredServices}
 use Rattle.record.specs.HeaderBlock.{headerOf, soundCounts, isHeader, soundNumbers, soundHeaderRest, soundHeader}
-use Rattle.record.specs.Limits.{withinLimits}
+use Rattle.record.specs.Bounds.{withinLimits}
 use Rattle.record.specs.Networks.{soundNetworks}
 use Rattle.record.specs.RecordBlock.{recordOf, isRecord, soundSet, soundLimits, soundServer, soundRoaming, soundProfile, soundRest, soundRecord}
 use Rattle.record.specs.RecordBytes.{NamesWithin, headed, setUnder, pastRest, soundBytes}

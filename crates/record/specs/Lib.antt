@@ -1,6 +1,6 @@
+pub mod Bounds
 pub mod Fields
 pub mod HeaderBlock
-pub mod Limits
 pub mod Networks
 pub mod RecordBlock
 pub mod RecordBytes

@@ -1,17 +1,18 @@
 // A record block: one public identity of a subscriber.
+use crate::bounds::Bounds;
 use crate::header::Header;
 use octets::number;
 use octets::run;
 use octets::sum;
 use octets::sum::Sums;
 ghost use mathlib.Core.Path.{_≡_};
-ghost use Prim.Native.Nat.{_-_, _^_, _≤_, max};
+ghost use Prim.Native.Nat.{_≤_, max};
 ghost use mathlib.Core.Bool.{_&&_};
 ghost use lib.Dec.{eqb};
 ghost use lib.ListN.{length};
 ghost use Rattle.octets.specs.Run.{Mask};
 ghost use Rattle.record.specs.Fields.{pending, barred, unregisteredServices, cleared, pendingSet};
-ghost use Rattle.record.specs.Limits.{roamingHigh, noSets, limitsOf, withinLimits};
+ghost use Rattle.record.specs.Bounds.{boundsOf, withinLimits};
 ghost use Rattle.record.specs.RecordBlock.{recordOf, soundServer, soundRoaming, soundProfile, soundRecord};
 ghost use Rattle.record.specs.RecordBytes.{NamesWithin, headed, setUnder, pastNames, pastOthers, soundBytes, namesOf, othersOf, usedSum};
 
@@ -177,85 +178,23 @@ fn is_headed(b: &[u8], k: u32, h: Header) -> bool
         & (number::be32(b, Record::ISSUE_AT) == h.issue)
 }
 
-// What the header says of the eight bytes of a record from its state on: the most that each may hold, the first byte the lowest; which of their highest
-// bits may not be set; and which highest bits of the differences tell that one holds too much or too little. Which bits of a set number may not be set.
-pub struct Limits {
-    pub most: usize,
-    pub plain: usize,
-    pub high: usize,
-    pub sets: u32,
-}
-
-// No roaming bit past the last network.
-fn roaming_most(networks: u8) -> u8
-    requires { ⌜ networks ≤ 8 ⌝ }
-    ensures { λ r. ⌜ r ≡ 2 ^ networks - 1 ⌝ }
-{
-    ((1u32 << (networks as u32)) - 1) as u8
-}
-
-// Where there are eight networks no bit tells: every roaming byte is right.
-fn roaming_high(networks: u8) -> u8
-    ensures { λ r. ⌜ r ≡ roamingHigh networks ⌝ }
-{
-    if networks == Header::MOST_NETWORKS {
-        0
-    } else {
-        128
-    }
-}
-
-// The second edition has set numbers, and the first has none.
-fn no_sets(edition: u8) -> u32
-    ensures { λ r. ⌜ r ≡ noSets edition ⌝ }
-{
-    if edition == Header::SECOND_EDITION {
-        0
-    } else {
-        65535
-    }
-}
-
-// Made once a table. An identity's length may be 128, so its highest bit may be set; a length of 0 leaves the highest bit in the difference.
-pub fn limits_of(networks: u8, edition: u8) -> Limits
-    requires { ⌜ networks ≤ 8 ⌝ }
-    ensures { λ r. ⌜ r ≡ limitsOf networks edition ⌝ }
-{
-    let roaming = roaming_high(networks);
-    Limits {
-        most: number::of_eight(
-            Record::MOST_SERVER,
-            Record::MOST_IDENTITY,
-            Record::MOST_IDENTITY,
-            Record::MOST_CAPABILITIES,
-            Record::MOST_CAPABILITIES,
-            roaming_most(networks),
-            Record::MOST_BITS,
-            Record::MOST_STATE,
-        ),
-        plain: number::of_eight(128, 0, 0, 128, 128, roaming, 128, 128),
-        high: number::of_eight(128, 128, 128, 128, 128, roaming, 128, 128),
-        sets: no_sets(edition),
-    }
-}
-
 // No set number in the first edition, which is the header's here: the record's is not read by itself a second time.
-fn set_sound(b: &[u8], h: Header, l: Limits) -> bool
-    requires { ⌜ (length (now b) ≡ 512) × (l ≡ limitsOf (h .networks) (h .edition)) ⌝ }
+fn set_sound(b: &[u8], h: Header, bounds: Bounds) -> bool
+    requires { ⌜ (length (now b) ≡ 512) × (bounds ≡ boundsOf (h .networks) (h .edition)) ⌝ }
     ensures { λ x. ⌜ x ≡ setUnder (recordOf (now (b .entry))) h ⌝ }
 {
-    (number::be16(b, Record::SET_AT) & l.sets) == 0
+    (number::be16(b, Record::SET_AT) & bounds.sets) == 0
 }
 
 // Each of the eight numbers within its limits, and no roaming bit past the last network: one subtraction for all. The lowest byte past its limit shows in its
 // own highest bit or in its difference's; what it borrows changes only bytes above it, and the record is refused already.
-fn numbers(b: &[u8], h: Header, l: Limits) -> bool
-    requires { ⌜ (length (now b) ≡ 512) × (h .networks ≤ 8) × (l ≡ limitsOf (h .networks) (h .edition)) ⌝ }
+fn numbers(b: &[u8], h: Header, bounds: Bounds) -> bool
+    requires { ⌜ (length (now b) ≡ 512) × (h .networks ≤ 8) × (bounds ≡ boundsOf (h .networks) (h .edition)) ⌝ }
     ensures { λ x. ⌜ x ≡ (withinLimits (recordOf (now (b .entry))) && soundRoaming (recordOf (now (b .entry))) (h .networks)) ⌝ }
 {
     let x = number::le64(b, Record::STATE_AT);
-    let left = std::num::wrapping_sub_usize(l.most, x);
-    (((x & l.plain) | left) & l.high) == 0
+    let left = std::num::wrapping_sub_usize(bounds.most, x);
+    (((x & bounds.plain) | left) & bounds.high) == 0
 }
 
 // "State 1 or 2 needs a server name; state 0 has one exactly if pending is set": of the same eight bytes, the state and the lowest of the bits are 0 exactly
@@ -437,14 +376,14 @@ fn bytes_sound(b: &[u8], r: Record, mask: &[u8]) -> bool
 }
 
 // Whether a block is sound as record k, under a header and beside a profile file of such a length.
-pub fn sound(b: &[u8], k: u32, h: Header, file: usize, l: Limits, mask: &[u8]) -> bool
-    requires { ⌜ (length (now b) ≡ 512) × (h .networks ≤ 8) × (l ≡ limitsOf (h .networks) (h .edition)) × Mask (now mask) ⌝ }
+pub fn sound(b: &[u8], k: u32, h: Header, file: usize, bounds: Bounds, mask: &[u8]) -> bool
+    requires { ⌜ (length (now b) ≡ 512) × (h .networks ≤ 8) × (bounds ≡ boundsOf (h .networks) (h .edition)) × Mask (now mask) ⌝ }
     ensures { λ x. ⌜ x ≡ soundRecord (now (b .entry)) k h file ⌝ }
 {
     let r = Record::read(b);
     if is_headed(b, k, h)
-        & set_sound(b, h, l)
-        & numbers(b, h, l)
+        & set_sound(b, h, bounds)
+        & numbers(b, h, bounds)
         & (r.size <= Record::MOST_PROFILE)
         & server_sound(b)
         & within(r, file)

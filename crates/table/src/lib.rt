@@ -5,12 +5,12 @@ mod members;
 use octets::name;
 use octets::name::Order;
 use octets::run;
+use record::bounds::Bounds;
 use record::fields;
 use record::header;
 use record::header::Header;
 use record::sets;
 use record::subscriber;
-use record::subscriber::Limits;
 use record::subscriber::Record;
 ghost use mathlib.Core.Path.{_≡_};
 ghost use Prim.Native.Nat.{_+_, _*_, _≤_, _<_};
@@ -19,7 +19,7 @@ ghost use lib.ListN.{length};
 ghost use Rattle.octets.specs.Name.{orderOf};
 ghost use Rattle.octets.specs.Run.{Mask};
 ghost use Rattle.record.specs.Fields.{publicOf};
-ghost use Rattle.record.specs.Limits.{limitsOf};
+ghost use Rattle.record.specs.Bounds.{boundsOf};
 ghost use Rattle.table.specs.Blocks.{blockOf};
 ghost use Rattle.table.specs.Check.{isLess, risesAt, standsAt, checkRecords, checkTable};
 ghost use Rattle.table.specs.Leading.{leading, setless, Setless, outcomeOf};
@@ -68,12 +68,12 @@ fn rises(t: &[u8], k: usize) -> bool
 }
 
 // Whether block k is a sound record in its place. Only a sound one is compared with the record before.
-fn stands(t: &[u8], h: Header, file: usize, l: Limits, mask: &[u8], k: usize) -> bool
-    requires { ⌜ (1 ≤ k) × (k ≤ 4096) × (h .networks ≤ 8) × (l ≡ limitsOf (h .networks) (h .edition)) × (512 * k + 512 ≤ length (now t)) × Before (now t) k
+fn stands(t: &[u8], h: Header, file: usize, bounds: Bounds, mask: &[u8], k: usize) -> bool
+    requires { ⌜ (1 ≤ k) × (k ≤ 4096) × (h .networks ≤ 8) × (bounds ≡ boundsOf (h .networks) (h .edition)) × (512 * k + 512 ≤ length (now t)) × Before (now t) k
         × Mask (now mask) ⌝ }
     ensures { λ r. ⌜ r ≡ standsAt (now (t .entry)) h file k ⌝ }
 {
-    if subscriber::sound(block(t, k), k as u32, h, file, l, mask) {
+    if subscriber::sound(block(t, k), k as u32, h, file, bounds, mask) {
         rises(t, k)
     } else {
         false
@@ -100,13 +100,13 @@ fn standing(t: &[u8], h: Header, file: usize) -> Stood
         × Setless (now (t .entry)) (r .records) (r .setless) ⌝ }
 {
     let count = h.count as usize;
-    let l = subscriber::limits_of(h.networks, h.edition);
+    let bounds = Bounds::of(h.networks, h.edition);
     let mask = run::mask();
     let mut m = 0;
     let mut sets: u32 = 0;
     while m < count {
         sets = sets | set_after(t, m);
-        if stands(t, h, file, l, &mask, m + 1) {
+        if stands(t, h, file, bounds, &mask, m + 1) {
             m += 1;
         } else {
             return Stood {

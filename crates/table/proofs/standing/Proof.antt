@@ -14,12 +14,12 @@ use Rattle.table.proofs.standing.Statement.{statement}
 use Rattle.table.proofs.standing.Tie as tie
 
 abbrev Inv-loop : tie.InvT-loop
-Inv-loop t h file count l mask m₀ sets₀ m sets =
+Inv-loop t h file count bounds mask m₀ sets₀ m sets =
     (m ≤ h .count) × (leading (standsAt t h file) (h .count) 1 ≡ m + leading (standsAt t h file) (h .count - m) (m + 1)) × (eqb sets 0 ≡ allBelow (setless t) m)
     × Before t (m + 1) × Mask mask
 
 abbrev μ-loop : tie.MeasureT-loop
-μ-loop t h file count l mask m₀ sets₀ m sets = h .count - m
+μ-loop t h file count bounds mask m₀ sets₀ m sets = h .count - m
 
 loop-again : tie.Need-loop-again Inv-loop μ-loop
 loop-again c = (

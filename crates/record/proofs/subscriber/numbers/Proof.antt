@@ -1,4 +1,4 @@
-use Rattle.record.proofs.Limits.{numbers-tested}
+use Rattle.record.proofs.Bounded.{numbers-tested}
 use borrow.Author.Needs.{needs}
 use Rattle.record.proofs.subscriber.numbers.Statement.{statement}
 use Rattle.record.proofs.subscriber.numbers.Tie as tie

@@ -1,4 +1,4 @@
-use Rattle.record.proofs.Limits.{set-tested}
+use Rattle.record.proofs.Bounded.{set-tested}
 use borrow.Author.Needs.{needs}
 use Rattle.record.proofs.subscriber.set_sound.Statement.{statement}
 use Rattle.record.proofs.subscriber.set_sound.Tie as tie

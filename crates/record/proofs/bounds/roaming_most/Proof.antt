@@ -1,7 +1,7 @@
-use Rattle.record.proofs.Limits.{roaming-some, roaming-byte, roaming-ones}
+use Rattle.record.proofs.Bounded.{roaming-some, roaming-byte, roaming-ones}
 use borrow.Author.Needs.{needs}
-use Rattle.record.proofs.subscriber.roaming_most.Statement.{statement}
-use Rattle.record.proofs.subscriber.roaming_most.Tie as tie
+use Rattle.record.proofs.bounds.roaming_most.Statement.{statement}
+use Rattle.record.proofs.bounds.roaming_most.Tie as tie
 
 pub roaming-most-spec : {M : Type 1} → statement M
 roaming-most-spec =

@@ -15,11 +15,11 @@ use borrow.Author.Tests.{ne-eqb, eqb-true, eqb-false, lt-ltb, le-ltb, leb-true, 
 use Rattle.octets.specs.Number.{eight, be16At, le64At}
 use Rattle.octets.proofs.Numbers.{Bytes}
 use Rattle.octets.proofs.Within.{Byte, Whole, none, more, small, some, any, clear, past, nested, eight-nested, eight-clear}
-use Rattle.record.specs.Limits.{roamingHigh, noSets, limitsOf, withinLimits}
+use Rattle.record.specs.Bounds.{roamingHigh, noSets, boundsOf, withinLimits}
 use Rattle.record.specs.RecordBlock.{recordOf, soundRoaming}
 use Rattle.record.specs.RecordBytes.{setUnder}
 use Rattle.record.specs.declared.header.Header.{Header}
-use Rattle.record.specs.declared.subscriber.Limits.{Limits}
+use Rattle.record.specs.declared.bounds.Bounds.{Bounds}
 
 up-to : (a m : ℕ) → 0 < m → leb a (m - 1) ≡ ltb a m
 up-to a m h = go (leb a (m - 1)) refl
@@ -65,16 +65,16 @@ sets-some e f = rw f
 pub sets-none : (e : ℕ) → (e ≡ 2 → ⊥) → 65535 ≡ noSets e
 sets-none e d = rw (ne-eqb e 2 d)
 
-pub limits-made : (n e : ℕ) {roaming most a b c d : ℕ} → roaming ≡ roamingHigh n → most ≡ 2 ^ n - 1 → a ≡ eight 96 128 128 4 4 most 7 2
+pub bounds-made : (n e : ℕ) {roaming most a b c d : ℕ} → roaming ≡ roamingHigh n → most ≡ 2 ^ n - 1 → a ≡ eight 96 128 128 4 4 most 7 2
     → b ≡ eight 128 0 0 128 128 roaming 128 128 → c ≡ eight 128 128 128 128 128 roaming 128 128 → d ≡ noSets e
-    → record { most = a; plain = b; high = c; sets = d } ≡ limitsOf n e
-unfolding limitsOf
-limits-made n e er em ea eb ec ed = rw (ea, eb, ec, ed, er, em)
+    → record { most = a; plain = b; high = c; sets = d } ≡ boundsOf n e
+unfolding boundsOf
+bounds-made n e er em ea eb ec ed = rw (ea, eb, ec, ed, er, em)
 
 -- A set number under its bits: in the second edition none of them counts.
-pub set-tested : (b : List ℕ) (h : Header) (l : Limits) (n : ℕ) → l ≡ limitsOf (h .networks) (h .edition) → n ≡ be16At b 406 → n < 65536
+pub set-tested : (b : List ℕ) (h : Header) (l : Bounds) (n : ℕ) → l ≡ boundsOf (h .networks) (h .edition) → n ≡ be16At b 406 → n < 65536
     → eqb (bitAnd n (l .sets)) 0 ≡ setUnder (recordOf b) h
-unfolding limitsOf recordOf
+unfolding boundsOf recordOf
 set-tested b h l n el en f = rw (el, ← en) (go (eqb (h .edition) 2))
   where
     go : (x : Bool) → eqb (bitAnd n (cond x 0 65535)) 0 ≡ (eqb n 0 || x)
@@ -114,15 +114,15 @@ module _ (b : List ℕ) (byte : Bytes b) (n e : ℕ) (few : n ≤ 8) where
       (more (at-most 8 2 (lit< tt)) (more (at-most 9 7 (lit< tt)) (more (roaming (getD b 10 0) n (below 10) few) (more (at-most 11 4 (lit< tt))
       (more (at-most 12 4 (lit< tt)) (more (length-at 13) (more (length-at 14) (more (at-most 15 96 (lit< tt)) (none k)))))))))
 
-  tested-at : (left : ℕ) → (left + le64At b 8) % 2 ^ 64 ≡ limitsOf n e .most
-      → clear (le64At b 8) (limitsOf n e .plain) (limitsOf n e .high) left ≡ (withinLimits (recordOf b) && soundRoaming (recordOf b) n)
-  unfolding limitsOf le64At
+  tested-at : (left : ℕ) → (left + le64At b 8) % 2 ^ 64 ≡ boundsOf n e .most
+      → clear (le64At b 8) (boundsOf n e .plain) (boundsOf n e .high) left ≡ (withinLimits (recordOf b) && soundRoaming (recordOf b) n)
+  unfolding boundsOf le64At
   tested-at left is =
-      eight-clear (le64At b 8) (limitsOf n e .most) (limitsOf n e .plain) (limitsOf n e .high) left all-eight
+      eight-clear (le64At b 8) (boundsOf n e .most) (boundsOf n e .plain) (boundsOf n e .high) left all-eight
       (eight-nested (getD b 15 0) (getD b 14 0) (getD b 13 0) (getD b 12 0) (getD b 11 0) (getD b 10 0) (getD b 9 0) (getD b 8 0))
       (eight-nested 96 128 128 4 4 (2 ^ n - 1) 7 2) (eight-nested 128 0 0 128 128 (roamingHigh n) 128 128)
       (eight-nested 128 128 128 128 128 (roamingHigh n) 128 128) is
 
-  pub numbers-tested : (l : Limits) (x left : ℕ) → l ≡ limitsOf n e → x ≡ le64At b 8 → (left + x) % 2 ^ 64 ≡ l .most
+  pub numbers-tested : (l : Bounds) (x left : ℕ) → l ≡ boundsOf n e → x ≡ le64At b 8 → (left + x) % 2 ^ 64 ≡ l .most
       → clear x (l .plain) (l .high) left ≡ (withinLimits (recordOf b) && soundRoaming (recordOf b) n)
   numbers-tested l x left el ex is = rw (ex, el) (tested-at left (rw (ex, el) at is))

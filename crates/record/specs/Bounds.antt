@@ -3,7 +3,7 @@ use Prim.Native.Nat.{ℕ, _-_, _^_}
 use mathlib.Core.Bool.{Bool, _&&_, cond}
 use lib.Dec.{eqb, leb}
 use Rattle.octets.specs.Number.{eight}
-use Rattle.record.specs.declared.subscriber.Limits.{Limits}
+use Rattle.record.specs.declared.bounds.Bounds.{Bounds}
 use Rattle.record.specs.declared.subscriber.Record.{Record}
 
 -- the bit of the roaming byte that tells: none where there are eight networks, for then every roaming byte is right
@@ -15,8 +15,8 @@ abbrev pub noSets : ℕ → ℕ
 noSets edition = cond (eqb edition 2) 0 65535
 
 -- server length, private and public length, optional and mandatory count, roaming, bits, state
-unfoldable pub limitsOf : ℕ → ℕ → Limits
-limitsOf networks edition =
+unfoldable pub boundsOf : ℕ → ℕ → Bounds
+boundsOf networks edition =
     record {
       most = eight 96 128 128 4 4 (2 ^ networks - 1) 7 2;
       plain = eight 128 0 0 128 128 (roamingHigh networks) 128 128;
