@@ -7,6 +7,7 @@ ghost use lib.Dec.{eqb};
 ghost use lib.ListN.{length, replicate};
 ghost use Rattle.octets.specs.Run.{zeroBetween, Mask, putName, Wrote};
 
+// Where the ones of the mask begin: no part of a field that is asked under it is longer.
 const MIDDLE: usize = 64;
 
 // Whether the bytes from one place up to another are all zero. No early exit: the loop becomes vectors.
