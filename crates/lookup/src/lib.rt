@@ -1,7 +1,6 @@
 // Records found by their identities, a subscription's first server name, a visited network's number.
 use octets::name;
 use octets::name::Order;
-use octets::number;
 use record::fields;
 use record::header::Header;
 use record::networks;
@@ -11,8 +10,7 @@ ghost use mathlib.Core.Path.{_≡_};
 ghost use Prim.Native.Nat.{_+_, _*_, _/_, _%_, _^_, _≤_, _<_};
 ghost use lib.ListN.{length};
 ghost use lib.Dec.{eqb};
-ghost use Rattle.octets.specs.Name.{same};
-ghost use Rattle.record.specs.Fields.{networksOf, privateOf};
+ghost use Rattle.record.specs.Fields.{networksOf};
 ghost use Rattle.table.specs.Blocks.{blockOf};
 ghost use Rattle.table.specs.SoundTable.{SoundTable};
 ghost use Rattle.lookup.specs.Find.{isAt, findPublic, findPrivate, serverHere, findServer, freeHere, findFree, barredAlone};
@@ -66,22 +64,6 @@ pub fn find_public(t: &[u8], count: usize, name: &[u8]) -> Found
     Found::Nothing
 }
 
-// Whether a record has a private identity. Where the name has eight bytes its first eight are compared before the lengths: they stand in another part of the block,
-// and a scan over all records reads one part of each.
-fn has_private(b: &[u8], name: &[u8]) -> bool
-    requires { ⌜ length (now b) ≡ 512 ⌝ }
-    ensures { λ r. ⌜ r ≡ same (privateOf (now (b .entry))) (now (name .entry)) ⌝ }
-{
-    if name.len() < 8 {
-        return name::same(fields::private(b), name);
-    }
-    if number::be64(b, Record::PRIVATE_AT) == number::be64(name, 0) {
-        name::same(fields::private(b), name)
-    } else {
-        false
-    }
-}
-
 // The first record with a private identity.
 fn find_private(t: &[u8], count: usize, name: &[u8]) -> Found
     requires { ⌜ SoundTable (now t) count ⌝ }
@@ -89,7 +71,7 @@ fn find_private(t: &[u8], count: usize, name: &[u8]) -> Found
 {
     let mut k = 1;
     while k <= count {
-        if has_private(table::block(t, k), name) {
+        if name::same(fields::private(table::block(t, k)), name) {
             return Found::At(k as u32);
         }
         k += 1;
@@ -110,22 +92,22 @@ pub fn known_near(t: &[u8], count: usize, k: u32, name: &[u8]) -> bool
     requires { ⌜ SoundTable (now t) count × (1 ≤ k) × (k ≤ count) ⌝ }
     ensures { λ r. ⌜ r ≡ isAt (findPrivate (now (t .entry)) count (now (name .entry))) ⌝ }
 {
-    if has_private(table::block(t, k as usize), name) {
+    if name::same(fields::private(table::block(t, k as usize)), name) {
         return true;
     }
     known_private(t, count, name)
 }
 
-// Whether a record block belongs to a subscription and stores a server name.
+// Whether a record block belongs to a subscription and stores a server name. The private identity, further into the block, is read only where
+// there is one.
 fn serves(b: &[u8], name: &[u8]) -> bool
     requires { ⌜ length (now b) ≡ 512 ⌝ }
     ensures { λ r. ⌜ r ≡ serverHere (now (b .entry)) (now (name .entry)) ⌝ }
 {
-    if has_private(b, name) {
-        0 < b[Record::SERVER_LENGTH_AT]
-    } else {
-        false
+    if b[Record::SERVER_LENGTH_AT] == 0 {
+        return false;
     }
+    name::same(fields::private(b), name)
 }
 
 // The first record of a subscription that stores a server name.

@@ -30,6 +30,7 @@ find-private-spec =
     loop-holds
     (λ c κs. search needs)
     (λ c κs. search needs)
+    (λ c κs. search needs)
     (λ c. search needs)
     (λ c. search (needs, first-here, private-here))
     (λ c. search needs)

@@ -10,6 +10,7 @@ known-near-spec =
     (tie.spec
     (λ c κs. search (needs, sound-block))
     (λ c κs. search needs)
+    (λ c κs. search needs)
     (λ c. search (needs, private-known))
     (λ c κs. search needs)
     (λ c. search needs))

@@ -1,4 +1,4 @@
-use Rattle.lookup.proofs.Scans.{serves-some, serves-none}
+use Rattle.lookup.proofs.Scans.{serves-none, serves-some}
 use borrow.Author.Needs.{needs}
 use Rattle.lookup.proofs.serves.Statement.{statement}
 use Rattle.lookup.proofs.serves.Tie as tie
@@ -7,7 +7,8 @@ pub serves-spec : {M : Type 1} → statement M
 serves-spec =
     tie.close
     (tie.spec
-    (λ c κs. search needs)
     (λ c. search needs)
-    (λ c. search (needs, serves-some))
-    (λ c. search (needs, serves-none)))
+    (λ c. search (needs, serves-none))
+    (λ c κs. search needs)
+    (λ c κs. search needs)
+    (λ c. search (needs, serves-some)))
