@@ -2,6 +2,7 @@ pub mod All
 pub mod Chains
 pub mod Columns
 pub mod Eights
+pub mod Masks
 pub mod Names
 pub mod Numbers
 pub mod Orders
@@ -9,4 +10,5 @@ pub mod Padded
 pub mod Parts
 pub mod Runs
 pub mod Sums
+pub mod Within
 pub mod Writes

@@ -12,9 +12,10 @@ use lib.ListN.{length, getD, set, length-set, List·getD-eq-default}
 use lib.Seq.{getD-set-same, getD-set-other}
 use borrow.Author.Tests.{eq-eqb, ne-eqb, eqb-true, eqb-false, ltb-true, ltb-false}
 use Rattle.octets.specs.All.{allBelow}
-use Rattle.octets.specs.Number.{le32At}
+use Rattle.octets.specs.Number.{eight, le64At}
 use Rattle.octets.specs.Run.{zeros, zeroBetween, putName}
 use Rattle.octets.proofs.All.{all-at, all-true, all-alike, all-join}
+use Rattle.octets.proofs.Chains.{_also_}
 
 -- The turns of the loop that looks for zeros.
 pub zeros-none : (s : List ℕ) (from : ℕ) → true ≡ zeros s from (from - from)
@@ -52,19 +53,7 @@ zero-overlap s from middle end to h k l =
     once true false z = refl
     once true true z = refl
 
--- A field in two parts: its first n bytes end in the first part, or they go on in the second.
-module _ (s : List ℕ) (at n k to : ℕ) where
-  pub tail-first : {x y : Bool} → n ≤ k → at + k ≤ to → x ≡ zeroBetween s (at + n) (at + k) → x ≡ true → y ≡ zeroBetween s (at + k) to
-      → y ≡ zeroBetween s (at + n) to
-  tail-first a b e f g = rw (← zero-join s (at + n) (at + k) to (omega arith) b, ← e, f) g
-
-  pub tail-stained : {x : Bool} → n ≤ k → at + k ≤ to → x ≡ zeroBetween s (at + n) (at + k) → x ≡ false → false ≡ zeroBetween s (at + n) to
-  tail-stained a b e f = rw (← zero-join s (at + n) (at + k) to (omega arith) b, ← e, f)
-
-  pub tail-second : {x : Bool} → k < n → x ≡ zeroBetween s (at + k + (n - k)) to → x ≡ zeroBetween s (at + n) to
-  tail-second a e = let p : at + k + (n - k) ≡ at + n = omega arith in rw (← p) e
-
--- The turns of the loop over a field whose first n bytes do not count.
+-- Two numbers have no bit set exactly if neither has.
 pub or-zero : (a b : ℕ) → eqb (bitOr a b) 0 ≡ (eqb a 0 && eqb b 0)
 or-zero a b = go (eqb a 0) (eqb b 0) refl refl
   where
@@ -73,6 +62,7 @@ or-zero a b = go (eqb a 0) (eqb b 0) refl refl
     go false true e f = ne-eqb (bitOr a b) 0 (λ z. eqb-false a 0 e (omega (arith, or-add-and a b, and-le-r a b, eqb-true b 0 f)))
     go false false e f = ne-eqb (bitOr a b) 0 (λ z. eqb-false b 0 f (omega (arith, or-add-and a b, and-le-l a b)))
 
+-- The turns of the loop over a field whose first n bytes do not count.
 min-zero : (x y : ℕ) → 0 < y → eqb (min x y) 0 ≡ eqb x 0
 min-zero x y h = go (eqb x 0) refl
   where
@@ -104,47 +94,64 @@ pub tail-all : (s : List ℕ) (at n i to left : ℕ) → at ≤ to → i ≤ to 
 unfolding zeroBetween
 tail-all s at n i to left h a b e = let k : at + i ≡ to = omega arith in rw (← k) e
 
--- The turns of the loop over words: none has a bit set so far, one more, and all.
-word-zero : (s : List ℕ) (at : ℕ) → eqb (le32At s at) 0 ≡ zeros s at 4
-unfolding zeros le32At
-word-zero s at = go (eqb (le32At s at) 0) (zeros s at 4) refl refl
+-- Eight bytes make zero exactly if each is zero.
+pub eight-zero : (f : ℕ → ℕ) → eqb (eight (f 7) (f 6) (f 5) (f 4) (f 3) (f 2) (f 1) (f 0)) 0 ≡ allBelow (λ (j : ℕ). eqb (f j) 0) 8
+unfolding allBelow
+eight-zero f = go (eqb all 0) (allBelow each 8) refl refl
   where
-    byte : zeros s at 4 ≡ true → (j : ℕ) → j < 4 → getD s (at + j) 0 ≡ 0
-    byte f j h = eqb-true (getD s (at + j) 0) 0 (all-at (λ (i : ℕ). eqb (getD s (at + i) 0) 0) 4 f j h)
+    all : ℕ
+    all = eight (f 7) (f 6) (f 5) (f 4) (f 3) (f 2) (f 1) (f 0)
 
-    none : le32At s at ≡ 0 → (j : ℕ) → j < 4 → getD s (at + j) 0 ≡ 0
-    none e zero h = let k : at + 0 ≡ at = omega arith in rw k (omega arith)
-    none e (suc zero) h = omega arith
-    none e (suc (suc zero)) h = omega arith
-    none e (suc (suc (suc zero))) h = omega arith
-    none e (suc (suc (suc (suc j)))) h = absurd (omega arith)
+    each : ℕ → Bool
+    each j = eqb (f j) 0
 
-    go : (x y : Bool) → eqb (le32At s at) 0 ≡ x → zeros s at 4 ≡ y → eqb (le32At s at) 0 ≡ y
-    go true y e f =
-        e ∙ sym (all-true (λ (i : ℕ). eqb (getD s (at + i) 0) 0) 4 (λ j h. eq-eqb (getD s (at + j) 0) 0 (none (eqb-true _ _ e) j h))) ∙ f
-    go false false e f = e
-    go false true e f =
-        let k : at + 0 ≡ at = omega arith in
+    byte : allBelow each 8 ≡ true → (j : ℕ) → j < 8 → f j ≡ 0
+    byte e j h = eqb-true (f j) 0 (all-at each 8 e j h)
+
+    none : all ≡ 0 → allBelow each 8 ≡ true
+    none e =
+        refl also eq-eqb (f 0) 0 (omega arith) also eq-eqb (f 1) 0 (omega arith) also eq-eqb (f 2) 0 (omega arith) also eq-eqb (f 3) 0 (omega arith)
+        also eq-eqb (f 4) 0 (omega arith) also eq-eqb (f 5) 0 (omega arith) also eq-eqb (f 6) 0 (omega arith) also eq-eqb (f 7) 0 (omega arith)
+
+    go : (x y : Bool) → eqb all 0 ≡ x → allBelow each 8 ≡ y → eqb all 0 ≡ y
+    go true y e g = e ∙ sym (none (eqb-true _ _ e)) ∙ g
+    go false false e g = e
+    go false true e g =
         absurd
-        (eqb-false (le32At s at) 0 e
-        (omega (arith, rw k at (byte f 0 (omega arith)), byte f 1 (omega arith), byte f 2 (omega arith), byte f 3 (omega arith))))
+        (eqb-false all 0 e
+        (omega (
+          arith,
+          byte g 0 (omega arith),
+          byte g 1 (omega arith),
+          byte g 2 (omega arith),
+          byte g 3 (omega arith),
+          byte g 4 (omega arith),
+          byte g 5 (omega arith),
+          byte g 6 (omega arith),
+          byte g 7 (omega arith),
+        )))
+
+-- The turns of the loop over eights: none has a bit set so far, one more, and all.
+le-zero : (s : List ℕ) (at : ℕ) → eqb (le64At s at) 0 ≡ zeros s at 8
+unfolding zeros le64At
+le-zero s at = let k : at + 0 ≡ at = omega arith in rw k at (eight-zero (λ (j : ℕ). getD s (at + j) 0))
 
 module _ (s : List ℕ) (at : ℕ) where
-  pub set-none : eqb 0 0 ≡ zeros s at (4 * 0)
+  pub set-none : eqb 0 0 ≡ zeros s at (8 * 0)
   unfolding zeros allBelow
   set-none = refl
 
-  pub set-more : (i bits w : ℕ) → eqb bits 0 ≡ zeros s at (4 * i) → w ≡ le32At s (at + 4 * i) → eqb (bitOr bits w) 0 ≡ zeros s at (4 * (i + 1))
+  pub set-more : (i bits w : ℕ) → eqb bits 0 ≡ zeros s at (8 * i) → w ≡ le64At s (at + 8 * i) → eqb (bitOr bits w) 0 ≡ zeros s at (8 * (i + 1))
   unfolding zeros
   set-more i bits w e f =
-      let n : 4 * (i + 1) ≡ 4 * i + 4 = omega arith in
-      let j = all-join (λ (k : ℕ). eqb (getD s (at + k) 0) 0) (λ (k : ℕ). eqb (getD s (at + 4 * i + k) 0) 0) (4 * i)
-      (λ k. let p : at + 4 * i + k ≡ at + (4 * i + k) = omega arith in rw p) 4 in
-      rw (n, j, or-zero bits w, e, f, word-zero s (at + 4 * i))
+      let n : 8 * (i + 1) ≡ 8 * i + 8 = omega arith in
+      let j = all-join (λ (k : ℕ). eqb (getD s (at + k) 0) 0) (λ (k : ℕ). eqb (getD s (at + 8 * i + k) 0) 0) (8 * i)
+      (λ k. let p : at + 8 * i + k ≡ at + (8 * i + k) = omega arith in rw p) 8 in
+      rw (n, j, or-zero bits w, e, f, le-zero s (at + 8 * i))
 
-  pub set-all : (i n bits : ℕ) → i ≤ n → n ≤ i → eqb bits 0 ≡ zeros s at (4 * i) → eqb bits 0 ≡ zeroBetween s at (at + 4 * n)
+  pub set-all : (i n bits : ℕ) → i ≤ n → n ≤ i → eqb bits 0 ≡ zeros s at (8 * i) → eqb bits 0 ≡ zeroBetween s at (at + 8 * n)
   unfolding zeroBetween
-  set-all i n bits a b e = let k : at + 4 * n - at ≡ 4 * i = omega arith in rw k e
+  set-all i n bits a b e = let k : at + 8 * n - at ≡ 8 * i = omega arith in rw k e
 
 -- The turns of the loop that puts a name.
 pub name-none : (s : List ℕ) (at : ℕ) (name : List ℕ) → s ≡ putName s at name 0

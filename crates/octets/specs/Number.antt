@@ -30,9 +30,14 @@ be64At s at =
     eight (getD s at 0) (getD s (at + 1) 0) (getD s (at + 2) 0) (getD s (at + 3) 0) (getD s (at + 4) 0) (getD s (at + 5) 0) (getD s (at + 6) 0)
     (getD s (at + 7) 0)
 
--- the word at a place with its first byte the lowest
+-- the word at a place with its first byte the lowest, and eight bytes likewise
 unfoldable pub le32At : List ℕ → ℕ → ℕ
 le32At s at = four (getD s (at + 3) 0) (getD s (at + 2) 0) (getD s (at + 1) 0) (getD s at 0)
+
+unfoldable pub le64At : List ℕ → ℕ → ℕ
+le64At s at =
+    eight (getD s (at + 7) 0) (getD s (at + 6) 0) (getD s (at + 5) 0) (getD s (at + 4) 0) (getD s (at + 3) 0) (getD s (at + 2) 0) (getD s (at + 1) 0)
+    (getD s at 0)
 
 -- a number stored at a place
 unfoldable pub putBe24 : List ℕ → ℕ → ℕ → List ℕ

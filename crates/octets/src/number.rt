@@ -2,7 +2,7 @@
 ghost use mathlib.Core.Path.{_≡_};
 ghost use Prim.Native.Nat.{_+_, _≤_, _<_};
 ghost use lib.ListN.{length};
-ghost use Rattle.octets.specs.Number.{two, three, four, eight, be16At, be24At, be32At, be64At, le32At, putBe24, putBe32};
+ghost use Rattle.octets.specs.Number.{two, three, four, eight, be16At, be24At, be32At, be64At, le32At, le64At, putBe24, putBe32};
 
 // The bytes come as parameters, so that the sum's bound is known where it is made.
 fn of_two(a: u8, b: u8) -> u32
@@ -24,7 +24,7 @@ fn of_four(a: u8, b: u8, c: u8, d: u8) -> u32
 }
 
 // Eight bytes, the first the highest: what a comparison of bytes in their order compares.
-fn of_eight(a: u8, b: u8, c: u8, d: u8, e: u8, f: u8, g: u8, h: u8) -> usize
+pub fn of_eight(a: u8, b: u8, c: u8, d: u8, e: u8, f: u8, g: u8, h: u8) -> usize
     ensures { λ r. ⌜ r ≡ eight a b c d e f g h ⌝ }
 {
     (of_four(a, b, c, d) as usize) * 4294967296 + (of_four(e, f, g, h) as usize)
@@ -74,6 +74,23 @@ pub fn le32(s: &[u8], at: usize) -> u32
     ensures { λ r. ⌜ r ≡ le32At (now (s .entry)) at ⌝ }
 {
     of_four(s[at + 3], s[at + 2], s[at + 1], s[at])
+}
+
+// The same of eight bytes.
+pub fn le64(s: &[u8], at: usize) -> usize
+    requires { ⌜ at + 8 ≤ length (now s) ⌝ }
+    ensures { λ r. ⌜ r ≡ le64At (now (s .entry)) at ⌝ }
+{
+    of_eight(
+        s[at + 7],
+        s[at + 6],
+        s[at + 5],
+        s[at + 4],
+        s[at + 3],
+        s[at + 2],
+        s[at + 1],
+        s[at],
+    )
 }
 
 pub fn put_be24(s: &mut [u8], at: usize, n: usize)

@@ -5,7 +5,10 @@ ghost use mathlib.Core.List.{[]};
 ghost use Prim.Native.Nat.{_+_, _-_, _*_, _≤_, _<_, min};
 ghost use lib.Dec.{eqb};
 ghost use lib.ListN.{length, replicate};
-ghost use Rattle.octets.specs.Run.{zeroBetween, putName, Wrote};
+ghost use Rattle.octets.specs.Run.{zeroBetween, Mask, putName, Wrote};
+
+// Where the ones of the mask begin: no part of a field that is asked under it is longer.
+const MIDDLE: usize = 64;
 
 // Whether the bytes from one place up to another are all zero. No early exit: the loop becomes vectors.
 pub fn zero_between(s: &[u8], from: usize, to: usize) -> bool
@@ -19,16 +22,53 @@ pub fn zero_between(s: &[u8], from: usize, to: usize) -> bool
     clear
 }
 
-// The bits that are set in any of n words from a place on: none, where they are all zero. Several of these are one test.
-pub fn set_bits(s: &[u8], at: usize, n: usize) -> u32
-    requires { ⌜ at + 4 * n ≤ length (now s) ⌝ }
-    ensures { λ r. ⌜ eqb r 0 ≡ zeroBetween (now (s .entry)) at (at + 4 * n) ⌝ }
+// The bits that are set in any of n eights of bytes from a place on: none, where they are all zero. Several of these are one test.
+pub fn set_bits(s: &[u8], at: usize, n: usize) -> usize
+    requires { ⌜ at + 8 * n ≤ length (now s) ⌝ }
+    ensures { λ r. ⌜ eqb r 0 ≡ zeroBetween (now (s .entry)) at (at + 8 * n) ⌝ }
 {
-    let mut bits: u32 = 0;
+    let mut bits: usize = 0;
     for i in 0..n {
-        bits = bits | number::le32(s, at + 4 * i);
+        bits = bits | number::le64(s, at + 8 * i);
     }
     bits
+}
+
+// Zeros, and as many bytes whose bits are all set. A part of it that begins n bytes before the middle leaves out the first n bytes of a field.
+pub fn mask() -> [u8; 128]
+    ensures { λ r. ⌜ Mask r ⌝ }
+{
+    let mut m = [0u8; 128];
+    for i in MIDDLE..128 {
+        m[i] = 255;
+    }
+    m
+}
+
+// The bits that are set in a field of n eights, at most 64 bytes, past its first bytes.
+pub fn set_past(s: &[u8], at: usize, n: usize, first: usize, mask: &[u8]) -> usize
+    requires { ⌜ (at + 8 * n ≤ length (now s)) × (n ≤ 8) × (first ≤ 64) × Mask (now mask) ⌝ }
+    ensures { λ r. ⌜ eqb r 0 ≡ zeroBetween (now (s .entry)) (at + first) (at + 8 * n) ⌝ }
+{
+    let from = MIDDLE - first;
+    let mut bits: usize = 0;
+    for i in 0..n {
+        bits = bits | (number::le64(s, at + 8 * i) & number::le64(mask, from + 8 * i));
+    }
+    bits
+}
+
+// The same of a field of 64 to 128 bytes, in fewer steps: past a short name its later part is zeros alone, and of a long name its first part says
+// nothing.
+pub fn set_past_long(s: &[u8], at: usize, n: usize, first: usize, mask: &[u8]) -> usize
+    requires { ⌜ (at + 8 * n ≤ length (now s)) × (8 ≤ n) × (n ≤ 16) × (first ≤ 128) × Mask (now mask) ⌝ }
+    ensures { λ r. ⌜ eqb r 0 ≡ zeroBetween (now (s .entry)) (at + first) (at + 8 * n) ⌝ }
+{
+    if first <= MIDDLE {
+        set_past(s, at, 8, first, mask) | set_bits(s, at + MIDDLE, n - 8)
+    } else {
+        set_past(s, at + MIDDLE, n - 8, first - MIDDLE, mask)
+    }
 }
 
 // The smaller of two bytes.
@@ -56,24 +96,6 @@ pub fn zero_tail(s: &[u8], at: usize, to: usize, n: u8) -> bool
         left = left | lesser(s[at + i], beyond((i + 1) as u8, n));
     }
     left == 0
-}
-
-// The same of a field longer than 64 bytes, in fewer steps: past a short name its later part is zeros alone, and of a long name its first
-// part says nothing.
-pub fn zero_long_tail(s: &[u8], at: usize, to: usize, n: u8) -> bool
-    requires { ⌜ (at + 64 ≤ to) × (to ≤ length (now s)) × (to < at + 256) ⌝ }
-    ensures { λ r. ⌜ r ≡ zeroBetween (now (s .entry)) (at + n) to ⌝ }
-{
-    let middle = at + 64;
-    if n <= 64 {
-        if zero_tail(s, at, middle, n) {
-            zero_between(s, middle, to)
-        } else {
-            false
-        }
-    } else {
-        zero_tail(s, middle, to, n - 64)
-    }
 }
 
 // Puts a name at a place.

@@ -1,3 +1,4 @@
+pub mod Bounded
 pub mod Heads
 pub mod OneSet
 pub mod Places

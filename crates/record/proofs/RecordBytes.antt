@@ -1,20 +1,21 @@
 -- The bytes of a record block: what is left out of its sum is zero, or the block is unsound.
 use Prim.Native.Nat.{ℕ, _+_, _-_, _*_, _≤_, _<_, max}
-use mathlib.Core.Bool.{Bool, true, false, _&&_, and-true, and-false, and-assoc}
+use mathlib.Core.Bool.{Bool, true, false, _&&_, and-false, and-assoc}
 use mathlib.Core.Path.{_≡_, refl, _∙_}
 use mathlib.Core.List.{List, [], _∷_}
 use native.Mathlib.Omega.{arith}
-use lib.Bits.{bitOr}
+use lib.Bits.{bitOr, or-comm}
 use lib.Dec.{eqb, leb}
-use borrow.Author.Tests.{leb-true}
+use borrow.Author.Tests.{leb-true, eq-eqb, ne-eqb}
 use Rattle.octets.specs.Run.{zeroBetween}
 use Rattle.octets.specs.Sum.{sumWords, columnsOf, joined, totalOf, endsSum}
 use Rattle.octets.specs.declared.sum.Sums.{Sums}
+use Rattle.octets.proofs.All.{and-right}
 use Rattle.octets.proofs.Chains.{chain-says}
 use Rattle.octets.proofs.Columns.{column, column-join, column-skip, columns-held, joined-held, total-sum, ends-sum}
 use Rattle.octets.proofs.Numbers.{Bytes}
-use Rattle.octets.proofs.Runs.{or-zero}
-use Rattle.record.specs.RecordBytes.{NamesWithin, pastNames, pastRest, soundBytes, namesOf, othersOf, usedSum}
+use Rattle.octets.proofs.Runs.{or-zero, zero-join}
+use Rattle.record.specs.RecordBytes.{NamesWithin, pastNames, pastOthers, pastRest, soundBytes, namesOf, othersOf, usedSum}
 use Rattle.record.specs.declared.subscriber.Record.{Record}
 use Rattle.record.proofs.Windows.{short-tail, medium-tail}
 
@@ -60,7 +61,7 @@ module _ (b : List ℕ) (r : Record) where
         column-past b k (36 + n) 68 (144 + r .private) 272 (s 1) (omega arith) (omega arith) (omega arith) in
         let past-server : column b k 92 ≡ column b k (68 + n) =
         column-past b k (68 + n) 92 (272 + r .server) 368 (s 2) (omega arith) (omega arith) (omega arith) in
-        let past-last : column b k 127 ≡ column b k 104 = column-past b k 104 127 416 508 (s 5) (omega arith) (omega arith) (omega arith) in
+        let past-last : column b k 127 ≡ column b k 104 = column-past b k 104 127 412 508 (s 5) (omega arith) (omega arith) (omega arith) in
         let with-private : column b k (36 + n) ≡ column b k 36 + column b (k + 4 * 36) n = column-join b k 36 n in
         let with-server : column b k (68 + n) ≡ column b k 68 + column b (k + 4 * 68) n = column-join b k 68 n in
         let with-others : column b k 104 ≡ column b k 92 + column b (k + 4 * 92) 12 = column-join b k 92 12 in
@@ -84,23 +85,13 @@ module _ (b : List ℕ) (r : Record) where
       go true z = rw (f, g z)
       go false z = rw (f, z) (simp and-false)
 
-  pub used-bytes : (n m : ℕ) (x : Bool) → Bytes b → m ≡ usedSum b n → leb n 24 ≡ true → NamesWithin r (4 * n) → x ≡ pastRest b r
-      → (eqb m 0 && x) ≡ soundBytes b r
-  used-bytes n m x h e room names f = sum-serves m x f (λ z. e ∙ used-sum n (leb-true n 24 room) names h z)
-
-  -- Where a name is long only the words past the last named byte are left out.
-  pub long-bytes : (m : ℕ) (x : Bool) → Bytes b → m ≡ endsSum b 104 → x ≡ pastRest b r → (eqb m 0 && x) ≡ soundBytes b r
-  long-bytes m x h e f =
-      sum-serves m x f
-      (λ z. e ∙ ends-sum b 104 h (omega arith) (chain-says (zeroBetween b (16 + r .public) 144) (_ ∷ _ ∷ _ ∷ _ ∷ _ ∷ []) z 5))
-
-  -- The bits that are set past the names and past the last named byte.
-  pub past-short : (c d e f g i j : ℕ) → NamesWithin r 32 → eqb c 0 ≡ zeroBetween b (16 + r .public) (16 + r .public + 32) → eqb d 0 ≡ zeroBetween b 48 144
+  -- The bits that are set past the names.
+  pub past-short : (c d e f g i : ℕ) → NamesWithin r 32 → eqb c 0 ≡ zeroBetween b (16 + r .public) (16 + r .public + 32) → eqb d 0 ≡ zeroBetween b 48 144
       → eqb e 0 ≡ zeroBetween b (144 + r .private) (144 + r .private + 32) → eqb f 0 ≡ zeroBetween b 176 272
-      → eqb g 0 ≡ zeroBetween b (272 + r .server) (272 + r .server + 32) → eqb i 0 ≡ zeroBetween b 304 368 → eqb j 0 ≡ zeroBetween b 416 508
-      → eqb (bitOr (bitOr (bitOr (bitOr (bitOr (bitOr c d) e) f) g) i) j) 0 ≡ pastNames b r
+      → eqb g 0 ≡ zeroBetween b (272 + r .server) (272 + r .server + 32) → eqb i 0 ≡ zeroBetween b 304 368
+      → eqb (bitOr (bitOr (bitOr (bitOr (bitOr c d) e) f) g) i) 0 ≡ pastNames b r
   unfolding pastNames
-  past-short c d e f g i j names ec ed ee ef eg ei ej =
+  past-short c d e f g i names ec ed ee ef eg ei =
       simp or-zero
       (rw (
         ← short-tail b 16 (r .public) 144 (names .public) (omega arith),
@@ -112,18 +103,16 @@ module _ (b : List ℕ) (r : Record) where
         ← ef,
         ← eg,
         ← ei,
-        ← ej,
       )
       (simp and-assoc))
 
-  pub past-medium : (p q s : ℕ) (c d e f g i j k l m : ℕ) → NamesWithin r 64 → p ≡ max (r .public) 32 → q ≡ max (r .private) 32 → s ≡ max (r .server) 32
+  pub past-medium : (p q s : ℕ) (c d e f g i j k l : ℕ) → NamesWithin r 64 → p ≡ max (r .public) 32 → q ≡ max (r .private) 32 → s ≡ max (r .server) 32
       → eqb c 0 ≡ zeroBetween b (16 + r .public) (16 + r .public + 32) → eqb d 0 ≡ zeroBetween b (16 + p) (16 + p + 32) → eqb e 0 ≡ zeroBetween b 80 144
       → eqb f 0 ≡ zeroBetween b (144 + r .private) (144 + r .private + 32) → eqb g 0 ≡ zeroBetween b (144 + q) (144 + q + 32) → eqb i 0 ≡ zeroBetween b 208 272
       → eqb j 0 ≡ zeroBetween b (272 + r .server) (272 + r .server + 32) → eqb k 0 ≡ zeroBetween b (272 + s) (272 + s + 32) → eqb l 0 ≡ zeroBetween b 336 368
-      → eqb m 0 ≡ zeroBetween b 416 508
-      → eqb (bitOr (bitOr (bitOr (bitOr (bitOr (bitOr (bitOr (bitOr (bitOr c d) e) f) g) i) j) k) l) m) 0 ≡ pastNames b r
+      → eqb (bitOr (bitOr (bitOr (bitOr (bitOr (bitOr (bitOr (bitOr c d) e) f) g) i) j) k) l) 0 ≡ pastNames b r
   unfolding pastNames
-  past-medium p q s c d e f g i j k l m names ep eq es ec ed ee ef eg ei ej ek el em =
+  past-medium p q s c d e f g i j k l names ep eq es ec ed ee ef eg ei ej ek el =
       simp or-zero
       (rw (
         ← medium-tail b 16 (r .public) 144 p ep (names .public) (omega arith),
@@ -138,19 +127,44 @@ module _ (b : List ℕ) (r : Record) where
         ← ej,
         ← ek,
         ← el,
-        ← em,
       )
       (simp and-assoc))
 
-  -- All that is to be zero but for what stands in the head's words.
-  pub rest-names : (n : ℕ) (m o : Bool) → eqb n 0 ≡ pastNames b r → m ≡ zeroBetween b (368 + 4 * r .mandatory) 384
-      → o ≡ zeroBetween b (384 + 4 * r .optional) 400 → (eqb n 0 && m && o) ≡ pastRest b r
+  pub past-long : (c d e : ℕ) → eqb c 0 ≡ zeroBetween b (16 + r .public) 144 → eqb d 0 ≡ zeroBetween b (144 + r .private) 272
+      → eqb e 0 ≡ zeroBetween b (272 + r .server) 368 → eqb (bitOr (bitOr c d) e) 0 ≡ pastNames b r
   unfolding pastNames
-  rest-names n m o en em eo =
-      rw (en, em, eo)
-      (ordered (zeroBetween b (16 + r .public) 144) (zeroBetween b (144 + r .private) 272) (zeroBetween b (272 + r .server) 368) (zeroBetween b 416 508)
-      (zeroBetween b (368 + 4 * r .mandatory) 384) (zeroBetween b (384 + 4 * r .optional) 400))
-    where
-      ordered : (p q s z m o : Bool) → (p && q && s && z && m && o) ≡ (p && q && s && m && o && z)
-      ordered p q s true m o = simp and-true
-      ordered p q s false m o = simp and-false
+  past-long c d e ec ed ee = simp or-zero (rw (ec, ed, ee))
+
+  -- Those past the capabilities and past the last named byte, and all of them together.
+  pub past-others : (c d e : ℕ) → eqb c 0 ≡ zeroBetween b (368 + 4 * r .mandatory) 384 → eqb d 0 ≡ zeroBetween b (384 + 4 * r .optional) 400
+      → eqb e 0 ≡ zeroBetween b 412 508 → eqb (bitOr (bitOr c d) e) 0 ≡ pastOthers b r
+  unfolding pastOthers
+  past-others c d e ec ed ee = simp or-zero (rw (ec, ed, ee))
+
+  past-rest : (c d : ℕ) → eqb c 0 ≡ pastOthers b r → eqb d 0 ≡ pastNames b r → eqb (bitOr c d) 0 ≡ pastRest b r
+  unfolding pastNames pastOthers
+  past-rest c d ec ed = rw (or-comm c d, or-zero d c, ec, ed) (simp and-assoc)
+
+  module _ (n m : ℕ) (h : Bytes b) (e : m ≡ usedSum b n) (room : leb n 24 ≡ true) (names : NamesWithin r (4 * n)) where
+    pub used-bytes : (c d : ℕ) → eqb c 0 ≡ pastOthers b r → eqb d 0 ≡ pastNames b r → (eqb m 0 && eqb (bitOr c d) 0) ≡ soundBytes b r
+    used-bytes c d ec ed = sum-serves m _ (past-rest c d ec ed) (λ z. e ∙ used-sum n (leb-true n 24 room) names h z)
+
+    pub used-right : (c d : ℕ) → m ≡ 0 → eqb c 0 ≡ pastOthers b r → eqb d 0 ≡ pastNames b r → eqb (bitOr c d) 0 ≡ soundBytes b r
+    used-right c d z ec ed = rw (eq-eqb m 0 z) at (used-bytes c d ec ed)
+
+    pub used-wrong : (m ≡ 0 → ⊥) → false ≡ soundBytes b r
+    used-wrong d = rw (ne-eqb m 0 d) at (sum-serves m (pastRest b r) refl (λ z. e ∙ used-sum n (leb-true n 24 room) names h z))
+
+  last-zero : zeroBetween b 412 508 ≡ true → zeroBetween b 416 508 ≡ true
+  last-zero e = and-right (zeroBetween b 412 416) (zeroBetween b 416 508) (zero-join b 412 416 508 (omega arith) (omega arith) ∙ e)
+
+  -- Where a name is long only the words past the last named byte are left out.
+  module _ (m : ℕ) (h : Bytes b) (e : m ≡ endsSum b 104) where
+    ends-serve : pastRest b r ≡ true → m ≡ sumWords b 128
+    ends-serve z = e ∙ ends-sum b 104 h (omega arith) (last-zero (chain-says (zeroBetween b (16 + r .public) 144) (_ ∷ _ ∷ _ ∷ _ ∷ _ ∷ []) z 5))
+
+    pub long-right : (c d : ℕ) → m ≡ 0 → eqb c 0 ≡ pastOthers b r → eqb d 0 ≡ pastNames b r → eqb (bitOr c d) 0 ≡ soundBytes b r
+    long-right c d z ec ed = rw (eq-eqb m 0 z) at (sum-serves m _ (past-rest c d ec ed) ends-serve)
+
+    pub long-wrong : (m ≡ 0 → ⊥) → false ≡ soundBytes b r
+    long-wrong d = rw (ne-eqb m 0 d) at (sum-serves m (pastRest b r) refl ends-serve)

@@ -17,23 +17,25 @@ pub record NamesWithin (r : Record) (most : ℕ) : Type 0 where
   pub private : r .private ≤ most
   pub server : r .server ≤ most
 
--- the head, with the bytes not named that stand in its words
+-- the head, with the bytes not named that stand in its first word
 unfoldable pub headed : List ℕ → ℕ → Header → Bool
-headed b k h = isRecord (recordOf b) k h && zeroBetween b 2 4 && zeroBetween b 412 416
+headed b k h = isRecord (recordOf b) k h && zeroBetween b 2 4
 
 -- a set number in its edition, by the header's, which is the record's where the head is right
 abbrev pub setUnder : Record → Header → Bool
 setUnder r h = eqb (r .set) 0 || eqb (h .edition) 2
 
--- what is zero past the names and past the head's last word; with the capabilities, all that is left to be zero
+-- what is zero past the names; what is past the capabilities and past the last named byte; both
 unfoldable pub pastNames : List ℕ → Record → Bool
-pastNames b r =
-    zeroBetween b (16 + r .public) 144 && zeroBetween b (144 + r .private) 272 && zeroBetween b (272 + r .server) 368 && zeroBetween b 416 508
+pastNames b r = zeroBetween b (16 + r .public) 144 && zeroBetween b (144 + r .private) 272 && zeroBetween b (272 + r .server) 368
+
+unfoldable pub pastOthers : List ℕ → Record → Bool
+pastOthers b r = zeroBetween b (368 + 4 * r .mandatory) 384 && zeroBetween b (384 + 4 * r .optional) 400 && zeroBetween b 412 508
 
 abbrev pub pastRest : List ℕ → Record → Bool
 pastRest b r =
     zeroBetween b (16 + r .public) 144 && zeroBetween b (144 + r .private) 272 && zeroBetween b (272 + r .server) 368
-    && zeroBetween b (368 + 4 * r .mandatory) 384 && zeroBetween b (384 + 4 * r .optional) 400 && zeroBetween b 416 508
+    && zeroBetween b (368 + 4 * r .mandatory) 384 && zeroBetween b (384 + 4 * r .optional) 400 && zeroBetween b 412 508
 
 unfoldable pub soundBytes : List ℕ → Record → Bool
 soundBytes b r = eqb (sumWords b 128) 0 && pastRest b r

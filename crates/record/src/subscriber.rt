@@ -1,4 +1,5 @@
 // A record block: one public identity of a subscriber.
+use crate::bounds::Bounds;
 use crate::header::Header;
 use octets::number;
 use octets::run;
@@ -6,11 +7,14 @@ use octets::sum;
 use octets::sum::Sums;
 ghost use mathlib.Core.Path.{_≡_};
 ghost use Prim.Native.Nat.{_≤_, max};
+ghost use mathlib.Core.Bool.{_&&_};
 ghost use lib.Dec.{eqb};
 ghost use lib.ListN.{length};
+ghost use Rattle.octets.specs.Run.{Mask};
 ghost use Rattle.record.specs.Fields.{pending, barred, unregisteredServices, cleared, pendingSet};
-ghost use Rattle.record.specs.RecordBlock.{recordOf, soundLimits, soundServer, soundRoaming, soundProfile, soundRecord};
-ghost use Rattle.record.specs.RecordBytes.{NamesWithin, headed, setUnder, pastNames, pastRest, soundBytes, namesOf, othersOf, usedSum};
+ghost use Rattle.record.specs.Bounds.{boundsOf, withinLimits};
+ghost use Rattle.record.specs.RecordBlock.{recordOf, soundServer, soundRoaming, soundProfile, soundRecord};
+ghost use Rattle.record.specs.RecordBytes.{NamesWithin, headed, setUnder, pastNames, pastOthers, soundBytes, namesOf, othersOf, usedSum};
 
 // The numbers of a record block. Its names stay in the table.
 pub struct Record {
@@ -158,55 +162,50 @@ impl Record {
     }
 }
 
-// The kind, the edition and the block's number, with the blank bytes between them; the issue number with the four blank bytes behind it: whole words,
-// so that each takes one comparison.
+// What the length of a server name counts in the eight bytes from the state on, 2^56.
+const SERVER: usize = 72057594037927936;
+
+// What the kind and the edition count in the first eight bytes, 2^48.
+const HEAD: usize = 281474976710656;
+
+// The kind, the edition and the block's number, with the blank bytes between them, as one number; the issue number.
 fn is_headed(b: &[u8], k: u32, h: Header) -> bool
     requires { ⌜ length (now b) ≡ 512 ⌝ }
     ensures { λ x. ⌜ x ≡ headed (now (b .entry)) k h ⌝ }
 {
-    (number::be32(b, Record::KIND_AT)
-        == (Record::KIND as u32) * 16777216 + (h.edition as u32) * 65536)
-        & (number::be32(b, Record::NUMBER_AT) == k)
-        & (number::be64(b, Record::ISSUE_AT) == (h.issue as usize) * 4294967296)
+    (number::be64(b, Record::KIND_AT)
+        == ((Record::KIND as usize) * 256 + (h.edition as usize)) * HEAD + (k as usize))
+        & (number::be32(b, Record::ISSUE_AT) == h.issue)
 }
 
 // No set number in the first edition, which is the header's here: the record's is not read by itself a second time.
-fn set_sound(r: Record, h: Header) -> bool
-    ensures { λ x. ⌜ x ≡ setUnder r h ⌝ }
+fn set_sound(b: &[u8], h: Header, bounds: Bounds) -> bool
+    requires { ⌜ (length (now b) ≡ 512) × (bounds ≡ boundsOf (h .networks) (h .edition)) ⌝ }
+    ensures { λ x. ⌜ x ≡ setUnder (recordOf (now (b .entry))) h ⌝ }
 {
-    (r.set == 0) | (h.edition == Header::SECOND_EDITION)
+    (number::be16(b, Record::SET_AT) & bounds.sets) == 0
 }
 
-// Each number within its limits.
-fn limits(r: Record) -> bool
-    ensures { λ x. ⌜ x ≡ soundLimits r ⌝ }
+// Each of the eight numbers within its limits, and no roaming bit past the last network: one subtraction for all. The lowest byte past its limit shows in its
+// own highest bit or in its difference's; what it borrows changes only bytes above it, and the record is refused already.
+fn numbers(b: &[u8], h: Header, bounds: Bounds) -> bool
+    requires { ⌜ (length (now b) ≡ 512) × (h .networks ≤ 8) × (bounds ≡ boundsOf (h .networks) (h .edition)) ⌝ }
+    ensures { λ x. ⌜ x ≡ (withinLimits (recordOf (now (b .entry))) && soundRoaming (recordOf (now (b .entry))) (h .networks)) ⌝ }
 {
-    (r.state <= Record::MOST_STATE)
-        & (r.bits <= Record::MOST_BITS)
-        & (r.mandatory <= Record::MOST_CAPABILITIES)
-        & (r.optional <= Record::MOST_CAPABILITIES)
-        & (1 <= r.public)
-        & (r.public <= Record::MOST_IDENTITY)
-        & (1 <= r.private)
-        & (r.private <= Record::MOST_IDENTITY)
-        & (r.server <= Record::MOST_SERVER)
-        & (r.size <= Record::MOST_PROFILE)
+    let x = number::le64(b, Record::STATE_AT);
+    let left = std::num::wrapping_sub_usize(bounds.most, x);
+    (((x & bounds.plain) | left) & bounds.high) == 0
 }
 
-// "State 1 or 2 needs a server name; state 0 has one exactly if pending is set."
-fn server_sound(r: Record) -> bool
-    ensures { λ x. ⌜ x ≡ soundServer r ⌝ }
+// "State 1 or 2 needs a server name; state 0 has one exactly if pending is set": of the same eight bytes, the state and the lowest of the bits are 0 exactly
+// if the highest, the name's length, is.
+fn server_sound(b: &[u8]) -> bool
+    requires { ⌜ length (now b) ≡ 512 ⌝ }
+    ensures { λ x. ⌜ x ≡ soundServer (recordOf (now (b .entry))) ⌝ }
 {
-    let pending = r.pending();
-    (r.server == 0) & ((r.state == 0) & !pending) | (0 < r.server) & ((0 < r.state) | pending)
-}
-
-// No roaming bit past the last network.
-fn roams(r: Record, networks: u32) -> bool
-    requires { ⌜ networks ≤ 8 ⌝ }
-    ensures { λ x. ⌜ x ≡ soundRoaming r networks ⌝ }
-{
-    (r.roaming as u32) < (1u32 << networks)
+    let x = number::le64(b, Record::STATE_AT);
+    let idle = x % 512 == 0;
+    if x < SERVER { idle } else { !idle }
 }
 
 // The profile within the profile file.
@@ -214,29 +213,6 @@ fn within(r: Record, file: usize) -> bool
     ensures { λ x. ⌜ x ≡ soundProfile r file ⌝ }
 {
     (r.start as usize) + (r.size as usize) <= file
-}
-
-// The tails of the names and of the capabilities, whose counts are within their limits, and the bytes not named that stand in no word of the head.
-fn rest(b: &[u8], r: Record) -> bool
-    requires { ⌜ (length (now b) ≡ 512) × (r .mandatory ≤ 4) × (r .optional ≤ 4) ⌝ }
-    ensures { λ x. ⌜ x ≡ pastRest (now (b .entry)) r ⌝ }
-{
-    run::zero_long_tail(b, Record::PUBLIC_AT, Record::PRIVATE_AT, r.public)
-        & run::zero_long_tail(b, Record::PRIVATE_AT, Record::SERVER_AT, r.private)
-        & run::zero_long_tail(b, Record::SERVER_AT, Record::MANDATORY_AT, r.server)
-        & run::zero_tail(
-            b,
-            Record::MANDATORY_AT,
-            Record::OPTIONAL_AT,
-            4 * r.mandatory,
-        )
-        & run::zero_tail(
-            b,
-            Record::OPTIONAL_AT,
-            Record::PROFILE_START_AT,
-            4 * r.optional,
-        )
-        & (run::set_bits(b, Record::REST_AT + 4, 23) == 0)
 }
 
 // The words of a block whose names are short, or medium, but for those that its check finds zero: up to the end of each name, and from the
@@ -290,18 +266,17 @@ fn medium_sum(b: &[u8]) -> u32
     sum::total(sum::both(medium_names(b), others(b)))
 }
 
-// The bits that are set past short names and past the last named byte.
-fn short_past(b: &[u8], r: Record) -> u32
+// The bits that are set past short names.
+fn short_past(b: &[u8], r: Record) -> usize
     requires { ⌜ (length (now b) ≡ 512) × NamesWithin r 32 ⌝ }
     ensures { λ x. ⌜ eqb x 0 ≡ pastNames (now (b .entry)) r ⌝ }
 {
-    run::set_bits(b, Record::PUBLIC_AT + r.public as usize, 8)
-        | run::set_bits(b, Record::PUBLIC_AT + 32, 24)
-        | run::set_bits(b, Record::PRIVATE_AT + r.private as usize, 8)
-        | run::set_bits(b, Record::PRIVATE_AT + 32, 24)
-        | run::set_bits(b, Record::SERVER_AT + r.server as usize, 8)
-        | run::set_bits(b, Record::SERVER_AT + 32, 16)
-        | run::set_bits(b, Record::REST_AT + 4, 23)
+    run::set_bits(b, Record::PUBLIC_AT + r.public as usize, 4)
+        | run::set_bits(b, Record::PUBLIC_AT + 32, 12)
+        | run::set_bits(b, Record::PRIVATE_AT + r.private as usize, 4)
+        | run::set_bits(b, Record::PRIVATE_AT + 32, 12)
+        | run::set_bits(b, Record::SERVER_AT + r.server as usize, 4)
+        | run::set_bits(b, Record::SERVER_AT + 32, 8)
 }
 
 // The larger of two lengths.
@@ -312,112 +287,108 @@ fn larger(m: usize, n: usize) -> usize
 }
 
 // The same past medium names: the 32 bytes past the end of a name may end before its 64th, and 32 more from its 32nd on reach it.
-fn medium_past(b: &[u8], r: Record) -> u32
+fn medium_past(b: &[u8], r: Record) -> usize
     requires { ⌜ (length (now b) ≡ 512) × NamesWithin r 64 ⌝ }
     ensures { λ x. ⌜ eqb x 0 ≡ pastNames (now (b .entry)) r ⌝ }
 {
     let public = r.public as usize;
     let private = r.private as usize;
     let server = r.server as usize;
-    run::set_bits(b, Record::PUBLIC_AT + public, 8)
-        | run::set_bits(b, Record::PUBLIC_AT + larger(public, 32), 8)
-        | run::set_bits(b, Record::PUBLIC_AT + 64, 16)
-        | run::set_bits(b, Record::PRIVATE_AT + private, 8)
-        | run::set_bits(b, Record::PRIVATE_AT + larger(private, 32), 8)
-        | run::set_bits(b, Record::PRIVATE_AT + 64, 16)
-        | run::set_bits(b, Record::SERVER_AT + server, 8)
-        | run::set_bits(b, Record::SERVER_AT + larger(server, 32), 8)
-        | run::set_bits(b, Record::SERVER_AT + 64, 8)
-        | run::set_bits(b, Record::REST_AT + 4, 23)
+    run::set_bits(b, Record::PUBLIC_AT + public, 4)
+        | run::set_bits(b, Record::PUBLIC_AT + larger(public, 32), 4)
+        | run::set_bits(b, Record::PUBLIC_AT + 64, 8)
+        | run::set_bits(b, Record::PRIVATE_AT + private, 4)
+        | run::set_bits(b, Record::PRIVATE_AT + larger(private, 32), 4)
+        | run::set_bits(b, Record::PRIVATE_AT + 64, 8)
+        | run::set_bits(b, Record::SERVER_AT + server, 4)
+        | run::set_bits(b, Record::SERVER_AT + larger(server, 32), 4)
+        | run::set_bits(b, Record::SERVER_AT + 64, 4)
 }
 
-// What `rest` asks, where the names are short; where they are medium.
-fn short_rest(b: &[u8], r: Record) -> bool
-    requires { ⌜ (length (now b) ≡ 512) × (r .mandatory ≤ 4) × (r .optional ≤ 4) × NamesWithin r 32 ⌝ }
-    ensures { λ x. ⌜ x ≡ pastRest (now (b .entry)) r ⌝ }
+// The same past any names.
+fn long_past(b: &[u8], r: Record, mask: &[u8]) -> usize
+    requires { ⌜ (length (now b) ≡ 512) × NamesWithin r 128 × Mask (now mask) ⌝ }
+    ensures { λ x. ⌜ eqb x 0 ≡ pastNames (now (b .entry)) r ⌝ }
 {
-    (short_past(b, r) == 0)
-        & run::zero_tail(
-            b,
-            Record::MANDATORY_AT,
-            Record::OPTIONAL_AT,
-            4 * r.mandatory,
-        )
-        & run::zero_tail(
-            b,
-            Record::OPTIONAL_AT,
-            Record::PROFILE_START_AT,
-            4 * r.optional,
-        )
+    run::set_past_long(b, Record::PUBLIC_AT, 16, r.public as usize, mask)
+        | run::set_past_long(b, Record::PRIVATE_AT, 16, r.private as usize, mask)
+        | run::set_past_long(b, Record::SERVER_AT, 12, r.server as usize, mask)
 }
 
-fn medium_rest(b: &[u8], r: Record) -> bool
-    requires { ⌜ (length (now b) ≡ 512) × (r .mandatory ≤ 4) × (r .optional ≤ 4) × NamesWithin r 64 ⌝ }
-    ensures { λ x. ⌜ x ≡ pastRest (now (b .entry)) r ⌝ }
+// The bits that are set past the capabilities and past the last named byte.
+fn others_past(b: &[u8], r: Record, mask: &[u8]) -> usize
+    requires { ⌜ (length (now b) ≡ 512) × (r .mandatory ≤ 4) × (r .optional ≤ 4) × Mask (now mask) ⌝ }
+    ensures { λ x. ⌜ eqb x 0 ≡ pastOthers (now (b .entry)) r ⌝ }
 {
-    (medium_past(b, r) == 0)
-        & run::zero_tail(
-            b,
-            Record::MANDATORY_AT,
-            Record::OPTIONAL_AT,
-            4 * r.mandatory,
-        )
-        & run::zero_tail(
-            b,
-            Record::OPTIONAL_AT,
-            Record::PROFILE_START_AT,
-            4 * r.optional,
-        )
+    run::set_past(b, Record::MANDATORY_AT, 2, 4 * r.mandatory as usize, mask)
+        | run::set_past(b, Record::OPTIONAL_AT, 2, 4 * r.optional as usize, mask)
+        | run::set_bits(b, Record::REST_AT, 12)
 }
 
 // Whether a block's words sum to zero and its unused places are zero, where the names are short; where they are medium.
-fn short_sound(b: &[u8], r: Record) -> bool
-    requires { ⌜ (length (now b) ≡ 512) × (r .mandatory ≤ 4) × (r .optional ≤ 4) × NamesWithin r 32 ⌝ }
+fn short_sound(b: &[u8], r: Record, mask: &[u8]) -> bool
+    requires { ⌜ (length (now b) ≡ 512) × (r .mandatory ≤ 4) × (r .optional ≤ 4) × NamesWithin r 32 × Mask (now mask) ⌝ }
     ensures { λ x. ⌜ x ≡ soundBytes (now (b .entry)) r ⌝ }
 {
-    (short_sum(b) == 0) & short_rest(b, r)
+    (short_sum(b) == 0) & ((others_past(b, r, mask) | short_past(b, r)) == 0)
 }
 
-fn medium_sound(b: &[u8], r: Record) -> bool
-    requires { ⌜ (length (now b) ≡ 512) × (r .mandatory ≤ 4) × (r .optional ≤ 4) × NamesWithin r 64 ⌝ }
+fn medium_sound(b: &[u8], r: Record, mask: &[u8]) -> bool
+    requires { ⌜ (length (now b) ≡ 512) × (r .mandatory ≤ 4) × (r .optional ≤ 4) × NamesWithin r 64 × Mask (now mask) ⌝ }
     ensures { λ x. ⌜ x ≡ soundBytes (now (b .entry)) r ⌝ }
 {
-    (medium_sum(b) == 0) & medium_rest(b, r)
+    if medium_sum(b) == 0 {
+        (others_past(b, r, mask) | medium_past(b, r)) == 0
+    } else {
+        false
+    }
 }
 
 // The same of any names. The words past the last named byte are left out of the sum: they are zero, or the block is unsound.
-fn bytes_sound(b: &[u8], r: Record) -> bool
-    requires { ⌜ (length (now b) ≡ 512) × (r .mandatory ≤ 4) × (r .optional ≤ 4) ⌝ }
+fn long_sound(b: &[u8], r: Record, mask: &[u8]) -> bool
+    requires { ⌜ (length (now b) ≡ 512) × (r .mandatory ≤ 4) × (r .optional ≤ 4) × NamesWithin r 128 × Mask (now mask) ⌝ }
+    ensures { λ x. ⌜ x ≡ soundBytes (now (b .entry)) r ⌝ }
+{
+    if sum::sum_ends(b, 104) == 0 {
+        (others_past(b, r, mask) | long_past(b, r, mask)) == 0
+    } else {
+        false
+    }
+}
+
+// The same, in the way that the names' lengths ask for.
+fn bytes_sound(b: &[u8], r: Record, mask: &[u8]) -> bool
+    requires { ⌜ (length (now b) ≡ 512) × (r .mandatory ≤ 4) × (r .optional ≤ 4) × NamesWithin r 128 × Mask (now mask) ⌝ }
     ensures { λ x. ⌜ x ≡ soundBytes (now (b .entry)) r ⌝ }
 {
     if (r.public <= Record::SHORT) & (r.private <= Record::SHORT) & (r.server <= Record::SHORT) {
-        short_sound(b, r)
+        short_sound(b, r, mask)
     } else {
         if (r.public <= Record::MEDIUM)
             & (r.private <= Record::MEDIUM)
             & (r.server <= Record::MEDIUM)
         {
-            medium_sound(b, r)
+            medium_sound(b, r, mask)
         } else {
-            (sum::sum_ends(b, 104) == 0) & rest(b, r)
+            long_sound(b, r, mask)
         }
     }
 }
 
 // Whether a block is sound as record k, under a header and beside a profile file of such a length.
-pub fn sound(b: &[u8], k: u32, h: Header, file: usize) -> bool
-    requires { ⌜ (length (now b) ≡ 512) × (h .networks ≤ 8) ⌝ }
+pub fn sound(b: &[u8], k: u32, h: Header, file: usize, bounds: Bounds, mask: &[u8]) -> bool
+    requires { ⌜ (length (now b) ≡ 512) × (h .networks ≤ 8) × (bounds ≡ boundsOf (h .networks) (h .edition)) × Mask (now mask) ⌝ }
     ensures { λ x. ⌜ x ≡ soundRecord (now (b .entry)) k h file ⌝ }
 {
     let r = Record::read(b);
     if is_headed(b, k, h)
-        & set_sound(r, h)
-        & limits(r)
-        & server_sound(r)
-        & roams(r, h.networks as u32)
+        & set_sound(b, h, bounds)
+        & numbers(b, h, bounds)
+        & (r.size <= Record::MOST_PROFILE)
+        & server_sound(b)
         & within(r, file)
     {
-        bytes_sound(b, r)
+        bytes_sound(b, r, mask)
     } else {
         false
     }

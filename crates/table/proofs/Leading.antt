@@ -5,10 +5,12 @@ use mathlib.Core.Path.{_≡_, refl, sym, _∙_}
 use mathlib.Core.List.{List}
 use native.Mathlib.Omega.{arith}
 use native.Mathlib.Numerals.{add-one}
+use lib.Bits.{bitOr}
 use lib.Dec.{leb, eqb}
 use borrow.Author.Tests.{le-leb, lt-leb, leb-true, leb-false, eqb-true}
 use Rattle.octets.specs.All.{allBelow}
-use Rattle.octets.proofs.All.{and-left, all-at}
+use Rattle.octets.proofs.All.{and-left, all-at, all-more}
+use Rattle.octets.proofs.Runs.{or-zero}
 use Rattle.record.specs.Fields.{setOf}
 use Rattle.record.specs.declared.header.Header.{Header}
 use Rattle.record.proofs.OneSet.{OneSet, set-says}
@@ -53,8 +55,13 @@ setless-read t i b is e = rw (← add-one i, ← is, ← e)
 pub setless-end : (t : List ℕ) (m : ℕ) {none : Bool} → none ≡ allBelow (setless t) m → Setless t m none
 setless-end t m e = record { each = λ f. sym e ∙ f }
 
-pub setless-left : (t : List ℕ) (m : ℕ) {none : Bool} (x : Bool) → none ≡ allBelow (setless t) m → Setless t m (none && x)
-setless-left t m {none} x e = record { each = λ f. sym e ∙ and-left none x f }
+pub setless-left : (t : List ℕ) (m sets x : ℕ) → eqb sets 0 ≡ allBelow (setless t) m → Setless t m (eqb (bitOr sets x) 0)
+setless-left t m sets x e = record { each = λ f. sym e ∙ and-left (eqb sets 0) (eqb x 0) (sym (or-zero sets x) ∙ f) }
+
+-- Its turn: the set numbers' bits are put together.
+pub setless-more : (t : List ℕ) (i sets x : ℕ) → eqb sets 0 ≡ allBelow (setless t) i → eqb x 0 ≡ setless t i
+    → eqb (bitOr sets x) 0 ≡ allBelow (setless t) (i + 1)
+setless-more t i sets x e f = or-zero sets x ∙ all-more (setless t) i e f
 
 -- All are good, and counted.
 pub leading-full : (good : ℕ → Bool) (n k : ℕ) → ((j : ℕ) → k ≤ j → j < k + n → good j ≡ true) → leading good n k ≡ n

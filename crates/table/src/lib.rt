@@ -4,6 +4,8 @@ mod members;
 
 use octets::name;
 use octets::name::Order;
+use octets::run;
+use record::bounds::Bounds;
 use record::fields;
 use record::header;
 use record::header::Header;
@@ -12,9 +14,12 @@ use record::subscriber;
 use record::subscriber::Record;
 ghost use mathlib.Core.Path.{_≡_};
 ghost use Prim.Native.Nat.{_+_, _*_, _≤_, _<_};
+ghost use lib.Dec.{eqb};
 ghost use lib.ListN.{length};
 ghost use Rattle.octets.specs.Name.{orderOf};
+ghost use Rattle.octets.specs.Run.{Mask};
 ghost use Rattle.record.specs.Fields.{publicOf};
+ghost use Rattle.record.specs.Bounds.{boundsOf};
 ghost use Rattle.table.specs.Blocks.{blockOf};
 ghost use Rattle.table.specs.Check.{isLess, risesAt, standsAt, checkRecords, checkTable};
 ghost use Rattle.table.specs.Leading.{leading, setless, Setless, outcomeOf};
@@ -63,23 +68,24 @@ fn rises(t: &[u8], k: usize) -> bool
 }
 
 // Whether block k is a sound record in its place. Only a sound one is compared with the record before.
-fn stands(t: &[u8], h: Header, file: usize, k: usize) -> bool
-    requires { ⌜ (1 ≤ k) × (k ≤ 4096) × (h .networks ≤ 8) × (512 * k + 512 ≤ length (now t)) × Before (now t) k ⌝ }
+fn stands(t: &[u8], h: Header, file: usize, bounds: Bounds, mask: &[u8], k: usize) -> bool
+    requires { ⌜ (1 ≤ k) × (k ≤ 4096) × (h .networks ≤ 8) × (bounds ≡ boundsOf (h .networks) (h .edition)) × (512 * k + 512 ≤ length (now t)) × Before (now t) k
+        × Mask (now mask) ⌝ }
     ensures { λ r. ⌜ r ≡ standsAt (now (t .entry)) h file k ⌝ }
 {
-    if subscriber::sound(block(t, k), k as u32, h, file) {
+    if subscriber::sound(block(t, k), k as u32, h, file, bounds, mask) {
         rises(t, k)
     } else {
         false
     }
 }
 
-// Whether record i + 1 is of no set.
-fn setless(t: &[u8], i: usize) -> bool
+// The number of the set of record i + 1.
+fn set_after(t: &[u8], i: usize) -> u32
     requires { ⌜ 512 * i + 1024 ≤ length (now t) ⌝ }
-    ensures { λ r. ⌜ r ≡ setless (now (t .entry)) i ⌝ }
+    ensures { λ r. ⌜ eqb r 0 ≡ setless (now (t .entry)) i ⌝ }
 {
-    sets::set(block(t, i + 1)) == 0
+    sets::set(block(t, i + 1))
 }
 
 // How many records from the first on stand in their places, and whether none of them nor the next one has a set: its bytes are at hand in this pass.
@@ -94,22 +100,24 @@ fn standing(t: &[u8], h: Header, file: usize) -> Stood
         × Setless (now (t .entry)) (r .records) (r .setless) ⌝ }
 {
     let count = h.count as usize;
+    let bounds = Bounds::of(h.networks, h.edition);
+    let mask = run::mask();
     let mut m = 0;
-    let mut none = true;
+    let mut sets: u32 = 0;
     while m < count {
-        none = none & setless(t, m);
-        if stands(t, h, file, m + 1) {
+        sets = sets | set_after(t, m);
+        if stands(t, h, file, bounds, &mask, m + 1) {
             m += 1;
         } else {
             return Stood {
                 records: m,
-                setless: none,
+                setless: sets == 0,
             };
         }
     }
     Stood {
         records: m,
-        setless: none,
+        setless: sets == 0,
     }
 }
 

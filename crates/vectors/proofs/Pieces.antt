@@ -1,20 +1,19 @@
 -- The pieces of the vector file: how many, each by the tests on the way, and the turns of the loop over them.
-use Prim.Native.Nat.{ℕ, zero, suc, _+_, _-_, _*_, _/_, _%_, _<_, _≤_}
-use mathlib.Core.Bool.{Bool, true, false, _&&_}
-use mathlib.Core.Path.{_≡_, refl}
+use Prim.Native.Nat.{ℕ, _+_, _-_, _*_, _/_, _%_, _<_, _≤_}
+use mathlib.Core.Bool.{Bool, true, false, _&&_, and-true, and-false}
+use mathlib.Core.Path.{_≡_, refl, sym, _∙_}
 use mathlib.Core.List.{List, [], _∷_}
 use native.Mathlib.Omega.{arith}
-use native.Mathlib.Numerals.{add-one}
 use lib.ListN.{length}
-use lib.Dec.{ltb, leb, eqb}
-use borrow.Author.Tests.{le-leb, lt-leb, lt-ltb, le-ltb, eq-eqb, ne-eqb, ltb-true}
-use Rattle.octets.proofs.Chains.{chain-says}
+use lib.Bits.{bitOr}
+use lib.Dec.{leb, eqb}
+use borrow.Author.Tests.{le-leb, lt-leb, lt-ltb, le-ltb, eq-eqb, ne-eqb, ltb-true, leb-true}
+use Rattle.octets.proofs.Chains.{test, chain-says}
 use Rattle.octets.proofs.Columns.{ends-sum}
 use Rattle.octets.proofs.Numbers.{Bytes}
+use Rattle.octets.proofs.Runs.{or-zero}
 use Rattle.table.specs.Blocks.{blockOf}
 use Rattle.table.specs.Check.{firstBad}
-use Rattle.table.specs.declared.Checked.{Checked}
-use Rattle.table.specs.declared.Checked.the-variants.{Sound, Bad}
 use Rattle.octets.specs.Run.{zeroBetween}
 use Rattle.octets.specs.Sum.{sumWords, endsSum}
 use Rattle.vectors.specs.VectorBlock.{vectorOf, soundLimits, soundRest, soundVector}
@@ -22,7 +21,7 @@ use Rattle.vectors.specs.declared.vector.Vector.{Vector}
 use Rattle.vectors.specs.VectorFile.{piecesOf, soundPiece, checkVectors}
 
 -- A vector's tests, all of them: what its sum leaves out is zero, or it is unsound.
-pub vector-all : (b : List ℕ) (v : Vector) (s : ℕ) (l r : Bool) → Bytes b → v ≡ vectorOf b → s ≡ endsSum b 53 → l ≡ soundLimits v → r ≡ soundRest b v
+vector-all : (b : List ℕ) (v : Vector) (s : ℕ) (l r : Bool) → Bytes b → v ≡ vectorOf b → s ≡ endsSum b 53 → l ≡ soundLimits v → r ≡ soundRest b v
     → (eqb s 0 && l && r) ≡ soundVector b
 unfolding soundVector
 vector-all b v s l r h ev es el er = rw (el, er, ev) (go (soundRest b (vectorOf b)) refl)
@@ -38,6 +37,31 @@ vector-all b v s l r h ev es el er = rw (el, er, ev) (go (soundRest b (vectorOf 
         let z = chain-says (zeroBetween b (4 + vectorOf b .private) 132) (zeroBetween b (164 + vectorOf b .xres) 180 ∷ zeroBetween b 212 508 ∷ []) g 2 in
         rw (es, ends-sum b 53 h (omega arith) z)
     go false g = rw (g, refused (eqb s 0) (soundLimits (vectorOf b)), refused (eqb (sumWords b 128) 0) (soundLimits (vectorOf b)))
+
+-- The numbers are tested first, and the rest only where they are within their limits.
+module _ (v : Vector) {l : Bool} (e : l ≡ soundLimits v) (good : l ≡ true) where
+  limits-say : (i : ℕ) → test (eqb (v .kind) 3 ∷ leb (v .used) 1 ∷ leb 4 (v .xres) ∷ leb (v .xres) 16 ∷ leb 1 (v .private) ∷ leb (v .private) 128 ∷ []) i ≡ true
+  limits-say =
+      chain-says (eqb (v .kind) 3) (leb (v .used) 1 ∷ leb 4 (v .xres) ∷ leb (v .xres) 16 ∷ leb 1 (v .private) ∷ leb (v .private) 128 ∷ []) (sym e ∙ good)
+
+  pub limits-xres : v .xres ≤ 16
+  limits-xres = leb-true _ _ (limits-say 3)
+
+  pub limits-private : v .private ≤ 128
+  limits-private = leb-true _ _ (limits-say 5)
+
+pub vector-within : (b : List ℕ) (v : Vector) (s : ℕ) (l r : Bool) → Bytes b → v ≡ vectorOf b → s ≡ endsSum b 53 → l ≡ soundLimits v → l ≡ true
+    → r ≡ soundRest b v → (eqb s 0 && r) ≡ soundVector b
+vector-within b v s l r h ev es el good er = rw (good, and-true) at (vector-all b v s l r h ev es el er)
+
+pub vector-past : (b : List ℕ) (v : Vector) (l : Bool) → v ≡ vectorOf b → l ≡ soundLimits v → l ≡ false → false ≡ soundVector b
+unfolding soundVector
+vector-past b v l ev el bad = let e : soundLimits (vectorOf b) ≡ false = rw ev at (sym el ∙ bad) in rw (e, and-false)
+
+-- The bits that are set where a vector is to be zero.
+pub rest-none : (b : List ℕ) (v : Vector) (c d e : ℕ) → eqb c 0 ≡ zeroBetween b (4 + v .private) 132 → eqb d 0 ≡ zeroBetween b (164 + v .xres) 180
+    → eqb e 0 ≡ zeroBetween b 212 508 → eqb (bitOr (bitOr c d) e) 0 ≡ soundRest b v
+rest-none b v c d e ec ed ee = simp or-zero (rw (ec, ed, ee))
 
 module _ (v : List ℕ) where
   pub pieces-whole : length v % 512 ≡ 0 → length v / 512 ≡ piecesOf v

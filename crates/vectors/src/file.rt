@@ -1,9 +1,11 @@
 // The vector file, block by block.
 use crate::vector;
+use octets::run;
 use table::Checked;
 ghost use mathlib.Core.Path.{_≡_};
 ghost use Prim.Native.Nat.{_+_, _*_, _≤_};
 ghost use lib.ListN.{length};
+ghost use Rattle.octets.specs.Run.{Mask};
 ghost use Rattle.vectors.specs.VectorFile.{piecesOf, soundPiece, checkVectors};
 
 // "0 to 4,096 blocks"
@@ -21,8 +23,8 @@ fn pieces(v: &[u8]) -> usize
 }
 
 // Whether piece k is one of 4,096, whole, and a sound vector.
-fn piece_sound(v: &[u8], k: usize) -> bool
-    requires { ⌜ k ≤ 4096 ⌝ }
+fn piece_sound(v: &[u8], k: usize, mask: &[u8]) -> bool
+    requires { ⌜ (k ≤ 4096) × Mask (now mask) ⌝ }
     ensures { λ r. ⌜ r ≡ soundPiece (now (v .entry)) k ⌝ }
 {
     if MOST <= k {
@@ -31,7 +33,7 @@ fn piece_sound(v: &[u8], k: usize) -> bool
     if v.len() < table::BLOCK * k + table::BLOCK {
         return false;
     }
-    vector::sound(table::block(v, k))
+    vector::sound(table::block(v, k), mask)
 }
 
 // The number of blocks, or the first piece that is bad.
@@ -39,9 +41,10 @@ pub fn check(v: &[u8]) -> Checked
     ensures { λ r. ⌜ r ≡ checkVectors (now (v .entry)) ⌝ }
 {
     let n = pieces(v);
+    let mask = run::mask();
     let mut k = 0;
     while k < n {
-        if piece_sound(v, k) {
+        if piece_sound(v, k, &mask) {
             k += 1;
         } else {
             return Checked::Bad(k as u32);

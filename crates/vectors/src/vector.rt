@@ -4,6 +4,7 @@ use octets::sum;
 ghost use mathlib.Core.Path.{_≡_};
 ghost use Prim.Native.Nat.{_+_, _≤_};
 ghost use lib.ListN.{length, take, drop};
+ghost use Rattle.octets.specs.Run.{Mask};
 ghost use Rattle.vectors.specs.VectorBlock.{vectorOf, soundLimits, soundRest, soundVector, cardOf, randAutnOf, xresOf, confidentialityOf, integrityOf};
 
 // The numbers of a vector block: kind, used, and the lengths of XRES and of the private identity. Its name, its challenge and its keys stay in the
@@ -82,22 +83,27 @@ fn limits(v: Vector) -> bool
 }
 
 // The tails of the name and of XRES, and the bytes not named.
-fn rest(b: &[u8], v: Vector) -> bool
-    requires { ⌜ length (now b) ≡ 512 ⌝ }
+fn rest(b: &[u8], v: Vector, mask: &[u8]) -> bool
+    requires { ⌜ (length (now b) ≡ 512) × (v .private ≤ 128) × (v .xres ≤ 16) × Mask (now mask) ⌝ }
     ensures { λ r. ⌜ r ≡ soundRest (now (b .entry)) v ⌝ }
 {
-    run::zero_long_tail(b, Vector::PRIVATE_AT, Vector::RAND_AUTN_AT, v.private)
-        & run::zero_tail(b, Vector::XRES_AT, Vector::CONFIDENTIALITY_KEY_AT, v.xres)
-        & (run::set_bits(b, Vector::REST_AT, 74) == 0)
+    run::set_past_long(b, Vector::PRIVATE_AT, 16, v.private as usize, mask)
+        | run::set_past(b, Vector::XRES_AT, 2, v.xres as usize, mask)
+        | run::set_bits(b, Vector::REST_AT, 37)
+        == 0
 }
 
 // Whether a block is a sound vector. The words of the rest are left out of the sum: they are zero, or the block is unsound.
-pub fn sound(b: &[u8]) -> bool
-    requires { ⌜ length (now b) ≡ 512 ⌝ }
+pub fn sound(b: &[u8], mask: &[u8]) -> bool
+    requires { ⌜ (length (now b) ≡ 512) × Mask (now mask) ⌝ }
     ensures { λ r. ⌜ r ≡ soundVector (now (b .entry)) ⌝ }
 {
     let v = Vector::read(b);
-    (sum::sum_ends(b, 53) == 0) & limits(v) & rest(b, v)
+    if limits(v) {
+        (sum::sum_ends(b, 53) == 0) & rest(b, v, mask)
+    } else {
+        false
+    }
 }
 
 // The n bytes from a place on.

@@ -8,7 +8,7 @@ use Rattle.octets.proofs.run.set_bits.Statement.{statement}
 use Rattle.octets.proofs.run.set_bits.Tie as tie
 
 abbrev Inv-loop : tie.InvT-loop
-Inv-loop s at n bits₀ i₀ bits i = (i ≤ n) × (eqb bits 0 ≡ zeros s at (4 * i))
+Inv-loop s at n bits₀ i₀ bits i = (i ≤ n) × (eqb bits 0 ≡ zeros s at (8 * i))
 
 abbrev μ-loop : tie.MeasureT-loop
 μ-loop s at n bits₀ i₀ bits i = n - i

@@ -1,4 +1,4 @@
-use Rattle.record.proofs.RecordBytes.{at-most, long-bytes}
+use Rattle.record.proofs.RecordBytes.{at-most}
 use borrow.Author.Needs.{needs}
 use Rattle.record.proofs.subscriber.bytes_sound.Statement.{statement}
 use Rattle.record.proofs.subscriber.bytes_sound.Tie as tie
@@ -10,7 +10,6 @@ bytes-sound-spec =
     (λ c κs. search (needs, at-most))
     (λ c κs. search (needs, at-most))
     (λ c κs. search needs)
-    (λ c κs. search needs)
     (λ c. search needs)
     (λ c. search needs)
-    (λ c. search (needs, long-bytes)))
+    (λ c. search needs))

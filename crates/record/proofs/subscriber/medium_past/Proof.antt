@@ -31,9 +31,4 @@ medium-past-spec =
     (λ c κs. search needs)
     (λ c. search needs)
     (λ c κs. search needs)
-    (λ c. search needs)
-    (λ c κs. search needs)
-    (λ c.
-    let names =
-    c .before .before .before .before .before .before .before .before .before .before .before .before .before .before .before .before .before .pre .1 in
-    search (needs, past-medium)))
+    (λ c. search (needs, past-medium)))

@@ -1,4 +1,4 @@
-use Rattle.record.proofs.RecordBytes.{used-bytes}
+use Rattle.record.proofs.RecordBytes.{used-right, used-wrong}
 use borrow.Author.Needs.{needs}
 use Rattle.record.proofs.subscriber.medium_sound.Statement.{statement}
 use Rattle.record.proofs.subscriber.medium_sound.Tie as tie
@@ -9,4 +9,6 @@ medium-sound-spec =
     (tie.spec
     (λ c κs. search needs)
     (λ c κs. search needs)
-    (λ c. search (needs, used-bytes)))
+    (λ c κs. search needs)
+    (λ c. search (needs, used-right))
+    (λ c. search (needs, used-wrong)))

@@ -1,3 +1,4 @@
+use Rattle.record.proofs.Sound.{server-none, server-some}
 use borrow.Author.Needs.{needs}
 use Rattle.record.proofs.subscriber.server_sound.Statement.{statement}
 use Rattle.record.proofs.subscriber.server_sound.Tie as tie
@@ -7,4 +8,5 @@ server-sound-spec =
     tie.close
     (tie.spec
     (λ c κs. search needs)
-    (λ c. cc))
+    (λ c. search (needs, server-none))
+    (λ c. search (needs, server-some)))

@@ -9,4 +9,5 @@ short-sound-spec =
     (tie.spec
     (λ c κs. search needs)
     (λ c κs. search needs)
+    (λ c κs. search needs)
     (λ c. search (needs, used-bytes)))

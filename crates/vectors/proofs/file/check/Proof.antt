@@ -1,5 +1,6 @@
 use Prim.Native.Nat.{_-_, _≤_}
 use mathlib.Core.Path.{_≡_}
+use Rattle.octets.specs.Run.{Mask}
 use Rattle.table.specs.Check.{firstBad}
 use Rattle.vectors.specs.VectorFile.{soundPiece, checkVectors}
 use Rattle.table.proofs.First.{first-bad, first-more, first-none}
@@ -9,10 +10,10 @@ use Rattle.vectors.proofs.file.check.Statement.{statement}
 use Rattle.vectors.proofs.file.check.Tie as tie
 
 abbrev Inv-loop : tie.InvT-loop
-Inv-loop v n k₀ k = (k ≤ n) × (k ≤ 4096) × (checkVectors v ≡ firstBad (soundPiece v) n (n - k) k)
+Inv-loop v n mask k₀ k = (k ≤ n) × (k ≤ 4096) × (checkVectors v ≡ firstBad (soundPiece v) n (n - k) k) × Mask mask
 
 abbrev μ-loop : tie.MeasureT-loop
-μ-loop v n k₀ k = n - k
+μ-loop v n mask k₀ k = n - k
 
 pub check-spec : {M : Type 1} → statement M
 check-spec =
@@ -21,7 +22,9 @@ check-spec =
     Inv-loop
     μ-loop
     (λ c κs. search needs)
+    (λ c κs. search needs)
     (λ c. search (needs, turn-all))
+    (λ c. search needs)
     (λ c κs. search needs)
     (λ c. search needs)
     (λ c. search needs)

@@ -1,3 +1,4 @@
+use Rattle.vectors.proofs.Pieces.{rest-none}
 use borrow.Author.Needs.{needs}
 use Rattle.vectors.proofs.vector.rest.Statement.{statement}
 use Rattle.vectors.proofs.vector.rest.Tie as tie
@@ -6,7 +7,9 @@ pub rest-spec : {M : Type 1} → statement M
 rest-spec =
     tie.close
     (tie.spec
+    (λ c. search needs)
+    (λ c κs. search needs)
+    (λ c. search needs)
     (λ c κs. search needs)
     (λ c κs. search needs)
-    (λ c κs. search needs)
-    (λ c. cc))
+    (λ c. search (needs, rest-none)))

@@ -1,4 +1,4 @@
-use Rattle.vectors.proofs.Pieces.{vector-all}
+use Rattle.vectors.proofs.Pieces.{limits-xres, limits-private, vector-within, vector-past}
 use borrow.Author.Needs.{needs}
 use Rattle.vectors.proofs.vector.sound.Statement.{statement}
 use Rattle.vectors.proofs.vector.sound.Tie as tie
@@ -10,5 +10,6 @@ sound-spec =
     (λ c κs. search needs)
     (λ c κs. search needs)
     (λ c κs. search needs)
-    (λ c κs. search needs)
-    (λ c. search (needs, vector-all)))
+    (λ c κs. search (needs, limits-xres, limits-private))
+    (λ c. search (needs, vector-within))
+    (λ c. search (needs, vector-past)))

@@ -1,10 +1,10 @@
 use Rattle.table.proofs.Leading.{setless-read}
 use borrow.Author.Needs.{needs}
-use Rattle.table.proofs.setless.Statement.{statement}
-use Rattle.table.proofs.setless.Tie as tie
+use Rattle.table.proofs.set_after.Statement.{statement}
+use Rattle.table.proofs.set_after.Tie as tie
 
-pub setless-spec : {M : Type 1} → statement M
-setless-spec =
+pub set-after-spec : {M : Type 1} → statement M
+set-after-spec =
     tie.close
     (tie.spec
     (λ c. search needs)

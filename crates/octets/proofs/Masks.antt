@@ -1,0 +1,131 @@
+-- Laws of the mask: what a field holds past its first bytes, eight bytes at a time.
+use Prim.Native.Nat.{ℕ, zero, suc, _+_, _-_, _*_, _<_, _≤_}
+use mathlib.Core.Bool.{Bool, true, false, _&&_, and-true, and-assoc}
+use mathlib.Core.Path.{_≡_, refl, _∙_}
+use mathlib.Core.Logic.{_≢_}
+use mathlib.Core.List.{List}
+use native.Mathlib.Omega.{arith}
+use lib.Bits.{bitAnd, bitOr, and-block, and-mask, and-zero-r}
+use lib.Dec.{eqb, ltb}
+use lib.ListN.{length, getD, set, length-set, replicate, length-replicate, getD-replicate}
+use lib.Seq.{getD-set-same, getD-set-other}
+use borrow.Author.Tests.{eqb-true, eqb-false, ltb-true, ltb-false}
+use Rattle.octets.specs.All.{allBelow}
+use Rattle.octets.specs.Number.{eight, le64At}
+use Rattle.octets.specs.Run.{zeros, zeroBetween, Mask}
+use Rattle.octets.proofs.Numbers.{Bytes}
+use Rattle.octets.proofs.Runs.{or-zero, eight-zero, zeros-more, zero-join}
+
+-- Byte by byte.
+and-byte : (a b r s : ℕ) → r < 256 → s < 256 → bitAnd (a * 256 + r) (b * 256 + s) ≡ bitAnd a b * 256 + bitAnd r s
+and-byte a b r s h k = and-block 8 a b r s h k
+
+abbrev horner : (ℕ → ℕ) → ℕ
+horner f = ((((((f 7 * 256 + f 6) * 256 + f 5) * 256 + f 4) * 256 + f 3) * 256 + f 2) * 256 + f 1) * 256 + f 0
+
+and-horner : (f g : ℕ → ℕ) → ((j : ℕ) → f j < 256) → ((j : ℕ) → g j < 256) → bitAnd (horner f) (horner g) ≡ horner (λ (j : ℕ). bitAnd (f j) (g j))
+and-horner f g hf hg =
+    rw (
+      and-byte ((((((f 7 * 256 + f 6) * 256 + f 5) * 256 + f 4) * 256 + f 3) * 256 + f 2) * 256 + f 1)
+          ((((((g 7 * 256 + g 6) * 256 + g 5) * 256 + g 4) * 256 + g 3) * 256 + g 2) * 256 + g 1) (f 0) (g 0) (hf 0) (hg 0),
+      and-byte (((((f 7 * 256 + f 6) * 256 + f 5) * 256 + f 4) * 256 + f 3) * 256 + f 2)
+          (((((g 7 * 256 + g 6) * 256 + g 5) * 256 + g 4) * 256 + g 3) * 256 + g 2) (f 1) (g 1) (hf 1) (hg 1),
+      and-byte ((((f 7 * 256 + f 6) * 256 + f 5) * 256 + f 4) * 256 + f 3) ((((g 7 * 256 + g 6) * 256 + g 5) * 256 + g 4) * 256 + g 3) (f 2) (g 2)
+          (hf 2) (hg 2),
+      and-byte (((f 7 * 256 + f 6) * 256 + f 5) * 256 + f 4) (((g 7 * 256 + g 6) * 256 + g 5) * 256 + g 4) (f 3) (g 3) (hf 3) (hg 3),
+      and-byte ((f 7 * 256 + f 6) * 256 + f 5) ((g 7 * 256 + g 6) * 256 + g 5) (f 4) (g 4) (hf 4) (hg 4),
+      and-byte (f 7 * 256 + f 6) (g 7 * 256 + g 6) (f 5) (g 5) (hf 5) (hg 5),
+      and-byte (f 7) (g 7) (f 6) (g 6) (hf 6) (hg 6),
+    )
+
+le-horner : (s : List ℕ) (at : ℕ) → le64At s at ≡ horner (λ (j : ℕ). getD s (at + j) 0)
+unfolding le64At
+le-horner s at = let k : at + 0 ≡ at = omega arith in rw k (omega arith)
+
+-- Eight bytes under a mask are zero exactly if each is zero under its own.
+and-zero : (s m : List ℕ) (p q : ℕ) → Bytes s → Bytes m
+    → eqb (bitAnd (le64At s p) (le64At m q)) 0 ≡ allBelow (λ (j : ℕ). eqb (bitAnd (getD s (p + j) 0) (getD m (q + j) 0)) 0) 8
+and-zero s m p q hs hm =
+    let f : ℕ → ℕ = λ (j : ℕ). getD s (p + j) 0 in
+    let g : ℕ → ℕ = λ (j : ℕ). getD m (q + j) 0 in
+    let h : ℕ → ℕ = λ (j : ℕ). bitAnd (f j) (g j) in
+    let e : eight (h 7) (h 6) (h 5) (h 4) (h 3) (h 2) (h 1) (h 0) ≡ horner h = omega arith in
+    rw (le-horner s p, le-horner m q, and-horner f g (λ j. omega (arith, hs (p + j))) (λ j. omega (arith, hm (q + j))), ← e) (eight-zero h)
+
+-- The turns of the loop over a field past its first n bytes, under the mask from its byte 64 - n on.
+module _ (s m : List ℕ) (at n from : ℕ) (bytes : Bytes s) (mask : Mask m) (few : n ≤ 64) (is : from ≡ 64 - n) where
+  abbrev past : ℕ → Bool
+  past j = zeros s (at + n) (at + j - (at + n))
+
+  byte-more : (j : ℕ) → j < 64 → (past j && eqb (bitAnd (getD s (at + j) 0) (getD m (from + j) 0)) 0) ≡ past (suc j)
+  byte-more j h = go (ltb j n) refl
+    where
+      go : (b : Bool) → ltb j n ≡ b → (past j && eqb (bitAnd (getD s (at + j) 0) (getD m (from + j) 0)) 0) ≡ past (suc j)
+      go true f =
+          let l : j < n = ltb-true j n f in
+          let k : at + suc j - (at + n) ≡ at + j - (at + n) = omega arith in
+          rw (mask .clear (from + j) (omega arith), and-zero-r, and-true, k)
+      go false f =
+          let l : n ≤ j = ltb-false j n f in
+          let k : at + suc j ≡ at + j + 1 = omega arith in
+          let w : bitAnd (getD s (at + j) 0) 255 ≡ getD s (at + j) 0 = and-mask (getD s (at + j) 0) 8 ∙ omega (arith, bytes (at + j)) in
+          rw (mask .full (from + j) (omega arith) (omega arith), w, k) (zeros-more s (at + n) (at + j) (omega arith) refl)
+
+  eight-more : (i k : ℕ) → 8 * i + k ≤ 64
+      → (past (8 * i) && allBelow (λ (j : ℕ). eqb (bitAnd (getD s (at + 8 * i + j) 0) (getD m (from + 8 * i + j) 0)) 0) k) ≡ past (8 * i + k)
+  unfolding allBelow
+  eight-more i zero h = let e : 8 * i + 0 ≡ 8 * i = omega arith in rw (e, and-true)
+  eight-more i (suc k) h =
+      let e : 8 * i + suc k ≡ suc (8 * i + k) = omega arith in
+      let p : at + 8 * i + k ≡ at + (8 * i + k) = omega arith in
+      let q : from + 8 * i + k ≡ from + (8 * i + k) = omega arith in
+      rw (e, ← byte-more (8 * i + k) (omega arith), ← eight-more i k (omega arith), p, q, and-assoc)
+
+  pub past-more : (i bits x y : ℕ) → Bytes m → i < 8 → eqb bits 0 ≡ past (8 * i) → x ≡ le64At s (at + 8 * i) → y ≡ le64At m (from + 8 * i)
+      → eqb (bitOr bits (bitAnd x y)) 0 ≡ past (8 * (i + 1))
+  past-more i bits x y hm h e ex ey =
+      let k : 8 * (i + 1) ≡ 8 * i + 8 = omega arith in
+      rw (or-zero bits (bitAnd x y), e, ex, ey, and-zero s m (at + 8 * i) (from + 8 * i) bytes hm, k) (eight-more i 8 (omega arith))
+
+pub past-all : (s : List ℕ) (at n i k bits : ℕ) → i ≤ k → k ≤ i → eqb bits 0 ≡ zeros s (at + n) (at + 8 * i - (at + n))
+    → eqb bits 0 ≡ zeroBetween s (at + n) (at + 8 * k)
+unfolding zeroBetween
+past-all s at n i k bits a b e = let j : i ≡ k = omega arith in rw (← j) e
+
+-- A field of k eights in two parts: its first n bytes end in its first 64, or they go on past them.
+module _ (s : List ℕ) (at k n : ℕ) (long : 8 ≤ k) where
+  part-ends : at + 64 + 8 * (k - 8) ≡ at + 8 * k
+  part-ends = omega arith
+
+  pub past-first : (x y : ℕ) → n ≤ 64 → eqb x 0 ≡ zeroBetween s (at + n) (at + 64) → eqb y 0 ≡ zeroBetween s (at + 64) (at + 64 + 8 * (k - 8))
+      → eqb (bitOr x y) 0 ≡ zeroBetween s (at + n) (at + 8 * k)
+  past-first x y h e f = rw (or-zero x y, e, f, part-ends, zero-join s (at + n) (at + 64) (at + 8 * k) (omega arith) (omega arith))
+
+  pub past-second : (x : ℕ) → 64 < n → eqb x 0 ≡ zeroBetween s (at + 64 + (n - 64)) (at + 64 + 8 * (k - 8)) → eqb x 0 ≡ zeroBetween s (at + n) (at + 8 * k)
+  past-second x h e = let p : at + 64 + (n - 64) ≡ at + n = omega arith in rw (e, part-ends, p)
+
+-- The turns of the loop that makes the mask: zeros, and bytes whose bits are all set up to a place.
+pub record Made (m : List ℕ) (i : ℕ) : Type 0 where
+  pub size : length m ≡ 128
+  pub clear : (j : ℕ) → j < 64 → getD m j 0 ≡ 0
+  pub full : (j : ℕ) → 64 ≤ j → j < i → getD m j 0 ≡ 255
+
+pub made-none : Made (replicate 128 0) 64
+made-none = record { size = length-replicate {A = ℕ} 128 0; clear = λ j h. getD-replicate {A = ℕ} 128 j 0 0 (omega arith); full = λ j a b. absurd (omega arith) }
+
+pub made-more : (m : List ℕ) (i : ℕ) → 64 ≤ i → i < 128 → Made m i → Made (set m i 255) (i + 1)
+made-more m i a b p =
+    record {
+      size = rw (length-set m i 255) (p .size);
+      clear = λ j h. getD-set-other m i j 255 0 (λ e. absurd (omega arith)) ∙ p .clear j h;
+      full = λ j g h. later j g h (eqb j i) refl;
+    }
+  where
+    later : (j : ℕ) → 64 ≤ j → j < i + 1 → (x : Bool) → eqb j i ≡ x → getD (set m i 255) j 0 ≡ 255
+    later j g h true e = rw (eqb-true j i e, getD-set-same m i 255 0 (omega (arith, p .size)))
+    later j g h false e =
+        let q : j ≢ i = eqb-false j i e in
+        getD-set-other m i j 255 0 q ∙ p .full j g (omega arith)
+
+pub made-all : (m : List ℕ) (i : ℕ) → 128 ≤ i → Made m i → Mask m
+made-all m i h p = record { size = p .size; clear = p .clear; full = λ j a b. p .full j a (omega arith) }

@@ -1,0 +1,24 @@
+use Prim.Native.Nat.{_-_, _≤_}
+use Rattle.octets.proofs.Masks.{Made, made-none, made-more, made-all}
+use borrow.Author.Needs.{needs}
+use Rattle.octets.proofs.run.mask.Statement.{statement}
+use Rattle.octets.proofs.run.mask.Tie as tie
+
+abbrev Inv-loop : tie.InvT-loop
+Inv-loop m₀ i₀ m i = (64 ≤ i) × (i ≤ 128) × Made m i
+
+abbrev μ-loop : tie.MeasureT-loop
+μ-loop m₀ i₀ m i = 128 - i
+
+pub mask-spec : {M : Type 1} → statement M
+mask-spec =
+    tie.close
+    (tie.spec
+    Inv-loop
+    μ-loop
+    (λ c. search (needs, made-none))
+    (λ c. search needs)
+    (λ c. search needs)
+    (λ c. search needs)
+    (λ c. search (needs, made-more))
+    (λ c. search (needs, made-all)))
