@@ -16,31 +16,24 @@ use Rattle.octets.specs.Run.{zeros, zeroBetween, Mask}
 use Rattle.octets.proofs.Numbers.{Bytes}
 use Rattle.octets.proofs.Runs.{or-zero, eight-zero, zeros-more, zero-join}
 
--- Byte by byte.
-and-byte : (a b r s : ℕ) → r < 256 → s < 256 → bitAnd (a * 256 + r) (b * 256 + s) ≡ bitAnd a b * 256 + bitAnd r s
-and-byte a b r s h k = and-block 8 a b r s h k
+-- The number that n bytes make, the first the lowest: byte by byte under a mask.
+abbrev number : ℕ → (ℕ → ℕ) → ℕ
+number zero f = 0
+number (suc n) f = number n (λ (j : ℕ). f (suc j)) * 256 + f 0
 
-abbrev horner : (ℕ → ℕ) → ℕ
-horner f = ((((((f 7 * 256 + f 6) * 256 + f 5) * 256 + f 4) * 256 + f 3) * 256 + f 2) * 256 + f 1) * 256 + f 0
+and-number : (n : ℕ) (f g : ℕ → ℕ) → ((j : ℕ) → f j < 256) → ((j : ℕ) → g j < 256)
+    → bitAnd (number n f) (number n g) ≡ number n (λ (j : ℕ). bitAnd (f j) (g j))
+and-number zero f g hf hg = refl
+and-number (suc n) f g hf hg =
+    and-block 8 (number n (λ (j : ℕ). f (suc j))) (number n (λ (j : ℕ). g (suc j))) (f 0) (g 0) (hf 0) (hg 0)
+    ∙ rw (and-number n (λ (j : ℕ). f (suc j)) (λ (j : ℕ). g (suc j)) (λ j. hf (suc j)) (λ j. hg (suc j)))
 
-and-horner : (f g : ℕ → ℕ) → ((j : ℕ) → f j < 256) → ((j : ℕ) → g j < 256) → bitAnd (horner f) (horner g) ≡ horner (λ (j : ℕ). bitAnd (f j) (g j))
-and-horner f g hf hg =
-    rw (
-      and-byte ((((((f 7 * 256 + f 6) * 256 + f 5) * 256 + f 4) * 256 + f 3) * 256 + f 2) * 256 + f 1)
-          ((((((g 7 * 256 + g 6) * 256 + g 5) * 256 + g 4) * 256 + g 3) * 256 + g 2) * 256 + g 1) (f 0) (g 0) (hf 0) (hg 0),
-      and-byte (((((f 7 * 256 + f 6) * 256 + f 5) * 256 + f 4) * 256 + f 3) * 256 + f 2)
-          (((((g 7 * 256 + g 6) * 256 + g 5) * 256 + g 4) * 256 + g 3) * 256 + g 2) (f 1) (g 1) (hf 1) (hg 1),
-      and-byte ((((f 7 * 256 + f 6) * 256 + f 5) * 256 + f 4) * 256 + f 3) ((((g 7 * 256 + g 6) * 256 + g 5) * 256 + g 4) * 256 + g 3) (f 2) (g 2)
-          (hf 2) (hg 2),
-      and-byte (((f 7 * 256 + f 6) * 256 + f 5) * 256 + f 4) (((g 7 * 256 + g 6) * 256 + g 5) * 256 + g 4) (f 3) (g 3) (hf 3) (hg 3),
-      and-byte ((f 7 * 256 + f 6) * 256 + f 5) ((g 7 * 256 + g 6) * 256 + g 5) (f 4) (g 4) (hf 4) (hg 4),
-      and-byte (f 7 * 256 + f 6) (g 7 * 256 + g 6) (f 5) (g 5) (hf 5) (hg 5),
-      and-byte (f 7) (g 7) (f 6) (g 6) (hf 6) (hg 6),
-    )
+eight-number : (f : ℕ → ℕ) → eight (f 7) (f 6) (f 5) (f 4) (f 3) (f 2) (f 1) (f 0) ≡ number 8 f
+eight-number f = omega arith
 
-le-horner : (s : List ℕ) (at : ℕ) → le64At s at ≡ horner (λ (j : ℕ). getD s (at + j) 0)
+le-number : (s : List ℕ) (at : ℕ) → le64At s at ≡ number 8 (λ (j : ℕ). getD s (at + j) 0)
 unfolding le64At
-le-horner s at = let k : at + 0 ≡ at = omega arith in rw k (omega arith)
+le-number s at = let k : at + 0 ≡ at = omega arith in rw k (omega arith)
 
 -- Eight bytes under a mask are zero exactly if each is zero under its own.
 and-zero : (s m : List ℕ) (p q : ℕ) → Bytes s → Bytes m
@@ -49,8 +42,7 @@ and-zero s m p q hs hm =
     let f : ℕ → ℕ = λ (j : ℕ). getD s (p + j) 0 in
     let g : ℕ → ℕ = λ (j : ℕ). getD m (q + j) 0 in
     let h : ℕ → ℕ = λ (j : ℕ). bitAnd (f j) (g j) in
-    let e : eight (h 7) (h 6) (h 5) (h 4) (h 3) (h 2) (h 1) (h 0) ≡ horner h = omega arith in
-    rw (le-horner s p, le-horner m q, and-horner f g (λ j. omega (arith, hs (p + j))) (λ j. omega (arith, hm (q + j))), ← e) (eight-zero h)
+    rw (le-number s p, le-number m q, and-number 8 f g (λ j. omega (arith, hs (p + j))) (λ j. omega (arith, hm (q + j))), ← eight-number h) (eight-zero h)
 
 -- The turns of the loop over a field past its first n bytes, under the mask from its byte 64 - n on.
 module _ (s m : List ℕ) (at n from : ℕ) (bytes : Bytes s) (mask : Mask m) (few : n ≤ 64) (is : from ≡ 64 - n) where
@@ -111,7 +103,12 @@ pub record Made (m : List ℕ) (i : ℕ) : Type 0 where
   pub full : (j : ℕ) → 64 ≤ j → j < i → getD m j 0 ≡ 255
 
 pub made-none : Made (replicate 128 0) 64
-made-none = record { size = length-replicate {A = ℕ} 128 0; clear = λ j h. getD-replicate {A = ℕ} 128 j 0 0 (omega arith); full = λ j a b. absurd (omega arith) }
+made-none =
+    record {
+      size = length-replicate {A = ℕ} 128 0;
+      clear = λ j h. getD-replicate {A = ℕ} 128 j 0 0 (omega arith);
+      full = λ j a b. absurd (omega arith);
+    }
 
 pub made-more : (m : List ℕ) (i : ℕ) → 64 ≤ i → i < 128 → Made m i → Made (set m i 255) (i + 1)
 made-more m i a b p =

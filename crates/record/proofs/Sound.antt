@@ -107,8 +107,9 @@ rest-parts b q = simp and-assoc
 set-is : (q : Record) (k : ℕ) (x : Header) → isRecord q k x ≡ true → setUnder q x ≡ soundSet q
 set-is q k x e = rw (eqb-true (q .edition) (x .edition) (chain-says (eqb (q .kind) 2) (_ ∷ _ ∷ _ ∷ []) e 1))
 
-module _ (b : List ℕ) (k : ℕ) (x : Header) (file : ℕ) (q : Record) (h t m n w : Bool) (eq : q ≡ recordOf b) (eh : h ≡ headed b k x) (et : t ≡ setUnder (recordOf b) x)
-    (em : m ≡ (withinLimits (recordOf b) && soundRoaming (recordOf b) (x .networks))) (en : n ≡ soundServer (recordOf b)) (ew : w ≡ soundProfile q file) where
+module _ (b : List ℕ) (k : ℕ) (x : Header) (file : ℕ) (q : Record) (h t m n w : Bool) (eq : q ≡ recordOf b) (eh : h ≡ headed b k x)
+    (et : t ≡ setUnder (recordOf b) x) (em : m ≡ (withinLimits (recordOf b) && soundRoaming (recordOf b) (x .networks)))
+    (en : n ≡ soundServer (recordOf b)) (ew : w ≡ soundProfile q file) where
   record-whole : ((h && t && m && leb (q .size) 4096 && n && w) && soundBytes b q) ≡ soundRecord b k x file
   unfolding soundRecord soundBytes headed
   record-whole =
