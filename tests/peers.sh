@@ -254,6 +254,7 @@ fi
 # ---- the judge
 if [ -n "$capture_pid" ]; then
     sleep 2
+    unset "started[$capture_pid]"
     kill -INT "$capture_pid"
     wait "$capture_pid" || true
     if ./judge.py wire.pcapng; then passes 'tshark: every answer of the daemon'; else fails 'tshark: every answer of the daemon'; fi
