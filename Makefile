@@ -283,8 +283,8 @@ target/narrow/decide: examples/decide.c examples/load.h examples/fault.h
 # Bound at the start, as pkg-config has it: else a first call pays for the dynamic linker on its own small stack.
 target/narrow/driver target/narrow/decide: tests/narrow.c $(HEADER) $(ARCHIVE)
 	mkdir -p $(@D)
-	$(X86_CC) -std=c99 $(STRICT) -pthread -Wl,-z,now -Wl,--wrap=ndushavire_check,--wrap=ndushavire_check_vectors,--wrap=ndushavire_decide,--wrap=ndushavire_report \
-	    -o $@ $(filter %.c,$^) $(ARCHIVE)
+	$(X86_CC) -std=c99 $(STRICT) -pthread -Wl,-z,now \
+	    -Wl,--wrap=ndushavire_check,--wrap=ndushavire_check_vectors,--wrap=ndushavire_decide,--wrap=ndushavire_report -o $@ $(filter %.c,$^) $(ARCHIVE)
 
 target/c99/version: tests/version.c $(HEADER) $(ARCHIVE)
 	mkdir -p $(@D)

@@ -2,8 +2,8 @@
 # peers.sh ROOM MAKETABLE DAEMON..: the daemon of the examples with real software, in a network namespace of its own: Erlang's diameter as a strict
 # client, Kamailio's I-CSCF and S-CSCF with two phones, both again through freeDiameter as a relay, a call server that comes to the relay by
 # TLS, and tshark, which judges every answer that went over the wire. What is missing is installed from Debian, for which it must be root.
-# What cannot run on a machine is said and counted; of a trial that fails, what ended by itself and what the logs say. Status 0 if everything ran and went as it should, 1 if something went wrong, 2 if
-# something could not run.
+# What cannot run on a machine is said and counted; of a trial that fails, what ended by itself and what the logs say. Status 0 if everything
+# ran and went as it should, 1 if something went wrong, 2 if something could not run.
 set -euo pipefail
 tests=$(cd "$(dirname "$0")" && pwd)
 packages=(freediameter kamailio kamailio-ims-modules kamailio-presence-modules erlang-diameter erlang-dev tshark iproute2 openssl python3)
