@@ -295,3 +295,27 @@ pub fn stats(stream: Stream, seed: u64, numbers: Range<u64>) -> bool {
     }
     thin.is_empty()
 }
+
+#[cfg(test)]
+mod tests {
+    use super::*;
+
+    #[test]
+    fn chance_is_no_fault_and_an_empty_row_is() {
+        assert_eq!(
+            [1, 1, 1, 40, 115, 810],
+            [100, 1_000, 20_000, 100_000, 200_000, 1_000_000].map(|cases| least(cases, 1_000))
+        );
+        let mut histogram = Histogram { rows: BTreeMap::new(), cases: 100_000 };
+        for row in required_rows(Stream::Vectors) {
+            histogram.rows.insert(row, 40);
+        }
+        assert_eq!(Vec::<String>::new(), histogram.thin_rows(Stream::Vectors));
+        histogram.rows.insert("vector: kind".to_string(), 39);
+        histogram.rows.remove("vectors: 4,097 blocks");
+        assert_eq!(
+            vec!["vector: kind: 39 of 40", "vectors: 4,097 blocks: 0 of 1"],
+            histogram.thin_rows(Stream::Vectors)
+        );
+    }
+}
