@@ -75,9 +75,10 @@ pages: target/c/maketable target/c/showtable
 	tests/worked-table.sh target/test/worked-table target/c/maketable target/c/showtable
 	tests/pages.sh
 
-#: header             the C header by itself, in C and in C++
-header: target/c/header target/c++/header
-	for header in $^; do $$header; done
+#: header             the C header by itself, in C and in C++; the version that library, header, programs, pkg-config and README say
+header: target/c/header target/c++/header target/c99/version
+	for header in target/c/header target/c++/header; do $$header; done
+	tests/version.sh $(RUN) target/c99/version
 
 #: examples           the C examples: worked answers, refusals, AVPs at fault, requests that real software sent, the month's numbers, moves
 examples: $(foreach mode,c99 cxx,$(addprefix target/$(mode)/,check decide move report)) target/c/fault target/c++/fault target/c/maketable target/c/showtable $(BINARY)
@@ -279,10 +280,15 @@ target/c99/overstep: tests/overstep.c tests/driver.c $(HEADER) $(ARCHIVE)
 
 target/narrow/driver: tests/driver.c
 target/narrow/decide: examples/decide.c examples/load.h examples/fault.h
+# Bound at the start, as pkg-config has it: else a first call pays for the dynamic linker on its own small stack.
 target/narrow/driver target/narrow/decide: tests/narrow.c $(HEADER) $(ARCHIVE)
 	mkdir -p $(@D)
-	$(X86_CC) -std=c99 $(STRICT) -pthread -Wl,--wrap=ndushavire_check,--wrap=ndushavire_check_vectors,--wrap=ndushavire_decide,--wrap=ndushavire_report \
-	    -o $@ $(filter %.c,$^) $(ARCHIVE)
+	$(X86_CC) -std=c99 $(STRICT) -pthread -Wl,-z,now \
+	    -Wl,--wrap=ndushavire_check,--wrap=ndushavire_check_vectors,--wrap=ndushavire_decide,--wrap=ndushavire_report -o $@ $(filter %.c,$^) $(ARCHIVE)
+
+target/c99/version: tests/version.c $(HEADER) $(ARCHIVE)
+	mkdir -p $(@D)
+	$(X86_CC) -std=c99 $(STRICT) -o $@ $< $(ARCHIVE)
 
 target/c99/unsound: tests/unsound.c bench/requests.h $(HEADER) $(ARCHIVE)
 	mkdir -p $(@D)
@@ -331,10 +337,15 @@ bench: $(addprefix target/bench/,check vectors moves decide report) $(patsubst %
 	   target/bench/report $(call samples,$(REPORTED)); } | tee target/bench/figures
 	@bench/summary.sh target/bench/figures
 
-STACKED := 16-short 4096-short 4096-long 4096-tiny
-#: stack              how much stack a call takes, beside the aim
+STACKED := 16-short 4096-short 4096-long 4096-tiny 4096-short-2-4 4096-long-2-4
+#: stack              how much stack a call takes, beside the aim; and how much where what it calls is bound lazily
 stack: target/c99/stack $(STACKED:%=target/bench/%.table)
-	$(RUN) target/c99/stack $(call samples,$(STACKED))
+	LD_BIND_NOW=1 $(RUN) target/c99/stack $(call samples,$(STACKED))
+ifeq ($(MACHINE),x86_64)
+	LD_BIND_NOT=1 target/c99/stack $(call samples,$(STACKED))
+else
+	@echo 'Bound lazily: not measured, since programs are linked statically here.'
+endif
 
 target/native/libndushavire.a: bench/native-lib $(PROVED)
 	bench/native-lib ndushavire
@@ -360,9 +371,10 @@ target/bench/decide: bench/decide.c $(TIMER)
 target/bench/report target/bench/moves: target/bench/%: bench/%.c $(TIMER)
 	$(CC) -std=c99 $(STRICT) -o $@ $< $(TIMED)
 
+# One program for both bindings: which it is says the environment that it is run in.
 target/c99/stack: bench/stack.c bench/requests.h bench/samples.h bench/vectors.h examples/load.h $(HEADER) $(ARCHIVE)
 	mkdir -p $(@D)
-	$(X86_CC) -std=c99 $(STRICT) -o $@ $< $(ARCHIVE)
+	$(X86_CC) -std=c99 $(STRICT) -Wl,-z,lazy -o $@ $< $(ARCHIVE)
 
 target/bench/libreference_c.a: bench/reference.rs $(BINARY)
 	mkdir -p $(@D)
