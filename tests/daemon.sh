@@ -91,11 +91,20 @@ cp "$tests/whole.c" "$room/whole/example.c"
 source=whole flags=(-DPAIRED=1) noticed=0
 build "$room/whole" "$room/whole/daemon"
 tried "$room/whole/daemon"
-without 'a start that does not flush' files.h 's/ || !flushed(from) || !flushed(file->folder)) return/) return/'
+without 'a start that does not flush' files.h 's/return flushed(from) \&\& flushed(file->folder) \&\& read_all/return read_all/'
 without 'a file that is unsure and answered from' files.h 's/if (stored == UNSURE \&\& store(/if (0 \&\& store(/'
-without 'a table that was not stored and is kept in memory' daemon.c 's/^ *put_back(&table);.*//'
-without 'vectors that were not stored and are kept in memory' daemon.c 's/^ *put_back(&vectors);.*//'
-without 'an answer sent whether stored or not' files.h '/if (stored == NOT_STORED) {/,/}/s/return 0;/return 1;/'
-without 'a table that is stored before the vectors' daemon.c 's/if (!durable(&vectors) || !durable(&table)) {/if (!durable(\&table) || !durable(\&vectors)) {/'
+without 'a table that was not stored and is kept in memory' files.h 's/^        put_back(&table);//'
+without 'vectors that were not stored and are kept in memory' files.h 's/^        put_back(&vectors);//'
+without 'an answer sent whether stored or not' files.h '/^static int durable/,/^}/s/return 0;/return 1;/'
+without 'a table that is stored before the vectors' files.h \
+    's/(used \&\& !durable(&vectors)) || (rewritten \&\& !durable(&table))/(rewritten \&\& !durable(\&table)) || (used \&\& !durable(\&vectors))/'
 without 'vectors that are unsound and lent as they are' files.h 's/vectors.length = 0;/;/'
+without 'vectors of a MAR that are not looked at' files.h 's/= is_mar \&\& altered(&vectors)/= is_mar \&\& 0/'
+without 'a success that is taken for an error' daemon.c 's/ \/ 1000 == 2; }/ \/ 1000 == 3; }/'
+without 'a table renamed away before ours is stored' files.h \
+    's/^    const int folder = table.folder;$/&\n    renameat(folder, "table", folder, "table.declined");/'
+without 'a table that is stored over one that is not kept' files.h 's/^    if (linkat(.*/    if (0 \&\&/'
+without 'an answer while another table lies over ours' files.h 's/if (laid_over || (used/if ((used/'
+without 'a daemon that gives up over a full disk' files.h 's/^    if (laid_over) say_once(/    if (laid_over) stop(told, "full");\n&/'
+without 'a table that is laid over ours and left there' files.h 's/if (laid_over || !has_ours(table.folder)) lay_back();/if (0) lay_back();/'
 echo "daemon.sh: so does the daemon of the examples, and each of $noticed things left out is noticed"

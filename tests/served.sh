@@ -22,10 +22,10 @@ command -v python3 >/dev/null || fail 'python3 is missing (Debian: python3)'
 cp -r "$top/examples" "$room/source"
 
 # Three trials are about peers that wait in vain, and have a daemon with little patience; the others may run on a machine that is slow.
-hasty='greeting slow ending' others='cut many garbage replaced last_good twice full kills'
+hasty='greeting slow ending' others='cut many garbage replaced declined two_users laid_over sizes timed_out last_good twice full kills'
 build() { # SOURCES PROGRAM TRIAL
-    local flags=()
-    [[ " $hasty " != *" $3 "* ]] || flags=(-DQUIET=3 -DGREETING=1 -DFAREWELL=1)
+    local flags=(-DLOOK_AGAIN=1)
+    [[ " $hasty " != *" $3 "* ]] || flags+=(-DQUIET=3 -DGREETING=1 -DFAREWELL=1)
     "${compiler[@]}" -std=c99 -O2 -Wall -Wextra -pedantic -Werror -Wno-unused -I"$top/include" "${flags[@]}" -include "$tests/slow-disk.h" \
         -o "$2" "$1/daemon.c" "$archive"
 }
