@@ -531,9 +531,9 @@ def last_good(room):
     room.start()
     first = room.process
     client = Client(room)
+    refuses("lock of the vectors: another daemon", live="tables/other")
     with open(room.at("cards", "lock")) as lock:
         want(is_locked(lock), "a script could take the vectors' lock")
-    refuses("lock of the vectors: another daemon", live="tables/other")
     refuses("its folder: another daemon", cards="more-cards")
     room.process = first
     client.ask(lir(1))
@@ -575,6 +575,10 @@ def declined(room):
         found = len(re.findall(pattern, room.log()))
         want(found == times, "the log has '%s' %d times, and should %d" % (pattern, found, times))
 
+    def taken(records):
+        looks()
+        want("a new table is taken over, %d records" % records in room.log(), "what has changed is not looked at again at once")
+
     # A link that leads nowhere, for over a second, during which it is looked at again.
     room.link("nowhere")
     said(r"NOT taken over, .*/live: No such file or directory\n", 1)
@@ -592,16 +596,14 @@ def declined(room):
     time.sleep(1.2)
     said("NOT taken over, .*: table: nobody may write to it", 1)
     os.chmod(second + "/table", 0o644)
-    looks()
-    room.logged("a new table is taken over, 2 records")
+    taken(2)
     # By the folder's mode.
     third = room.pair("third", households(3))
     os.chmod(third, 0o555)
     room.link("third")
     said("NOT taken over, .*: table: nobody may write to it", 2)
     os.chmod(third, 0o755)
-    looks()
-    room.logged("a new table is taken over, 3 records")
+    taken(3)
     # By its profile: there is none, it is too short, it is whole; the table stays as it is.
     fourth = room.pair("fourth", households(4))
     os.rename(fourth + "/profile", fourth + "/whole")
@@ -611,8 +613,7 @@ def declined(room):
         short.write(whole.read()[:-1])
     said("NOT taken over, .*: table: block 4 is bad: it points past the end of profile", 1)
     os.rename(fourth + "/whole", fourth + "/profile")
-    looks()
-    room.logged("a new table is taken over, 4 records")
+    taken(4)
     # By a lock that another daemon gives back, which no file shows.
     fifth = room.pair("fifth", households(5))
     folder = os.open(fifth, os.O_RDONLY)
@@ -717,7 +718,7 @@ def sizes(room):
     room.start()
     client = Client(room)
     second = room.pair("second", households(2))
-    for name, size in ("table", 3 << 30), ("table", 4098 * 512), ("table", 700), ("profile", 3 << 30):
+    for name, size in ("table", 4098 * 512), ("table", 700), ("table", 3 << 30), ("profile", 3 << 30):
         os.rename(second + "/" + name, second + "/true")
         sparse(second + "/" + name, size)
         room.link("second")
@@ -806,6 +807,27 @@ def twice(room):
     want(rands(one.ask(mar(3, end=500))) != rands(first), "another request gets this one's answer")
     one.ask(lir(9, end=501, host=b"icscf.isle"))
     want(result(one.ask(sar(9, 1, end=501, host=b"icscf.isle"))) == "B2001", "another request gets this one's answer")
+    room.end()
+
+
+def crowded(room):
+    """A daemon with room for few answers: those that altered something are not pushed out by others. A build of its own."""
+    room.start()
+    client = Client(room)
+    want(result(client.ask(sar(1, 1))) == "B2001" and result(client.ask(sar(2, 5))) == "X5007", "other results")
+    removal, failure = sar(1, 5), sar(1, 5)
+    first = client.ask(removal)
+    want(result(first) == "B2001" and result(client.ask(failure)) == "X5007", "no removal")
+    for asked in [lir(3) for _ in range(200)] + [uar(3) for _ in range(200)] + [sar(3, 0) for _ in range(200)]:
+        client.ask(asked)
+    want(client.ask(removal) == first, "an answer was pushed out by others that altered nothing")
+    want(result(client.ask(sar(1, 1))) == "B2001", "no registration")
+    want(client.ask(removal) == first, "an answer was pushed out")
+    client.ask(failure)
+    want("forgotten" not in room.log(), "it says that answers were forgotten")
+    for user in range(4, 24):
+        client.ask(sar(user, 1))
+    room.logged("answers are forgotten before their 300 seconds")
     room.end()
 
 
@@ -953,7 +975,7 @@ def kills(room):
 
 
 TRIALS = {trial.__name__: trial for trial in (greeting, cut, many, garbage, slow, replaced, declined, two_users, laid_over, sizes, timed_out, last_good, ending,
-                                              twice, full, kills, spoilt)}
+                                              twice, crowded, full, kills, spoilt)}
 
 
 def main():
@@ -969,7 +991,7 @@ def main():
         except Wrong as wrong:
             print("client.py: %s: %s" % (name, wrong), file=sys.stderr)
             return 1
-        except (subprocess.TimeoutExpired, ConnectionError, socket.timeout, KeyError) as wrong:
+        except (subprocess.TimeoutExpired, ConnectionError, FileNotFoundError, socket.timeout, KeyError) as wrong:
             print("client.py: %s: %r" % (name, wrong), file=sys.stderr)
             return 1
         finally:
