@@ -5,11 +5,12 @@
  *
  * - One thread, one loop over poll. No peer is waited for: one that sends a byte a minute, or reads nothing, has its place and no more. Of one
  *   that sends much at once 16 KiB are served, and then come the others.
- * - CER, DWR and DPR are answered here (base.h). Every other message goes to ndushavire_decide, unless it came before and its answer is
- *   remembered (remember.h).
+ * - CER, DWR and DPR are answered here (base.h). Every other message goes to ndushavire_decide, unless it is a SAR or a MAR that came before
+ *   and its answer is remembered (remember.h).
  * - What a call altered is stored and flushed before the answer is sent, the vector file and then the table (files.h, store.h). What cannot be
- *   stored is undone and not answered: the peer asks again.
- * - A table that is put in the live one's place is taken over if it is sound. Vectors are put in with the daemon stopped.
+ *   stored is undone and not answered: the peer asks again. Only a SAR or a MAR that succeeds alters anything: that is proved.
+ * - A table that is put in the live one's place is taken over if it is sound; if not, the log says why. Vectors are put in with the daemon
+ *   stopped: while it runs it has locks on the table's folder and on CARDS/lock.
  * - It never stores over files that nobody may write to: those are a last good copy.
  *
  * Who may connect, TLS, failover and routing are a relay's in front of it; INTEROPERABILITY.md shows one.
@@ -311,7 +312,8 @@ static int listen_at(const char *address, unsigned long port) {
     memset(&at, 0, sizeof at);
     at.any.sa_family = six ? AF_INET6 : AF_INET;
     at.four.sin_port = htons((uint16_t)port); /* in either, it stands at one place */
-    if (inet_pton(at.any.sa_family, address, six ? (void *)&at.six.sin6_addr : (void *)&at.four.sin_addr) != 1) stop(*address != '\0' ? address : "-a", "no address");
+    if (inet_pton(at.any.sa_family, address, six ? (void *)&at.six.sin6_addr : (void *)&at.four.sin_addr) != 1)
+        stop(*address != '\0' ? address : "-a", "no address");
     const int listening = socket(at.any.sa_family, SOCK_STREAM, 0);
     if (listening < 0 || setsockopt(listening, SOL_SOCKET, SO_REUSEADDR, &yes, sizeof yes) != 0 || fcntl(listening, F_SETFL, O_NONBLOCK) != 0 ||
         bind(listening, &at.any, size) != 0 || listen(listening, PEERS) != 0 || getsockname(listening, &at.any, &size) != 0)

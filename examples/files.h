@@ -126,8 +126,8 @@ static const char *unsound(const File *of_lines, const File *of_profiles) {
     return bad_block(word, past ? ": it points past the end of profile" : "");
 }
 
-/* ---- locks, which end with the process. They are flock(2)'s, which POSIX does not have, since flock(1) takes those: a script that puts vectors
- * in takes the same one. Where the table is it is the folder itself that is locked, since the link that leads there may be switched. */
+/* ---- locks, which end with the process. They are flock(2)'s, which POSIX does not have, since flock(1) takes those: a script that puts
+ * vectors in takes the same one. Of a pair the folder itself is locked, since the link that leads there is switched. */
 
 static const char *why_not_locked(int file) {
     if (flock(file, LOCK_EX | LOCK_NB) == 0) return NULL;
@@ -175,7 +175,7 @@ static void take_vectors(int folder) {
 
 static int open_folder(const char *path) { return open(path, O_RDONLY | O_DIRECTORY | O_CLOEXEC); }
 
-/* One that was killed within put_in_place may have left its table without its name. */
+/* A daemon that was killed within put_in_place may have left its table without its name. */
 static void finish_laying_back(int folder) {
     struct stat found;
     if (fstatat(folder, "table", &found, AT_SYMLINK_NOFOLLOW) != 0 && errno == ENOENT) renameat(folder, "table.ours", folder, "table");
@@ -216,6 +216,24 @@ static int durable(File *file) {
     return 0;
 }
 
+static int same_file(const struct stat *a, const struct stat *b) {
+    return a->st_dev == b->st_dev && a->st_ino == b->st_ino && a->st_size == b->st_size && a->st_mtim.tv_sec == b->st_mtim.tv_sec &&
+           a->st_mtim.tv_nsec == b->st_mtim.tv_nsec;
+}
+
+/* Whether a folder has a file as we stored it. */
+static int has_ours(int folder, const File *file) {
+    struct stat found;
+    return fstatat(folder, file->name, &found, AT_SYMLINK_NOFOLLOW) == 0 && same_file(&found, &file->about);
+}
+
+/* Vectors that were put in under the running daemon, whatever its lock says, are stored over: not without a word. */
+static void set_vectors_aside(void) {
+    unlinkat(vectors.folder, "vectors.declined", 0);
+    const int kept = linkat(vectors.folder, "vectors", vectors.folder, "vectors.declined", 0) == 0;
+    say("vectors: others were put in under the running daemon: NOT taken over, and %s", kept ? "kept as vectors.declined" : "LOST");
+}
+
 static int altered(const File *file) { return memcmp(file->before, file->bytes, file->length) != 0; }
 
 static int laid_over; /* whether another table lies where ours should be, which could not be stored again */
@@ -227,6 +245,7 @@ typedef enum { UNALTERED, KEPT, UNDONE } Outcome;
 static Outcome keep_altered(int is_mar) {
     const int used = is_mar && altered(&vectors), rewritten = altered(&table);
     if (!used && !rewritten) return UNALTERED;
+    if (used && !has_ours(vectors.folder, &vectors)) set_vectors_aside();
     if (laid_over || (used && !durable(&vectors)) || (rewritten && !durable(&table))) {
         put_back(&table);
         put_back(&vectors);
@@ -239,24 +258,13 @@ static Outcome keep_altered(int is_mar) {
 
 /* ---- a table that is put in the live one's place */
 
-static int same_file(const struct stat *a, const struct stat *b) {
-    return a->st_dev == b->st_dev && a->st_ino == b->st_ino && a->st_size == b->st_size && a->st_mtim.tv_sec == b->st_mtim.tv_sec &&
-           a->st_mtim.tv_nsec == b->st_mtim.tv_nsec;
-}
-
-/* Whether a folder has the table that we stored. */
-static int has_ours(int folder) {
-    struct stat found;
-    return fstatat(folder, "table", &found, AT_SYMLINK_NOFOLLOW) == 0 && same_file(&found, &table.about);
-}
-
-/* Exchanges what was laid over our table, which is kept as table.declined, for ours, which is stored first. At no moment there is no table; but
- * of another user's file, or of a folder, a second name may be forbidden, and there is none between two renames. */
+/* Exchanges what was laid over our table, and is kept as table.declined, for ours, which is stored first, so that there is always a table. But a
+ * second name for another user's file may be forbidden: then there is none between two renames, and finish_laying_back mends a kill there. */
 static int put_in_place(void) {
     const int folder = table.folder;
     struct stat ours;
-    if (store(folder, "table.ours", table.before, table.length) != STORED || fstatat(folder, "table.ours", &ours, 0) != 0) return 0;
-    fchmodat(folder, "table.ours", table.about.st_mode & 0777, 0);
+    if (store(folder, "table.ours", table.before, table.length) != STORED) return 0;
+    if (fchmodat(folder, "table.ours", table.about.st_mode & 0777, 0) != 0 || fstatat(folder, "table.ours", &ours, 0) != 0) return 0;
     unlinkat(folder, "table.declined", 0);
     if (linkat(folder, "table", folder, "table.declined", 0) != 0 && errno != ENOENT &&
         (errno != EPERM || renameat(folder, "table", folder, "table.declined") != 0))
@@ -272,10 +280,13 @@ static void lay_back(void) {
     static char told[LOG_LINE];
     if (laid_over && tried == now) return;
     tried = now;
-    laid_over = !(has_ours(table.folder) ? on_disk(&table, table.before) : put_in_place());
-    if (laid_over) say_once(told, "table: ours is NOT STORED where another was laid over it, and nothing that alters is answered", strerror(errno));
-    else told[0] = '\0';
-    if (!laid_over) say("table: ours is stored again; what was laid over it is table.declined");
+    laid_over = !(has_ours(table.folder, &table) ? on_disk(&table, table.before) : put_in_place());
+    if (laid_over) {
+        say_once(told, "table: ours is NOT STORED where another was laid over it, and nothing that alters is answered", strerror(errno));
+        return;
+    }
+    told[0] = '\0';
+    say("table: ours is stored again; what was laid over it is table.declined");
 }
 
 static void take_over(const File *new_table, const File *new_profile) {
@@ -364,14 +375,14 @@ static void look_for_table(void) {
     const int folder = open_folder(live);
     if (folder < 0) {
         declined(of(live, strerror(errno)));
-    } else if (has_ours(folder)) {
+    } else if (has_ours(folder, &table)) {
         close(folder);
         declined_told[0] = '\0';
         if (!laid_over) return;
     } else {
         look_into(folder);
     }
-    if (laid_over || !has_ours(table.folder)) lay_back();
+    if (laid_over || !has_ours(table.folder, &table)) lay_back();
 }
 
 /* Under refusal 5 or 6 the file is read again, as at a start: what was answered is on disk. A table that is unsound there too is

@@ -631,9 +631,23 @@ def reachable(path):
     return bool(os.stat(path).st_mode & 1) and (path == "/" or reachable(os.path.dirname(path)))
 
 
+def can_be_nobody():
+    """Whether this user may become another."""
+    child = os.fork()
+    if child == 0:
+        try:
+            os.setgroups([])
+            os.setgid(NOBODY)
+            os.setuid(NOBODY)
+            os._exit(0)
+        except OSError:
+            os._exit(1)
+    return os.waitpid(child, 0)[1] == 0
+
+
 def two_users(room):
     """The daemon is nobody, and root's script has a umask that keeps the new table from it."""
-    if os.getuid() != 0 or not reachable(room.path):
+    if not can_be_nobody() or not reachable(room.path):
         print("client.py: two_users is left out: it takes root, and a folder that others can reach")
         return
     for path, folders, files in os.walk(room.path):
@@ -751,6 +765,23 @@ def timed_out(room):
     room.kill()
     room.start()
     want(result(Client(room).ask(lir(1))) == "X2003", "a registration that timed out is back")
+    room.end()
+
+
+def put_in(room):
+    """Vectors that are put in under a running daemon, past its lock, are not lost without a word."""
+    room.start()
+    client = Client(room)
+    want(len(rands(client.ask(mar(1)))) == 1, "no vectors")
+    used = room.used()
+    shutil.copy(room.at("cards", "vectors"), room.at("cards", "next"))
+    os.rename(room.at("cards", "next"), room.at("cards", "vectors"))
+    others = os.stat(room.at("cards", "vectors")).st_ino
+    for _ in range(2):
+        want(len(rands(client.ask(mar(2)))) == 1, "no vectors")
+    want(len(room.used() - used) == 2, "what was sent is not used on disk")
+    want(room.log().count("others were put in under the running daemon: NOT taken over, and kept as vectors.declined") == 1, "there is no word of it")
+    want(os.stat(room.at("cards", "vectors.declined")).st_ino == others, "others are kept")
     room.end()
 
 
@@ -974,8 +1005,8 @@ def kills(room):
           (tally["answers"], rounds, tally["stored"], tally["unstored"], len(sent), tally["wasted"]))
 
 
-TRIALS = {trial.__name__: trial for trial in (greeting, cut, many, garbage, slow, replaced, declined, two_users, laid_over, sizes, timed_out, last_good, ending,
-                                              twice, crowded, full, kills, spoilt)}
+TRIALS = {trial.__name__: trial for trial in (greeting, cut, many, garbage, slow, replaced, declined, two_users, laid_over, sizes, put_in, timed_out,
+                                              last_good, ending, twice, crowded, full, kills, spoilt)}
 
 
 def main():

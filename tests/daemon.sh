@@ -105,6 +105,6 @@ without 'a table renamed away before ours is stored' files.h \
     's/^    const int folder = table.folder;$/&\n    renameat(folder, "table", folder, "table.declined");/'
 without 'a table that is stored over one that is not kept' files.h 's/^    if (linkat(.*/    if (0 \&\&/'
 without 'an answer while another table lies over ours' files.h 's/if (laid_over || (used/if ((used/'
-without 'a daemon that gives up over a full disk' files.h 's/^    if (laid_over) say_once(/    if (laid_over) stop(told, "full");\n&/'
-without 'a table that is laid over ours and left there' files.h 's/if (laid_over || !has_ours(table.folder)) lay_back();/if (0) lay_back();/'
+without 'a daemon that gives up over a full disk' files.h 's/^        say_once(told, /        stop(told, "full");\n&/'
+without 'a table that is laid over ours and left there' files.h 's/if (laid_over || !has_ours(table.folder, &table)) lay_back();/if (0) lay_back();/'
 echo "daemon.sh: so does the daemon of the examples, and each of $noticed things left out is noticed"

@@ -168,7 +168,7 @@ int main(int argc, char **argv) {
     for (unsigned long i = 0; i < count; i++)
         if (!survives(edges, &state)) return 1;
     forget_all();
-    printf("remember: seed %s, %lu random messages; %d answers of %d seconds, %lu pairs of them with one hash; each is remembered as long as it may be\n", argv[1],
-           count, LOAD, REMEMBERED_SECONDS, (unsigned long)collisions);
+    printf("remember: seed %s, %lu random messages; %d answers of %d seconds, %lu pairs of them with one hash; each is remembered its time\n",
+           argv[1], count, LOAD, REMEMBERED_SECONDS, (unsigned long)collisions);
     return 0;
 }

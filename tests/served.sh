@@ -22,7 +22,7 @@ command -v python3 >/dev/null || fail 'python3 is missing (Debian: python3)'
 cp -r "$top/examples" "$room/source"
 
 # Three trials are about peers that wait in vain, and have a daemon with little patience; the others may run on a machine that is slow.
-hasty='greeting slow ending' others='cut many garbage replaced declined two_users laid_over sizes timed_out last_good twice full kills'
+hasty='greeting slow ending' others='cut many garbage replaced declined two_users laid_over sizes put_in timed_out last_good twice full kills'
 build() { # SOURCES PROGRAM TRIAL [OPTION]
     local flags=(-DLOOK_AGAIN=1 "${@:4}")
     [[ " $hasty " != *" $3 "* ]] || flags+=(-DQUIET=3 -DGREETING=1 -DFAREWELL=1)
@@ -89,9 +89,11 @@ with 'vectors that are not stored' kills files.h 's/(used \&\& !durable(&vectors
 with 'a table that is not stored' kills files.h 's/ || (rewritten \&\& !durable(&table))//'
 with 'what was not stored, kept in memory' full files.h 's/^        put_back(&table);//; s/^        put_back(&vectors);//'
 with 'a file that may be lost, and is answered from' full files.h 's/if (stored == UNSURE \&\& /if (0 \&\& /'
-with 'a success with an X result, taken for an error' timed_out daemon.c 's/(base_result(answer, length) + experimental_result(answer, length))/base_result(answer, length)/'
+with 'a success with an X result, taken for an error' timed_out daemon.c \
+    's/(base_result(answer, length) + experimental_result(answer, length))/base_result(answer, length)/'
 with 'a request that comes twice and is decided twice' twice daemon.c 's/may_alter(request, length) ? recall(now, request, length) : NULL/NULL/'
-with 'answers that are told apart by their identifier alone' twice remember.h -e 's/^    uint32_t hash = 2166136261u;/    return (uint32_t)four_bytes(bytes + 16);\n&/' \
+with 'answers that are told apart by their identifier alone' twice remember.h \
+    -e 's/^    uint32_t hash = 2166136261u;/    return (uint32_t)four_bytes(bytes + 16);\n&/' \
     -e 's/ \&\& one->request == used \&\& memcmp(request_of(one), plain, used) == 0//'
 with 'an answer that is sent again with the first identifier' twice remember.h 's/^    memcpy(answer + 12, request + 12, 4);//'
 with 'an answer that is sent again with the first Proxy-Info' twice remember.h 's/ \&\& !is_proxy_info(answer + at)) at += span;/) at += span;/'
@@ -100,23 +102,26 @@ with 'answers that altered nothing among those that did' crowded remember.h -e "
 with 'answers that are forgotten without a word' crowded remember.h -e "$few" -e 's/^    return room;/    return 1;/'
 with 'an unsound table that is taken over' replaced files.h 's/^    if (why == NULL) why = of("table", unsound(.*//'
 with 'a table that is never looked for' replaced files.h 's/^    consider(locked_already(.*/    close(folder);/'
-with 'a table that was laid over ours, and is left there' replaced files.h 's/^    if (laid_over || !has_ours(table.folder)) lay_back();//'
+with 'a table that was laid over ours, and is left there' replaced files.h 's/^    if (laid_over || !has_ours(table.folder, &table)) lay_back();//'
 with 'a switch that does not happen, without a word' declined files.h 's/^        declined(of(live, strerror(errno)));/        ;/'
 with 'a reason that is said again and again' declined log.h 's/strcmp(line, told) != 0 \&\& //'
 with 'a table that was declined, whose mode does not matter' declined files.h -e 's/^    return a->st_mode == b->st_mode .*/    return a != b;/' \
     -e 's/return same_file(a, b) \&\& same_rights(a, b) .*/return same_file(a, b);/'
 with 'a table that was declined, whose profile does not matter' declined files.h 's/^           untouched(&a->about\[PROFILE_FILE\].*/           1;/'
 with 'a table that is not looked at again unless somebody touches it' declined files.h 's/if (same \&\& now - looked < LOOK_AGAIN) {/if (same) {/'
-with 'a table renamed away before ours is stored' laid_over files.h 's/^    const int folder = table.folder;$/&\n    renameat(folder, "table", folder, "table.declined");/'
-with 'a mode that is taken from what was laid over ours' laid_over files.h 's/^    fchmodat(folder, "table.ours", .*//'
+with 'a table renamed away before ours is stored' laid_over files.h \
+    's/^    const int folder = table.folder;$/&\n    renameat(folder, "table", folder, "table.declined");/'
+with 'a mode that is taken from what was laid over ours' laid_over files.h 's/^    if (fchmodat(folder, "table.ours", .* || fstatat/    if (fstatat/'
 with 'a table that was left without its name' laid_over files.h 's/^    finish_laying_back(here);//'
 with 'sizes that are not asked' sizes files.h 's/^    if (size <= most \&\& size % block == 0) return NULL;/    if (size < 1ull << 40) return NULL;/'
+with 'vectors that are stored over without a word' put_in files.h 's/^    if (used \&\& !has_ours(vectors.folder, &vectors)) .*//'
 with 'a last good file that is stored over' last_good files.h 's/(file.st_mode & 0222) == 0 || (around.st_mode & 0222) == 0/0/'
-with 'a vector file that is a link, by its errno' last_good files.h -e 's/^    if (S_ISLNK(file.st_mode)) return linked;//' -e 's/return errno == ELOOP ? linked : strerror(errno);/return strerror(errno);/'
+with 'a vector file that is a link, by its errno' last_good files.h \
+    -e 's/^    if (S_ISLNK(file.st_mode)) return linked;//' -e 's/return errno == ELOOP ? linked : strerror(errno);/return strerror(errno);/'
 with 'two daemons over one vector file' last_good files.h 's/file < 0 ? why_not_opened() : why_not_locked(file);/file < 0 ? why_not_opened() : NULL;/'
 with 'two daemons over one table' last_good files.h 's/^    if (why == NULL) why = of("its folder", .*//'
 with 'a lock that flock(1) does not see' last_good files.h \
-    's/^    if (flock(file, LOCK_EX | LOCK_NB) == 0) return NULL;/    struct flock all = {.l_type = F_WRLCK};\n    if (fcntl(file, F_SETLK, \&all) == 0 || errno == EBADF) return NULL;/'
+    's/^    if (flock(file, LOCK_EX | LOCK_NB) == 0)/    struct flock all = {.l_type = F_WRLCK};\n    if (fcntl(file, F_SETLK, \&all) == 0 || errno == EBADF)/'
 with 'rotten vectors that are lent as they are' last_good files.h 's/vectors.length = 0;/;/'
 with 'half a message, forgotten' cut daemon.c 's/^    peer->have -= at;/    if (at == 0) peer->have = 0;\n&/'
 with 'what stands behind a message, forgotten' many daemon.c 's/^    peer->have -= at;/    peer->have = 0;/'
