@@ -14,7 +14,7 @@
  * - It never stores over files that nobody may write to: those are a last good copy.
  *
  * Who may connect, TLS, failover and routing are a relay's in front of it; INTEROPERABILITY.md shows one.
- * Exit status: 0 ended by SIGTERM or SIGINT; 1 it cannot start or go on; 2 the arguments are others. */
+ * Exit status: 0 ended by SIGTERM or SIGINT, or --help; 1 it cannot start or go on; 2 the arguments are others. */
 #define _POSIX_C_SOURCE 200809L
 #include <arpa/inet.h>
 #include <netinet/in.h>

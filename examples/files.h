@@ -60,7 +60,7 @@ static char size_said[100];
 static const char *wrong_size(const struct stat *about, size_t most, size_t block) {
     const unsigned long long size = (unsigned long long)about->st_size;
     if (size <= most && size % block == 0) return NULL;
-    snprintf(size_said, sizeof size_said, "it has %llu bytes, and may have %lu%s", size, (unsigned long)most, block > 1 ? ", in blocks of 512" : "");
+    snprintf(size_said, sizeof size_said, "it has %llu bytes, and may have %lu at most%s", size, (unsigned long)most, block > 1 ? ", in blocks of 512" : "");
     return size_said;
 }
 

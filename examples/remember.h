@@ -18,9 +18,9 @@
 
 enum { REMEMBERED_SECONDS = 300, CHAINS = 1 << 20, RETRANSMITTED = 0x10 };
 
-/* How many bytes the answers may take whose calls altered nothing, and those whose calls altered a file. Each of these cost a store, which is
- * two flushes, one after the other. We know of no disk that flushes in under 0.1 ms: that is 5,000 answers a second, 1.5 million in five
- * minutes, and with its request one takes 1 KiB. Of lines with profiles of 4 KiB one takes 5 KiB: then there is room for 1,300 a second. */
+/* How many bytes the answers may take whose calls altered nothing, and those whose calls altered a file. Each of these cost a store: a file made and
+ * flushed, renamed, and its folder flushed, two commits of the file system one after the other. A fast disk takes 0.1 ms for each: 5,000 answers
+ * a second, 1.5 million in five minutes. With its request one takes 1 KiB, and with a profile of 4 KiB 5 KiB: then there is room for 1,300 a second. */
 static size_t remembered_most[2] = {(size_t)64 << 20, (size_t)2 << 30};
 
 /* Behind it stand the request without what relays alter, and the answer. */

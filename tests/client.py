@@ -745,7 +745,7 @@ def sizes(room):
     os.rename(room.at("cards/vectors"), room.at("cards/true"))
     sparse(room.at("cards/vectors"), 3 << 30)
     room.start()
-    room.logged("vectors: it has %d bytes, and may have 2097152, in blocks of 512: NO CHALLENGES" % (3 << 30))
+    room.logged("vectors: it has %d bytes, and may have 2097152 at most, in blocks of 512: NO CHALLENGES" % (3 << 30))
     client = Client(room)
     want(result(client.ask(mar(1))) == "B5012" and result(client.ask(sar(1, 1))) == "B2001", "over vectors that are none it answers otherwise")
     want(os.stat(room.at("cards/vectors")).st_size == 3 << 30, "vectors that are none were stored over")
