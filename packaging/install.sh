@@ -49,10 +49,13 @@ list_files() { # ARCHIVE PROGRAM..
     for file in examples/* "${requests[@]}"; do goes "$file" "$docdir/examples/${file##*/}" 644; done
     for file in "${@:2}"; do
         name=${file##*/}
-        case $name in check | move | report) name=ndushavire-$name ;; esac
+        case $name in check | maketable | move | report | showtable) name=ndushavire-$name ;; esac
         goes "$file" "$bindir/$name" 755
     done
 }
+
+# What the header declares: `man` finds ndushavire(3) by each of these names.
+functions() { sed -n 's/^\(static inline \)\{0,1\}[a-z0-9_]* \(ndushavire_[a-z_]*\)(.*/\2/p' include/ndushavire.h; }
 
 # What pkg-config is told: folders under PREFIX by that name.
 pkg_config() {
@@ -95,9 +98,9 @@ install_all() { # ARCHIVE PROGRAM..
         noted file "${places[i]}"
         install -m "${modes[i]}" "${sources[i]}" "$below${places[i]}"
     done
-    for i in back check check_vectors decide forward report; do
-        noted file "$mandir/man3/ndushavire_$i.3"
-        ln -sf ndushavire.3 "$below$mandir/man3/ndushavire_$i.3"
+    for i in $(functions); do
+        noted file "$mandir/man3/$i.3"
+        ln -sf ndushavire.3 "$below$mandir/man3/$i.3"
     done
     make_folder "$libdir/pkgconfig"
     noted file "$libdir/pkgconfig/ndushavire.pc"
