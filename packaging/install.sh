@@ -57,6 +57,12 @@ list_files() { # ARCHIVE PROGRAM..
 # What the header declares: `man` finds ndushavire(3) by each of these names.
 functions() { sed -n 's/^\(static inline \)\{0,1\}[a-z0-9_]* \(ndushavire_[a-z_]*\)(.*/\2/p' include/ndushavire.h; }
 
+# The scripts that manual pages print are installed to be copied, too: a page and the name of its script.
+scripts=(tablecheck.1:switch.sh ndushavire-check.1:vectors.sh ndushavire-move.1:move.sh ndushavire-report.1:month.sh)
+script_of() { # PAGE
+    awk '/^\.Ed/ { shown = 0 } /^#!\/bin\/sh$/ { shown = 1 } shown' "man/$1" | sed 's/\\e/\\/g; s/\\&//g'
+}
+
 # What pkg-config is told: folders under PREFIX by that name.
 pkg_config() {
     local text version
@@ -101,6 +107,11 @@ install_all() { # ARCHIVE PROGRAM..
     for i in $(functions); do
         noted file "$mandir/man3/$i.3"
         ln -sf ndushavire.3 "$below$mandir/man3/$i.3"
+    done
+    for i in "${scripts[@]}"; do
+        noted file "$docdir/examples/${i#*:}"
+        script_of "${i%:*}" >"$below$docdir/examples/${i#*:}"
+        chmod 755 "$below$docdir/examples/${i#*:}"
     done
     make_folder "$libdir/pkgconfig"
     noted file "$libdir/pkgconfig/ndushavire.pc"

@@ -33,6 +33,7 @@ quiet() { make -s -C "$top" "$@"; }
         share/doc/ndushavire/{README.md,installed}
     printf 'share/man/man3/%s.3\n' $functions
     (cd "$top" && printf 'share/doc/ndushavire/%s\n' docs/*.md | sed 's|/docs/|/|')
+    printf 'share/doc/ndushavire/examples/%s.sh\n' switch vectors move month
     (cd "$top" && printf 'share/doc/ndushavire/%s\n' examples/* examples/{icscf-20-lir,scscf-12-sar,mar-33,mar-16}.hex)
     (cd "$top" && printf '%s\n' man/* | sed 's|^man/\(.*\)\.\(.\)$|share/man/man\2/\1.\2|')
 } | sed '/^$/d' | sort >"$room/expected"

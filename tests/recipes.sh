@@ -45,7 +45,6 @@ indented() { awk -v heading="$2" '/^##+ / { within = $0 == heading } within' "$t
 script_of() { # PAGE FILE
     displays "$1" | sed -n '/^#!\/bin\/sh$/,/^$/p' | sed '/^$/d' >"$2"
     [ "$(grep -c '^#!' "$2")" = 1 ] || fail "$1 has no script, or two"
-    chmod 755 "$2"
 }
 # Whether what was SAID is what is SHOWN.
 as_shown() { # SHOWN SAID
@@ -175,30 +174,29 @@ mkdir "$disk/made"
 cp "$top/target/c99/"{check,move,report} "$top/target/bin/"{answer,tablecheck} "$disk/made/"
 for name in check move report; do [ -e "$prefix/bin/ndushavire-$name" ] || wrap "$bin/ndushavire-$name" "${RUN-} '$disk/made/$name'"; done
 for name in answer tablecheck; do [ -e "$prefix/bin/$name" ] || wrap "$bin/$name" "$program '$disk/made/$name'"; done
-mkdir "$disk/built"
-cp "$prefix/share/doc/ndushavire/examples/"* "$disk/built/"
-{ sed -n 's/^    \(gcc .* daemon\.c .*\)/\1/p' "$top/README.md" && displays ndushavire.3 EXAMPLES | grep '^cc daemon\.c '; } >"$room/builds"
-[ "$(wc -l <"$room/builds")" = 2 ] || fail 'README or ndushavire(3) builds no daemon'
-while read -r line; do
-    rm -f "$disk/built/a.out"
-    (cd "$disk/built" && sh -c "$line") || fail "$line: status $?"
-    status=0
-    ${RUN-} "$disk/built/a.out" 2>/dev/null || status=$?
-    [ "$status" = 2 ] || fail "$line makes a daemon that ends with status $status without arguments"
-done <"$room/builds"
+examples=$prefix/share/doc/ndushavire/examples
+built() { # FOLDER DAEMON COMMAND: the daemon, without arguments, says how it is used
+    local status=0
+    [ -n "$3" ] || fail 'README or ndushavire(3) builds no daemon'
+    (cd "$1" && rm -f "$2" && sh -c "$3") || fail "$3: status $?"
+    ${RUN-} "$1/$2" 2>/dev/null || status=$?
+    [ "$status" = 2 ] || fail "$3: its daemon ends with status $status without arguments"
+}
+built "$tree" service/daemon "$(sed -n 's/^    \(gcc .*pkg-config.*\)/\1/p' "$top/README.md")"
+cp -r "$examples" "$disk/built"
+built "$disk/built" a.out "$(displays ndushavire.3 EXAMPLES | grep '^cc ')"
 
 # ---- ndushavire(7): the folder, and its user
 user=ndushavire owner=(-e 's/runuser -u ndushavire -- //; s/ -o ndushavire / /')
 [ "$(id -u)" != 0 ] || { user=nobody owner=(-e 's/ndushavire --/nobody --/; s/-o ndushavire/-o nobody/'); }
 folder=$disk/srv
 for page in tablecheck.1:switch.sh ndushavire-check.1:vectors.sh ndushavire-move.1:move.sh ndushavire-report.1:month.sh; do
-    script_of "${page%:*}" "$bin/${page#*:}"
+    script_of "${page%:*}" "$room/script"
+    cmp "$room/script" "$examples/${page#*:}" >&2 && [ -x "$examples/${page#*:}" ] || fail "the script of ${page%:*} is not installed as it stands there"
     grep -q -F "${page#*:}" "$top/man/${page%:*}" || fail "${page%:*} does not name its script ${page#*:}"
 done
-give_scripts() { cp "$bin/"{switch,vectors,move,month}.sh "$top/examples/"{households,vectors}.txt "$1/"; } # FOLDER
-mkdir "$folder"
-give_scripts "$folder"
-here_too() { sed "${owner[@]}" -e "s|/srv/ndushavire|$folder|"; }
+give_scripts() { cp "$examples/"*.{sh,txt} "$1/"; } # FOLDER
+here_too() { sed "${owner[@]}" -e "s|/srv/ndushavire|$folder|; s|/usr/local/share|$prefix/share|"; }
 displays ndushavire.7 EXAMPLES >"$room/folder"
 grep -q '^# useradd .* ndushavire$' "$room/folder" || fail 'ndushavire(7) makes no user'
 ran=$((ran + 1)) # the user is nobody, whom every system has
