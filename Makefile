@@ -7,8 +7,8 @@ SHELL := /bin/bash
 .DELETE_ON_ERROR:
 .NOTPARALLEL:
 export PYTHONDONTWRITEBYTECODE := 1
-.PHONY: help run test clean fmt kit pages header examples tables texts aims stores programs reference installs cited recipes narrow bench stack installable install uninstall
-.PHONY: unsound reports moves daemon peers differential noticed soak mutants stats definitions-check cases
+.PHONY: help run test clean fmt kit pages header examples tables texts aims stores programs reference installs cited narrow bench stack installable install uninstall
+.PHONY: unsound reports moves recipes daemon peers differential noticed soak mutants stats definitions-check cases
 
 MACHINE := $(shell uname -m)
 ifeq ($(MACHINE),x86_64)

@@ -75,14 +75,13 @@ pkg_config() {
     printf '%s\n' "${text//@VERSION@/"$version"}"
 }
 
-# ---- the note: a line `file PLACE` or `folder PLACE`, without DESTDIR
+# ---- the note: a line `file PLACE` or `folder PLACE`, without DESTDIR. Until there is a place for it, lines are kept.
 early=()
+declare -A known=()
 noted() { # KIND PLACE
-    if [ ! -e "$below$docdir" ]; then
-        early+=("$1 $2")
-    else
-        grep -q -x -F -e "$1 $2" "$below$note" 2>/dev/null || printf '%s\n' "$1 $2" >>"$below$note"
-    fi
+    [ -z "${known["$1 $2"]-}" ] || return 0
+    known["$1 $2"]=noted
+    if [ -e "$below$docdir" ]; then printf '%s\n' "$1 $2" >>"$below$note"; else early+=("$1 $2"); fi
 }
 make_folder() { # PLACE
     [ -n "$1" ] && [ ! -d "$below$1" ] || return 0
@@ -97,8 +96,10 @@ install_all() { # ARCHIVE PROGRAM..
     for i in "${!sources[@]}"; do
         [ ! "$below${places[i]}" -ef "${sources[i]}" ] || fail "${sources[i]} would be installed over itself"
     done
+    [ ! -e "$below$note" ] || while IFS= read -r line; do [ -z "$line" ] || known["$line"]=noted; done <"$below$note"
     make_folder "$docdir"
-    for line in "${early[@]}" "file $note"; do noted "${line%% *}" "${line#* }"; done
+    [ ${#early[@]} = 0 ] || printf '%s\n' "${early[@]}" >>"$below$note"
+    noted file "$note"
     for i in "${!sources[@]}"; do
         make_folder "${places[i]%/*}"
         noted file "${places[i]}"

@@ -37,8 +37,8 @@ quiet() { make -s -C "$top" "$@"; }
     (cd "$top" && printf 'share/doc/ndushavire/%s\n' examples/* examples/{icscf-20-lir,scscf-12-sar,mar-33,mar-16}.hex)
     (cd "$top" && printf '%s\n' man/* | sed 's|^man/\(.*\)\.\(.\)$|share/man/man\2/\1.\2|')
 } | sed '/^$/d' | sort >"$room/expected"
-for name in share/man/man1/{answer,tablecheck,ndushavire-{check,maketable,move,report,showtable}}.1 share/man/man3/ndushavire{,_value}.3 share/man/man7/ndushavire.7 \
-    share/doc/ndushavire/examples/{move.c,store.h}; do
+for name in share/man/man1/{answer,tablecheck,ndushavire-{check,maketable,move,report,showtable}}.1 share/man/man3/ndushavire{,_value}.3 \
+    share/man/man7/ndushavire.7 share/doc/ndushavire/examples/{move.c,store.h}; do
     grep -q -x -F "$name" "$room/expected" || fail "the tree has no $name"
 done
 files_in() { (cd "$1" && find . ! -type d | sed 's|^\./||' | LC_ALL=C sort); }

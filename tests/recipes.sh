@@ -138,7 +138,7 @@ end_daemon() {
     kill -TERM -- "-$daemon"
     wait "$daemon" || true
     daemon=''
-    grep -q 'daemon: ended' "$room/log" || fail "the daemon does not end: $(cat "$room/log")"
+    await "$room/log" 'daemon: ended' 'the daemon does not end'
 }
 bytes() { printf %b "$(tr -d ' \n' | sed 's/../\\x&/g')"; }
 digits() { od -An -v -tx1 | tr -d ' \n'; }
@@ -246,7 +246,7 @@ refuses() { # ABOUT
 ! grep -q LOCK_EX "$top/examples/files.h" || refuses 'under the daemon'
 end_daemon
 exec 8>>"$service/cards/lock"
-flock -n 8 || fail 'the lock is not given back'
+flock -w 60 8 || fail 'the daemon does not give its lock back'
 refuses 'with the lock taken'
 exec 8>&-
 
