@@ -183,6 +183,9 @@ built() { # FOLDER DAEMON COMMAND: the daemon, without arguments, says how it is
     [ "$status" = 2 ] || fail "$3: its daemon ends with status $status without arguments"
 }
 built "$tree" service/daemon "$(sed -n 's/^    \(gcc .*pkg-config.*\)/\1/p' "$top/README.md")"
+for name in $(cd "$tree" && ls -d ./* | sed 's|^\./||'); do # what README's commands make is no part of the tree
+    [ -e "$top/$name" ] && [ "$name" != service ] || grep -q -x -F "/$name/" "$top/.gitignore" || fail "README's commands make $name, and .gitignore has it not"
+done
 cp -r "$examples" "$disk/built"
 built "$disk/built" a.out "$(displays ndushavire.3 EXAMPLES | grep '^cc ')"
 
@@ -243,7 +246,7 @@ refuses() { # ABOUT
         trials=$((trials + 1))
     done
 }
-! grep -q LOCK_EX "$top/examples/files.h" || refuses 'under the daemon'
+! grep -q LOCK_EX "$top/examples/files.h" || refuses 'under the daemon' # whose lock is flock(2)'s where it has LOCK_EX
 end_daemon
 exec 8>>"$service/cards/lock"
 flock -w 60 8 || fail 'the daemon does not give its lock back'
