@@ -246,7 +246,7 @@ refuses() { # ABOUT
         trials=$((trials + 1))
     done
 }
-! grep -q LOCK_EX "$top/examples/files.h" || refuses 'under the daemon' # whose lock is flock(2)'s where it has LOCK_EX
+refuses 'under the daemon'
 end_daemon
 exec 8>>"$service/cards/lock"
 flock -w 60 8 || fail 'the daemon does not give its lock back'
