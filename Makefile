@@ -8,7 +8,7 @@ SHELL := /bin/bash
 .NOTPARALLEL:
 export PYTHONDONTWRITEBYTECODE := 1
 .PHONY: help run test clean fmt kit pages header examples tables texts aims stores programs reference installs cited narrow bench stack installable install uninstall
-.PHONY: unsound reports moves daemon peers differential noticed soak mutants stats definitions-check cases
+.PHONY: unsound reports moves recipes daemon peers differential noticed soak mutants stats definitions-check cases
 
 MACHINE := $(shell uname -m)
 ifeq ($(MACHINE),x86_64)
@@ -29,8 +29,9 @@ ARCHIVE := target/staticlib/libndushavire.a
 HEADER := include/ndushavire.h
 BINARY := reference/target/release/reference
 PROVED := crates.txt $(shell find crates -name '*.rt' -o -name '*.antt' -o -type d)
-# x86-64 code as well, and nothing of theirs is static: installed on x86-64 alone.
-PROGRAMS := $(if $(filter x86_64,$(MACHINE)),target/bin/answer target/bin/tablecheck target/c99/check target/c99/move target/c99/report)
+# Over the archive, which is x86-64 code, and nothing of theirs is static: these are installed on x86-64 alone. The other two are plain C.
+OVER_ARCHIVE := target/bin/answer target/bin/tablecheck target/c99/check target/c99/move target/c99/report
+PROGRAMS := target/c/maketable target/c/showtable $(if $(filter x86_64,$(MACHINE)),$(OVER_ARCHIVE))
 REFERENCE := $(shell find reference -path reference/target -prune -o -name '*.rs' -print -o -name 'Cargo.*' -print)
 
 #: help               this list
@@ -60,7 +61,7 @@ target/bin/%: $(PROVED)
 	touch $@
 
 #: test               every test from fmt to differential below, 7 minutes once the library is proved, 20 under an emulator
-test: fmt kit pages header examples tables texts aims stores programs unsound reports moves daemon reference installs cited narrow noticed differential
+test: fmt kit pages header examples tables texts aims stores programs unsound reports moves daemon reference installs cited recipes narrow noticed differential
 
 #: fmt                whether crates/ is in the kit's layout
 fmt:
@@ -75,9 +76,10 @@ pages: target/c/maketable target/c/showtable
 	tests/worked-table.sh target/test/worked-table target/c/maketable target/c/showtable
 	tests/pages.sh
 
-#: header             the C header by itself, in C and in C++
-header: target/c/header target/c++/header
-	for header in $^; do $$header; done
+#: header             the C header by itself, in C and in C++; the version that library, header, programs, pkg-config and README say
+header: target/c/header target/c++/header target/c99/version
+	for header in target/c/header target/c++/header; do $$header; done
+	tests/version.sh $(RUN) target/c99/version
 
 #: examples           the C examples: worked answers, refusals, AVPs at fault, requests that real software sent, the month's numbers, moves
 examples: $(foreach mode,c99 cxx,$(addprefix target/$(mode)/,check decide move report)) target/c/fault target/c++/fault target/c/maketable target/c/showtable $(BINARY)
@@ -87,12 +89,10 @@ examples: $(foreach mode,c99 cxx,$(addprefix target/$(mode)/,check decide move r
 	RUN='$(RUN)' tests/report.sh target/test/report target/c/maketable target/c99/report target/cxx/report
 	RUN='$(RUN)' tests/move.sh target/test/move target/c/maketable target/c/showtable target/c99/check target/c99/move target/cxx/move
 
-#: tables             tables and vector files made from text, damaged ones, and the switch to new ones as the manual pages have it
+#: tables             tables and vector files made from text, and damaged ones
 tables: examples
 	RUN='$(RUN)' tests/tables.sh target/test/tables target/c/maketable target/c/showtable target/c99/check target/cxx/check
 	RUN='$(RUN)' tests/vectors.sh target/test/vectors target/c/maketable target/c/showtable target/c99/check target/cxx/check
-	RUN='$(RUN)' tests/switch.sh target/test/switch target/c/maketable target/c99/check
-	RUN='$(RUN)' tests/refill.sh target/test/refill target/c/maketable target/c/showtable target/c99/check
 
 COUNT_texts := 2000
 #: texts              from a table or a vector file to text and back, over 2,000 random ones of each; half a minute
@@ -140,8 +140,8 @@ reference:
 	cd reference && cargo test --offline --quiet
 
 #: installs           an installation into a folder of its own, and an example built from there as a new user would
-installs: $(ARCHIVE) $(PROGRAMS) target/c/maketable
-	RUN='$(RUN)' tests/installs.sh target/test/installs target/c/maketable $(X86_CC)
+installs: $(ARCHIVE) $(PROGRAMS)
+	RUN='$(RUN)' tests/installs.sh target/test/installs $(X86_CC)
 
 # ---- the library beside the independent program, on new cases each time; SEED=N on the command line runs a seed again
 ifndef SEED
@@ -160,6 +160,10 @@ COUNT_runs := 2000
 #: cited              whether what README and manual pages of an installation cite is installed, and its trial works
 cited: $(ARCHIVE) $(PROGRAMS)
 	RUN='$(RUN)' tests/cited.sh target/test/cited $(X86_CC)
+
+#: recipes            every command and script that a page prints, on the one layout, in the order in which an operator meets them
+recipes: $(ARCHIVE) $(PROGRAMS) $(OVER_ARCHIVE) target/c99/decide
+	RUN='$(RUN)' tests/recipes.sh target/test/recipes '$(PROGRAM)' $(X86_CC)
 
 #: differential       the library beside the independent program on 490,000 new cases and 2,000 runs of calls; SEED=N runs a seed again
 differential: target/c99/driver $(BINARY)
@@ -229,7 +233,7 @@ $(BINARY): $(REFERENCE)
 	cd reference && cargo build --offline --release --quiet
 	touch $@
 
-target/c/%: examples/%.c examples/load.h
+target/c/%: examples/%.c examples/load.h $(HEADER)
 	mkdir -p $(@D)
 	$(CC) -std=c99 $(STRICT) -o $@ $<
 
@@ -279,10 +283,15 @@ target/c99/overstep: tests/overstep.c tests/driver.c $(HEADER) $(ARCHIVE)
 
 target/narrow/driver: tests/driver.c
 target/narrow/decide: examples/decide.c examples/load.h examples/fault.h
+# Bound at the start, as pkg-config has it: else a first call pays for the dynamic linker on its own small stack.
 target/narrow/driver target/narrow/decide: tests/narrow.c $(HEADER) $(ARCHIVE)
 	mkdir -p $(@D)
-	$(X86_CC) -std=c99 $(STRICT) -pthread -Wl,--wrap=ndushavire_check,--wrap=ndushavire_check_vectors,--wrap=ndushavire_decide,--wrap=ndushavire_report \
-	    -o $@ $(filter %.c,$^) $(ARCHIVE)
+	$(X86_CC) -std=c99 $(STRICT) -pthread -Wl,-z,now \
+	    -Wl,--wrap=ndushavire_check,--wrap=ndushavire_check_vectors,--wrap=ndushavire_decide,--wrap=ndushavire_report -o $@ $(filter %.c,$^) $(ARCHIVE)
+
+target/c99/version: tests/version.c $(HEADER) $(ARCHIVE)
+	mkdir -p $(@D)
+	$(X86_CC) -std=c99 $(STRICT) -o $@ $< $(ARCHIVE)
 
 target/c99/unsound: tests/unsound.c bench/requests.h $(HEADER) $(ARCHIVE)
 	mkdir -p $(@D)
@@ -331,10 +340,15 @@ bench: $(addprefix target/bench/,check vectors moves decide report) $(patsubst %
 	   target/bench/report $(call samples,$(REPORTED)); } | tee target/bench/figures
 	@bench/summary.sh target/bench/figures
 
-STACKED := 16-short 4096-short 4096-long 4096-tiny
-#: stack              how much stack a call takes, beside the aim
+STACKED := 16-short 4096-short 4096-long 4096-tiny 4096-short-2-4 4096-long-2-4
+#: stack              how much stack a call takes, beside the aim; and how much where what it calls is bound lazily
 stack: target/c99/stack $(STACKED:%=target/bench/%.table)
-	$(RUN) target/c99/stack $(call samples,$(STACKED))
+	LD_BIND_NOW=1 $(RUN) target/c99/stack $(call samples,$(STACKED))
+ifeq ($(MACHINE),x86_64)
+	LD_BIND_NOT=1 target/c99/stack $(call samples,$(STACKED))
+else
+	@echo 'Bound lazily: not measured, since programs are linked statically here.'
+endif
 
 target/native/libndushavire.a: bench/native-lib $(PROVED)
 	bench/native-lib ndushavire
@@ -360,9 +374,10 @@ target/bench/decide: bench/decide.c $(TIMER)
 target/bench/report target/bench/moves: target/bench/%: bench/%.c $(TIMER)
 	$(CC) -std=c99 $(STRICT) -o $@ $< $(TIMED)
 
+# One program for both bindings: which it is says the environment that it is run in.
 target/c99/stack: bench/stack.c bench/requests.h bench/samples.h bench/vectors.h examples/load.h $(HEADER) $(ARCHIVE)
 	mkdir -p $(@D)
-	$(X86_CC) -std=c99 $(STRICT) -o $@ $< $(ARCHIVE)
+	$(X86_CC) -std=c99 $(STRICT) -Wl,-z,lazy -o $@ $< $(ARCHIVE)
 
 target/bench/libreference_c.a: bench/reference.rs $(BINARY)
 	mkdir -p $(@D)

@@ -11,6 +11,7 @@
 
 enum { HEADER = 20, CAPABILITIES = 257, WATCHDOG = 280, DISCONNECT = 282, PRODUCT_NAME = 269 };
 enum { PROXIABLE = 0x40, REQUEST = 0x80 };
+enum { SERVER_ASSIGNMENT = 301, MULTIMEDIA_AUTH = 303 };
 enum { SUCCESS = 2001, NO_COMMON_APPLICATION = 5010 };
 #define CX 16777216u
 #define RELAY 0xFFFFFFFFu /* the application of a relay, which carries all */
@@ -21,9 +22,11 @@ static inline size_t message_length(const uint8_t *message) { return four_bytes(
 
 static inline int is_request(const uint8_t *message) { return (message[4] & REQUEST) != 0; }
 
+static inline unsigned long command_of(const uint8_t *message) { return four_bytes(message + 4) & 0xFFFFFFu; }
+
 /* The base protocol's command, or 0 if it is none of the three: then the message is for the library. */
 static inline unsigned long base_command(const uint8_t *message) {
-    const unsigned long command = four_bytes(message + 4) & 0xFFFFFFu;
+    const unsigned long command = command_of(message);
     const int ours = command == CAPABILITIES || command == WATCHDOG || command == DISCONNECT;
     return ours && message[0] == 1 && four_bytes(message + 8) == 0 ? command : 0;
 }
@@ -42,6 +45,12 @@ static inline const uint8_t *find_avp(const uint8_t *avps, size_t length, unsign
     for (size_t at = 0; (span = avp_span(avps + at, length - at)) > 0; at += span)
         if (four_bytes(avps + at) == code && !(avps[at + 4] & 0x80)) return avps + at;
     return NULL;
+}
+
+/* The number of an answer's Experimental-Result (297), as the library writes it, or 0 if it has a Result-Code instead. */
+static inline unsigned long experimental_result(const uint8_t *answer, size_t length) {
+    const uint8_t *group = find_avp(answer + HEADER, length - HEADER, 297);
+    return group != NULL ? four_bytes(group + 28) : 0;
 }
 
 /* Whether a row of AVPs names the application Cx, or a relay's: in Auth-Application-Id (258), by itself or in

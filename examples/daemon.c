@@ -5,15 +5,16 @@
  *
  * - One thread, one loop over poll. No peer is waited for: one that sends a byte a minute, or reads nothing, has its place and no more. Of one
  *   that sends much at once 16 KiB are served, and then come the others.
- * - CER, DWR and DPR are answered here (base.h). Every other message goes to ndushavire_decide, unless it came before and its answer is
- *   remembered (remember.h).
+ * - CER, DWR and DPR are answered here (base.h). Every other message goes to ndushavire_decide, unless it is a SAR or a MAR that came before
+ *   and its answer is remembered (remember.h).
  * - What a call altered is stored and flushed before the answer is sent, the vector file and then the table (files.h, store.h). What cannot be
- *   stored is undone and not answered: the peer asks again.
- * - A table that is put in the live one's place is taken over if it is sound. Vectors are put in with the daemon stopped.
+ *   stored is undone and not answered: the peer asks again. Only a SAR or a MAR that succeeds alters anything: that is proved.
+ * - A table that is put in the live one's place is taken over if it is sound; if not, the log says why. Vectors are put in with the daemon
+ *   stopped: while it runs it has locks on the table's folder and on CARDS/lock.
  * - It never stores over files that nobody may write to: those are a last good copy.
  *
  * Who may connect, TLS, failover and routing are a relay's in front of it; INTEROPERABILITY.md shows one.
- * Exit status: 0 ended by SIGTERM or SIGINT; 1 it cannot start or go on; 2 the arguments are others. */
+ * Exit status: 0 ended by SIGTERM or SIGINT, or --help; 1 it cannot start or go on; 2 the arguments are others. */
 #define _POSIX_C_SOURCE 200809L
 #include <arpa/inet.h>
 #include <netinet/in.h>
@@ -135,9 +136,12 @@ static void serve_base(Peer *peer, const uint8_t *message, size_t length) {
 
 /* ---- the library's requests */
 
+/* Whether a request may alter a file. */
+static int may_alter(const uint8_t *request, size_t length) {
+    return length >= HEADER && (command_of(request) == SERVER_ASSIGNMENT || command_of(request) == MULTIMEDIA_AUTH);
+}
+
 static uint64_t decide_once(const uint8_t *request, size_t length) {
-    keep(&table);
-    keep(&vectors);
     return ndushavire_decide(request, length, table.bytes, table.length, profile.bytes, profile.length, vectors.bytes, vectors.length, answer,
                              sizeof answer);
 }
@@ -168,35 +172,42 @@ static void log_fault(const Peer *peer, const uint8_t *request, size_t request_l
 /* A phone that is not challenged sees the same whatever the reason is: only here do they differ. */
 static void log_challenge(const Peer *peer, const uint8_t *request, size_t request_len, size_t length) {
     const unsigned long base = base_result(answer, length);
-    const uint8_t *user = find_avp(request + HEADER, request_len - HEADER, 1), *other = find_avp(answer + HEADER, length - HEADER, 297);
+    const uint8_t *user = find_avp(request + HEADER, request_len - HEADER, 1);
     char name[NAME_ROOM] = "";
-    if ((four_bytes(answer + 4) & 0xFFFFFFu) != 303 || base == SUCCESS) return;
+    if (command_of(answer) != MULTIMEDIA_AUTH || base == SUCCESS) return;
     if (user != NULL) write_name(name, sizeof name, user + 8, avp_length(user) - 8);
-    if (other != NULL) say("peer %s: no challenge for %s: X%lu", peer->name, name, four_bytes(other + 28));
-    else say("peer %s: no challenge for %s: B%lu", peer->name, name, base);
+    say("peer %s: no challenge for %s: %c%lu", peer->name, name, base != 0 ? 'B' : 'X', base != 0 ? base : experimental_result(answer, length));
 }
 
-/* Decides a request. What it altered is on disk before its answer is put where it is sent from. */
+/* A result 2xxx, B or X. */
+static int succeeded(size_t length) { return (base_result(answer, length) + experimental_result(answer, length)) / 1000 == 2; }
+
+/* What may alter something if it comes a second time is remembered. */
+static void remember_for_twice(int has_altered, const uint8_t *request, size_t length, size_t answer_len) {
+    static time_t said;
+    if (remember(now, has_altered, request, length, answer, answer_len) || !has_altered || (said != 0 && now - said < 60)) return;
+    if (say("answers are forgotten before their %d seconds: there are too many", REMEMBERED_SECONDS)) said = now;
+}
+
+/* Decides a request. What it altered is on disk before its answer is put where it is sent from; if it cannot be stored, nothing is sent. */
 static void serve_new(Peer *peer, const uint8_t *request, size_t length) {
     const uint64_t word = decide(request, length);
     const size_t answer_len = ndushavire_value(word);
+    Outcome outcome = UNALTERED;
     if (!ndushavire_answered(word)) {
         refused(peer, word);
         return;
     }
     log_fault(peer, request, length, answer_len, ndushavire_place(word));
     log_challenge(peer, request, length, answer_len);
-    if (!durable(&vectors) || !durable(&table)) {
-        put_back(&table); /* nothing is sent: as if it had not come */
-        put_back(&vectors);
-        return;
-    }
-    remember(now, request, length, answer, answer_len);
+    if (may_alter(request, length) && succeeded(answer_len)) outcome = keep_altered(command_of(request) == MULTIMEDIA_AUTH);
+    if (outcome == UNDONE) return;
+    if (may_alter(request, length)) remember_for_twice(outcome == KEPT, request, length, answer_len);
     send_later(peer, answer, answer_len);
 }
 
 static void serve(Peer *peer, const uint8_t *request, size_t length) {
-    const Remembered *before = length >= HEADER ? recall(now, request, length) : NULL;
+    const Remembered *before = may_alter(request, length) ? recall(now, request, length) : NULL;
     look_for_table();
     if (before == NULL) serve_new(peer, request, length);
     else send_later(peer, answer, answer_again(answer, before, request, length));
@@ -301,7 +312,8 @@ static int listen_at(const char *address, unsigned long port) {
     memset(&at, 0, sizeof at);
     at.any.sa_family = six ? AF_INET6 : AF_INET;
     at.four.sin_port = htons((uint16_t)port); /* in either, it stands at one place */
-    if (inet_pton(at.any.sa_family, address, six ? (void *)&at.six.sin6_addr : (void *)&at.four.sin_addr) != 1) stop(address, "no address");
+    if (inet_pton(at.any.sa_family, address, six ? (void *)&at.six.sin6_addr : (void *)&at.four.sin_addr) != 1)
+        stop(*address != '\0' ? address : "-a", "no address");
     const int listening = socket(at.any.sa_family, SOCK_STREAM, 0);
     if (listening < 0 || setsockopt(listening, SOL_SOCKET, SO_REUSEADDR, &yes, sizeof yes) != 0 || fcntl(listening, F_SETFL, O_NONBLOCK) != 0 ||
         bind(listening, &at.any, size) != 0 || listen(listening, PEERS) != 0 || getsockname(listening, &at.any, &size) != 0)
@@ -378,6 +390,7 @@ static void turn(int listening) {
     }
     if (listening >= 0) welcome(listening);
     look_for_table();
+    forget_old(now);
 }
 
 static int somebody_there(void) {
@@ -397,18 +410,26 @@ static void say_farewell(void) {
     say("ended");
 }
 
+/* A port by its digits, or more than any port. */
+static unsigned long port_of(const char *digits) {
+    const size_t length = strlen(digits);
+    return length >= 1 && length <= 5 && strspn(digits, "0123456789") == length ? strtoul(digits, NULL, 10) : 65536;
+}
+
 int main(int argc, char **argv) {
+    static const char usage[] = "usage: daemon [-a ADDRESS] [-p PORT] LIVE CARDS\n";
     const char *address = "127.0.0.1";
     unsigned long port = 3868;
     int option, wrong = 0;
+    if (argc == 2 && strcmp(argv[1], "--help") == 0) return fputs(usage, stdout) < 0 || fclose(stdout) != 0;
     while ((option = getopt(argc, argv, "a:p:")) != -1) {
-        char *end = "";
         if (option == 'a') address = optarg;
-        if (option == 'p') port = strtoul(optarg, &end, 10);
-        wrong |= option == '?' || *end != '\0';
+        if (option == 'p') port = port_of(optarg);
+        wrong |= option == '?';
     }
+    if (port > 65535) fprintf(stderr, "daemon: -p: a port is 0 to 65535\n");
     if (wrong || argc - optind != 2 || port > 65535) {
-        fprintf(stderr, "usage: daemon [-a ADDRESS] [-p PORT] LIVE CARDS\n");
+        fputs(usage, stderr);
         return 2;
     }
     setvbuf(stderr, NULL, _IOLBF, 0);

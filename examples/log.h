@@ -7,6 +7,7 @@
 #include <stdint.h>
 #include <stdio.h>
 #include <stdlib.h>
+#include <string.h>
 #include <time.h>
 
 enum { LOG_LINES = 50 };
@@ -30,14 +31,24 @@ static inline int may_say(void) {
     return ++said <= LOG_LINES;
 }
 
-static inline void say(const char *format, ...) {
+/* Gives whether it was said. */
+static inline int say(const char *format, ...) {
     va_list words;
-    if (!may_say()) return;
+    if (!may_say()) return 0;
     va_start(words, format);
     fputs("daemon: ", stderr);
     vfprintf(stderr, format, words);
     fputc('\n', stderr);
     va_end(words);
+    return 1;
+}
+
+/* What lasts is said once, and again when it is another: TOLD has room for a line and remembers it; it is emptied when all is well. */
+enum { LOG_LINE = 400 };
+static inline void say_once(char *told, const char *what, const char *why) {
+    char line[LOG_LINE];
+    snprintf(line, sizeof line, "%s: %s", what, why);
+    if (strcmp(line, told) != 0 && say("%s", line)) strcpy(told, line);
 }
 
 static inline void stop(const char *what, const char *why) {

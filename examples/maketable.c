@@ -1,6 +1,7 @@
 /* maketable table TEXT, maketable profile TEXT: the table that a text describes, or its profile file, on standard output. A text
  * with an issue number makes a table of edition 2, every other one of edition 1.
  * maketable vectors TEXT: the vector file that a text describes, which is another text.
+ * It is installed as ndushavire-maketable.
  * It writes no file. Never send its output over a file in use, as with `> table`: the shell empties that file before
  * this program has read a line. Send it into a new one, check that and switch; tablecheck(1) and ndushavire-check(1) show how.
  *
@@ -10,9 +11,12 @@
  * Exit status: 0 written; 1 the text is refused with its line, since no sound file can be made from it, or since a vector
  * stands there twice; 2 wrong use, a file that cannot be read, or no memory, or standard output fails. Nothing is written of a
  * text that is refused.
- * This program stands apart from the library and reads the rules of both files for itself, so that each tests the other. */
+ * This program stands apart from the library, of whose header it takes the version alone, and reads the rules of both files for itself, so
+ * that each tests the other. */
 #include <ctype.h>
 #include <stdarg.h>
+
+#include <ndushavire.h>
 
 #include "load.h"
 
@@ -72,7 +76,7 @@ static const char *text_name;
 static void refuse(size_t line, const char *form, ...) {
     va_list words;
     va_start(words, form);
-    fprintf(stderr, "maketable: %s:%lu: ", text_name, (unsigned long)line);
+    fprintf(stderr, "ndushavire-maketable: %s:%lu: ", text_name, (unsigned long)line);
     vfprintf(stderr, form, words);
     fputc('\n', stderr);
     va_end(words);
@@ -81,7 +85,7 @@ static void refuse(size_t line, const char *form, ...) {
 
 static void *got(void *memory) {
     if (memory != NULL) return memory;
-    fprintf(stderr, "maketable: no memory\n");
+    fprintf(stderr, "ndushavire-maketable: no memory\n");
     exit(2);
 }
 
@@ -642,7 +646,7 @@ static void put_vector(uint8_t *block, const Vector *vector) {
 
 static int print(const uint8_t *bytes, size_t length) {
     if (fwrite(bytes, 1, length, stdout) == length && fflush(stdout) == 0) return 1;
-    fprintf(stderr, "maketable: standard output: %s\n", strerror(errno));
+    fprintf(stderr, "ndushavire-maketable: standard output: %s\n", strerror(errno));
     return 0;
 }
 
@@ -673,18 +677,27 @@ static int make_vectors(Text *text) {
     return printed;
 }
 
+static int is(const char *word, const char *other) { return strcmp(word, other) == 0; }
+
 int main(int argc, char **argv) {
+    static const char usage[] = "usage: ndushavire-maketable table|profile|vectors TEXT\n"
+                                "Writes what TEXT describes to standard output: a table, its profile file, or a vector file.\n"
+                                "Exit status: 0 written, 1 the text is refused, 2 unreadable, not written or wrong use.\n";
     static const char *const files[] = {"table", "profile", "vectors"};
     int file = 0;
-    while (file < 3 && argc == 3 && strcmp(argv[1], files[file]) != 0) file++;
+    if (argc == 2 && (is(argv[1], "--help") || is(argv[1], "--version"))) {
+        printf("%s", is(argv[1], "--help") ? usage : "ndushavire-maketable " NDUSHAVIRE_VERSION "\n");
+        return printed() ? 0 : 2;
+    }
+    while (file < 3 && argc == 3 && !is(argv[1], files[file])) file++;
     if (argc != 3 || file == 3) {
-        fprintf(stderr, "usage: maketable table|profile|vectors TEXT\n");
+        fprintf(stderr, "%s", usage);
         return 2;
     }
     size_t length;
     uint8_t *bytes = load(text_name = argv[2], &length);
     Text text = {bytes, bytes + length, 1, 1};
-    const int printed = file == 2 ? make_vectors(&text) : make_pair(&text, file == 1);
+    const int made = file == 2 ? make_vectors(&text) : make_pair(&text, file == 1);
     free(bytes);
-    return printed ? 0 : 2;
+    return made ? 0 : 2;
 }

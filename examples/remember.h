@@ -3,6 +3,8 @@
  * By the standard Origin-Host and End-to-End Identifier tell a request from every other for four minutes. A client that is wrong there
  * would be sent another request's answer, so here the whole request is compared, but for what relays alter: the T flag, the
  * Hop-by-Hop Identifier, Route-Record (282) and Proxy-Info (284).
+ * Only SARs and MARs are remembered: a UAR or a LIR alters nothing, whenever it comes, and is decided again. Answers whose calls altered a
+ * file and those whose calls altered none stand in two rows, so that these, which cost no disk and may be many, never push out those.
  * Answers to MARs have keys in them: they are kept in memory alone, which is gone with the process. */
 #ifndef REMEMBER_H
 #define REMEMBER_H
@@ -14,20 +16,36 @@
 
 #include "base.h"
 
-enum { REMEMBERED_SECONDS = 300, REMEMBERED_MOST = 32768, REMEMBERED_BYTES = 64 << 20, RETRANSMITTED = 0x10 };
+enum { REMEMBERED_SECONDS = 300, CHAINS = 1 << 20, RETRANSMITTED = 0x10 };
 
-typedef struct {
+/* How many bytes the answers may take whose calls altered nothing, and those whose calls altered a file. Each of these cost a store: a file made and
+ * flushed, renamed, and its folder flushed, two commits of the file system one after the other. A fast disk takes 0.1 ms for each: 5,000 answers
+ * a second, 1.5 million in five minutes. With its request one takes 1 KiB, and with a profile of 4 KiB 5 KiB: then there is room for 1,300 a second. */
+static size_t remembered_most[2] = {(size_t)64 << 20, (size_t)2 << 30};
+
+/* Behind it stand the request without what relays alter, and the answer. */
+typedef struct Remembered {
+    struct Remembered *next, *younger; /* of its chain; of its row */
     time_t since;
-    unsigned long id;         /* the End-to-End Identifier */
-    uint8_t *bytes;           /* the request without what relays alter, and behind it the answer */
-    size_t request, answer;   /* their lengths */
+    uint32_t hash, request, answer; /* of the request; the lengths of both */
 } Remembered;
 
-/* A ring, the oldest first: all are kept equally long. */
+/* A row has the oldest first: all are kept equally long. A chain has those of which the hash ends alike; pages of it that nobody has
+ * written to take no memory. */
+typedef struct {
+    Remembered *oldest, *youngest;
+    size_t bytes;
+} Row;
 static struct {
-    Remembered one[REMEMBERED_MOST];
-    size_t first, many, bytes;
+    Remembered *chain[CHAINS];
+    Row row[2]; /* 0: those that altered nothing, 1: those that altered a file */
 } memory;
+
+static inline uint8_t *request_of(const Remembered *one) { return (uint8_t *)(one + 1); }
+
+static inline uint8_t *answer_of(const Remembered *one) { return request_of(one) + one->request; }
+
+static inline size_t bytes_of(const Remembered *one) { return sizeof *one + one->request + one->answer; }
 
 static inline int is_proxy_info(const uint8_t *avp) { return four_bytes(avp) == 284 && !(avp[4] & 0x80); }
 
@@ -49,33 +67,54 @@ static inline size_t without_route(uint8_t *to, const uint8_t *request, size_t l
     return used + length - at;
 }
 
-static inline void forget_oldest(void) {
-    Remembered *oldest = &memory.one[memory.first];
-    memory.bytes -= oldest->request + oldest->answer;
-    free(oldest->bytes);
-    memory.first = (memory.first + 1) % REMEMBERED_MOST;
-    memory.many--;
+/* FNV-1a, of the whole request: a client that uses one identifier for all would make one chain of all. */
+static inline uint32_t hash_of(const uint8_t *bytes, size_t length) {
+    uint32_t hash = 2166136261u;
+    for (size_t i = 0; i < length; i++) hash = (hash ^ bytes[i]) * 16777619u;
+    return hash;
+}
+
+static inline void forget_oldest(Row *row) {
+    Remembered *oldest = row->oldest, **at = &memory.chain[oldest->hash % CHAINS];
+    while (*at != oldest) at = &(*at)->next;
+    *at = oldest->next;
+    row->oldest = oldest->younger;
+    row->bytes -= bytes_of(oldest);
+    free(oldest);
 }
 
 static inline void forget_old(time_t now) {
-    while (memory.many > 0 && (now - memory.one[memory.first].since >= REMEMBERED_SECONDS || memory.many == REMEMBERED_MOST ||
-                               memory.bytes > REMEMBERED_BYTES))
-        forget_oldest();
+    for (Row *row = memory.row; row < memory.row + 2; row++)
+        while (row->oldest != NULL && now - row->oldest->since >= REMEMBERED_SECONDS) forget_oldest(row);
 }
 
-static inline void remember(time_t now, const uint8_t *request, size_t length, const uint8_t *answer, size_t answer_len) {
-    uint8_t *bytes = (uint8_t *)malloc(length + answer_len);
+static inline void add_youngest(Row *row, Remembered *one) {
+    Remembered **chain = &memory.chain[one->hash % CHAINS];
+    one->next = *chain;
+    one->younger = NULL;
+    *chain = one;
+    if (row->oldest == NULL) row->oldest = one;
+    else row->youngest->younger = one;
+    row->youngest = one;
+    row->bytes += bytes_of(one);
+}
+
+/* Gives 0 if there is no room for all answers of five minutes: then the oldest of the row are forgotten before their time. */
+static inline int remember(time_t now, int altered, const uint8_t *request, size_t length, const uint8_t *answer, size_t answer_len) {
+    const size_t most = remembered_most[altered != 0];
+    Row *row = &memory.row[altered != 0];
+    int room = 1;
     forget_old(now);
-    if (bytes == NULL) return;
-    Remembered *newest = &memory.one[(memory.first + memory.many) % REMEMBERED_MOST];
-    newest->since = now;
-    newest->id = four_bytes(request + 16);
-    newest->bytes = bytes;
-    newest->request = without_route(bytes, request, length);
-    newest->answer = answer_len;
-    memcpy(bytes + newest->request, answer, answer_len);
-    memory.bytes += newest->request + answer_len;
-    memory.many++;
+    Remembered *one = (Remembered *)malloc(sizeof *one + length + answer_len);
+    if (one == NULL) return 0;
+    one->since = now;
+    one->request = (uint32_t)without_route(request_of(one), request, length);
+    one->answer = (uint32_t)answer_len;
+    one->hash = hash_of(request_of(one), one->request);
+    memcpy(answer_of(one), answer, answer_len);
+    for (; row->oldest != NULL && row->bytes + bytes_of(one) > most; room = 0) forget_oldest(row);
+    add_youngest(row, one);
+    return room;
 }
 
 /* What was answered to this request, or NULL. */
@@ -83,11 +122,10 @@ static inline const Remembered *recall(time_t now, const uint8_t *request, size_
     static uint8_t plain[NDUSHAVIRE_REQUEST_MAX];
     forget_old(now);
     const size_t used = without_route(plain, request, length);
-    for (size_t i = 0; i < memory.many; i++) {
-        const Remembered *one = &memory.one[(memory.first + i) % REMEMBERED_MOST];
-        if (one->id == four_bytes(request + 16) && one->request == used && memcmp(one->bytes, plain, used) == 0) return one;
-    }
-    return NULL;
+    const uint32_t hash = hash_of(plain, used);
+    const Remembered *one = memory.chain[hash % CHAINS];
+    while (one != NULL && !(one->hash == hash && one->request == used && memcmp(request_of(one), plain, used) == 0)) one = one->next;
+    return one;
 }
 
 /* Where the Proxy-Infos of an answer begin: they stand last. */
@@ -111,7 +149,7 @@ static inline size_t add_proxies(uint8_t *answer, size_t length, const uint8_t *
 
 /* Writes the answer once more, for a second request that may have come by another way, and gives its length. */
 static inline size_t answer_again(uint8_t *answer, const Remembered *one, const uint8_t *request, size_t length) {
-    const uint8_t *first = one->bytes + one->request;
+    const uint8_t *first = answer_of(one);
     const size_t own = before_proxies(first, one->answer);
     memcpy(answer, first, own);
     memcpy(answer + 12, request + 12, 4);

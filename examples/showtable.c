@@ -5,6 +5,7 @@
  * showtable --unused TABLE PROFILE VECTORS: a line for each private identity, with how many of its vectors are unused: those of
  * the table with the fewest first, and then those that have vectors and no record. A vector that stands there twice is named on
  * standard error.
+ * It is installed as ndushavire-showtable.
  *
  * TABLE.md among the documents says how the texts are written ("As text") and what stands in the blocks. They are plain
  * ASCII, with \xHH for every other byte, so that no editor alters what it does not show.
@@ -12,7 +13,10 @@
  * Exit status: 0 written; 1 a file is unsound, and its first bad block is named on standard error, or under --unused a vector
  * stands there twice; 2 wrong use, a file that cannot be read, or no memory, or standard output fails. Nothing is written of a
  * file that is unsound.
- * This program stands apart from the library and reads the rules of both files for itself, so that each tests the other. */
+ * This program stands apart from the library, of whose header it takes the version alone, and reads the rules of both files for itself, so
+ * that each tests the other. */
+#include <ndushavire.h>
+
 #include "load.h"
 
 enum { BLOCK = 512, RECORDS = 4096, NETWORKS = 8, NETWORK = 32, CAPABILITIES = 4, PART = 4096, VECTORS = 4096, KEY = 16, XRES = 16 };
@@ -353,7 +357,7 @@ static int without_twins(const char *name, const uint8_t *vectors, size_t vector
         if (memcmp(sorted[i - 1] + 3, sorted[i] + 3, 164 - 3) == 0) earlier[(size_t)(sorted[i] - vectors) / BLOCK] = sorted[i - 1];
     for (size_t i = 0; i < many; i++)
         if (earlier[i] != NULL) {
-            fprintf(stderr, "showtable: %s: block %lu has the vector of block %lu again\n", name, (unsigned long)i,
+            fprintf(stderr, "ndushavire-showtable: %s: block %lu has the vector of block %lu again\n", name, (unsigned long)i,
                     (unsigned long)((size_t)(earlier[i] - vectors) / BLOCK));
             twins++;
         }
@@ -363,13 +367,13 @@ static int without_twins(const char *name, const uint8_t *vectors, size_t vector
 /* ---- what is asked for; each gives a status */
 
 static int unsound(const char *name, size_t bad) {
-    fprintf(stderr, "showtable: %s: block %lu is bad\n", name, (unsigned long)bad);
+    fprintf(stderr, "ndushavire-showtable: %s: block %lu is bad\n", name, (unsigned long)bad);
     return 1;
 }
 
 static int shown(void) {
     if (fflush(stdout) == 0 && !ferror(stdout)) return 0;
-    fprintf(stderr, "showtable: standard output: %s\n", strerror(errno));
+    fprintf(stderr, "ndushavire-showtable: standard output: %s\n", strerror(errno));
     return 2;
 }
 
@@ -417,11 +421,22 @@ static int show_unused(const char *table_name, const char *profile_name, const c
     return failed ? failed : single ? 0 : 1;
 }
 
+static int is(const char *word, const char *other) { return strcmp(word, other) == 0; }
+
 int main(int argc, char **argv) {
+    static const char usage[] = "usage: ndushavire-showtable TABLE PROFILE\n"
+                                "       ndushavire-showtable --vectors VECTORS\n"
+                                "       ndushavire-showtable --unused TABLE PROFILE VECTORS\n"
+                                "Writes a table or a vector file as text, or how many unused vectors each subscriber has.\n"
+                                "Exit status: 0 written, 1 a file is unsound or has a vector twice, 2 unreadable, not written or wrong use.\n";
     const char *first = argc > 1 ? argv[1] : "";
-    if (argc == 3 && strcmp(first, "--vectors") == 0) return show_vectors(argv[2]);
-    if (argc == 5 && strcmp(first, "--unused") == 0) return show_unused(argv[2], argv[3], argv[4]);
+    if (argc == 2 && (is(first, "--help") || is(first, "--version"))) {
+        printf("%s", is(first, "--help") ? usage : "ndushavire-showtable " NDUSHAVIRE_VERSION "\n");
+        return printed() ? 0 : 2;
+    }
+    if (argc == 3 && is(first, "--vectors")) return show_vectors(argv[2]);
+    if (argc == 5 && is(first, "--unused")) return show_unused(argv[2], argv[3], argv[4]);
     if (argc == 3 && first[0] != '-') return show_table(argv[1], argv[2]);
-    fprintf(stderr, "usage: showtable TABLE PROFILE\n       showtable --vectors VECTORS\n       showtable --unused TABLE PROFILE VECTORS\n");
+    fprintf(stderr, "%s", usage);
     return 2;
 }

@@ -49,9 +49,18 @@ list_files() { # ARCHIVE PROGRAM..
     for file in examples/* "${requests[@]}"; do goes "$file" "$docdir/examples/${file##*/}" 644; done
     for file in "${@:2}"; do
         name=${file##*/}
-        case $name in check | move | report) name=ndushavire-$name ;; esac
+        case $name in check | maketable | move | report | showtable) name=ndushavire-$name ;; esac
         goes "$file" "$bindir/$name" 755
     done
+}
+
+# What the header declares: `man` finds ndushavire(3) by each of these names.
+functions() { sed -n 's/^\(static inline \)\{0,1\}[a-z0-9_]* \(ndushavire_[a-z_]*\)(.*/\2/p' include/ndushavire.h; }
+
+# The scripts that manual pages print are installed to be copied, too: a page and the name of its script.
+scripts=(tablecheck.1:switch.sh ndushavire-check.1:vectors.sh ndushavire-move.1:move.sh ndushavire-report.1:month.sh)
+script_of() { # PAGE
+    awk '/^\.Ed/ { shown = 0 } /^#!\/bin\/sh$/ { shown = 1 } shown' "man/$1" | sed 's/\\e/\\/g; s/\\&//g'
 }
 
 # What pkg-config is told: folders under PREFIX by that name.
@@ -66,14 +75,13 @@ pkg_config() {
     printf '%s\n' "${text//@VERSION@/"$version"}"
 }
 
-# ---- the note: a line `file PLACE` or `folder PLACE`, without DESTDIR
+# ---- the note: a line `file PLACE` or `folder PLACE`, without DESTDIR. Until there is a place for it, lines are kept.
 early=()
+declare -A known=()
 noted() { # KIND PLACE
-    if [ ! -e "$below$docdir" ]; then
-        early+=("$1 $2")
-    else
-        grep -q -x -F -e "$1 $2" "$below$note" 2>/dev/null || printf '%s\n' "$1 $2" >>"$below$note"
-    fi
+    [ -z "${known["$1 $2"]-}" ] || return 0
+    known["$1 $2"]=noted
+    if [ -e "$below$docdir" ]; then printf '%s\n' "$1 $2" >>"$below$note"; else early+=("$1 $2"); fi
 }
 make_folder() { # PLACE
     [ -n "$1" ] && [ ! -d "$below$1" ] || return 0
@@ -88,16 +96,23 @@ install_all() { # ARCHIVE PROGRAM..
     for i in "${!sources[@]}"; do
         [ ! "$below${places[i]}" -ef "${sources[i]}" ] || fail "${sources[i]} would be installed over itself"
     done
+    [ ! -e "$below$note" ] || while IFS= read -r line; do [ -z "$line" ] || known["$line"]=noted; done <"$below$note"
     make_folder "$docdir"
-    for line in "${early[@]}" "file $note"; do noted "${line%% *}" "${line#* }"; done
+    [ ${#early[@]} = 0 ] || printf '%s\n' "${early[@]}" >>"$below$note"
+    noted file "$note"
     for i in "${!sources[@]}"; do
         make_folder "${places[i]%/*}"
         noted file "${places[i]}"
         install -m "${modes[i]}" "${sources[i]}" "$below${places[i]}"
     done
-    for i in back check check_vectors decide forward report; do
-        noted file "$mandir/man3/ndushavire_$i.3"
-        ln -sf ndushavire.3 "$below$mandir/man3/ndushavire_$i.3"
+    for i in $(functions); do
+        noted file "$mandir/man3/$i.3"
+        ln -sf ndushavire.3 "$below$mandir/man3/$i.3"
+    done
+    for i in "${scripts[@]}"; do
+        noted file "$docdir/examples/${i#*:}"
+        script_of "${i%:*}" >"$below$docdir/examples/${i#*:}"
+        chmod 755 "$below$docdir/examples/${i#*:}"
     done
     make_folder "$libdir/pkgconfig"
     noted file "$libdir/pkgconfig/ndushavire.pc"

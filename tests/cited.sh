@@ -25,9 +25,10 @@ there() { # FILE BY
 while read -r file; do
     there "${readme%/*}/$file" "$readme"
 done < <(grep -o '`[^` ]*`' "$readme" | tr -d '`' | grep -E '/|\.(md|c|h|txt|hex|answer)$' | grep -v -E '=|^share/' | sort -u)
+mapfile -t pages < <(find "$prefix/share/man" -type f) # and not the links to one
 # In the manual pages: every PREFIX/.. and every name of a page. A page that names a file of the examples or of the documents by its
 # last name alone must name it whole as well.
-for page in "$prefix"/share/man/man*/*; do
+for page in "${pages[@]}"; do
     while read -r file; do
         there "$prefix/${file#PREFIX/}" "$page"
     done < <(grep -o 'PREFIX/[A-Za-z0-9_./-]*' "$page" | sort -u)
@@ -37,24 +38,24 @@ for page in "$prefix"/share/man/man*/*; do
         ! grep -q -w -F "Pa ${name#examples/}" "$page" || echo "${name#examples/}"
     done)
 done
-for page in "$readme" "$prefix"/share/man/man*/*; do
+for page in "$readme" "${pages[@]}"; do
     while read -r name section; do
-        [ "$name" != sync ] || continue # of the system
+        case $name in flock | sync) continue ;; esac # of the system
         there "$prefix/share/man/man$section/$name.$section" "$page"
     done < <(case $page in
-    *.md) grep -o -E '[a-z_-]+\([13]\)' "$page" | tr '()' '  ' ;;
+    *.md) grep -o -E '[a-z_-]+\([137]\)' "$page" | tr '()' '  ' ;;
     *) sed -n 's/^\.Xr \([a-z_-]*\) \([0-9]\).*/\1 \2/p' "$page" ;;
     esac | sort -u)
 done
 [ "$cited" -gt 20 ] || fail "only $cited citations were found"
 
-# The trial. PREFIX is here, and what is run needs the emulator on some machines.
-export PKG_CONFIG_PATH=$prefix/lib/pkgconfig
+# The trial. PREFIX is here, and what is run needs the emulator on some machines; its shell is whatever sh is, dash for one.
+export PKG_CONFIG_PATH=$prefix/lib/pkgconfig PATH=$prefix/bin:$PATH
 sed -n '/^## Try it/,/^## /s/^    \$ //p' "$readme" >"$room/commands"
 [ "$(wc -l <"$room/commands")" -ge 8 ] || fail 'the README has no trial'
 cc=$*
 sed -e "s|PREFIX|$prefix|" -e "s|^cc \(.*pkg-config\)|$cc \1|" -e "s#^\./\(decide\|move\|report\)#${RUN:-} ./\1#" "$room/commands" >"$room/trial.sh"
-(cd "$room/trial" && bash -euo pipefail ../trial.sh) >"$room/said" || fail 'the trial in the README fails'
+(cd "$room/trial" && sh -eu ../trial.sh) >"$room/said" || fail 'the trial in the README fails'
 grep -q -x 'answered, 168 bytes' "$room/said" || fail 'the trial gives another answer'
 grep -q -x 'vector block 5 used' "$room/said" || fail 'the trial uses no vector'
 fault=$(sed -n 's/^    \(B[0-9]* at byte .*\)/\1/p' "$readme")

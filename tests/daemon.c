@@ -1,7 +1,8 @@
 /* daemon FOLDER TABLE PROFILE VECTORS QUESTION ASSIGNMENT CHALLENGE RUBBISH: example.c, which is the daemon of ndushavire(3) or that of the
  * examples, on a disk that fails. Its system calls fail, or are its last, or the last before a power cut, one by one and two by two; it is
  * started again, and its peer asks until it is answered. No answer may go out while a power cut could bring back another table or vector
- * file than it was given from, and no vector twice. To RUBBISH, which has an AVP at fault, its log says where it hurts.
+ * file than it was given from, and no vector twice. To RUBBISH, which has an AVP at fault, its log says where it hurts. A daemon that looks for new
+ * tables has an unsound one laid over its own: until its own is stored again that one stays, and what alters is not answered.
  * The disk is a model: what is in the folders is what every reader sees, and only what was flushed is on disk. */
 #define _GNU_SOURCE /* memmem, MAP_ANONYMOUS */
 #include <stdarg.h>
@@ -21,6 +22,7 @@ enum { ROOM = 16 * 512, FILES = 8, FAULTS = 2, LIVES = 8, REQUESTS = 6, ANOTHER 
 /* The files that are stored; each lies in a folder of its own. */
 enum { TABLE, VECTORS, NAMES };
 static const char *const names[NAMES] = {"table", "vectors"}, *const fresh_names[NAMES] = {"table.new", "vectors.new"};
+static const char aside_name[] = "table.ours", fresh_aside_name[] = "table.ours.new"; /* what is stored beside a table that was laid over it */
 static int folders[NAMES];
 
 typedef struct {
@@ -47,6 +49,7 @@ static struct Model {
     unsigned calls;
     Fault fault[FAULTS];
     int cut;                   /* whether the power went */
+    int covered;               /* whether a table was laid over the daemon's */
     unsigned answered;         /* how many requests the peer has answers for */
     int sent[BLOCKS];          /* which vectors it has got */
     const char *broken;        /* the rule that was broken */
@@ -96,6 +99,8 @@ static void flush_file(ino_t number) {
         flush_as(folders[i], names[i], number);
         flush_as(folders[i], fresh_names[i], number);
     }
+    flush_as(folders[TABLE], aside_name, number);
+    flush_as(folders[TABLE], fresh_aside_name, number);
 }
 
 static void flush_name(int i) {
@@ -130,8 +135,11 @@ static int power_back(void) {
 
 /* ---- the calls that store.h makes */
 
+static void broken(const char *rule);
+
 static int fails(void) {
     model->calls++;
+    if (model->covered && number_at(folders[TABLE], names[TABLE]) == 0) broken("there was no table");
     for (int i = 0; i < FAULTS; i++)
         if (model->fault[i].call == model->calls && model->fault[i].way == FAILS) {
             errno = EIO;
@@ -191,6 +199,10 @@ static int disk_renameat(int from_folder, const char *from, int to_folder, const
     return done(result);
 }
 
+static inline int disk_linkat(int from_folder, const char *from, int to_folder, const char *to, int how) {
+    return fails() ? -1 : done(linkat(from_folder, from, to_folder, to, how));
+}
+
 static int disk_unlinkat(int folder, const char *name, int how) {
     if (fails()) return -1;
     const ino_t number = number_at(folder, name);
@@ -215,6 +227,7 @@ static int disk_close(int file) {
 #define write disk_write
 #define fsync disk_fsync
 #define renameat disk_renameat
+#define linkat disk_linkat
 #define unlinkat disk_unlinkat
 #define fstatat disk_fstatat
 #define fchmod disk_fchmod
@@ -224,6 +237,7 @@ static int disk_close(int file) {
 #undef write
 #undef fsync
 #undef renameat
+#undef linkat
 #undef unlinkat
 #undef fstatat
 #undef fchmod
@@ -426,6 +440,80 @@ static int try_rotten(void) {
     return right;
 }
 
+#ifdef LAID_OVER
+static const Bytes unsound_table = {"unsound", 7};
+
+/* A challenge is answered, an unsound table laid over what it left, and the assignment asked for until it is answered. */
+static void live_covered(Fault fault) {
+    start("live", ".");
+    serve(0, question.bytes, question.length);
+    serve(1, challenge.bytes, challenge.length);
+    if (!lay_down(TABLE, &unsound_table)) _exit(2);
+    model->calls = 0;
+    model->covered = 1;
+    model->fault[0] = fault;
+    for (int tries = 0; model->answered < 3 && tries < LIVES; tries++) {
+        now++;
+        LAID_OVER();
+        serve(2, assignment.bytes, assignment.length);
+    }
+}
+
+/* The unsound one, the daemon's own, or the next one: not the first if the daemon stopped, and only the last if it was answered from. */
+static int is_one_of(const Bytes *found, int stopped) {
+    const Bytes *const may_be[] = {&unsound_table, &expected[2], &expected[3]};
+    int is = 0;
+    for (int i = model->answered == 3 ? 2 : stopped; i < 3; i++) is |= same(found, may_be[i]->bytes, may_be[i]->length);
+    return is;
+}
+
+static int try_covered(Fault fault) {
+    const Fault none = {0, FAILS};
+    static Bytes found;
+    int status;
+    if (!prepare(none, none, 1)) return 0;
+    unlinkat(folders[TABLE], "table.declined", 0);
+    unlinkat(folders[TABLE], aside_name, 0);
+    const pid_t child = fork();
+    if (child == 0) {
+        dup2(nowhere, STDERR_FILENO);
+        live_covered(fault);
+        _exit(0);
+    }
+    if (child < 0 || waitpid(child, &status, 0) != child) return 0;
+    const int ended = WIFEXITED(status) ? WEXITSTATUS(status) : 2, whole = ended == 0;
+    if (model->broken == NULL && ended != 0 && ended != ENDED && ended != 1) model->broken = "the daemon crashed";
+    if (model->broken == NULL && whole && model->answered < 3) model->broken = "the peer was never answered";
+    const int file = openat(folders[TABLE], whole ? "table.declined" : names[TABLE], O_RDONLY);
+    slurp(file, &found);
+    close(file);
+    if (model->broken == NULL && whole && !same(&found, unsound_table.bytes, unsound_table.length)) model->broken = "what was declined is not kept";
+    if (model->broken == NULL && !whole && !is_one_of(&found, ended == 1)) model->broken = "there is another table, or none";
+    if (model->broken == NULL && !is_one_of(&model->on_disk[TABLE], ended == 1)) model->broken = "after a power cut there is another table, or none";
+    if (model->broken == NULL) return 1;
+    fprintf(stderr, "daemon: an unsound table laid over ours: %s: call %u, way %d\n", model->broken, fault.call, (int)fault.way);
+    return 0;
+}
+
+/* Every call as the one that goes wrong; gives how many runs that were, or 0 if a rule was broken. */
+static unsigned try_all_covered(void) {
+    const Fault none = {0, FAILS};
+    unsigned runs = 1;
+    if (!try_covered(none)) return 0;
+    const unsigned whole = model->calls;
+    for (int way = 0; way < WAYS; way++)
+        for (unsigned call = 1; call <= whole; call++, runs++) {
+            const Fault fault = {call, (Way)way};
+            if (!try_covered(fault)) return 0;
+        }
+    printf("daemon: an unsound table laid over ours, %u calls, %u runs: there is always a table, and what was declined is kept\n", whole, runs);
+    fflush(stdout);
+    return runs;
+}
+#else
+static unsigned try_all_covered(void) { return 1; }
+#endif
+
 /* A request with an AVP at fault is answered, and the log says where it hurts; of others it says nothing. */
 static int try_rubbish(void) {
     static const char fault[] = "daemon: peer 6: B5004 at byte 208: AVP 612 vendor 10415 flags 0xc0 length 84\n"
@@ -478,7 +566,7 @@ int main(int argc, char **argv) {
         fprintf(stderr, "daemon: the assignment or the challenge alters nothing\n");
         return 2;
     }
-    if (!try_faults(none, none, 0) || !prepare(none, none, 0)) return 1;
+    if (try_all_covered() == 0 || !try_faults(none, none, 0) || !prepare(none, none, 0)) return 1;
     live(); /* not forked, so that an emulator has translated it all */
     if (fchdir(folders[VECTORS]) != 0) return 2;
     const unsigned whole = model->calls, runs = try_all(whole);

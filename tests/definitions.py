@@ -10,7 +10,8 @@ import collections, itertools, os, re, shutil, struct, subprocess, sys, tempfile
 
 import streams
 
-GENERATED = 40000  # of which the small ones are about a quarter
+GENERATED = 40000  # of which the small ones are about a fifth; some kinds are a few of them, so that a seed may need more
+ROUNDS = 10
 IN_A_PART = 12
 # Longer ones take antt minutes and show nothing that short ones do not; a request that is refused 2 may be long.
 MOST_REQUEST, MOST_TABLE, MOST_PROFILE, MOST_VECTORS = 900, 4 * 512, 1200, 4 * 512
@@ -140,7 +141,7 @@ def opened():
 
 CASES = '''%s
 use mathlib.Core.Path.{_≡_}
-use Rattle.ndushavire.specs.Lent.{lent}
+use Rattle.calling.specs.Lent.{lent}
 use Rattle.ndushavire.specs.Reads.{callIn}
 
 -- all that the cases open
@@ -235,11 +236,22 @@ def copy(folder):
             shutil.copytree(part, '%s/%s' % (folder, part), symlinks=True)
 
 
+def gather(reference, seed, count):
+    """Picks from the seed's cases, and from more of them while something is missing: what still is after ROUNDS is no matter of luck."""
+    cases = []
+    for start in range(0, ROUNDS * GENERATED, GENERATED):
+        made = streams.made(reference, 'calls', seed, GENERATED, start)
+        told = streams.run(reference, 'outcomes', given=made)
+        cases += [case for case in read(made, told) if small(case)]
+        picked, missing, kinds = pick(cases, count)
+        if count < len(WANTED) or len(picked) == count and not missing:
+            break
+    return picked, missing, kinds
+
+
 def main():
     reference, seed, count = sys.argv[1], sys.argv[2], int(sys.argv[3])
-    made = streams.made(reference, 'calls', seed, GENERATED)
-    told = streams.run(reference, 'outcomes', given=made)
-    cases, missing, kinds = pick([case for case in read(made, told) if small(case)], count)
+    cases, missing, kinds = gather(reference, seed, count)
     print('definitions: seed %s, %d cases of %d kinds' % (seed, len(cases), kinds), flush=True)
     if count < len(WANTED):
         print('too few to show every refusal, result, assignment type and step: a trial', flush=True)

@@ -1,16 +1,15 @@
 #!/usr/bin/env bash
-# installs.sh ROOM MAKETABLE CC..: installs into folders of ROOM as users and packagers do, compares what is there with what should be,
+# installs.sh ROOM CC..: installs into folders of ROOM as users and packagers do, compares what is there with what should be,
 # builds an example with what pkg-config says and nothing else, checks the sample with it, and sees that uninstalling takes away what
 # was installed and nothing more. What must not be a prefix is refused, and the tree stays as it is. RUN, if set, is the emulator.
 set -euo pipefail
-room=$1 maketable=$2
-shift 2
+room=$1
+shift
 compiler=("$@")
 top=$(cd "$(dirname "$0")/.." && pwd)
 rm -rf "$room"
 mkdir -p "$room/new"
 room=$(cd "$room" && pwd)
-maketable=$(realpath "$maketable")
 tried=0
 
 fail() {
@@ -18,23 +17,28 @@ fail() {
     exit 1
 }
 command -v pkg-config >/dev/null || fail 'pkg-config is missing (Debian: pkg-config)'
-case $(uname -m) in
-x86_64) programs=(bin/answer bin/ndushavire-check bin/ndushavire-move bin/ndushavire-report bin/tablecheck) ;;
-*) programs=() ;;
-esac
+programs=(bin/ndushavire-maketable bin/ndushavire-showtable)
+[ "$(uname -m)" != x86_64 ] || programs+=(bin/answer bin/ndushavire-check bin/ndushavire-move bin/ndushavire-report bin/tablecheck)
+functions=$(sed -n -E '/^[a-z]/s/^[^(]* (ndushavire_[a-z_]+)\(.*/\1/p' "$top/include/ndushavire.h")
+[ "$(wc -l <<<"$functions")" -ge 18 ] || fail "the header has only $functions"
+for name in $functions; do
+    sed -n '/^\.Sh NAME/,/^\.Nd/p' "$top/man/ndushavire.3" | grep -q -E "^\.Nm $name( ,)?\$" || fail "ndushavire(3) does not name $name"
+done
 version=$(sed -n 's/^#define NDUSHAVIRE_VERSION "\(.*\)"$/\1/p' "$top/include/ndushavire.h")
 quiet() { make -s -C "$top" "$@"; }
 
 # What should be there under a prefix; of documents, pages and examples whatever the tree has.
 {
     printf '%s\n' "${programs[@]}" include/ndushavire.h lib/libndushavire.a lib/pkgconfig/ndushavire.pc \
-        share/man/man3/ndushavire_{back,check,check_vectors,decide,forward,report}.3 share/doc/ndushavire/{README.md,installed}
+        share/doc/ndushavire/{README.md,installed}
+    printf 'share/man/man3/%s.3\n' $functions
     (cd "$top" && printf 'share/doc/ndushavire/%s\n' docs/*.md | sed 's|/docs/|/|')
+    printf 'share/doc/ndushavire/examples/%s.sh\n' switch vectors move month
     (cd "$top" && printf 'share/doc/ndushavire/%s\n' examples/* examples/{icscf-20-lir,scscf-12-sar,mar-33,mar-16}.hex)
     (cd "$top" && printf '%s\n' man/* | sed 's|^man/\(.*\)\.\(.\)$|share/man/man\2/\1.\2|')
 } | sed '/^$/d' | sort >"$room/expected"
-for name in share/man/man1/{answer,tablecheck,ndushavire-check,ndushavire-move,ndushavire-report}.1 share/man/man3/ndushavire.3 \
-    share/doc/ndushavire/examples/{move.c,store.h}; do
+for name in share/man/man1/{answer,tablecheck,ndushavire-{check,maketable,move,report,showtable}}.1 share/man/man3/ndushavire{,_value}.3 \
+    share/man/man7/ndushavire.7 share/doc/ndushavire/examples/{move.c,store.h}; do
     grep -q -x -F "$name" "$room/expected" || fail "the tree has no $name"
 done
 files_in() { (cd "$1" && find . ! -type d | sed 's|^\./||' | LC_ALL=C sort); }
@@ -92,10 +96,10 @@ uninstalled "$room/package/man" "PREFIX=$odd" DESTDIR=
 
 # The programs have their names and may be run, on whichever machine.
 mkdir "$room/made"
-touch "$room/made/"{check,move,report,answer}
-PREFIX=$room/named DESTDIR='' "$top/packaging/install.sh" install "$top/target/staticlib/libndushavire.a" "$room/made/"{check,move,report,answer}
-for name in answer ndushavire-{check,move,report}; do [ -x "$room/named/bin/$name" ] || fail "there is no $name to be run"; done
-[ "$(find "$room/named/bin" -type f | wc -l)" = 4 ] || fail 'other programs than the four given'
+touch "$room/made/"{answer,check,maketable,move,report,showtable}
+PREFIX=$room/named DESTDIR='' "$top/packaging/install.sh" install "$top/target/staticlib/libndushavire.a" "$room/made/"*
+for name in answer ndushavire-{check,maketable,move,report,showtable}; do [ -x "$room/named/bin/$name" ] || fail "there is no $name to be run"; done
+[ "$(find "$room/named/bin" -type f | wc -l)" = 6 ] || fail 'other programs than the six given'
 uninstalled "$room/named" "PREFIX=$room/named" DESTDIR=
 
 # What is refused alters nothing: neither the tree nor what is installed.
@@ -142,11 +146,13 @@ says() { # PROGRAM ARGUMENT..
 }
 built "$room/prefix"
 cd "$room/new"
-"$maketable" table households.txt >table
-"$maketable" profile households.txt >profile
-"$maketable" vectors vectors.txt >vectors
+for name in table profile; do "$room/prefix/bin/ndushavire-maketable" "$name" households.txt >"$name"; done
+"$room/prefix/bin/ndushavire-maketable" vectors vectors.txt >vectors
+"$room/prefix/bin/ndushavire-showtable" table profile | grep -q '^public=sip:bob@isle ' || fail 'ndushavire-showtable does not show the sample'
 says ${RUN:+"$RUN"} ./check table profile vectors
-if [ ${#programs[@]} -gt 0 ]; then
+# Each name of the header leads to the one page.
+for name in $functions; do cmp "$room/prefix/share/man/man3/$name.3" "$room/prefix/share/man/man3/ndushavire.3" >&2 || fail "$name(3) is another page"; done
+if [ -e "$room/prefix/bin/answer" ]; then
     says "$room/prefix/bin/tablecheck"
     says "$room/prefix/bin/ndushavire-check" table profile vectors
     [ "$("$room/prefix/bin/ndushavire-report" table profile vectors /dev/null | tail -n 1)" = 'the file was read to its end, 0 bytes' ] ||

@@ -2,8 +2,8 @@
 # peers.sh ROOM MAKETABLE DAEMON..: the daemon of the examples with real software, in a network namespace of its own: Erlang's diameter as a strict
 # client, Kamailio's I-CSCF and S-CSCF with two phones, both again through freeDiameter as a relay, a call server that comes to the relay by
 # TLS, and tshark, which judges every answer that went over the wire. What is missing is installed from Debian, for which it must be root.
-# What cannot run on a machine is said and counted. Status 0 if everything ran and went as it should, 1 if something went wrong, 2 if
-# something could not run.
+# What cannot run on a machine is said and counted; of a trial that fails, what ended by itself and what the logs say. Status 0 if everything
+# ran and went as it should, 1 if something went wrong, 2 if something could not run.
 set -euo pipefail
 tests=$(cd "$(dirname "$0")" && pwd)
 packages=(freediameter kamailio kamailio-ims-modules kamailio-presence-modules erlang-diameter erlang-dev tshark iproute2 openssl python3)
@@ -55,17 +55,42 @@ echo 'nameserver 127.0.0.1' >resolv.conf
 mount --bind hosts /etc/hosts
 mount --bind resolv.conf /etc/resolv.conf
 
+ulimit -c 0 # a program that crashes is noticed at once, and not when its memory is written
 passed=0 failed=0 could_not=0 running=()
+declare -A started=() # by process: what runs, and its log
 ended() { for pid in "${running[@]}"; do kill "$pid" 2>/dev/null || true; done; }
 trap ended EXIT
 passes() { # WHAT
     passed=$((passed + 1))
     echo "peers.sh: PASSED: $1"
 }
+died() { # says which of the programs have ended by themselves, and how
+    local pid status how
+    for pid in "${!started[@]}"; do
+        ! kill -0 "$pid" 2>/dev/null || continue
+        status=0
+        wait "$pid" || status=$?
+        how="status $status"
+        [ "$status" -le 128 ] || how="signal $((status - 128)), $(kill -l "$status")"
+        echo "--- ${started[$pid]} has ended by itself: $how"
+        unset "started[$pid]"
+    done
+}
+# Kamailio's first process outlives the one that a signal ended, tells of it, and ends the others: that line stands far above the last ones.
+crashes() { # LOG
+    grep -n -i -E 'exited by a signal|core (was|dumped)|segmentation|assert|panic' "$1" | head -n 5 || true
+}
 fails() { # WHAT LOG..
+    local log
     failed=$((failed + 1))
     echo "peers.sh: FAILED: $1"
-    for log in "${@:2}"; do echo "--- $log"; tail -n 15 "$log"; done
+    sleep 2 # for a crash to be told of
+    died
+    for log in "${@:2}"; do
+        echo "--- $log"
+        crashes "$log"
+        tail -n 15 "$log"
+    done
 }
 cannot() { # WHAT WHY
     could_not=$((could_not + 1))
@@ -86,11 +111,13 @@ says() { # FILE TEXT: waits until the file has it
 }
 start() { # LOG COMMAND..
     "${@:2}" >>"$1" 2>&1 &
-    running+=($!)
     last_pid=$!
+    running+=("$last_pid")
+    started[$last_pid]="${2##*/}, $1,"
 }
 finish() { # PID: by SIGTERM, and its status
     local status=0
+    unset "started[$1]"
     kill "$1" 2>/dev/null || true
     wait "$1" || status=$?
     return "$status"
@@ -227,6 +254,7 @@ fi
 # ---- the judge
 if [ -n "$capture_pid" ]; then
     sleep 2
+    unset "started[$capture_pid]"
     kill -INT "$capture_pid"
     wait "$capture_pid" || true
     if ./judge.py wire.pcapng; then passes 'tshark: every answer of the daemon'; else fails 'tshark: every answer of the daemon'; fi

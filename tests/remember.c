@@ -1,11 +1,13 @@
-/* remember SEED COUNT: remember.h and base.h by themselves. How long an answer is remembered, how many and how much at most; and COUNT random
- * messages, each of which ends where memory ends that may be touched. */
+/* remember SEED COUNT: remember.h and base.h by themselves. How long an answer is remembered, how many and how much at most, the load of the fastest
+ * disk, hashes that collide; and COUNT random messages, each of which ends where memory ends that may be touched. */
 #define _GNU_SOURCE /* MAP_ANONYMOUS */
 #include <stdio.h>
 #include <sys/mman.h>
 #include <unistd.h>
 
 #include "../examples/remember.h"
+
+enum { A_SECOND = 5000, LOAD = A_SECOND * REMEMBERED_SECONDS, LONGEST_CHAIN = 32 };
 
 static int wrong(const char *what) {
     fprintf(stderr, "remember: %s\n", what);
@@ -16,52 +18,102 @@ static int wrong(const char *what) {
 static void make_request(uint8_t *to, size_t length, unsigned long identifier) {
     memset(to, 0, length);
     set_length(to, length);
-    put_four(to + 4, 0xC000012Eul);
+    put_four(to + 4, 0xC000012Dul);
     put_four(to + 16, identifier);
     put_four(to + HEADER, 263);
     put_four(to + HEADER + 4, 0x40000000ul | (length - HEADER));
 }
 
 static void forget_all(void) {
-    while (memory.many > 0) forget_oldest();
+    for (int i = 0; i < 2; i++)
+        while (memory.row[i].oldest != NULL) forget_oldest(&memory.row[i]);
 }
 
-static int keeps_its_time(void) {
+/* Whether nothing is left, in the rows and in the chains. */
+static int is_empty(void) {
+    for (size_t i = 0; i < CHAINS; i++)
+        if (memory.chain[i] != NULL) return 0;
+    return memory.row[0].bytes == 0 && memory.row[1].bytes == 0;
+}
+
+static int keeps_its_time(int altered) {
     uint8_t request[40], answer[HEADER] = {0};
     make_request(request, sizeof request, 7);
-    remember(1000, request, sizeof request, answer, sizeof answer);
+    if (!remember(1000, altered, request, sizeof request, answer, sizeof answer)) return wrong("there is no room for one");
     if (recall(1000 + 240, request, sizeof request) == NULL) return wrong("forgotten within four minutes");
     if (recall(1000 + REMEMBERED_SECONDS - 1, request, sizeof request) == NULL) return wrong("forgotten before its time");
     if (recall(1000 + REMEMBERED_SECONDS, request, sizeof request) != NULL) return wrong("remembered for ever");
-    return memory.many == 0 && memory.bytes == 0 ? 1 : wrong("something is left");
+    return is_empty() ? 1 : wrong("something is left");
 }
 
-static int keeps_the_newest(void) {
-    uint8_t request[40], answer[HEADER] = {0};
-    const unsigned long all = REMEMBERED_MOST + 10;
-    for (unsigned long i = 0; i < all; i++) {
-        make_request(request, sizeof request, i);
-        remember(1000, request, sizeof request, answer, sizeof answer);
+/* The request that comes as the NUMBER-th, of clients of which every second one uses one identifier for all. */
+static void make_numbered(uint8_t *request, size_t length, unsigned long number) {
+    make_request(request, length, number % 2 == 0 ? number : 1);
+    put_four(request + HEADER + 8, number);
+}
+
+/* What is remembered of that request. */
+static int recalls(time_t at, unsigned long number) {
+    uint8_t request[40];
+    make_numbered(request, sizeof request, number);
+    const Remembered *one = recall(at, request, sizeof request);
+    return one != NULL && four_bytes(answer_of(one) + 16) == number;
+}
+
+/* How many share their hash with another one, and how long the longest chain is. */
+static void count_collisions(size_t *collisions, size_t *longest) {
+    *collisions = *longest = 0;
+    for (size_t i = 0; i < CHAINS; i++) {
+        size_t length = 0;
+        for (const Remembered *one = memory.chain[i]; one != NULL; one = one->next, length++)
+            for (const Remembered *other = one->next; other != NULL; other = other->next) *collisions += other->hash == one->hash;
+        if (length > *longest) *longest = length;
     }
-    if (memory.many > REMEMBERED_MOST) return wrong("more than there is room for");
-    make_request(request, sizeof request, all - 1);
-    if (recall(1000, request, sizeof request) == NULL) return wrong("the newest is forgotten");
-    make_request(request, sizeof request, 3);
-    if (recall(1000, request, sizeof request) != NULL) return wrong("the oldest is not forgotten");
-    forget_all();
-    return memory.bytes == 0 ? 1 : wrong("bytes are counted wrong");
 }
 
-static int keeps_within_its_bytes(void) {
+/* As many as the fastest disk can store, for five minutes, and a flood of others beside them. */
+static int keeps_a_full_load(size_t *collisions) {
+    static uint8_t large[NDUSHAVIRE_REQUEST_MAX];
+    uint8_t request[40], answer[HEADER] = {0};
+    size_t longest;
+    int room = 1;
+    for (unsigned long i = 0; i < LOAD; i++) {
+        make_numbered(request, sizeof request, i);
+        put_four(answer + 16, i);
+        room &= remember((time_t)(1000 + i / A_SECOND), 1, request, sizeof request, answer, sizeof answer);
+        if (i % 300 != 0) continue;
+        make_request(large, sizeof large, i);
+        remember((time_t)(1000 + i / A_SECOND), 0, large, sizeof large, answer, sizeof answer);
+    }
+    const time_t last = 1000 + REMEMBERED_SECONDS - 1;
+    for (unsigned long i = 0; i < LOAD; i++)
+        if (!recalls(last, i)) return wrong("at a full load an answer is forgotten, or is another one's");
+    count_collisions(collisions, &longest);
+    if (*collisions == 0) return wrong("no two hashes are alike: nothing was tried");
+    if (longest > LONGEST_CHAIN) return wrong("a chain is so long that it is a scan");
+    if (!room || memory.row[0].bytes > remembered_most[0]) return wrong("there is no room for a full load, or too much for the others");
+    if (recalls(last + 1, A_SECOND - 1) || !recalls(last + 1, A_SECOND)) return wrong("a second's answers are forgotten before or after their time");
+    forget_all();
+    return is_empty() ? 1 : wrong("something is left");
+}
+
+/* Where there is no room for all, the oldest go, and it is said. */
+static int keeps_within_its_bytes(int altered) {
     static uint8_t request[NDUSHAVIRE_REQUEST_MAX], answer[NDUSHAVIRE_ANSWER_ROOM];
+    const size_t one = sizeof(Remembered) + sizeof request + sizeof answer, most = 64 << 20, most_before = remembered_most[altered];
+    remembered_most[altered] = most;
     for (unsigned long i = 0; i < 3000; i++) {
         make_request(request, sizeof request, i);
-        remember(1000, request, sizeof request, answer, sizeof answer);
-        if (memory.bytes > REMEMBERED_BYTES + sizeof request + sizeof answer) return wrong("more bytes than it may have");
+        if (remember(1000, altered, request, sizeof request, answer, sizeof answer) != (one * (i + 1) <= most))
+            return wrong("it is not said whether there is room");
+        if (memory.row[altered].bytes > most) return wrong("more bytes than it may have");
     }
     if (recall(1000, request, sizeof request) == NULL) return wrong("the newest is forgotten");
+    make_request(request, sizeof request, 0);
+    if (recall(1000, request, sizeof request) != NULL) return wrong("the oldest is not forgotten");
+    remembered_most[altered] = most_before;
     forget_all();
-    return 1;
+    return is_empty() ? 1 : wrong("bytes are counted wrong");
 }
 
 static uint32_t drawn(uint32_t *state) {
@@ -95,7 +147,7 @@ static int survives(uint8_t *edges[2], uint32_t *state) {
     draw_message(first, other, state);
     find_avp(message + HEADER, length - HEADER, 264);
     names_cx(message + HEADER, length - HEADER);
-    remember(5, message, length, first, other);
+    remember(5, (int)(drawn(state) % 2), message, length, first, other);
     const Remembered *one = recall(5, message, length);
     int good = one != NULL && without_route(plain, message, length) <= length;
     if (good) {
@@ -111,10 +163,12 @@ int main(int argc, char **argv) {
     const unsigned long count = strtoul(argv[2], NULL, 10);
     uint8_t *edges[2] = {edge(), edge()};
     if (edges[0] == NULL || edges[1] == NULL) return 2;
-    if (!keeps_its_time() || !keeps_the_newest() || !keeps_within_its_bytes()) return 1;
+    size_t collisions;
+    if (!keeps_its_time(0) || !keeps_its_time(1) || !keeps_within_its_bytes(0) || !keeps_within_its_bytes(1) || !keeps_a_full_load(&collisions)) return 1;
     for (unsigned long i = 0; i < count; i++)
         if (!survives(edges, &state)) return 1;
     forget_all();
-    printf("remember: seed %s, %lu random messages; answers are remembered as long, as many and as much as they may\n", argv[1], count);
+    printf("remember: seed %s, %lu random messages; %d answers of %d seconds, %lu pairs of them with one hash; each is remembered its time\n",
+           argv[1], count, LOAD, REMEMBERED_SECONDS, (unsigned long)collisions);
     return 0;
 }

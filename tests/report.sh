@@ -262,22 +262,6 @@ lay "$(for name in icscf-02-uar mar-33 scscf-12-sar icscf-20-lir icscf-20-lir ma
 sed -n '/^\.Sh DESCRIPTION/,/^\.Ss/{/^\.Bd/,/^\.Ed/p}' "$top/man/ndushavire-report.1" | sed '/^\./d; s/\\&//' >"$room/shown"
 says 1 'the example of ndushavire-report(1)' <"$room/shown"
 
-# The script at the month's start, with the file of requests as the daemon begins it.
-sed -n '/^\.Sh EXAMPLES/,/^\.Ed/{/^\.Bd/,/^\.Ed/p}' "$top/man/ndushavire-report.1" | sed '/^\./d' >"$room/begin"
-[ "$(head -n 1 "$room/begin")" = '#!/bin/sh' ] || fail 'the page has no script'
-mkdir -p "$room/here/live" "$room/here/month.new/left"
-cp "$table" "$profile" "$room/here/live"
-cp "$vectors" "$room/here"
-(cd "$room/here" && sh ../begin 2026-11) || fail "the page's script: status $?"
-left=$(cd "$room/here" && find month* -type f -printf '%P %m\n' | LC_ALL=C sort | tr '\n' ' ')
-[ "$left" = 'profile 600 requests 600 table 600 vectors 600 ' ] || fail "the script leaves $(find "$room/here")"
-for file in table profile vectors; do cmp "$room/$file" "$room/here/month-2026-11/$file" >&2 || fail "the script copies another $file"; done
-cp -r "$room/here" "$room/once"
-! (cd "$room/here" && sh ../begin 2026-11 2>/dev/null) || fail 'a month is begun twice'
-[ ! -e "$room/here/month-2026-11/month.new" ] || fail 'a month is begun within a month'
-diff -r "$room/once/month-2026-11" "$room/here/month-2026-11" >&2 || fail 'a month begun twice loses what it had'
-tried=$((tried + 2))
-
 # ---- the command line, and files that are none
 lay "$lir"
 for report in "${reports[@]}"; do

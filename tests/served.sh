@@ -11,8 +11,8 @@ top=$tests/..
 rm -rf "$room"
 mkdir -p "$room"
 disk=$(mktemp -d -p /dev/shm served.XXXXXX 2>/dev/null) || disk=$(mktemp -d -p "$(cd "$room" && pwd)") # in memory, where a flush takes what slow-disk.h says
-trap 'chmod -R u+w "$disk"; rm -rf "$disk"' EXIT
-noticed=0
+chmod 711 "$disk" # a daemon of another user comes by
+trap 'wait; chmod -R u+w "$disk"; rm -rf "$disk"' EXIT
 
 fail() {
     echo "served.sh: $*" >&2
@@ -22,61 +22,106 @@ command -v python3 >/dev/null || fail 'python3 is missing (Debian: python3)'
 cp -r "$top/examples" "$room/source"
 
 # Three trials are about peers that wait in vain, and have a daemon with little patience; the others may run on a machine that is slow.
-hasty='greeting slow ending' others='cut many garbage replaced last_good twice full kills'
-build() { # SOURCES PROGRAM TRIAL
-    local flags=()
-    [[ " $hasty " != *" $3 "* ]] || flags=(-DQUIET=3 -DGREETING=1 -DFAREWELL=1)
+hasty='greeting slow ending' others='cut many garbage replaced declined two_users laid_over sizes put_in timed_out last_good twice full kills'
+build() { # SOURCES PROGRAM TRIAL [OPTION]
+    local flags=(-DLOOK_AGAIN=1 "${@:4}")
+    [[ " $hasty " != *" $3 "* ]] || flags+=(-DQUIET=3 -DGREETING=1 -DFAREWELL=1)
     "${compiler[@]}" -std=c99 -O2 -Wall -Wextra -pedantic -Werror -Wno-unused -I"$top/include" "${flags[@]}" -include "$tests/slow-disk.h" \
         -o "$2" "$1/daemon.c" "$archive"
 }
 build "$room/source" "$room/hasty" slow
 build "$room/source" "$room/daemon" cut
-status=0
-"${run[@]}" "$room/daemon" 2>/dev/null || status=$?
-[ "$status" = 2 ] || fail "without arguments it ends with status $status"
+ends() { # STATUS ARGUMENT..
+    local status=0
+    "${run[@]}" "$room/daemon" "${@:2}" >"$room/usage" 2>"$room/complaint" || status=$?
+    [ "$status" = "$1" ] || fail "with the arguments '${*:2}' it ends with status $status"
+}
+ends 0 --help
+grep -q '^usage: ' "$room/usage" && [ ! -s "$room/complaint" ] || fail '--help does not show how it is used'
+ends 2
+for port in '' 65536 12x -1 ' 1'; do
+    ends 2 -p "$port" live cards
+    grep -q -e '-p: a port is 0 to 65535' "$room/complaint" || fail "a port '$port' is not complained of"
+done
 kills=40
 [ ${#run[@]} = 0 ] || kills=15 # an emulator takes long to start
-"$tests/client.py" "$disk/room" "$maketable" "$kills" $hasty -- "${run[@]}" "$room/hasty"
-"$tests/client.py" "$disk/room" "$maketable" "$kills" $others -- "${run[@]}" "$room/daemon"
-
-# With a fault the trial must end with status 1.
-with() { # ABOUT TRIAL FILE SED..
-    local status=0
-    rm -rf "$room/changed"
-    cp -r "$room/source" "$room/changed"
-    sed -i "${@:4}" "$room/changed/$3"
-    ! cmp -s "$room/source/$3" "$room/changed/$3" || fail "$1: there is no place for this fault"
-    build "$room/changed" "$room/changed/daemon" "$2"
-    PATIENCE=5 "$tests/client.py" "$disk/room" "$maketable" "$kills" "$2" -- "${run[@]}" "$room/changed/daemon" >"$room/said" 2>&1 || status=$?
-    [ "$status" = 1 ] && grep -q "^client.py: $2: " "$room/said" || { cat "$room/said" >&2; fail "$1: not noticed, status $status"; }
-    sed "s/^client.py: /served.sh: $1: /" "$room/said" | tail -n 1
-    noticed=$((noticed + 1))
+client() { # TRIALS PROGRAM
+    "$tests/client.py" "$disk/room" "$maketable" "$kills" $1 -- "${run[@]}" "$2"
 }
-# Damage in memory is mended from disk.
-spoil='s/^    keep(&table);/    static int calls;\n    if (++calls == 1) table.bytes[600] ^= 1;\n    if (calls == 3) vectors.bytes[600] ^= 1;\n&/'
-cp -r "$room/source" "$room/spoilt"
-sed -i "$spoil" "$room/spoilt/daemon.c"
-build "$room/spoilt" "$room/spoilt/daemon" spoilt
-"$tests/client.py" "$disk/room" "$maketable" "$kills" spoilt -- "${run[@]}" "$room/spoilt/daemon"
-with 'files that are damaged in memory and not read again' spoilt daemon.c -e "$spoil" -e 's/^    read_again(number);//'
+client "$hasty" "$room/hasty"
+client "$others" "$room/daemon"
 
-stored='if (!durable(&vectors) || !durable(&table)) {'
-with 'an answer that is sent before its work is stored' kills daemon.c -e "s/^    $stored/    send_later(peer, answer, answer_len);\n    write_some(peer);\n&/" \
-    -e '/^    remember(/,/^}/s/^    send_later.*//' -e 's/^static void hang_up(Peer/static void write_some(Peer *peer);\n&/'
-with 'vectors that are not stored' kills daemon.c "s/$stored/if (!durable(\&table)) {/"
-with 'a table that is not stored' kills daemon.c "s/$stored/if (!durable(\&vectors)) {/"
-with 'what was not stored, kept in memory' full daemon.c 's/^ *put_back(&table);.*//; s/^ *put_back(&vectors);.*//'
+# Builds with something put in, for a trial each: damage in memory, which is mended from disk; and little room for answers.
+spoil='s/^    return ndushavire_decide(/    static int calls;\n    if (++calls == 1) table.bytes[600] ^= 1;\n    if (calls == 3) vectors.bytes[600] ^= 1;\n&/'
+few='s/= {(size_t)64 << 20, (size_t)2 << 30};/= {1500, 5000};/'
+special() { # TRIAL FILE SED
+    cp -r "$room/source" "$room/$1"
+    sed -i "$3" "$room/$1/$2"
+    build "$room/$1" "$room/$1/daemon" "$1"
+    client "$1" "$room/$1/daemon"
+}
+special spoilt daemon.c "$spoil"
+special crowded remember.h "$few"
+
+# With a fault the trial must end with status 1. Such trials mostly wait for what does not come: four run beside each other.
+started=0 pids=()
+try_with() { # NUMBER ABOUT TRIAL FILE SED..
+    local status=0 changed=$room/changed$1
+    cp -r "$room/source" "$changed"
+    sed -i "${@:5}" "$changed/$4"
+    ! cmp -s "$room/source/$4" "$changed/$4" || fail "$2: there is no place for this fault"
+    build "$changed" "$changed/daemon" "$3" -O0 # which takes less time than it costs
+    PATIENCE=5 "$tests/client.py" "$disk/room$1" "$maketable" "$kills" "$3" -- "${run[@]}" "$changed/daemon" >"$changed/said" 2>&1 || status=$?
+    [ "$status" = 1 ] && grep -q "^client.py: $3: " "$changed/said" || { cat "$changed/said" >&2; fail "$2: not noticed, status $status"; }
+    sed "s/^client.py: /served.sh: $2: /" "$changed/said" | tail -n 1
+}
+with() { # ABOUT TRIAL FILE SED..
+    [ $((started - 4)) -lt 0 ] || wait "${pids[started - 4]}"
+    try_with "$started" "$@" &
+    pids[started]=$!
+    started=$((started + 1))
+}
+with 'files that are damaged in memory and not read again' spoilt daemon.c -e "$spoil" -e 's/^    read_again(number);//'
+with 'an answer that is sent before its work is stored' kills daemon.c \
+    -e 's/^    if (may_alter(request, length) \&\& succeeded.*/    send_later(peer, answer, answer_len);\n    write_some(peer);\n&/' \
+    -e '/remember_for_twice(outcome/,/^}/s/^    send_later.*//' -e 's/^static void hang_up(Peer/static void write_some(Peer *peer);\n&/'
+with 'vectors that are not stored' kills files.h 's/(used \&\& !durable(&vectors)) || //'
+with 'a table that is not stored' kills files.h 's/ || (rewritten \&\& !durable(&table))//'
+with 'what was not stored, kept in memory' full files.h 's/^        put_back(&table);//; s/^        put_back(&vectors);//'
 with 'a file that may be lost, and is answered from' full files.h 's/if (stored == UNSURE \&\& /if (0 \&\& /'
-with 'a request that comes twice and is decided twice' twice daemon.c 's/length >= HEADER ? recall(now, request, length) : NULL/NULL/'
-with 'answers that are told apart by their identifier alone' twice remember.h 's/ \&\& one->request == used \&\& memcmp(one->bytes, plain, used) == 0/ \&\& used > 0/'
+with 'a success with an X result, taken for an error' timed_out daemon.c \
+    's/(base_result(answer, length) + experimental_result(answer, length))/base_result(answer, length)/'
+with 'a request that comes twice and is decided twice' twice daemon.c 's/may_alter(request, length) ? recall(now, request, length) : NULL/NULL/'
+with 'answers that are told apart by their identifier alone' twice remember.h \
+    -e 's/^    uint32_t hash = 2166136261u;/    return (uint32_t)four_bytes(bytes + 16);\n&/' \
+    -e 's/ \&\& one->request == used \&\& memcmp(request_of(one), plain, used) == 0//'
 with 'an answer that is sent again with the first identifier' twice remember.h 's/^    memcpy(answer + 12, request + 12, 4);//'
 with 'an answer that is sent again with the first Proxy-Info' twice remember.h 's/ \&\& !is_proxy_info(answer + at)) at += span;/) at += span;/'
 with 'a Route-Record that makes another request of it' twice remember.h 's/return is_proxy_info(avp) || .*/return is_proxy_info(avp); }/'
-with 'an unsound table that is taken over' replaced files.h 's/^    if (why == NULL) why = bad_block(ndushavire_check(.*//'
-with 'a table that is never looked for' replaced files.h 's/^    consider(folder);/    close(folder);/'
-with 'a table that was laid over ours, and is left there' replaced files.h 's/^    lay_back();//'
+with 'answers that altered nothing among those that did' crowded remember.h -e "$few" -e 's/^    Row \*row = &memory.row\[.*/    Row *row = \&memory.row[1];/'
+with 'answers that are forgotten without a word' crowded remember.h -e "$few" -e 's/^    return room;/    return 1;/'
+with 'an unsound table that is taken over' replaced files.h 's/^    if (why == NULL) why = of("table", unsound(.*//'
+with 'a table that is never looked for' replaced files.h 's/^    consider(locked_already(.*/    close(folder);/'
+with 'a table that was laid over ours, and is left there' replaced files.h 's/^    if (laid_over || !has_ours(table.folder, &table)) lay_back();//'
+with 'a switch that does not happen, without a word' declined files.h 's/^        declined(of(live, strerror(errno)));/        ;/'
+with 'a reason that is said again and again' declined log.h 's/strcmp(line, told) != 0 \&\& //'
+with 'a table that was declined, whose mode does not matter' declined files.h -e 's/^    return a->st_mode == b->st_mode .*/    return a != b;/' \
+    -e 's/return same_file(a, b) \&\& same_rights(a, b) .*/return same_file(a, b);/'
+with 'a table that was declined, whose profile does not matter' declined files.h 's/^           untouched(&a->about\[PROFILE_FILE\].*/           1;/'
+with 'a table that is not looked at again unless somebody touches it' declined files.h 's/if (same \&\& now - looked < LOOK_AGAIN) {/if (same) {/'
+with 'a table renamed away before ours is stored' laid_over files.h \
+    's/^    const int folder = table.folder;$/&\n    renameat(folder, "table", folder, "table.declined");/'
+with 'a mode that is taken from what was laid over ours' laid_over files.h 's/^    if (fchmodat(folder, "table.ours", .* || fstatat/    if (fstatat/'
+with 'a table that was left without its name' laid_over files.h 's/^    finish_laying_back(here);//'
+with 'sizes that are not asked' sizes files.h 's/^    if (size <= most \&\& size % block == 0) return NULL;/    if (size < 1ull << 40) return NULL;/'
+with 'vectors that are stored over without a word' put_in files.h 's/^    if (used \&\& !has_ours(vectors.folder, &vectors)) .*//'
 with 'a last good file that is stored over' last_good files.h 's/(file.st_mode & 0222) == 0 || (around.st_mode & 0222) == 0/0/'
-with 'two daemons over one vector file' last_good files.h 's/^    if (fcntl(file, F_SETLK, .*//'
+with 'a vector file that is a link, by its errno' last_good files.h \
+    -e 's/^    if (S_ISLNK(file.st_mode)) return linked;//' -e 's/return errno == ELOOP ? linked : strerror(errno);/return strerror(errno);/'
+with 'two daemons over one vector file' last_good files.h 's/file < 0 ? why_not_opened() : why_not_locked(file);/file < 0 ? why_not_opened() : NULL;/'
+with 'two daemons over one table' last_good files.h 's/^    if (why == NULL) why = of("its folder", .*//'
+with 'a lock that flock(1) does not see' last_good files.h \
+    's/^    if (flock(file, LOCK_EX | LOCK_NB) == 0)/    struct flock all = {.l_type = F_WRLCK};\n    if (fcntl(file, F_SETLK, \&all) == 0 || errno == EBADF)/'
 with 'rotten vectors that are lent as they are' last_good files.h 's/vectors.length = 0;/;/'
 with 'half a message, forgotten' cut daemon.c 's/^    peer->have -= at;/    if (at == 0) peer->have = 0;\n&/'
 with 'what stands behind a message, forgotten' many daemon.c 's/^    peer->have -= at;/    peer->have = 0;/'
@@ -87,4 +132,10 @@ with 'a peer that is waited for' slow daemon.c 's/fcntl(fresh, F_SETFL, O_NONBLO
 with 'silence that is not minded' slow daemon.c 's/^        if (peers\[i\].socket >= 0) mind_silence(.*//'
 with 'a request before the CER' greeting daemon.c 's/^    return peer->open || .*/    return peer->open || is_request(message);/'
 with 'an end without a word' ending daemon.c 's/\.open) ask(&peers\[i\], DISCONNECT);/.open) continue;/'
-echo "served.sh: the daemon of the examples serves its client, and each of $noticed faults is noticed"
+for pid in "${pids[@]: -4}"; do wait "$pid"; done
+
+# No daemon outlives its trial: each has this run's folder among its arguments.
+left=$(grep -l -F -e "$disk" /proc/[0-9]*/cmdline 2>/dev/null || true)
+for process in $left; do kill -KILL "$(basename "$(dirname "$process")")" || true; done
+[ -z "$left" ] || fail "a daemon is left running: $left"
+echo "served.sh: the daemon of the examples serves its client, and each of $started faults is noticed"

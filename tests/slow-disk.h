@@ -1,5 +1,6 @@
 /* slow-disk.h: included before a daemon by its test. A flush takes a millisecond, so that a kill often comes before it; it fails where
- * the folder that SLOW_DISK names has a file disk-full, and that of a folder where it has a file folder-fails. */
+ * the folder that SLOW_DISK names has a file disk-full, and that of a folder where it has a file folder-fails. The daemon is the user
+ * whose number DAEMON_USER has: it may be started from a folder that this user cannot reach. */
 #ifndef SLOW_DISK_H
 #define SLOW_DISK_H
 
@@ -31,4 +32,13 @@ static int slow_fsync(int file) {
 }
 
 #define fsync slow_fsync
+
+int setgroups(size_t many, const gid_t *groups); /* which POSIX does not have */
+
+__attribute__((constructor)) static void become_user(void) {
+    const char *user = getenv("DAEMON_USER");
+    if (user == NULL) return;
+    const unsigned long number = strtoul(user, NULL, 10);
+    if (setgroups(0, NULL) != 0 || setgid((gid_t)number) != 0 || setuid((uid_t)number) != 0) _exit(3);
+}
 #endif

@@ -16,8 +16,8 @@ def run(reference, *words, given=b''):
     return subprocess.run([reference, *words], input=given, stdout=subprocess.PIPE, check=True).stdout
 
 
-def made(reference, kind, seed, count):
-    return run(reference, 'gen', '--kind', kind, '--seed', str(seed), '--count', str(count))
+def made(reference, kind, seed, count, start=0):
+    return run(reference, 'gen', '--kind', kind, '--seed', str(seed), '--from', str(start), '--count', str(count))
 
 
 def carried(word):

@@ -31,7 +31,7 @@ says() { # EXPECTED ABOUT
     status=0
     said=$("$showtable" "$table" "$profile" 2>&1 >"$room/shown") || status=$?
     [ "$status" = "$due" ] || fail "$2: showtable ends with status $status and should end with $due"
-    [ "$due" = 0 ] || { [ "$said" = "showtable: $table: $1" ] && [ ! -s "$room/shown" ]; } || fail "$2: showtable says '$said' and should say '$1'"
+    [ "$due" = 0 ] || { [ "$said" = "ndushavire-showtable: $table: $1" ] && [ ! -s "$room/shown" ]; } || fail "$2: showtable says '$said' and should say '$1'"
     tried=$((tried + 1))
 }
 
@@ -352,7 +352,15 @@ for check in "${checks[@]}"; do
     [ "$("${run[@]}" "$check" --version)" = "ndushavire-check $version" ] || fail "$check --version does not say $version"
     [[ $("${run[@]}" "$check" --help) == 'usage: ndushavire-check '* ]] || fail "$check --help says nothing of its use"
 done
-ends 2 "$maketable"
+for program in "$maketable" "$showtable"; do
+    name=ndushavire-${program##*/}
+    [ "$("$program" --version)" = "$name $version" ] || fail "$program --version does not say $version"
+    [[ $("$program" --help) == "usage: $name "* ]] || fail "$program --help says nothing of its use"
+    ends 2 bash -c '"$0" --help >/dev/full' "$program"
+    ends 2 "$program" --version --help
+    ends 2 "$program" --versions
+    ends 2 "$program"
+done
 ends 2 "$maketable" record "$text"
 ends 2 "$maketable" table "$room/none"
 ends 2 bash -c '"$0" table "$1" >/dev/full' "$maketable" "$(dirname "$0")/../examples/households.txt"

@@ -37,7 +37,7 @@ says() { # EXPECTED ABOUT
     said=$("$showtable" --vectors "$vectors" 2>&1 >"$room/shown") || status=$?
     [ "$status" = "$due" ] || fail "$2: showtable ends with status $status and should end with $due"
     if [ "$due" = 1 ]; then
-        [ "$said" = "showtable: $vectors: ${1#vector }" ] && [ ! -s "$room/shown" ] || fail "$2: showtable says '$said' and should say '$1'"
+        [ "$said" = "ndushavire-showtable: $vectors: ${1#vector }" ] && [ ! -s "$room/shown" ] || fail "$2: showtable says '$said' and should say '$1'"
     elif [ "${3-}" != twins ]; then
         "$maketable" vectors "$room/shown" | cmp - "$vectors" >&2 || fail "$2: what showtable writes makes another file"
     fi
@@ -268,7 +268,7 @@ unused 1 'a used and an unused vector again' <<'END'
 3 unused, 2 used, private=bob@isle
 3 unused, 0 used, private=erin@isle
 END
-printf 'showtable: %s: block %s has the vector of block %s again\n' "$vectors" 4 0 "$vectors" 5 1 | diff - "$room/errors" >&2 || fail 'the twins are not named'
+printf 'ndushavire-showtable: %s: block %s has the vector of block %s again\n' "$vectors" 4 0 "$vectors" 5 1 | diff - "$room/errors" >&2 || fail 'the twins are not named'
 
 # ---- two files at once, and what cannot be read or written
 fresh
@@ -288,7 +288,7 @@ for check in "${checks[@]}"; do
     ends 2 bash -c '"$@" >/dev/full' - "${run[@]}" "$check" "$table" "$profile" "$whole"
 done
 ends 1 "$showtable" --unused "$table" "$profile" "$vectors"
-grep -q -x -F "showtable: $vectors: block 8 is bad" "$room/errors" || fail 'no block is named'
+grep -q -x -F "ndushavire-showtable: $vectors: block 8 is bad" "$room/errors" || fail 'no block is named'
 ends 1 "$showtable" --unused "$room/cut" "$profile" "$whole"
 ends 2 "$showtable" --unused "$table" "$profile"
 ends 2 "$showtable" --unused "$table" "$profile" "$room/none"

@@ -1,19 +1,21 @@
 /* whole.c: the daemon of the examples in the shape of the one that ndushavire(3) shows, so that daemon.c can run it on a disk that fails: how it
  * takes its files up, and what it does with a new request. Its peers and its loop are served.sh's. */
+#include <sys/file.h>
 #define main daemon_main
 #define live live_path
 #define serve serve_peer
 #define refused refused_peer
 #define read_all read_whole
-#define fcntl(...) 0 /* the lock is a process's, and here one process forks lives */
+#define flock(file, how) ((void)(file), 0) /* the locks are a process's, and here one process forks lives */
 #include "daemon.c"
 #undef main
 #undef live
 #undef serve
 #undef refused
 #undef read_all
-#undef fcntl
+#undef flock
 
+#define LAID_OVER look_for_table /* what notices a table that was laid over its own */
 #define MORE_LOGGED "daemon: peer 6: no challenge for user1@isle: B5004\n"
 
 int send_all(int peer, const uint8_t *bytes, size_t length);

@@ -64,6 +64,6 @@ examples=$(dirname "$0")/../examples
 "$maketable" table "$examples/households.txt" >"$room/table"
 "$maketable" profile "$examples/households.txt" >"$room/profile"
 "$maketable" vectors "$examples/vectors.txt" >"$room/vectors"
-sed -n '/^    \$ showtable --unused/,/^$/s/^    \([0-9]\)/\1/p' "$page" >"$room/counted"
+sed -n '/^    \$ ndushavire-showtable --unused/,/^$/s/^    \([0-9]\)/\1/p' "$page" >"$room/counted"
 "$showtable" --unused "$room/table" "$room/profile" "$room/vectors" | diff "$room/counted" - >&2 || fail 'what is unused of the sample is counted otherwise'
 echo "worked-table.sh: the worked table and vector of TABLE.md, $(cat "$room/blocks" "$room/second-blocks" "$room/vector-blocks" | wc -l) lines of them, are what maketable makes"

@@ -67,8 +67,16 @@ def main():
     print("judge.py: SARs by type: %s; results: %s" % (said(types), said(results)))
     noticed = bool(judge(damaged(capture))[3])
     print("judge.py: of a copy with a damaged answer tshark %s" % ("complains" if noticed else "says nothing"))
-    good = sum(answers.values()) > 50 and {"CEA", "DWA", "DPA"} <= set(answers) and unpaired == 0 and not complaints and noticed
-    return 0 if good and {"1", "2", "3", "5"} <= set(types) and {"B2001", "B5003", "B5012", "X2001", "X5001", "X5003", "X5004", "X5006"} <= set(results) else 1
+    wrong = ["no %s was sent" % one for one in sorted({"CEA", "DWA", "DPA"} - set(answers))]
+    wrong += ["no SAR of type %s came" % one for one in sorted({"1", "2", "3", "5"} - set(types))]
+    wrong += ["no answer was %s" % one for one in sorted({"B2001", "B5003", "B5012", "X2001", "X5001", "X5003", "X5004", "X5006"} - set(results))]
+    wrong += ["only %d answers" % sum(answers.values())] if sum(answers.values()) <= 50 else []
+    wrong += ["answers without their request"] if unpaired else []
+    wrong += ["complaints"] if complaints else []
+    wrong += ["the damaged answer is not noticed"] if not noticed else []
+    for one in wrong:
+        print("judge.py: WRONG: " + one)
+    return 1 if wrong else 0
 
 
 sys.exit(main())

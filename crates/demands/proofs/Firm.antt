@@ -22,7 +22,7 @@ use Rattle.calling.specs.Lent.{Lent}
 use Rattle.calling.specs.Serve.{checkValue}
 use Rattle.ndushavire.specs.Word.{word, checkWord, callWord}
 use Rattle.ndushavire.specs.Reads.{numberIn, placeIn, valueIn, Reads, ReadsCheck}
-use Rattle.ndushavire.specs.Promise.{CheckPromise, CheckVectorsPromise, DecidePromise, ForwardPromise, BackPromise}
+use Rattle.ndushavire.specs.Promise.{CheckPromise, CheckVectorsPromise, DecidePromise, ForwardPromise, BackPromise, VersionPromise}
 
 -- Any two returns that meet the promise are equal.
 pub check-unique : (table profile : List ℕ) (r s : ℕ) → CheckPromise table profile r → CheckPromise table profile s → r ≡ s
@@ -145,3 +145,7 @@ forward-unique table profile issue r s t u p q = (p .word-is ∙ sym (q .word-is
 
 pub back-unique : (table profile : List ℕ) (r s : ℕ) (t u : List ℕ) → BackPromise table profile r t → BackPromise table profile s u → (r ≡ s) × (t ≡ u)
 back-unique table profile r s t u p q = (p .word-is ∙ sym (q .word-is), p .table-is ∙ sym (q .table-is))
+
+-- The version's number.
+pub version-unique : (r s : ℕ) → VersionPromise r → VersionPromise s → r ≡ s
+version-unique r s p q = p .number-is ∙ sym (q .number-is)

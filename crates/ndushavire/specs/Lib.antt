@@ -1,3 +1,4 @@
 pub mod Promise
 pub mod Reads
+pub mod Version
 pub mod Word

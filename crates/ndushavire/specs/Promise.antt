@@ -9,6 +9,7 @@ use Rattle.calling.specs.Lent.{Lent}
 use Rattle.calling.specs.Serve.{serve}
 use Rattle.moving.specs.Outcomes.{forward, back}
 use Rattle.reporting.specs.Report.{reported}
+use Rattle.ndushavire.specs.Version.{version}
 use Rattle.ndushavire.specs.Word.{word, checkWord, callWord, moveWord}
 
 -- the check of a table: "the exact count or first bad block"; of the profile file its length alone counts
@@ -42,3 +43,7 @@ pub record ReportPromise (x : Lent) (area : List ℕ) (r : ℕ) (table' vectors'
   pub vectors-is : vectors' ≡ reported x area .vectors
   pub buffer-is : buffer' ≡ reported x area .buffer
   pub area-is : area' ≡ reported x area .area
+
+-- the version of the library that is called
+pub record VersionPromise (r : ℕ) : Type 0 where
+  pub number-is : r ≡ version

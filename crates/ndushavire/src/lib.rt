@@ -7,7 +7,7 @@ ghost use Rattle.calling.specs.Call.{callOf};
 ghost use Rattle.calling.specs.Lent.{lent};
 ghost use Rattle.ndushavire.specs.Word.{word, checkWord, callWord, moveWord};
 ghost use Rattle.ndushavire.specs.Promise.{CheckPromise, CheckVectorsPromise, DecidePromise, ReportPromise};
-ghost use Rattle.ndushavire.specs.Promise.{ForwardPromise, BackPromise};
+ghost use Rattle.ndushavire.specs.Promise.{ForwardPromise, BackPromise, VersionPromise};
 
 // What the number of a returned word counts, 2^48, and what the place counts, 2^32.
 const NUMBER: u64 = 281474976710656;
@@ -119,4 +119,14 @@ pub extern "C" fn ndushavire_back(table: &mut [u8], profile: &[u8]) -> u64
     ensures { λ r. ⌜ BackPromise (now (table .entry)) (now (profile .entry)) r (now (table .exit)) ⌝ }
 {
     move_word(moving::back(table, profile.len()))
+}
+
+// Which library was linked, so that a daemon can tell it from the header that it was compiled with: 0.9.0, as NDUSHAVIRE_VERSION_NUMBER has it.
+const VERSION: u32 = 900;
+
+#[no_mangle]
+pub extern "C" fn ndushavire_version() -> u32
+    ensures { λ r. ⌜ VersionPromise r ⌝ }
+{
+    VERSION
 }

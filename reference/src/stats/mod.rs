@@ -22,6 +22,9 @@ use crate::table::LONGEST_PROFILE;
 use crate::verdict::{Code, Decision, Why};
 use sizes::size;
 
+/// How many times as many cases are counted, where a row has too few, before it is told of.
+const ROUNDS: u64 = 10;
+
 #[derive(Default)]
 pub struct Histogram {
     rows: BTreeMap<String, u64>,
@@ -209,12 +212,12 @@ impl Histogram {
         }
     }
 
-    /// Rows that must be there, with their least count, and have fewer cases.
+    /// Rows that must be there and have fewer cases than chance explains.
     pub fn thin_rows(&self, stream: Stream) -> Vec<String> {
         let mut thin = Vec::new();
         for (wanted, one_in) in required::rows(stream) {
             let count: u64 = self.rows.iter().filter(|(row, _)| row.starts_with(&wanted)).map(|(_, count)| count).sum();
-            let least = (self.cases / one_in).max(1);
+            let least = least(self.cases, one_in);
             if count < least {
                 thin.push(format!("{wanted}: {count} of {least}"));
             }
@@ -228,6 +231,13 @@ impl Histogram {
         }
         println!("{:9} cases", self.cases);
     }
+}
+
+/// The fewest of a row that comes once in so many cases: six standard deviations below what is expected, and at least
+/// one. So a seed has fewer by bad luck only where hardly any are expected; for these `stats` goes on.
+fn least(cases: u64, one_in: u64) -> u64 {
+    let expected = cases as f64 / one_in as f64;
+    (expected - 6.0 * expected.sqrt()).floor().max(1.0) as u64
 }
 
 /// Whether the table of a case is unsound by a set that disagrees.
@@ -263,13 +273,20 @@ pub fn result_of(answer: &[u8]) -> Code {
     Code::Base(0)
 }
 
-/// Counts the cases of a stream, prints the histogram, and says whether every required row has enough cases.
+/// Counts the cases of a stream, prints the histogram, and says whether every required row has enough cases. Where one
+/// has too few, the next cases of the seed are counted too: what is still thin after ROUNDS is no matter of luck.
 pub fn stats(stream: Stream, seed: u64, numbers: Range<u64>) -> bool {
     let mut histogram = Histogram::default();
-    for number in numbers {
-        let made = gen::make(stream, seed, number);
-        let (outcome, why) = made.case.outcome_and_why(Slip::NONE);
-        histogram.count(stream, &made, &outcome, &why);
+    let (first, count) = (numbers.start, numbers.end - numbers.start);
+    for round in 0..ROUNDS {
+        for number in first + round * count..first + (round + 1) * count {
+            let made = gen::make(stream, seed, number);
+            let (outcome, why) = made.case.outcome_and_why(Slip::NONE);
+            histogram.count(stream, &made, &outcome, &why);
+        }
+        if histogram.thin_rows(stream).is_empty() {
+            break;
+        }
     }
     histogram.print();
     let thin = histogram.thin_rows(stream);
@@ -277,4 +294,28 @@ pub fn stats(stream: Stream, seed: u64, numbers: Range<u64>) -> bool {
         println!("too few: {row}");
     }
     thin.is_empty()
+}
+
+#[cfg(test)]
+mod tests {
+    use super::*;
+
+    #[test]
+    fn chance_is_no_fault_and_an_empty_row_is() {
+        assert_eq!(
+            [1, 1, 1, 40, 115, 810],
+            [100, 1_000, 20_000, 100_000, 200_000, 1_000_000].map(|cases| least(cases, 1_000))
+        );
+        let mut histogram = Histogram { rows: BTreeMap::new(), cases: 100_000 };
+        for row in required_rows(Stream::Vectors) {
+            histogram.rows.insert(row, 40);
+        }
+        assert_eq!(Vec::<String>::new(), histogram.thin_rows(Stream::Vectors));
+        histogram.rows.insert("vector: kind".to_string(), 39);
+        histogram.rows.remove("vectors: 4,097 blocks");
+        assert_eq!(
+            vec!["vector: kind: 39 of 40", "vectors: 4,097 blocks: 0 of 1"],
+            histogram.thin_rows(Stream::Vectors)
+        );
+    }
 }

@@ -11,7 +11,7 @@ use crate::gen::vectors::damage::{DAMAGES, OVER_THE_MOST};
 use crate::gen::{Stream, MIXED, OF_SETS};
 use crate::kinds::{needed, Command, Kind, COMMANDS, KINDS};
 
-/// A row has at least one case in so many; where a stream is short, at least one.
+/// A row has at least one case in so many, but for chance; where a stream is short, at least one.
 const ONE_IN: u64 = 1000;
 
 /// How each row begins, and in how many cases there is to be one.

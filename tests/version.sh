@@ -1,0 +1,24 @@
+#!/usr/bin/env bash
+# version.sh VERSION..: one version everywhere. VERSION prints the number of the library that was linked; it is the header's, in both forms, that
+# of the definition in crates/, that of the programs' --version, the one that pkg-config will say, and the one that README.md says this is.
+set -euo pipefail
+cd "$(dirname "$0")/.."
+
+fail() {
+    echo "version.sh: $*" >&2
+    exit 1
+}
+said() { # WHAT EXPECTED FOUND
+    [ "$2" = "$3" ] || fail "the header is of $version, and $1 says '$3' instead of '$2'"
+}
+version=$(sed -n 's/^#define NDUSHAVIRE_VERSION "\(.*\)"$/\1/p' include/ndushavire.h)
+[[ $version =~ ^(0|[1-9][0-9]*)\.(0|[1-9][0-9]?)\.(0|[1-9][0-9]?)$ ]] || fail "the header's version is '$version'"
+number=$((BASH_REMATCH[1] * 10000 + BASH_REMATCH[2] * 100 + BASH_REMATCH[3]))
+said NDUSHAVIRE_VERSION_NUMBER "$number" "$(sed -n 's/^#define NDUSHAVIRE_VERSION_NUMBER \([0-9]*\) .*/\1/p' include/ndushavire.h)"
+linked=$("$@") || fail "the library that was linked says '$linked', and the header $number"
+said 'the library that was linked' "$number" "$linked"
+said crates/ndushavire/specs/Version.antt "${version//./ }" "$(sed -n 's/^version = numberOf //p' crates/ndushavire/specs/Version.antt)"
+said crates/arguments/src/lib.rt "$version" "$(sed -n 's/^ *say(b" \([0-9.]*\)\\n");$/\1/p' crates/arguments/src/lib.rt)"
+said packaging/ndushavire.pc.in @VERSION@ "$(sed -n 's/^Version: //p' packaging/ndushavire.pc.in)" # the header's, by packaging/install.sh
+said README.md "$version" "$(grep -o -E '\*\* This is [0-9]+\.[0-9]+\.[0-9]+' README.md | sed 's/.* //')"
+echo "version.sh: $version, $number, everywhere"
