@@ -1,22 +1,24 @@
--- What is read out of an AVP at a place: its code, vendor and number, its own bytes and its data.
-use Prim.Native.Nat.{ℕ, zero, suc, _+_, _-_, _≤_}
+-- What is read out of an AVP at a place: its code, vendor and number, its own bytes, its data, and the members of a group.
+use Prim.Native.Nat.{ℕ, zero, suc, _+_, _-_, _≤_, _<_, min}
 use native.Mathlib.Nat.{add-zero, zero-add, suc-add, add-sub-cancel-left}
 use mathlib.Core.Path.{_≡_, refl, sym, _∙_}
 use mathlib.Core.List.{List, [], _∷_}
+use mathlib.Core.Option.{none}
 use mathlib.Core.Bool.{Bool, true, false, cond}
 use native.Mathlib.Omega.{arith}
 use lib.ListN.{length, take, drop, length-take, length-drop}
-use lib.Seq.{drop-drop, drop-nil, take-nil}
+use lib.Seq.{drop-drop, drop-nil, take-nil, take-take, getD-drop, getD-take, length-take-le}
 use lib.Dec.{leb}
 use borrow.Author.Tests.{eq-eqb, ne-eqb}
 use Rattle.octets.specs.Number.{be32At}
 use Rattle.octets.proofs.Numbers.{be32-drop, be32-take}
 use Rattle.diameter.specs.Avp.{padded, headOf, avpCode, avpFlags, vendorOf, dataOf, valueOf}
-use Rattle.diameter.specs.Reader.{readOf, partAt, present, dataAt, ownOf, Here}
+use Rattle.diameter.specs.Reader.{between, readOf, partAt, present, dataAt, ownOf, Here}
+use Rattle.diameter.specs.Walk.{ended, faulty, avp, walk}
 use Rattle.diameter.specs.declared.Avp.{Avp}
 use Rattle.diameter.specs.declared.Read.{Read}
 use Rattle.diameter.specs.declared.Read.the-variants as read
-use Rattle.diameter.proofs.Reading.{Says, own-avpHead, own-code, own-vendor, read-says, read-none}
+use Rattle.diameter.proofs.Reading.{Says, own-avpHead, own-code, own-vendor, read-says, read-here, read-fault-says, read-none, walk-past}
 
 drop-take : (k m : ℕ) (l : List ℕ) → drop k (take (k + m) l) ≡ take m (drop k l)
 drop-take zero m l = simp zero-add
@@ -79,16 +81,85 @@ module _ (s : List ℕ) (a : Avp) (h : Here s a) where
 pub says-next : (s : List ℕ) (at : ℕ) (a : Avp) → Says s at a → at + padded (length (ownOf s a)) ≡ a .next
 says-next s at a says = rw (counted s a (says .here)) (sym (says .stepped))
 
+-- What stands before an end stands in the message.
+module _ (s : List ℕ) (end : ℕ) (a : Avp) (i : Here (take end s) a) where
+  room-before : a .at + a .len ≤ min end (length s)
+  room-before = rw length-take at (i .room)
+
+  own-before : ownOf (take end s) a ≡ ownOf s a
+  own-before =
+      let n = end - a .at in
+      let m : end ≡ a .at + n = omega (arith, room-before) in
+      rw (m, drop-take (a .at) n s, take-take (a .len) n (drop (a .at) s) (omega (arith, room-before)))
+
+  flags-before : avpFlags (drop (a .at) (take end s)) ≡ avpFlags (drop (a .at) s)
+  flags-before =
+      let h : a .at + 4 < end = omega (arith, room-before, i .eight, i .least) in
+      rw (getD-drop (a .at) (take end s) 4 0, getD-take end s (a .at + 4) 0 h, getD-drop (a .at) s 4 0)
+
+  here-before : Here s a
+  here-before = record {
+    headed = rw flags-before at (i .headed);
+    flagged = rw flags-before at (i .flagged);
+    eight = i .eight;
+    twelve = i .twelve;
+    least = i .least;
+    room = omega (arith, room-before);
+  }
+
+-- A group's members: its data are the bytes between its header and its end, and each member that is read there stands in the message.
+pub data-between : (s : List ℕ) (g : Avp) → Here s g → between s (g .at + g .head) (g .at + g .len) ≡ dataOf (ownOf s g)
+unfolding between
+data-between s g h =
+    let m : g .at + g .len ≡ g .at + g .head + (g .len - g .head) = omega (arith, h .least) in
+    let n : g .at + g .len - (g .at + g .head) ≡ g .len - g .head = omega arith in
+    rw (m, drop-take (g .at + g .head) (g .len - g .head) s, ← n) (data-is s g h)
+
+module _ (s : List ℕ) (at end : ℕ) (r : Read) (e : r ≡ readOf at (between s at end)) where
+  module _ (a : Avp) (d : r ≡ read.Avp a) where
+    pub member-says : Says (take end s) at a
+    unfolding between
+    member-says = read-says (take end s) at r e a d
+
+    pub member-here : Here s a
+    member-here = here-before s end a (member-says .here)
+
+    pub member-walked : walk (between s at end) ≡ avp (ownOf s a) (walk (between s (a .next) end))
+    unfolding between
+    member-walked = rw (← own-before s end a (member-says .here)) (member-says .walked)
+
+  pub member-fault : {p : ℕ} → r ≡ read.Fault p → at < end → end ≤ length s → walk (between s at end) ≡ faulty (between s at end)
+  unfolding between
+  member-fault d l fits = read-fault-says (take end s) at r e d (rw (length-take-le end s fits) l)
+
+pub member-past : (s : List ℕ) (at end : ℕ) → end ≤ at → walk (between s at end) ≡ ended
+unfolding between
+member-past s at end l = walk-past (take end s) at (rw length-take (omega arith))
+
 -- the reader's answer, and what is then at the place
 module _ (s : List ℕ) (at : ℕ) (r : Read) (e : r ≡ readOf at (drop at s)) where
   pub present-whole : (a : Avp) → r ≡ read.Avp a → true ≡ present (partAt s at)
   present-whole a d = rw (read-says s at r e a d .part)
 
-  pub present-none : r ≡ read.Fault → false ≡ present (partAt s at)
+  pub present-none : {p : ℕ} → r ≡ read.Fault p → false ≡ present (partAt s at)
   present-none d = rw (read-none s at r e d)
 
   pub data-whole : (a : Avp) (b : List ℕ) → r ≡ read.Avp a → b ≡ dataOf (ownOf s a) → b ≡ dataAt s at
   data-whole a b d w = rw (read-says s at r e a d .part) w
 
-  pub data-none : r ≡ read.Fault → [] ≡ dataAt s at
+  pub data-none : {p : ℕ} → r ≡ read.Fault p → [] ≡ dataAt s at
   data-none d = rw (read-none s at r e d) (sym (drop-nil (headOf 0)))
+
+-- the first member of a group
+module _ (s : List ℕ) (g : Avp) (h : Here s g) (r : Read) (e : r ≡ readOf (g .at + g .head) (between s (g .at + g .head) (g .at + g .len))) where
+  pub no-member : {p : ℕ} → r ≡ read.Fault p → [] ≡ dataAt (dataOf (ownOf s g)) 0
+  unfolding between
+  no-member d =
+      let n : partAt (take (g .at + g .len) s) (g .at + g .head) ≡ none = read-none (take (g .at + g .len) s) (g .at + g .head) r e d in
+      rw (← data-between s g h, n) (sym (drop-nil (headOf 0)))
+
+  pub first-member : (a : Avp) (b : List ℕ) → r ≡ read.Avp a → b ≡ dataOf (ownOf s a) → b ≡ dataAt (dataOf (ownOf s g)) 0
+  unfolding between
+  first-member a b d w =
+      let says = member-says s (g .at + g .head) (g .at + g .len) r e a d in
+      rw (← data-between s g h, says .part, own-before s (g .at + g .len) a (says .here)) w

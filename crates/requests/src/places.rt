@@ -47,5 +47,8 @@ pub fn value_of(req: &[u8], places: [usize; kinds::KINDS], k: usize) -> u32
 pub fn scheme_of(req: &[u8], places: [usize; kinds::KINDS]) -> &[u8]
     ensures { λ r. ⌜ (now r ≡ schemeOf (seenOf (now (req .entry)) places)) × (length (now r) ≤ length (now (req .entry))) ⌝ }
 {
-    diameter::data_at(data_of(req, places, kinds::AUTH_DATA_ITEM), 0)
+    let Read::Avp(item) = diameter::read_avp(req, places[kinds::AUTH_DATA_ITEM]) else {
+        return &req[..0];
+    };
+    diameter::member_data(req, item)
 }

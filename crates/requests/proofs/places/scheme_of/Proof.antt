@@ -1,5 +1,5 @@
-use native.Mathlib.Nat.{le-trans}
-use Rattle.requests.proofs.Scheme.{scheme-placed}
+use Rattle.diameter.proofs.Reading.{read-here}
+use Rattle.requests.proofs.Scheme.{scheme-none, scheme-there}
 use borrow.Author.Needs.{needs}
 use Rattle.requests.proofs.places.scheme_of.Statement.{statement}
 use Rattle.requests.proofs.places.scheme_of.Tie as tie
@@ -8,6 +8,11 @@ pub scheme-of-spec : {M : Type 1} → statement M
 scheme-of-spec =
     tie.close
     (tie.spec
+    (λ c. search needs)
     (λ c κs. search needs)
-    (λ c κs. search needs)
-    (λ c. search (needs, scheme-placed, le-trans)))
+    (λ c. search needs)
+    (λ c. search needs)
+    (λ c. search needs)
+    (λ c. search (needs, scheme-none))
+    (λ c κs. search (needs, read-here))
+    (λ c. search (needs, scheme-there)))

@@ -30,6 +30,7 @@ walk-message-spec =
     (λ c. search needs)
     (λ c. search needs)
     (λ c κs. search needs)
+    (λ c κs. search needs)
     (λ c. search (needs, turn-cut))
     (λ c κs. search (needs, read-here))
     (λ c κs. search (needs, read-here))
