@@ -1,24 +1,24 @@
 -- What is read out of an AVP at a place: its code, vendor and number, its own bytes, its data, and the members of a group.
 use Prim.Native.Nat.{ℕ, zero, suc, _+_, _-_, _≤_, _<_, min}
 use native.Mathlib.Nat.{add-zero, zero-add, suc-add, add-sub-cancel-left}
-use mathlib.Core.Path.{_≡_, refl, sym, _∙_}
+use mathlib.Core.Path.{_≡_, refl, sym, ap, _∙_}
 use mathlib.Core.List.{List, [], _∷_}
-use mathlib.Core.Option.{none}
 use mathlib.Core.Bool.{Bool, true, false, cond}
 use native.Mathlib.Omega.{arith}
 use lib.ListN.{length, take, drop, length-take, length-drop}
-use lib.Seq.{drop-drop, drop-nil, take-nil, take-take, getD-drop, getD-take, length-take-le}
+use lib.Seq.{drop-drop, drop-nil, take-nil, take-take, take-length, getD-drop, getD-take, length-take-le}
 use lib.Dec.{leb}
 use borrow.Author.Tests.{eq-eqb, ne-eqb}
 use Rattle.octets.specs.Number.{be32At}
 use Rattle.octets.proofs.Numbers.{be32-drop, be32-take}
 use Rattle.diameter.specs.Avp.{padded, headOf, avpCode, avpFlags, vendorOf, dataOf, valueOf}
-use Rattle.diameter.specs.Reader.{between, readOf, partAt, present, dataAt, ownOf, Here}
+use Rattle.diameter.specs.Reader.{between, readOf, partAt, present, dataAt, ownOf, Here, Spans}
 use Rattle.diameter.specs.Walk.{ended, faulty, avp, walk}
 use Rattle.diameter.specs.declared.Avp.{Avp}
 use Rattle.diameter.specs.declared.Read.{Read}
+use Rattle.diameter.specs.declared.Span.{Span}
 use Rattle.diameter.specs.declared.Read.the-variants as read
-use Rattle.diameter.proofs.Reading.{Says, own-avpHead, own-code, own-vendor, read-says, read-here, read-fault-says, read-none, walk-past}
+use Rattle.diameter.proofs.Reading.{Says, own-avpHead, own-code, own-vendor, read-says, read-fault-says, read-none, walk-past}
 
 drop-take : (k m : ℕ) (l : List ℕ) → drop k (take (k + m) l) ≡ take m (drop k l)
 drop-take zero m l = simp zero-add
@@ -64,19 +64,6 @@ module _ (s : List ℕ) (a : Avp) (h : Here s a) where
   pub data-length : length (dataOf (ownOf s a)) ≡ a .len - a .head
   data-length = rw (own-avpHead s a h, length-drop, counted)
 
-  -- the part that is given as the data
-  abbrev given : List ℕ
-  given = take (a .at + a .len - (a .at + a .head)) (drop (a .at + a .head) s)
-
-  data-is : given ≡ dataOf (ownOf s a)
-  data-is =
-      let n : a .at + a .len - (a .at + a .head) ≡ a .len - a .head = omega arith in
-      let m : a .head + (a .len - a .head) ≡ a .len = omega (arith, h .least) in
-      rw (own-avpHead s a h, n, ← drop-drop (a .head) (a .at) s, ← drop-take (a .head) (a .len - a .head) (drop (a .at) s), m)
-
-  pub data-there : (given ≡ dataOf (ownOf s a)) × (length given ≤ length s)
-  data-there = (data-is, rw (data-is, data-length) (omega (arith, h .room)))
-
 -- the place of the next AVP, by the bytes of this one
 pub says-next : (s : List ℕ) (at : ℕ) (a : Avp) → Says s at a → at + padded (length (ownOf s a)) ≡ a .next
 says-next s at a says = rw (counted s a (says .here)) (sym (says .stepped))
@@ -107,14 +94,26 @@ module _ (s : List ℕ) (end : ℕ) (a : Avp) (i : Here (take end s) a) where
     room = omega (arith, room-before);
   }
 
--- A group's members: its data are the bytes between its header and its end, and each member that is read there stands in the message.
-pub data-between : (s : List ℕ) (g : Avp) → Here s g → between s (g .at + g .head) (g .at + g .len) ≡ dataOf (ownOf s g)
+-- An AVP's data are the bytes between its header and its end.
+pub data-between : (s : List ℕ) (a : Avp) → Here s a → between s (a .at + a .head) (a .at + a .len) ≡ dataOf (ownOf s a)
 unfolding between
-data-between s g h =
-    let m : g .at + g .len ≡ g .at + g .head + (g .len - g .head) = omega (arith, h .least) in
-    let n : g .at + g .len - (g .at + g .head) ≡ g .len - g .head = omega arith in
-    rw (m, drop-take (g .at + g .head) (g .len - g .head) s, ← n) (data-is s g h)
+data-between s a h =
+    let m : a .head + (a .len - a .head) ≡ a .len = omega (arith, h .least) in
+    let n : a .at + a .len ≡ a .at + a .head + (a .len - a .head) = omega (arith, h .least) in
+    rw (own-avpHead s a h, n, drop-take (a .at + a .head) (a .len - a .head) s)
+    (rw (← drop-drop (a .head) (a .at) s, ← drop-take (a .head) (a .len - a .head) (drop (a .at) s), m))
 
+pub spans-data : (s : List ℕ) (a : Avp) → Here s a → Spans s (dataOf (ownOf s a)) (record { from = a .at + a .head; end = a .at + a .len })
+spans-data s a h = record { ordered = omega (arith, h .least); inside = h .room; holds = data-between s a h }
+
+-- the bytes there
+pub part-is : (s : List ℕ) (from end : ℕ) → from ≤ end → take (end - from) (drop from s) ≡ between s from end
+unfolding between
+part-is s from end o =
+    let n : end ≡ from + (end - from) = omega arith in
+    sym (ap (λ (k : ℕ). drop from (take k s)) n ∙ drop-take from (end - from) s)
+
+-- A member that is read before its group's end stands in the message.
 module _ (s : List ℕ) (at end : ℕ) (r : Read) (e : r ≡ readOf at (between s at end)) where
   module _ (a : Avp) (d : r ≡ read.Avp a) where
     pub member-says : Says (take end s) at a
@@ -144,22 +143,23 @@ module _ (s : List ℕ) (at : ℕ) (r : Read) (e : r ≡ readOf at (drop at s)) 
   pub present-none : {p : ℕ} → r ≡ read.Fault p → false ≡ present (partAt s at)
   present-none d = rw (read-none s at r e d)
 
-  pub data-whole : (a : Avp) (b : List ℕ) → r ≡ read.Avp a → b ≡ dataOf (ownOf s a) → b ≡ dataAt s at
-  data-whole a b d w = rw (read-says s at r e a d .part) w
-
-  pub data-none : {p : ℕ} → r ≡ read.Fault p → [] ≡ dataAt s at
-  data-none d = rw (read-none s at r e d) (sym (drop-nil (headOf 0)))
-
--- the first member of a group
-module _ (s : List ℕ) (g : Avp) (h : Here s g) (r : Read) (e : r ≡ readOf (g .at + g .head) (between s (g .at + g .head) (g .at + g .len))) where
-  pub no-member : {p : ℕ} → r ≡ read.Fault p → [] ≡ dataAt (dataOf (ownOf s g)) 0
+module _ (s : List ℕ) (at end : ℕ) (r : Read) (e : r ≡ readOf at (between s at end)) where
+  pub span-none : {p : ℕ} → r ≡ read.Fault p → Spans s (dataAt (between s at end) 0) (record { from = 0; end = 0 })
   unfolding between
-  no-member d =
-      let n : partAt (take (g .at + g .len) s) (g .at + g .head) ≡ none = read-none (take (g .at + g .len) s) (g .at + g .head) r e d in
-      rw (← data-between s g h, n) (sym (drop-nil (headOf 0)))
+  span-none d = record {
+    ordered = omega arith;
+    inside = omega arith;
+    holds = rw (read-none (take end s) at r e d) (sym (drop-nil (headOf 0)));
+  }
 
-  pub first-member : (a : Avp) (b : List ℕ) → r ≡ read.Avp a → b ≡ dataOf (ownOf s a) → b ≡ dataAt (dataOf (ownOf s g)) 0
+  pub span-there : (a : Avp) (p : Span) → r ≡ read.Avp a → Spans s (dataOf (ownOf s a)) p → Spans s (dataAt (between s at end) 0) p
   unfolding between
-  first-member a b d w =
-      let says = member-says s (g .at + g .head) (g .at + g .len) r e a d in
-      rw (← data-between s g h, says .part, own-before s (g .at + g .len) a (says .here)) w
+  span-there a p d h =
+      let says = member-says s at end r e a d in
+      rw (says .part, own-before s end a (says .here)) h
+
+-- of a whole message
+pub data-there : (s : List ℕ) (at : ℕ) (p : Span) (b : List ℕ) → Spans s (dataAt (between s at (length s)) 0) p → b ≡ between s (p .from) (p .end)
+    → b ≡ dataAt s at
+unfolding between
+data-there s at p b h e = e ∙ h .holds ∙ rw (take-length s)

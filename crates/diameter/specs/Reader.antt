@@ -8,6 +8,7 @@ use lib.ListN.{length, take, drop}
 use Rattle.diameter.specs.Avp.{padded, avpFlags, avpHead, avpLen, dataOf, sound}
 use Rattle.diameter.specs.declared.Avp.{Avp}
 use Rattle.diameter.specs.declared.Read.{Read}
+use Rattle.diameter.specs.declared.Span.{Span}
 use Rattle.diameter.specs.declared.Read.the-variants as read
 
 -- the bytes of a message from a place on, up to an end
@@ -60,3 +61,9 @@ pub record Here (s : List ℕ) (a : Avp) : Type 0 where
   pub twelve : a .head ≤ 12
   pub least : a .head ≤ a .len
   pub room : a .at + a .len ≤ length s
+
+-- such bytes stand there
+pub record Spans (s d : List ℕ) (p : Span) : Type 0 where
+  pub ordered : p .from ≤ p .end
+  pub inside : p .end ≤ length s
+  pub holds : between s (p .from) (p .end) ≡ d

@@ -5,7 +5,7 @@ ghost use mathlib.Core.Path.{_≡_};
 ghost use Prim.Native.Nat.{_+_, _≤_, _<_};
 ghost use lib.ListN.{length, drop};
 ghost use Rattle.diameter.specs.Avp.{padded, headOf, avpCode, vendorOf, dataOf, valueOf};
-ghost use Rattle.diameter.specs.Reader.{between, readOf, beginsAt, partAt, present, dataAt, ownOf, Here};
+ghost use Rattle.diameter.specs.Reader.{between, readOf, beginsAt, partAt, present, dataAt, ownOf, Here, Spans};
 
 // The flags of an AVP; those under P are reserved.
 pub const V_FLAG: u8 = 128;
@@ -21,6 +21,12 @@ pub struct Avp {
     pub next: usize,
     pub head: usize,
     pub flags: u8,
+}
+
+// The bytes of a message from a place on, up to an end.
+pub struct Span {
+    pub from: usize,
+    pub end: usize,
 }
 
 // What stands at a place of a message: a whole AVP; or none, because its length is faulty or because the bytes are at an end, with that place.
@@ -135,7 +141,7 @@ pub fn value_of(s: &[u8], a: Avp) -> u32
     0
 }
 
-// Its own bytes, without its padding; its data.
+// Its own bytes, without its padding.
 pub fn avp_part(s: &[u8], a: Avp) -> &[u8]
     requires { ⌜ Here (now s) a ⌝ }
     ensures { λ r. ⌜ (now r ≡ ownOf (now (s .entry)) a) × (length (now r) ≤ length (now (s .entry))) ⌝ }
@@ -145,32 +151,41 @@ pub fn avp_part(s: &[u8], a: Avp) -> &[u8]
     &s[at..end]
 }
 
-pub fn data_part(s: &[u8], a: Avp) -> &[u8]
+// Where its data stand.
+pub fn span_of(s: &[u8], a: Avp) -> Span
     requires { ⌜ Here (now s) a ⌝ }
-    ensures { λ r. ⌜ (now r ≡ dataOf (ownOf (now (s .entry)) a)) × (length (now r) ≤ length (now (s .entry))) ⌝ }
+    ensures { λ r. ⌜ Spans (now (s .entry)) (dataOf (ownOf (now (s .entry)) a)) r ⌝ }
 {
-    let start = a.at + a.head;
-    let end = a.at + a.len;
-    &s[start..end]
+    Span {
+        from: a.at + a.head,
+        end: a.at + a.len,
+    }
 }
 
-// The data where nothing is known of the place: empty where no whole AVP stands.
+// The same where nothing is known of the place, read up to an end: no bytes where no whole AVP stands.
+pub fn span_at(s: &[u8], at: usize, end: usize) -> Span
+    requires { ⌜ end ≤ length (now s) ⌝ }
+    ensures { λ r. ⌜ Spans (now (s .entry)) (dataAt (between (now (s .entry)) at end) 0) r ⌝ }
+{
+    let Read::Avp(a) = read_before(s, at, end) else {
+        return Span { from: 0, end: 0 };
+    };
+    span_of(s, a)
+}
+
+// The bytes there.
+pub fn part(s: &[u8], span: Span) -> &[u8]
+    requires { ⌜ (span .from ≤ span .end) × (span .end ≤ length (now s)) ⌝ }
+    ensures { λ r. ⌜ (now r ≡ between (now (s .entry)) (span .from) (span .end)) × (length (now r) ≤ length (now (s .entry))) ⌝ }
+{
+    let from = span.from;
+    let end = span.end;
+    &s[from..end]
+}
+
+// The data of the AVP at a place: empty where no whole AVP stands.
 pub fn data_at(s: &[u8], at: usize) -> &[u8]
     ensures { λ r. ⌜ (now r ≡ dataAt (now (s .entry)) at) × (length (now r) ≤ length (now (s .entry))) ⌝ }
 {
-    let Read::Avp(a) = read_avp(s, at) else {
-        return &s[..0];
-    };
-    data_part(s, a)
-}
-
-// The data of the first AVP in a group: empty where no whole one stands there.
-pub fn member_data(s: &[u8], group: Avp) -> &[u8]
-    requires { ⌜ Here (now s) group ⌝ }
-    ensures { λ r. ⌜ (now r ≡ dataAt (dataOf (ownOf (now (s .entry)) group)) 0) × (length (now r) ≤ length (now (s .entry))) ⌝ }
-{
-    let Read::Avp(a) = read_before(s, group.at + group.head, group.at + group.len) else {
-        return &s[..0];
-    };
-    data_part(s, a)
+    part(s, span_at(s, at, s.len()))
 }

@@ -10,14 +10,15 @@ use lib.Dec.{eqb, leb, ltb}
 use borrow.Author.Tests.{lt-leb, le-leb}
 use Rattle.octets.specs.All.{allBelow}
 use Rattle.octets.proofs.All.{all-more}
-use Rattle.diameter.specs.Avp.{avpCode, vendorOf, dataOf}
-use Rattle.diameter.specs.Reader.{between, readOf, ownOf, Here}
+use Rattle.diameter.specs.Avp.{avpCode, vendorOf}
+use Rattle.diameter.specs.Reader.{between, readOf, ownOf, Here, Spans}
 use Rattle.diameter.specs.Walk.{Walk, walk}
 use Rattle.diameter.specs.declared.Avp.{Avp}
 use Rattle.diameter.specs.declared.Read.{Read}
+use Rattle.diameter.specs.declared.Span.{Span}
 use Rattle.diameter.specs.declared.Read.the-variants as read
 use Rattle.diameter.proofs.Reading.{own-flags, read-later}
-use Rattle.diameter.proofs.Parts.{data-between, member-walked, member-fault, member-past}
+use Rattle.diameter.proofs.Parts.{member-walked, member-fault, member-past}
 use Rattle.reading.specs.declared.Content.the-variants.{Free, Number}
 use Rattle.reading.specs.declared.Dialect.{Dialect}
 use Rattle.reading.specs.declared.Member.{Member}
@@ -85,12 +86,11 @@ pub other-end : (ms : List Member) (b : List ℕ) (k n : ℕ) {other : Bool} →
     → other ≡ isOther ms b
 other-end ms b k n e l g h = let f : k ≡ length ms = omega arith in rw f at e
 
--- an AVP's data are the bytes between its header and its end
-pub gathers-end : (ms : List Member) (s : List ℕ) (a : Avp) (k n : ℕ) {all x : Bool} → Here s a
-    → all ≡ allBelow (enoughAt ms (walk (between s (a .at + a .head) (a .at + a .len)))) k → n ≡ length ms → k ≤ n → n ≤ k
-    → x ≡ onlyOf ms (walk (between s (a .at + a .head) (a .at + a .len))) → (all && x) ≡ gathers ms (walk (dataOf (ownOf s a)))
+pub gathers-end : (ms : List Member) (s t : List ℕ) (p : Span) (k n : ℕ) {all x : Bool} → Spans s t p
+    → all ≡ allBelow (enoughAt ms (walk (between s (p .from) (p .end)))) k → n ≡ length ms → k ≤ n → n ≤ k
+    → x ≡ onlyOf ms (walk (between s (p .from) (p .end))) → (all && x) ≡ gathers ms (walk t)
 unfolding gathers
-gathers-end ms s a k n i e l g h ex = let f : k ≡ length ms = omega arith in rw (e, f, ex, data-between s a i)
+gathers-end ms s t p k n i e l g h ex = let f : k ≡ length ms = omega arith in rw (e, f, ex, i .holds)
 
 -- an AVP of a code and vendor, without V and with it
 module _ (s : List ℕ) (a : Avp) (h : Here s a) (code vendor c : ℕ) (ec : c ≡ avpCode (ownOf s a)) where

@@ -6,6 +6,7 @@ use crate::Member;
 use crate::plain;
 use diameter::Avp;
 use diameter::Read;
+use diameter::Span;
 ghost use mathlib.Core.Path.{_≡_};
 ghost use Prim.Native.Nat.{_≤_};
 ghost use lib.ListN.{length, getD};
@@ -109,14 +110,14 @@ fn is_other(d: Dialect, g: Group, s: &[u8], a: Avp) -> bool
     other
 }
 
-// Whether all AVPs from a place on up to an end are whole, and each is one of the members.
-fn only_of(d: Dialect, g: Group, s: &[u8], from: usize, end: usize) -> bool
-    requires { ⌜ end ≤ length (now s) ⌝ }
-    ensures { λ r. ⌜ r ≡ onlyOf (membersOf d g) (walk (between (now (s .entry)) from end)) ⌝ }
+// Whether all AVPs in a group's span are whole, and each is one of its members. They are read in the message, up to the span's end.
+fn only_of(d: Dialect, g: Group, s: &[u8], span: Span) -> bool
+    requires { ⌜ span .end ≤ length (now s) ⌝ }
+    ensures { λ r. ⌜ r ≡ onlyOf (membersOf d g) (walk (between (now (s .entry)) (span .from) (span .end))) ⌝ }
 {
-    let mut at = from;
-    while at < end {
-        let Read::Avp(a) = diameter::read_before(s, at, end) else {
+    let mut at = span.from;
+    while at < span.end {
+        let Read::Avp(a) = diameter::read_before(s, at, span.end) else {
             return false;
         };
         if is_other(d, g, s, a) {
@@ -128,14 +129,14 @@ fn only_of(d: Dialect, g: Group, s: &[u8], from: usize, end: usize) -> bool
 }
 
 // How many of them are a member.
-fn count_of(m: Member, s: &[u8], from: usize, end: usize) -> usize
-    requires { ⌜ end ≤ length (now s) ⌝ }
-    ensures { λ r. ⌜ r ≡ countOf m (walk (between (now (s .entry)) from end)) ⌝ }
+fn count_of(m: Member, s: &[u8], span: Span) -> usize
+    requires { ⌜ span .end ≤ length (now s) ⌝ }
+    ensures { λ r. ⌜ r ≡ countOf m (walk (between (now (s .entry)) (span .from) (span .end))) ⌝ }
 {
     let mut n = 0;
-    let mut at = from;
-    while at < end {
-        let Read::Avp(a) = diameter::read_before(s, at, end) else {
+    let mut at = span.from;
+    while at < span.end {
+        let Read::Avp(a) = diameter::read_before(s, at, span.end) else {
             return n;
         };
         if fits(m, s, a) {
@@ -147,30 +148,29 @@ fn count_of(m: Member, s: &[u8], from: usize, end: usize) -> usize
 }
 
 // "one", or "one or more"
-fn enough(m: Member, s: &[u8], from: usize, end: usize) -> bool
-    requires { ⌜ end ≤ length (now s) ⌝ }
-    ensures { λ r. ⌜ r ≡ enough m (walk (between (now (s .entry)) from end)) ⌝ }
+fn enough(m: Member, s: &[u8], span: Span) -> bool
+    requires { ⌜ span .end ≤ length (now s) ⌝ }
+    ensures { λ r. ⌜ r ≡ enough m (walk (between (now (s .entry)) (span .from) (span .end))) ⌝ }
 {
-    let n = count_of(m, s, from, end);
+    let n = count_of(m, s, span);
     if m.many {
         return 1 <= n;
     }
     n == 1
 }
 
-// Whether the data of an AVP are a group's members. They are read where they stand in the message, up to the end of that AVP.
+// Whether an AVP's data are the members of a group.
 pub fn gathers(d: Dialect, g: Group, s: &[u8], a: Avp) -> bool
     requires { ⌜ Here (now s) a ⌝ }
     ensures { λ r. ⌜ r ≡ gathers (membersOf d g) (walk (dataOf (ownOf (now (s .entry)) a))) ⌝ }
 {
-    let from = a.at + a.head;
-    let end = a.at + a.len;
+    let span = diameter::span_of(s, a);
     let n = size_of(d, g);
     let mut all = true;
     let mut k = 0;
     while k < n {
-        all = all & enough(member_of(d, g, k), s, from, end);
+        all = all & enough(member_of(d, g, k), s, span);
         k += 1;
     }
-    all & only_of(d, g, s, from, end)
+    all & only_of(d, g, s, span)
 }

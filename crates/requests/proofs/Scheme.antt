@@ -5,16 +5,13 @@ use mathlib.Core.List.{List, [], _∷_}
 use mathlib.Core.Option.{Option, none, some}
 use mathlib.Core.Bool.{Bool, true, false, cond, true≢false}
 use native.Mathlib.Omega.{arith}
-use lib.ListN.{length, getD, take, drop}
-use lib.Seq.{drop-nil}
-use Rattle.diameter.specs.Avp.{headOf, avpLen, dataOf, sound}
+use lib.ListN.{length, getD, take}
+use Rattle.diameter.specs.Avp.{avpLen, dataOf, sound}
 use Rattle.diameter.specs.Walk.{Walk, ended, faulty, avp, onSound, walkFrom, walk}
 use Rattle.diameter.specs.Message.{commandOf}
-use Rattle.diameter.specs.Reader.{readOf, present, avpOf, dataAt, ownOf}
-use Rattle.diameter.specs.declared.Avp.{Avp}
-use Rattle.diameter.specs.declared.Read.{Read}
-use Rattle.diameter.specs.declared.Read.the-variants as read
-use Rattle.diameter.proofs.Parts.{data-whole, data-none}
+use Rattle.diameter.specs.Reader.{between, present, avpOf, dataAt, Spans}
+use Rattle.diameter.specs.declared.Span.{Span}
+use Rattle.diameter.proofs.Parts.{data-there}
 use Rattle.reading.specs.declared.Content.the-variants.{Free}
 use Rattle.reading.specs.declared.Dialect.{Dialect}
 use Rattle.reading.specs.declared.Member.{Member}
@@ -28,16 +25,12 @@ use Rattle.requests.specs.Request.{dialectOf, cx, readRequest, given, da
 use Rattle.requests.proofs.Placed.{data-in}
 use Rattle.requests.proofs.Kept.{read-kept, read-needed, no-fault}
 
--- what the code reads at the item's place
-module _ (s places : List ℕ) (room : authDataItem < length places) (r : Read)
-    (e : r ≡ readOf (getD places authDataItem 0) (drop (getD places authDataItem 0) s)) where
-  pub scheme-none : {p : ℕ} → r ≡ read.Fault p → [] ≡ schemeOf (seenOf s places)
-  unfolding avpOf sound
-  scheme-none d = rw (data-in s places authDataItem room, ← data-none s (getD places authDataItem 0) r e d) (sym (drop-nil (headOf 0)))
-
-  pub scheme-there : (a : Avp) (d : List ℕ) → r ≡ read.Avp a → d ≡ dataAt (dataOf (ownOf s a)) 0 → d ≡ schemeOf (seenOf s places)
-  scheme-there a d f m =
-      m ∙ rw (data-in s places authDataItem room, ← data-whole s (getD places authDataItem 0) r e a (dataOf (ownOf s a)) f refl)
+-- what the code reads in the data of the AVP at the item's place
+pub scheme-placed : (s places : List ℕ) (p q : Span) (b : List ℕ) → authDataItem < length places
+    → Spans s (dataAt (between s (getD places authDataItem 0) (length s)) 0) p → Spans s (dataAt (between s (p .from) (p .end)) 0) q
+    → b ≡ between s (q .from) (q .end) → b ≡ schemeOf (seenOf s places)
+scheme-placed s places p q b room i j e =
+    e ∙ j .holds ∙ rw (data-in s places authDataItem room, ← data-there s (getD places authDataItem 0) p (between s (p .from) (p .end)) i refl)
 
 -- the first AVP of a walk stands at the front
 front-of : (t a : List ℕ) (w : Walk) → walk t ≡ avp a w → avpOf t ≡ some a

@@ -47,8 +47,6 @@ pub fn value_of(req: &[u8], places: [usize; kinds::KINDS], k: usize) -> u32
 pub fn scheme_of(req: &[u8], places: [usize; kinds::KINDS]) -> &[u8]
     ensures { λ r. ⌜ (now r ≡ schemeOf (seenOf (now (req .entry)) places)) × (length (now r) ≤ length (now (req .entry))) ⌝ }
 {
-    let Read::Avp(item) = diameter::read_avp(req, places[kinds::AUTH_DATA_ITEM]) else {
-        return &req[..0];
-    };
-    diameter::member_data(req, item)
+    let item = diameter::span_at(req, places[kinds::AUTH_DATA_ITEM], req.len());
+    diameter::part(req, diameter::span_at(req, item.from, item.end))
 }

@@ -55,14 +55,15 @@ pub fn walk_message(s: &[u8], d: Dialect) -> Walked
     let mut at = message::BODY;
     while at < s.len() {
         let read = diameter::read_avp(s, at);
+        let place = diameter::begins(read);
         let Read::Avp(a) = read else {
-            return refuse(faults::INVALID_AVP_LENGTH, diameter::begins(read), 0);
+            return refuse(faults::INVALID_AVP_LENGTH, place, 0);
         };
         let k = kinds::kind_of(s, a);
         match rules::rule_at(s, d, places, a, k) {
-            Ruled::Taken => places[k] = a.at,
+            Ruled::Taken => places[k] = place,
             Ruled::Skipped => {}
-            Ruled::Fault(n) => return refuse(n, a.at, 0),
+            Ruled::Fault(n) => return refuse(n, place, 0),
         }
         at = a.next;
     }

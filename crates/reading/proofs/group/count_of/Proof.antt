@@ -11,10 +11,11 @@ use Rattle.reading.proofs.group.count_of.Statement.{statement}
 use Rattle.reading.proofs.group.count_of.Tie as tie
 
 abbrev Inv-loop : tie.InvT-loop
-Inv-loop m s from end n₀ at₀ n at = (n ≤ at) × (n + countOf m (walk (between s at end)) ≡ countOf m (walk (between s from end)))
+Inv-loop m s span n₀ at₀ n at =
+    (n ≤ at) × (n + countOf m (walk (between s at (span .end))) ≡ countOf m (walk (between s (span .from) (span .end))))
 
 abbrev μ-loop : tie.MeasureT-loop
-μ-loop m s from end n₀ at₀ n at = end - at
+μ-loop m s span n₀ at₀ n at = span .end - at
 
 pub count-of-spec : {M : Type 1} → statement M
 count-of-spec =

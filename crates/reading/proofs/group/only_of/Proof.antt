@@ -11,10 +11,10 @@ use Rattle.reading.proofs.group.only_of.Statement.{statement}
 use Rattle.reading.proofs.group.only_of.Tie as tie
 
 abbrev Inv-loop : tie.InvT-loop
-Inv-loop d g s from end at₀ at = onlyOf (membersOf d g) (walk (between s at end)) ≡ onlyOf (membersOf d g) (walk (between s from end))
+Inv-loop d g s span at₀ at = onlyOf (membersOf d g) (walk (between s at (span .end))) ≡ onlyOf (membersOf d g) (walk (between s (span .from) (span .end)))
 
 abbrev μ-loop : tie.MeasureT-loop
-μ-loop d g s from end at₀ at = end - at
+μ-loop d g s span at₀ at = span .end - at
 
 pub only-of-spec : {M : Type 1} → statement M
 only-of-spec =

@@ -1,5 +1,4 @@
-use Rattle.diameter.proofs.Reading.{read-here}
-use Rattle.requests.proofs.Scheme.{scheme-none, scheme-there}
+use Rattle.requests.proofs.Scheme.{scheme-placed}
 use borrow.Author.Needs.{needs}
 use Rattle.requests.proofs.places.scheme_of.Statement.{statement}
 use Rattle.requests.proofs.places.scheme_of.Tie as tie
@@ -10,9 +9,6 @@ scheme-of-spec =
     (tie.spec
     (λ c. search needs)
     (λ c κs. search needs)
-    (λ c. search needs)
-    (λ c. search needs)
-    (λ c. search needs)
-    (λ c. search (needs, scheme-none))
-    (λ c κs. search (needs, read-here))
-    (λ c. search (needs, scheme-there)))
+    (λ c κs. search needs)
+    (λ c κs. search needs)
+    (λ c. search (needs, scheme-placed)))

@@ -27,9 +27,9 @@ walk-message-spec =
     μ-loop
     (λ c. search (needs, nothing-seen))
     (λ c κs. search needs)
-    (λ c. search needs)
-    (λ c. search needs)
     (λ c κs. search needs)
+    (λ c. search needs)
+    (λ c. search needs)
     (λ c κs. search needs)
     (λ c. search (needs, turn-cut))
     (λ c κs. search (needs, read-here))
