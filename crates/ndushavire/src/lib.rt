@@ -121,8 +121,8 @@ pub extern "C" fn ndushavire_back(table: &mut [u8], profile: &[u8]) -> u64
     move_word(moving::back(table, profile.len()))
 }
 
-// Which library was linked, so that a daemon can tell it from the header that it was compiled with: 0.9.0, as NDUSHAVIRE_VERSION_NUMBER has it.
-const VERSION: u32 = 900;
+// Which library was linked, so that a daemon can tell it from the header that it was compiled with: 0.9.1, as NDUSHAVIRE_VERSION_NUMBER has it.
+const VERSION: u32 = 901;
 
 #[no_mangle]
 pub extern "C" fn ndushavire_version() -> u32
