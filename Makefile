@@ -12,7 +12,7 @@ SHELL := /bin/bash
 endif
 .DELETE_ON_ERROR:
 export PYTHONDONTWRITEBYTECODE := 1
-.PHONY: help run test clean fmt kit pages header examples tables texts aims stores programs reference installs cited narrow bench stack installable install uninstall
+.PHONY: help run test quick clean fmt kit pages header examples tables texts aims stores programs reference installs cited narrow bench stack installable install uninstall
 .PHONY: unsound reports moves daemon peers differential noticed soak mutants stats definitions-check cases
 
 MACHINE := $(shell uname -m)
@@ -69,13 +69,18 @@ target/bin/%: $(PROVED)
 
 # The parts of make test, the longest first. What they need is made before, once, and what needs the archive waits for it alone.
 PARTS := stores differential daemon reference tables narrow texts examples installs cited programs noticed pages kit fmt header aims unsound reports moves
+MADE := $(ARCHIVE) $(BINARY)
 JOBS := $(shell nproc)
 #: test               every test from fmt to differential below, JOBS=2 at a time on two processors: 7 minutes once the library is proved, 20 under an emulator
 test:
 	@mkdir -p target/test
 	@rm -f target/test/times
-	@TIMES=target/test/times $(MAKE) --no-print-directory --jobs=$(JOBS) --output-sync=target $(ARCHIVE) $(BINARY) $(PARTS) || \
+	@TIMES=target/test/times $(MAKE) --no-print-directory --jobs=$(JOBS) --output-sync=target $(MADE) $(PARTS) || \
 	    { echo "make test: failed: $$(sed -n 's/ failed$$//p' target/test/times | sort -u | tr '\n' ' ')" >&2; exit 1; }
+
+#: quick              what a change since main, or BASE=COMMIT, can have touched: its crates, their edits, the tests of its files; minutes, and not the verdict
+quick:
+	@BASE='$(BASE)' tests/quick.py $(PARTS)
 
 #: fmt                whether crates/ is in the kit's layout
 fmt:

@@ -11,8 +11,8 @@ edits=$(sed -n -E 's/^[0-9]+ rt: must-fail ([^ ]+): refused, .*[ (]([0-9]+) s\)$
 last() { # PATTERN [OTHER]
     awk -v pattern="$1" -v at="${2:-0}" '$0 ~ pattern { at = $1 } END { print at }' "$log"
 }
-row() { # NAME SECONDS WORDS..
-    printf '  %-7s %3d min %02d s   %s\n' "$1" $(($2 / 60)) $(($2 % 60)) "${*:3}"
+row() { # NAME SECONDS [WORDS]
+    printf '  %-7s %3d min %02d s%s\n' "$1" $(($2 / 60)) $(($2 % 60)) "${3:+   $3}"
 }
 side_by_side() { # LIST WHAT
     awk -v what="$2" 'NF { sum += $1; n++ } END { printf "%d %s, which add up to %d s", n, what, sum }' <<<"$1"
