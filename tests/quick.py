@@ -4,7 +4,7 @@
 The crates that changed and those directly above them are proved, the edits of the changed ones are tried, and those PARTs of make test are run whose
 files changed. A part that needs the library's archive is left out, by name, while the archive would have to be proved first.
 This is not the verdict: a definition that changed can break what stands two storeys above."""
-import fnmatch, os, re, shutil, subprocess, sys
+import fnmatch, functools, os, re, shutil, subprocess, sys
 
 ROOM = 'target/quick'
 ARCHIVE = 'target/staticlib/libndushavire.a'
@@ -88,41 +88,55 @@ def try_edits(edits):
 
 # ---- parts of make test
 
+@functools.lru_cache(maxsize=None)
 def recipe(part, makefile='Makefile'):
     return said('make', '-n', '-B', '-f', makefile, 'SEED=1', part)
 
 
-def names_in(text, tree):
-    """The files of the tree that a text names: by path, by name, by a pattern, or by their folder."""
-    found = set()
-    for word in set(re.findall(r'[A-Za-z0-9_.*/+-]+', text)):
-        word = word.strip('./')
-        pattern = '*' in word and len(word.replace('*', '')) > 2
-        for file in tree:
-            by_name = os.path.basename(file) == os.path.basename(word) and '.' in word
-            if file == word or by_name or pattern and fnmatch.fnmatch(file, '*' + word) or word not in ('tests', 'crates') and file.startswith(word + '/'):
-                found.add(file)
-    return found
+class Tree:
+    """The files around the crates, to be found by path, by name, by their folder, or by a pattern."""
 
+    def __init__(self, files):
+        self.found = {}
+        for file in files:
+            parts = file.split('/')
+            folders = ['/'.join(parts[:n]) for n in range(1, len(parts))]
+            for word in [file] + [parts[-1]] * ('.' in parts[-1]) + [folder for folder in folders if folder != 'tests']:
+                self.found.setdefault(word, set()).add(file)
+        self.files = files
 
-def files_of(part, tree):
-    """What its recipe names, and what those scripts and sources name in turn."""
-    found, fresh = set(), names_in(recipe(part), tree)
-    while fresh:
-        found |= fresh
-        texts = [file for file in fresh if file.startswith(('tests/', 'packaging/', 'bench/', 'examples/')) and file.endswith(('.sh', '.py', '.c', '.h'))]
-        fresh = names_in('\n'.join(open(file, errors='replace').read() for file in texts if os.path.exists(file)), tree) - found
-    return found
+    def named_in(self, text):
+        words = {word.strip('./') for word in re.findall(r'[A-Za-z0-9_.*/+-]+', text)}
+        patterns = [word for word in words if '*' in word and len(word) > 2 and re.search('[a-z]', word)]
+        return set().union(*(self.found.get(word, ()) for word in words), *(self.found.get(os.path.basename(word), ()) for word in words if '.' in word),
+                           *(fnmatch.filter(self.files, '*' + pattern) for pattern in patterns))
+
+    @functools.lru_cache(maxsize=None)
+    def named_by(self, file):
+        """What a script runs or reads, and what a source includes."""
+        kept = {'.sh': r'^(?!\s*#).*', '.py': r'^(?!\s*#).*', '.c': r'^#include.*', '.h': r'^#include.*'}.get(os.path.splitext(file)[1])
+        if kept is None or not os.path.exists(file) or file == 'tests/quick.py':
+            return set()
+        text = '\n'.join(re.findall(kept, open(file, errors='replace').read(), re.MULTILINE))
+        return self.named_in(text + recipe('install') * bool(re.search(r'\bmake .*\binstall\b', text)))
+
+    def files_of(self, part):
+        """What the recipe of a part names, and what those files name in turn."""
+        found, fresh = set(), self.named_in(recipe(part))
+        while fresh:
+            found |= fresh
+            fresh = set().union(*(self.named_by(file) for file in fresh)) - found
+        return found
 
 
 def touched(parts, files, crates, commit):
-    tree = [file for file in said('git', 'ls-files').split('\n') + files if file and not file.startswith('crates/')]
+    tree = Tree(sorted({file for file in said('git', 'ls-files').split('\n') + files if file and not file.startswith('crates/')}))
     before = ROOM + '.Makefile'
     with open(before, 'w') as to:
         to.write(said('git', 'show', commit + ':Makefile'))
     for part in parts:
         linked = ARCHIVE in recipe(part)
-        if files_of(part, tree) & set(files) or 'Makefile' in files and recipe(part) != recipe(part, before) or linked and crates:
+        if tree.files_of(part) & set(files) or 'Makefile' in files and recipe(part) != recipe(part, before) or linked and crates:
             yield part, linked
 
 
@@ -146,7 +160,7 @@ def main():
     some = [part for part, linked in picked if fresh or not linked]
     left = [part for part, linked in picked if linked and not fresh]
     if some:
-        run('make', 'test', 'MADE=', 'PARTS=' + ' '.join(some))
+        run('make', '--no-print-directory', 'test', 'MADE=', 'PARTS=' + ' '.join(some))
     if left:
         print('make quick: left out, since the archive would have to be proved first (make %s does): %s' % (ARCHIVE, ' '.join(left)))
 
