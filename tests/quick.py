@@ -145,7 +145,7 @@ def main():
     os.makedirs('target', exist_ok=True)
     commit = base()
     files = changed_since(commit)
-    print('make quick: %d files changed since %s' % (len(files), said('git', 'log', '-1', '--format=%h %s', commit).strip()), flush=True)
+    print('make quick: %d changed files since %s' % (len(files), said('git', 'log', '-1', '--format=%h %s', commit).strip()), flush=True)
     crates = crates_in(open('crates.txt').read())
     proved, edits = changed_crates(crates, files, commit)
     run('rt', 'fmt', '--check')
