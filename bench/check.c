@@ -8,7 +8,7 @@
 #include "timing.h"
 
 /* At the most records, against the sum of the same words by the machine's own vectors. */
-static const Aim NONE = {"", 0}, SHORT_AIM = {"<= 1.5", 150}, LONG_AIM = {"<= 1.8", 180}, SETS_AIM = {"<= 4", 400};
+static const Aim NONE = {"", 0}, SHORT_AIM = {"<= 1.9", 190}, LONG_AIM = {"<= 2.1", 210}, SETS_AIM = {"<= 4", 400};
 
 uint32_t sum_plain(const uint8_t *table, size_t length);
 uint32_t sum_native(const uint8_t *table, size_t length);

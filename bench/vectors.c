@@ -5,7 +5,7 @@
 #include "timing.h"
 #include "vectors.h"
 
-static const Aim NONE = {"", 0}, SUM_AIM = {"<= 1.2", 120}, NATIVE_AIM = {"<= 1.4", 140}; /* at the most blocks */
+static const Aim NONE = {"", 0}, SUM_AIM = {"<= 1.2", 120}, NATIVE_AIM = {"<= 1.9", 190}; /* at the most blocks */
 
 uint32_t sum_plain(const uint8_t *table, size_t length);
 uint32_t sum_native(const uint8_t *table, size_t length);

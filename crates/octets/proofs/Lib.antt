@@ -10,5 +10,4 @@ pub mod Padded
 pub mod Parts
 pub mod Runs
 pub mod Sums
-pub mod Within
 pub mod Writes

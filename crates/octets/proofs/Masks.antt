@@ -14,7 +14,7 @@ use Rattle.octets.specs.All.{allBelow}
 use Rattle.octets.specs.Number.{eight, le64At}
 use Rattle.octets.specs.Run.{zeros, zeroBetween, Mask}
 use Rattle.octets.proofs.Numbers.{Bytes}
-use Rattle.octets.proofs.Runs.{or-zero, eight-zero, zeros-more, zero-join}
+use Rattle.octets.proofs.Runs.{or-zero, eight-zero, zeros-more}
 
 -- The number that n bytes make, the first the lowest: byte by byte under a mask.
 abbrev number : ℕ → (ℕ → ℕ) → ℕ
@@ -44,12 +44,12 @@ and-zero s m p q hs hm =
     let h : ℕ → ℕ = λ (j : ℕ). bitAnd (f j) (g j) in
     rw (le-number s p, le-number m q, and-number 8 f g (λ j. omega (arith, hs (p + j))) (λ j. omega (arith, hm (q + j))), ← eight-number h) (eight-zero h)
 
--- The turns of the loop over a field past its first n bytes, under the mask from its byte 64 - n on.
-module _ (s m : List ℕ) (at n from : ℕ) (bytes : Bytes s) (mask : Mask m) (few : n ≤ 64) (is : from ≡ 64 - n) where
+-- The turns of the loop over a field past its first n bytes, under the mask from its byte 128 - n on.
+module _ (s m : List ℕ) (at n from : ℕ) (bytes : Bytes s) (mask : Mask m) (few : n ≤ 128) (is : from ≡ 128 - n) where
   abbrev past : ℕ → Bool
   past j = zeros s (at + n) (at + j - (at + n))
 
-  byte-more : (j : ℕ) → j < 64 → (past j && eqb (bitAnd (getD s (at + j) 0) (getD m (from + j) 0)) 0) ≡ past (suc j)
+  byte-more : (j : ℕ) → j < 128 → (past j && eqb (bitAnd (getD s (at + j) 0) (getD m (from + j) 0)) 0) ≡ past (suc j)
   byte-more j h = go (ltb j n) refl
     where
       go : (b : Bool) → ltb j n ≡ b → (past j && eqb (bitAnd (getD s (at + j) 0) (getD m (from + j) 0)) 0) ≡ past (suc j)
@@ -63,7 +63,7 @@ module _ (s m : List ℕ) (at n from : ℕ) (bytes : Bytes s) (mask : Mask m) (f
           let w : bitAnd (getD s (at + j) 0) 255 ≡ getD s (at + j) 0 = and-mask (getD s (at + j) 0) 8 ∙ omega (arith, bytes (at + j)) in
           rw (mask .full (from + j) (omega arith) (omega arith), w, k) (zeros-more s (at + n) (at + j) (omega arith) refl)
 
-  eight-more : (i k : ℕ) → 8 * i + k ≤ 64
+  eight-more : (i k : ℕ) → 8 * i + k ≤ 128
       → (past (8 * i) && allBelow (λ (j : ℕ). eqb (bitAnd (getD s (at + 8 * i + j) 0) (getD m (from + 8 * i + j) 0)) 0) k) ≡ past (8 * i + k)
   unfolding allBelow
   eight-more i zero h = let e : 8 * i + 0 ≡ 8 * i = omega arith in rw (e, and-true)
@@ -73,7 +73,7 @@ module _ (s m : List ℕ) (at n from : ℕ) (bytes : Bytes s) (mask : Mask m) (f
       let q : from + 8 * i + k ≡ from + (8 * i + k) = omega arith in
       rw (e, ← byte-more (8 * i + k) (omega arith), ← eight-more i k (omega arith), p, q, and-assoc)
 
-  pub past-more : (i bits x y : ℕ) → Bytes m → i < 8 → eqb bits 0 ≡ past (8 * i) → x ≡ le64At s (at + 8 * i) → y ≡ le64At m (from + 8 * i)
+  pub past-more : (i bits x y : ℕ) → Bytes m → i < 16 → eqb bits 0 ≡ past (8 * i) → x ≡ le64At s (at + 8 * i) → y ≡ le64At m (from + 8 * i)
       → eqb (bitOr bits (bitAnd x y)) 0 ≡ past (8 * (i + 1))
   past-more i bits x y hm h e ex ey =
       let k : 8 * (i + 1) ≡ 8 * i + 8 = omega arith in
@@ -84,33 +84,21 @@ pub past-all : (s : List ℕ) (at n i k bits : ℕ) → i ≤ k → k ≤ i → 
 unfolding zeroBetween
 past-all s at n i k bits a b e = let j : i ≡ k = omega arith in rw (← j) e
 
--- A field of k eights in two parts: its first n bytes end in its first 64, or they go on past them.
-module _ (s : List ℕ) (at k n : ℕ) (long : 8 ≤ k) where
-  part-ends : at + 64 + 8 * (k - 8) ≡ at + 8 * k
-  part-ends = omega arith
-
-  pub past-first : (x y : ℕ) → n ≤ 64 → eqb x 0 ≡ zeroBetween s (at + n) (at + 64) → eqb y 0 ≡ zeroBetween s (at + 64) (at + 64 + 8 * (k - 8))
-      → eqb (bitOr x y) 0 ≡ zeroBetween s (at + n) (at + 8 * k)
-  past-first x y h e f = rw (or-zero x y, e, f, part-ends, zero-join s (at + n) (at + 64) (at + 8 * k) (omega arith) (omega arith))
-
-  pub past-second : (x : ℕ) → 64 < n → eqb x 0 ≡ zeroBetween s (at + 64 + (n - 64)) (at + 64 + 8 * (k - 8)) → eqb x 0 ≡ zeroBetween s (at + n) (at + 8 * k)
-  past-second x h e = let p : at + 64 + (n - 64) ≡ at + n = omega arith in rw (e, part-ends, p)
-
 -- The turns of the loop that makes the mask: zeros, and bytes whose bits are all set up to a place.
 pub record Made (m : List ℕ) (i : ℕ) : Type 0 where
-  pub size : length m ≡ 128
-  pub clear : (j : ℕ) → j < 64 → getD m j 0 ≡ 0
-  pub full : (j : ℕ) → 64 ≤ j → j < i → getD m j 0 ≡ 255
+  pub size : length m ≡ 256
+  pub clear : (j : ℕ) → j < 128 → getD m j 0 ≡ 0
+  pub full : (j : ℕ) → 128 ≤ j → j < i → getD m j 0 ≡ 255
 
-pub made-none : Made (replicate 128 0) 64
+pub made-none : Made (replicate 256 0) 128
 made-none =
     record {
-      size = length-replicate {A = ℕ} 128 0;
-      clear = λ j h. getD-replicate {A = ℕ} 128 j 0 0 (omega arith);
+      size = length-replicate {A = ℕ} 256 0;
+      clear = λ j h. getD-replicate {A = ℕ} 256 j 0 0 (omega arith);
       full = λ j a b. absurd (omega arith);
     }
 
-pub made-more : (m : List ℕ) (i : ℕ) → 64 ≤ i → i < 128 → Made m i → Made (set m i 255) (i + 1)
+pub made-more : (m : List ℕ) (i : ℕ) → 128 ≤ i → i < 256 → Made m i → Made (set m i 255) (i + 1)
 made-more m i a b p =
     record {
       size = rw (length-set m i 255) (p .size);
@@ -118,11 +106,11 @@ made-more m i a b p =
       full = λ j g h. later j g h (eqb j i) refl;
     }
   where
-    later : (j : ℕ) → 64 ≤ j → j < i + 1 → (x : Bool) → eqb j i ≡ x → getD (set m i 255) j 0 ≡ 255
+    later : (j : ℕ) → 128 ≤ j → j < i + 1 → (x : Bool) → eqb j i ≡ x → getD (set m i 255) j 0 ≡ 255
     later j g h true e = rw (eqb-true j i e, getD-set-same m i 255 0 (omega (arith, p .size)))
     later j g h false e =
         let q : j ≢ i = eqb-false j i e in
         getD-set-other m i j 255 0 q ∙ p .full j g (omega arith)
 
-pub made-all : (m : List ℕ) (i : ℕ) → 128 ≤ i → Made m i → Mask m
+pub made-all : (m : List ℕ) (i : ℕ) → 256 ≤ i → Made m i → Mask m
 made-all m i h p = record { size = p .size; clear = p .clear; full = λ j a b. p .full j a (omega arith) }

@@ -12,7 +12,7 @@ use lib.ListN.{length, getD, set, length-set, List·getD-eq-default}
 use lib.Seq.{getD-set-same, getD-set-other}
 use borrow.Author.Tests.{eq-eqb, ne-eqb, eqb-true, eqb-false, ltb-true, ltb-false}
 use Rattle.octets.specs.All.{allBelow}
-use Rattle.octets.specs.Number.{eight, le64At}
+use Rattle.octets.specs.Number.{two, eight, be16At, le64At}
 use Rattle.octets.specs.Run.{zeros, zeroBetween, putName}
 use Rattle.octets.proofs.All.{all-at, all-true, all-alike, all-join}
 use Rattle.octets.proofs.Chains.{_also_}
@@ -34,25 +34,6 @@ pub zeros-all : (s : List ℕ) (from to i : ℕ) {good : Bool} → from ≤ i �
 unfolding zeroBetween
 zeros-all s from to i a b h e = let n : i - from ≡ to - from = omega arith in rw (← n) e
 
--- Two runs of zeros, one after the other, are one.
-pub zero-join : (s : List ℕ) (from middle to : ℕ) → from ≤ middle → middle ≤ to → (zeroBetween s from middle && zeroBetween s middle to) ≡ zeroBetween s from to
-unfolding zeroBetween zeros
-zero-join s from middle to a b =
-    let e : to - from ≡ middle - from + (to - middle) = omega arith in
-    sym (ap (allBelow _) e ∙ all-join _ _ (middle - from) (λ j. let f : from + (middle - from + j) ≡ middle + j = omega arith in rw f) (to - middle))
-
--- A run that begins before another ends makes one with it.
-pub zero-overlap : (s : List ℕ) (from middle end to : ℕ) → from ≤ middle → middle ≤ end → end ≤ to
-    → (zeroBetween s from end && zeroBetween s middle to) ≡ zeroBetween s from to
-zero-overlap s from middle end to h k l =
-    rw (← zero-join s from end to (omega arith) l, ← zero-join s from middle end h k, ← zero-join s middle end to k l)
-    (once (zeroBetween s from middle) (zeroBetween s middle end) (zeroBetween s end to))
-  where
-    once : (x y z : Bool) → (x && y && (y && z)) ≡ (x && y && z)
-    once false y z = refl
-    once true false z = refl
-    once true true z = refl
-
 -- Two numbers have no bit set exactly if neither has.
 pub or-zero : (a b : ℕ) → eqb (bitOr a b) 0 ≡ (eqb a 0 && eqb b 0)
 or-zero a b = go (eqb a 0) (eqb b 0) refl refl
@@ -62,37 +43,10 @@ or-zero a b = go (eqb a 0) (eqb b 0) refl refl
     go false true e f = ne-eqb (bitOr a b) 0 (λ z. eqb-false a 0 e (omega (arith, or-add-and a b, and-le-r a b, eqb-true b 0 f)))
     go false false e f = ne-eqb (bitOr a b) 0 (λ z. eqb-false b 0 f (omega (arith, or-add-and a b, and-le-l a b)))
 
--- The turns of the loop over a field whose first n bytes do not count.
-min-zero : (x y : ℕ) → 0 < y → eqb (min x y) 0 ≡ eqb x 0
-min-zero x y h = go (eqb x 0) refl
-  where
-    go : (b : Bool) → eqb x 0 ≡ b → eqb (min x y) 0 ≡ b
-    go true e = eq-eqb (min x y) 0 (omega (arith, eqb-true x 0 e))
-    go false e = ne-eqb (min x y) 0 (λ z. eqb-false x 0 e (omega arith))
-
+-- A field of which no byte has been looked at yet.
 pub tail-none : (s : List ℕ) (at n : ℕ) → eqb 0 0 ≡ zeros s (at + n) (at + 0 - (at + n))
 unfolding zeros allBelow
 tail-none s at n = let e : at + 0 - (at + n) ≡ 0 = omega arith in rw e
-
-pub tail-more : (s : List ℕ) (at n i left : ℕ) {x y : ℕ} → eqb left 0 ≡ zeros s (at + n) (at + i - (at + n)) → y ≡ i + 1 - n → x ≡ min (getD s (at + i) 0) y
-    → eqb (bitOr left x) 0 ≡ zeros s (at + n) (at + (i + 1) - (at + n))
-tail-more s at n i left {x} {y} e ey ex = go (ltb i n) refl
-  where
-    go : (b : Bool) → ltb i n ≡ b → eqb (bitOr left x) 0 ≡ zeros s (at + n) (at + (i + 1) - (at + n))
-    go true f =
-        let h : i < n = ltb-true i n f in
-        let z : x ≡ 0 = omega arith in
-        let k : at + (i + 1) - (at + n) ≡ at + i - (at + n) = omega arith in
-        rw (or-zero left x, z, k, ← e, and-true)
-    go false f =
-        let h : n ≤ i = ltb-false i n f in
-        let k : at + (i + 1) ≡ at + i + 1 = omega arith in
-        rw (or-zero left x, ex, min-zero (getD s (at + i) 0) y (omega arith), k) (zeros-more s (at + n) (at + i) (omega arith) e)
-
-pub tail-all : (s : List ℕ) (at n i to left : ℕ) → at ≤ to → i ≤ to - at → to - at ≤ i → eqb left 0 ≡ zeros s (at + n) (at + i - (at + n))
-    → eqb left 0 ≡ zeroBetween s (at + n) to
-unfolding zeroBetween
-tail-all s at n i to left h a b e = let k : at + i ≡ to = omega arith in rw (← k) e
 
 -- Eight bytes make zero exactly if each is zero.
 pub eight-zero : (f : ℕ → ℕ) → eqb (eight (f 7) (f 6) (f 5) (f 4) (f 3) (f 2) (f 1) (f 0)) 0 ≡ allBelow (λ (j : ℕ). eqb (f j) 0) 8
@@ -130,6 +84,19 @@ eight-zero f = go (eqb all 0) (allBelow each 8) refl refl
           byte g 6 (omega arith),
           byte g 7 (omega arith),
         )))
+
+-- Two bytes likewise.
+pub pair-zero : (s : List ℕ) (at : ℕ) → eqb (be16At s at) 0 ≡ zeroBetween s at (at + 2)
+unfolding be16At zeroBetween zeros allBelow
+pair-zero s at =
+    let k : at + 2 - at ≡ 2 = omega arith in
+    let p : at + 0 ≡ at = omega arith in
+    rw (k, p) (go (eqb (getD s at 0) 0) (eqb (getD s (at + 1) 0) 0) refl refl)
+  where
+    go : (x y : Bool) → eqb (getD s at 0) 0 ≡ x → eqb (getD s (at + 1) 0) 0 ≡ y → eqb (two (getD s at 0) (getD s (at + 1) 0)) 0 ≡ (x && y)
+    go true true e f = eq-eqb (two (getD s at 0) (getD s (at + 1) 0)) 0 (omega (arith, eqb-true (getD s at 0) 0 e, eqb-true (getD s (at + 1) 0) 0 f))
+    go true false e f = ne-eqb (two (getD s at 0) (getD s (at + 1) 0)) 0 (λ z. eqb-false (getD s (at + 1) 0) 0 f (omega arith))
+    go false y e f = ne-eqb (two (getD s at 0) (getD s (at + 1) 0)) 0 (λ z. eqb-false (getD s at 0) 0 e (omega arith))
 
 -- The turns of the loop over eights: none has a bit set so far, one more, and all.
 le-zero : (s : List ℕ) (at : ℕ) → eqb (le64At s at) 0 ≡ zeros s at 8

@@ -1,4 +1,5 @@
 pub mod All
+pub mod Columns
 pub mod Name
 pub mod Number
 pub mod Run

@@ -14,11 +14,11 @@ zeros s at n = allBelow (λ (i : ℕ). eqb (getD s (at + i) 0) 0) n
 unfoldable pub zeroBetween : List ℕ → ℕ → ℕ → Bool
 zeroBetween s from to = zeros s from (to - from)
 
--- 64 bytes of zeros, and 64 whose bits are all set
+-- 128 bytes of zeros, and 128 whose bits are all set
 pub record Mask (m : List ℕ) : Type 0 where
-  pub size : length m ≡ 128
-  pub clear : (i : ℕ) → i < 64 → getD m i 0 ≡ 0
-  pub full : (i : ℕ) → 64 ≤ i → i < 128 → getD m i 0 ≡ 255
+  pub size : length m ≡ 256
+  pub clear : (i : ℕ) → i < 128 → getD m i 0 ≡ 0
+  pub full : (i : ℕ) → 128 ≤ i → i < 256 → getD m i 0 ≡ 255
 
 -- a field of n bytes at a place: the name, and zeros past its end
 unfoldable pub putName : List ℕ → ℕ → List ℕ → ℕ → List ℕ

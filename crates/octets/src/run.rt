@@ -2,13 +2,13 @@
 use crate::number;
 ghost use mathlib.Core.Path.{_≡_};
 ghost use mathlib.Core.List.{[]};
-ghost use Prim.Native.Nat.{_+_, _-_, _*_, _≤_, _<_, min};
+ghost use Prim.Native.Nat.{_+_, _*_, _≤_};
 ghost use lib.Dec.{eqb};
 ghost use lib.ListN.{length, replicate};
 ghost use Rattle.octets.specs.Run.{zeroBetween, Mask, putName, Wrote};
 
-// Where the ones of the mask begin: no part of a field that is asked under it is longer.
-const MIDDLE: usize = 64;
+// Where the ones of the mask begin: no field that is asked under it is longer.
+const MIDDLE: usize = 128;
 
 // Whether the bytes from one place up to another are all zero. No early exit: the loop becomes vectors.
 pub fn zero_between(s: &[u8], from: usize, to: usize) -> bool
@@ -35,19 +35,19 @@ pub fn set_bits(s: &[u8], at: usize, n: usize) -> usize
 }
 
 // Zeros, and as many bytes whose bits are all set. A part of it that begins n bytes before the middle leaves out the first n bytes of a field.
-pub fn mask() -> [u8; 128]
+pub fn mask() -> [u8; 256]
     ensures { λ r. ⌜ Mask r ⌝ }
 {
-    let mut m = [0u8; 128];
-    for i in MIDDLE..128 {
+    let mut m = [0u8; 256];
+    for i in MIDDLE..256 {
         m[i] = 255;
     }
     m
 }
 
-// The bits that are set in a field of n eights, at most 64 bytes, past its first bytes.
+// The bits that are set in a field of n eights past its first bytes: none, where all past them is zero.
 pub fn set_past(s: &[u8], at: usize, n: usize, first: usize, mask: &[u8]) -> usize
-    requires { ⌜ (at + 8 * n ≤ length (now s)) × (n ≤ 8) × (first ≤ 64) × Mask (now mask) ⌝ }
+    requires { ⌜ (at + 8 * n ≤ length (now s)) × (n ≤ 16) × (first ≤ 128) × Mask (now mask) ⌝ }
     ensures { λ r. ⌜ eqb r 0 ≡ zeroBetween (now (s .entry)) (at + first) (at + 8 * n) ⌝ }
 {
     let from = MIDDLE - first;
@@ -56,46 +56,6 @@ pub fn set_past(s: &[u8], at: usize, n: usize, first: usize, mask: &[u8]) -> usi
         bits = bits | (number::le64(s, at + 8 * i) & number::le64(mask, from + 8 * i));
     }
     bits
-}
-
-// The same of a field of 64 to 128 bytes, in fewer steps: past a short name its later part is zeros alone, and of a long name its first part says
-// nothing.
-pub fn set_past_long(s: &[u8], at: usize, n: usize, first: usize, mask: &[u8]) -> usize
-    requires { ⌜ (at + 8 * n ≤ length (now s)) × (8 ≤ n) × (n ≤ 16) × (first ≤ 128) × Mask (now mask) ⌝ }
-    ensures { λ r. ⌜ eqb r 0 ≡ zeroBetween (now (s .entry)) (at + first) (at + 8 * n) ⌝ }
-{
-    if first <= MIDDLE {
-        set_past(s, at, 8, first, mask) | set_bits(s, at + MIDDLE, n - 8)
-    } else {
-        set_past(s, at + MIDDLE, n - 8, first - MIDDLE, mask)
-    }
-}
-
-// The smaller of two bytes.
-fn lesser(m: u8, n: u8) -> u8
-    ensures { λ r. ⌜ r ≡ min m n ⌝ }
-{
-    if m < n { m } else { n }
-}
-
-// How far i is past n.
-fn beyond(i: u8, n: u8) -> u8
-    ensures { λ r. ⌜ r ≡ i - n ⌝ }
-{
-    if i < n { 0 } else { i - n }
-}
-
-// Whether the bytes of a field past its first n are all zero. Every byte takes part, one of the first n as 0: a field of fixed length
-// becomes vectors with no byte left over.
-pub fn zero_tail(s: &[u8], at: usize, to: usize, n: u8) -> bool
-    requires { ⌜ (at ≤ to) × (to ≤ length (now s)) × (to < at + 256) ⌝ }
-    ensures { λ r. ⌜ r ≡ zeroBetween (now (s .entry)) (at + n) to ⌝ }
-{
-    let mut left: u8 = 0;
-    for i in 0..to - at {
-        left = left | lesser(s[at + i], beyond((i + 1) as u8, n));
-    }
-    left == 0
 }
 
 // Puts a name at a place.

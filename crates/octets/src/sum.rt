@@ -1,9 +1,10 @@
 // The sum of the words of a block, wrapping at 2^32.
 use crate::number;
 ghost use mathlib.Core.Path.{_≡_};
-ghost use Prim.Native.Nat.{_+_, _*_, _≤_};
+ghost use Prim.Native.Nat.{_*_, _≤_};
 ghost use lib.ListN.{length};
-ghost use Rattle.octets.specs.Sum.{sumWords, oddBytes, evenOf, turned, columnsOf, joined, totalOf, endsSum};
+ghost use Rattle.octets.specs.Columns.{oddBytes, columnsOf, evenOf, turned};
+ghost use Rattle.octets.specs.Sum.{sumWords};
 
 // Words added up as the machine has them, and their second and fourth bytes once more by themselves, each with 16 bits for its sum.
 pub struct Sums {
@@ -16,6 +17,21 @@ fn odd_bytes(w: u32) -> u32
     ensures { λ r. ⌜ (r ≡ oddBytes w) × (r ≤ 16711935) ⌝ }
 {
     w / 256 % 256 + w / 16777216 * 65536
+}
+
+// The sums of the first n words. Every machine has vectors that do this, and not all have ones that turn words round.
+fn columns(s: &[u8], n: usize) -> Sums
+    requires { ⌜ (4 * n ≤ length (now s)) × (n ≤ 128) ⌝ }
+    ensures { λ r. ⌜ r ≡ columnsOf (now (s .entry)) n ⌝ }
+{
+    let mut whole: u32 = 0;
+    let mut odd: u32 = 0;
+    for i in 0..n {
+        let w = number::le32(s, 4 * i);
+        whole = std::num::wrapping_add_u32(whole, w);
+        odd += odd_bytes(w);
+    }
+    Sums { whole, odd }
 }
 
 // The sums of the first and of the third bytes: those of all bytes, less the odd ones with what they carry.
@@ -35,51 +51,11 @@ fn turned(even: u32, odd: u32) -> u32
     )
 }
 
-// The sums of n words from a place on. Every machine has vectors that do this, and not all have ones that turn words round.
-pub fn columns(s: &[u8], at: usize, n: usize) -> Sums
-    requires { ⌜ (at + 4 * n ≤ length (now s)) × (n ≤ 128) ⌝ }
-    ensures { λ r. ⌜ (r ≡ columnsOf (now (s .entry)) at n) × (r .odd ≤ 16711935 * n) ⌝ }
-{
-    let mut whole: u32 = 0;
-    let mut odd: u32 = 0;
-    for i in 0..n {
-        let w = number::le32(s, at + 4 * i);
-        whole = std::num::wrapping_add_u32(whole, w);
-        odd += odd_bytes(w);
-    }
-    Sums { whole, odd }
-}
-
-// The sums of two pieces.
-pub fn both(a: Sums, b: Sums) -> Sums
-    requires { ⌜ a .odd + b .odd ≤ 4294967295 ⌝ }
-    ensures { λ r. ⌜ (r ≡ joined a b) × (r .odd ≡ a .odd + b .odd) ⌝ }
-{
-    Sums {
-        whole: std::num::wrapping_add_u32(a.whole, b.whole),
-        odd: a.odd + b.odd,
-    }
-}
-
-// The sum of the words that were added: their bytes are put in their order when all are added.
-pub fn total(c: Sums) -> u32
-    ensures { λ r. ⌜ r ≡ totalOf c ⌝ }
-{
-    turned(even_sums(c.whole, c.odd), c.odd)
-}
-
-// The sum of the first n words.
+// The sum of the first n words: their bytes are put in their order when all are added.
 pub fn sum_words(s: &[u8], n: usize) -> u32
     requires { ⌜ (4 * n ≤ length (now s)) × (n ≤ 128) ⌝ }
     ensures { λ r. ⌜ r ≡ sumWords (now (s .entry)) n ⌝ }
 {
-    total(columns(s, 0, n))
-}
-
-// The sum of the first n of 128 words and of the last: where those between are zero they add nothing.
-pub fn sum_ends(s: &[u8], n: usize) -> u32
-    requires { ⌜ (length (now s) ≡ 512) × (n ≤ 127) ⌝ }
-    ensures { λ r. ⌜ r ≡ endsSum (now (s .entry)) n ⌝ }
-{
-    total(both(columns(s, 0, n), columns(s, 508, 1)))
+    let c = columns(s, n);
+    turned(even_sums(c.whole, c.odd), c.odd)
 }

@@ -10,7 +10,8 @@ use Rattle.octets.specs.Sum.{sumWords}
 use Rattle.octets.proofs.Chains.{chain-says, _also_}
 use Rattle.record.specs.HeaderBlock.{headerOf, soundCounts, soundEdition, isHeader, soundNumbers, soundHeaderRest, soundHeader}
 use Rattle.record.specs.Networks.{soundNetworks}
-use Rattle.record.specs.RecordBlock.{recordOf, isRecord, soundSet, soundLimits, soundServer, soundRoaming, soundProfile, soundRest, soundRecord}
+use Rattle.record.specs.RecordBlock.{recordOf, isRecord, soundSet, soundLimits, soundServer, soundRoaming, soundProfile, pastNames, pastCapabilities}
+use Rattle.record.specs.RecordBlock.{soundRest, soundRecord}
 use Rattle.record.specs.declared.header.Header.{Header}
 use Rattle.record.specs.declared.subscriber.Record.{Record}
 
@@ -81,11 +82,13 @@ pub record Zeros (b : List ℕ) (r : Record) : Type 0 where
 module _ (b : List ℕ) (r : Record) where
   pub rest-says : soundRest b r ≡ true → Zeros b r
   rest-says e =
-      let s = chain-says _ (_ ∷ _ ∷ _ ∷ _ ∷ _ ∷ _ ∷ []) e in
-      record { blank = s 0; public = s 1; private = s 2; server = s 3; mandatory = s 4; optional = s 5; last = s 6 }
+      let s = chain-says (zeroBetween b 2 4) (pastNames b r ∷ pastCapabilities b r ∷ _ ∷ []) e in
+      let n = chain-says (zeroBetween b (16 + r .public) 144) (_ ∷ _ ∷ []) (s 1) in
+      let c = chain-says (zeroBetween b (368 + 4 * r .mandatory) 384) (_ ∷ []) (s 2) in
+      record { blank = s 0; public = n 0; private = n 1; server = n 2; mandatory = c 0; optional = c 1; last = s 3 }
 
   pub rest-holds : Zeros b r → soundRest b r ≡ true
-  rest-holds p = p .blank also p .public also p .private also p .server also p .mandatory also p .optional also p .last
+  rest-holds p = p .blank also (p .public also p .private also p .server) also (p .mandatory also p .optional) also p .last
 
 -- The header block: what its numbers are within, its last zeros, and its networks.
 pub record HeaderTests (b : List ℕ) : Type 0 where

@@ -1,7 +1,5 @@
-pub mod Bounds
 pub mod Fields
 pub mod HeaderBlock
 pub mod Networks
 pub mod RecordBlock
-pub mod RecordBytes
 pub mod Sets

@@ -64,10 +64,14 @@ abbrev pub soundProfile : Record → ℕ → Bool
 soundProfile r file = leb (r .start + r .size) file
 
 -- "Bytes not named are zero, and so are unused places in a field."
+abbrev pub pastNames : List ℕ → Record → Bool
+pastNames b r = zeroBetween b (16 + r .public) 144 && zeroBetween b (144 + r .private) 272 && zeroBetween b (272 + r .server) 368
+
+abbrev pub pastCapabilities : List ℕ → Record → Bool
+pastCapabilities b r = zeroBetween b (368 + 4 * r .mandatory) 384 && zeroBetween b (384 + 4 * r .optional) 400
+
 abbrev pub soundRest : List ℕ → Record → Bool
-soundRest b r =
-    zeroBetween b 2 4 && zeroBetween b (16 + r .public) 144 && zeroBetween b (144 + r .private) 272 && zeroBetween b (272 + r .server) 368
-    && zeroBetween b (368 + 4 * r .mandatory) 384 && zeroBetween b (384 + 4 * r .optional) 400 && zeroBetween b 412 508
+soundRest b r = zeroBetween b 2 4 && pastNames b r && pastCapabilities b r && zeroBetween b 412 508
 
 -- block k is a sound record, under a header and beside a profile file of such a length
 unfoldable pub soundRecord : List ℕ → ℕ → Header → ℕ → Bool

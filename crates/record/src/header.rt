@@ -4,7 +4,9 @@ use octets::number;
 use octets::run;
 use octets::sum;
 ghost use mathlib.Core.Path.{_≡_};
+ghost use Prim.Native.Nat.{_≤_};
 ghost use lib.ListN.{length};
+ghost use Rattle.octets.specs.Run.{Mask};
 ghost use Rattle.record.specs.HeaderBlock.{headerOf, soundCounts, soundEdition, isHeader, soundNumbers, soundHeaderRest, soundHeader};
 
 // The numbers of the header block. Its names stay in the table.
@@ -67,6 +69,8 @@ impl Header {
 
     pub const MOST_KEEP: u8 = 1;
 
+    pub const LEAST_NAME: u8 = 1;
+
     pub const MOST_NAME: u8 = 64;
 
     pub const MOST_NETWORKS: u8 = 8;
@@ -116,34 +120,35 @@ fn numbers(h: Header) -> bool
     ensures { λ r. ⌜ r ≡ soundNumbers h ⌝ }
 {
     (h.keep <= Header::MOST_KEEP)
-        & (1 <= h.host)
+        & (Header::LEAST_NAME <= h.host)
         & (h.host <= Header::MOST_NAME)
-        & (1 <= h.realm)
+        & (Header::LEAST_NAME <= h.realm)
         & (h.realm <= Header::MOST_NAME)
 }
 
-// The tails of host and realm, and the bytes not named.
-fn rest(b: &[u8], h: Header) -> bool
-    requires { ⌜ length (now b) ≡ 512 ⌝ }
+// "Bytes not named are zero, and so are unused places in a field": as of a record, one number is tested.
+fn rest(b: &[u8], h: Header, mask: &[u8]) -> bool
+    requires { ⌜ (length (now b) ≡ 512) × (h .host ≤ 64) × (h .realm ≤ 64) × Mask (now mask) ⌝ }
     ensures { λ r. ⌜ r ≡ soundHeaderRest (now (b .entry)) h ⌝ }
 {
-    run::zero_between(b, Header::BLANK_AT, Header::NUMBER_AT)
-        & run::zero_tail(b, Header::HOST_AT, Header::REALM_AT, h.host)
-        & run::zero_tail(b, Header::REALM_AT, Header::PLACES_AT, h.realm)
-        & run::zero_between(b, Header::REST_AT, Header::ISSUE_AT)
-        & run::zero_between(b, Header::LAST_AT, Header::CHECK_AT)
+    let blank = number::be16(b, Header::BLANK_AT) as usize;
+    (blank
+        | run::set_past(b, Header::HOST_AT, 8, h.host as usize, mask)
+        | run::set_past(b, Header::REALM_AT, 8, h.realm as usize, mask)
+        | run::set_bits(b, Header::REST_AT, 1)
+        | run::set_bits(b, Header::LAST_AT, 12))
+        == 0
 }
 
-// Whether a block is a sound header.
-pub fn sound(b: &[u8]) -> bool
-    requires { ⌜ length (now b) ≡ 512 ⌝ }
+// Whether a block is a sound header. Its numbers come first, as of a record.
+pub fn sound(b: &[u8], mask: &[u8]) -> bool
+    requires { ⌜ (length (now b) ≡ 512) × Mask (now mask) ⌝ }
     ensures { λ r. ⌜ r ≡ soundHeader (now (b .entry)) ⌝ }
 {
     let h = Header::read(b);
-    counts(h)
-        & ((sum::sum_words(b, 128) == 0)
-            & is_header(h)
-            & numbers(h)
-            & rest(b, h)
-            & networks::sound(b, h.networks as usize))
+    if counts(h) & is_header(h) & numbers(h) {
+        (sum::sum_words(b, 128) == 0) & rest(b, h, mask) & networks::sound(b, h.networks as usize)
+    } else {
+        false
+    }
 }

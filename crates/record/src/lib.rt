@@ -1,5 +1,4 @@
 // One block of the table: the header with its networks, and a record.
-pub mod bounds;
 pub mod fields;
 pub mod header;
 pub mod networks;

@@ -5,7 +5,6 @@ mod members;
 use octets::name;
 use octets::name::Order;
 use octets::run;
-use record::bounds::Bounds;
 use record::fields;
 use record::header;
 use record::header::Header;
@@ -19,7 +18,6 @@ ghost use lib.ListN.{length};
 ghost use Rattle.octets.specs.Name.{orderOf};
 ghost use Rattle.octets.specs.Run.{Mask};
 ghost use Rattle.record.specs.Fields.{publicOf};
-ghost use Rattle.record.specs.Bounds.{boundsOf};
 ghost use Rattle.table.specs.Blocks.{blockOf};
 ghost use Rattle.table.specs.Check.{isLess, risesAt, standsAt, checkRecords, checkTable};
 ghost use Rattle.table.specs.Leading.{leading, setless, Setless, outcomeOf};
@@ -68,12 +66,11 @@ fn rises(t: &[u8], k: usize) -> bool
 }
 
 // Whether block k is a sound record in its place. Only a sound one is compared with the record before.
-fn stands(t: &[u8], h: Header, file: usize, bounds: Bounds, mask: &[u8], k: usize) -> bool
-    requires { ⌜ (1 ≤ k) × (k ≤ 4096) × (h .networks ≤ 8) × (bounds ≡ boundsOf (h .networks) (h .edition)) × (512 * k + 512 ≤ length (now t)) × Before (now t) k
-        × Mask (now mask) ⌝ }
+fn stands(t: &[u8], h: Header, file: usize, mask: &[u8], k: usize) -> bool
+    requires { ⌜ (1 ≤ k) × (k ≤ 4096) × (h .networks ≤ 8) × (512 * k + 512 ≤ length (now t)) × Before (now t) k × Mask (now mask) ⌝ }
     ensures { λ r. ⌜ r ≡ standsAt (now (t .entry)) h file k ⌝ }
 {
-    if subscriber::sound(block(t, k), k as u32, h, file, bounds, mask) {
+    if subscriber::sound(block(t, k), k as u32, h, file, mask) {
         rises(t, k)
     } else {
         false
@@ -94,19 +91,17 @@ struct Stood {
     setless: bool,
 }
 
-fn standing(t: &[u8], h: Header, file: usize) -> Stood
-    requires { ⌜ (h .count ≤ 4096) × (h .networks ≤ 8) × (length (now t) ≡ 512 * (h .count + 1)) ⌝ }
+fn standing(t: &[u8], h: Header, file: usize, mask: &[u8]) -> Stood
+    requires { ⌜ (h .count ≤ 4096) × (h .networks ≤ 8) × (length (now t) ≡ 512 * (h .count + 1)) × Mask (now mask) ⌝ }
     ensures { λ r. ⌜ (r .records ≡ leading (standsAt (now (t .entry)) h file) (h .count) 1) × (r .records ≤ h .count)
         × Setless (now (t .entry)) (r .records) (r .setless) ⌝ }
 {
     let count = h.count as usize;
-    let bounds = Bounds::of(h.networks, h.edition);
-    let mask = run::mask();
     let mut m = 0;
     let mut sets: u32 = 0;
     while m < count {
         sets = sets | set_after(t, m);
-        if stands(t, h, file, bounds, &mask, m + 1) {
+        if stands(t, h, file, mask, m + 1) {
             m += 1;
         } else {
             return Stood {
@@ -134,12 +129,12 @@ fn outcome(count: usize, m: usize) -> Checked
 }
 
 // The records of a table, under its header: first each in its place, then the sets of those that stand.
-fn records(t: &[u8], h: Header, file: usize) -> Checked
-    requires { ⌜ (h .count ≤ 4096) × (h .networks ≤ 8) × (length (now t) ≡ 512 * (h .count + 1)) ⌝ }
+fn records(t: &[u8], h: Header, file: usize, mask: &[u8]) -> Checked
+    requires { ⌜ (h .count ≤ 4096) × (h .networks ≤ 8) × (length (now t) ≡ 512 * (h .count + 1)) × Mask (now mask) ⌝ }
     ensures { λ r. ⌜ r ≡ checkRecords (now (t .entry)) h file ⌝ }
 {
     let count = h.count as usize;
-    let s = standing(t, h, file);
+    let s = standing(t, h, file, mask);
     if s.setless {
         return outcome(count, s.records);
     }
@@ -156,9 +151,10 @@ pub fn check(t: &[u8], file: usize) -> Checked
     let b = block(t, 0);
     let h = Header::read(b);
     let count = h.count as usize;
-    if header::sound(b) {
+    let mask = run::mask();
+    if header::sound(b, &mask) {
         if t.len() == BLOCK * (count + 1) {
-            records(t, h, file)
+            records(t, h, file, &mask)
         } else {
             Checked::Bad(0)
         }

@@ -9,34 +9,14 @@ use lib.Bits.{bitOr}
 use lib.Dec.{leb, eqb}
 use borrow.Author.Tests.{le-leb, lt-leb, lt-ltb, le-ltb, eq-eqb, ne-eqb, ltb-true, leb-true}
 use Rattle.octets.proofs.Chains.{test, chain-says}
-use Rattle.octets.proofs.Columns.{ends-sum}
-use Rattle.octets.proofs.Numbers.{Bytes}
 use Rattle.octets.proofs.Runs.{or-zero}
 use Rattle.table.specs.Blocks.{blockOf}
 use Rattle.table.specs.Check.{firstBad}
 use Rattle.octets.specs.Run.{zeroBetween}
-use Rattle.octets.specs.Sum.{sumWords, endsSum}
+use Rattle.octets.specs.Sum.{sumWords}
 use Rattle.vectors.specs.VectorBlock.{vectorOf, soundLimits, soundRest, soundVector}
 use Rattle.vectors.specs.declared.vector.Vector.{Vector}
 use Rattle.vectors.specs.VectorFile.{piecesOf, soundPiece, checkVectors}
-
--- A vector's tests, all of them: what its sum leaves out is zero, or it is unsound.
-vector-all : (b : List ℕ) (v : Vector) (s : ℕ) (l r : Bool) → Bytes b → v ≡ vectorOf b → s ≡ endsSum b 53 → l ≡ soundLimits v → r ≡ soundRest b v
-    → (eqb s 0 && l && r) ≡ soundVector b
-unfolding soundVector
-vector-all b v s l r h ev es el er = rw (el, er, ev) (go (soundRest b (vectorOf b)) refl)
-  where
-    refused : (x y : Bool) → (x && y && false) ≡ false
-    refused true true = refl
-    refused true false = refl
-    refused false y = refl
-
-    go : (x : Bool) → soundRest b (vectorOf b) ≡ x
-        → (eqb s 0 && soundLimits (vectorOf b) && soundRest b (vectorOf b)) ≡ (eqb (sumWords b 128) 0 && soundLimits (vectorOf b) && soundRest b (vectorOf b))
-    go true g =
-        let z = chain-says (zeroBetween b (4 + vectorOf b .private) 132) (zeroBetween b (164 + vectorOf b .xres) 180 ∷ zeroBetween b 212 508 ∷ []) g 2 in
-        rw (es, ends-sum b 53 h (omega arith) z)
-    go false g = rw (g, refused (eqb s 0) (soundLimits (vectorOf b)), refused (eqb (sumWords b 128) 0) (soundLimits (vectorOf b)))
 
 -- The numbers are tested first, and the rest only where they are within their limits.
 module _ (v : Vector) {l : Bool} (e : l ≡ soundLimits v) (good : l ≡ true) where
@@ -50,9 +30,12 @@ module _ (v : Vector) {l : Bool} (e : l ≡ soundLimits v) (good : l ≡ true) w
   pub limits-private : v .private ≤ 128
   limits-private = leb-true _ _ (limits-say 5)
 
-pub vector-within : (b : List ℕ) (v : Vector) (s : ℕ) (l r : Bool) → Bytes b → v ≡ vectorOf b → s ≡ endsSum b 53 → l ≡ soundLimits v → l ≡ true
-    → r ≡ soundRest b v → (eqb s 0 && r) ≡ soundVector b
-vector-within b v s l r h ev es el good er = rw (good, and-true) at (vector-all b v s l r h ev es el er)
+pub vector-within : (b : List ℕ) (v : Vector) (s : ℕ) (l r : Bool) → v ≡ vectorOf b → s ≡ sumWords b 128 → l ≡ soundLimits v → l ≡ true → r ≡ soundRest b v
+    → (eqb s 0 && r) ≡ soundVector b
+unfolding soundVector
+vector-within b v s l r ev es el good er =
+    let e : soundLimits (vectorOf b) ≡ true = rw ev at (sym el ∙ good) in
+    rw (e, and-true, es, er, ev)
 
 pub vector-past : (b : List ℕ) (v : Vector) (l : Bool) → v ≡ vectorOf b → l ≡ soundLimits v → l ≡ false → false ≡ soundVector b
 unfolding soundVector

@@ -54,6 +54,8 @@ impl Vector {
 
     pub const MOST_XRES: u8 = 16;
 
+    pub const LEAST_PRIVATE: u8 = 1;
+
     pub const MOST_PRIVATE: u8 = 128;
 
     // The numbers of a block.
@@ -78,29 +80,29 @@ fn limits(v: Vector) -> bool
         & (v.used <= Vector::MOST_USED)
         & (Vector::LEAST_XRES <= v.xres)
         & (v.xres <= Vector::MOST_XRES)
-        & (1 <= v.private)
+        & (Vector::LEAST_PRIVATE <= v.private)
         & (v.private <= Vector::MOST_PRIVATE)
 }
 
-// The tails of the name and of XRES, and the bytes not named.
+// "Bytes not named are zero, and so are unused places in a field", as of a record.
 fn rest(b: &[u8], v: Vector, mask: &[u8]) -> bool
     requires { ⌜ (length (now b) ≡ 512) × (v .private ≤ 128) × (v .xres ≤ 16) × Mask (now mask) ⌝ }
     ensures { λ r. ⌜ r ≡ soundRest (now (b .entry)) v ⌝ }
 {
-    run::set_past_long(b, Vector::PRIVATE_AT, 16, v.private as usize, mask)
+    run::set_past(b, Vector::PRIVATE_AT, 16, v.private as usize, mask)
         | run::set_past(b, Vector::XRES_AT, 2, v.xres as usize, mask)
         | run::set_bits(b, Vector::REST_AT, 37)
         == 0
 }
 
-// Whether a block is a sound vector. The words of the rest are left out of the sum: they are zero, or the block is unsound.
+// Whether a block is a sound vector. Its numbers come first: what is zero goes by them.
 pub fn sound(b: &[u8], mask: &[u8]) -> bool
     requires { ⌜ (length (now b) ≡ 512) × Mask (now mask) ⌝ }
     ensures { λ r. ⌜ r ≡ soundVector (now (b .entry)) ⌝ }
 {
     let v = Vector::read(b);
     if limits(v) {
-        (sum::sum_ends(b, 53) == 0) & rest(b, v, mask)
+        (sum::sum_words(b, 128) == 0) & rest(b, v, mask)
     } else {
         false
     }

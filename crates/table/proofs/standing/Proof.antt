@@ -2,7 +2,6 @@ use Prim.Native.Nat.{_+_, _-_, _≤_}
 use mathlib.Core.Path.{_≡_}
 use lib.Dec.{eqb}
 use Rattle.octets.specs.All.{allBelow}
-use Rattle.octets.specs.Run.{Mask}
 use Rattle.octets.proofs.All.{all-none}
 use Rattle.table.specs.Check.{standsAt}
 use Rattle.table.specs.Leading.{leading, setless}
@@ -14,28 +13,27 @@ use Rattle.table.proofs.standing.Statement.{statement}
 use Rattle.table.proofs.standing.Tie as tie
 
 abbrev Inv-loop : tie.InvT-loop
-Inv-loop t h file count bounds mask m₀ sets₀ m sets =
+Inv-loop t h file mask count m₀ sets₀ m sets =
     (m ≤ h .count) × (leading (standsAt t h file) (h .count) 1 ≡ m + leading (standsAt t h file) (h .count - m) (m + 1)) × (eqb sets 0 ≡ allBelow (setless t) m)
-    × Before t (m + 1) × Mask mask
+    × Before t (m + 1)
 
 abbrev μ-loop : tie.MeasureT-loop
-μ-loop t h file count bounds mask m₀ sets₀ m sets = h .count - m
+μ-loop t h file mask count m₀ sets₀ m sets = h .count - m
 
 loop-again : tie.Need-loop-again Inv-loop μ-loop
 loop-again c = (
   search needs,
-  leading-more _ _ _ (c .before .before .before .before .before .loop .inv .1) (search needs) (c .before .stands .ensures) (c .if1 .taken),
-  setless-more _ _ (c .before .before .before .before .before .loop .sets) _ (c .before .before .before .before .before .loop .inv .2)
-      (c .before .before .before .set-after .ensures),
+  leading-more _ _ _ (c .before .before .before .before .loop .inv .1) (search needs) (c .before .stands .ensures) (c .if1 .taken),
+  setless-more _ _ (c .before .before .before .before .loop .sets) _ (c .before .before .before .before .loop .inv .2)
+      (c .before .before .set-after .ensures),
   before-next _ _ _ _ (c .before .stands .ensures) (c .if1 .taken),
-  search needs,
 )
 
 returns : tie.Need-returns Inv-loop μ-loop
 returns c = (
-  leading-stop _ _ _ (c .before .before .before .before .before .loop .inv .1) (search needs) (c .before .stands .ensures) (c .if1 .left),
+  leading-stop _ _ _ (c .before .before .before .before .loop .inv .1) (search needs) (c .before .stands .ensures) (c .if1 .left),
   search needs,
-  setless-left _ _ (c .before .before .before .before .before .loop .sets) _ (c .before .before .before .before .before .loop .inv .2),
+  setless-left _ _ (c .before .before .before .before .loop .sets) _ (c .before .before .before .before .loop .inv .2),
 )
 
 pub standing-spec : {M : Type 1} → statement M
@@ -45,11 +43,8 @@ standing-spec =
     Inv-loop
     μ-loop
     (λ c. search needs)
-    (λ c κs. search needs)
-    (λ c κs. search needs)
     (λ c. search (needs, leading-all, all-none, before-first))
     (λ c κs. search needs)
-    (λ c. search needs)
     (λ c. search needs)
     (λ c κs. search needs)
     (λ c. search needs)

@@ -5,10 +5,10 @@ use Rattle.octets.proofs.run.mask.Statement.{statement}
 use Rattle.octets.proofs.run.mask.Tie as tie
 
 abbrev Inv-loop : tie.InvT-loop
-Inv-loop m₀ i₀ m i = (64 ≤ i) × (i ≤ 128) × Made m i
+Inv-loop m₀ i₀ m i = (128 ≤ i) × (i ≤ 256) × Made m i
 
 abbrev μ-loop : tie.MeasureT-loop
-μ-loop m₀ i₀ m i = 128 - i
+μ-loop m₀ i₀ m i = 256 - i
 
 pub mask-spec : {M : Type 1} → statement M
 mask-spec =

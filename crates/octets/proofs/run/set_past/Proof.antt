@@ -9,7 +9,7 @@ use Rattle.octets.proofs.run.set_past.Statement.{statement}
 use Rattle.octets.proofs.run.set_past.Tie as tie
 
 abbrev Inv-loop : tie.InvT-loop
-Inv-loop s at n first mask from bits₀ i₀ bits i = (i ≤ n) × (from ≡ 64 - first) × (eqb bits 0 ≡ zeros s (at + first) (at + 8 * i - (at + first)))
+Inv-loop s at n first mask from bits₀ i₀ bits i = (i ≤ n) × (from ≡ 128 - first) × (eqb bits 0 ≡ zeros s (at + first) (at + 8 * i - (at + first)))
 
 abbrev μ-loop : tie.MeasureT-loop
 μ-loop s at n first mask from bits₀ i₀ bits i = n - i

@@ -1,16 +1,16 @@
 use Prim.Native.Nat.{_*_, _-_, _≤_}
 use mathlib.Core.Path.{_≡_}
-use Rattle.octets.specs.Sum.{wholeOf, oddOf}
+use Rattle.octets.specs.Columns.{wholeOf, oddOf}
 use Rattle.octets.proofs.Columns.{whole-none, odd-none, whole-more, odd-more, columns-end}
 use borrow.Author.Needs.{needs}
 use Rattle.octets.proofs.sum.columns.Statement.{statement}
 use Rattle.octets.proofs.sum.columns.Tie as tie
 
 abbrev Inv-loop : tie.InvT-loop
-Inv-loop s at n whole₀ odd₀ i₀ whole odd i = (i ≤ n) × (odd ≤ 16711935 * i) × (whole ≡ wholeOf s at i) × (odd ≡ oddOf s at i)
+Inv-loop s n whole₀ odd₀ i₀ whole odd i = (i ≤ n) × (odd ≤ 16711935 * i) × (whole ≡ wholeOf s i) × (odd ≡ oddOf s i)
 
 abbrev μ-loop : tie.MeasureT-loop
-μ-loop s at n whole₀ odd₀ i₀ whole odd i = n - i
+μ-loop s n whole₀ odd₀ i₀ whole odd i = n - i
 
 pub columns-spec : {M : Type 1} → statement M
 columns-spec =
@@ -19,7 +19,6 @@ columns-spec =
     Inv-loop
     μ-loop
     (λ c. search (needs, whole-none, odd-none))
-    (λ c. search needs)
     (λ c. search needs)
     (λ c κs. search needs)
     (λ c κs. search needs)

@@ -9,4 +9,5 @@ sum-words-spec =
     (tie.spec
     (λ c κs. search needs)
     (λ c κs. search needs)
+    (λ c κs. search needs)
     (λ c. search (needs, columns-sum)))

@@ -1,3 +1,4 @@
+use Rattle.record.proofs.Sound.{header-rest}
 use borrow.Author.Needs.{needs}
 use Rattle.record.proofs.header.rest.Statement.{statement}
 use Rattle.record.proofs.header.rest.Tie as tie
@@ -7,8 +8,11 @@ rest-spec =
     tie.close
     (tie.spec
     (λ c κs. search needs)
+    (λ c. search needs)
+    (λ c. search needs)
+    (λ c κs. search needs)
+    (λ c. search needs)
     (λ c κs. search needs)
     (λ c κs. search needs)
     (λ c κs. search needs)
-    (λ c κs. search needs)
-    (λ c. cc))
+    (λ c. search (needs, header-rest)))

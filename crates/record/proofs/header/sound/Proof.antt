@@ -1,4 +1,4 @@
-use Rattle.record.proofs.Sound.{header-all}
+use Rattle.record.proofs.Sound.{host-within, realm-within, header-bytes, header-refused}
 use borrow.Author.Needs.{needs}
 use Rattle.record.proofs.header.sound.Statement.{statement}
 use Rattle.record.proofs.header.sound.Tie as tie
@@ -12,7 +12,8 @@ sound-spec =
     (λ c κs. search needs)
     (λ c κs. search needs)
     (λ c κs. search needs)
-    (λ c κs. search needs)
+    (λ c κs. search (needs, host-within, realm-within))
     (λ c. search needs)
     (λ c κs. search needs)
-    (λ c. search (needs, header-all)))
+    (λ c. search (needs, header-bytes))
+    (λ c. search (needs, header-refused)))

@@ -1,4 +1,3 @@
-use Rattle.record.proofs.Sound.{server-none, server-some}
 use borrow.Author.Needs.{needs}
 use Rattle.record.proofs.subscriber.server_sound.Statement.{statement}
 use Rattle.record.proofs.subscriber.server_sound.Tie as tie
@@ -8,5 +7,4 @@ server-sound-spec =
     tie.close
     (tie.spec
     (λ c κs. search needs)
-    (λ c. search (needs, server-none))
-    (λ c. search (needs, server-some)))
+    (λ c. cc))

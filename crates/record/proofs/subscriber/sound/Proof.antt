@@ -1,4 +1,4 @@
-use Rattle.record.proofs.Sound.{limits-mandatory, limits-optional, limits-names, record-bytes, record-refused}
+use Rattle.record.proofs.Sound.{public-within, private-within, server-within, mandatory-within, optional-within, record-bytes, record-refused}
 use borrow.Author.Needs.{needs}
 use Rattle.record.proofs.subscriber.sound.Statement.{statement}
 use Rattle.record.proofs.subscriber.sound.Tie as tie
@@ -12,7 +12,10 @@ sound-spec =
     (λ c κs. search needs)
     (λ c κs. search needs)
     (λ c κs. search needs)
+    (λ c. search needs)
     (λ c κs. search needs)
-    (λ c κs. search (needs, limits-mandatory, limits-optional, limits-names))
+    (λ c κs. search needs)
+    (λ c κs. search needs)
+    (λ c κs. search (needs, public-within, private-within, server-within, mandatory-within, optional-within))
     (λ c. search (needs, record-bytes))
     (λ c. search (needs, record-refused)))

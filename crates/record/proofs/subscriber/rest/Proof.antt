@@ -1,0 +1,15 @@
+use Rattle.record.proofs.Sound.{record-rest}
+use borrow.Author.Needs.{needs}
+use Rattle.record.proofs.subscriber.rest.Statement.{statement}
+use Rattle.record.proofs.subscriber.rest.Tie as tie
+
+pub rest-spec : {M : Type 1} → statement M
+rest-spec =
+    tie.close
+    (tie.spec
+    (λ c κs. search needs)
+    (λ c. search needs)
+    (λ c κs. search needs)
+    (λ c κs. search needs)
+    (λ c κs. search needs)
+    (λ c. search (needs, record-rest)))

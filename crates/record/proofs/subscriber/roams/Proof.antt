@@ -1,0 +1,16 @@
+use Prim.Native.Nat.{_+_, _≤_}
+use native.Mathlib.Omega.{arith}
+use native.Mathlib.Nat.{one-mul}
+use lib.Pow.{shl-exact}
+use lib.Dec.{lit<}
+use borrow.Author.Needs.{needs}
+use Rattle.record.proofs.subscriber.roams.Statement.{statement}
+use Rattle.record.proofs.subscriber.roams.Tie as tie
+
+pub roams-spec : {M : Type 1} → statement M
+roams-spec =
+    tie.close
+    (tie.spec
+    (λ c. search needs)
+    (λ c. search needs)
+    (λ c. let n = c .before .args .networks in let h : 1 + n ≤ 32 = omega arith in rw (shl-exact 1 n 32 (lit< tt) h, one-mul)))
