@@ -46,9 +46,9 @@ module _ (s : List ℕ) (at : ℕ) {b xs all : List ℕ} {n : ℕ} where
   proxies-end h g = going-end (rw (walk-past s at h) at g)
 
   module _ (r : Read) (e : r ≡ readOf at (drop at s)) where
-    pub proxies-fault : at < length s → r ≡ read.Fault → Going b xs n (proxies (walk (drop at s))) all → Wrote all b xs n
+    pub proxies-fault : {p : ℕ} → at < length s → r ≡ read.Fault p → Going b xs n (proxies (walk (drop at s))) all → Wrote all b xs n
     unfolding proxies
-    proxies-fault h d g = going-end (rw (read-fault-says s at r e h d) at g)
+    proxies-fault h d g = going-end (rw (read-fault-says s at r e d h) at g)
 
     module _ (a : Avp) (d : r ≡ read.Avp a) (g : Going b xs n (proxies (walk (drop at s))) all) where
       step : Going b xs n (proxy (ownOf s a) ++ proxies (walk (drop (a .next) s))) all

@@ -8,14 +8,24 @@ use lib.ListN.{length, take, drop}
 use Rattle.diameter.specs.Avp.{padded, avpFlags, avpHead, avpLen, dataOf, sound}
 use Rattle.diameter.specs.declared.Avp.{Avp}
 use Rattle.diameter.specs.declared.Read.{Read}
+use Rattle.diameter.specs.declared.Span.{Span}
 use Rattle.diameter.specs.declared.Read.the-variants as read
+
+-- the bytes of a message from a place on, up to an end
+unfoldable pub between : List ℕ → ℕ → ℕ → List ℕ
+between s at end = drop at (take end s)
 
 -- the AVP at the front of t, which stands at a place of a message
 unfoldable pub avpHere : ℕ → List ℕ → Avp
 avpHere at t = record { at = at; len = avpLen t; next = at + padded (avpLen t); head = avpHead t; flags = avpFlags t }
 
 unfoldable pub readOf : ℕ → List ℕ → Read
-readOf at t = cond (sound t) (read.Avp (avpHere at t)) read.Fault
+readOf at t = cond (sound t) (read.Avp (avpHere at t)) (read.Fault at)
+
+-- "at which byte of the message an AVP begins", one with a faulty length too
+unfoldable pub beginsAt : Read → ℕ
+beginsAt (read.Avp a) = a .at
+beginsAt (read.Fault at) = at
 
 -- the AVP at the front, if a whole one is there; the AVP at a place of a message, none at its end
 unfoldable pub avpOf : List ℕ → Option (List ℕ)
@@ -51,3 +61,9 @@ pub record Here (s : List ℕ) (a : Avp) : Type 0 where
   pub twelve : a .head ≤ 12
   pub least : a .head ≤ a .len
   pub room : a .at + a .len ≤ length s
+
+-- such bytes stand there
+pub record Spans (s d : List ℕ) (p : Span) : Type 0 where
+  pub ordered : p .from ≤ p .end
+  pub inside : p .end ≤ length s
+  pub holds : between s (p .from) (p .end) ≡ d

@@ -5,7 +5,7 @@ ghost use mathlib.Core.Path.{_≡_};
 ghost use Prim.Native.Nat.{_+_, _≤_, _<_};
 ghost use lib.ListN.{length, drop};
 ghost use Rattle.diameter.specs.Avp.{padded, headOf, avpCode, vendorOf, dataOf, valueOf};
-ghost use Rattle.diameter.specs.Reader.{readOf, partAt, present, dataAt, ownOf, Here};
+ghost use Rattle.diameter.specs.Reader.{between, readOf, beginsAt, partAt, present, dataAt, ownOf, Here, Spans};
 
 // The flags of an AVP; those under P are reserved.
 pub const V_FLAG: u8 = 128;
@@ -23,10 +23,26 @@ pub struct Avp {
     pub flags: u8,
 }
 
-// What stands at a place: a whole AVP; or none, because its length is faulty or because the bytes are at an end.
+// The bytes of a message from a place on, up to an end.
+pub struct Span {
+    pub from: usize,
+    pub end: usize,
+}
+
+// What stands at a place of a message: a whole AVP; or none, because its length is faulty or because the bytes are at an end, with that place.
 pub enum Read {
     Avp(Avp),
-    Fault,
+    Fault(usize),
+}
+
+// The byte of the message at which the AVP that was read begins, whole or at fault.
+pub fn begins(read: Read) -> usize
+    ensures { λ r. ⌜ r ≡ beginsAt read ⌝ }
+{
+    match read {
+        Read::Avp(a) => a.at,
+        Read::Fault(at) => at,
+    }
 }
 
 // The header's length by the flags: with V the vendor stands in it.
@@ -44,28 +60,29 @@ fn pad(n: usize) -> usize
     (n + 3) / 4 * 4
 }
 
-// The AVP at a place, or the fault of its length.
-pub fn read_avp(s: &[u8], at: usize) -> Read
-    ensures { λ r. ⌜ r ≡ readOf at (drop at (now (s .entry))) ⌝ }
+// The AVP at a place of a message, or the fault of its length: what stands behind an end, a group's or the message's, is not looked at.
+pub fn read_before(s: &[u8], at: usize, end: usize) -> Read
+    requires { ⌜ end ≤ length (now s) ⌝ }
+    ensures { λ r. ⌜ r ≡ readOf at (between (now (s .entry)) at end) ⌝ }
 {
-    if s.len() <= at {
-        return Read::Fault;
+    if end <= at {
+        return Read::Fault(at);
     }
-    let left = s.len() - at;
+    let left = end - at;
     if left < 8 {
-        return Read::Fault;
+        return Read::Fault(at);
     }
     let flags = s[at + 4];
     let head = head_size(flags);
     if left < head {
-        return Read::Fault;
+        return Read::Fault(at);
     }
     let size = octets::number::be24(s, at + 5);
     if size < head {
-        return Read::Fault;
+        return Read::Fault(at);
     }
     if left < size {
-        return Read::Fault;
+        return Read::Fault(at);
     }
     let whole = pad(size);
     Read::Avp(Avp {
@@ -75,6 +92,13 @@ pub fn read_avp(s: &[u8], at: usize) -> Read
         head,
         flags,
     })
+}
+
+// The AVP at a place, up to the message's end.
+pub fn read_avp(s: &[u8], at: usize) -> Read
+    ensures { λ r. ⌜ r ≡ readOf at (drop at (now (s .entry))) ⌝ }
+{
+    read_before(s, at, s.len())
 }
 
 // Whether a whole AVP stands at a place.
@@ -117,7 +141,7 @@ pub fn value_of(s: &[u8], a: Avp) -> u32
     0
 }
 
-// Its own bytes, without its padding; its data.
+// Its own bytes, without its padding.
 pub fn avp_part(s: &[u8], a: Avp) -> &[u8]
     requires { ⌜ Here (now s) a ⌝ }
     ensures { λ r. ⌜ (now r ≡ ownOf (now (s .entry)) a) × (length (now r) ≤ length (now (s .entry))) ⌝ }
@@ -127,21 +151,41 @@ pub fn avp_part(s: &[u8], a: Avp) -> &[u8]
     &s[at..end]
 }
 
-pub fn data_part(s: &[u8], a: Avp) -> &[u8]
+// Where its data stand.
+pub fn span_of(s: &[u8], a: Avp) -> Span
     requires { ⌜ Here (now s) a ⌝ }
-    ensures { λ r. ⌜ (now r ≡ dataOf (ownOf (now (s .entry)) a)) × (length (now r) ≤ length (now (s .entry))) ⌝ }
+    ensures { λ r. ⌜ Spans (now (s .entry)) (dataOf (ownOf (now (s .entry)) a)) r ⌝ }
 {
-    let start = a.at + a.head;
-    let end = a.at + a.len;
-    &s[start..end]
+    Span {
+        from: a.at + a.head,
+        end: a.at + a.len,
+    }
 }
 
-// The data where nothing is known of the place: empty where no whole AVP stands.
+// The same where nothing is known of the place, read up to an end: no bytes where no whole AVP stands.
+pub fn span_at(s: &[u8], at: usize, end: usize) -> Span
+    requires { ⌜ end ≤ length (now s) ⌝ }
+    ensures { λ r. ⌜ Spans (now (s .entry)) (dataAt (between (now (s .entry)) at end) 0) r ⌝ }
+{
+    let Read::Avp(a) = read_before(s, at, end) else {
+        return Span { from: 0, end: 0 };
+    };
+    span_of(s, a)
+}
+
+// The bytes there.
+pub fn part(s: &[u8], span: Span) -> &[u8]
+    requires { ⌜ (span .from ≤ span .end) × (span .end ≤ length (now s)) ⌝ }
+    ensures { λ r. ⌜ (now r ≡ between (now (s .entry)) (span .from) (span .end)) × (length (now r) ≤ length (now (s .entry))) ⌝ }
+{
+    let from = span.from;
+    let end = span.end;
+    &s[from..end]
+}
+
+// The data of the AVP at a place: empty where no whole AVP stands.
 pub fn data_at(s: &[u8], at: usize) -> &[u8]
     ensures { λ r. ⌜ (now r ≡ dataAt (now (s .entry)) at) × (length (now r) ≤ length (now (s .entry))) ⌝ }
 {
-    let Read::Avp(a) = read_avp(s, at) else {
-        return &s[..0];
-    };
-    data_part(s, a)
+    part(s, span_at(s, at, s.len()))
 }

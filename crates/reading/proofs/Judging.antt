@@ -71,10 +71,9 @@ module _ (c : Content) (a : List ℕ) where
     unfolding contentFault
     content-sized least most e m = m ∙ rw e
 
-    pub content-group : (g : Group) (t : List ℕ) (b : Bool) → c ≡ Members g → t ≡ dataOf a → b ≡ gathers (membersOf d g) (walk t) → r ≡ faultUnless b 5004
-        → r ≡ contentFault d c a
+    pub content-group : (g : Group) (b : Bool) → c ≡ Members g → b ≡ gathers (membersOf d g) (walk (dataOf a)) → r ≡ faultUnless b 5004 → r ≡ contentFault d c a
     unfolding contentFault
-    content-group g t b e f m n = n ∙ rw (m, e, f)
+    content-group g b e m n = n ∙ rw (m, e)
 
 -- (d), (f), (g) and (h)
 pub unknown-marked : (flags : ℕ) → flags / 64 % 2 ≡ 1 → Fault 5001 ≡ ofUnknown flags

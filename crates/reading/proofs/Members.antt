@@ -5,18 +5,20 @@ use native.Mathlib.Omega.{arith}
 use mathlib.Core.Path.{_≡_, sym, ap, _∙_}
 use mathlib.Core.List.{List}
 use mathlib.Core.Bool.{Bool, true, false, not, _&&_, and-assoc}
-use lib.ListN.{length, getD, drop, List·getD-eq-default}
+use lib.ListN.{length, getD, List·getD-eq-default}
 use lib.Dec.{eqb, leb, ltb}
 use borrow.Author.Tests.{lt-leb, le-leb}
 use Rattle.octets.specs.All.{allBelow}
 use Rattle.octets.proofs.All.{all-more}
 use Rattle.diameter.specs.Avp.{avpCode, vendorOf}
-use Rattle.diameter.specs.Reader.{readOf, ownOf, Here}
-use Rattle.diameter.specs.Walk.{walk}
+use Rattle.diameter.specs.Reader.{between, readOf, ownOf, Here, Spans}
+use Rattle.diameter.specs.Walk.{Walk, walk}
 use Rattle.diameter.specs.declared.Avp.{Avp}
 use Rattle.diameter.specs.declared.Read.{Read}
+use Rattle.diameter.specs.declared.Span.{Span}
 use Rattle.diameter.specs.declared.Read.the-variants as read
-use Rattle.diameter.proofs.Reading.{own-flags, read-says, read-fault-says, walk-past}
+use Rattle.diameter.proofs.Reading.{own-flags, read-later}
+use Rattle.diameter.proofs.Parts.{member-walked, member-fault, member-past}
 use Rattle.reading.specs.declared.Content.the-variants.{Free, Number}
 use Rattle.reading.specs.declared.Dialect.{Dialect}
 use Rattle.reading.specs.declared.Member.{Member}
@@ -76,19 +78,19 @@ module _ (ms : List Member) (k : ℕ) (m : Member) (em : m ≡ getD ms k nobody)
   unfolding unlike
   other-more b e f = all-more (unlike ms b) k e (rw (f, em))
 
-  pub all-enough : (s : List ℕ) {all x : Bool} → all ≡ allBelow (enoughAt ms (walk s)) k → x ≡ enough m (walk s)
-      → (all && x) ≡ allBelow (enoughAt ms (walk s)) (k + 1)
+  pub all-enough : (w : Walk) {all x : Bool} → all ≡ allBelow (enoughAt ms w) k → x ≡ enough m w → (all && x) ≡ allBelow (enoughAt ms w) (k + 1)
   unfolding enoughAt
-  all-enough s e f = all-more (enoughAt ms (walk s)) k e (f ∙ rw em)
+  all-enough w e f = all-more (enoughAt ms w) k e (f ∙ rw em)
 
 pub other-end : (ms : List Member) (b : List ℕ) (k n : ℕ) {other : Bool} → other ≡ allBelow (unlike ms b) k → n ≡ length ms → k ≤ n → n ≤ k
     → other ≡ isOther ms b
 other-end ms b k n e l g h = let f : k ≡ length ms = omega arith in rw f at e
 
-pub gathers-end : (ms : List Member) (s : List ℕ) (k n : ℕ) {all x : Bool} → all ≡ allBelow (enoughAt ms (walk s)) k → n ≡ length ms → k ≤ n → n ≤ k
-    → x ≡ onlyOf ms (walk s) → (all && x) ≡ gathers ms (walk s)
+pub gathers-end : (ms : List Member) (s t : List ℕ) (p : Span) (k n : ℕ) {all x : Bool} → Spans s t p
+    → all ≡ allBelow (enoughAt ms (walk (between s (p .from) (p .end)))) k → n ≡ length ms → k ≤ n → n ≤ k
+    → x ≡ onlyOf ms (walk (between s (p .from) (p .end))) → (all && x) ≡ gathers ms (walk t)
 unfolding gathers
-gathers-end ms s k n e l g h ex = let f : k ≡ length ms = omega arith in rw (e, f, ex)
+gathers-end ms s t p k n i e l g h ex = let f : k ≡ length ms = omega arith in rw (e, f, ex, i .holds)
 
 -- an AVP of a code and vendor, without V and with it
 module _ (s : List ℕ) (a : Avp) (h : Here s a) (code vendor c : ℕ) (ec : c ≡ avpCode (ownOf s a)) where
@@ -106,56 +108,56 @@ pub fits-there : (s : List ℕ) (a : Avp) → Here s a → (m : Member) (x : Boo
 unfolding fits
 fits-there s a h m x n ex en = rw (own-flags s a h, ex, en)
 
--- the AVPs from a place on are looked at as the whole is
-module _ (s : List ℕ) (at : ℕ) (r : Read) (e : r ≡ readOf at (drop at s)) where
-  module _ (ms : List Member) (whole : Bool) (left : onlyOf ms (walk (drop at s)) ≡ whole) where
-    pub only-cut : at < length s → r ≡ read.Fault → false ≡ whole
+-- the AVPs from a place on up to the group's end are looked at as the whole group is
+module _ (s : List ℕ) (at end : ℕ) (r : Read) (e : r ≡ readOf at (between s at end)) where
+  module _ (ms : List Member) (whole : Bool) (left : onlyOf ms (walk (between s at end)) ≡ whole) where
+    pub only-cut : {p : ℕ} → at < end → end ≤ length s → r ≡ read.Fault p → false ≡ whole
     unfolding onlyOf
-    only-cut h d = rw (read-fault-says s at r e h d) at left
+    only-cut h fits d = rw (member-fault s at end r e d h fits) at left
 
     module _ (a : Avp) (d : r ≡ read.Avp a) (x : Bool) (ex : x ≡ isOther ms (ownOf s a)) where
       pub only-other : x ≡ true → false ≡ whole
       unfolding onlyOf
-      only-other t = rw (read-says s at r e a d .walked, ← ex, t) at left
+      only-other t = rw (member-walked s at end r e a d, ← ex, t) at left
 
-      pub only-more : x ≡ false → onlyOf ms (walk (drop (a .next) s)) ≡ whole
+      pub only-more : x ≡ false → onlyOf ms (walk (between s (a .next) end)) ≡ whole
       unfolding onlyOf
-      only-more t = rw (read-says s at r e a d .walked, ← ex, t) at left
+      only-more t = rw (member-walked s at end r e a d, ← ex, t) at left
 
-  module _ (m : Member) (n whole : ℕ) (left : n + countOf m (walk (drop at s)) ≡ whole) where
-    pub count-cut : at < length s → r ≡ read.Fault → n ≡ whole
+  module _ (m : Member) (n whole : ℕ) (left : n + countOf m (walk (between s at end)) ≡ whole) where
+    pub count-cut : {p : ℕ} → at < end → end ≤ length s → r ≡ read.Fault p → n ≡ whole
     unfolding countOf
-    count-cut h d = rw (read-fault-says s at r e h d, add-zero) at left
+    count-cut h fits d = rw (member-fault s at end r e d h fits, add-zero) at left
 
     module _ (a : Avp) (d : r ≡ read.Avp a) (x : Bool) (ex : x ≡ fits m (ownOf s a)) where
-      pub count-one : x ≡ true → n + 1 + countOf m (walk (drop (a .next) s)) ≡ whole
+      pub count-one : x ≡ true → n + 1 + countOf m (walk (between s (a .next) end)) ≡ whole
       unfolding countOf
-      count-one t = omega (arith, rw (read-says s at r e a d .walked, ← ex, t) at left)
+      count-one t = omega (arith, rw (member-walked s at end r e a d, ← ex, t) at left)
 
-      pub count-other : x ≡ false → n + countOf m (walk (drop (a .next) s)) ≡ whole
+      pub count-other : x ≡ false → n + countOf m (walk (between s (a .next) end)) ≡ whole
       unfolding countOf
-      count-other t = rw (read-says s at r e a d .walked, ← ex, t) at left
+      count-other t = rw (member-walked s at end r e a d, ← ex, t) at left
 
-pub only-end : (s : List ℕ) (at : ℕ) (ms : List Member) (whole : Bool) → onlyOf ms (walk (drop at s)) ≡ whole → length s ≤ at → true ≡ whole
+pub only-end : (s : List ℕ) (at end : ℕ) (ms : List Member) (whole : Bool) → onlyOf ms (walk (between s at end)) ≡ whole → end ≤ at → true ≡ whole
 unfolding onlyOf
-only-end s at ms whole left h = rw (walk-past s at h) at left
+only-end s at end ms whole left h = rw (member-past s at end h) at left
 
-pub count-end : (s : List ℕ) (at : ℕ) (m : Member) (n whole : ℕ) → n + countOf m (walk (drop at s)) ≡ whole → length s ≤ at → n ≡ whole
+pub count-end : (s : List ℕ) (at end : ℕ) (m : Member) (n whole : ℕ) → n + countOf m (walk (between s at end)) ≡ whole → end ≤ at → n ≡ whole
 unfolding countOf
-count-end s at m n whole left h = rw (walk-past s at h, add-zero) at left
+count-end s at end m n whole left h = rw (member-past s at end h, add-zero) at left
 
-pub count-start : (s : List ℕ) (m : Member) → 0 + countOf m (walk (drop 0 s)) ≡ countOf m (walk s)
-count-start s m = zero-add (countOf m (walk s))
+pub count-room : (at : ℕ) (t : List ℕ) (r : Read) → r ≡ readOf at t → (a : Avp) → r ≡ read.Avp a → (n : ℕ) → n ≤ at → n + 1 ≤ a .next
+count-room at t r e a d n h = omega (arith, read-later at t r e a d)
 
-pub count-room : (s : List ℕ) (at : ℕ) (r : Read) → r ≡ readOf at (drop at s) → (a : Avp) → r ≡ read.Avp a → (n : ℕ) → n ≤ at → n + 1 ≤ a .next
-count-room s at r e a d n h = omega (arith, read-says s at r e a d .later)
+pub count-start : (s : List ℕ) (from end : ℕ) (m : Member) → 0 + countOf m (walk (between s from end)) ≡ countOf m (walk (between s from end))
+count-start s from end m = zero-add (countOf m (walk (between s from end)))
 
 -- "one", or "one or more"
-module _ (m : Member) (s : List ℕ) (n : ℕ) (en : n ≡ countOf m (walk s)) where
-  pub enough-many : m .many ≡ true → leb 1 n ≡ enough m (walk s)
+module _ (m : Member) (w : Walk) (n : ℕ) (en : n ≡ countOf m w) where
+  pub enough-many : m .many ≡ true → leb 1 n ≡ enough m w
   unfolding enough
   enough-many t = ap (λ (k : ℕ). leb 1 k) en ∙ rw t
 
-  pub enough-one : m .many ≡ false → eqb n 1 ≡ enough m (walk s)
+  pub enough-one : m .many ≡ false → eqb n 1 ≡ enough m w
   unfolding enough
   enough-one t = ap (λ (k : ℕ). eqb k 1) en ∙ rw t

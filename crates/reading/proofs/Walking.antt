@@ -3,16 +3,15 @@ use Prim.Native.Nat.{ℕ, _-_, _<_, _≤_}
 use mathlib.Core.Path.{_≡_}
 use mathlib.Core.List.{List}
 use native.Mathlib.Omega.{arith}
-use lib.ListN.{length, drop}
 use Rattle.diameter.specs.Reader.{readOf}
 use Rattle.diameter.specs.declared.Avp.{Avp}
 use Rattle.diameter.specs.declared.Read.{Read}
 use Rattle.diameter.specs.declared.Read.the-variants as read
-use Rattle.diameter.proofs.Reading.{read-says}
+use Rattle.diameter.proofs.Reading.{read-later}
 
-module _ (s : List ℕ) (at : ℕ) (r : Read) (e : r ≡ readOf at (drop at s)) (a : Avp) (d : r ≡ read.Avp a) where
-  pub read-less : at < length s → length s - a .next < length s - at
-  read-less h = omega (arith, read-says s at r e a d .later)
+module _ (at : ℕ) (t : List ℕ) (r : Read) (e : r ≡ readOf at t) (a : Avp) (d : r ≡ read.Avp a) where
+  pub read-less : {n : ℕ} → at < n → n - a .next < n - at
+  read-less h = omega (arith, read-later at t r e a d)
 
   pub read-from : (n : ℕ) → n ≤ at → n ≤ a .next
-  read-from n h = omega (arith, read-says s at r e a d .later)
+  read-from n h = omega (arith, read-later at t r e a d)

@@ -6,9 +6,12 @@ use crate::Member;
 use crate::plain;
 use diameter::Avp;
 use diameter::Read;
+use diameter::Span;
 ghost use mathlib.Core.Path.{_≡_};
+ghost use Prim.Native.Nat.{_≤_};
 ghost use lib.ListN.{length, getD};
-ghost use Rattle.diameter.specs.Reader.{ownOf, Here};
+ghost use Rattle.diameter.specs.Avp.{dataOf};
+ghost use Rattle.diameter.specs.Reader.{between, ownOf, Here};
 ghost use Rattle.diameter.specs.Walk.{walk};
 ghost use Rattle.reading.specs.Groups.{member, nobody, applicationMembers, itemMembers, membersOf, isOf, fits, isOther, onlyOf, countOf, enough, gathers};
 
@@ -107,13 +110,14 @@ fn is_other(d: Dialect, g: Group, s: &[u8], a: Avp) -> bool
     other
 }
 
-// Whether all AVPs are whole, and each is one of the members.
-fn only_of(d: Dialect, g: Group, s: &[u8]) -> bool
-    ensures { λ r. ⌜ r ≡ onlyOf (membersOf d g) (walk (now (s .entry))) ⌝ }
+// Whether all AVPs in a group's span are whole, and each is one of its members. They are read in the message, up to the span's end.
+fn only_of(d: Dialect, g: Group, s: &[u8], span: Span) -> bool
+    requires { ⌜ span .end ≤ length (now s) ⌝ }
+    ensures { λ r. ⌜ r ≡ onlyOf (membersOf d g) (walk (between (now (s .entry)) (span .from) (span .end))) ⌝ }
 {
-    let mut at = 0;
-    while at < s.len() {
-        let Read::Avp(a) = diameter::read_avp(s, at) else {
+    let mut at = span.from;
+    while at < span.end {
+        let Read::Avp(a) = diameter::read_before(s, at, span.end) else {
             return false;
         };
         if is_other(d, g, s, a) {
@@ -124,14 +128,15 @@ fn only_of(d: Dialect, g: Group, s: &[u8]) -> bool
     true
 }
 
-// How many AVPs are a member.
-fn count_of(m: Member, s: &[u8]) -> usize
-    ensures { λ r. ⌜ r ≡ countOf m (walk (now (s .entry))) ⌝ }
+// How many of them are a member.
+fn count_of(m: Member, s: &[u8], span: Span) -> usize
+    requires { ⌜ span .end ≤ length (now s) ⌝ }
+    ensures { λ r. ⌜ r ≡ countOf m (walk (between (now (s .entry)) (span .from) (span .end))) ⌝ }
 {
     let mut n = 0;
-    let mut at = 0;
-    while at < s.len() {
-        let Read::Avp(a) = diameter::read_avp(s, at) else {
+    let mut at = span.from;
+    while at < span.end {
+        let Read::Avp(a) = diameter::read_before(s, at, span.end) else {
             return n;
         };
         if fits(m, s, a) {
@@ -143,26 +148,29 @@ fn count_of(m: Member, s: &[u8]) -> usize
 }
 
 // "one", or "one or more"
-fn enough(m: Member, s: &[u8]) -> bool
-    ensures { λ r. ⌜ r ≡ enough m (walk (now (s .entry))) ⌝ }
+fn enough(m: Member, s: &[u8], span: Span) -> bool
+    requires { ⌜ span .end ≤ length (now s) ⌝ }
+    ensures { λ r. ⌜ r ≡ enough m (walk (between (now (s .entry)) (span .from) (span .end))) ⌝ }
 {
-    let n = count_of(m, s);
+    let n = count_of(m, s, span);
     if m.many {
         return 1 <= n;
     }
     n == 1
 }
 
-// Whether a group's data are its members.
-pub fn gathers(d: Dialect, g: Group, s: &[u8]) -> bool
-    ensures { λ r. ⌜ r ≡ gathers (membersOf d g) (walk (now (s .entry))) ⌝ }
+// Whether an AVP's data are the members of a group.
+pub fn gathers(d: Dialect, g: Group, s: &[u8], a: Avp) -> bool
+    requires { ⌜ Here (now s) a ⌝ }
+    ensures { λ r. ⌜ r ≡ gathers (membersOf d g) (walk (dataOf (ownOf (now (s .entry)) a))) ⌝ }
 {
+    let span = diameter::span_of(s, a);
     let n = size_of(d, g);
     let mut all = true;
     let mut k = 0;
     while k < n {
-        all = all & enough(member_of(d, g, k), s);
+        all = all & enough(member_of(d, g, k), s, span);
         k += 1;
     }
-    all & only_of(d, g, s)
+    all & only_of(d, g, s, span)
 }

@@ -40,19 +40,19 @@ module _ (s : List ℕ) (from at : ℕ) (reached : from ≤ at) (left : placesFr
   named-end h = record { rest = sym left ∙ rw (walk-past s at h); stands = tt }
 
   module _ (r : Read) (e : r ≡ readOf at (drop at s)) where
-    pub named-cut : r ≡ read.Fault → Named s from Nothing
+    pub named-cut : {p : ℕ} → r ≡ read.Fault p → Named s from Nothing
     unfolding placesFrom placesBy
     named-cut d = record { rest = sym left ∙ sym (at-fault (placesFrom at) [] (drop at s) (read-unsound s at r e d) refl refl); stands = tt }
 
     module _ (a : Avp) (k : ℕ) (d : r ≡ read.Avp a) (ek : k ≡ kindOf (ownOf s a)) where
-      pub named-at : at < length s → k ≡ publicIdentity → Named s from (At at (a .next))
+      pub named-at : at < length s → k ≡ publicIdentity → Named s from (At (a .at) (a .next))
       unfolding placesBy
       named-at h z =
           let says = read-says s at r e a d in
-          record {
+          rw (says .placed) (record {
             rest = sym left ∙ places-walked s at a says ∙ rw (← ek, z);
             stands = record { sounds = says .sounds; reached = reached; inside = h; later = says .later };
-          }
+          })
 
       pub named-more : (k ≡ publicIdentity → ⊥) → placesFrom (a .next) (walk (drop (a .next) s)) ≡ placesFrom from (walk (drop from s))
       named-more z = rw (places-walked s at a (read-says s at r e a d), ← ek, ne-eqb _ _ z) at left

@@ -41,7 +41,7 @@ module _ (s places : List ℕ) (k : ℕ) (room : k < length places) where
 
 -- the number at a place
 module _ (s : List ℕ) (at : ℕ) (r : Read) (e : r ≡ readOf at (drop at s)) where
-  pub place-empty : r ≡ read.Fault → 0 ≡ valueIf (partAt s at)
+  pub place-empty : {p : ℕ} → r ≡ read.Fault p → 0 ≡ valueIf (partAt s at)
   place-empty d = rw (read-none s at r e d)
 
   pub place-value : (a : Avp) (v : ℕ) → r ≡ read.Avp a → v ≡ valueOf (ownOf s a) → v ≡ valueIf (partAt s at)

@@ -62,10 +62,10 @@ at-fault f x (y ∷ t) e a b = rw (walk-faulty (y ∷ t) e (omega arith)) (sym b
 
 -- the first AVP
 module _ (s : List ℕ) (r : Read) (e : r ≡ readOf 20 (drop 20 s)) where
-  pub first-none : r ≡ read.Fault → false ≡ firstOther (bodyOf s)
+  pub first-none : {p : ℕ} → r ≡ read.Fault p → false ≡ firstOther (bodyOf s)
   first-none d = at-fault firstOther false (drop 20 s) (read-unsound s 20 r e d) refl refl
 
-  pub session-none : r ≡ read.Fault → [] ≡ sessionOf (bodyOf s)
+  pub session-none : {p : ℕ} → r ≡ read.Fault p → [] ≡ sessionOf (bodyOf s)
   session-none d = at-fault sessionOf [] (drop 20 s) (read-unsound s 20 r e d) refl refl
 
   module _ (a : Avp) (k : ℕ) (d : r ≡ read.Avp a) (ek : k ≡ kindOf (ownOf s a)) where

@@ -1,15 +1,17 @@
 -- The scheme that a MAR asks for: a 612 that was taken holds one AVP, a 608, and the scheme is its data.
-use Prim.Native.Nat.{ℕ}
+use Prim.Native.Nat.{ℕ, _<_}
 use mathlib.Core.Path.{_≡_, refl, sym, _∙_}
 use mathlib.Core.List.{List, [], _∷_}
 use mathlib.Core.Option.{Option, none, some}
 use mathlib.Core.Bool.{Bool, true, false, cond, true≢false}
 use native.Mathlib.Omega.{arith}
-use lib.ListN.{getD, take}
+use lib.ListN.{length, getD, take}
 use Rattle.diameter.specs.Avp.{avpLen, dataOf, sound}
 use Rattle.diameter.specs.Walk.{Walk, ended, faulty, avp, onSound, walkFrom, walk}
 use Rattle.diameter.specs.Message.{commandOf}
-use Rattle.diameter.specs.Reader.{present, avpOf, dataAt}
+use Rattle.diameter.specs.Reader.{between, present, avpOf, dataAt, Spans}
+use Rattle.diameter.specs.declared.Span.{Span}
+use Rattle.diameter.proofs.Parts.{data-there}
 use Rattle.reading.specs.declared.Content.the-variants.{Free}
 use Rattle.reading.specs.declared.Dialect.{Dialect}
 use Rattle.reading.specs.declared.Member.{Member}
@@ -20,11 +22,15 @@ use Rattle.reading.specs.Rules.{Seen, contentFault}
 use Rattle.reading.proofs.Alone.{Alone, gathers-alone}
 use Rattle.requests.specs.Judged.{fine}
 use Rattle.requests.specs.Request.{dialectOf, cx, readRequest, given, dataIf, dataSeen, schemeOf}
+use Rattle.requests.proofs.Placed.{data-in}
 use Rattle.requests.proofs.Kept.{read-kept, read-needed, no-fault}
 
--- what the code reads at the places
-pub scheme-placed : (s places : List ℕ) {item d : List ℕ} → item ≡ dataSeen (seenOf s places) authDataItem → d ≡ dataAt item 0 → d ≡ schemeOf (seenOf s places)
-scheme-placed s places e f = f ∙ rw e
+-- what the code reads in the data of the AVP at the item's place
+pub scheme-placed : (s places : List ℕ) (p q : Span) (b : List ℕ) → authDataItem < length places
+    → Spans s (dataAt (between s (getD places authDataItem 0) (length s)) 0) p → Spans s (dataAt (between s (p .from) (p .end)) 0) q
+    → b ≡ between s (q .from) (q .end) → b ≡ schemeOf (seenOf s places)
+scheme-placed s places p q b room i j e =
+    e ∙ j .holds ∙ rw (data-in s places authDataItem room, ← data-there s (getD places authDataItem 0) p (between s (p .from) (p .end)) i refl)
 
 -- the first AVP of a walk stands at the front
 front-of : (t a : List ℕ) (w : Walk) → walk t ≡ avp a w → avpOf t ≡ some a

@@ -5,11 +5,11 @@ use mathlib.Core.List.{List, [], _∷_, map}
 use native.Mathlib.Omega.{arith}
 use lib.ListN.{length, drop, set, replicate}
 use Rattle.diameter.specs.Walk.{walk}
-use Rattle.diameter.specs.Reader.{readOf, partAt, ownOf}
+use Rattle.diameter.specs.Reader.{readOf, beginsAt, partAt, ownOf}
 use Rattle.diameter.specs.declared.Avp.{Avp}
 use Rattle.diameter.specs.declared.Read.{Read}
 use Rattle.diameter.specs.declared.Read.the-variants as read
-use Rattle.diameter.proofs.Reading.{Says, read-says, read-fault-says, walk-past, none-past}
+use Rattle.diameter.proofs.Reading.{Says, read-begins, read-says, read-fault-says, walk-past, none-past}
 use Rattle.diameter.proofs.Parts.{says-next}
 use Rattle.reading.specs.declared.Ruled.{Ruled}
 use Rattle.reading.specs.declared.Ruled.the-variants as ruled
@@ -40,24 +40,28 @@ module _ (s places : List ℕ) (dialect : Dialect) (at : ℕ) (whole : Judged) (
   turn-end w h a = accepted-is s places w a ∙ rw (walk-past s at h) at left
 
   module _ (r : Read) (e : r ≡ readOf at (drop at s)) where
-    pub turn-cut : (w : Walked) → at < length s → r ≡ read.Fault → Refuses (faultAt 5014 at) w → judgedOf s w ≡ whole
-    unfolding judge
-    turn-cut w h d f = refused-is s (faultAt 5014 at) w f ∙ rw (read-fault-says s at r e h d) at left
+    module _ (place : ℕ) (ep : place ≡ beginsAt r) where
+      abbrev placed : place ≡ at
+      placed = ep ∙ read-begins at (drop at s) r e
 
-    module _ (a : Avp) (x : Ruled) (d : r ≡ read.Avp a) (ex : x ≡ rule dialect (seenOf s places) (ownOf s a)) where
-      abbrev says : Says s at a
-      says = read-says s at r e a d
-
-      turned : onRule x (seenOf s places) (ownOf s a) at (judge dialect (a .next) (walk (drop (a .next) s))) ≡ whole
+      pub turn-cut : (w : Walked) {p : ℕ} → at < length s → r ≡ read.Fault p → Refuses (faultAt 5014 place) w → judgedOf s w ≡ whole
       unfolding judge
-      turned = rw (says .walked, says-next s at a says, ← ex) at left
+      turn-cut w h d f = refused-is s (faultAt 5014 place) w f ∙ rw placed (rw (read-fault-says s at r e d h) at left)
 
-      pub turn-bad : (n : ℕ) (w : Walked) → x ≡ ruled.Fault n → Refuses (faultAt n at) w → judgedOf s w ≡ whole
-      turn-bad n w z f = refused-is s (faultAt n at) w f ∙ rw z at turned
+      module _ (a : Avp) (x : Ruled) (d : r ≡ read.Avp a) (ex : x ≡ rule dialect (seenOf s places) (ownOf s a)) where
+        abbrev says : Says s at a
+        says = read-says s at r e a d
 
-      pub turn-taken : (k : ℕ) → k ≡ kindOf (ownOf s a) → x ≡ ruled.Taken
-          → judge dialect (a .next) (walk (drop (a .next) s)) (seenOf s (set places k at)) ≡ whole
-      turn-taken k ek z = rw (map-set (partAt s) places k at, says .part, ek) (rw z at turned)
+        turned : onRule x (seenOf s places) (ownOf s a) at (judge dialect (a .next) (walk (drop (a .next) s))) ≡ whole
+        unfolding judge
+        turned = rw (says .walked, says-next s at a says, ← ex) at left
 
-      pub turn-skipped : x ≡ ruled.Skipped → judge dialect (a .next) (walk (drop (a .next) s)) (seenOf s places) ≡ whole
-      turn-skipped z = rw z at turned
+        pub turn-bad : (n : ℕ) (w : Walked) → x ≡ ruled.Fault n → Refuses (faultAt n place) w → judgedOf s w ≡ whole
+        turn-bad n w z f = refused-is s (faultAt n place) w f ∙ rw placed (rw z at turned)
+
+        pub turn-taken : (k : ℕ) → k ≡ kindOf (ownOf s a) → x ≡ ruled.Taken
+            → judge dialect (a .next) (walk (drop (a .next) s)) (seenOf s (set places k place)) ≡ whole
+        turn-taken k ek z = rw (placed, map-set (partAt s) places k at, says .part, ek) (rw z at turned)
+
+        pub turn-skipped : x ≡ ruled.Skipped → judge dialect (a .next) (walk (drop (a .next) s)) (seenOf s places) ≡ whole
+        turn-skipped z = rw z at turned

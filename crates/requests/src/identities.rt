@@ -20,7 +20,7 @@ pub fn next_identity(s: &[u8], from: usize) -> Next
         };
         if kinds::kind_of(s, a) == kinds::PUBLIC_IDENTITY {
             return Next::At {
-                place: at,
+                place: a.at,
                 past: a.next,
             };
         }

@@ -47,5 +47,6 @@ pub fn value_of(req: &[u8], places: [usize; kinds::KINDS], k: usize) -> u32
 pub fn scheme_of(req: &[u8], places: [usize; kinds::KINDS]) -> &[u8]
     ensures { λ r. ⌜ (now r ≡ schemeOf (seenOf (now (req .entry)) places)) × (length (now r) ≤ length (now (req .entry))) ⌝ }
 {
-    diameter::data_at(data_of(req, places, kinds::AUTH_DATA_ITEM), 0)
+    let item = diameter::span_at(req, places[kinds::AUTH_DATA_ITEM], req.len());
+    diameter::part(req, diameter::span_at(req, item.from, item.end))
 }

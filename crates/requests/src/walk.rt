@@ -46,7 +46,7 @@ pub fn accept(places: [usize; kinds::KINDS]) -> Walked
     }
 }
 
-// The walk over the AVPs, up to the first fault.
+// The walk over the AVPs, up to the first fault. Each place that it gives back is the reader's.
 pub fn walk_message(s: &[u8], d: Dialect) -> Walked
     ensures { λ r. ⌜ judgedOf (now (s .entry)) r ≡ judge d 20 (walk (drop 20 (now (s .entry)))) nothing ⌝ }
 {
@@ -54,14 +54,16 @@ pub fn walk_message(s: &[u8], d: Dialect) -> Walked
     let mut places = [absent; kinds::KINDS];
     let mut at = message::BODY;
     while at < s.len() {
-        let Read::Avp(a) = diameter::read_avp(s, at) else {
-            return refuse(faults::INVALID_AVP_LENGTH, at, 0);
+        let read = diameter::read_avp(s, at);
+        let place = diameter::begins(read);
+        let Read::Avp(a) = read else {
+            return refuse(faults::INVALID_AVP_LENGTH, place, 0);
         };
         let k = kinds::kind_of(s, a);
         match rules::rule_at(s, d, places, a, k) {
-            Ruled::Taken => places[k] = at,
+            Ruled::Taken => places[k] = place,
             Ruled::Skipped => {}
-            Ruled::Fault(n) => return refuse(n, at, 0),
+            Ruled::Fault(n) => return refuse(n, place, 0),
         }
         at = a.next;
     }

@@ -1,5 +1,4 @@
-use Rattle.diameter.proofs.Reading.{read-here}
-use Rattle.diameter.proofs.Parts.{data-none, data-whole}
+use Rattle.diameter.proofs.Parts.{data-there}
 use borrow.Author.Needs.{needs}
 use Rattle.diameter.proofs.data_at.Statement.{statement}
 use Rattle.diameter.proofs.data_at.Tie as tie
@@ -9,9 +8,5 @@ data-at-spec =
     tie.close
     (tie.spec
     (λ c κs. search needs)
-    (λ c. search needs)
-    (λ c. search needs)
-    (λ c. search needs)
-    (λ c. search (needs, data-none))
-    (λ c κs. search (needs, read-here))
-    (λ c. search (needs, data-whole)))
+    (λ c κs. search needs)
+    (λ c. search (needs, data-there)))

@@ -1,8 +1,8 @@
 use Prim.Native.Nat.{_+_, _-_, _≤_}
 use mathlib.Core.Path.{_≡_}
-use lib.ListN.{length, drop}
+use Rattle.diameter.specs.Reader.{between}
 use Rattle.diameter.specs.Walk.{walk}
-use Rattle.diameter.proofs.Reading.{read-here}
+use Rattle.diameter.proofs.Parts.{member-here}
 use Rattle.reading.specs.Groups.{countOf}
 use Rattle.reading.proofs.Walking.{read-less, read-from}
 use Rattle.reading.proofs.Members.{count-start, count-cut, count-one, count-other, count-room, count-end}
@@ -11,10 +11,11 @@ use Rattle.reading.proofs.group.count_of.Statement.{statement}
 use Rattle.reading.proofs.group.count_of.Tie as tie
 
 abbrev Inv-loop : tie.InvT-loop
-Inv-loop m s n₀ at₀ n at = (n ≤ at) × (n + countOf m (walk (drop at s)) ≡ countOf m (walk s))
+Inv-loop m s span n₀ at₀ n at =
+    (n ≤ at) × (n + countOf m (walk (between s at (span .end))) ≡ countOf m (walk (between s (span .from) (span .end))))
 
 abbrev μ-loop : tie.MeasureT-loop
-μ-loop m s n₀ at₀ n at = length s - at
+μ-loop m s span n₀ at₀ n at = span .end - at
 
 pub count-of-spec : {M : Type 1} → statement M
 count-of-spec =
@@ -27,7 +28,7 @@ count-of-spec =
     (λ c. search needs)
     (λ c. search needs)
     (λ c. search (needs, count-cut))
-    (λ c κs. search (needs, read-here))
+    (λ c κs. search (needs, member-here))
     (λ c. search needs)
     (λ c. search (needs, read-less))
     (λ c. search (needs, count-one, count-room))

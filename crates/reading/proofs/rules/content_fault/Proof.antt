@@ -16,7 +16,6 @@ content-fault-spec =
     (λ c. search needs)
     (λ c κs. search needs)
     (λ c κs. search needs)
-    (λ c κs. search needs)
     (λ c. search (needs, content-free))
     (λ c. search (needs, content-number))
     (λ c. search (needs, content-sized))

@@ -27,6 +27,7 @@ walk-message-spec =
     μ-loop
     (λ c. search (needs, nothing-seen))
     (λ c κs. search needs)
+    (λ c κs. search needs)
     (λ c. search needs)
     (λ c. search needs)
     (λ c κs. search needs)
