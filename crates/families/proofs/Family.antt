@@ -9,10 +9,10 @@ use lib.ListN.{getD, take, set}
 use Rattle.octets.specs.Run.{over}
 use Rattle.record.specs.Fields.{editionOf}
 use Rattle.record.specs.Sets.{sameSet, agreeing}
-use Rattle.table.specs.Blocks.{blockOf}
+use Rattle.blocks.specs.Blocks.{blockOf}
 use Rattle.table.specs.Check.{checkTable}
-use Rattle.table.specs.declared.Checked.{Checked}
-use Rattle.table.specs.declared.Checked.the-variants.{Sound, Bad}
+use Rattle.blocks.specs.declared.Checked.{Checked}
+use Rattle.blocks.specs.declared.Checked.the-variants.{Sound, Bad}
 use Rattle.vectors.specs.VectorFile.{checkVectors}
 use Rattle.pen.specs.Bytes.{avpBytes, vendorBytes, numberBytes, vendorNumber}
 use Rattle.calling.specs.Lent.{Lent, lent}

@@ -7,8 +7,8 @@ use mathlib.Core.Option.{Option·some-injective}
 use native.Mathlib.Omega.{arith}
 use lib.ListN.{getD}
 use lib.Dec.{lit≤, lit<}
-use Rattle.table.specs.Blocks.{blockOf}
-use Rattle.table.specs.declared.Checked.the-variants.{Sound}
+use Rattle.blocks.specs.Blocks.{blockOf}
+use Rattle.blocks.specs.declared.Checked.the-variants.{Sound}
 use Rattle.table.specs.Check.{checkTable}
 use Rattle.diameter.specs.Put.{Piece}
 use Rattle.pen.specs.Bytes.{numberBytes}

@@ -5,7 +5,7 @@ use mathlib.Core.List.{List, [], _++_}
 use lib.ListN.{take, set}
 use lib.Dec.{lit<}
 use Rattle.octets.specs.Run.{over}
-use Rattle.table.specs.declared.Checked.the-variants.{Sound}
+use Rattle.blocks.specs.declared.Checked.the-variants.{Sound}
 use Rattle.table.specs.Check.{checkTable}
 use Rattle.pen.specs.Bytes.{numberBytes}
 use Rattle.moving.specs.Moves.{moved, movedAll, noSet, firstSet}

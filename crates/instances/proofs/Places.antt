@@ -12,7 +12,7 @@ use Rattle.reading.specs.declared.Outcome.the-variants.{Base}
 use Rattle.requests.specs.Judged.{nothing}
 use Rattle.calling.specs.Lent.{Lent, lent}
 use Rattle.calling.specs.Serve.{Served, serve, resultOf}
-use Rattle.table.specs.declared.Checked.the-variants.{Sound}
+use Rattle.blocks.specs.declared.Checked.the-variants.{Sound}
 use Rattle.ndushavire.specs.Word.{word, callPlace, callWord}
 use Rattle.ndushavire.specs.Reads.{placeIn}
 use Rattle.worked.proofs.Computed.{known, come, held, roomy, no-vectors}

@@ -8,9 +8,9 @@ use native.Mathlib.Omega.{arith}
 use lib.ListN.{length, getD}
 use lib.Dec.{lit<}
 use Rattle.octets.specs.Run.{over}
-use Rattle.table.specs.Blocks.{blockOf}
-use Rattle.table.specs.declared.Checked.{Checked}
-use Rattle.table.specs.declared.Checked.the-variants.{Sound}
+use Rattle.blocks.specs.Blocks.{blockOf}
+use Rattle.blocks.specs.declared.Checked.{Checked}
+use Rattle.blocks.specs.declared.Checked.the-variants.{Sound}
 use Rattle.table.specs.Check.{checkTable}
 use Rattle.vectors.specs.Chosen.{howMany, sentOf}
 use Rattle.vectors.specs.VectorFile.{checkVectors}

@@ -6,8 +6,8 @@ use mathlib.Core.Bool.{false}
 use lib.ListN.{length, set}
 use lib.Dec.{ltb, lit≤}
 use Rattle.octets.specs.Run.{over}
-use Rattle.table.specs.declared.Checked.{Checked}
-use Rattle.table.specs.declared.Checked.the-variants.{Sound}
+use Rattle.blocks.specs.declared.Checked.{Checked}
+use Rattle.blocks.specs.declared.Checked.the-variants.{Sound}
 use Rattle.table.specs.Check.{checkTable}
 use Rattle.rewrite.specs.Change.{differ, alteredUpTo}
 use Rattle.diameter.specs.Put.{All}

@@ -7,8 +7,8 @@ use lib.ListN.{length, take, replicate, set}
 use lib.Dec.{ltb}
 use Rattle.octets.specs.Run.{over}
 use Rattle.octets.specs.Sum.{sumWords}
-use Rattle.table.specs.declared.Checked.{Checked}
-use Rattle.table.specs.declared.Checked.the-variants.{Sound, Bad}
+use Rattle.blocks.specs.declared.Checked.{Checked}
+use Rattle.blocks.specs.declared.Checked.the-variants.{Sound, Bad}
 use Rattle.table.specs.Check.{checkTable}
 use Rattle.blocks.specs.Sealed.{sealed}
 use Rattle.pen.specs.Bytes.{vendorHead, avpBytes, numberBytes}

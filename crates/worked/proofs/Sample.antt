@@ -12,8 +12,10 @@ use Rattle.record.specs.HeaderBlock.{headerOf, soundHeader}
 use Rattle.record.specs.Networks.{networkOf, usedPlace, soundPlace, sameByte, otherPlace, newPlace, soundNetworks}
 use Rattle.record.specs.RecordBlock.{recordOf, soundRecord}
 use Rattle.record.specs.Sets.{sameSet, agreeing}
-use Rattle.table.specs.Blocks.{blockOf, tableOf, publicAt, privateAt}
-use Rattle.table.specs.Check.{risesAt, standsAt, agreesWith, agreesAt, soundAt, firstBad, checkRecords, checkTable}
+use Rattle.blocks.specs.Blocks.{blockOf, tableOf}
+use Rattle.table.specs.Named.{publicAt, privateAt}
+use Rattle.blocks.specs.Blocks.{firstBad}
+use Rattle.table.specs.Check.{risesAt, standsAt, agreesWith, agreesAt, soundAt, checkRecords, checkTable}
 use Rattle.lookup.specs.Find.{firstFrom, publicIs, findPublic, privateIs, findPrivate, serverHere, servesAt, findServer, freeHere, freeAt, findFree}
 use Rattle.lookup.specs.Find.{barredAlone}
 use Rattle.lookup.specs.Network.{networkIs, seek, networkNumber, roamsIn, mayRoam}

@@ -1,4 +1,4 @@
--- The blocks of a table, the order of two that follow one another, and that a table is its blocks.
+-- The blocks of a file, and that a file is its blocks.
 use Prim.Native.Nat.{ℕ, zero, suc, _+_, _-_, _*_, _<_, _≤_}
 use mathlib.Core.Bool.{Bool, true, false}
 use mathlib.Core.Path.{_≡_, refl, sym, _∙_}
@@ -8,11 +8,8 @@ use native.Mathlib.Nat.{add-sub-cancel-left}
 use lib.Dec.{ltb}
 use lib.ListN.{length, take, drop, length-append, length-take, length-drop}
 use lib.Seq.{take-add, take-all, take-append-le, drop-append-le, drop-at}
-use borrow.Author.Tests.{ltb-true, ltb-false, le-leb, lt-leb}
-use Rattle.octets.specs.Name.{orderOf}
-use Rattle.record.specs.Fields.{publicOf}
-use Rattle.table.specs.Blocks.{blockOf, tableOf, publicAt}
-use Rattle.table.specs.Check.{isLess, risesAt}
+use borrow.Author.Tests.{ltb-true, ltb-false}
+use Rattle.blocks.specs.Blocks.{blockOf, tableOf}
 
 pub block-length : (t : List ℕ) (k : ℕ) → 512 * k + 512 ≤ length t → length (blockOf t k) ≡ 512
 unfolding blockOf
@@ -25,16 +22,6 @@ block-part t k = rw add-sub-cancel-left
 
 pub block-whole : (t : List ℕ) (k : ℕ) → 512 * k + 512 ≤ length t → length (take (512 * k + 512 - 512 * k) (drop (512 * k) t)) ≡ 512
 block-whole t k h = rw block-part (block-length t k h)
-
--- The first record follows none; a later one its neighbour.
-pub rises-first : (t : List ℕ) (k : ℕ) → k ≤ 1 → true ≡ risesAt t k
-unfolding risesAt
-rises-first t k h = rw (le-leb _ _ h)
-
-pub rises-later : (t : List ℕ) (k : ℕ) (a b : List ℕ) {x : Bool} → 1 < k → a ≡ blockOf t (k - 1) → b ≡ blockOf t k
-    → x ≡ isLess (orderOf (publicOf a) (publicOf b)) → x ≡ risesAt t k
-unfolding risesAt publicAt
-rises-later t k a b h ea eb e = rw (lt-leb _ _ h, ← ea, ← eb) e
 
 -- A table is its blocks.
 pub table-same : (f g : ℕ → List ℕ) (n : ℕ) → ((k : ℕ) → k < n → f k ≡ g k) → tableOf f n ≡ tableOf g n

@@ -1,7 +1,7 @@
-use Rattle.table.proofs.Blocks.{block-part, block-whole}
+use Rattle.blocks.proofs.Blocks.{block-part, block-whole}
 use borrow.Author.Needs.{needs}
-use Rattle.table.proofs.block.Statement.{statement}
-use Rattle.table.proofs.block.Tie as tie
+use Rattle.blocks.proofs.block.Statement.{statement}
+use Rattle.blocks.proofs.block.Tie as tie
 
 pub block-spec : {M : Type 1} → statement M
 block-spec =
