@@ -622,6 +622,13 @@ def declined(room):
     said("NOT taken over, .*: its folder: another daemon has it", 1)
     os.close(folder)
     room.logged("a new table is taken over, 5 records")
+    # By a disk that has room again.
+    room.pair("sixth", households(6))
+    open(room.at("disk-full"), "w").close()
+    room.link("sixth")
+    said("NOT taken over, .*: table: No space left on device", 1)
+    os.unlink(room.at("disk-full"))
+    room.logged("a new table is taken over, 6 records")
     room.end()
 
 

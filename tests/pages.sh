@@ -1,6 +1,6 @@
 #!/usr/bin/env bash
 # pages.sh: make help has a line for each target and no other; every `make X` that a page names is a target; README.md names the kit that
-# KIT-ID pins, the header's version and the Rust that reference/Cargo.toml asks for; the map in docs/ARCHITECTURE.md has every crate, and no arrow that crates.txt has not;
+# KIT-ID pins and the Rust that reference/Cargo.toml asks for; the map in docs/ARCHITECTURE.md has every crate, and no arrow that crates.txt has not;
 # a file of crates/ that a page names is there; no line of a page has 200 characters.
 set -euo pipefail
 cd "$(dirname "$0")/.."
@@ -17,8 +17,6 @@ for name in $named; do
     grep -q -x -F -e "$name" <<<"$targets" || fail "a page names \`make $name\`, which is no target"
 done
 grep -q -F "\`$(cat KIT-ID)\`" README.md || fail "README.md does not name the kit '$(cat KIT-ID)'"
-version=$(sed -n 's/^#define NDUSHAVIRE_VERSION "\(.*\)"$/\1/p' include/ndushavire.h)
-grep -q -F "This is $version," README.md || fail "README.md does not name version $version"
 rust=$(sed -n 's/^rust-version = "\(.*\)"$/\1/p' reference/Cargo.toml)
 grep -q -F "rustc $rust or newer" README.md || fail "README.md does not ask for rustc $rust"
 map=$(sed -n '/^## The map/,/^[A-Z][a-z]* the left/p' docs/ARCHITECTURE.md | grep -E '^    ')
