@@ -12,8 +12,8 @@ SHELL := /bin/bash
 endif
 .DELETE_ON_ERROR:
 export PYTHONDONTWRITEBYTECODE := 1
-.PHONY: help run test quick clean fmt kit pages header examples tables texts aims stores programs reference installs cited narrow bench stack installable install uninstall
-.PHONY: unsound reports moves daemon peers differential noticed soak mutants stats definitions-check cases
+.PHONY: help run test clean fmt kit pages header examples tables texts aims stores programs reference installs cited narrow bench stack installable install uninstall
+.PHONY: quick unsound reports moves daemon peers differential noticed soak mutants stats definitions-check cases
 
 MACHINE := $(shell uname -m)
 ifeq ($(MACHINE),x86_64)
@@ -71,7 +71,7 @@ target/bin/%: $(PROVED)
 PARTS := stores differential daemon reference tables narrow texts examples installs cited programs noticed pages kit fmt header aims unsound reports moves
 MADE := $(ARCHIVE) $(BINARY)
 JOBS := $(shell nproc)
-#: test               every test from fmt to differential below, JOBS=2 at a time on two processors: 7 minutes once the library is proved, 20 under an emulator
+#: test               every test from fmt to differential below, as many at a time as there are processors (JOBS=N): 3 to 5 minutes on two once all is proved
 test:
 	@mkdir -p target/test
 	@rm -f target/test/times
@@ -115,7 +115,7 @@ tables: target/c99/check target/cxx/check target/c/maketable target/c/showtable
 	RUN='$(RUN)' tests/refill.sh target/test/refill target/c/maketable target/c/showtable target/c99/check
 
 COUNT_texts := 2000
-#: texts              from a table or a vector file to text and back, over 2,000 random ones of each; half a minute
+#: texts              from a table or a vector file to text and back, over 2,000 random ones of each; 15 seconds. COUNT_texts=N for more
 texts: target/c/maketable target/c/showtable target/c/texts
 	tests/texts.sh target/test/texts target/c/maketable target/c/showtable target/c/texts $(SEED) $(COUNT_texts)
 
