@@ -13,7 +13,8 @@ endif
 .DELETE_ON_ERROR:
 export PYTHONDONTWRITEBYTECODE := 1
 .PHONY: help run test clean fmt kit pages header examples tables texts aims stores programs reference installs cited narrow bench stack installable install uninstall
-.PHONY: quick unsound reports moves daemon peers differential noticed soak mutants stats definitions-check cases
+.PHONY: unsound reports moves daemon peers differential noticed soak mutants stats definitions-check cases
+.PHONY: quick
 
 MACHINE := $(shell uname -m)
 ifeq ($(MACHINE),x86_64)
@@ -71,7 +72,7 @@ target/bin/%: $(PROVED)
 PARTS := stores differential daemon reference tables narrow texts examples installs cited programs noticed pages kit fmt header aims unsound reports moves
 MADE := $(ARCHIVE) $(BINARY)
 JOBS := $(shell nproc)
-#: test               every test from fmt to differential below, as many at a time as there are processors (JOBS=N): 3 to 5 minutes on two once all is proved
+#: test               every test from fmt to noticed below, as many at a time as there are processors (JOBS=N): 3 to 5 minutes on two once all is proved
 test:
 	@mkdir -p target/test
 	@rm -f target/test/times
