@@ -72,7 +72,7 @@ target/bin/%: $(PROVED)
 PARTS := stores differential daemon reference tables narrow texts examples installs recipes cited programs noticed pages kit fmt header aims unsound reports moves
 MADE := $(ARCHIVE) $(BINARY)
 JOBS := $(shell nproc)
-#: test               every test from fmt to differential below, JOBS=2 at a time on two processors: 7 minutes once the library is proved, 20 under an emulator
+#: test               every test from fmt to noticed below, as many at a time as there are processors (JOBS=N): 3 to 5 minutes on two once all is proved
 test:
 	@mkdir -p target/test
 	@rm -f target/test/times
@@ -115,7 +115,7 @@ tables: target/c99/check target/cxx/check target/c/maketable target/c/showtable
 	RUN='$(RUN)' tests/vectors.sh target/test/vectors target/c/maketable target/c/showtable target/c99/check target/cxx/check
 
 COUNT_texts := 2000
-#: texts              from a table or a vector file to text and back, over 2,000 random ones of each; half a minute
+#: texts              from a table or a vector file to text and back, over 2,000 random ones of each; 15 seconds. COUNT_texts=N for more
 texts: target/c/maketable target/c/showtable target/c/texts
 	tests/texts.sh target/test/texts target/c/maketable target/c/showtable target/c/texts $(SEED) $(COUNT_texts)
 

@@ -1,6 +1,7 @@
 #!/usr/bin/env bash
 # kit.sh ROOM: .ci/run refuses a kit that is not the one pinned in KIT-ID, names both, and does nothing else; with the pinned one
-# it goes on. The rt that it finds here only says a version, and every other command of it fails. Then the table of what its parts took.
+# it goes on. The rt that it finds here only says a version, and every other command of it fails. Then the table of what its parts took; and
+# make test has every part that make help lists for it.
 set -euo pipefail
 room=$1
 top=$(cd "$(dirname "$0")/.." && pwd)
@@ -69,4 +70,7 @@ The tests, s by the clock and of processor, what takes a second and more:
     90.5   25.0  tables
     40.2   21.2  texts
 END
+helped=$(sed -n 's/^#: \([a-z]*\) .*/\1/p' "$top/Makefile" | sed -n '/^fmt$/,/^noticed$/p' | sort)
+parts=$(sed -n 's/^PARTS := //p' "$top/Makefile" | tr ' ' '\n' | sort)
+diff <(echo "$helped") <(echo "$parts") >&2 || fail 'make test has other parts than make help lists from fmt to noticed'
 echo "kit.sh: .ci/run asks for $(cat "$top/KIT-ID"), and says what its parts took"
