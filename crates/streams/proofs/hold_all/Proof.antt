@@ -2,8 +2,8 @@ use Prim.Native.Nat.{_-_, _≤_}
 use mathlib.Core.Path.{_≡_}
 use lib.ListN.{length}
 use borrow.Author.Needs.{needs}
-use Rattle.cases.proofs.hold_all.Statement.{statement}
-use Rattle.cases.proofs.hold_all.Tie as tie
+use Rattle.streams.proofs.hold_all.Statement.{statement}
+use Rattle.streams.proofs.hold_all.Tie as tie
 
 abbrev Inv-loop : tie.InvT-loop
 Inv-loop given₀ w n fill at₀ s₀ given at s =

@@ -1,7 +1,7 @@
 use Prim.Native.Nat.{_-_, _≤_}
 use borrow.Author.Needs.{needs}
-use Rattle.cases.proofs.outcome.past_change.Statement.{statement}
-use Rattle.cases.proofs.outcome.past_change.Tie as tie
+use Rattle.streams.proofs.outcome.past_change.Statement.{statement}
+use Rattle.streams.proofs.outcome.past_change.Tie as tie
 
 abbrev Inv-loop : tie.InvT-loop
 Inv-loop before after from n end₀ end = (from ≤ end) × (end ≤ n)

@@ -1,7 +1,7 @@
 use Prim.Native.Nat.{_-_, _*_, _≤_}
 use borrow.Author.Needs.{needs}
-use Rattle.cases.proofs.words.start.Statement.{statement}
-use Rattle.cases.proofs.words.start.Tie as tie
+use Rattle.streams.proofs.words.start.Statement.{statement}
+use Rattle.streams.proofs.words.start.Tie as tie
 
 abbrev Inv-loop : tie.InvT-loop
 Inv-loop w s at₀ i₀ at i = (i ≤ s) × (s ≤ 16) × (at ≤ i * 1073741824)

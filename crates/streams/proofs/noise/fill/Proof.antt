@@ -2,8 +2,8 @@ use Prim.Native.Nat.{_-_, _≤_}
 use mathlib.Core.Path.{_≡_}
 use lib.ListN.{length}
 use borrow.Author.Needs.{needs}
-use Rattle.cases.proofs.noise.fill.Statement.{statement}
-use Rattle.cases.proofs.noise.fill.Tie as tie
+use Rattle.streams.proofs.noise.fill.Statement.{statement}
+use Rattle.streams.proofs.noise.fill.Tie as tie
 
 abbrev Inv-loop : tie.InvT-loop
 Inv-loop out₀ fill i₀ i-end out i = (i ≤ i-end) × (i-end ≡ length out) × (length out ≡ length out₀) × (length out ≤ 65536)
