@@ -9,8 +9,8 @@ ghost use lib.Dec.{eqb};
 ghost use lib.ListN.{length};
 ghost use Rattle.octets.specs.Run.{Mask};
 ghost use Rattle.record.specs.Fields.{pending, barred, unregisteredServices, cleared, pendingSet};
-ghost use Rattle.record.specs.RecordBlock.{recordOf, isRecord, soundSet, soundLimits, soundServer, soundRoaming, soundProfile, pastNames, pastCapabilities};
-ghost use Rattle.record.specs.RecordBlock.{soundRest, soundRecord};
+ghost use Rattle.record.specs.RecordBlock.{recordOf, isRecord, soundSet, soundLimits, soundServer, soundRoaming, soundProfile};
+ghost use Rattle.record.specs.RecordBlock.{pastNames, pastCapabilities, soundRest, soundRecord};
 
 // The numbers of a record block. Its names stay in the table.
 pub struct Record {
@@ -235,7 +235,8 @@ fn past_capabilities(b: &[u8], r: Record, mask: &[u8]) -> usize
 
 // "Bytes not named are zero, and so are unused places in a field": all that is set in any of them is one number, and it is tested once.
 fn rest(b: &[u8], r: Record, mask: &[u8]) -> bool
-    requires { ⌜ (length (now b) ≡ 512) × (r .public ≤ 128) × (r .private ≤ 128) × (r .server ≤ 96) × (r .mandatory ≤ 4) × (r .optional ≤ 4) × Mask (now mask) ⌝ }
+    requires { ⌜ (length (now b) ≡ 512) × (r .public ≤ 128) × (r .private ≤ 128) × (r .server ≤ 96) × (r .mandatory ≤ 4) × (r .optional ≤ 4)
+        × Mask (now mask) ⌝ }
     ensures { λ x. ⌜ x ≡ soundRest (now (b .entry)) r ⌝ }
 {
     let blank = number::be16(b, Record::BLANK_AT) as usize;
