@@ -2,12 +2,17 @@
 # lies under target/ (and reference/target/). The library's archive is x86-64 code on every machine; where the machine
 # is another, C is cross-compiled against it and run by the kit's emulator.
 # A line that begins with `#:` is what `make help` says of the target below it.
+# make test runs its parts side by side and notes what each takes; tests/timed.sh is bash, with a clock.
+ifdef TIMES
+SHELL := tests/timed.sh
+.SHELLFLAGS = of:$@ -euo pipefail -c
+else
 SHELL := /bin/bash
 .SHELLFLAGS := -euo pipefail -c
+endif
 .DELETE_ON_ERROR:
-.NOTPARALLEL:
 export PYTHONDONTWRITEBYTECODE := 1
-.PHONY: help run test clean fmt kit pages header examples tables texts aims stores programs reference installs cited narrow bench stack installable install uninstall
+.PHONY: help run test quick clean fmt kit pages header examples tables texts aims stores programs reference installs cited narrow bench stack installable install uninstall
 .PHONY: unsound reports moves recipes daemon peers differential noticed soak mutants stats definitions-check cases
 
 MACHINE := $(shell uname -m)
@@ -23,6 +28,9 @@ RUN = $(KIT)/on/$(MACHINE)/toolchain/bin/qemu-x86_64
 endif
 # Asked for only where a recipe needs it: `make clean` works without rt.
 KIT = $(shell dirname "$$(rt doc)")/..
+
+# One rt at a time writes to target/.
+RT := mkdir -p target && flock target/rt.lock rt
 
 STRICT := -O2 -Wall -Wextra -pedantic -Werror -Iinclude
 ARCHIVE := target/staticlib/libndushavire.a
@@ -57,11 +65,23 @@ run: target/c/maketable target/c99/check target/bin/answer $(BINARY)
 	done
 
 target/bin/%: $(PROVED)
-	rt check $*
+	$(RT) check $*
 	touch $@
 
-#: test               every test from fmt to differential below, 7 minutes once the library is proved, 20 under an emulator
-test: fmt kit pages header examples tables texts aims stores programs unsound reports moves daemon reference installs cited recipes narrow noticed differential
+# The parts of make test, the longest first. What they need is made before, once, and what needs the archive waits for it alone.
+PARTS := stores differential daemon reference tables narrow texts examples installs recipes cited programs noticed pages kit fmt header aims unsound reports moves
+MADE := $(ARCHIVE) $(BINARY)
+JOBS := $(shell nproc)
+#: test               every test from fmt to noticed below, as many at a time as there are processors (JOBS=N): 3 to 5 minutes on two once all is proved
+test:
+	@mkdir -p target/test
+	@rm -f target/test/times
+	@TIMES=target/test/times $(MAKE) --no-print-directory --jobs=$(JOBS) --output-sync=target $(MADE) $(PARTS) || \
+	    { echo "make test: failed: $$(sed -n 's/ failed$$//p' target/test/times | sort -u | tr '\n' ' ')" >&2; exit 1; }
+
+#: quick              what a change since main, or BASE=COMMIT, can have touched: its crates, their edits, the tests of its files; minutes, and not the verdict
+quick:
+	@BASE='$(BASE)' tests/quick.py $(PARTS)
 
 #: fmt                whether crates/ is in the kit's layout
 fmt:
@@ -90,12 +110,12 @@ examples: $(foreach mode,c99 cxx,$(addprefix target/$(mode)/,check decide move r
 	RUN='$(RUN)' tests/move.sh target/test/move target/c/maketable target/c/showtable target/c99/check target/c99/move target/cxx/move
 
 #: tables             tables and vector files made from text, and damaged ones
-tables: examples
+tables: target/c99/check target/cxx/check target/c/maketable target/c/showtable
 	RUN='$(RUN)' tests/tables.sh target/test/tables target/c/maketable target/c/showtable target/c99/check target/cxx/check
 	RUN='$(RUN)' tests/vectors.sh target/test/vectors target/c/maketable target/c/showtable target/c99/check target/cxx/check
 
 COUNT_texts := 2000
-#: texts              from a table or a vector file to text and back, over 2,000 random ones of each; half a minute
+#: texts              from a table or a vector file to text and back, over 2,000 random ones of each; 15 seconds. COUNT_texts=N for more
 texts: target/c/maketable target/c/showtable target/c/texts
 	tests/texts.sh target/test/texts target/c/maketable target/c/showtable target/c/texts $(SEED) $(COUNT_texts)
 
@@ -116,8 +136,8 @@ programs: target/bin/answer target/bin/tablecheck target/c/maketable
 unsound: target/c99/unsound
 	$(RUN) $<
 
-COUNT_months := 500
-#: reports            the report beside as many decisions, over 500 random files of requests; SEED=N runs a seed again
+COUNT_months := 5000
+#: reports            the report beside as many decisions, over 5,000 random files of requests; SEED=N runs a seed again
 reports: target/c99/month target/c/maketable
 	@mkdir -p target/test/reports
 	target/c/maketable table examples/households.txt >target/test/reports/table
@@ -125,8 +145,8 @@ reports: target/c99/month target/c/maketable
 	target/c/maketable vectors examples/vectors.txt >target/test/reports/vectors
 	$(RUN) $< $(addprefix target/test/reports/,table profile vectors) $(SEED) $(COUNT_months)
 
-COUNT_moved := 2000
-#: moves              the moves between editions beside a model in C, and requests over either edition, over 2,000 random tables; SEED=N runs a seed again
+COUNT_moved := 10000
+#: moves              the moves between editions beside a model in C, and requests over either edition, over 10,000 random tables; SEED=N runs a seed again
 moves: target/c99/moves
 	$(RUN) $< $(SEED) $(COUNT_moved)
 
@@ -227,7 +247,7 @@ cases: $(BINARY)
 	tests/cases.py $(BINARY) crates/cases
 
 $(ARCHIVE): $(PROVED)
-	rt staticlib ndushavire
+	$(RT) staticlib ndushavire
 
 $(BINARY): $(REFERENCE)
 	cd reference && cargo build --offline --release --quiet
@@ -249,9 +269,14 @@ target/c/aims: tests/aims.c bench/aims.h
 	mkdir -p $(@D)
 	$(CC) -std=c99 $(STRICT) -o $@ $<
 
-target/c/texts: tests/texts.c tests/random-tables.h examples/load.h
+target/c/texts: tests/texts.c tests/random-tables.h examples/load.h target/c/maketable.o target/c/showtable.o
 	mkdir -p $(@D)
-	$(CC) -std=c99 $(STRICT) -o $@ $<
+	$(CC) -std=c99 $(STRICT) -o $@ $< $(filter %.o,$^)
+
+# A program as a function under its own name.
+target/c/maketable.o target/c/showtable.o: target/c/%.o: examples/%.c examples/load.h
+	mkdir -p $(@D)
+	$(CC) -std=c99 $(STRICT) -Dmain=$* -c -o $@ $<
 
 target/c/fault: tests/fault.c examples/fault.h
 	mkdir -p $(@D)

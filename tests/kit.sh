@@ -1,6 +1,7 @@
 #!/usr/bin/env bash
 # kit.sh ROOM: .ci/run refuses a kit that is not the one pinned in KIT-ID, names both, and does nothing else; with the pinned one
-# it goes on. The rt that it finds here only says a version, and every other command of it fails.
+# it goes on. The rt that it finds here only says a version, and every other command of it fails. Then the table of what its parts took; and
+# make test has every part that make help lists for it.
 set -euo pipefail
 room=$1
 top=$(cd "$(dirname "$0")/.." && pwd)
@@ -39,4 +40,37 @@ cp "$top/KIT-ID" "$room/version"
 ends 9
 [ -s "$room/done" ] || fail 'nothing was done with the pinned kit'
 [ "$(wc -l <"$top/KIT-ID")" = 1 ] || fail 'KIT-ID is not one line'
-echo "kit.sh: .ci/run asks for $(cat "$top/KIT-ID")"
+
+cat >"$room/log" <<'END'
+3 fn octets::now: proved
+35 rt: octets proved (32 s)
+60 rt: record proved (25 s)
+61 rt: must-fail record/first-fails: refused, as it must be (first at src/lib.rt:3:4; 20 s)
+99 rt: must-fail record/second-fails: refused, as it must be (30 s)
+101 rt: answer ran as nobody, and wrote what its file 'stdout' has (1 s)
+101 rt: ok, 2 crates proved, 2 must-fail edits refused
+101 4 passed, 0 failed
+701 tests passed
+END
+cat >"$room/times" <<'END'
+texts 40.2 20.1 1.1
+kit 0.2 0.1 0.1
+tables 80.0 20.0 2.0
+tables 10.5 3.0 0.0
+END
+diff - <("$top/.ci/times.sh" "$room/log" "$room/times") >&2 <<'END' || fail 'the table of times is another one'
+What each part took by the clock:
+  proofs    1 min 00 s   2 crates, which add up to 57 s
+  edits     0 min 39 s   2 edits, which add up to 50 s
+  tests    10 min 00 s   46 s of processor
+  all      11 min 41 s
+The longest crates, s: octets 32, record 25
+The longest edits, s: record/second-fails 30, record/first-fails 20
+The tests, s by the clock and of processor, what takes a second and more:
+    90.5   25.0  tables
+    40.2   21.2  texts
+END
+helped=$(sed -n 's/^#: \([a-z]*\) .*/\1/p' "$top/Makefile" | sed -n '/^fmt$/,/^noticed$/p' | sort)
+parts=$(sed -n 's/^PARTS := //p' "$top/Makefile" | tr ' ' '\n' | sort)
+diff <(echo "$helped") <(echo "$parts") >&2 || fail 'make test has other parts than make help lists from fmt to noticed'
+echo "kit.sh: .ci/run asks for $(cat "$top/KIT-ID"), and says what its parts took"

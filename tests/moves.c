@@ -9,7 +9,7 @@
 #include "../bench/requests.h"
 #include "random-tables.h"
 
-enum { BEHIND = 64, FILL = 0xEE };
+enum { BEHIND = 64, FILL = 0xEE, FULL = 2 }; /* the first tables are full, one of each edition */
 
 static unsigned long number; /* of the table */
 static const char *seed;
@@ -208,10 +208,18 @@ typedef struct {
     uint64_t word;
 } Said;
 
+/* Any record, or half of the time the next one that has another of its set before it, if there is one. */
+static const uint8_t *whom(Bytes table) {
+    const size_t count = table.length / BLOCK - 1, from = below((uint32_t)count);
+    if (one_in(2)) return table.bytes + BLOCK * (1 + from);
+    size_t n = 0;
+    while (n < count && first_of_set(table.bytes, 1 + (from + n) % count) == 1 + (from + n) % count) n++;
+    return table.bytes + BLOCK * (1 + (from + n) % count);
+}
+
 static void ask(Request *r, Bytes table) {
     static const char *const servers[] = {"sip:scscf1.isle:6060", "s"};
-    const size_t count = table.length / BLOCK - 1;
-    const uint8_t *record = table.bytes + BLOCK * (1 + below((uint32_t)count));
+    const uint8_t *record = whom(table);
     const char *server = servers[below(2)];
     const Name name = {server, strlen(server)};
     const uint32_t kind = below(5);
@@ -314,7 +322,7 @@ int main(int argc, char **argv) {
     for (number = 0; number < count; number++) {
         chance = (first + number + 1) * 0x9E3779B97F4A7C15u | 1;
         for (int i = 0; i < 8; i++) below(2);
-        Bytes profile, made = put_table((uint8_t)(1 + number % 2), &profile), table = copy_of(made);
+        Bytes profile, made = put_table((uint8_t)(1 + number % 2), number < FULL, &profile), table = copy_of(made);
         const size_t length = table.length;
         try_both(table, profile, SOUND);
         try_request(table, profile);

@@ -178,13 +178,25 @@ static void put_issue(uint8_t *table, size_t count) {
     }
 }
 
-/* A table of this edition, mostly a small one, and its profile file. */
-static Bytes put_table(uint8_t edition, Bytes *profile) {
-    const size_t wanted = one_in(300) ? RECORDS : one_in(20) ? below(300) : below(12);
+/* Mostly few. */
+static size_t some(void) { return one_in(20) ? below(300) : below(12); }
+
+/* A public identity that no other record of its table has. */
+static void put_own_identity(uint8_t *record, uint32_t k) {
+    if (record[13] < 4) record[13] = 4;
+    put32(record + 16, k * 0x9E3779B1u);
+}
+
+/* A table of this edition, full or of some records, and its profile file. */
+static Bytes put_table(uint8_t edition, int full, Bytes *profile) {
+    const size_t wanted = full ? RECORDS : some();
     uint8_t *table = (uint8_t *)calloc(wanted + 1, BLOCK);
     if (table == NULL) stop("no memory");
     put_header(table, edition);
-    for (size_t k = 1; k <= wanted; k++) put_record(table + BLOCK * k, edition, table[15]);
+    for (size_t k = 1; k <= wanted; k++) {
+        put_record(table + BLOCK * k, edition, table[15]);
+        if (full) put_own_identity(table + BLOCK * k, (uint32_t)k);
+    }
     qsort(table + BLOCK, wanted, BLOCK, by_identity);
     size_t count = 0;
     for (size_t k = 1; k <= wanted; k++) {

@@ -1,13 +1,13 @@
-/* texts ROOM MAKETABLE SHOWTABLE SEED COUNT: from tables and vector files to texts and back, over random sound ones in ROOM. Of each
+/* texts ROOM SEED COUNT: from tables and vector files to texts and back, over random sound ones in ROOM. Of each
  *   - the text that showtable writes makes the same table and profile file, or vector file, again, byte for byte;
  *   - the same in another text (words and records in any order, comments, blanks, quotes, escapes) makes them too, and is shown as
  *     the first text again;
  *   - a damaged copy is refused, with a status and nothing written, or makes itself again: maketable makes no unsound file, so
  *     whatever showtable wrongly takes shows here.
+ * maketable and showtable are linked in, their `main` under another name, and run in a child each time: to start a program takes longer than
+ * most tables do. texts.sh tries them as they are.
  * Exit status: 0 all as it should be, 1 not so, 2 wrong use or no means. The tables that failed stay in ROOM. */
 #define _XOPEN_SOURCE 700
-#include <fcntl.h>
-#include <spawn.h>
 #include <sys/stat.h>
 #include <sys/wait.h>
 #include <unistd.h>
@@ -15,9 +15,11 @@
 #include "../examples/load.h"
 #include "random-tables.h"
 
-enum { VECTORS = 4096, DAMAGES = 2 };
+enum { VECTORS = 4096, DAMAGES = 2, FULL = 2 }; /* the first tables are full, one of each edition */
 
-static const char *maketable, *showtable;
+typedef int Program(int argc, char **argv);
+Program maketable, showtable;
+
 static unsigned long number; /* of the case */
 
 static void fail(const char *what) {
@@ -39,8 +41,8 @@ static void put_vector(uint8_t *block, uint32_t k) {
     seal(block);
 }
 
-static Bytes put_vectors(void) {
-    const size_t many = one_in(300) ? VECTORS : one_in(20) ? below(300) : below(12);
+static Bytes put_vectors(int full) {
+    const size_t many = full ? VECTORS : some();
     const Bytes made = {(uint8_t *)calloc(many + 1, BLOCK), BLOCK * many};
     if (made.bytes == NULL) stop("no memory");
     for (size_t k = 0; k < many; k++) put_vector(made.bytes + BLOCK * k, (uint32_t)k);
@@ -160,6 +162,7 @@ static void loose_vectors(const char *path, Bytes vectors) {
 /* ---- running the two programs */
 
 static void write_file(const char *path, Bytes b) {
+    remove(path); /* a new file: one that is cut to nothing and written again, some file systems send to the disk at once */
     FILE *to = fopen(path, "wb");
     if (to == NULL || fwrite(b.bytes, 1, b.length, to) != b.length || fclose(to) != 0) stop(path);
 }
@@ -178,17 +181,16 @@ static int is_empty(const char *path) {
 }
 
 /* Runs a program with its output in a file and its complaints in `errors`; gives its status. */
-static int run(const char *program, const char *first, const char *second, const char *output) {
-    char *const words[] = {(char *)program, (char *)first, (char *)second, NULL}, *const nothing[] = {NULL};
-    posix_spawn_file_actions_t files;
-    pid_t child;
+static int run(Program *program, const char *first, const char *second, const char *output) {
+    char name[] = "program", *words[] = {name, (char *)first, (char *)second, NULL};
     int status;
-    if (posix_spawn_file_actions_init(&files) != 0 ||
-        posix_spawn_file_actions_addopen(&files, 1, output, O_WRONLY | O_CREAT | O_TRUNC, 0644) != 0 ||
-        posix_spawn_file_actions_addopen(&files, 2, "errors", O_WRONLY | O_CREAT | O_TRUNC, 0644) != 0 ||
-        posix_spawn(&child, program, &files, NULL, words, nothing) != 0 || waitpid(child, &status, 0) != child)
-        stop(program);
-    posix_spawn_file_actions_destroy(&files);
+    remove(output);
+    const pid_t child = fork();
+    if (child == 0) {
+        if (freopen(output, "wb", stdout) == NULL || freopen("errors", "wb", stderr) == NULL) _exit(2);
+        exit(program(3, words));
+    }
+    if (child < 0 || waitpid(child, &status, 0) != child) stop("a child");
     return WIFEXITED(status) ? WEXITSTATUS(status) : -1;
 }
 
@@ -297,26 +299,18 @@ static unsigned long there_and_back(Bytes vectors) {
     return refused;
 }
 
-static const char *absolute(const char *path) {
-    const char *whole = realpath(path, NULL);
-    if (whole == NULL) stop(path);
-    return whole;
-}
-
 int main(int argc, char **argv) {
-    if (argc != 6) {
-        fprintf(stderr, "usage: texts ROOM MAKETABLE SHOWTABLE SEED COUNT\n");
+    if (argc != 4) {
+        fprintf(stderr, "usage: texts ROOM SEED COUNT\n");
         return 2;
     }
-    maketable = absolute(argv[2]);
-    showtable = absolute(argv[3]);
     if (chdir(argv[1]) != 0) stop(argv[1]);
-    const unsigned long seed = strtoul(argv[4], NULL, 10), count = strtoul(argv[5], NULL, 10);
+    const unsigned long seed = strtoul(argv[2], NULL, 10), count = strtoul(argv[3], NULL, 10);
     unsigned long refused = 0, records = 0, refused_vectors = 0, blocks = 0;
     for (number = 0; number < count; number++) {
         chance = (seed + number + 1) * 0x9E3779B97F4A7C15u | 1;
         for (int i = 0; i < 8; i++) below(2);
-        Bytes profile, table = put_table((uint8_t)(1 + number % 2), &profile);
+        Bytes profile, table = put_table((uint8_t)(1 + number % 2), number < FULL, &profile);
         records += table.length / BLOCK - 1;
         write_file("table", table);
         write_file("profile", profile);
@@ -331,7 +325,7 @@ int main(int argc, char **argv) {
         for (int i = 0; i < DAMAGES; i++) refused += (unsigned long)damaged(table, profile);
         free(table.bytes);
         free(profile.bytes);
-        const Bytes vectors = put_vectors();
+        const Bytes vectors = put_vectors(number < FULL);
         blocks += vectors.length / BLOCK;
         refused_vectors += there_and_back(vectors);
         free(vectors.bytes);

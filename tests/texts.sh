@@ -175,4 +175,4 @@ ends 2 "$showtable" "$room/sample.table" "$room"
 ends 2 bash -c '"$0" "$1" "$2" >/dev/full' "$showtable" "$room/sample.table" "$room/sample.profile"
 
 echo "texts.sh: $tried texts and tables, each as it should be"
-"$texts" "$room/random" "$maketable" "$showtable" "$seed" "$count"
+"$texts" "$room/random" "$seed" "$count"

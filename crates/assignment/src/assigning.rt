@@ -56,7 +56,7 @@ fn survey_by(
     if s.named {
         return naming::survey_all(t, count, req, user, server, kind);
     }
-    let owner = fields::private(table::block(t, first as usize));
+    let owner = fields::private(blocks::block(t, first as usize));
     naming::survey_all(t, count, req, owner, server, kind)
 }
 

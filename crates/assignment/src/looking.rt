@@ -75,7 +75,7 @@ pub fn look_found(t: &[u8], f: Found, owner: &[u8], server: &[u8], kind: Assignm
     ensures { λ r. ⌜ r ≡ lookFound (now (t .entry)) f (now (owner .entry)) (now (server .entry)) kind ⌝ }
 {
     match f {
-        Found::At(k) => look_at(table::block(t, k as usize), owner, server, kind),
+        Found::At(k) => look_at(blocks::block(t, k as usize), owner, server, kind),
         Found::Nothing => Survey {
             known: false,
             some: false,

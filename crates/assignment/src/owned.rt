@@ -47,7 +47,7 @@ pub fn survey_owned(
 {
     let mut seen = looking::fresh();
     for k in 0..count {
-        seen = glimpse(seen, table::block(t, k + 1), user, server, kind);
+        seen = glimpse(seen, blocks::block(t, k + 1), user, server, kind);
     }
     seen
 }
@@ -63,7 +63,7 @@ pub fn settle_owned(t: &mut [u8], count: usize, user: &[u8], state: u8, server: 
     let mut altered = 0;
     for i in 0..count {
         let k = i + 1;
-        let chosen = owned(table::block(t, k), user);
+        let chosen = owned(blocks::block(t, k), user);
         altered += rewrite::change_if(t, k, chosen, Change::Settled(state), server);
     }
     altered

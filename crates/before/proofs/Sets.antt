@@ -13,11 +13,11 @@ use Rattle.record.specs.Fields.{editionOf, setOf, bitsOf, barred, serverSize, s
 use Rattle.record.specs.RecordBlock.{recordOf}
 use Rattle.record.specs.Sets.{sameSet, agreeing}
 use Rattle.record.proofs.OneSet.{Agree, agree-says}
-use Rattle.table.specs.Blocks.{blockOf}
+use Rattle.blocks.specs.Blocks.{blockOf}
 use Rattle.table.specs.Check.{checkTable}
 use Rattle.table.specs.SoundTable.{SoundTable}
-use Rattle.table.specs.declared.Checked.the-variants.{Sound}
-use Rattle.table.proofs.Blocks.{block-length}
+use Rattle.blocks.specs.declared.Checked.the-variants.{Sound}
+use Rattle.blocks.proofs.Blocks.{block-length}
 use Rattle.table.proofs.Sound.{TableTests, table-says, sound-agrees, sound-block, sound-limits}
 use Rattle.lookup.specs.Find.{isAt, freeHere, freeAt, findFree, barredAlone}
 use Rattle.lookup.specs.declared.Found.{Found}

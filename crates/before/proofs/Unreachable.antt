@@ -9,10 +9,11 @@ use lib.Dec.{eqb, ltb}
 use lib.ListN.{length}
 use borrow.Author.Tests.{ltb-true, lt-ltb}
 use Rattle.record.specs.Fields.{stateOf, serverSize}
-use Rattle.table.specs.Blocks.{blockOf, privateAt}
+use Rattle.blocks.specs.Blocks.{blockOf}
+use Rattle.table.specs.Named.{privateAt}
 use Rattle.table.specs.Check.{checkTable}
 use Rattle.table.specs.SoundTable.{SoundTable}
-use Rattle.table.specs.declared.Checked.the-variants.{Sound}
+use Rattle.blocks.specs.declared.Checked.the-variants.{Sound}
 use Rattle.table.proofs.Sound.{sound-served}
 use Rattle.lookup.specs.Find.{findPublic}
 use Rattle.lookup.specs.declared.Found.{Found}

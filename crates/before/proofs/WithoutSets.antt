@@ -10,10 +10,11 @@ use Rattle.record.specs.Fields.{setOf, bitsOf, barred}
 use Rattle.record.specs.HeaderBlock.{headerOf}
 use Rattle.record.specs.Sets.{sameSet}
 use Rattle.record.specs.declared.header.Header.{Header}
-use Rattle.table.specs.Blocks.{blockOf}
-use Rattle.table.specs.Check.{standsAt, agreesAt, soundAt, firstBad, checkRecords, checkTable}
-use Rattle.table.specs.declared.Checked.{Checked}
-use Rattle.table.specs.declared.Checked.the-variants.{Bad}
+use Rattle.blocks.specs.Blocks.{blockOf}
+use Rattle.blocks.specs.Blocks.{firstBad}
+use Rattle.table.specs.Check.{standsAt, agreesAt, soundAt, checkRecords, checkTable}
+use Rattle.blocks.specs.declared.Checked.{Checked}
+use Rattle.blocks.specs.declared.Checked.the-variants.{Bad}
 use Rattle.table.proofs.Agreement.{agrees-holds}
 use Rattle.lookup.specs.Find.{isAt, findFree, barredAlone, findPublic}
 use Rattle.lookup.specs.declared.Found.{Found}

@@ -8,10 +8,11 @@ use lib.ListN.{length}
 use lib.Dec.{eqb, leb}
 use Rattle.record.specs.Fields.{setOf, bitsOf, barred}
 use Rattle.record.specs.HeaderBlock.{headerOf, soundHeader}
-use Rattle.table.specs.Blocks.{blockOf}
-use Rattle.table.specs.Check.{standsAt, firstBad}
-use Rattle.table.specs.declared.Checked.{Checked}
-use Rattle.table.specs.declared.Checked.the-variants.{Bad}
+use Rattle.blocks.specs.Blocks.{blockOf}
+use Rattle.blocks.specs.Blocks.{firstBad}
+use Rattle.table.specs.Check.{standsAt}
+use Rattle.blocks.specs.declared.Checked.{Checked}
+use Rattle.blocks.specs.declared.Checked.the-variants.{Bad}
 use Rattle.lookup.specs.Find.{isAt, findPublic, findPrivate}
 use Rattle.lookup.specs.declared.Found.{Found}
 use Rattle.lookup.specs.declared.Found.the-variants.{At, Nothing}

@@ -12,8 +12,8 @@ use lib.Seq.{drop-drop}
 use borrow.Rule.Slice.PartMut.{midOf, putMid}
 use native.Mathlib.Nat.{add-sub-cancel-left}
 use Rattle.octets.proofs.Parts.{part-alike, spliced, spliced-part, spliced-length, spliced-before, spliced-after}
-use Rattle.table.specs.Blocks.{blockOf}
-use Rattle.table.proofs.Blocks.{block-length, table-same, table-is, table-length, table-block}
+use Rattle.blocks.specs.Blocks.{blockOf}
+use Rattle.blocks.proofs.Blocks.{block-length, table-same, table-is, table-length, table-block}
 use Rattle.blocks.specs.Changed.{changedAt, changedAll, changedIn}
 
 module _ (t : List ℕ) (k : ℕ) (y : List ℕ) (whole : length y ≡ 512) (fits : 512 * k + 512 ≤ length t) where

@@ -1,2 +1,4 @@
+pub mod Blocks
 pub mod Changed
+pub mod First
 pub mod Sealed

@@ -4,7 +4,7 @@ use mathlib.Core.Bool.{Bool, false, cond, _||_}
 use mathlib.Core.List.{List, [], _∷_, _++_}
 use lib.ListN.{take, drop}
 use lib.Dec.{eqb}
-use Rattle.table.specs.Blocks.{blockOf, tableOf}
+use Rattle.blocks.specs.Blocks.{blockOf, tableOf}
 
 -- the choice of the blocks with these numbers: a choice is a test of block numbers
 unfoldable pub isOne : List ℕ → ℕ → Bool

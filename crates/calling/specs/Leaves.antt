@@ -3,7 +3,7 @@ use Prim.Native.Nat.{ℕ}
 use mathlib.Core.Bool.{cond}
 use mathlib.Core.Path.{_≡_}
 use mathlib.Core.List.{List, [], _∷_}
-use Rattle.table.specs.declared.Checked.{Checked}
+use Rattle.blocks.specs.declared.Checked.{Checked}
 use Rattle.rewrite.specs.Change.{alteredUpTo}
 use Rattle.calling.specs.Call.{callOf}
 use Rattle.calling.specs.Lent.{Lent}

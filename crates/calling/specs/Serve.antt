@@ -7,8 +7,8 @@ use lib.Dec.{eqb, ltb}
 use Rattle.octets.specs.Number.{be24At}
 use Rattle.octets.specs.Run.{over}
 use Rattle.table.specs.Check.{checkTable}
-use Rattle.table.specs.declared.Checked.{Checked}
-use Rattle.table.specs.declared.Checked.the-variants.{Sound, Bad}
+use Rattle.blocks.specs.declared.Checked.{Checked}
+use Rattle.blocks.specs.declared.Checked.the-variants.{Sound, Bad}
 use Rattle.vectors.specs.VectorFile.{checkVectors}
 use Rattle.fitting.specs.Decide.{Decision, decide}
 use Rattle.reply.specs.Answer.{answerBytes}

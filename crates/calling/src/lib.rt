@@ -1,7 +1,7 @@
 // One call: the refusals, tried in order, and the answer.
+use blocks::Checked;
 use deciding::Told;
 use diameter::message;
-use table::Checked;
 ghost use mathlib.Core.Path.{_≡_};
 ghost use Prim.Native.Nat.{_≤_};
 ghost use lib.ListN.{length};

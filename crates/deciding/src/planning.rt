@@ -15,7 +15,7 @@ ghost use Prim.Native.Nat.{_≤_};
 ghost use lib.ListN.{length};
 ghost use lib.Dec.{eqb};
 ghost use Rattle.record.specs.Fields.{keepOf};
-ghost use Rattle.table.specs.Blocks.{blockOf};
+ghost use Rattle.blocks.specs.Blocks.{blockOf};
 ghost use Rattle.table.specs.SoundTable.{SoundTable};
 ghost use Rattle.vectors.specs.Chosen.{Sendable};
 ghost use Rattle.vectors.specs.VectorFile.{SoundVectors};
@@ -32,7 +32,7 @@ fn keep(t: &[u8]) -> bool
     requires { ⌜ 512 ≤ length (now t) ⌝ }
     ensures { λ r. ⌜ r ≡ eqb (keepOf (blockOf (now (t .entry)) 0)) 1 ⌝ }
 {
-    let h = table::block(t, 0);
+    let h = blocks::block(t, 0);
     h[Header::KEEP_AT] == 1
 }
 

@@ -5,7 +5,7 @@ use mathlib.Core.Bool.{Bool, false}
 use lib.Dec.{ltb}
 use Rattle.octets.specs.Name.{same}
 use Rattle.record.specs.Fields.{privateOf}
-use Rattle.table.specs.Blocks.{blockOf}
+use Rattle.blocks.specs.Blocks.{blockOf}
 use Rattle.vectors.specs.Chosen.{unusedOf, packed}
 use Rattle.vectors.specs.Scheme.{scheme}
 use Rattle.vectors.specs.declared.choice.Sent.{Sent}

@@ -5,7 +5,7 @@ use mathlib.Core.Bool.{Bool, false}
 use lib.Dec.{ltb}
 use Rattle.octets.specs.Name.{same}
 use Rattle.record.specs.Fields.{privateOf, stateOf}
-use Rattle.table.specs.Blocks.{blockOf}
+use Rattle.blocks.specs.Blocks.{blockOf}
 use Rattle.lookup.specs.Find.{isAt, findPublic, findPrivate, barredAlone}
 use Rattle.lookup.specs.Network.{mayRoam}
 use Rattle.lookup.specs.declared.Found.{Found}

@@ -35,7 +35,7 @@ fn claim(t: &[u8], count: usize, user: &[u8], scheme: &[u8], some: bool, f: Foun
 {
     match f {
         Found::At(k) => claim_record(
-            table::block(t, k as usize),
+            blocks::block(t, k as usize),
             lookup::known_near(t, count, k, user),
             user,
             scheme,

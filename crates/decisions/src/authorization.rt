@@ -9,7 +9,7 @@ use record::fields;
 use record::subscriber::Record;
 ghost use mathlib.Core.Path.{_≡_};
 ghost use lib.ListN.{length};
-ghost use Rattle.table.specs.Blocks.{blockOf};
+ghost use Rattle.blocks.specs.Blocks.{blockOf};
 ghost use Rattle.table.specs.SoundTable.{SoundTable};
 ghost use Rattle.lookup.specs.Find.{barredAlone};
 ghost use Rattle.decisions.specs.Among.{Among};
@@ -40,7 +40,7 @@ fn ask(t: &[u8], count: usize, user: &[u8], network: &[u8], f: Found) -> Asked
         Found::At(k) => ask_record(
             t,
             count,
-            table::block(t, k as usize),
+            blocks::block(t, k as usize),
             lookup::known_near(t, count, k, user),
             user,
             network,

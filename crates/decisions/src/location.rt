@@ -30,7 +30,7 @@ fn seek(t: &[u8], count: usize, f: Found) -> Sought
     ensures { λ r. ⌜ r ≡ soughtOf (now (t .entry)) f ⌝ }
 {
     match f {
-        Found::At(k) => seek_record(table::block(t, k as usize)),
+        Found::At(k) => seek_record(blocks::block(t, k as usize)),
         Found::Nothing => Sought {
             known: false,
             present: false,
@@ -45,6 +45,6 @@ pub fn locate(t: &[u8], count: usize, public: &[u8]) -> Given
 {
     let f = lookup::find_public(t, count, public);
     let k = carrying::block_found(f);
-    let owner = fields::private(table::block(t, k as usize));
+    let owner = fields::private(blocks::block(t, k as usize));
     carrying::carry(t, count, owner, k, choice::location(seek(t, count, f)))
 }

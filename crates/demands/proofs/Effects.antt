@@ -11,7 +11,7 @@ use lib.Dec.{eqb, leb, ltb}
 use borrow.Author.Tests.{eqb-true, eqb-false, ne-eqb, leb-true}
 use Rattle.octets.proofs.All.{and-left, and-right}
 use Rattle.octets.proofs.Names.{same-eq}
-use Rattle.table.specs.Blocks.{privateAt}
+use Rattle.table.specs.Named.{privateAt}
 use Rattle.lookup.specs.Find.{isAt, findPublic}
 use Rattle.lookup.specs.declared.Found.{Found}
 use Rattle.lookup.specs.declared.Found.the-variants.{At, Nothing}

@@ -10,8 +10,8 @@ use lib.Seq.{drop-at}
 use borrow.Author.Tests.{ltb-false}
 use Rattle.octets.specs.Run.{over}
 use Rattle.octets.proofs.Writes.{over-length}
-use Rattle.table.specs.declared.Checked.{Checked}
-use Rattle.table.specs.declared.Checked.the-variants.{Sound, Bad}
+use Rattle.blocks.specs.declared.Checked.{Checked}
+use Rattle.blocks.specs.declared.Checked.the-variants.{Sound, Bad}
 use Rattle.vectors.specs.VectorFile.{checkVectors, SoundVectors}
 use Rattle.diameter.specs.Put.{All}
 use Rattle.calling.specs.Call.{Answer}

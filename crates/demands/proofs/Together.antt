@@ -10,10 +10,11 @@ use Rattle.record.specs.Fields.{serverSize, serverOf}
 use Rattle.record.specs.RecordBlock.{recordOf}
 use Rattle.record.specs.Sets.{sameSet}
 use Rattle.record.proofs.OneSet.{OneSet, set-says, Agree, agree-says}
-use Rattle.table.specs.Blocks.{blockOf, privateAt}
+use Rattle.blocks.specs.Blocks.{blockOf}
+use Rattle.table.specs.Named.{privateAt}
 use Rattle.table.specs.SoundTable.{SoundTable}
-use Rattle.table.specs.declared.Checked.the-variants.{Sound}
-use Rattle.table.proofs.Blocks.{block-length}
+use Rattle.blocks.specs.declared.Checked.the-variants.{Sound}
+use Rattle.blocks.proofs.Blocks.{block-length}
 use Rattle.table.proofs.Sound.{sound-block, sound-limits}
 use Rattle.lookup.specs.Find.{isAt, findPublic}
 use Rattle.lookup.specs.declared.Found.the-variants.{At, Nothing}

@@ -3,7 +3,7 @@ use Prim.Native.Nat.{ℕ, _+_}
 use mathlib.Core.Path.{_≡_}
 use mathlib.Core.List.{List, [], _∷_, _++_}
 use mathlib.Core.Bool.{Bool, true, _&&_}
-use lib.ListN.{length, replicate}
+use lib.ListN.{length}
 use lib.Dec.{eqb}
 use borrow.Author.Tests.{eqb-true}
 use Rattle.octets.proofs.All.{and-left, and-right}
@@ -15,11 +15,11 @@ use Rattle.calling.specs.Call.{Answered}
 use Rattle.calling.specs.Lent.{Lent, lent}
 use Rattle.calling.specs.Trial.{anyHolds}
 use Rattle.calling.specs.Serve.{Served}
-use Rattle.worked.proofs.Sample.{header, person, vector, digest, s, opened}
+use Rattle.worked.proofs.Sample.{header, person, vector, room, digest, s, opened}
 use Rattle.demands.specs.Frame.{firstOwner, askedIn, subscriptionOf}
 use Rattle.demands.specs.Insertion.{message, requestOf, Inserted, ending, keep, faultIn}
 
--- two subscriptions, each registered at the server `s`; two records of one public identity; the table after `a` was removed; a buffer of the least room
+-- two subscriptions, each registered at the server `s`; two records of one public identity; the table after `a` was removed
 unfoldable pub table : List ℕ
 table = header 2 0 ++ (person 1 0x61 0x70 1 (0x73 ∷ []) ++ person 2 0x62 0x71 1 (0x73 ∷ []))
 
@@ -28,9 +28,6 @@ twice = header 2 0 ++ (person 1 0x61 0x70 1 s ++ person 2 0x61 0x71 1 s)
 
 unfoldable pub removed : List ℕ
 removed = header 2 0 ++ (person 1 0x61 0x70 0 [] ++ person 2 0x62 0x71 1 (0x73 ∷ []))
-
-unfoldable pub room : List ℕ
-room = replicate 36864 0
 
 -- a vector of the second subscription and one of the first, none of them used; a file whose second block is cut off; one that has no whole block
 unfoldable pub vectors : List ℕ
@@ -119,9 +116,9 @@ zeroVendor = record { avp = headBytes 601 128 13 ++ (0 ∷ 0 ∷ 0 ∷ 0 ∷ 0x6
 unfoldable pub loud : Piece
 loud = record { avp = headBytes 999 64 11 ++ (1 ∷ 2 ∷ 3 ∷ []); pad = 0xFF ∷ [] }
 
--- all that the instances open
+-- all that the instances open: the buffer stays shut, but where its length is what counts
 unfoldable pub all : ℕ
-unfolding opened table removed room vectors base vendor headOf head marHead session application common own rest sar marOwn marRest mar comesTo comes blamed
+unfolding opened table removed vectors base vendor headOf head marHead session application common own rest sar marOwn marRest mar comesTo comes blamed
     plain zeroVendor loud
     message glue bytesOf avpsOf firstOwner askedIn subscriptionOf anyHolds faultIn
 all = 0

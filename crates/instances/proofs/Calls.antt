@@ -3,35 +3,50 @@ use Prim.Native.Nat.{ℕ, _/_, _≤_}
 use mathlib.Core.Path.{_≡_, refl, ap}
 use mathlib.Core.List.{List, [], _∷_, _++_}
 use mathlib.Core.Option.{Option·some-injective}
-use mathlib.Core.Bool.{true}
+use mathlib.Core.Bool.{true, false}
 use native.Mathlib.Omega.{arith}
 use lib.ListN.{length, getD, take, drop}
 use lib.Dec.{eqb, lit≤, lit<}
-use Rattle.table.specs.Blocks.{blockOf}
-use Rattle.table.specs.declared.Checked.the-variants.{Sound, Bad}
+use Rattle.blocks.specs.Blocks.{blockOf}
+use Rattle.blocks.specs.declared.Checked.{Checked}
+use Rattle.blocks.specs.declared.Checked.the-variants.{Sound, Bad}
 use Rattle.table.specs.Check.{checkTable}
+use Rattle.vectors.specs.VectorFile.{checkVectors}
 use Rattle.diameter.specs.Put.{bytesOf}
 use Rattle.pen.specs.Bytes.{numberBytes}
 use Rattle.calling.specs.Call.{Answered, Refused}
 use Rattle.calling.specs.Lent.{Lent, lent}
 use Rattle.calling.specs.Serve.{Served, trials, decision, serve}
-use Rattle.ndushavire.specs.Word.{word, callNumber, callValue, callWord}
+use Rattle.ndushavire.specs.Word.{word, callNumber, callValue, checkWord, callWord}
 use Rattle.ndushavire.specs.Reads.{Reads, ReadsCheck}
-use Rattle.worked.proofs.Sample.{header, request, answer, s, z}
-use Rattle.demands.specs.Call.{answerTo}
+use Rattle.worked.proofs.Computed.{known, come, held, roomy, no-vectors}
+use Rattle.worked.proofs.Sample.{header, room, request, answer, s, z}
+use Rattle.demands.specs.Call.{turnedAway, answerTo}
 use Rattle.demands.proofs.Demands.{promised, checked, checked-vectors, demand-1, demand-1-number, demand-1-none, demand-1-block, demand-1-length, demand-1-fits}
 use Rattle.demands.proofs.Demands.{demand-1-within, demand-1-word, demand-1-kept, demand-2, demand-2-failure, demand-2-others, demand-2-header, demand-2-bytes}
 use Rattle.demands.proofs.Demands.{demand-2-bits, demand-2-size, demand-2-sound, demand-2-question, demand-2-room, demand-2-past}
-use Rattle.instances.proofs.Asked.{table, twice, removed, room, vectors, cutOff, short, vendor, session, application, common, sar, asked, comes, all}
+use Rattle.instances.proofs.Asked.{table, twice, removed, vectors, cutOff, short, vendor, session, application, common, sar, asked, comes, all}
 
 -- the table is sound; the SAR is a success, which rewrites record 1 alone
 pub sound-table : checkTable table 0 ≡ Sound 2
 unfolding all
 sound-table = refl
 
+pub sound-vectors : checkVectors vectors ≡ Sound 2
+unfolding all
+sound-vectors = refl
+
+pub sound-empty : checkTable (header 0 0) 0 ≡ Sound 0
+unfolding all
+sound-empty = refl
+
 pub removal : serve (asked (sar s 5)) ≡ comes removed (answer (numberBytes 268 2001) [])
 unfolding all
-removal = refl
+removal = come (asked (sar s 5)) roomy sound-table no-vectors refl
+
+pub taken : turnedAway (asked (sar s 5)) ≡ false
+unfolding all
+taken = held (asked (sar s 5)) roomy sound-table no-vectors refl
 
 -- it says 116 bytes; the word that is promised says the same
 removal-call : serve (asked (sar s 5)) .call ≡ Answered (record { length = 116; place = 0 })
@@ -44,34 +59,43 @@ met-promised =
     (promised (asked (sar s 5)) {r = 116} (record { word-is = rw removal-call; table-is = refl; vectors-is = refl; buffer-is = refl }))
 
 -- of the table's check: 2 records, and block 2 where two have one public identity
+twice-bad : checkTable twice 0 ≡ Bad 2
+unfolding all twice
+twice-bad = refl
+
+reads-table : (t : List ℕ) (c : Checked) → checkTable t 0 ≡ c → ReadsCheck 5 c (checkWord 5 c)
+reads-table t c e = rw e at (checked t [] {r = checkWord 5 (checkTable t 0)} (record { answer = refl }))
+
 met-checked : ReadsCheck 5 (Sound 2) 2
-unfolding all
-met-checked = checked table [] (record { answer = refl })
+met-checked = reads-table table (Sound 2) sound-table
 
 met-checked-bad : ReadsCheck 5 (Bad 2) (word 5 0 2)
-unfolding all twice
-met-checked-bad = checked twice [] (record { answer = refl })
+met-checked-bad = reads-table twice (Bad 2) twice-bad
 
 -- of the vector file's: 2 blocks, and block 1 where it is cut off
+reads-vectors : (v : List ℕ) (c : Checked) → checkVectors v ≡ c → ReadsCheck 6 c (checkWord 6 c)
+reads-vectors v c e = rw e at (checked-vectors v {r = checkWord 6 (checkVectors v)} (record { answer = refl }))
+
+cut-off-bad : checkVectors cutOff ≡ Bad 1
+unfolding all cutOff
+cut-off-bad = refl
+
 met-checked-vectors : ReadsCheck 6 (Sound 2) 2
-unfolding all
-met-checked-vectors = checked-vectors vectors (record { answer = refl })
+met-checked-vectors = reads-vectors vectors (Sound 2) sound-vectors
 
 met-checked-cut : ReadsCheck 6 (Bad 1) (word 6 0 1)
-unfolding all cutOff
-met-checked-cut = checked-vectors cutOff (record { answer = refl })
+met-checked-cut = reads-vectors cutOff (Bad 1) cut-off-bad
 
 -- DEMAND 1: a request of 19 bytes is refusal 2, the second trial; the SAR is number 0 with the answer's length; two records of one public identity are
 -- refusal 5; a vector file that has no whole block is refusal 6, which comes after 5
 met-1 : eqb (callNumber (serve (asked (take 19 (sar s 5))) .call)) 2 ≡ true
-unfolding all
+unfolding all room
 met-1 =
     demand-1 (asked (take 19 (sar s 5))) .given (take 1 (trials (asked (take 19 (sar s 5))))) (drop 2 (trials (asked (take 19 (sar s 5)))))
     (record { holds = true; number = 2; besides = 0 }) refl
 
 met-1-within : 116 ≤ length room
-unfolding all
-met-1-within = demand-1-within (asked (sar s 5)) refl
+met-1-within = rw removal-call at (demand-1-within (asked (sar s 5)) (rw removal-call))
 
 met-1-number : callNumber (serve (asked (sar s 5)) .call) ≤ 6
 met-1-number = demand-1-number (asked (sar s 5))
@@ -87,47 +111,57 @@ met-1-word : Reads (Answered (record { length = 116; place = 0 })) (callWord (An
 met-1-word = rw removal-call at (demand-1-word (asked (sar s 5)))
 
 short-refused : serve (asked (take 19 (sar s 5))) .call ≡ Refused 2 0
-unfolding all
+unfolding all room
 short-refused = refl
 
 met-1-none : _≡_ {A = ℕ} 0 0
 met-1-none = demand-1-none (asked (take 19 (sar s 5))) 2 0 short-refused (λ e. omega arith)
 
 met-1-kept : serve (asked (take 19 (sar s 5))) .table ≡ table
-unfolding all
+unfolding all room
 met-1-kept = demand-1-kept (asked (take 19 (sar s 5))) refl .0
 
+doubled : Lent
+doubled = lent (sar s 5) twice [] [] room
+
+doubled-refused : serve doubled .call ≡ Refused 5 2
+unfolding all doubled
+doubled-refused = ap (λ (y : Served). y .call) (come doubled {y = known false (Bad 2) (Sound 0) doubled} roomy twice-bad no-vectors refl)
+
 met-1-block : checkTable twice 0 ≡ Bad 2
-unfolding all twice
-met-1-block = demand-1-block (lent (sar s 5) twice [] [] room) 2 refl
+unfolding doubled
+met-1-block = demand-1-block doubled 2 doubled-refused
 
 -- a SAR that reads no vector, over these and over a table of no record
 spoilt : Lent
 spoilt = lent (sar s 5) (header 0 0) [] short room
 
+short-bad : checkVectors short ≡ Bad 0
+unfolding all short
+short-bad = refl
+
 met-1-sixth : eqb (callNumber (serve spoilt .call)) 6 ≡ true
-unfolding all short spoilt
+unfolding all room short spoilt
 met-1-sixth = demand-1 spoilt .given (take 5 (trials spoilt)) [] (record { holds = true; number = 6; besides = 0 }) refl
 
 spoilt-refused : serve spoilt .call ≡ Refused 6 0
-unfolding all short spoilt
-spoilt-refused = refl
+unfolding all spoilt
+spoilt-refused = ap (λ (y : Served). y .call) (come spoilt {y = known false (Sound 0) (Bad 0) spoilt} roomy sound-empty short-bad refl)
 
 met-1-sixth-none : _≡_ {A = ℕ} 0 0
 met-1-sixth-none = demand-1-none spoilt 6 0 spoilt-refused (λ e. omega arith)
 
 met-1-sixth-kept : serve spoilt .vectors ≡ short
-unfolding all short spoilt
-met-1-sixth-kept = demand-1-kept spoilt refl .1
+unfolding all spoilt
+met-1-sixth-kept = demand-1-kept spoilt (held spoilt roomy sound-empty short-bad refl) .1
 
 met-1-fifth-first : serve (lent (sar s 5) [] [] short room) .call ≡ Refused 5 0
-unfolding all short
+unfolding all room short
 met-1-fifth-first = refl
 
 -- DEMAND 2: the removal leaves the decision's table, and of it record 2, the header, and of record 1 the identities and the bits above pending
 met-2 : serve (asked (sar s 5)) .table ≡ decision (asked (sar s 5)) 2 .table
-unfolding all
-met-2 = demand-2 (asked (sar s 5)) 2 sound-table refl .1
+met-2 = demand-2 (asked (sar s 5)) 2 sound-table taken .1
 
 met-2-others : blockOf (serve (asked (sar s 5)) .table) 2 ≡ blockOf table 2
 unfolding all

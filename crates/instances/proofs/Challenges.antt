@@ -7,13 +7,14 @@ use mathlib.Core.Option.{Option·some-injective}
 use native.Mathlib.Omega.{arith}
 use lib.ListN.{getD}
 use lib.Dec.{lit≤, lit<}
-use Rattle.table.specs.Blocks.{blockOf}
-use Rattle.table.specs.declared.Checked.the-variants.{Sound}
+use Rattle.blocks.specs.Blocks.{blockOf}
+use Rattle.blocks.specs.declared.Checked.the-variants.{Sound}
 use Rattle.table.specs.Check.{checkTable}
 use Rattle.diameter.specs.Put.{Piece}
 use Rattle.pen.specs.Bytes.{numberBytes}
 use Rattle.pen.specs.Groups.{failed}
 use Rattle.calling.specs.Serve.{decision, serve}
+use Rattle.worked.proofs.Computed.{come, held, roomy}
 use Rattle.worked.proofs.Sample.{header, subscriber, person, vector, reply, item, challenges, s, z}
 use Rattle.requests.specs.Request.{dialectOf, cx}
 use Rattle.demands.specs.Call.{turnedAway}
@@ -22,7 +23,7 @@ use Rattle.demands.proofs.Demands.{demand-2, demand-2-failure, demand-2-others,
 use Rattle.demands.proofs.Demands.{demand-3-vectors, demand-3-marked}
 use Rattle.instances.proofs.Asked.{table, vectors, marHead, session, application, common, sar, marOwn, marRest, mar, carded, comesTo, plain}
 use Rattle.instances.proofs.Asked.{loud, all, isWhole, allWhole, all-whole, kept}
-use Rattle.instances.proofs.Calls.{sound-table}
+use Rattle.instances.proofs.Calls.{sound-table, sound-vectors}
 
 -- The MAR for two vectors at the server `z` is a success: record 1 has that name and pending then, in the state that it had, and the one vector of that
 -- subscription is marked used and sent.
@@ -34,11 +35,11 @@ spentVectors = vector 0 0x71 5 ++ vector 1 0x70 1
 
 challenge : serve (carded (mar z 2)) ≡ comesTo 0 challengedTable spentVectors (challenges 1 (item 1 1))
 unfolding all challengedTable spentVectors
-challenge = refl
+challenge = come (carded (mar z 2)) roomy sound-table sound-vectors refl
 
 taken : turnedAway (carded (mar z 2)) ≡ false
 unfolding all
-taken = refl
+taken = held (carded (mar z 2)) roomy sound-table sound-vectors refl
 
 met-2-spent : serve (carded (mar z 2)) .vectors ≡ decision (carded (mar z 2)) 2 .vectors
 met-2-spent = demand-2 (carded (mar z 2)) 2 sound-table taken .2

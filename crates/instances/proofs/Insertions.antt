@@ -14,14 +14,15 @@ use Rattle.pen.specs.Bytes.{wordBytes, headBytes, vendorHead, numberBytes}
 use Rattle.pen.specs.Groups.{failed}
 use Rattle.calling.specs.Lent.{Lent}
 use Rattle.calling.specs.Serve.{Served, serve}
-use Rattle.worked.proofs.Sample.{answer, s}
+use Rattle.worked.proofs.Computed.{come, held, roomy, no-vectors}
+use Rattle.worked.proofs.Sample.{room, answer, s}
 use Rattle.requests.specs.Request.{dialectOf, cx}
 use Rattle.demands.specs.Insertion.{requestOf, Foreign, Quiet, Inserted, ending, keep, put, putBefore, placeNow, placed, FirstMarked, Cut, Longer, Mark}
 use Rattle.demands.specs.Insertion.{firstMark, newer}
 use Rattle.demands.proofs.Demands.{demand-3, demand-3-unmarked, demand-3-table, demand-3-marked, demand-3-fault, demand-3-cases, demand-3-any}
 use Rattle.instances.proofs.Asked.{table, removed, vendor, head, session, application, common, own, rest, sar, asked, comesTo, comes, blamed, plain}
 use Rattle.instances.proofs.Asked.{zeroVendor, loud, all, isWhole, allWhole, all-whole, kept}
-use Rattle.instances.proofs.Calls.{removal}
+use Rattle.instances.proofs.Calls.{sound-table, removal}
 
 foreign-plain : Foreign (dialectOf cx head) plain
 unfolding all
@@ -65,7 +66,7 @@ cut = 0 ∷ 0 ∷ 0 ∷ 1 ∷ 0 ∷ 0 ∷ 0 ∷ 4 ∷ []
 
 cut-answered : serve (asked (requestOf head (session ∷ rest s 5) cut)) ≡ blamed 176 (answer (numberBytes 268 5014) (failed (headBytes 1 0 8)))
 unfolding all cut
-cut-answered = refl
+cut-answered = come (asked (requestOf head (session ∷ rest s 5) cut)) roomy sound-table no-vectors refl
 
 once : List Piece
 once = application ∷ plain ∷ common ++ own s 5
@@ -111,7 +112,7 @@ unfolding all isWhole allWhole unsupported-answer markedAt
 met-3-marked =
     demand-3-marked head refl session (rest s 12) (application ∷ common ++ (loud ∷ own s 12)) (all-whole (session ∷ rest s 12) refl) [] refl (lit≤ tt)
     (asked [])
-    (markedAt (application ∷ common) (own s 12)) refl refl
+    (markedAt (application ∷ common) (own s 12)) refl (held (asked (sar s 12)) roomy sound-table no-vectors refl)
 
 -- the marked one behind it: the answer given without it; and one unmarked before it: it stands 12 bytes later
 behindIt : List Piece
@@ -134,12 +135,17 @@ markedBehind =
       rest = ending;
     }
 
+wrong-type : serve (asked (sar s 12)) ≡ blamed 144 (answer (numberBytes 268 5004) (failed (vendorHead 614 16 ++ wordBytes 12)))
+unfolding all
+wrong-type = come (asked (sar s 12)) roomy sound-table no-vectors refl
+
 met-3-fault : serve (asked (requestOf head (session ∷ behindIt ++ (loud ∷ [])) []))
     ≡ blamed 156 (answer (numberBytes 268 5004) (failed (vendorHead 614 16 ++ wordBytes 12)))
 unfolding all isWhole allWhole behindIt markedBehind putBefore kept
 met-3-fault =
     demand-3-fault head refl session (rest s 12) (behindIt ++ (loud ∷ [])) (all-whole (session ∷ rest s 12) refl) [] refl (lit≤ tt) (asked [])
     markedBehind refl
+    ∙ ap (placed (placeNow (keep session (markedBehind .quiet)))) wrong-type
 
 -- no 624, which after the walk is B5005; two identities in a SAR of type 1, which the decision calls B5009: the marked one goes before both
 lacking624 : List Piece
@@ -152,12 +158,13 @@ met-3-missing : serve (asked (requestOf head (session ∷ lacking624 ++ (loud �
 unfolding all isWhole allWhole unsupported-answer markedAt lacking624
 met-3-missing =
     demand-3-marked head refl session lacking624 (lacking624 ++ (loud ∷ [])) (all-whole (session ∷ lacking624) refl) [] refl (lit≤ tt) (asked [])
-    (markedAt lacking624 []) refl refl
+    (markedAt lacking624 []) refl (held (asked (requestOf head (session ∷ lacking624) [])) roomy sound-table no-vectors refl)
 
 met-3-many : serve (asked (requestOf head (session ∷ many ++ (loud ∷ [])) [])) ≡ unsupported-answer 192
 unfolding all isWhole allWhole unsupported-answer markedAt many
 met-3-many =
-    demand-3-marked head refl session many (many ++ (loud ∷ [])) (all-whole (session ∷ many) refl) [] refl (lit≤ tt) (asked []) (markedAt many []) refl refl
+    demand-3-marked head refl session many (many ++ (loud ∷ [])) (all-whole (session ∷ many) refl) [] refl (lit≤ tt) (asked []) (markedAt many []) refl
+    (held (asked (requestOf head (session ∷ many) [])) roomy sound-table no-vectors refl)
 
 met-3-table : serve (asked (requestOf head (session ∷ many ++ (loud ∷ [])) [])) .table ≡ table
 unfolding all isWhole allWhole many
@@ -240,7 +247,7 @@ met-3-quietly =
     ∙ ap (placed _) removal
 
 met-3-loudly : serve (asked (requestOf head (session ∷ loudly) [])) ≡ unsupported-answer 76
-unfolding all loudly longer-loudly cut-sar firstMark newer kept unsupported-answer
+unfolding all room loudly longer-loudly cut-sar firstMark newer kept unsupported-answer
 met-3-loudly = demand-3 (asked (sar s 5)) (requestOf head (session ∷ loudly) []) longer-loudly .comes
 
 met-3-left : serve (asked (requestOf head (session ∷ loudly) [])) .table ≡ table

@@ -2,8 +2,11 @@
 use Prim.Native.Nat.{ℕ}
 use mathlib.Core.Path.{_≡_, refl, sym, ap, _∙_}
 use mathlib.Core.List.{List, [], _++_}
+use lib.ListN.{take, set}
 use lib.Dec.{lit<}
 use Rattle.octets.specs.Run.{over}
+use Rattle.blocks.specs.declared.Checked.the-variants.{Sound}
+use Rattle.table.specs.Check.{checkTable}
 use Rattle.pen.specs.Bytes.{numberBytes}
 use Rattle.moving.specs.Moves.{moved, movedAll, noSet, firstSet}
 use Rattle.moving.specs.Outcomes.{Outcome, came, forwardSound, backPast, backSound, forwardChecked, backChecked, forward, back}
@@ -13,25 +16,33 @@ use Rattle.calling.specs.Lent.{Lent}
 use Rattle.calling.specs.Serve.{Served, serve}
 use Rattle.likeness.specs.Alike.{SameCall, holding}
 use Rattle.likeness.proofs.Moved.{forward-answers, back-answers}
-use Rattle.worked.proofs.Sample.{header, person, answer, s}
-use Rattle.instances.proofs.Asked.{table, removed, room, sar, asked, comes, all}
-use Rattle.instances.proofs.Calls.{removal}
+use Rattle.worked.proofs.Computed.{come, roomy, no-vectors}
+use Rattle.worked.proofs.Sample.{checked, header, person, room, answer, s}
+use Rattle.instances.proofs.Asked.{table, removed, sar, asked, comes, all}
+use Rattle.instances.proofs.Calls.{sound-table, removal}
 
 -- the table in edition 2, of issue number 7, block by block, and it after `a` was removed
+unfoldable later : List ℕ → List ℕ
+later b = checked (take 508 (set (set b 1 2) 411 7))
+
 unfoldable second : List ℕ
-second = moved 2 7 (header 2 0) ++ (moved 2 7 (person 1 0x61 0x70 1 s) ++ moved 2 7 (person 2 0x62 0x71 1 s))
+second = later (header 2 0) ++ (later (person 1 0x61 0x70 1 s) ++ later (person 2 0x62 0x71 1 s))
 
 unfoldable remaining : List ℕ
-remaining = moved 2 7 (header 2 0) ++ (moved 2 7 (person 1 0x61 0x70 0 []) ++ moved 2 7 (person 2 0x62 0x71 1 s))
+remaining = later (header 2 0) ++ (later (person 1 0x61 0x70 0 []) ++ later (person 2 0x62 0x71 1 s))
 
 -- the moves, computed
 there : forward table 0 7 ≡ came (Moved 2) second
-unfolding all second moved movedAll forwardSound forwardChecked forward
-there = refl
+unfolding all later second moved movedAll forwardSound forwardChecked forward
+there = ap (forwardChecked table 7) sound-table
+
+sound-second : checkTable second 0 ≡ Sound 2
+unfolding all later second
+sound-second = refl
 
 again : back second 0 ≡ came (Moved 2) table
-unfolding all second moved movedAll noSet firstSet backPast backSound backChecked back
-again = refl
+unfolding all later second moved movedAll noSet firstSet backPast backSound backChecked back
+again = ap (backChecked second) sound-second
 
 -- the removal, and the same over edition 2: its answer, computed, and the table afterwards, which keeps edition and issue number
 abbrev x : Lent
@@ -41,8 +52,8 @@ abbrev y : Lent
 y = holding x second
 
 computed : serve y ≡ comes remaining (answer (numberBytes 268 2001) [])
-unfolding all second remaining moved
-computed = refl
+unfolding all later second remaining
+computed = come y roomy sound-second no-vectors refl
 
 -- The theorems at them: over edition 2 it is answered as over edition 1, and over edition 1 as over edition 2.
 met-forward-answers : SameCall (serve x) (serve y)
@@ -61,5 +72,5 @@ unfolding all
 forward-buffer = sym (met-forward-answers .buffer) ∙ ap (λ (r : Served). r .buffer) removal
 
 back-call : serve x .call ≡ Answered (record { length = 116; place = 0 })
-unfolding all second remaining moved
+unfolding all second remaining
 back-call = sym (met-back-answers .call) ∙ ap (λ (r : Served). r .call) computed

@@ -1,6 +1,7 @@
 -- The place: the hypotheses of its theorems can be met, by SARs over a table of no record, computed.
 use Prim.Native.Nat.{ℕ, _≤_, _<_}
-use mathlib.Core.Path.{_≡_, refl}
+use mathlib.Core.Path.{_≡_, refl, sym, ap}
+use mathlib.Core.Bool.{false}
 use mathlib.Core.List.{List, [], _∷_, _++_, map}
 use native.Mathlib.Omega.{arith}
 use lib.ListN.{length, take, set}
@@ -10,15 +11,18 @@ use Rattle.pen.specs.Groups.{failed}
 use Rattle.reading.specs.declared.Outcome.the-variants.{Base}
 use Rattle.requests.specs.Judged.{nothing}
 use Rattle.calling.specs.Lent.{Lent, lent}
-use Rattle.calling.specs.Serve.{serve, resultOf}
-use Rattle.ndushavire.specs.Word.{word, callPlace}
+use Rattle.calling.specs.Serve.{Served, serve, resultOf}
+use Rattle.blocks.specs.declared.Checked.the-variants.{Sound}
+use Rattle.ndushavire.specs.Word.{word, callPlace, callWord}
 use Rattle.ndushavire.specs.Reads.{placeIn}
-use Rattle.worked.proofs.Sample.{header, answer, s}
+use Rattle.worked.proofs.Computed.{known, come, held, roomy, no-vectors}
+use Rattle.worked.proofs.Sample.{header, room, answer, s}
 use Rattle.demands.specs.Insertion.{requestOf}
 use Rattle.demands.specs.Place.{first, pastTaken, ruleFault, OfRules, AtFault, Blames}
 use Rattle.demands.proofs.Place.{place-word, place-answer, place-is, place-blames, place-least, place-within, place-result, place-none, place-refused}
 use Rattle.demands.proofs.Place.{place-header, place-first, place-decided, place-missing, place-experimental, place-success, place-most}
-use Rattle.instances.proofs.Asked.{room, base, vendor, head, session, application, common, own, rest, sar, asked, comesTo, loud, all}
+use Rattle.instances.proofs.Calls.{sound-empty}
+use Rattle.instances.proofs.Asked.{base, vendor, head, session, application, common, own, rest, sar, asked, comesTo, loud, all}
 
 abbrev bare : List ℕ → Lent
 bare req = lent req (header 0 0) [] [] room
@@ -43,7 +47,7 @@ wrongType =
 
 blames : Blames (bare (sar s 12)) 144
 unfolding all
-blames = record { taken = refl; result = 5004; fault = wrongType }
+blames = record { taken = held (bare (sar s 12)) roomy sound-empty no-vectors refl; result = 5004; fault = wrongType }
 
 met-answer : serve (bare (sar s 12)) ≡ comesTo 144 (header 0 0) [] (answer (numberBytes 268 5004) (failed (vendorHead 614 16 ++ wordBytes 12)))
 unfolding all blames
@@ -53,8 +57,7 @@ met-is : callPlace (serve (bare (sar s 12)) .call) ≡ 144
 met-is = place-is (bare (sar s 12)) 144 blames
 
 met-blames : Blames (bare (sar s 12)) 144
-unfolding all
-met-blames = place-blames (bare (sar s 12)) (λ e. let d : _≡_ {A = ℕ} 144 0 = e in omega arith)
+met-blames = rw met-is at (place-blames (bare (sar s 12)) (λ e. omega (arith, e, met-is)))
 
 met-least : 20 ≤ 144
 met-least = place-least (bare (sar s 12)) 144 blames
@@ -69,14 +72,16 @@ met-result = place-result (bare (sar s 12)) 144 blames
 -- the answer has 140 bytes: so the word says 144 and 140
 met-word : placeIn (word 0 144 140) ≡ callPlace (serve (bare (sar s 12)) .call)
 unfolding all
-met-word = place-word (bare (sar s 12)) (record { word-is = refl; table-is = refl; vectors-is = refl; buffer-is = refl })
+met-word =
+    place-word (bare (sar s 12))
+    (record { word-is = ap (λ (y : Served). callWord (y .call)) (sym met-answer); table-is = refl; vectors-is = refl; buffer-is = refl })
 
 met-most : callPlace (serve (bare (sar s 12)) .call) ≤ 16380
 met-most = place-most (bare (sar s 12))
 
 -- A request of 19 bytes; of version 2; without Session-Id in front. The last two have the 614 of type 12 all the same.
 met-refused : callPlace (serve (bare (take 19 (sar s 12))) .call) ≡ 0
-unfolding all
+unfolding all room
 met-refused = place-refused (bare (take 19 (sar s 12))) refl
 
 met-header : callPlace (serve (bare (set (sar s 12) 0 2)) .call) ≡ 0
@@ -97,7 +102,7 @@ met-decided = place-decided (bare many) _ refl
 
 many-answered : serve (bare many) ≡ comesTo 0 (header 0 0) [] (answer (numberBytes 268 5009) (failed (vendorHead 601 13 ++ (0x62 ∷ []))))
 unfolding all many
-many-answered = refl
+many-answered = come (bare many) roomy sound-empty no-vectors refl
 
 -- no 624, B5005; an identity that is in no record, X5001; a removal that succeeds
 met-missing : callPlace (serve (bare (row (application ∷ common ++ take 3 (own s 5)))) .call) ≡ 0
@@ -144,6 +149,17 @@ letters =
     ∷ row (application ∷ common ++ (loud ∷ own s 12))
     ∷ []
 
+-- the same by what the checks answer
+abbrev placeKnown : List ℕ → ℕ
+placeKnown req = callPlace (known false (Sound 0) (Sound 0) (bare req) .call)
+
+all-known : (l : List (List ℕ)) → map placeOf l ≡ map placeKnown l
+all-known [] = refl
+all-known (req ∷ l) =
+    let e : placeOf req ≡ placeKnown req =
+    ap (λ (y : Served). callPlace (y .call)) (come (bare req) {y = known false (Sound 0) (Sound 0) (bare req)} roomy sound-empty no-vectors refl) in
+    rw (e, all-known l)
+
 places : map placeOf letters ≡ 176 ∷ 176 ∷ 20 ∷ 0 ∷ 76 ∷ 64 ∷ 176 ∷ 176 ∷ 176 ∷ 112 ∷ 144 ∷ 128 ∷ 32 ∷ 112 ∷ []
 unfolding all
-places = refl
+places = all-known letters

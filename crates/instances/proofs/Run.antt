@@ -2,28 +2,33 @@
 use Prim.Native.Nat.{ℕ, _<_}
 use mathlib.Core.Path.{_≡_, refl, sym, ap, _∙_}
 use mathlib.Core.List.{List, [], _∷_, _++_}
-use mathlib.Core.Bool.{true, false}
+use mathlib.Core.Bool.{true, false, cond}
 use mathlib.Core.Logic.{_≢_}
 use native.Mathlib.Omega.{arith}
-use lib.ListN.{length, getD, replicate}
+use lib.ListN.{length, getD}
 use lib.Dec.{lit<}
 use Rattle.octets.specs.Run.{over}
-use Rattle.table.specs.Blocks.{blockOf}
-use Rattle.vectors.specs.Chosen.{howMany}
+use Rattle.blocks.specs.Blocks.{blockOf}
+use Rattle.blocks.specs.declared.Checked.{Checked}
+use Rattle.blocks.specs.declared.Checked.the-variants.{Sound}
+use Rattle.table.specs.Check.{checkTable}
+use Rattle.vectors.specs.Chosen.{howMany, sentOf}
+use Rattle.vectors.specs.VectorFile.{checkVectors}
 use Rattle.blocks.specs.Changed.{isOne}
 use Rattle.pen.specs.Bytes.{vendorNumber}
 use Rattle.reading.specs.Verdicts.{numberOf}
 use Rattle.calling.specs.Call.{Answered}
 use Rattle.calling.specs.Lent.{Lent, lent}
 use Rattle.calling.specs.Trial.{anyHolds}
-use Rattle.calling.specs.Serve.{Served, serve, decided}
+use Rattle.calling.specs.Serve.{Served, smallBuffer, checkValue, checkOf, decision, decided, serve}
 use Rattle.ndushavire.specs.Word.{callPlace}
 use Rattle.sending.specs.Sent.{sentBy, Challenges, usedAt, remaining, itemsFrom, saidOf, answerWith}
 use Rattle.sending.specs.Row.{Turn, lending, leftBy, sentOver, Once}
 use Rattle.sending.proofs.Sending.{refusal-leaves, command-leaves, failure-leaves, only-success, others-stay, unsent-stay, sent-mark, sent-bytes}
 use Rattle.sending.proofs.Sending.{sent-number, sent-some, sent-first, answer-sends, success-place, success-says, sent-once, sent-over, sent-before}
 use Rattle.sending.proofs.Sending.{sent-after, sent-never}
-use Rattle.worked.proofs.Sample.{vector, request, authentication, item, challenges, one, waiting, s, opened}
+use Rattle.worked.proofs.Computed.{knownTrials, come, roomy, unregistered-sound}
+use Rattle.worked.proofs.Sample.{vector, room, request, authentication, item, challenges, one, waiting, s, opened}
 
 -- three vectors of one private identity; with the first two used; with all used
 unused : List ℕ
@@ -34,9 +39,6 @@ fewer = vector 1 0x70 1 ++ (vector 1 0x70 5 ++ vector 0 0x70 9)
 
 used : List ℕ
 used = vector 1 0x70 1 ++ (vector 1 0x70 5 ++ vector 1 0x70 9)
-
-room : List ℕ
-room = replicate 36864 0
 
 -- a MAR for two vectors over a table, and the row of two: the first stores the server name and sets pending, and the second is over the table that it left
 turn : List ℕ → Turn
@@ -64,25 +66,43 @@ comes vectors bytes = record { call = Answered (record { length = length bytes; 
 
 -- all that the instances open
 all : ℕ
-unfolding opened unused fewer used room turn comes anyHolds sentBy remaining howMany
+unfolding opened unused fewer used turn comes anyHolds sentBy remaining howMany
 all = 0
 
 -- the answers, with the number sent in 607, the table and the vectors afterwards; and the blocks that are sent
+unused-sound : checkVectors unused ≡ Sound 3
+unfolding all
+unused-sound = refl
+
+fewer-sound : checkVectors fewer ≡ Sound 3
+unfolding all
+fewer-sound = refl
+
+waiting-sound : checkTable (waiting 0 s) 0 ≡ Sound 1
+unfolding all
+waiting-sound = refl
+
 first-comes : serve first ≡ comes fewer (challenges 2 (item 1 1 ++ item 2 5))
 unfolding all
-first-comes = refl
+first-comes = come first roomy unregistered-sound unused-sound refl
 
 second-comes : serve second ≡ comes used (challenges 1 (item 1 9))
 unfolding all
-second-comes = refl
+second-comes = come second roomy waiting-sound fewer-sound refl
+
+-- what a call sends, by what its checks answer
+sends : (x : Lent) {c d : Checked} {ks : List ℕ} → smallBuffer (x .buffer) ≡ false → checkOf x ≡ c → checkVectors (x .vectors) ≡ d
+    → cond (anyHolds (knownTrials false c d x)) [] (sentOf (decision x (checkValue c) .given .sent)) ≡ ks → sentBy x ≡ ks
+unfolding sentBy
+sends x o e f g = rw (o, e, f) g
 
 first-sends : sentBy first ≡ 0 ∷ 1 ∷ []
 unfolding all
-first-sends = refl
+first-sends = sends first roomy unregistered-sound unused-sound refl
 
 second-sends : sentBy second ≡ 2 ∷ []
 unfolding all
-second-sends = refl
+second-sends = sends second roomy waiting-sound fewer-sound refl
 
 -- the row: the blocks 0, 1 and 2, each once, and then all are used
 first-leaves : serve first .vectors ≡ fewer

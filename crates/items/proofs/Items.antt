@@ -14,8 +14,8 @@ use Rattle.octets.proofs.Writes.{lent, back, then, named, then-front}
 use Rattle.pen.specs.Bytes.{vendorHead, vendorBytes, vendorNumber, vendorGroup}
 use Rattle.pen.proofs.Sizes.{there-length, there-room, vendor-length, vendorGroup-length}
 use Rattle.pen.proofs.Writers.{wrote-there, wrote-none}
-use Rattle.table.specs.Blocks.{blockOf}
-use Rattle.table.proofs.Blocks.{block-length}
+use Rattle.blocks.specs.Blocks.{blockOf}
+use Rattle.blocks.proofs.Blocks.{block-length}
 use Rattle.vectors.specs.Scheme.{scheme}
 use Rattle.vectors.specs.VectorBlock.{vectorOf, randAutnOf, xresOf, confidentialityOf, integrityOf}
 use Rattle.vectors.specs.Chosen.{Sendable}

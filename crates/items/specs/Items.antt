@@ -3,7 +3,7 @@ use Prim.Native.Nat.{ℕ, zero, suc, _+_}
 use mathlib.Core.List.{List, [], _∷_, _++_}
 use lib.ListN.{getD}
 use lib.Dec.{ltb}
-use Rattle.table.specs.Blocks.{blockOf}
+use Rattle.blocks.specs.Blocks.{blockOf}
 use Rattle.pen.specs.Bytes.{copiedSize, vendorBytes, vendorNumber, vendorGroup, ifThere}
 use Rattle.vectors.specs.declared.choice.Sent.{Sent}
 use Rattle.vectors.specs.Scheme.{scheme}

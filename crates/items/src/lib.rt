@@ -83,7 +83,7 @@ fn put_items(out: &mut [u8], v: &[u8], sent: Sent) -> usize
     let mut at = 0;
     for i in 0..n {
         let k = blocks[i] as usize;
-        at += put_item(&mut out[at..], table::block(v, k), (i + 1) as u32);
+        at += put_item(&mut out[at..], blocks::block(v, k), (i + 1) as u32);
     }
     at
 }

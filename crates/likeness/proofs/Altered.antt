@@ -19,7 +19,7 @@ use Rattle.octets.proofs.Runs.{past-zero, zero-alike}
 use Rattle.record.specs.Fields.{stateOf, bitsOf, serverSize, serverOf, cleared, pendingSet}
 use Rattle.record.specs.RecordBlock.{recordOf}
 use Rattle.record.proofs.Tests.{record-says}
-use Rattle.table.specs.Blocks.{blockOf}
+use Rattle.blocks.specs.Blocks.{blockOf}
 use Rattle.table.specs.SoundTable.{SoundTable}
 use Rattle.table.proofs.Sound.{sound-size, sound-record, sound-limits}
 use Rattle.blocks.specs.Changed.{changedAt}

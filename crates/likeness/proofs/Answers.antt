@@ -7,7 +7,7 @@ use native.Mathlib.Omega.{arith}
 use lib.Dec.{eqb}
 use borrow.Author.Tests.{eqb-false}
 use Rattle.record.specs.Fields.{privateOf, publicOf, serverOf, mandatoryOf, optionalOf, profileOf}
-use Rattle.table.specs.Blocks.{blockOf, ofBlock}
+use Rattle.blocks.specs.Blocks.{blockOf, ofBlock}
 use Rattle.reading.specs.declared.Outcome.{Outcome}
 use Rattle.choices.specs.declared.Given.{Given}
 use Rattle.parts.specs.Profile.{profileAt}

@@ -10,7 +10,7 @@ use borrow.Author.Tests.{eqb-true, ne-eqb, leb-true, ltb-true, lt-leb}
 use Rattle.octets.specs.Name.{same}
 use Rattle.record.specs.Fields.{stateOf, bitsOf, serverSize, serverOf, pendingSet}
 use Rattle.record.specs.RecordBlock.{recordOf}
-use Rattle.table.specs.Blocks.{blockOf}
+use Rattle.blocks.specs.Blocks.{blockOf}
 use Rattle.table.specs.SoundTable.{SoundTable}
 use Rattle.table.proofs.Sound.{sound-size, sound-limits}
 use Rattle.blocks.specs.Changed.{isOne, changedAt}

@@ -12,7 +12,7 @@ use Rattle.record.specs.HeaderBlock.{headerOf}
 use Rattle.record.specs.Networks.{placeAt, networkOf}
 use Rattle.record.specs.RecordBlock.{recordOf}
 use Rattle.record.proofs.Tests.{Limits}
-use Rattle.table.specs.Blocks.{blockOf}
+use Rattle.blocks.specs.Blocks.{blockOf}
 use Rattle.table.specs.SoundTable.{SoundTable}
 use Rattle.table.proofs.Sound.{sound-header, sound-networks, sound-place, sound-limits}
 use Rattle.likeness.specs.Alike.{Alike, AlikeTables}

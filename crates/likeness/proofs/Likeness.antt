@@ -7,8 +7,8 @@ use mathlib.Core.List.{List, [], _∷_}
 use lib.ListN.{length}
 use Rattle.octets.proofs.Numbers.{Bytes}
 use Rattle.table.specs.SoundTable.{SoundTable}
-use Rattle.table.specs.declared.Checked.{Checked}
-use Rattle.table.specs.declared.Checked.the-variants.{Sound}
+use Rattle.blocks.specs.declared.Checked.{Checked}
+use Rattle.blocks.specs.declared.Checked.the-variants.{Sound}
 use Rattle.rewrite.specs.Change.{alteredUpTo}
 use Rattle.rewrite.proofs.Counts.{altered-none}
 use Rattle.reading.specs.Rules.{Seen}

@@ -7,7 +7,8 @@ use native.Mathlib.Omega.{arith}
 use Rattle.octets.specs.Name.{same}
 use Rattle.record.specs.Fields.{networksOf, barred}
 use Rattle.record.specs.Sets.{sameSet}
-use Rattle.table.specs.Blocks.{blockOf, publicAt, privateAt}
+use Rattle.blocks.specs.Blocks.{blockOf}
+use Rattle.table.specs.Named.{publicAt, privateAt}
 use Rattle.lookup.specs.Find.{findPublic, privateIs, findPrivate, serverHere, servesAt, findServer, freeHere, freeAt, findFree, barredAlone}
 use Rattle.lookup.specs.Network.{networkIs, seek, networkNumber, mayRoam}
 use Rattle.lookup.proofs.First.{first-same}

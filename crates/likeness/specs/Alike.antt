@@ -4,7 +4,7 @@ use Prim.Native.Nat.{ℕ, _<_, _≤_}
 use mathlib.Core.Path.{_≡_}
 use mathlib.Core.List.{List}
 use lib.ListN.{length, getD}
-use Rattle.table.specs.Blocks.{blockOf}
+use Rattle.blocks.specs.Blocks.{blockOf}
 use Rattle.calling.specs.Lent.{Lent}
 use Rattle.calling.specs.Serve.{Served}
 

@@ -5,7 +5,7 @@ use mathlib.Core.List.{List}
 use Rattle.record.specs.Fields.{keepOf, hostOf, realmOf, networksOf, stateOf, bitsOf, roamingOf, serverSize, publicOf, privateOf, serverOf, mandatoryOf}
 use Rattle.record.specs.Fields.{optionalOf, profileOf, setOf}
 use Rattle.record.specs.Networks.{networkOf}
-use Rattle.table.specs.Blocks.{blockOf}
+use Rattle.blocks.specs.Blocks.{blockOf}
 
 -- two header blocks show the same
 pub record SameHeader (b c : List ℕ) : Type 0 where

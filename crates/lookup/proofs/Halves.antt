@@ -12,7 +12,8 @@ use Rattle.octets.specs.declared.name.Order.{Order}
 use Rattle.octets.specs.declared.name.Order.the-variants.{Less, Equal, Greater}
 use Rattle.octets.proofs.Names.{same-eq, same-yes, same-no, order-eq, order-flip, order-trans, less-differs}
 use Rattle.record.specs.Fields.{publicOf}
-use Rattle.table.specs.Blocks.{blockOf, publicAt}
+use Rattle.blocks.specs.Blocks.{blockOf}
+use Rattle.table.specs.Named.{publicAt}
 use Rattle.table.specs.SoundTable.{SoundTable}
 use Rattle.table.proofs.Sound.{sound-rises}
 use Rattle.lookup.specs.Find.{firstFrom, publicIs, findPublic}

@@ -16,7 +16,7 @@ use Rattle.octets.proofs.All.{all-more, all-at}
 use Rattle.octets.proofs.Names.{same-yes, same-no}
 use Rattle.record.specs.Fields.{networksOf, roamingOf}
 use Rattle.record.specs.Networks.{placeAt, networkOf}
-use Rattle.table.specs.Blocks.{blockOf}
+use Rattle.blocks.specs.Blocks.{blockOf}
 use Rattle.table.specs.SoundTable.{SoundTable}
 use Rattle.table.proofs.Sound.{sound-networks, sound-place}
 use Rattle.lookup.specs.Network.{agreeAt, networkIs, seek, networkNumber, roamsIn, mayRoam}

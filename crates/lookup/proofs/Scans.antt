@@ -9,7 +9,8 @@ use borrow.Author.Tests.{lt-ltb}
 use Rattle.octets.specs.Name.{same}
 use Rattle.record.specs.Fields.{privateOf, serverSize, setOf, bitsOf, barred}
 use Rattle.record.specs.Sets.{sameSet}
-use Rattle.table.specs.Blocks.{blockOf, privateAt}
+use Rattle.blocks.specs.Blocks.{blockOf}
+use Rattle.table.specs.Named.{privateAt}
 use Rattle.table.specs.SoundTable.{SoundTable}
 use Rattle.table.proofs.Sound.{sound-block}
 use Rattle.lookup.specs.Find.{firstFrom, isAt, endOf, findPublic, publicIs, privateIs, findPrivate, serverHere, servesAt, freeHere, freeAt, findFree, barredAlone}

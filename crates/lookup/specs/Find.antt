@@ -6,7 +6,8 @@ use lib.Dec.{ltb}
 use Rattle.octets.specs.Name.{same}
 use Rattle.record.specs.Fields.{bitsOf, privateOf, serverSize, barred}
 use Rattle.record.specs.Sets.{sameSet}
-use Rattle.table.specs.Blocks.{blockOf, publicAt, privateAt}
+use Rattle.blocks.specs.Blocks.{blockOf}
+use Rattle.table.specs.Named.{publicAt, privateAt}
 use Rattle.lookup.specs.declared.Found.{Found}
 use Rattle.lookup.specs.declared.Found.the-variants.{At, Nothing}
 

@@ -11,7 +11,7 @@ ghost use Prim.Native.Nat.{_+_, _*_, _/_, _%_, _^_, _≤_, _<_};
 ghost use lib.ListN.{length};
 ghost use lib.Dec.{eqb};
 ghost use Rattle.record.specs.Fields.{networksOf};
-ghost use Rattle.table.specs.Blocks.{blockOf};
+ghost use Rattle.blocks.specs.Blocks.{blockOf};
 ghost use Rattle.table.specs.SoundTable.{SoundTable};
 ghost use Rattle.lookup.specs.Find.{isAt, findPublic, findPrivate, serverHere, findServer, freeHere, findFree, barredAlone};
 ghost use Rattle.lookup.specs.Network.{agreeAt, networkNumber, roamsIn, mayRoam};
@@ -49,7 +49,7 @@ pub fn find_public(t: &[u8], count: usize, name: &[u8]) -> Found
     let mut high = count + 1;
     while low < high {
         let k = middle(low, high);
-        match name::order_of(fields::public(table::block(t, k)), name) {
+        match name::order_of(fields::public(blocks::block(t, k)), name) {
             Order::Less => {
                 low = k + 1;
             }
@@ -71,7 +71,7 @@ fn find_private(t: &[u8], count: usize, name: &[u8]) -> Found
 {
     let mut k = 1;
     while k <= count {
-        if name::same(fields::private(table::block(t, k)), name) {
+        if name::same(fields::private(blocks::block(t, k)), name) {
             return Found::At(k as u32);
         }
         k += 1;
@@ -92,7 +92,7 @@ pub fn known_near(t: &[u8], count: usize, k: u32, name: &[u8]) -> bool
     requires { ⌜ SoundTable (now t) count × (1 ≤ k) × (k ≤ count) ⌝ }
     ensures { λ r. ⌜ r ≡ isAt (findPrivate (now (t .entry)) count (now (name .entry))) ⌝ }
 {
-    if name::same(fields::private(table::block(t, k as usize)), name) {
+    if name::same(fields::private(blocks::block(t, k as usize)), name) {
         return true;
     }
     known_private(t, count, name)
@@ -117,7 +117,7 @@ pub fn first_server(t: &[u8], count: usize, name: &[u8]) -> Found
 {
     let mut k = 1;
     while k <= count {
-        if serves(table::block(t, k), name) {
+        if serves(blocks::block(t, k), name) {
             return Found::At(k as u32);
         }
         k += 1;
@@ -143,7 +143,7 @@ fn find_free(t: &[u8], count: usize, b: &[u8]) -> Found
     }
     let mut k = 1;
     while k <= count {
-        if free(b, table::block(t, k)) {
+        if free(b, blocks::block(t, k)) {
             return Found::At(k as u32);
         }
         k += 1;
@@ -179,7 +179,7 @@ fn network(t: &[u8], count: usize, name: &[u8]) -> usize
     requires { ⌜ SoundTable (now t) count ⌝ }
     ensures { λ r. ⌜ r ≡ networkNumber (blockOf (now (t .entry)) 0) (networksOf (blockOf (now (t .entry)) 0)) (now (name .entry)) ⌝ }
 {
-    let h = table::block(t, 0);
+    let h = blocks::block(t, 0);
     let networks = octets::byte(h, Header::NETWORKS_AT);
     let mut k = 0;
     'places: while k < networks {
@@ -219,6 +219,6 @@ pub fn may_roam(t: &[u8], count: usize, b: &[u8], name: &[u8]) -> bool
     requires { ⌜ SoundTable (now t) count × (length (now b) ≡ 512) ⌝ }
     ensures { λ r. ⌜ r ≡ mayRoam (blockOf (now (t .entry)) 0) (now (b .entry)) (now (name .entry)) ⌝ }
 {
-    let networks = octets::byte(table::block(t, 0), Header::NETWORKS_AT);
+    let networks = octets::byte(blocks::block(t, 0), Header::NETWORKS_AT);
     roams_in(b[Record::ROAMING_AT], networks, network(t, count, name))
 }

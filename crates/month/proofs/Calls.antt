@@ -1,12 +1,13 @@
 -- A small month: where is `a`, its removal, where is it now, an answer that strayed into the file, and 3 bytes. The calls, computed one by one.
 use Prim.Native.Nat.{ℕ}
-use mathlib.Core.Path.{_≡_, refl, ap, _∙_}
+use mathlib.Core.Path.{_≡_, refl, sym, ap, _∙_}
 use mathlib.Core.List.{List, [], _∷_, _++_}
-use lib.ListN.{length, replicate, set}
-use lib.Dec.{lit≤}
+use mathlib.Core.Bool.{false}
+use lib.ListN.{length, set}
+use lib.Dec.{ltb, lit≤}
 use Rattle.octets.specs.Run.{over}
-use Rattle.table.specs.declared.Checked.{Checked}
-use Rattle.table.specs.declared.Checked.the-variants.{Sound}
+use Rattle.blocks.specs.declared.Checked.{Checked}
+use Rattle.blocks.specs.declared.Checked.the-variants.{Sound}
 use Rattle.table.specs.Check.{checkTable}
 use Rattle.rewrite.specs.Change.{differ, alteredUpTo}
 use Rattle.diameter.specs.Put.{All}
@@ -19,10 +20,12 @@ use Rattle.counting.specs.declared.Event.{Event}
 use Rattle.counting.specs.declared.Event.the-variants as event
 use Rattle.calling.specs.Call.{Answered, Refused}
 use Rattle.calling.specs.Lent.{Lent, lent}
-use Rattle.calling.specs.Serve.{Served, checkOf, checkValue, resultOf, serve}
+use Rattle.calling.specs.Serve.{Served, smallBuffer, checkOf, checkValue, decision, resultOf, serve}
 use Rattle.reporting.specs.Row.{eventBy, eventOf}
 use Rattle.numbers.specs.File.{OneRequest, joined}
-use Rattle.worked.proofs.Sample.{request, reply, answer, common, assignment, one, s, opened}
+use Rattle.demands.proofs.Demands.{demand-2-room}
+use Rattle.worked.proofs.Computed.{come, roomy, no-vectors, registered-sound, unregistered-sound}
+use Rattle.worked.proofs.Sample.{room, request, reply, answer, common, assignment, one, s, opened}
 
 -- a LIR and a SAR of type 5 for `a`; a message with the R bit clear
 unfoldable pub lir : List ℕ
@@ -50,9 +53,6 @@ here = one 0 1 s
 unfoldable pub gone : List ℕ
 gone = one 0 0 []
 
-unfoldable pub room : List ℕ
-room = replicate 36864 0
-
 unfoldable pub located : List ℕ
 located = over (reply 302 (numberBytes 268 2001) (vendorBytes 602 s)) room
 
@@ -71,16 +71,16 @@ lending message table buffer = lent message table [] [] buffer
 
 -- all that a call opens
 unfoldable pub all : ℕ
-unfolding opened lir removal strayed here gone room located removed sought alteredUpTo differ
+unfolding opened lir removal strayed here gone located removed sought alteredUpTo differ
 all = 0
 
 pub sound-here : checkTable here 0 ≡ Sound 1
-unfolding all
-sound-here = refl
+unfolding here
+sound-here = registered-sound
 
 pub sound-gone : checkTable gone 0 ≡ Sound 1
-unfolding all
-sound-gone = refl
+unfolding gone
+sound-gone = unregistered-sound
 
 -- each message is one request by its length
 pub each : All OneRequest messages
@@ -97,21 +97,35 @@ each = (
 abbrev pub comes : ℕ → List ℕ → List ℕ → Served
 comes length table buffer = record { call = Answered (record { length = length; place = 0 }); table = table; vectors = []; buffer = buffer }
 
+-- a call leaves a buffer of the least room as long as it was
+stays : (x : Lent) (length : ℕ) (table buffer : List ℕ) → serve x ≡ comes length table buffer → smallBuffer (x .buffer) ≡ false → smallBuffer buffer ≡ false
+stays x length table buffer e h =
+    ap (λ (y : Served). smallBuffer (y .buffer)) (sym e) ∙ ap (λ (n : ℕ). ltb n 36864) (demand-2-room x) ∙ h
+
 pub located-comes : serve (lending lir here room) ≡ comes 132 here located
 unfolding all
-located-comes = refl
+located-comes = come (lending lir here room) roomy sound-here no-vectors refl
+
+located-roomy : smallBuffer located ≡ false
+located-roomy = stays (lending lir here room) 132 here located located-comes roomy
 
 pub removed-comes : serve (lending removal here located) ≡ comes 116 gone removed
 unfolding all
-removed-comes = refl
+removed-comes = come (lending removal here located) located-roomy sound-here no-vectors refl
+
+removed-roomy : smallBuffer removed ≡ false
+removed-roomy = stays (lending removal here located) 116 gone removed removed-comes located-roomy
 
 pub sought-comes : serve (lending lir gone removed) ≡ comes 136 gone sought
 unfolding all
-sought-comes = refl
+sought-comes = come (lending lir gone removed) removed-roomy sound-gone no-vectors refl
+
+sought-roomy : smallBuffer sought ≡ false
+sought-roomy = stays (lending lir gone removed) 136 gone sought sought-comes removed-roomy
 
 pub strayed-comes : serve (lending strayed gone sought) ≡ record { call = Refused 4 0; table = gone; vectors = []; buffer = sought }
 unfolding all
-strayed-comes = refl
+strayed-comes = come (lending strayed gone sought) sought-roomy sound-gone no-vectors refl
 
 -- and how each is counted
 abbrev pub counts : ℕ → Outcome → ℕ → ℕ → Event
@@ -119,12 +133,14 @@ counts command result length altered = event.Answered (record { command = comman
 
 -- from what the call comes to, so that it is not computed again
 pub counted-from : (x : Lent) (length : ℕ) (table buffer : List ℕ) → serve x ≡ comes length table buffer → checkOf x ≡ Sound 1
-    → eventOf x ≡ counts (commandOf (x .request)) (resultOf x) length (alteredUpTo (x .table) table 1)
+    → eventOf x ≡ counts (commandOf (x .request)) (decision x 1 .given .verdict .result) length (alteredUpTo (x .table) table 1)
 unfolding eventOf
 counted-from x length table buffer e f =
     ap (λ (y : Served). eventBy x (y .call)) e
     ∙ ap (λ (n : ℕ). counts (commandOf (x .request)) (resultOf x) length n)
-    (ap (λ (y : Served). alteredUpTo (x .table) (y .table) (checkValue (checkOf x))) e ∙ ap (λ (c : Checked). alteredUpTo (x .table) table (checkValue c)) f)
+    (ap (λ (y : Served). alteredUpTo (x .table) (y .table) (checkValue (checkOf x))) e)
+    ∙ ap (λ (c : Checked). counts (commandOf (x .request)) (decision x (checkValue c) .given .verdict .result) length
+    (alteredUpTo (x .table) table (checkValue c))) f
 
 pub located-counts : eventOf (lending lir here room) ≡ counts 302 (Base 2001) 132 0
 unfolding all

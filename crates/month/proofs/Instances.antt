@@ -6,9 +6,9 @@ use mathlib.Core.Logic.{inl, inr}
 use native.Mathlib.Omega.{arith}
 use lib.ListN.{length, getD, take, drop}
 use lib.Dec.{lit≤, lit<}
-use Rattle.table.specs.Blocks.{blockOf}
+use Rattle.blocks.specs.Blocks.{blockOf}
 use Rattle.table.specs.Check.{checkTable}
-use Rattle.table.specs.declared.Checked.the-variants.{Sound}
+use Rattle.blocks.specs.declared.Checked.the-variants.{Sound}
 use Rattle.reading.specs.declared.Outcome.the-variants.{Base}
 use Rattle.reading.specs.Verdicts.{numberOf}
 use Rattle.counting.specs.Results.{listed}
@@ -25,8 +25,8 @@ use Rattle.numbers.specs.Area.{wordIn, rowsIn, refusalsIn}
 use Rattle.numbers.specs.File.{joined, Breaks}
 use Rattle.numbers.specs.Turns.{eventsOf, Place, callAt, answerLength, alteredOver, allIdle, goingOn}
 use Rattle.numbers.proofs.Numbers as numbers
-use Rattle.worked.proofs.Sample.{block}
-use Rattle.month.proofs.Calls.{lir, removal, strayed, scrap, file, here, room, month, each, sound-here, counts, all}
+use Rattle.worked.proofs.Sample.{block, room}
+use Rattle.month.proofs.Calls.{lir, removal, strayed, scrap, file, here, month, each, sound-here, counts, all}
 use Rattle.month.proofs.Calls.{located-counts}
 use Rattle.month.proofs.Month.{area, enough, month-requests, month-stop, month-number, month-events, counting}
 

@@ -2,12 +2,15 @@
 use Prim.Native.Nat.{ℕ, _^_, _≤_, _<_}
 use mathlib.Core.Path.{_≡_, refl, sym, ap, _∙_}
 use mathlib.Core.Logic.{_≢_}
+use mathlib.Core.Bool.{false}
 use mathlib.Core.List.{List, [], _∷_, _++_}
 use native.Mathlib.Omega.{arith}
 use lib.ListN.{length, getD, set, length-set}
 use lib.Seq.{getD-set-other}
 use Rattle.octets.specs.Run.{over}
+use Rattle.blocks.specs.declared.Checked.the-variants.{Sound}
 use Rattle.diameter.specs.Message.{commandOf}
+use Rattle.pen.specs.Bytes.{numberBytes}
 use Rattle.reading.specs.declared.Outcome.{Outcome}
 use Rattle.reading.specs.declared.Outcome.the-variants.{Base}
 use Rattle.counting.specs.Counted.{wordAt, countsOf}
@@ -16,17 +19,20 @@ use Rattle.counting.specs.declared.Event.{Event}
 use Rattle.counting.specs.declared.Event.the-variants as event
 use Rattle.counting.proofs.Counts.{counts-length, counts-at}
 use Rattle.calling.specs.Lent.{Lent, asking}
+use Rattle.calling.specs.Serve.{Served}
 use Rattle.ndushavire.specs.Word.{word}
 use Rattle.ndushavire.specs.Reads.{numberIn}
 use Rattle.ndushavire.specs.Promise.{ReportPromise}
 use Rattle.reporting.specs.Pieces.{stopOf}
-use Rattle.reporting.specs.Row.{eventOf, row}
+use Rattle.reporting.specs.Row.{eventBy, eventOf, row}
 use Rattle.reporting.specs.Report.{Reported, requestsOf, reported}
 use Rattle.numbers.specs.Area.{wordIn}
 use Rattle.numbers.specs.Turns.{eventsOf}
 use Rattle.numbers.proofs.Numbers.{report-meant, report-word}
 use Rattle.numbers.proofs.Words.{area-word}
-use Rattle.month.proofs.Calls.{removal, strayed, here, room, month, lending, counts, located-counts, all}
+use Rattle.worked.proofs.Computed.{known, come, roomy, no-vectors}
+use Rattle.worked.proofs.Sample.{answer, room}
+use Rattle.month.proofs.Calls.{removal, strayed, here, gone, month, sound-here, lending, counts, counted-from, located-counts, all}
 use Rattle.month.proofs.Month.{area, enough, month-requests, month-events, month-number, month-table, counting}
 
 -- what a report leaves
@@ -86,12 +92,16 @@ forgetting = counting-by (λ (x : Lent). apart x (requestsOf x))
 
 -- the LIR after the removal would find the line again: B2001 twice, where the definitions have it once
 removed-apart : eventOf (lending removal here room) ≡ counts 301 (Base 2001) 116 1
-unfolding all eventOf
-removed-apart = refl
+unfolding all
+removed-apart =
+    counted-from (lending removal here room) 116 gone (over (answer (numberBytes 268 2001) []) room)
+    (come (lending removal here room) roomy sound-here no-vectors refl) sound-here
 
 strayed-apart : eventOf (lending strayed here room) ≡ event.Refused 4
 unfolding all eventOf
-strayed-apart = refl
+strayed-apart =
+    let x = lending strayed here room in
+    ap (λ (y : Served). eventBy x (y .call)) (come x {y = known false (Sound 1) (Sound 0) x} roomy sound-here no-vectors refl)
 
 apart-month : apart month (requestsOf month)
     ≡ counts 302 (Base 2001) 132 0 ∷ counts 301 (Base 2001) 116 1 ∷ counts 302 (Base 2001) 132 0 ∷ event.Refused 4 ∷ []

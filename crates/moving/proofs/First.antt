@@ -5,9 +5,9 @@ use mathlib.Core.Path.{_≡_, refl, sym}
 use native.Mathlib.Omega.{arith}
 use lib.Dec.{eqb}
 use borrow.Author.Tests.{eqb-true, eqb-false}
-use Rattle.table.specs.Check.{firstBad}
-use Rattle.table.specs.declared.Checked.the-variants.{Bad}
-use Rattle.table.proofs.First.{bad-sound}
+use Rattle.blocks.specs.Blocks.{firstBad}
+use Rattle.blocks.specs.declared.Checked.the-variants.{Bad}
+use Rattle.blocks.proofs.First.{bad-sound}
 
 pub record FirstNot (good : ℕ → Bool) (n k j : ℕ) : Type 0 where
   pub from : k ≤ j

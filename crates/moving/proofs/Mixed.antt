@@ -14,9 +14,9 @@ use Rattle.record.specs.HeaderBlock.{headerOf, soundHeader}
 use Rattle.record.specs.RecordBlock.{recordOf, soundRecord}
 use Rattle.record.specs.declared.header.Header.{Header}
 use Rattle.record.proofs.Tests.{record-says}
-use Rattle.table.specs.Blocks.{blockOf}
+use Rattle.blocks.specs.Blocks.{blockOf}
 use Rattle.table.specs.Check.{standsAt, soundAt, checkRecords, checkTable}
-use Rattle.table.specs.declared.Checked.the-variants.{Sound, Bad}
+use Rattle.blocks.specs.declared.Checked.the-variants.{Sound, Bad}
 use Rattle.table.proofs.Sound.{table-says}
 use Rattle.moving.specs.Outcomes.{Mixes}
 use Rattle.moving.proofs.First.{FirstNot, bad-holds}

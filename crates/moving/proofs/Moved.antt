@@ -18,11 +18,12 @@ use Rattle.record.specs.RecordBlock.{recordOf, soundRecord}
 use Rattle.record.specs.declared.header.Header.{Header}
 use Rattle.record.proofs.OneSet.{SameMember}
 use Rattle.record.proofs.Tests.{RecordTests, record-says, record-holds, Limits, limits-say, header-says}
-use Rattle.table.specs.Blocks.{blockOf, publicAt}
+use Rattle.blocks.specs.Blocks.{blockOf}
+use Rattle.table.specs.Named.{publicAt}
 use Rattle.table.specs.Check.{isLess, risesAt, standsAt, agreesAt, soundAt, checkTable}
-use Rattle.table.specs.declared.Checked.the-variants.{Sound}
+use Rattle.blocks.specs.declared.Checked.the-variants.{Sound}
 use Rattle.table.proofs.Agreement.{agrees-alike}
-use Rattle.table.proofs.Blocks.{block-length, table-is, table-same}
+use Rattle.blocks.proofs.Blocks.{block-length, table-is, table-same}
 use Rattle.table.proofs.Sound.{TableTests, table-holds}
 use Rattle.blocks.specs.Changed.{changedAt}
 use Rattle.blocks.proofs.Changed.{all-length, all-block}

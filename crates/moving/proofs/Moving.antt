@@ -3,9 +3,9 @@ use Prim.Native.Nat.{ℕ, _^_, _<_, _≤_}
 use mathlib.Core.Path.{_≡_, sym, _∙_}
 use mathlib.Core.List.{List}
 use Rattle.record.specs.Fields.{editionOf, issueOf}
-use Rattle.table.specs.Blocks.{blockOf}
+use Rattle.blocks.specs.Blocks.{blockOf}
 use Rattle.table.specs.Check.{checkTable}
-use Rattle.table.specs.declared.Checked.the-variants.{Sound, Bad}
+use Rattle.blocks.specs.declared.Checked.the-variants.{Sound, Bad}
 use Rattle.moving.specs.Outcomes.{Outcome, came, refusing, moving, forward, back, OtherEdition, HasSets, WithoutSets}
 use Rattle.moving.specs.Outcomes.{Mixes, ForwardMoves, BackMoves, ForwardRefuses, BackRefuses, SameTable}
 use Rattle.moving.specs.declared.Move.{Move}

@@ -11,12 +11,12 @@ use Rattle.record.specs.Fields.{editionOf, issueOf, setOf}
 use Rattle.record.specs.HeaderBlock.{headerOf}
 use Rattle.record.specs.RecordBlock.{recordOf}
 use Rattle.record.proofs.Tests.{HeaderTests, header-says}
-use Rattle.table.specs.Blocks.{blockOf}
+use Rattle.blocks.specs.Blocks.{blockOf}
 use Rattle.table.specs.Check.{checkTable}
 use Rattle.table.specs.SoundTable.{SoundTable}
-use Rattle.table.specs.declared.Checked.{Checked}
-use Rattle.table.specs.declared.Checked.the-variants.{Sound, Bad}
-use Rattle.table.proofs.First.{good-each, all-good}
+use Rattle.blocks.specs.declared.Checked.{Checked}
+use Rattle.blocks.specs.declared.Checked.the-variants.{Sound, Bad}
+use Rattle.blocks.proofs.First.{good-each, all-good}
 use Rattle.table.proofs.Sound.{TableTests, table-says, sound-networks, sound-place}
 use Rattle.moving.specs.Moves.{movedAll, noSet, firstSet, Carried}
 use Rattle.moving.specs.Outcomes.{Outcome, came, refusing, moving, forwardSound, backPast, backSound, forwardChecked, backChecked, forward, back}

@@ -9,7 +9,7 @@ use Rattle.octets.specs.Number.{four, be32At, putBe32}
 use Rattle.octets.specs.Sum.{sumWords}
 use Rattle.octets.proofs.Sums.{sum-lt}
 use Rattle.record.specs.Fields.{editionOf, issueOf}
-use Rattle.table.specs.Blocks.{blockOf}
+use Rattle.blocks.specs.Blocks.{blockOf}
 use Rattle.blocks.specs.Sealed.{negated, sealed}
 use Rattle.moving.specs.Moves.{moved}
 use Rattle.moving.proofs.Bytes.{drafted}

@@ -11,9 +11,9 @@ use lib.ListN.{length, set, length-set}
 use borrow.Author.Tests.{eqb-true, eqb-false, lt-ltb, le-ltb, ltb-true, ltb-false}
 use borrow.Rule.Slice.PartMut.{midOf, putMid}
 use Rattle.octets.specs.Number.{be16At, putBe32}
-use Rattle.table.specs.Blocks.{blockOf}
-use Rattle.table.specs.Check.{firstBad}
-use Rattle.table.proofs.Blocks.{table-is, table-same}
+use Rattle.blocks.specs.Blocks.{blockOf}
+use Rattle.blocks.specs.Blocks.{firstBad}
+use Rattle.blocks.proofs.Blocks.{table-is, table-same}
 use Rattle.blocks.specs.Sealed.{sealed}
 use Rattle.blocks.specs.Changed.{changedAt, changedAll, changedIn}
 use Rattle.blocks.proofs.Sealed.{sealed-length}

@@ -8,11 +8,11 @@ use lib.Seq.{getD-take}
 use native.Mathlib.Omega.{arith}
 use borrow.Author.Tests.{eq-eqb, ne-eqb}
 use Rattle.record.specs.Fields.{editionOf}
-use Rattle.table.specs.Blocks.{blockOf}
+use Rattle.blocks.specs.Blocks.{blockOf}
 use Rattle.table.specs.Check.{checkTable}
 use Rattle.table.specs.SoundTable.{SoundTable}
-use Rattle.table.specs.declared.Checked.{Checked}
-use Rattle.table.specs.declared.Checked.the-variants.{Sound, Bad}
+use Rattle.blocks.specs.declared.Checked.{Checked}
+use Rattle.blocks.specs.declared.Checked.the-variants.{Sound, Bad}
 use Rattle.table.proofs.Sound.{sound-size, sound-few}
 use Rattle.moving.specs.Moves.{movedAll, firstSet}
 use Rattle.moving.specs.Outcomes.{came, forwardSound, backPast, backSound, forwardChecked, backChecked, forward, back}

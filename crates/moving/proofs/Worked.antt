@@ -19,9 +19,11 @@ use Rattle.record.specs.Fields.{editionOf, issueOf, setOf, publicOf, serverOf}
 use Rattle.record.specs.HeaderBlock.{headerOf, soundHeader}
 use Rattle.record.specs.Networks.{usedPlace, soundPlace, sameByte, otherPlace, newPlace, soundNetworks}
 use Rattle.record.specs.RecordBlock.{recordOf, soundRecord}
-use Rattle.table.specs.Blocks.{blockOf, tableOf, publicAt}
-use Rattle.table.specs.Check.{risesAt, standsAt, agreesWith, agreesAt, soundAt, firstBad, checkRecords, checkTable}
-use Rattle.table.specs.declared.Checked.the-variants.{Sound, Bad}
+use Rattle.blocks.specs.Blocks.{blockOf, tableOf}
+use Rattle.table.specs.Named.{publicAt}
+use Rattle.blocks.specs.Blocks.{firstBad}
+use Rattle.table.specs.Check.{risesAt, standsAt, agreesWith, agreesAt, soundAt, checkRecords, checkTable}
+use Rattle.blocks.specs.declared.Checked.the-variants.{Sound, Bad}
 use Rattle.blocks.specs.Sealed.{negated, sealed}
 use Rattle.blocks.specs.Changed.{changedAt, changedAll}
 use Rattle.moving.specs.Moves.{moved, movedAll, noSet, firstSet}

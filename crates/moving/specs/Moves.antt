@@ -9,9 +9,9 @@ use Rattle.octets.specs.Number.{putBe32}
 use Rattle.record.specs.Fields.{setOf}
 use Rattle.record.specs.declared.header.Header.{Header}
 use Rattle.record.specs.declared.subscriber.Record.{Record}
-use Rattle.table.specs.Blocks.{blockOf}
-use Rattle.table.specs.Check.{firstBad}
-use Rattle.table.specs.declared.Checked.{Checked}
+use Rattle.blocks.specs.Blocks.{blockOf}
+use Rattle.blocks.specs.Blocks.{firstBad}
+use Rattle.blocks.specs.declared.Checked.{Checked}
 use Rattle.blocks.specs.Sealed.{sealed}
 use Rattle.blocks.specs.Changed.{changedAll}
 

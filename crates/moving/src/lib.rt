@@ -1,8 +1,8 @@
 // The move of a table from edition 1 to edition 2, and the move back, in place.
+use blocks::Checked;
 use octets::number;
 use record::header::Header;
 use record::subscriber::Record;
-use table::Checked;
 ghost use mathlib.Core.Path.{_≡_};
 ghost use Prim.Native.Nat.{_+_, _*_, _≤_};
 ghost use lib.ListN.{length};
@@ -37,8 +37,8 @@ fn move_at(t: &mut [u8], k: usize, edition: u8, issue: u32)
     requires { ⌜ 512 * k + 512 ≤ length (now t) ⌝ }
     ensures { λ _. ⌜ now (t .exit) ≡ changedIn (now (t .entry)) k (moved edition issue) ⌝ }
 {
-    let at = table::BLOCK * k;
-    move_block(&mut t[at..at + table::BLOCK], edition, issue);
+    let at = blocks::BLOCK * k;
+    move_block(&mut t[at..at + blocks::BLOCK], edition, issue);
 }
 
 // Every block, the header too.
@@ -58,7 +58,7 @@ fn no_set(t: &[u8], k: usize) -> bool
     requires { ⌜ 512 * k + 512 ≤ length (now t) ⌝ }
     ensures { λ r. ⌜ r ≡ noSet (now (t .entry)) k ⌝ }
 {
-    number::be16(table::block(t, k), Record::SET_AT) == 0
+    number::be16(blocks::block(t, k), Record::SET_AT) == 0
 }
 
 // The first record that has a set, and the count where none has.

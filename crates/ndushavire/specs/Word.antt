@@ -5,8 +5,8 @@ use Rattle.calling.specs.Call.{Answered, Refused}
 use Rattle.moving.specs.declared.Move.{Move}
 use Rattle.moving.specs.declared.Move.the-variants as move
 use Rattle.moving.specs.declared.Move.the-variants.{Moved}
-use Rattle.table.specs.declared.Checked.{Checked}
-use Rattle.table.specs.declared.Checked.the-variants.{Sound, Bad}
+use Rattle.blocks.specs.declared.Checked.{Checked}
+use Rattle.blocks.specs.declared.Checked.the-variants.{Sound, Bad}
 
 abbrev pub word : ℕ → ℕ → ℕ → ℕ
 word number place value = number * 281474976710656 + place * 4294967296 + value

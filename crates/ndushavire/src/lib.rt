@@ -1,7 +1,7 @@
 // What the daemon calls.
+use blocks::Checked;
 use calling::Came;
 use moving::Move;
-use table::Checked;
 ghost use mathlib.Core.Path.{_≡_};
 ghost use Rattle.calling.specs.Call.{callOf};
 ghost use Rattle.calling.specs.Lent.{lent};

@@ -10,7 +10,7 @@ use lib.Dec.{leb}
 use borrow.Author.Tests.{leb-true, leb-false}
 use Rattle.octets.specs.Name.{same}
 use Rattle.octets.proofs.Names.{same-refl}
-use Rattle.table.specs.Blocks.{blockOf}
+use Rattle.blocks.specs.Blocks.{blockOf}
 use Rattle.rewrite.specs.Change.{differ, alteredUpTo}
 use Rattle.fitting.proofs.Room.{answer-most}
 use Rattle.counting.specs.Counted.{alteredIn, largestIn}

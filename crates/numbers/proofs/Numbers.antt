@@ -8,9 +8,9 @@ use mathlib.Core.Path.{_≡_}
 use mathlib.Core.Logic.{_⊎_, _≢_}
 use lib.ListN.{length, getD, take, drop}
 use lib.Dec.{eqb, ltb}
-use Rattle.table.specs.Blocks.{blockOf}
+use Rattle.blocks.specs.Blocks.{blockOf}
 use Rattle.table.specs.Check.{checkTable}
-use Rattle.table.specs.declared.Checked.the-variants.{Sound, Bad}
+use Rattle.blocks.specs.declared.Checked.the-variants.{Sound, Bad}
 use Rattle.vectors.specs.VectorFile.{checkVectors}
 use Rattle.rewrite.specs.Change.{alterable}
 use Rattle.reading.specs.declared.Outcome.{Outcome}

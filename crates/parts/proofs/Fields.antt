@@ -15,7 +15,7 @@ use Rattle.octets.proofs.Parts.{part-cut}
 use Rattle.record.specs.Fields.{mandatoryCount, optionalCount, hostOf, realmOf, privateOf, publicOf, serverOf, mandatoryOf, optionalOf, profileOf}
 use Rattle.record.specs.HeaderBlock.{headerOf}
 use Rattle.record.specs.RecordBlock.{recordOf}
-use Rattle.table.specs.Blocks.{blockOf, ofBlock}
+use Rattle.blocks.specs.Blocks.{blockOf, ofBlock}
 use Rattle.table.specs.SoundTable.{SoundTable}
 use Rattle.table.proofs.Sound.{sound-size, sound-header, sound-limits}
 use Rattle.parts.specs.Profile.{profileAt}

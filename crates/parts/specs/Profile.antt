@@ -2,7 +2,7 @@
 use Prim.Native.Nat.{ℕ}
 use mathlib.Core.List.{List}
 use Rattle.record.specs.Fields.{profileOf}
-use Rattle.table.specs.Blocks.{ofBlock}
+use Rattle.blocks.specs.Blocks.{ofBlock}
 
 -- the user data of block k, nothing of block 0
 abbrev pub profileAt : List ℕ → List ℕ → ℕ → List ℕ

@@ -9,7 +9,7 @@ ghost use Prim.Native.Nat.{_+_, _*_, _≤_};
 ghost use lib.ListN.{length, take, drop};
 ghost use lib.Dec.{leb, ltb};
 ghost use Rattle.record.specs.Fields.{hostOf, realmOf, privateOf, publicOf, serverOf, mandatoryOf, optionalOf, profileOf};
-ghost use Rattle.table.specs.Blocks.{blockOf, ofBlock};
+ghost use Rattle.blocks.specs.Blocks.{blockOf, ofBlock};
 ghost use Rattle.table.specs.SoundTable.{SoundTable};
 ghost use Rattle.parts.specs.Profile.{profileAt};
 
@@ -18,14 +18,14 @@ pub fn host(t: &[u8], count: usize) -> &[u8]
     requires { ⌜ SoundTable (now t) count ⌝ }
     ensures { λ r. ⌜ (now r ≡ hostOf (blockOf (now (t .entry)) 0)) × (length (now r) ≤ 64) ⌝ }
 {
-    fields::host(table::block(t, 0))
+    fields::host(blocks::block(t, 0))
 }
 
 pub fn realm(t: &[u8], count: usize) -> &[u8]
     requires { ⌜ SoundTable (now t) count ⌝ }
     ensures { λ r. ⌜ (now r ≡ realmOf (blockOf (now (t .entry)) 0)) × (length (now r) ≤ 64) ⌝ }
 {
-    fields::realm(table::block(t, 0))
+    fields::realm(blocks::block(t, 0))
 }
 
 // Whether a block number is a record's.
@@ -41,7 +41,7 @@ pub fn user(t: &[u8], count: usize, k: usize) -> &[u8]
     ensures { λ r. ⌜ (now r ≡ ofBlock privateOf (now (t .entry)) k) × (length (now r) ≤ 128) ⌝ }
 {
     if has_record(count, k) {
-        return fields::private(table::block(t, k));
+        return fields::private(blocks::block(t, k));
     }
     &t[..0]
 }
@@ -51,7 +51,7 @@ pub fn public(t: &[u8], count: usize, k: usize) -> &[u8]
     ensures { λ r. ⌜ (now r ≡ ofBlock publicOf (now (t .entry)) k) × (length (now r) ≤ 128) ⌝ }
 {
     if has_record(count, k) {
-        return fields::public(table::block(t, k));
+        return fields::public(blocks::block(t, k));
     }
     &t[..0]
 }
@@ -61,7 +61,7 @@ pub fn server(t: &[u8], count: usize, k: usize) -> &[u8]
     ensures { λ r. ⌜ (now r ≡ ofBlock serverOf (now (t .entry)) k) × (length (now r) ≤ 96) ⌝ }
 {
     if has_record(count, k) {
-        return fields::server(table::block(t, k));
+        return fields::server(blocks::block(t, k));
     }
     &t[..0]
 }
@@ -79,7 +79,7 @@ pub fn mandatory(t: &[u8], count: usize, k: usize) -> &[u8]
     ensures { λ r. ⌜ (now r ≡ ofBlock mandatoryOf (now (t .entry)) k) × (length (now r) ≤ 16) ⌝ }
 {
     if has_record(count, k) {
-        let b = table::block(t, k);
+        let b = blocks::block(t, k);
         return words(
             b,
             Record::MANDATORY_AT,
@@ -94,7 +94,7 @@ pub fn optional(t: &[u8], count: usize, k: usize) -> &[u8]
     ensures { λ r. ⌜ (now r ≡ ofBlock optionalOf (now (t .entry)) k) × (length (now r) ≤ 16) ⌝ }
 {
     if has_record(count, k) {
-        let b = table::block(t, k);
+        let b = blocks::block(t, k);
         return words(
             b,
             Record::OPTIONAL_AT,
@@ -124,7 +124,7 @@ pub fn profile<'a>(t: &[u8], count: usize, file: &'a [u8], k: usize) -> &'a [u8]
     ensures { λ r. ⌜ (now r ≡ profileAt (now (t .entry)) (now (file .entry)) k) × (length (now r) ≤ 4096) ⌝ }
 {
     if has_record(count, k) {
-        return profile_in(table::block(t, k), file);
+        return profile_in(blocks::block(t, k), file);
     }
     &file[..0]
 }

@@ -6,7 +6,7 @@ use native.Mathlib.Omega.{arith}
 use lib.Dec.{ltb}
 use lib.ListN.{length, length-append, length-take, length-drop}
 use Rattle.record.specs.Fields.{hostOf, realmOf, privateOf, publicOf, serverOf, mandatoryOf, optionalOf}
-use Rattle.table.specs.Blocks.{blockOf, ofBlock}
+use Rattle.blocks.specs.Blocks.{blockOf, ofBlock}
 use Rattle.table.specs.SoundTable.{SoundTable}
 use Rattle.pen.specs.Bytes.{copiedSize, avpBytes, vendorBytes}
 use Rattle.pen.proofs.Sizes.{copied-length, avp-length, vendor-length, number-length, there-length}

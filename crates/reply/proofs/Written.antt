@@ -8,7 +8,7 @@ use borrow.Author.Tests.{eq-eqb, ne-eqb}
 use Rattle.octets.specs.Run.{Wrote}
 use Rattle.octets.proofs.Writes.{lent, back, then, named}
 use Rattle.record.specs.Fields.{hostOf, realmOf, privateOf, publicOf, serverOf, mandatoryOf, optionalOf}
-use Rattle.table.specs.Blocks.{blockOf, ofBlock}
+use Rattle.blocks.specs.Blocks.{blockOf, ofBlock}
 use Rattle.pen.specs.Bytes.{copiedSize, avpBytes, avpSize, numberBytes}
 use Rattle.pen.specs.Groups.{experimental, capabilities}
 use Rattle.pen.proofs.Sizes.{copied-length, avp-length, number-length}

@@ -6,7 +6,7 @@ use mathlib.Core.Bool.{cond}
 use lib.ListN.{length, getD, take, drop}
 use lib.Dec.{eqb, ltb}
 use Rattle.record.specs.Fields.{hostOf, realmOf, privateOf, publicOf, serverOf, mandatoryOf, optionalOf}
-use Rattle.table.specs.Blocks.{blockOf, ofBlock}
+use Rattle.blocks.specs.Blocks.{blockOf, ofBlock}
 use Rattle.diameter.specs.Walk.{Walk, ended, faulty, avp}
 use Rattle.pen.specs.Bytes.{copied, avpBytes, vendorBytes, numberBytes, ifThere}
 use Rattle.pen.specs.Groups.{vendorApplication, experimental, capabilities, failed}

@@ -5,7 +5,7 @@ ghost use mathlib.Core.Path.{_≡_};
 ghost use Prim.Native.Nat.{_+_, _≤_};
 ghost use lib.ListN.{length};
 ghost use Rattle.octets.specs.Run.{Wrote};
-ghost use Rattle.table.specs.Blocks.{blockOf};
+ghost use Rattle.blocks.specs.Blocks.{blockOf};
 ghost use Rattle.pen.specs.Bytes.{copiedSize};
 ghost use Rattle.diameter.specs.Message.{bodyOf};
 ghost use Rattle.requests.specs.Request.{sessionOf};

@@ -5,7 +5,7 @@ use mathlib.Core.Path.{_≡_, refl, sym, ap, _∙_}
 use native.Mathlib.Omega.{arith}
 use lib.ListN.{length}
 use Rattle.table.specs.Check.{checkTable}
-use Rattle.table.specs.declared.Checked.{Checked}
+use Rattle.blocks.specs.declared.Checked.{Checked}
 use Rattle.diameter.specs.Message.{commandOf}
 use Rattle.counting.specs.Counted.{Fits, counted}
 use Rattle.counting.specs.declared.Event.{Event}

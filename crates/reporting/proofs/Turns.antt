@@ -7,7 +7,7 @@ use native.Mathlib.Omega.{arith}
 use lib.ListN.{length, take, drop, length-take, length-drop}
 use lib.Seq.{drop-drop, take-all}
 use Rattle.table.specs.Check.{checkTable}
-use Rattle.table.specs.declared.Checked.{Checked}
+use Rattle.blocks.specs.declared.Checked.{Checked}
 use Rattle.vectors.specs.VectorFile.{checkVectors}
 use Rattle.counting.specs.Counted.{counted, countedAll}
 use Rattle.calling.specs.Lent.{Lent, lent}

@@ -1,11 +1,11 @@
 // A report over a file of requests laid end to end: each is decided in turn and counted.
+use blocks::Checked;
 use calling::Came;
 use counting::Entry;
 use counting::Event;
 use counting::words;
 use diameter::message;
 use octets::number;
-use table::Checked;
 ghost use mathlib.Core.Bool.{cond};
 ghost use mathlib.Core.Path.{_≡_};
 ghost use Prim.Native.Nat.{_≤_};

@@ -9,8 +9,8 @@ use lib.Dec.{eqb}
 use borrow.Author.Tests.{eqb-true, eqb-false}
 use lib.ListN.{length}
 use Rattle.octets.specs.Name.{same}
-use Rattle.table.specs.Blocks.{blockOf}
-use Rattle.table.proofs.Blocks.{block-length}
+use Rattle.blocks.specs.Blocks.{blockOf}
+use Rattle.blocks.proofs.Blocks.{block-length}
 use Rattle.blocks.specs.Changed.{changedAt, changedIn}
 use Rattle.blocks.proofs.Changed.{in-here, in-other}
 use Rattle.rewrite.specs.Change.{afterOf, Keeps, differ, alteredUpTo}

@@ -16,7 +16,7 @@ use Rattle.record.specs.HeaderBlock.{headerOf, soundCounts, isHeader, soundNumb
 use Rattle.record.specs.Networks.{soundNetworks}
 use Rattle.record.specs.Sets.{sameSet}
 use Rattle.record.proofs.OneSet.{OneSet, set-apart, set-says, set-sym, set-trans, set-own}
-use Rattle.table.specs.Blocks.{blockOf}
+use Rattle.blocks.specs.Blocks.{blockOf}
 use Rattle.table.specs.SoundTable.{SoundTable}
 use Rattle.table.proofs.Sound.{sound-tests}
 use Rattle.blocks.specs.Changed.{isOne}

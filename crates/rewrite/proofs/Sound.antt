@@ -17,9 +17,10 @@ use Rattle.record.specs.RecordBlock.{recordOf, soundRecord}
 use Rattle.record.specs.Sets.{sameSet}
 use Rattle.record.specs.declared.header.Header.{Header}
 use Rattle.record.proofs.OneSet.{set-alike}
-use Rattle.table.specs.Blocks.{blockOf, publicAt}
+use Rattle.blocks.specs.Blocks.{blockOf}
+use Rattle.table.specs.Named.{publicAt}
 use Rattle.table.specs.Check.{isLess, risesAt, standsAt, agreesAt, soundAt, checkTable}
-use Rattle.table.specs.declared.Checked.the-variants.{Sound}
+use Rattle.blocks.specs.declared.Checked.the-variants.{Sound}
 use Rattle.table.specs.SoundTable.{SoundTable}
 use Rattle.table.proofs.Agreement.{agrees-holds}
 use Rattle.table.proofs.Sound.{TableTests, table-holds, sound-tests, sound-record, sound-agrees, sound-limits, sound-public}

@@ -7,8 +7,8 @@ use native.Mathlib.Omega.{arith}
 use lib.Dec.{eqb}
 use borrow.Author.Tests.{eqb-true, eqb-false, ne-eqb}
 use lib.ListN.{length}
-use Rattle.table.specs.Blocks.{blockOf}
-use Rattle.table.proofs.Blocks.{block-length, table-is, table-same}
+use Rattle.blocks.specs.Blocks.{blockOf}
+use Rattle.blocks.proofs.Blocks.{block-length, table-is, table-same}
 use Rattle.record.specs.Sets.{sameSet, agreeing}
 use Rattle.blocks.specs.Changed.{changedAt, changedAll, changedIn}
 use Rattle.blocks.proofs.Changed.{Whole, in-length, in-here, in-other, all-none, all-length, all-block}

@@ -22,9 +22,9 @@ use Rattle.record.specs.Sets.{sameSet, agreeing}
 use Rattle.record.specs.declared.header.Header.{Header}
 use Rattle.record.proofs.OneSet.{Agree, agree-says, agree-refl, agree-sym, set-sym}
 use Rattle.record.proofs.Tests.{RecordTests, record-says, Zeros, rest-says}
-use Rattle.table.specs.Blocks.{blockOf}
+use Rattle.blocks.specs.Blocks.{blockOf}
 use Rattle.table.specs.SoundTable.{SoundTable}
-use Rattle.table.proofs.Blocks.{block-length}
+use Rattle.blocks.proofs.Blocks.{block-length}
 use Rattle.table.proofs.Sound.{sound-size, sound-block, sound-record, sound-agrees}
 use Rattle.rewrite.specs.Change.{afterOf, reaches, Keeps, differ}
 use Rattle.rewrite.specs.Renew.{renewed, settled, challenged, changeOf, ChangeFits}

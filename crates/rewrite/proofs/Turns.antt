@@ -12,9 +12,9 @@ use borrow.Author.Tests.{eqb-true, eqb-false, le-leb, lt-leb, leb-true, leb-fals
 use Rattle.record.specs.Fields.{setOf}
 use Rattle.record.specs.Sets.{sameSet}
 use Rattle.record.proofs.OneSet.{set-alike}
-use Rattle.table.specs.Blocks.{blockOf}
+use Rattle.blocks.specs.Blocks.{blockOf}
 use Rattle.table.specs.SoundTable.{SoundTable}
-use Rattle.table.proofs.Blocks.{block-length, table-is, table-same}
+use Rattle.blocks.proofs.Blocks.{block-length, table-is, table-same}
 use Rattle.table.proofs.Sound.{sound-size}
 use Rattle.blocks.specs.Changed.{changedAt, changedAll, changedIn}
 use Rattle.blocks.proofs.Changed.{in-length, in-here, in-other}

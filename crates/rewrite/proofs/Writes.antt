@@ -16,7 +16,7 @@ use Rattle.record.specs.Fields.{stateOf, bitsOf, serverOf, cleared, pendingSet}
 use Rattle.record.specs.RecordBlock.{recordOf}
 use Rattle.record.specs.Sets.{sameSet}
 use Rattle.record.specs.declared.subscriber.Record.{Record}
-use Rattle.table.specs.Blocks.{blockOf}
+use Rattle.blocks.specs.Blocks.{blockOf}
 use Rattle.blocks.specs.Sealed.{sealed}
 use Rattle.blocks.specs.Changed.{changedIn}
 use Rattle.blocks.proofs.Sealed.{sealed-length}

@@ -10,7 +10,7 @@ use Rattle.record.specs.Fields.{bitsOf}
 use Rattle.record.specs.RecordBlock.{soundRecord}
 use Rattle.record.specs.Sets.{sameSet, agreeing}
 use Rattle.record.specs.declared.header.Header.{Header}
-use Rattle.table.specs.Blocks.{blockOf}
+use Rattle.blocks.specs.Blocks.{blockOf}
 use Rattle.blocks.specs.Changed.{changedAll}
 
 -- a choice is a test of block numbers, false of 0

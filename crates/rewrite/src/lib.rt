@@ -13,7 +13,7 @@ ghost use lib.ListN.{length};
 ghost use Rattle.octets.specs.Name.{same};
 ghost use Rattle.record.specs.Fields.{setOf};
 ghost use Rattle.record.specs.Sets.{sameSet};
-ghost use Rattle.table.specs.Blocks.{blockOf};
+ghost use Rattle.blocks.specs.Blocks.{blockOf};
 ghost use Rattle.table.specs.SoundTable.{SoundTable};
 ghost use Rattle.blocks.specs.Changed.{changedIn};
 ghost use Rattle.rewrite.specs.Change.{afterOf, reaches, differ, alteredUpTo};
@@ -100,8 +100,8 @@ fn change_at(t: &mut [u8], k: usize, c: Change, name: &[u8]) -> u32
     ensures { λ r. ⌜ (now (t .exit) ≡ changedIn (now (t .entry)) k (changeOf c (now (name .entry))))
         × (r ≡ differ (now (t .entry)) (now (t .exit))) × (r ≤ 1) ⌝ }
 {
-    let at = table::BLOCK * k;
-    change_block(&mut t[at..at + table::BLOCK], c, name)
+    let at = blocks::BLOCK * k;
+    change_block(&mut t[at..at + blocks::BLOCK], c, name)
 }
 
 // The same, if the record is chosen.
@@ -121,7 +121,7 @@ fn same_set(t: &[u8], k: usize, j: usize) -> bool
     requires { ⌜ (512 * k + 512 ≤ length (now t)) × (512 * j + 512 ≤ length (now t)) ⌝ }
     ensures { λ r. ⌜ r ≡ sameSet (blockOf (now (t .entry)) k) (blockOf (now (t .entry)) j) ⌝ }
 {
-    sets::same_set(table::block(t, k), table::block(t, j))
+    sets::same_set(blocks::block(t, k), blocks::block(t, j))
 }
 
 // Every record of the set of block k, which has one. What is asked of block k stays as it is written.
@@ -146,7 +146,7 @@ pub fn change_set(t: &mut [u8], count: usize, k: usize, c: Change, name: &[u8]) 
     ensures { λ r. ⌜ (now (t .exit) ≡ afterOf (now (t .entry)) count (reaches (now (t .entry)) (k ∷ [])) (changeOf c (now (name .entry))))
         × (r ≡ alteredUpTo (now (t .entry)) (now (t .exit)) count) ⌝ }
 {
-    if sets::set(table::block(t, k)) == 0 {
+    if sets::set(blocks::block(t, k)) == 0 {
         return change_at(t, k, c, name);
     }
     change_members(t, count, k, c, name)

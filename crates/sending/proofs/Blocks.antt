@@ -11,8 +11,8 @@ use borrow.Author.Tests.{eqb-true, ltb-true, ltb-false}
 use Rattle.octets.specs.Name.{same}
 use Rattle.octets.proofs.All.{and-left, and-right}
 use Rattle.octets.proofs.Names.{same-eq}
-use Rattle.table.specs.Blocks.{blockOf}
-use Rattle.table.proofs.Blocks.{block-length}
+use Rattle.blocks.specs.Blocks.{blockOf}
+use Rattle.blocks.proofs.Blocks.{block-length}
 use Rattle.vectors.specs.Chosen.{unusedHere, unusedAt, unusedOf, Rising}
 use Rattle.blocks.specs.Changed.{isOne}
 use Rattle.vectors.specs.Marked.{markedUsed, spent}

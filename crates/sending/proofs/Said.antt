@@ -7,7 +7,7 @@ use native.Mathlib.Omega.{arith}
 use lib.ListN.{length, getD, take}
 use lib.Seq.{take-suc, length-take-le}
 use Rattle.octets.specs.Run.{over}
-use Rattle.table.specs.Blocks.{blockOf}
+use Rattle.blocks.specs.Blocks.{blockOf}
 use Rattle.vectors.specs.Chosen.{sentOf, Sendable}
 use Rattle.vectors.specs.declared.choice.Sent.{Sent}
 use Rattle.items.specs.Items.{itemBytes, itemsBytes, numberedBytes, sentBytes}

@@ -8,7 +8,7 @@ use mathlib.Core.Logic.{_⊎_, inl, inr, _≢_}
 use lib.ListN.{length, getD}
 use borrow.Author.Tests.{lt-ltb}
 use Rattle.octets.specs.Run.{over}
-use Rattle.table.specs.Blocks.{blockOf}
+use Rattle.blocks.specs.Blocks.{blockOf}
 use Rattle.vectors.specs.Chosen.{unusedAt, Rising}
 use Rattle.blocks.specs.Changed.{isOne}
 use Rattle.vectors.specs.VectorBlock.{cardOf}

@@ -5,7 +5,7 @@ use mathlib.Core.Bool.{false, cond}
 use mathlib.Core.Path.{_≡_}
 use lib.ListN.{length, getD}
 use lib.Dec.{ltb}
-use Rattle.table.specs.Blocks.{blockOf}
+use Rattle.blocks.specs.Blocks.{blockOf}
 use Rattle.vectors.specs.Chosen.{sentOf, unusedAt, howMany}
 use Rattle.reading.specs.Kinds.{userName, numberAuthItems}
 use Rattle.reading.specs.declared.Outcome.the-variants.{Base}

@@ -7,7 +7,7 @@ use native.Mathlib.Omega.{arith}
 use Rattle.octets.proofs.All.{all-at, all-true, all-alike}
 use Rattle.record.specs.Sets.{sameSet, agreeing}
 use Rattle.record.proofs.OneSet.{SameMember, member-set, member-agrees}
-use Rattle.table.specs.Blocks.{blockOf}
+use Rattle.blocks.specs.Blocks.{blockOf}
 use Rattle.table.specs.Check.{agreesWith, agreesAt}
 
 or-says : (x y : Bool) → (not x || y) ≡ true → x ≡ true → y ≡ true

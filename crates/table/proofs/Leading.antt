@@ -14,11 +14,12 @@ use Rattle.octets.proofs.Runs.{or-zero}
 use Rattle.record.specs.Fields.{setOf}
 use Rattle.record.specs.declared.header.Header.{Header}
 use Rattle.record.proofs.OneSet.{OneSet, set-says}
-use Rattle.table.specs.Blocks.{blockOf}
-use Rattle.table.specs.Check.{standsAt, agreesAt, soundAt, firstBad, checkRecords}
+use Rattle.blocks.specs.Blocks.{blockOf}
+use Rattle.blocks.specs.Blocks.{firstBad}
+use Rattle.table.specs.Check.{standsAt, agreesAt, soundAt, checkRecords}
 use Rattle.table.specs.Leading.{leading, setless, Setless, outcomeOf}
-use Rattle.table.specs.declared.Checked.{Checked}
-use Rattle.table.specs.declared.Checked.the-variants.{Sound, Bad}
+use Rattle.blocks.specs.declared.Checked.{Checked}
+use Rattle.blocks.specs.declared.Checked.the-variants.{Sound, Bad}
 use Rattle.table.proofs.Agreement.{agrees-holds}
 
 pub leading-all : (good : ℕ → Bool) (n : ℕ) → leading good n 1 ≡ 0 + leading good (n - 0) (0 + 1)

@@ -1,9 +1,8 @@
 pub mod Agreement
-pub mod Blocks
-pub mod First
 pub mod Hashes
 pub mod Leading
 pub mod Padded
 pub mod Remembered
+pub mod Rising
 pub mod Sound
 pub mod Verdict

@@ -18,7 +18,7 @@ use Rattle.record.specs.Fields.{publicOf, publicField, publicSize}
 use Rattle.record.specs.RecordBlock.{recordOf, soundRecord}
 use Rattle.record.specs.declared.header.Header.{Header}
 use Rattle.record.proofs.Tests.{record-says, limits-say, rest-says}
-use Rattle.table.specs.Blocks.{blockOf}
+use Rattle.blocks.specs.Blocks.{blockOf}
 use Rattle.table.specs.Check.{isLess, risesAt, standsAt}
 use Rattle.table.specs.Padded.{Padded, Before}
 

@@ -13,7 +13,7 @@ use Rattle.table.specs.Hash.{hashOf}
 use Rattle.record.specs.Sets.{sameSet, agreeing}
 use Rattle.table.proofs.Hashes.{hash-same}
 use Rattle.record.proofs.OneSet.{OneSet, set-says, set-sym, set-trans, set-own, agree-refl, agree-sym, agree-trans}
-use Rattle.table.specs.Blocks.{blockOf}
+use Rattle.blocks.specs.Blocks.{blockOf}
 use Rattle.table.specs.Check.{agreesAt}
 use Rattle.table.specs.Remembered.{tagOf, wordOf, probe, slotAt, stopsAt, filled, Word, Kept, Remembers, Passed, Found, Agreed}
 use Rattle.table.proofs.Agreement.{agrees-says, agrees-holds}

@@ -19,12 +19,13 @@ use Rattle.record.specs.Networks.{placeAt, usedPlace, soundPlace, soundNetworks
 use Rattle.record.specs.RecordBlock.{recordOf, soundRecord}
 use Rattle.record.specs.Sets.{sameSet, agreeing}
 use Rattle.record.proofs.Tests.{RecordTests, record-says, Limits, limits-say, HeaderTests, header-says}
-use Rattle.table.specs.Blocks.{blockOf, publicAt}
+use Rattle.blocks.specs.Blocks.{blockOf}
+use Rattle.table.specs.Named.{publicAt}
 use Rattle.table.specs.Check.{isLess, risesAt, standsAt, agreesAt, soundAt, checkRecords, checkTable}
 use Rattle.table.specs.SoundTable.{SoundTable}
-use Rattle.table.specs.declared.Checked.the-variants.{Sound, Bad}
+use Rattle.blocks.specs.declared.Checked.the-variants.{Sound, Bad}
 use Rattle.table.proofs.Agreement.{agrees-says}
-use Rattle.table.proofs.First.{bad-sound, good-each, good-count, all-good}
+use Rattle.blocks.proofs.First.{bad-sound, good-each, good-count, all-good}
 
 -- The tests of a table, taken out of the check once.
 pub record TableTests (t : List ℕ) (file count : ℕ) : Type 0 where

@@ -12,9 +12,10 @@ use Rattle.record.specs.HeaderBlock.{headerOf, soundHeader}
 use Rattle.record.specs.RecordBlock.{soundRecord}
 use Rattle.record.specs.Sets.{sameSet, agreeing}
 use Rattle.record.specs.declared.header.Header.{Header}
-use Rattle.table.specs.Blocks.{blockOf, publicAt}
-use Rattle.table.specs.declared.Checked.{Checked}
-use Rattle.table.specs.declared.Checked.the-variants.{Sound, Bad}
+use Rattle.blocks.specs.Blocks.{blockOf, firstBad}
+use Rattle.table.specs.Named.{publicAt}
+use Rattle.blocks.specs.declared.Checked.{Checked}
+use Rattle.blocks.specs.declared.Checked.the-variants.{Sound, Bad}
 
 abbrev pub isLess : Order → Bool
 isLess Less = true
@@ -39,11 +40,6 @@ agreesAt t k = allBelow (agreesWith t k) (k - 1)
 
 unfoldable pub soundAt : List ℕ → Header → ℕ → ℕ → Bool
 soundAt t h file k = standsAt t h file k && agreesAt t k
-
--- the first of the n blocks from k on that is not good, and the count where there is none
-unfoldable pub firstBad : (ℕ → Bool) → ℕ → ℕ → ℕ → Checked
-firstBad good count zero k = Sound count
-firstBad good count (suc n) k = cond (good k) (firstBad good count n (suc k)) (Bad k)
 
 unfoldable pub checkRecords : List ℕ → Header → ℕ → Checked
 checkRecords t h file = firstBad (soundAt t h file) (h .count) (h .count) 1

@@ -6,9 +6,9 @@ use mathlib.Core.List.{List}
 use lib.Dec.{eqb, leb}
 use Rattle.octets.specs.All.{allBelow}
 use Rattle.record.specs.Fields.{setOf}
-use Rattle.table.specs.Blocks.{blockOf}
-use Rattle.table.specs.declared.Checked.{Checked}
-use Rattle.table.specs.declared.Checked.the-variants.{Sound, Bad}
+use Rattle.blocks.specs.Blocks.{blockOf}
+use Rattle.blocks.specs.declared.Checked.{Checked}
+use Rattle.blocks.specs.declared.Checked.the-variants.{Sound, Bad}
 
 -- of the n numbers from k on, those before the first that is not good
 unfoldable pub leading : (ℕ → Bool) → ℕ → ℕ → ℕ

@@ -1,7 +1,7 @@
-pub mod Blocks
 pub mod Check
 pub mod Hash
 pub mod Leading
+pub mod Named
 pub mod Padded
 pub mod Remembered
 pub mod SoundTable

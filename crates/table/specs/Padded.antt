@@ -5,7 +5,7 @@ use mathlib.Core.Path.{_≡_}
 use mathlib.Core.List.{List}
 use Rattle.octets.specs.Run.{zeroBetween}
 use Rattle.record.specs.Fields.{publicSize}
-use Rattle.table.specs.Blocks.{blockOf}
+use Rattle.blocks.specs.Blocks.{blockOf}
 
 pub record Padded (b : List ℕ) : Type 0 where
   pub size : publicSize b ≤ 128

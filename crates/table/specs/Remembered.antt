@@ -9,7 +9,7 @@ use lib.ListN.{length, getD}
 use Rattle.record.specs.Fields.{setOf}
 use Rattle.table.specs.Hash.{hashOf}
 use Rattle.record.specs.Sets.{sameSet}
-use Rattle.table.specs.Blocks.{blockOf}
+use Rattle.blocks.specs.Blocks.{blockOf}
 use Rattle.table.specs.Check.{agreesAt}
 
 -- the three bits of a hash; a block as a slot has it

@@ -3,7 +3,7 @@ use Prim.Native.Nat.{ℕ}
 use mathlib.Core.Path.{_≡_}
 use mathlib.Core.List.{List}
 use Rattle.table.specs.Check.{checkTable}
-use Rattle.table.specs.declared.Checked.the-variants.{Sound}
+use Rattle.blocks.specs.declared.Checked.the-variants.{Sound}
 
 -- a sound table of so many records: the check finds it sound, beside a profile file of some length
 pub record SoundTable (t : List ℕ) (count : ℕ) : Type 0 where

@@ -2,6 +2,9 @@
 mod hash;
 mod members;
 
+use blocks::BLOCK;
+use blocks::Checked;
+use blocks::block;
 use octets::name;
 use octets::name::Order;
 use octets::run;
@@ -18,28 +21,10 @@ ghost use lib.ListN.{length};
 ghost use Rattle.octets.specs.Name.{orderOf};
 ghost use Rattle.octets.specs.Run.{Mask};
 ghost use Rattle.record.specs.Fields.{publicOf};
-ghost use Rattle.table.specs.Blocks.{blockOf};
+ghost use Rattle.blocks.specs.Blocks.{blockOf};
 ghost use Rattle.table.specs.Check.{isLess, risesAt, standsAt, checkRecords, checkTable};
 ghost use Rattle.table.specs.Leading.{leading, setless, Setless, outcomeOf};
 ghost use Rattle.table.specs.Padded.{Padded, Before};
-
-// "Blocks of 512 bytes"
-pub const BLOCK: usize = 512;
-
-// How many records a sound table has, or the number of the first bad block.
-pub enum Checked {
-    Sound(u32),
-    Bad(u32),
-}
-
-// Block k of a table.
-pub fn block(t: &[u8], k: usize) -> &[u8]
-    requires { ⌜ 512 * k + 512 ≤ length (now t) ⌝ }
-    ensures { λ r. ⌜ (now r ≡ blockOf (now (t .entry)) k) × (length (now r) ≡ 512) ⌝ }
-{
-    let at = BLOCK * k;
-    &t[at..at + BLOCK]
-}
 
 // Whether the public identity of one block is less than that of another. Both have zeros past it, so that the whole fields are compared, which
 // have one length; where they are the same, the shorter name comes first.

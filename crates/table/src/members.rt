@@ -1,12 +1,12 @@
 // The agreement of sets, in one pass: of each set the first block is remembered, and a later one is held against it.
-use crate::block;
 use crate::hash;
+use blocks::block;
 use record::sets;
 ghost use mathlib.Core.Path.{_≡_};
 ghost use Prim.Native.Nat.{_+_, _*_, _%_, _≤_, _<_};
 ghost use lib.ListN.{length, getD};
 ghost use Rattle.table.specs.Hash.{hashOf};
-ghost use Rattle.table.specs.Blocks.{blockOf};
+ghost use Rattle.blocks.specs.Blocks.{blockOf};
 ghost use Rattle.table.specs.Check.{agreesAt};
 ghost use Rattle.table.specs.Leading.{leading};
 ghost use Rattle.table.specs.Remembered.{tagOf, stopsAt, Remembers, Found, Agreed};

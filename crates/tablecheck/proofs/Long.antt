@@ -11,9 +11,10 @@ use borrow.Author.Tests.{eqb-true, eqb-false, le-leb}
 use lib.Seq.{length-take-le, take-take}
 use Rattle.record.specs.HeaderBlock.{headerOf, soundHeader}
 use Rattle.record.proofs.Sound.{header-count}
-use Rattle.table.specs.Blocks.{blockOf}
-use Rattle.table.specs.Check.{firstBad, checkRecords, checkTable}
-use Rattle.table.specs.declared.Checked.the-variants.{Bad}
+use Rattle.blocks.specs.Blocks.{blockOf}
+use Rattle.blocks.specs.Blocks.{firstBad}
+use Rattle.table.specs.Check.{checkRecords, checkTable}
+use Rattle.blocks.specs.declared.Checked.the-variants.{Bad}
 use Rattle.vectors.specs.VectorFile.{piecesOf, soundPiece, checkVectors}
 
 pub long-bad : (t : List ℕ) (file : ℕ) → 2097664 < length t → checkTable t file ≡ Bad 0

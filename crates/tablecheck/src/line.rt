@@ -1,6 +1,6 @@
 // The line that is written of an answer.
+use blocks::Checked;
 use lines::put_words;
-use table::Checked;
 ghost use Prim.Native.Nat.{_≤_};
 ghost use lib.ListN.{length};
 ghost use Rattle.tablecheck.specs.Line.{Line, VectorsLine};

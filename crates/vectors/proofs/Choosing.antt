@@ -9,7 +9,7 @@ use lib.ListN.{length, getD, take, drop, set, replicate, length-drop, length-app
 use lib.Seq.{length-take-le}
 use borrow.Author.Tests.{eq-eqb, ne-eqb}
 use Rattle.octets.specs.Name.{same}
-use Rattle.table.specs.Blocks.{blockOf}
+use Rattle.blocks.specs.Blocks.{blockOf}
 use Rattle.vectors.specs.VectorBlock.{vectorOf, cardOf}
 use Rattle.vectors.specs.Chosen.{firstOnes, unusedHere, unusedAt, unusedOf, noneSent, packed, sentAlso}
 use Rattle.vectors.specs.declared.choice.Sent.{Sent}

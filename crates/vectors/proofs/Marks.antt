@@ -11,8 +11,8 @@ use lib.Seq.{take-suc, getD-set-same, getD-set-other}
 use lib.Dec.{eqb}
 use borrow.Author.Tests.{eqb-true, eqb-false}
 use borrow.Rule.Slice.PartMut.{midOf, putMid}
-use Rattle.table.specs.Blocks.{blockOf}
-use Rattle.table.proofs.Blocks.{block-length, table-is, table-same}
+use Rattle.blocks.specs.Blocks.{blockOf}
+use Rattle.blocks.proofs.Blocks.{block-length, table-is, table-same}
 use Rattle.blocks.specs.Sealed.{sealed}
 use Rattle.blocks.specs.Changed.{changedAt, changedAll, changedIn, isOne}
 use Rattle.blocks.proofs.Sealed.{sealed-length, seal-before, seal-alike}

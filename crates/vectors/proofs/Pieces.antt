@@ -10,8 +10,8 @@ use lib.Dec.{leb, eqb}
 use borrow.Author.Tests.{le-leb, lt-leb, lt-ltb, le-ltb, eq-eqb, ne-eqb, ltb-true, leb-true}
 use Rattle.octets.proofs.Chains.{test, chain-says}
 use Rattle.octets.proofs.Runs.{or-zero}
-use Rattle.table.specs.Blocks.{blockOf}
-use Rattle.table.specs.Check.{firstBad}
+use Rattle.blocks.specs.Blocks.{blockOf}
+use Rattle.blocks.specs.Blocks.{firstBad}
 use Rattle.octets.specs.Run.{zeroBetween}
 use Rattle.octets.specs.Sum.{sumWords}
 use Rattle.vectors.specs.VectorBlock.{vectorOf, soundLimits, soundRest, soundVector}

@@ -7,7 +7,7 @@ use native.Mathlib.Omega.{arith}
 use lib.ListN.{length, getD, replicate, length-append, length-replicate, List·getD-append}
 use lib.Dec.{eqb}
 use borrow.Author.Tests.{eq-eqb}
-use Rattle.table.specs.Blocks.{blockOf}
+use Rattle.blocks.specs.Blocks.{blockOf}
 use Rattle.vectors.specs.VectorBlock.{vectorOf}
 use Rattle.vectors.specs.VectorFile.{SoundVectors}
 use Rattle.vectors.specs.Chosen.{firstOnes, unusedAt, unusedOf, noneSent, packed, howMany, Sendable}

@@ -8,10 +8,10 @@ use lib.ListN.{length}
 use lib.Dec.{eqb, leb, ltb}
 use borrow.Author.Tests.{eqb-true, eqb-false, eq-eqb, leb-true, ltb-true, ltb-false, lt-ltb, le-leb}
 use Rattle.octets.proofs.Chains.{chain-says}
-use Rattle.table.specs.Blocks.{blockOf}
-use Rattle.table.specs.Check.{firstBad}
-use Rattle.table.specs.declared.Checked.the-variants.{Sound}
-use Rattle.table.proofs.First.{good-each, good-count, all-good}
+use Rattle.blocks.specs.Blocks.{blockOf}
+use Rattle.blocks.specs.Blocks.{firstBad}
+use Rattle.blocks.specs.declared.Checked.the-variants.{Sound}
+use Rattle.blocks.proofs.First.{good-each, good-count, all-good}
 use Rattle.octets.specs.Sum.{sumWords}
 use Rattle.vectors.specs.VectorBlock.{vectorOf, soundLimits, soundRest, soundVector}
 use Rattle.vectors.specs.declared.vector.Vector.{Vector}

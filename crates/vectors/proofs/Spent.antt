@@ -8,9 +8,9 @@ use native.Mathlib.Omega.{arith}
 use lib.ListN.{length, getD, set, length-set}
 use Rattle.octets.proofs.Parts.{part-alike}
 use Rattle.octets.proofs.Runs.{zero-alike}
-use Rattle.table.specs.Blocks.{blockOf}
-use Rattle.table.specs.declared.Checked.the-variants.{Sound}
-use Rattle.table.proofs.Blocks.{block-length}
+use Rattle.blocks.specs.Blocks.{blockOf}
+use Rattle.blocks.specs.declared.Checked.the-variants.{Sound}
+use Rattle.blocks.proofs.Blocks.{block-length}
 use Rattle.blocks.proofs.Sealed.{sealed-zero}
 use Rattle.vectors.specs.VectorBlock.{vectorOf, soundRest, soundVector, cardOf}
 use Rattle.vectors.specs.VectorFile.{checkVectors, SoundVectors}

@@ -6,7 +6,7 @@ use mathlib.Core.List.{List, [], _∷_, _++_}
 use lib.ListN.{length, getD, set, take, replicate}
 use lib.Dec.{eqb}
 use Rattle.octets.specs.Name.{same}
-use Rattle.table.specs.Blocks.{blockOf}
+use Rattle.blocks.specs.Blocks.{blockOf}
 use Rattle.vectors.specs.VectorBlock.{vectorOf, cardOf}
 use Rattle.vectors.specs.declared.choice.Sent.{Sent}
 

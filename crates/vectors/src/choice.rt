@@ -43,7 +43,7 @@ fn unused_at(v: &[u8], k: usize, name: &[u8]) -> bool
     requires { ⌜ 512 * k + 512 ≤ length (now v) ⌝ }
     ensures { λ r. ⌜ r ≡ unusedAt (now (v .entry)) (now (name .entry)) k ⌝ }
 {
-    unused(table::block(v, k), name)
+    unused(blocks::block(v, k), name)
 }
 
 // One block more.
@@ -65,7 +65,7 @@ pub fn first_unused(v: &[u8], name: &[u8], most: usize) -> Sent
     requires { ⌜ SoundVectors (now v) × (most ≤ 16) ⌝ }
     ensures { λ r. ⌜ r ≡ packed (unusedOf (now (v .entry)) (now (name .entry)) most) ⌝ }
 {
-    let count = v.len() / table::BLOCK;
+    let count = v.len() / blocks::BLOCK;
     let mut sent = none();
     let mut k = 0;
     while k < count {

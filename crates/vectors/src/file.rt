@@ -1,7 +1,7 @@
 // The vector file, block by block.
 use crate::vector;
+use blocks::Checked;
 use octets::run;
-use table::Checked;
 ghost use mathlib.Core.Path.{_≡_};
 ghost use Prim.Native.Nat.{_+_, _*_, _≤_};
 ghost use lib.ListN.{length};
@@ -15,10 +15,10 @@ const MOST: usize = 4096;
 fn pieces(v: &[u8]) -> usize
     ensures { λ r. ⌜ r ≡ piecesOf (now (v .entry)) ⌝ }
 {
-    if v.len() % table::BLOCK == 0 {
-        v.len() / table::BLOCK
+    if v.len() % blocks::BLOCK == 0 {
+        v.len() / blocks::BLOCK
     } else {
-        v.len() / table::BLOCK + 1
+        v.len() / blocks::BLOCK + 1
     }
 }
 
@@ -30,10 +30,10 @@ fn piece_sound(v: &[u8], k: usize, mask: &[u8]) -> bool
     if MOST <= k {
         return false;
     }
-    if v.len() < table::BLOCK * k + table::BLOCK {
+    if v.len() < blocks::BLOCK * k + blocks::BLOCK {
         return false;
     }
-    vector::sound(table::block(v, k), mask)
+    vector::sound(blocks::block(v, k), mask)
 }
 
 // The number of blocks, or the first piece that is bad.

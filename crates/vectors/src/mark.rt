@@ -21,8 +21,8 @@ fn mark_at(v: &mut [u8], k: usize)
     requires { ⌜ 512 * k + 512 ≤ length (now v) ⌝ }
     ensures { λ _. ⌜ now (v .exit) ≡ changedIn (now (v .entry)) k markedUsed ⌝ }
 {
-    let at = table::BLOCK * k;
-    mark(&mut v[at..at + table::BLOCK]);
+    let at = blocks::BLOCK * k;
+    mark(&mut v[at..at + blocks::BLOCK]);
 }
 
 // Every block that is sent.

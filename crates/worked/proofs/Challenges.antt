@@ -5,10 +5,10 @@ use mathlib.Core.List.{List, [], _∷_, _++_, map}
 use mathlib.Core.Bool.{Bool, true, false}
 use lib.ListN.{length, take, replicate, set}
 use Rattle.octets.specs.Run.{over}
-use Rattle.table.specs.Blocks.{blockOf, tableOf}
+use Rattle.blocks.specs.Blocks.{blockOf}
 use Rattle.table.specs.Check.{checkTable}
-use Rattle.table.specs.declared.Checked.{Checked}
-use Rattle.table.specs.declared.Checked.the-variants.{Sound, Bad}
+use Rattle.blocks.specs.declared.Checked.{Checked}
+use Rattle.blocks.specs.declared.Checked.the-variants.{Sound, Bad}
 use Rattle.blocks.specs.Sealed.{sealed}
 use Rattle.vectors.specs.VectorBlock.{vectorOf, soundLimits, soundRest}
 use Rattle.vectors.specs.VectorFile.{soundPiece, checkVectors}
@@ -23,8 +23,8 @@ use Rattle.fitting.specs.Decide.{decide}
 use Rattle.reply.specs.Answer.{answerBytes}
 use Rattle.calling.specs.Call.{Answered, Refused}
 use Rattle.calling.specs.Lent.{Lent, lent}
-use Rattle.calling.specs.Trial.{tried}
-use Rattle.calling.specs.Serve.{Served, unsound, unsoundVectors, trials, refused, answered, decision, serve, checkValue}
+use Rattle.calling.specs.Serve.{Served, serve}
+use Rattle.worked.proofs.Computed.{known, come, roomy, registered-sound}
 use Rattle.worked.proofs.Sample.{block, header, person, subscriber, vector, room, request, reply, assignment, digest}
 use Rattle.worked.proofs.Sample.{authenticationOf, authentication, item, challenges, one, waiting, s, z, opened}
 
@@ -89,11 +89,25 @@ line bits size name check =
     0x02 ∷ 0x01 ∷ 0x00 ∷ 0x00 ∷ 0x00 ∷ 0x00 ∷ 0x00 ∷ 0x01 ∷ 0x00 ∷ bits ∷ 0x00 ∷ 0x00 ∷ 0x00 ∷ 0x01 ∷ 0x01 ∷ size ∷ 0x61 ∷ replicate 127 0
     ++ (0x70 ∷ replicate 127 0 ++ (name ∷ replicate 235 0 ++ check))
 
+table : List ℕ
+table = header 1 0 ++ line 0 0 0 (0x2C ∷ 0xFD ∷ 0xFE ∷ 0xFF ∷ [])
+
+unsent : List ℕ
+unsent = stored 0 (0x42 ∷ 0x99 ∷ 0x83 ∷ 0x7B ∷ [])
+
+table-sound : checkTable table 0 ≡ Sound 1
+unfolding opened line table
+table-sound = refl
+
+unsent-sound : checkVectors unsent ≡ Sound 1
+unfolding opened stored unsent
+unsent-sound = refl
+
 to-the-byte :
-    serve (lent mar (header 1 0 ++ line 0 0 0 (0x2C ∷ 0xFD ∷ 0xFE ∷ 0xFF ∷ [])) [] (stored 0 (0x42 ∷ 0x99 ∷ 0x83 ∷ 0x7B ∷ [])) room)
+    serve (lent mar table [] unsent room)
     ≡ left (header 1 0 ++ line 1 1 0x73 (0xB9 ∷ 0xFC ∷ 0xFE ∷ 0xFE ∷ [])) (stored 1 (0x42 ∷ 0x98 ∷ 0x83 ∷ 0x7B ∷ [])) maa
-unfolding opened mar maa stored line
-to-the-byte = refl
+unfolding opened mar maa stored line table unsent
+to-the-byte = come (lent mar table [] unsent room) roomy table-sound unsent-sound refl
 
 -- Two files with what their checks answer, so that these are computed once; and a row: a request over them, and what is left.
 record Files : Type 0 where
@@ -114,16 +128,11 @@ abbrev Comes : Row → Type 0
 Comes (row f req y) = serve (calling f req) ≡ y
 
 -- what is to be computed of a row: the same with these answers
-abbrev known : Files → Lent → Served
-known f x =
-    tried (refused x) (answered x (decision x (checkValue (f .records)))) (take 4 (trials x) ++ (unsound (f .records) ∷ unsoundVectors (f .blocks) ∷ []))
-
 abbrev Computes : Row → Type 0
-Computes (row f req y) = known f (calling f req) ≡ y
+Computes (row f req y) = known false (f .records) (f .blocks) (calling f req) ≡ y
 
-come : (r : Row) → Computes r → Comes r
-unfolding serve
-come (row f req y) e = rw (f .table-is, f .vectors-is) e
+comes : (r : Row) → Computes r → Comes r
+comes (row f req y) e = come (calling f req) roomy (f .table-is) (f .vectors-is) e
 
 abbrev All : (Row → Type 0) → List Row → Type 0
 All P [] = Unit
@@ -131,7 +140,7 @@ All P (r ∷ rows) = P r × All P rows
 
 all-come : (rows : List Row) → All Computes rows → All Comes rows
 all-come [] tt = tt
-all-come (r ∷ rows) (e, es) = (come r e, all-come rows es)
+all-come (r ∷ rows) (e, es) = (comes r e, all-come rows es)
 
 -- One vector of `p`, unused and used; and a file of one of `q` and two of `p`, where the numbers say which are used.
 unfoldable pub mixed : ℕ → ℕ → ℕ → List ℕ
@@ -150,10 +159,6 @@ unfolding opened mixed
 mixed-sound = refl
 
 -- the one record `a`, registered at `s`, with each of them
-registered-sound : checkTable (one 0 1 s) 0 ≡ Sound 1
-unfolding opened
-registered-sound = refl
-
 abbrev registered : (v : List ℕ) (blocks : Checked) → checkVectors v ≡ blocks → Files
 registered v blocks e = record { table = one 0 1 s; vectors = v; records = Sound 1; blocks = blocks; table-is = registered-sound; vectors-is = e }
 
@@ -223,8 +228,12 @@ twice :
 twice = ap (again (authentication 1 s)) one-sent ∙ none-unused
 
 -- "at most 16": of seventeen unused, with seventeen asked, blocks 0 to 15 are chosen, and the answer has sixteen items
-seventeen : List ℕ
-seventeen = tableOf (vector 0 0x70) 17
+cards : ℕ → ℕ → List ℕ
+cards zero n = []
+cards (suc k) n = vector 0 0x70 n ++ cards k (suc n)
+
+abbrev seventeen : List ℕ
+seventeen = cards 17 0
 
 sixteen : Given
 sixteen = givenSent 1 (packed (0 ∷ 1 ∷ 2 ∷ 3 ∷ 4 ∷ 5 ∷ 6 ∷ 7 ∷ 8 ∷ 9 ∷ 10 ∷ 11 ∷ 12 ∷ 13 ∷ 14 ∷ 15 ∷ []))
@@ -234,11 +243,11 @@ items zero = []
 items (suc k) = items k ++ item (suc k) k
 
 at-most : decide (authentication 17 s) (one 0 1 s) 1 seventeen .given ≡ sixteen
-unfolding opened seventeen sixteen
+unfolding opened cards sixteen
 at-most = refl
 
 at-most-sent : answerBytes (authentication 17 s) (one 0 1 s) [] seventeen sixteen ≡ challenges 16 (items 16)
-unfolding opened seventeen sixteen items
+unfolding opened cards sixteen items
 at-most-sent = refl
 
 -- Beside `a` of the card `p`, `b` of the card `q`; and a 608 of five bytes.

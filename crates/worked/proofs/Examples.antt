@@ -2,11 +2,13 @@
 use Prim.Native.Nat.{ℕ}
 use mathlib.Core.Path.{_≡_, refl}
 use mathlib.Core.List.{List, [], _∷_, _++_}
+use mathlib.Core.Bool.{Bool, true, false}
 use lib.ListN.{length, take, replicate, set}
+use lib.Dec.{ltb}
 use Rattle.octets.specs.Run.{over}
 use Rattle.octets.specs.Sum.{sumWords}
-use Rattle.table.specs.declared.Checked.{Checked}
-use Rattle.table.specs.declared.Checked.the-variants.{Sound, Bad}
+use Rattle.blocks.specs.declared.Checked.{Checked}
+use Rattle.blocks.specs.declared.Checked.the-variants.{Sound, Bad}
 use Rattle.table.specs.Check.{checkTable}
 use Rattle.blocks.specs.Sealed.{sealed}
 use Rattle.pen.specs.Bytes.{vendorHead, avpBytes, numberBytes}
@@ -15,6 +17,7 @@ use Rattle.calling.specs.Call.{Call}
 use Rattle.calling.specs.Call.{Answered, Refused}
 use Rattle.calling.specs.Lent.{lent}
 use Rattle.calling.specs.Serve.{serve}
+use Rattle.worked.proofs.Computed.{known, come, sized, no-vectors, unregistered-sound}
 use Rattle.worked.proofs.Sample.{block, header, answer, assignment, one, two, s, z, opened}
 
 -- A case: a call (a request, a table, no profile file and no vector, a buffer of zeros of so many bytes; what it comes to, the table afterwards, the answer),
@@ -132,7 +135,114 @@ cases =
     ∷ blaming (assignment 1 (replicate 97 0x73)) (one 0 0 []) 128 (answer (numberBytes 268 5004) (failed (vendorHead 602 109 ++ replicate 97 0x73)))
     ∷ []
 
+-- What is to be computed of a case: of a call what it comes to, with any buffer, by what the check of its table answers and whether the buffer is small.
+record Called (req table : List ℕ) (room : ℕ) (comes : Call) (after bytes : List ℕ) : Type 0 where
+  answer : Checked
+  checked : checkTable table 0 ≡ answer
+  small : Bool
+  size : ltb room 36864 ≡ small
+  computed : (o : List ℕ)
+      → known small answer (Sound 0) (lent req table [] [] o) ≡ record { call = comes; table = after; vectors = []; buffer = over bytes o }
+
+abbrev Computes : Case → Type 0
+Computes (call req table room comes after bytes) = Called req table room comes after bytes
+Computes (check table answer) = checkTable table 0 ≡ answer
+Computes (sum b n) = sumWords b 128 ≡ n
+
+right : (c : Case) → Computes c → Right c
+right (call req table room comes after bytes) g =
+    come (lent req table [] [] (replicate room 0)) (sized room (g .size)) (g .checked) no-vectors (g .computed (replicate room 0))
+right (check table answer) e = e
+right (sum b n) e = e
+
+abbrev All : List Case → Type 0
+All [] = Unit
+All (c ∷ cs) = Computes c × All cs
+
+all-right : (cs : List Case) → All cs → Holds cs
+all-right [] tt = tt
+all-right (c ∷ cs) (e, es) = (right c e, all-right cs es)
+
+-- the checks
+alone-sound : checkTable alone 0 ≡ Sound 0
+unfolding opened alone
+alone-sound = refl
+
+zeros-bad : checkTable block 0 ≡ Bad 0
+unfolding opened
+zeros-bad = refl
+
+unkind-bad : checkTable unkind 0 ≡ Bad 0
+unfolding opened alone unkind
+unkind-bad = refl
+
+two-bad : checkTable two 0 ≡ Bad 2
+unfolding opened
+two-bad = refl
+
+line-sound : checkTable registered 0 ≡ Sound 1
+unfolding opened registered
+line-sound = refl
+
+kept-sound : checkTable (one 1 1 s) 0 ≡ Sound 1
+unfolding opened
+kept-sound = refl
+
 examples : Holds cases
 unfolding opened worked exactly other registered elsewhere alone unkind
 examples =
-    (refl, (refl, (refl, (refl, (refl, (refl, (refl, (refl, (refl, (refl, (refl, (refl, (refl, (refl, (refl, (refl, (refl, (refl, (refl, tt)))))))))))))))))))
+    all-right cases (
+      record { answer = Sound 0; checked = alone-sound; small = false; size = refl; computed = λ o. refl },
+      (
+        alone-sound,
+        (
+          record { answer = Sound 0; checked = alone-sound; small = false; size = refl; computed = λ o. refl },
+          (
+            record { answer = Sound 0; checked = alone-sound; small = false; size = refl; computed = λ o. refl },
+            (
+              record { answer = Sound 0; checked = alone-sound; small = true; size = refl; computed = λ o. refl },
+              (
+                refl,
+                (
+                  zeros-bad,
+                  (
+                    record { answer = Bad 0; checked = zeros-bad; small = false; size = refl; computed = λ o. refl },
+                    (
+                      refl,
+                      (
+                        unkind-bad,
+                        (
+                          two-bad,
+                          (
+                            record { answer = Bad 2; checked = two-bad; small = false; size = refl; computed = λ o. refl },
+                            (
+                              record { answer = Sound 1; checked = unregistered-sound; small = false; size = refl; computed = λ o. refl },
+                              (
+                                line-sound,
+                                (
+                                  record { answer = Sound 1; checked = line-sound; small = false; size = refl; computed = λ o. refl },
+                                  (
+                                    record { answer = Sound 1; checked = line-sound; small = false; size = refl; computed = λ o. refl },
+                                    (
+                                      record { answer = Sound 1; checked = kept-sound; small = false; size = refl; computed = λ o. refl },
+                                      (
+                                        record { answer = Sound 1; checked = unregistered-sound; small = false; size = refl; computed = λ o. refl },
+                                        (record { answer = Sound 1; checked = unregistered-sound; small = false; size = refl; computed = λ o. refl }, tt),
+                                      ),
+                                    ),
+                                  ),
+                                ),
+                              ),
+                            ),
+                          ),
+                        ),
+                      ),
+                    ),
+                  ),
+                ),
+              ),
+            ),
+          ),
+        ),
+      ),
+    )

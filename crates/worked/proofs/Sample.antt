@@ -1,11 +1,10 @@
 -- What the worked cases and the instances of the demands share: names, blocks, a SAR and its answer, and all definitions that a computed case opens.
-use Prim.Native.Nat.{ℕ, _+_}
+use Prim.Native.Nat.{ℕ, zero, suc, _+_, _-_, _%_, _^_}
 use mathlib.Core.List.{List, [], _∷_, _++_}
-use lib.ListN.{length, replicate, set}
-use lib.Seq.{sets}
+use lib.ListN.{length, getD, drop, replicate, set}
 use Rattle.octets.specs.All.{allBelow}
 use Rattle.octets.specs.Name.{orderOf, alikeAt, same}
-use Rattle.octets.specs.Number.{be16At, be24At, be32At, putBe24, putBe32}
+use Rattle.octets.specs.Number.{four, be16At, be24At, be32At, putBe24, putBe32}
 use Rattle.octets.specs.Run.{zeros, zeroBetween, putName, over}
 use Rattle.octets.specs.Sum.{sumWords}
 use Rattle.record.specs.Fields.{hostOf, realmOf, publicOf, privateOf, serverOf, mandatoryOf, optionalOf, profileOf}
@@ -13,8 +12,10 @@ use Rattle.record.specs.HeaderBlock.{headerOf, soundHeader}
 use Rattle.record.specs.Networks.{networkOf, usedPlace, soundPlace, sameByte, otherPlace, newPlace, soundNetworks}
 use Rattle.record.specs.RecordBlock.{recordOf, soundRecord}
 use Rattle.record.specs.Sets.{sameSet, agreeing}
-use Rattle.table.specs.Blocks.{blockOf, tableOf, publicAt, privateAt}
-use Rattle.table.specs.Check.{risesAt, standsAt, agreesWith, agreesAt, soundAt, firstBad, checkRecords, checkTable}
+use Rattle.blocks.specs.Blocks.{blockOf, tableOf}
+use Rattle.table.specs.Named.{publicAt, privateAt}
+use Rattle.blocks.specs.Blocks.{firstBad}
+use Rattle.table.specs.Check.{risesAt, standsAt, agreesWith, agreesAt, soundAt, checkRecords, checkTable}
 use Rattle.lookup.specs.Find.{firstFrom, publicIs, findPublic, privateIs, findPrivate, serverHere, servesAt, findServer, freeHere, freeAt, findFree}
 use Rattle.lookup.specs.Find.{barredAlone}
 use Rattle.lookup.specs.Network.{networkIs, seek, networkNumber, roamsIn, mayRoam}
@@ -30,7 +31,7 @@ use Rattle.rewrite.specs.Renew.{renewed, settled, challenged}
 use Rattle.diameter.specs.Avp.{padded, headOf, vendorOf, valueOf, sound}
 use Rattle.diameter.specs.Walk.{walkFrom, walk}
 use Rattle.diameter.specs.Reader.{avpOf}
-use Rattle.pen.specs.Bytes.{padding, vendorHead, copied, avpBytes, vendorBytes, numberBytes, vendorNumber, group, vendorGroup, ifThere}
+use Rattle.pen.specs.Bytes.{wordBytes, padding, vendorHead, copied, avpBytes, vendorBytes, numberBytes, vendorNumber, group, vendorGroup, ifThere}
 use Rattle.pen.specs.Groups.{vendorApplication, experimental, failed, vendorNumbers, capabilities}
 use Rattle.reading.specs.Kinds.{known, kindFrom, kindBy, rowOf, useIn}
 use Rattle.reading.specs.Contents.{numberFault, plainFault}
@@ -66,18 +67,30 @@ host = 0x68 ∷ 0x73 ∷ 0x73 ∷ 0x2E ∷ 0x69 ∷ 0x73 ∷ 0x6C ∷ 0x65 ∷ [
 unfoldable pub realm : List ℕ
 realm = 0x69 ∷ 0x73 ∷ 0x6C ∷ 0x65 ∷ []
 
--- a block of zeros; a header of so many records that keeps names or not
+-- a block of zeros; a field of n bytes with a name in it; 508 bytes with their check word. A list is made from its front to its end and the words are added
+-- in one pass, since a case computes its samples as often as it looks at them.
 unfoldable pub block : List ℕ
 block = replicate 512 0
 
+unfoldable pub field : ℕ → List ℕ → List ℕ
+field n name = name ++ replicate (n - length name) 0
+
+unfoldable pub wordsOf : ℕ → List ℕ → ℕ
+wordsOf zero b = 0
+wordsOf (suc n) b = four (getD b 0 0) (getD b 1 0) (getD b 2 0) (getD b 3 0) + wordsOf n (drop 4 b)
+
+unfoldable pub checked : List ℕ → List ℕ
+checked b = b ++ wordBytes (negated (wordsOf 127 b % 2 ^ 32))
+
+-- a header of so many records that keeps names or not
 unfoldable pub header : ℕ → ℕ → List ℕ
-header count keep = sealed (sets (sets (sets (putBe32 (sets block 0 (1 ∷ 1 ∷ [])) 8 count) 12 (keep ∷ 8 ∷ 4 ∷ [])) 16 host) 80 realm)
+header count keep = checked (1 ∷ 1 ∷ replicate 9 0 ++ (count ∷ keep ∷ 8 ∷ 4 ∷ 0 ∷ field 64 host ++ (field 64 realm ++ replicate 364 0)))
 
 -- record k: a public and a private identity of one byte each, a state, bits and a server name; the same without a bit set
 unfoldable pub subscriber : ℕ → ℕ → ℕ → ℕ → ℕ → List ℕ → List ℕ
 subscriber k public private state bits server =
-    let numbers = sets (sets (putBe32 (sets block 0 (2 ∷ 1 ∷ [])) 4 k) 8 (state ∷ bits ∷ [])) 13 (1 ∷ 1 ∷ length server ∷ []) in
-    sealed (sets (sets (sets numbers 16 (public ∷ [])) 144 (private ∷ [])) 272 server)
+    let names = field 128 (public ∷ []) ++ (field 128 (private ∷ []) ++ (field 96 server ++ replicate 140 0)) in
+    checked (2 ∷ 1 ∷ replicate 5 0 ++ (k ∷ state ∷ bits ∷ 0 ∷ 0 ∷ 0 ∷ 1 ∷ 1 ∷ length server ∷ names))
 
 unfoldable pub person : ℕ → ℕ → ℕ → ℕ → List ℕ → List ℕ
 person k public private state server = subscriber k public private state 0 server
@@ -85,8 +98,8 @@ person k public private state server = subscriber k public private state 0 serve
 -- a vector, used or not, for a private identity of one byte: RAND and AUTN of the byte n, an XRES of five bytes n + 1, keys of n + 2 and of n + 3
 unfoldable pub vector : ℕ → ℕ → ℕ → List ℕ
 vector used private n =
-    let challenge = sets (sets block 0 (3 ∷ used ∷ 5 ∷ 1 ∷ private ∷ [])) 132 (replicate 32 n) in
-    sealed (sets (sets (sets challenge 164 (replicate 5 (n + 1))) 180 (replicate 16 (n + 2))) 196 (replicate 16 (n + 3)))
+    let keys = replicate 16 (n + 2) ++ (replicate 16 (n + 3) ++ replicate 296 0) in
+    checked (3 ∷ used ∷ 5 ∷ 1 ∷ field 128 (private ∷ []) ++ (replicate 32 n ++ (field 16 (replicate 5 (n + 1)) ++ keys)))
 
 -- a buffer of the least room
 unfoldable pub room : List ℕ
@@ -159,7 +172,7 @@ z = 0x7A ∷ []
 
 -- all that a case opens
 unfoldable pub opened : ℕ
-unfolding host realm block header subscriber person vector room request reply answer common assignment digest authenticationOf authentication item challenges
+unfolding host realm block field wordsOf checked header subscriber person vector request reply answer common assignment digest authenticationOf authentication item challenges
     one waiting two s z allBelow orderOf alikeAt same be16At be24At be32At putBe24 putBe32 zeros zeroBetween putName over sumWords hostOf realmOf publicOf
     privateOf serverOf headerOf soundHeader networkOf usedPlace soundPlace sameByte otherPlace newPlace soundNetworks recordOf soundRecord blockOf tableOf
     publicAt privateAt sameSet agreeing risesAt standsAt agreesWith agreesAt soundAt firstBad checkRecords checkTable firstFrom publicIs findPublic privateIs findPrivate serverHere servesAt findServer freeHere freeAt findFree barredAlone

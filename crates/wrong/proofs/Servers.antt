@@ -4,18 +4,22 @@ use Prim.Native.Nat.{ℕ, zero, suc, _≤_}
 use mathlib.Core.Path.{_≡_, refl, ap, _∙_}
 use mathlib.Core.Logic.{_≢_}
 use mathlib.Core.List.{List, [], _∷_, _++_}
+use mathlib.Core.Bool.{false}
 use native.Mathlib.Omega.{arith}
-use lib.ListN.{getD, take, replicate}
+use lib.ListN.{getD, take}
 use Rattle.octets.specs.Run.{over}
+use Rattle.blocks.specs.declared.Checked.the-variants.{Sound}
+use Rattle.vectors.specs.VectorFile.{checkVectors}
 use Rattle.pen.specs.Bytes.{vendorHead, vendorBytes, numberBytes, vendorNumber}
 use Rattle.pen.specs.Groups.{failed}
 use Rattle.calling.specs.Lent.{Lent, lent}
 use Rattle.calling.specs.Serve.{Served, serve}
 use Rattle.calling.specs.Call.{Answered}
-use Rattle.ndushavire.specs.Word.{word, callWord}
+use Rattle.ndushavire.specs.Word.{word, checkWord, callWord}
 use Rattle.ndushavire.specs.Reads.{placeIn}
 use Rattle.ndushavire.specs.Promise.{CheckPromise, CheckVectorsPromise, DecidePromise}
-use Rattle.worked.proofs.Sample.{request, reply, answer, common, assignment, authentication, vector, item, challenges, one, waiting, two, s, z, opened}
+use Rattle.worked.proofs.Computed.{known, come, roomy, no-vectors, registered-sound, unregistered-sound}
+use Rattle.worked.proofs.Sample.{room, request, reply, answer, common, assignment, authentication, vector, item, challenges, one, waiting, two, s, z, opened}
 
 -- what a call leaves
 record Outcome : Type 0 where
@@ -41,9 +45,6 @@ unfolding truly
 truly-meets n x = record { word-is = refl; table-is = refl; vectors-is = refl; buffer-is = refl }
 
 -- Two inputs over one registered line: a removal, B2001, which rewrites the record; and type 0 with another name, B5012. The word is 116 for both.
-room : List ℕ
-room = replicate 36864 0
-
 removal : Lent
 removal = lent (assignment 5 s) (one 0 1 s) [] [] room
 
@@ -54,12 +55,12 @@ abbrev comes : List ℕ → List ℕ → Served
 comes after bytes = record { call = Answered (record { length = 116; place = 0 }); table = after; vectors = []; buffer = over bytes room }
 
 removal-served : serve removal ≡ comes (one 0 0 []) (answer (numberBytes 268 2001) [])
-unfolding opened room removal
-removal-served = refl
+unfolding opened removal
+removal-served = come removal roomy registered-sound no-vectors refl
 
 question-served : serve question ≡ comes (one 0 1 s) (answer (numberBytes 268 5012) [])
-unfolding opened room question
-question-served = refl
+unfolding opened question
+question-served = come question roomy registered-sound no-vectors refl
 
 -- What the promise leaves of the removal: the word 116, state 0 in the record, and 2001, whose last byte is 209, in the answer; of the other 5012, whose last
 -- byte is 148.
@@ -78,11 +79,11 @@ module _ (f : Server) (n : ℕ) where
   removal-state p = ap state (p .table-is ∙ ap (λ (y : Served). y .table) removal-served)
 
   removal-result : Meets f n removal → result (f n removal .buffer) ≡ 209
-  unfolding result opened room
+  unfolding result opened
   removal-result p = ap result (p .buffer-is ∙ ap (λ (y : Served). y .buffer) removal-served)
 
   question-result : Meets f n question → result (f n question .buffer) ≡ 148
-  unfolding result opened room
+  unfolding result opened
   question-result p = ap result (p .buffer-is ∙ ap (λ (y : Served). y .buffer) question-served)
 
 -- Two answers whose results end alike cannot both be right, whatever else they take from the request.
@@ -153,17 +154,19 @@ abbrev Checker : Type 0
 Checker = List ℕ → List ℕ → ℕ
 
 count-fails : (f : Checker) → f (one 0 1 s) [] ≢ word 0 0 1 → CheckPromise (one 0 1 s) [] (f (one 0 1 s) []) → ⊥
-unfolding opened
-count-fails f h p = h (p .answer)
+count-fails f h p = h (p .answer ∙ ap (checkWord 5) registered-sound)
 
 block-fails : (f : Checker) → f two [] ≢ word 5 0 2 → CheckPromise two [] (f two []) → ⊥
 unfolding opened
 block-fails f h p = h (p .answer)
 
 -- .. and of the check of vectors, any word but the number of blocks of a sound file, and any but the first bad block of another
-blocks-fails : (f : List ℕ → ℕ) → f (vector 0 0x70 1) ≢ word 0 0 1 → CheckVectorsPromise (vector 0 0x70 1) (f (vector 0 0x70 1)) → ⊥
+card-sound : checkVectors (vector 0 0x70 1) ≡ Sound 1
 unfolding opened
-blocks-fails f h p = h (p .answer)
+card-sound = refl
+
+blocks-fails : (f : List ℕ → ℕ) → f (vector 0 0x70 1) ≢ word 0 0 1 → CheckVectorsPromise (vector 0 0x70 1) (f (vector 0 0x70 1)) → ⊥
+blocks-fails f h p = h (p .answer ∙ ap (checkWord 6) card-sound)
 
 cut-fails : (f : List ℕ → ℕ) → f (take 511 (vector 0 0x70 1)) ≢ word 6 0 0
     → CheckVectorsPromise (take 511 (vector 0 0x70 1)) (f (take 511 (vector 0 0x70 1))) → ⊥
@@ -183,8 +186,8 @@ challenge-served : serve challenge ≡ record {
   vectors = vector 1 0x70 1;
   buffer = over (challenges 1 (item 1 1)) room;
 }
-unfolding opened room challenge
-challenge-served = refl
+unfolding opened challenge
+challenge-served = come challenge roomy unregistered-sound card-sound refl
 
 nought-served : serve nought ≡ record {
   call = Answered (record { length = 116; place = 0 });
@@ -192,8 +195,8 @@ nought-served : serve nought ≡ record {
   vectors = vector 0 0x70 1;
   buffer = over (reply 303 (numberBytes 268 5012) []) room;
 }
-unfolding opened room nought
-nought-served = refl
+unfolding opened nought
+nought-served = come nought roomy unregistered-sound card-sound refl
 
 -- Whether the vector is used, whether the record is pending, and the number that the answer says is sent.
 used : List ℕ → ℕ
@@ -215,7 +218,7 @@ module _ (f : Server) (n : ℕ) where
   challenge-bits p = ap bits (p .table-is ∙ ap (λ (y : Served). y .table) challenge-served)
 
   challenge-number : Meets f n challenge → number (f n challenge .buffer) ≡ 1
-  unfolding number opened room
+  unfolding number opened
   challenge-number p = ap number (p .buffer-is ∙ ap (λ (y : Served). y .buffer) challenge-served)
 
   nought-used : Meets f n nought → used (f n nought .vectors) ≡ 0
@@ -252,8 +255,8 @@ second =
     lent (request 301 (common ++ (vendorBytes 601 (0x61 ∷ []) ++ (vendorBytes 601 (0x62 ∷ []) ++ own)))) (one 0 1 s) [] [] room
 
 faulty-call : serve faulty .call ≡ Answered (record { length = 140; place = 144 })
-unfolding opened room faulty
-faulty-call = refl
+unfolding opened faulty
+faulty-call = ap (λ (y : Served). y .call) (come faulty {y = known false (Sound 1) (Sound 0) faulty} roomy registered-sound no-vectors refl)
 
 second-served : serve second ≡ record {
   call = Answered (record { length = 140; place = 0 });
@@ -261,8 +264,8 @@ second-served : serve second ≡ record {
   vectors = [];
   buffer = over (answer (numberBytes 268 5009) (failed (vendorHead 601 13 ++ (0x62 ∷ [])))) room;
 }
-unfolding opened room second
-second-served = refl
+unfolding opened second
+second-served = come second roomy registered-sound no-vectors refl
 
 module _ (f : Server) (n : ℕ) where
   faulty-place : Meets f n faulty → placeIn (f n faulty .word) ≡ 144

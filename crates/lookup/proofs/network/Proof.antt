@@ -5,7 +5,7 @@ use lib.ListN.{length}
 use Rattle.octets.specs.All.{allBelow}
 use Rattle.octets.proofs.All.{all-none}
 use Rattle.record.specs.Fields.{networksOf}
-use Rattle.table.specs.Blocks.{blockOf}
+use Rattle.blocks.specs.Blocks.{blockOf}
 use Rattle.table.proofs.Sound.{sound-first}
 use Rattle.lookup.specs.Network.{agreeAt, networkIs, seek, networkNumber}
 use Rattle.lookup.proofs.Places.{places-start, places-few, places-end, bytes-more, place-miss, place-hit}

@@ -1,7 +1,7 @@
 use Prim.Native.Nat.{_+_, _-_, _≤_}
 use mathlib.Core.Path.{_≡_}
-use Rattle.table.specs.Check.{firstBad}
-use Rattle.table.proofs.First.{first-bad, first-more, first-none, below-stop, past-stop}
+use Rattle.blocks.specs.Blocks.{firstBad}
+use Rattle.blocks.proofs.First.{first-bad, first-more, first-none, below-stop, past-stop}
 use Rattle.moving.specs.Moves.{noSet, firstSet}
 use Rattle.moving.proofs.Turns.{sets-all}
 use borrow.Author.Needs.{needs}

@@ -1,4 +1,4 @@
-use Rattle.table.proofs.Blocks.{rises-first, rises-later}
+use Rattle.table.proofs.Rising.{rises-first, rises-later}
 use Rattle.table.proofs.Padded.{padded-before, padded-lent}
 use borrow.Author.Needs.{needs}
 use Rattle.table.proofs.rises.Statement.{statement}

@@ -1,0 +1,66 @@
+-- The blocks of a file, and that a file is its blocks.
+use Prim.Native.Nat.{ℕ, zero, suc, _+_, _-_, _*_, _<_, _≤_}
+use mathlib.Core.Bool.{Bool, true, false}
+use mathlib.Core.Path.{_≡_, refl, sym, _∙_}
+use mathlib.Core.List.{List, _++_}
+use native.Mathlib.Omega.{arith}
+use native.Mathlib.Nat.{add-sub-cancel-left}
+use lib.Dec.{ltb}
+use lib.ListN.{length, take, drop, length-append, length-take, length-drop}
+use lib.Seq.{take-add, take-all, take-append-le, drop-append-le, drop-at}
+use borrow.Author.Tests.{ltb-true, ltb-false}
+use Rattle.blocks.specs.Blocks.{blockOf, tableOf}
+
+pub block-length : (t : List ℕ) (k : ℕ) → 512 * k + 512 ≤ length t → length (blockOf t k) ≡ 512
+unfolding blockOf
+block-length t k h = simp (length-take, length-drop) (omega arith)
+
+-- The part that is lent as block k.
+pub block-part : (t : List ℕ) (k : ℕ) → take (512 * k + 512 - 512 * k) (drop (512 * k) t) ≡ blockOf t k
+unfolding blockOf
+block-part t k = rw add-sub-cancel-left
+
+pub block-whole : (t : List ℕ) (k : ℕ) → 512 * k + 512 ≤ length t → length (take (512 * k + 512 - 512 * k) (drop (512 * k) t)) ≡ 512
+block-whole t k h = rw block-part (block-length t k h)
+
+-- A table is its blocks.
+pub table-same : (f g : ℕ → List ℕ) (n : ℕ) → ((k : ℕ) → k < n → f k ≡ g k) → tableOf f n ≡ tableOf g n
+unfolding tableOf
+table-same f g zero h = refl
+table-same f g (suc n) h = rw (table-same f g n (λ k a. h k (omega arith)), h n (omega arith))
+
+table-front : (t : List ℕ) (n : ℕ) → take (512 * n) t ≡ tableOf (blockOf t) n
+unfolding tableOf blockOf
+table-front t zero = refl
+table-front t (suc n) = let e : 512 * suc n ≡ 512 * n + 512 = omega arith in rw (e, take-add (512 * n) 512 t, table-front t n)
+
+pub table-is : (t : List ℕ) (n : ℕ) → length t ≡ 512 * n → t ≡ tableOf (blockOf t) n
+table-is t n h = sym (take-all (512 * n) t (omega arith)) ∙ table-front t n
+
+pub table-length : (f : ℕ → List ℕ) (n : ℕ) → ((k : ℕ) → k < n → length (f k) ≡ 512) → length (tableOf f n) ≡ 512 * n
+unfolding tableOf
+table-length f zero h = refl
+table-length f (suc n) h =
+    let a : length (tableOf f n) ≡ 512 * n = table-length f n (λ k l. h k (omega arith)) in
+    let b : length (f n) ≡ 512 = h n (omega arith) in
+    simp length-append (omega arith)
+
+pub table-block : (f : ℕ → List ℕ) (n : ℕ) → ((k : ℕ) → k < n → length (f k) ≡ 512) → (k : ℕ) → k < n → blockOf (tableOf f n) k ≡ f k
+unfolding tableOf blockOf
+table-block f zero h k l = absurd (omega arith)
+table-block f (suc n) h k l = go (ltb k n) refl (λ m. table-block f n (λ j i. h j (omega arith)) k m)
+  where
+    size : length (tableOf f n) ≡ 512 * n
+    size = table-length f n (λ j i. h j (omega arith))
+
+    go : (x : Bool) → ltb k n ≡ x → (k < n → take 512 (drop (512 * k) (tableOf f n)) ≡ f k) → take 512 (drop (512 * k) (tableOf f n ++ f n)) ≡ f k
+    go true e r =
+        let m : k < n = ltb-true k n e in
+        rw (
+          drop-append-le (512 * k) (tableOf f n) (f n) (omega (arith, size)),
+          take-append-le 512 (drop (512 * k) (tableOf f n)) (f n) (rw length-drop (omega (arith, size))),
+        )
+        (r m)
+    go false e r =
+        let m : k ≡ n = omega (arith, ltb-false k n e) in
+        rw (m, drop-at (tableOf f n) (f n) (512 * n) size, take-all 512 (f n) (omega (arith, h n (omega arith))))

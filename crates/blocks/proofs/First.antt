@@ -1,0 +1,69 @@
+-- The first number that is not good: the turns of the loop over the records, and what the answer says.
+use Prim.Native.Nat.{ℕ, zero, suc, _+_, _-_, _<_, _≤_}
+use mathlib.Core.Bool.{Bool, true, false, cond}
+use mathlib.Core.Path.{_≡_, refl}
+use native.Mathlib.Omega.{arith}
+use native.Mathlib.Numerals.{add-one}
+use lib.Dec.{ltb}
+use borrow.Author.Tests.{ltb-true, ltb-false}
+use Rattle.blocks.specs.Blocks.{firstBad}
+use Rattle.blocks.specs.declared.Checked.{Checked}
+use Rattle.blocks.specs.declared.Checked.the-variants.{Sound, Bad}
+
+-- the loop goes from some number up to `stop`, and k is the next
+module _ (good : ℕ → Bool) (count stop k : ℕ) {whole : Checked} (left : whole ≡ firstBad good count (stop - k) k) where
+  pub first-bad : {x : Bool} → k < stop → x ≡ good k → x ≡ false → Bad k ≡ whole
+  unfolding firstBad
+  first-bad h e f =
+      let n : stop - k ≡ suc (stop - (k + 1)) = omega arith in
+      let g : good k ≡ false = cc in
+      rw (left, n, g)
+
+  pub first-more : {x : Bool} → k < stop → x ≡ good k → x ≡ true → whole ≡ firstBad good count (stop - (k + 1)) (k + 1)
+  unfolding firstBad
+  first-more h e f =
+      let n : stop - k ≡ suc (stop - (k + 1)) = omega arith in
+      let g : good k ≡ true = cc in
+      rw (left, n, g, add-one k)
+
+  pub first-none : stop ≤ k → Sound count ≡ whole
+  unfolding firstBad
+  first-none h = let n : stop - k ≡ 0 = omega arith in rw (left, n)
+
+-- the loop over the records stops behind the last one
+pub below-stop : {k count : ℕ} → k ≤ count → k < count + 1
+below-stop h = omega arith
+
+pub past-stop : {k count : ℕ} → count < k → count + 1 ≤ k
+past-stop h = omega arith
+
+-- An answer is not both.
+pub bad-sound : {A : Type 0} (c : Checked) (k n : ℕ) → c ≡ Bad k → c ≡ Sound n → A
+bad-sound c k n a b = let z : _≡_ {A = ℕ} 0 1 = cc in absurd (omega arith)
+
+-- Where none is bad, each is good, and the count is as it was given.
+pub good-each : (good : ℕ → Bool) (count c n k : ℕ) → firstBad good count n k ≡ Sound c → (j : ℕ) → k ≤ j → j < k + n → good j ≡ true
+unfolding firstBad
+good-each good count c zero k e j a b = absurd (omega arith)
+good-each good count c (suc n) k e j a b = go (good k) (ltb k j) refl refl e (λ g h. good-each good count c n (suc k) g j h (omega arith))
+  where
+    go : (x y : Bool) → good k ≡ x → ltb k j ≡ y → cond x (firstBad good count n (suc k)) (Bad k) ≡ Sound c
+        → (firstBad good count n (suc k) ≡ Sound c → suc k ≤ j → good j ≡ true) → good j ≡ true
+    go false y f h g r = bad-sound (Bad k) k c refl g
+    go true true f h g r = r g (ltb-true _ _ h)
+    go true false f h g r = let i : j ≡ k = omega (arith, ltb-false k j h) in rw i f
+
+pub good-count : (good : ℕ → Bool) (count c n k : ℕ) → firstBad good count n k ≡ Sound c → count ≡ c
+unfolding firstBad
+good-count good count c zero k e = cc
+good-count good count c (suc n) k e = go (good k) e (good-count good count c n (suc k))
+  where
+    go : (x : Bool) → cond x (firstBad good count n (suc k)) (Bad k) ≡ Sound c → (firstBad good count n (suc k) ≡ Sound c → count ≡ c) → count ≡ c
+    go false g r = bad-sound (Bad k) k c refl g
+    go true g r = r g
+
+-- Where each is good, none is bad.
+pub all-good : (good : ℕ → Bool) (count n k : ℕ) → ((j : ℕ) → k ≤ j → j < k + n → good j ≡ true) → firstBad good count n k ≡ Sound count
+unfolding firstBad
+all-good good count zero k h = refl
+all-good good count (suc n) k h = rw (h k (omega arith) (omega arith)) (all-good good count n (suc k) (λ j a b. h j (omega arith) (omega arith)))
