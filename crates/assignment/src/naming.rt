@@ -21,7 +21,7 @@ ghost use Rattle.rewrite.specs.Renew.{settled, Fitting};
 ghost use Rattle.diameter.specs.Message.{bodyOf};
 ghost use Rattle.requests.specs.Request.{identities};
 ghost use Rattle.requests.specs.Identity.{placesFrom};
-ghost use Rattle.decisions.specs.Among.{Among};
+ghost use Rattle.lookup.specs.Among.{Among};
 ghost use Rattle.assignment.specs.Assignment.{meantBy, findAll, numbersOf};
 ghost use Rattle.assignment.specs.Survey.{foundSurvey};
 

@@ -32,11 +32,12 @@ use Rattle.choices.specs.declared.choice.Sought.{Sought}
 use Rattle.choices.specs.declared.choice.Choice.{Choice}
 use Rattle.choices.specs.declared.choice.Choice.the-variants.{Alone, Server, Capabilities, First}
 use Rattle.choices.specs.declared.plan.Plan.{Plan}
-use Rattle.decisions.specs.Among.{Among}
+use Rattle.lookup.specs.Among.{Among}
 use Rattle.decisions.specs.Authorization.{askedAt, askedOf, authorizeFound, authorize}
-use Rattle.decisions.specs.Carried.{blockFound, carried}
+use Rattle.lookup.specs.Find.{blockFound}
+use Rattle.decisions.specs.Carried.{carried}
 use Rattle.decisions.specs.Location.{soughtAt, soughtOf, locateFound, locate}
-use Rattle.decisions.proofs.Among.{public-among}
+use Rattle.lookup.proofs.Among.{public-among}
 use Rattle.fitting.specs.Decide.{uarPlan, sarPlan, lirPlan, marPlan, planRead}
 use Rattle.fitting.specs.Deeds.{carriedOut}
 use Rattle.calling.specs.Lent.{Lent}

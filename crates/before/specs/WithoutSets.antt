@@ -31,7 +31,8 @@ use Rattle.choices.specs.declared.plan.Deed.{Deed}
 use Rattle.choices.specs.declared.plan.Deed.the-variants.{Leave, Settle, Challenge}
 use Rattle.choices.specs.declared.plan.Plan.{Plan}
 use Rattle.decisions.specs.Authorization.{askedAt}
-use Rattle.decisions.specs.Carried.{blockFound, carried}
+use Rattle.lookup.specs.Find.{blockFound}
+use Rattle.decisions.specs.Carried.{carried}
 use Rattle.assignment.specs.Assignment.{Assignment, storedName, plannedRecords}
 use Rattle.fitting.specs.Decide.{sarPlan, lirPlan, marPlan}
 use Rattle.before.specs.Rules.{Rules}

@@ -15,7 +15,7 @@ use Rattle.choices.specs.Plans.{findingOf}
 use Rattle.choices.specs.Types.{isRemoval}
 use Rattle.choices.specs.declared.types.AssignmentType.{AssignmentType}
 use Rattle.choices.specs.declared.plan.Survey.{Survey}
-use Rattle.decisions.proofs.Among.{public-among}
+use Rattle.lookup.proofs.Among.{public-among}
 use Rattle.assignment.specs.Assignment.{Assignment, meantBy, every, findAll, numbersOf, firstOf, ownedHere, ownedUpTo, ownAt, storesAt, fitsAt, rightAt}
 use Rattle.assignment.specs.Assignment.{surveyOf, userKnown, ownerBy, namedSurvey, ownedSurvey, assignMeant, assign, plannedRecords}
 use Rattle.assignment.specs.declared.Meant.{Meant}

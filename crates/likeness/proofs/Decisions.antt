@@ -11,12 +11,12 @@ use Rattle.lookup.specs.declared.Found.the-variants.{At, Nothing}
 use Rattle.choices.specs.Choices.{location}
 use Rattle.choices.specs.declared.choice.Choice.{Choice}
 use Rattle.choices.specs.declared.choice.Choice.the-variants.{Alone, Server, Capabilities, First}
-use Rattle.decisions.specs.Among.{Among}
+use Rattle.lookup.specs.Among.{Among}
 use Rattle.decisions.specs.Authentication.{claimedAt, claimedOf, authenticateFound, authenticate}
 use Rattle.decisions.specs.Authorization.{askedAt, askedOf, authorizeFound, authorize}
 use Rattle.decisions.specs.Carried.{servedBy, carried}
 use Rattle.decisions.specs.Location.{soughtAt, soughtOf, locateFound, locate}
-use Rattle.decisions.proofs.Among.{public-among}
+use Rattle.lookup.proofs.Among.{public-among}
 use Rattle.likeness.specs.Shown.{SameRecord, SameTables}
 use Rattle.likeness.proofs.Lookups.{roam-same, public-same, private-same, server-same, barred-same}
 

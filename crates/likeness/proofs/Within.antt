@@ -30,9 +30,10 @@ use Rattle.choices.specs.declared.plan.Plan.{Plan}
 use Rattle.choices.specs.declared.plan.Sar.{Sar}
 use Rattle.decisions.specs.Authentication.{authenticateFound, authenticate}
 use Rattle.decisions.specs.Authorization.{authorizeFound, authorize}
-use Rattle.decisions.specs.Carried.{blockFound, servedBy, carried}
+use Rattle.lookup.specs.Find.{blockFound}
+use Rattle.decisions.specs.Carried.{servedBy, carried}
 use Rattle.decisions.specs.Location.{locateFound, locate}
-use Rattle.decisions.proofs.Among.{public-among}
+use Rattle.lookup.proofs.Among.{public-among}
 use Rattle.assignment.specs.Assignment.{Assignment, findAll, firstOf, assignMeant, assign}
 use Rattle.assignment.specs.declared.Meant.{Meant}
 use Rattle.assignment.specs.declared.Meant.the-variants.{Fault, Owned, Listed}

@@ -6,11 +6,11 @@ use native.Mathlib.Omega.{arith}
 use lib.ListN.{length}
 use Rattle.table.specs.SoundTable.{SoundTable}
 use Rattle.table.proofs.Sound.{sound-block}
 use Rattle.lookup.specs.Find.{publicIs, findPublic}
 use Rattle.lookup.specs.declared.Found.{Found}
 use Rattle.lookup.specs.declared.Found.the-variants.{At}
 use Rattle.lookup.proofs.First.{first-stands}
-use Rattle.decisions.specs.Among.{Among}
+use Rattle.lookup.specs.Among.{Among}
 
 -- A search from block 1 on finds a record, and no header.
 pub public-among : (t : List ℕ) (count : ℕ) (name : List ℕ) {f : Found} → f ≡ findPublic t count name → Among count f
