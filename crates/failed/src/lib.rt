@@ -3,7 +3,7 @@ use octets::name;
 use octets::number;
 use pen::group;
 use reading::Content;
-use reading::faults;
+use reading::base;
 use reading::kinds;
 ghost use mathlib.Core.Path.{_≡_};
 ghost use Prim.Native.Nat.{_+_, _*_, _≤_, _<_};
@@ -69,7 +69,7 @@ pub fn put_faulty(out: &mut [u8], req: &[u8], at: usize, n: u32) -> usize
     requires { ⌜ length (failed (failedOf n (drop at (now req)))) ≤ length (now out) ⌝ }
     ensures { λ r. ⌜ Wrote (failed (failedOf n (drop at (now (req .entry))))) (now (out .entry)) (now (out .exit)) r ⌝ }
 {
-    if n == faults::INVALID_AVP_LENGTH {
+    if n == base::INVALID_AVP_LENGTH {
         return put_alone(out, req, at);
     }
     group::put_failed(out, whole(req, at))

@@ -1,6 +1,7 @@
 // Reading a request: the kinds of AVPs, and rules (c) to (h) for one AVP.
 
-pub mod faults;
+pub mod base;
+pub mod experimental;
 pub mod group;
 pub mod kinds;
 pub mod plain;

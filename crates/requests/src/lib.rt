@@ -8,7 +8,7 @@ use diameter::message;
 use octets::number;
 use reading::Dialect;
 use reading::Verdict;
-use reading::faults;
+use reading::base;
 use reading::kinds;
 ghost use mathlib.Core.Path.{_≡_};
 ghost use Prim.Native.Nat.{_≤_, _<_};
@@ -49,16 +49,16 @@ fn header_fault(req: &[u8], d: Dialect) -> u32
     ensures { λ r. ⌜ r ≡ headerFault d (now (req .entry)) ⌝ }
 {
     if req[message::VERSION_AT] != message::VERSION {
-        return faults::UNSUPPORTED_VERSION;
+        return base::UNSUPPORTED_VERSION;
     }
     if req[message::FLAGS_AT] / message::E_BIT % 2 == 1 {
-        return faults::INVALID_HDR_BITS;
+        return base::INVALID_HDR_BITS;
     }
     if !spoken(d) {
-        return faults::COMMAND_UNSUPPORTED;
+        return base::COMMAND_UNSUPPORTED;
     }
     if number::be32(req, message::APPLICATION_AT) != d.application {
-        return faults::APPLICATION_UNSUPPORTED;
+        return base::APPLICATION_UNSUPPORTED;
     }
     0
 }
@@ -102,7 +102,7 @@ fn complete(s: &[u8], d: Dialect, w: Walked) -> Walked
         let places = w.places;
         let k = missing(s, d, places);
         if k != 0 {
-            return walk::refuse(faults::MISSING_AVP, 0, k);
+            return walk::refuse(base::MISSING_AVP, 0, k);
         }
     }
     w
@@ -118,7 +118,7 @@ pub fn read_in(req: &[u8], d: Dialect) -> Walked
         return walk::refuse(n, 0, 0);
     }
     if first_other(req) {
-        return walk::refuse(faults::MISSING_AVP, 0, kinds::SESSION_ID);
+        return walk::refuse(base::MISSING_AVP, 0, kinds::SESSION_ID);
     }
     complete(req, d, walk::walk_message(req, d))
 }
