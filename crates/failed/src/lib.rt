@@ -1,4 +1,5 @@
 // Failed-AVP: the faulty AVP of a request, its header alone, or an example of one that is missing.
+use diameter::codes;
 use octets::name;
 use octets::number;
 use pen::group;
@@ -116,6 +117,6 @@ pub fn put_example(out: &mut [u8], k: usize) -> usize
     let content = row.content;
     let four = is_four(content);
     let n = 8 + put_sample(&mut out[8..], row.code, row.vendor, four);
-    pen::put_head(out, group::FAILED_AVP, pen::FLAGS, n);
+    pen::put_head(out, codes::FAILED_AVP, pen::FLAGS, n);
     n
 }

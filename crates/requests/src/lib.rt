@@ -4,6 +4,7 @@ pub mod places;
 pub mod walk;
 
 use diameter::Read;
+use diameter::codes;
 use diameter::message;
 use octets::number;
 use reading::Dialect;
@@ -40,7 +41,7 @@ pub fn command(req: &[u8]) -> usize
 fn spoken(d: Dialect) -> bool
     ensures { λ r. ⌜ r ≡ spoken d ⌝ }
 {
-    (d.application == reading::CX) & (reading::UAR <= d.command) & (d.command <= reading::MAR)
+    (d.application == codes::CX) & (reading::UAR <= d.command) & (d.command <= reading::MAR)
 }
 
 // The header's first fault, 0 where there is none.
@@ -130,7 +131,7 @@ pub fn read_request(req: &[u8]) -> Walked
 {
     let d = Dialect {
         command: command(req),
-        application: reading::CX,
+        application: codes::CX,
     };
     read_in(req, d)
 }
