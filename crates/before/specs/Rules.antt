@@ -1,11 +1,10 @@
 -- A call under some rules: how a table is checked, what a request that was read comes to, and what is written. The rules in force are one such; those that
 -- a later request replaced are others.
 use Prim.Native.Nat.{ℕ}
-use mathlib.Core.List.{List, [], _∷_}
+use mathlib.Core.List.{List}
 use lib.ListN.{length}
 use Rattle.table.specs.Check.{checkTable}
 use Rattle.blocks.specs.declared.Checked.{Checked}
-use Rattle.vectors.specs.VectorFile.{checkVectors}
 use Rattle.reading.specs.Rules.{Seen}
 use Rattle.requests.specs.Judged.{Judged, bad, fine}
 use Rattle.requests.specs.Request.{readRequest}
@@ -15,8 +14,8 @@ use Rattle.assignment.specs.Assignment.{Assignment}
 use Rattle.fitting.specs.Decide.{Decision, faulted, assignmentOf, planRead}
 use Rattle.fitting.specs.Deeds.{carriedOut, spentBy}
 use Rattle.calling.specs.Lent.{Lent}
-use Rattle.calling.specs.Trial.{Trial, tried}
-use Rattle.calling.specs.Serve.{Served, smallBuffer, wrongSize, wrongLength, noRequest, checkValue, unsound, unsoundVectors, refused, answered}
+use Rattle.calling.specs.Trial.{tried}
+use Rattle.calling.specs.Serve.{Served, checkValue, trialsOf, refused, answered}
 
 pub record Rules : Type 0 where
   pub check : List ℕ → ℕ → Checked
@@ -37,19 +36,8 @@ judgedBy r req t count v (fine seen) = performedBy r t count v (assignmentOf t s
 unfoldable pub decideBy : Rules → List ℕ → List ℕ → ℕ → List ℕ → Decision
 decideBy r req t count v = judgedBy r req t count v (readRequest req)
 
--- the refusals, the table being found sound or bad
-abbrev pub trialsBy : Lent → Checked → List Trial
-trialsBy x c =
-    record { holds = smallBuffer (x .buffer); number = 1; besides = 0 }
-    ∷ record { holds = wrongSize (x .request); number = 2; besides = 0 }
-    ∷ record { holds = wrongLength (x .request); number = 3; besides = 0 }
-    ∷ record { holds = noRequest (x .request); number = 4; besides = 0 }
-    ∷ unsound c
-    ∷ unsoundVectors (checkVectors (x .vectors))
-    ∷ []
-
 unfoldable pub serveFound : Rules → Lent → Checked → Served
-serveFound r x c = tried (refused x) (answered x (decideBy r (x .request) (x .table) (checkValue c) (x .vectors))) (trialsBy x c)
+serveFound r x c = tried (refused x) (answered x (decideBy r (x .request) (x .table) (checkValue c) (x .vectors))) (trialsOf x c)
 
 unfoldable pub serveBy : Rules → Lent → Served
 serveBy r x = serveFound r x (r .check (x .table) (length (x .profile)))
