@@ -42,7 +42,7 @@
  *
  * Stack. A call takes under 12 KiB by itself, most of it to remember the sets that the check has met. It calls memset and memcpy, and a
  * first call that is bound lazily takes what the dynamic linker takes besides: some 3.2 KB on x86-64 with AVX-512, where decisions then
- * took up to 12,984 bytes and reports up to 14,200. For a small stack link with -Wl,-z,now, as pkg-config does: all is bound at the start. The
+ * took up to 13,256 bytes and reports up to 14,536. For a small stack link with -Wl,-z,now, as pkg-config does: all is bound at the start. The
  * archive has no unwind tables: a debugger's backtrace ends at the call.
  *
  * What comes here. User-Authorization, Server-Assignment, Location-Info and Multimedia-Auth requests. The base protocol's

@@ -3,7 +3,7 @@
 
 Takes calls that the independent program made and its outcomes of them, picks COUNT that show every refusal, every result,
 every assignment type, every step of an authentication, both editions and the rules of sets, and writes them as a crate with one statement, which antt computes from the definitions alone.
-The crate stands in a folder outside the repository, beside copies of the crates that crates/worked stands on. What the
+The crate stands in a folder outside the repository, beside copies of the crates that crates/worked and crates/ndushavire stand on. What the
 cases open is read from crates/worked/proofs/Sample.antt, so that there is one list of it.
 """
 import collections, itertools, os, re, shutil, struct, subprocess, sys, tempfile
@@ -141,6 +141,7 @@ def opened():
 
 CASES = '''%s
 use mathlib.Core.Path.{_≡_}
+use lib.Seq.{sets}
 use Rattle.calling.specs.Lent.{lent}
 use Rattle.ndushavire.specs.Reads.{callIn}
 
@@ -223,14 +224,15 @@ def write(folder, cases):
 
 
 def copy(folder):
-    """What crates/worked stands on, as far as it is proved, and `computed` in the place of `worked`."""
+    """What crates/worked uses, and crates/ndushavire, as far as they are proved, and `computed` above them."""
     lines = dict(re.findall(r'^(\w+):(.*)', open('crates.txt').read(), re.MULTILINE))
-    below = set(lines['worked'].split())
+    used = lines['worked'] + ' ndushavire'
+    below = set(used.split())
     while more := {dep for name in below for dep in lines[name].split()} - below:
         below |= more
     with open(folder + '/crates.txt', 'w') as text:
         text.writelines('%s:%s\n' % (name, lines[name]) for name in below)
-        text.write('computed:%s\n' % lines['worked'])
+        text.write('computed:%s\n' % used)
     for part in ['crates/' + name for name in below] + ['target/rlib', 'target/stamp']:
         if os.path.isdir(part):
             shutil.copytree(part, '%s/%s' % (folder, part), symlinks=True)
