@@ -214,7 +214,7 @@ soak: target/c99/driver $(BINARY)
 	    done; \
 	done
 
-#: peers              the daemon of the examples with Kamailio, freeDiameter, Erlang's diameter and tshark, which it installs from Debian as root; 2 minutes
+#: peers              the daemon of the examples with Kamailio, freeDiameter, Erlang's diameter and tshark, which it installs from Debian as root; one to two minutes
 peers: target/c99/daemon target/c/maketable
 	tests/peers.sh target/test/peers target/c/maketable $(RUN) target/c99/daemon
 

@@ -3,8 +3,8 @@
 
 Takes calls that the independent program made and its outcomes of them, picks COUNT that show every refusal, every result,
 every assignment type, every step of an authentication, both editions and the rules of sets, and writes them as a crate with one statement, which antt computes from the definitions alone.
-The crate stands in a folder outside the repository, beside copies of the crates that crates/worked and crates/ndushavire stand on. What the
-cases open is read from crates/worked/proofs/Sample.antt, so that there is one list of it.
+The crate stands in a folder outside the repository, beside copies of the crates that crates/worked_examples and crates/ndushavire stand on. What the
+cases open is read from crates/worked_examples/proofs/Sample.antt, so that there is one list of it.
 """
 import collections, itertools, os, re, shutil, struct, subprocess, sys, tempfile
 
@@ -132,7 +132,7 @@ def record(case):
 
 def opened():
     """The `use` lines of what the worked examples share, and those of the names that they open which these lines bring."""
-    text = open('crates/worked/proofs/Sample.antt').read()
+    text = open('crates/worked_examples/proofs/Sample.antt').read()
     uses = re.findall(r'^use .*', text, re.MULTILINE)
     brought = set(re.findall(r'[^\s{},]+', ' '.join(use[use.index('{'):] for use in uses)))
     names = re.search(r'^unfoldable pub opened : ℕ\nunfolding (.*?)^opened = ', text, re.MULTILINE | re.DOTALL).group(1).split()
@@ -224,9 +224,9 @@ def write(folder, cases):
 
 
 def copy(folder):
-    """What crates/worked uses, and crates/ndushavire, as far as they are proved, and `computed` above them."""
+    """What crates/worked_examples uses, and crates/ndushavire, as far as they are proved, and `computed` above them."""
     lines = dict(re.findall(r'^(\w+):(.*)', open('crates.txt').read(), re.MULTILINE))
-    used = lines['worked'] + ' ndushavire'
+    used = lines['worked_examples'] + ' ndushavire'
     below = set(used.split())
     while more := {dep for name in below for dep in lines[name].split()} - below:
         below |= more

@@ -26,11 +26,11 @@ while read -r crate _ below; do
         grep -q -E "^$crate:.* $on( |\$)" crates.txt || fail "the map has an arrow from $crate to $on, and crates.txt has none"
         arrows=$((arrows + 1))
     done
-done < <(grep -o -E '[a-z]+ → [a-z]+(, [a-z]+)*' <<<"$map")
-for crate in $(sed -n 's/^\([a-z]*\):.*/\1/p' crates.txt); do
+done < <(grep -o -E '[a-z_]+ → [a-z_]+(, [a-z_]+)*' <<<"$map")
+for crate in $(sed -n 's/^\([a-z_]*\):.*/\1/p' crates.txt); do
     grep -q -E "(^|  )$crate( →|$|  )" <<<"$map" || fail "the map has no crate $crate"
 done
-for path in $(grep -h -o -E '`[a-z]+/(src|specs|proofs|must-fail)/[A-Za-z_/]+(\.[a-z]+)?`' README.md docs/*.md | tr -d '`' | sort -u); do
+for path in $(grep -h -o -E '`[a-z_]+/(src|specs|proofs|must-fail)/[A-Za-z_/]+(\.[a-z]+)?`' README.md docs/*.md | tr -d '`' | sort -u); do
     [ -e "crates/$path" ] || [ -e "crates/$path.antt" ] || fail "a page names crates/$path, which is not there"
 done
 pages=(README.md packaging/README.md docs/*.md)

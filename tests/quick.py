@@ -67,9 +67,14 @@ def listed(folder):
 
 
 def directly_above(crates, names):
-    """A crate lists all that it stands on; it stands directly on those that none of the others stands on."""
+    """A crate lists what it uses; it stands directly on those that none of the others uses."""
     return {name for name, below in crates.items() for one in below
             if one in names and not any(one in crates.get(other, ()) for other in below)}
+
+
+def below(crates, name):
+    """A crate and all that it stands on."""
+    return {name}.union(*(below(crates, one) for one in crates.get(name, ())))
 
 
 def try_edits(edits):
@@ -155,7 +160,7 @@ def main():
         run('rt', 'check', *sorted({name for name, _ in edits}))
         try_edits(edits)
     fresh = subprocess.run(['make', '-q', ARCHIVE], stdout=subprocess.DEVNULL, stderr=subprocess.DEVNULL).returncode == 0
-    inside = proved & set(crates['ndushavire'] + ['ndushavire'])
+    inside = proved & below(crates, 'ndushavire')
     picked = list(touched(sys.argv[1:], files, inside, commit))
     some = [part for part, linked in picked if fresh or not linked]
     left = [part for part, linked in picked if linked and not fresh]

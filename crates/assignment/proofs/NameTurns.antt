@@ -13,6 +13,7 @@ use Rattle.lookup.specs.declared.Found.{Found}
 use Rattle.lookup.specs.declared.Found.the-variants.{At, Nothing}
 use Rattle.lookup.proofs.First.{FirstAt, first-stands}
 use Rattle.blocks.specs.Changed.{isOne}
+use Rattle.lookup.proofs.Halves.{find-alike}
 use Rattle.rewrite.specs.Change.{afterOf, reaches, Keeps, alteredUpTo}
 use Rattle.rewrite.specs.Renew.{settled, Fitting, changeOf, ChangeFits}
 use Rattle.rewrite.specs.declared.Change.{Change}
@@ -20,7 +21,7 @@ use Rattle.rewrite.specs.declared.Change.the-variants.{Settled}
 use Rattle.rewrite.proofs.Counts.{altered-most, altered-none, both-counts, sum-few}
 use Rattle.rewrite.proofs.Reaching.{reaches-closed, reaches-append, reaches-zero, reaches-kept}
 use Rattle.rewrite.proofs.Settled.{settled-keeps}
-use Rattle.rewrite.proofs.Sound.{keeping-says, keeping-found}
+use Rattle.rewrite.proofs.Sound.{keeping-says, keeping-public}
 use Rattle.rewrite.proofs.Tables.{Keeping, after-choice, after-none, after-keeping, after-both}
 use Rattle.diameter.specs.Avp.{dataOf}
 use Rattle.diameter.specs.Walk.{walk}
@@ -84,7 +85,7 @@ module _ (t owner server : List ℕ) (kind : AssignmentType) (count : ℕ) (s : 
 find-kept : (x y : List ℕ) (count : ℕ) → SoundTable x count → Keeping x y count → (avps : List (List ℕ)) → findAll y count avps ≡ findAll x count avps
 unfolding findAll
 find-kept x y count sound keeping [] = refl
-find-kept x y count sound keeping (a ∷ avps) = rw (keeping-found x y count keeping sound (dataOf a), find-kept x y count sound keeping avps)
+find-kept x y count sound keeping (a ∷ avps) = rw (find-alike y x count (dataOf a) (keeping-public x y count keeping sound), find-kept x y count sound keeping avps)
 
 -- One that was found is reached with its set, and no header.
 found-later : (p : ℕ → Bool) (count : ℕ) (f : Found) → firstFrom p count 1 ≡ f → isOne (numbersOf (f ∷ [])) 0 ≡ false

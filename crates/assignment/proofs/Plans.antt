@@ -31,9 +31,9 @@ use Rattle.choices.specs.declared.plan.Sar.{Sar}
 use Rattle.choices.specs.declared.plan.Survey.{Survey}
 use Rattle.choices.specs.declared.plan.Finding.{Finding}
 use Rattle.choices.specs.declared.plan.Plan.{Plan}
-use Rattle.decisions.specs.Carried.{blockFound}
-use Rattle.decisions.specs.Among.{Among}
-use Rattle.decisions.proofs.Among.{public-among}
+use Rattle.lookup.specs.Find.{blockFound}
+use Rattle.lookup.specs.Among.{Among}
+use Rattle.lookup.proofs.Among.{public-among}
 use Rattle.assignment.specs.Assignment.{meantBy, findAll, firstOf, ownedUpTo, surveyOf, userKnown, ownerBy, namedSurvey, ownedSurvey, assignMeant, assign}
 use Rattle.assignment.specs.Survey.{sarOf, alsoKnown, foundSurvey}
 use Rattle.assignment.specs.declared.Meant.{Meant}

@@ -21,7 +21,7 @@ use Rattle.choices.specs.declared.types.AssignmentType.{AssignmentType}
 use Rattle.choices.specs.declared.plan.Sar.{Sar}
 use Rattle.choices.specs.declared.plan.Survey.{Survey}
 use Rattle.choices.specs.declared.plan.Plan.{Plan}
-use Rattle.decisions.specs.Carried.{blockFound}
+use Rattle.lookup.specs.Find.{blockFound}
 use Rattle.assignment.specs.declared.Meant.{Meant}
 use Rattle.assignment.specs.declared.Meant.the-variants.{Fault, Owned, Listed}
 

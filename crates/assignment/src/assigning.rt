@@ -9,7 +9,6 @@ use choices::plan::Plan;
 use choices::plan::Sar;
 use choices::plan::Survey;
 use choices::types;
-use decisions::carrying;
 use lookup::Found;
 use record::fields;
 ghost use mathlib.Core.Path.{_≡_};
@@ -19,8 +18,8 @@ ghost use Rattle.diameter.specs.Message.{bodyOf};
 ghost use Rattle.requests.specs.Request.{identities};
 ghost use Rattle.requests.specs.Identity.{placesFrom};
 ghost use Rattle.choices.specs.Types.{isRemoval};
-ghost use Rattle.decisions.specs.Among.{Among};
-ghost use Rattle.decisions.specs.Carried.{blockFound};
+ghost use Rattle.lookup.specs.Among.{Among};
+ghost use Rattle.lookup.specs.Find.{blockFound};
 ghost use Rattle.assignment.specs.Assignment.{meantBy, findAll, userKnown, ownerBy, ownedSurvey, namedSurvey, assignMeant, assign};
 ghost use Rattle.assignment.specs.Survey.{sarOf, foundSurvey};
 
@@ -74,7 +73,7 @@ fn plan_named(
     ensures { λ r. ⌜ r ≡ assignMeant (now (t .entry)) count (sarOf (now (req .entry)) s (now (server .entry)) (now (user .entry))) (Meant.Listed place) ⌝ }
 {
     let f = lookup::find_public(t, count, diameter::data_at(req, place));
-    let first = carrying::block_found(f);
+    let first = lookup::block_found(f);
     let v = survey_by(t, count, req, first, s, server, user);
     let w = looking::also_known(v, user_known(t, count, f, s.named, user));
     let kind = s.kind;

@@ -7,6 +7,7 @@ use diameter::message;
 use lookup::Found;
 use reading::Outcome;
 use reading::Verdict;
+use reading::base;
 use reading::kinds;
 use requests::identities;
 use requests::identities::Next;
@@ -21,7 +22,7 @@ ghost use Rattle.rewrite.specs.Renew.{settled, Fitting};
 ghost use Rattle.diameter.specs.Message.{bodyOf};
 ghost use Rattle.requests.specs.Request.{identities};
 ghost use Rattle.requests.specs.Identity.{placesFrom};
-ghost use Rattle.decisions.specs.Among.{Among};
+ghost use Rattle.lookup.specs.Among.{Among};
 ghost use Rattle.assignment.specs.Assignment.{meantBy, findAll, numbersOf};
 ghost use Rattle.assignment.specs.Survey.{foundSurvey};
 
@@ -34,7 +35,7 @@ pub fn meant_by(req: &[u8], removal: bool, named: bool) -> Meant
             return Meant::Owned;
         }
         return Meant::Fault(Verdict {
-            result: Outcome::Base(5005),
+            result: Outcome::Base(base::MISSING_AVP),
             place: 0,
             lacks: kinds::PUBLIC_IDENTITY,
         });
@@ -50,7 +51,7 @@ pub fn meant_by(req: &[u8], removal: bool, named: bool) -> Meant
         return Meant::Listed(place);
     };
     Meant::Fault(Verdict {
-        result: Outcome::Base(5009),
+        result: Outcome::Base(base::AVP_OCCURS_TOO_MANY_TIMES),
         place: second,
         lacks: 0,
     })

@@ -5,10 +5,14 @@ use mathlib.Core.Path.{_≡_, refl, sym, _∙_}
 use mathlib.Core.List.{List, _++_}
 use native.Mathlib.Omega.{arith}
 use native.Mathlib.Nat.{add-sub-cancel-left}
+use mir.Syntax.{w8}
+use mir.Val.{Fits}
 use lib.Dec.{ltb}
-use lib.ListN.{length, take, drop, length-append, length-take, length-drop}
-use lib.Seq.{take-add, take-all, take-append-le, drop-append-le, drop-at}
+use lib.ListN.{length, getD, take, drop, length-append, length-take, length-drop}
+use lib.Seq.{getD-take, getD-drop, take-add, take-all, take-append-le, drop-append-le, drop-at}
 use borrow.Author.Tests.{ltb-true, ltb-false}
+use Rattle.octets.proofs.Numbers.{Bytes}
+use Rattle.octets.proofs.Runs.{past-zero}
 use Rattle.blocks.specs.Blocks.{blockOf, tableOf}
 
 pub block-length : (t : List ℕ) (k : ℕ) → 512 * k + 512 ≤ length t → length (blockOf t k) ≡ 512
@@ -64,3 +68,14 @@ table-block f (suc n) h k l = go (ltb k n) refl (λ m. table-block f n (λ j i. 
     go false e r =
         let m : k ≡ n = omega (arith, ltb-false k n e) in
         rw (m, drop-at (tableOf f n) (f n) (512 * n) size, take-all 512 (f n) (omega (arith, h n (omega arith))))
+
+-- A block of bytes.
+pub block-bytes : (t : List ℕ) → Bytes t → (k : ℕ) → Bytes (blockOf t k)
+unfolding blockOf
+block-bytes t bytes k i = go (ltb i 512) refl
+  where
+    go : (x : Bool) → ltb i 512 ≡ x → Fits w8 (getD (take 512 (drop (512 * k) t)) i 0)
+    go true e = rw (getD-take 512 (drop (512 * k) t) i 0 (ltb-true i 512 e), getD-drop (512 * k) t i 0) (bytes (512 * k + i))
+    go false e =
+        let l : length (take 512 (drop (512 * k) t)) ≤ i = simp length-take (omega (arith, ltb-false i 512 e)) in
+        rw (← past-zero (take 512 (drop (512 * k) t)) i l) (omega arith)

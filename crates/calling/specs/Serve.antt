@@ -59,16 +59,19 @@ checkOf x = checkTable (x .table) (length (x .profile))
 abbrev pub unsoundVectors : Checked → Trial
 unsoundVectors d = record { holds = isBad d; number = 6; besides = 0 }
 
--- "Five refusals of the call", and the sixth, in their order, with what each returns besides
-abbrev pub trials : Lent → List Trial
-trials x =
+-- "Five refusals of the call", and the sixth, in their order, with what each returns besides, where the check of the table answers so
+abbrev pub trialsOf : Lent → Checked → List Trial
+trialsOf x c =
     record { holds = smallBuffer (x .buffer); number = 1; besides = 0 }
     ∷ record { holds = wrongSize (x .request); number = 2; besides = 0 }
     ∷ record { holds = wrongLength (x .request); number = 3; besides = 0 }
     ∷ record { holds = noRequest (x .request); number = 4; besides = 0 }
-    ∷ unsound (checkOf x)
+    ∷ unsound c
     ∷ unsoundVectors (checkVectors (x .vectors))
     ∷ []
+
+abbrev pub trials : Lent → List Trial
+trials x = trialsOf x (checkOf x)
 
 -- "All leave table and buffer as they came", and the vectors
 unfoldable pub refused : Lent → Trial → Served

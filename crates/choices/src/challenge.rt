@@ -5,6 +5,8 @@ use crate::plan::Deed;
 use crate::plan::Finding;
 use crate::plan::Plan;
 use reading::Outcome;
+use reading::base;
+use reading::experimental;
 use vectors::choice::Sent;
 ghost use mathlib.Core.Path.{_≡_};
 ghost use Rattle.choices.specs.Challenges.{claimOf, challengeOf};
@@ -23,16 +25,16 @@ pub fn claim_of(a: Claimed) -> Finding
     ensures { λ r. ⌜ r ≡ claimOf a ⌝ }
 {
     if !a.known {
-        return Finding::Denied(Outcome::Experimental(5001));
+        return Finding::Denied(Outcome::Experimental(experimental::USER_UNKNOWN));
     }
     if !a.together {
-        return Finding::Denied(Outcome::Experimental(5002));
+        return Finding::Denied(Outcome::Experimental(experimental::IDENTITIES_DONT_MATCH));
     }
     if !a.served {
-        return Finding::Denied(Outcome::Experimental(5006));
+        return Finding::Denied(Outcome::Experimental(experimental::AUTH_SCHEME_NOT_SUPPORTED));
     }
     if !a.some {
-        return Finding::Denied(Outcome::Base(5012));
+        return Finding::Denied(Outcome::Base(base::UNABLE_TO_COMPLY));
     }
     Finding::Fine
 }

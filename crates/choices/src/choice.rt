@@ -1,5 +1,7 @@
 // "UAR." and "LIR.": what each comes to, by the answers to its questions.
 use reading::Outcome;
+use reading::base;
+use reading::experimental;
 ghost use mathlib.Core.Path.{_≡_};
 ghost use Rattle.choices.specs.Choices.{authorization, location};
 
@@ -36,30 +38,33 @@ pub fn authorization(a: Asked, kind: u32) -> Choice
     ensures { λ r. ⌜ r ≡ authorization a kind ⌝ }
 {
     if !a.known {
-        return Choice::Alone(Outcome::Experimental(5001));
+        return Choice::Alone(Outcome::Experimental(experimental::USER_UNKNOWN));
     }
     if !a.together {
-        return Choice::Alone(Outcome::Experimental(5002));
+        return Choice::Alone(Outcome::Experimental(experimental::IDENTITIES_DONT_MATCH));
     }
     if a.barred {
-        return Choice::Alone(Outcome::Base(5003));
+        return Choice::Alone(Outcome::Base(base::AUTHORIZATION_REJECTED));
     }
     if (kind != 1) & !a.roams {
-        return Choice::Alone(Outcome::Experimental(5004));
+        return Choice::Alone(Outcome::Experimental(experimental::ROAMING_NOT_ALLOWED));
     }
     if kind == 2 {
-        return Choice::Capabilities(Outcome::Base(2001));
+        return Choice::Capabilities(Outcome::Base(base::SUCCESS));
     }
     if a.present {
         if kind == 0 {
-            return Choice::Server(Outcome::Experimental(2002));
+            return Choice::Server(Outcome::Experimental(experimental::SUBSEQUENT_REGISTRATION));
         }
-        return Choice::Server(Outcome::Base(2001));
+        return Choice::Server(Outcome::Base(base::SUCCESS));
     }
     if kind == 1 {
-        return Choice::Alone(Outcome::Experimental(5003));
+        return Choice::Alone(Outcome::Experimental(experimental::IDENTITY_NOT_REGISTERED));
     }
-    Choice::First(Outcome::Experimental(2002), Outcome::Experimental(2001))
+    Choice::First(
+        Outcome::Experimental(experimental::SUBSEQUENT_REGISTRATION),
+        Outcome::Experimental(experimental::FIRST_REGISTRATION),
+    )
 }
 
 // The decision on a LIR.
@@ -67,13 +72,16 @@ pub fn location(a: Sought) -> Choice
     ensures { λ r. ⌜ r ≡ location a ⌝ }
 {
     if !a.known {
-        return Choice::Alone(Outcome::Experimental(5001));
+        return Choice::Alone(Outcome::Experimental(experimental::USER_UNKNOWN));
     }
     if a.present {
-        return Choice::Server(Outcome::Base(2001));
+        return Choice::Server(Outcome::Base(base::SUCCESS));
     }
     if !a.services {
-        return Choice::Alone(Outcome::Experimental(5003));
+        return Choice::Alone(Outcome::Experimental(experimental::IDENTITY_NOT_REGISTERED));
     }
-    Choice::First(Outcome::Base(2001), Outcome::Experimental(2003))
+    Choice::First(
+        Outcome::Base(base::SUCCESS),
+        Outcome::Experimental(experimental::UNREGISTERED_SERVICE),
+    )
 }

@@ -2,6 +2,7 @@
 use crate::Given;
 use reading::Outcome;
 use reading::Verdict;
+use reading::base;
 use vectors::choice::Sent;
 ghost use mathlib.Core.Path.{_≡_};
 ghost use Rattle.choices.specs.Given.{blameless, givenOf, givenFault, givenPlain, givenServer, givenCapable, givenUser, givenSent};
@@ -74,7 +75,7 @@ pub fn challenging(k: u32, sent: Sent) -> Given
 {
     Given {
         verdict: Verdict {
-            result: Outcome::Base(2001),
+            result: Outcome::Base(base::SUCCESS),
             place: 0,
             lacks: 0,
         },

@@ -5,6 +5,8 @@ use crate::types;
 use crate::types::AssignmentType;
 use crate::types::Effect;
 use reading::Outcome;
+use reading::base;
+use reading::experimental;
 ghost use mathlib.Core.Path.{_≡_};
 ghost use Rattle.choices.specs.Plans.{findingOf, grant, only, deedOf, planOf};
 
@@ -59,22 +61,22 @@ pub fn finding_of(v: Survey, kind: AssignmentType) -> Finding
     ensures { λ r. ⌜ r ≡ findingOf v kind ⌝ }
 {
     if !v.known {
-        return Finding::Denied(Outcome::Experimental(5001));
+        return Finding::Denied(Outcome::Experimental(experimental::USER_UNKNOWN));
     }
     if !v.own {
-        return Finding::Denied(Outcome::Experimental(5002));
+        return Finding::Denied(Outcome::Experimental(experimental::IDENTITIES_DONT_MATCH));
     }
     if types::asks_only(kind) {
         if v.stores {
             return Finding::Fine;
         }
-        return Finding::Denied(Outcome::Base(5012));
+        return Finding::Denied(Outcome::Base(base::UNABLE_TO_COMPLY));
     }
     if !v.fits {
-        return Finding::Denied(Outcome::Experimental(5005));
+        return Finding::Denied(Outcome::Experimental(experimental::IDENTITY_ALREADY_REGISTERED));
     }
     if !(v.some & v.right) {
-        return Finding::Denied(Outcome::Experimental(5007));
+        return Finding::Denied(Outcome::Experimental(experimental::IN_ASSIGNMENT_TYPE));
     }
     Finding::Fine
 }

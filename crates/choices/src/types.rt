@@ -1,5 +1,7 @@
 // "Server-Assignment-Type 614 (0 to 11)": what each type is, which states it starts from, and what it does.
 use reading::Outcome;
+use reading::base;
+use reading::experimental;
 ghost use mathlib.Core.Path.{_≡_};
 ghost use Rattle.choices.specs.Types.{typeOf, isRemoval, asksOnly, carriesUser, allowed, keeping, leaving, effectOf};
 
@@ -106,7 +108,7 @@ fn kept(state: u8) -> Effect
         write: true,
         state,
         named: true,
-        result: Outcome::Base(2001),
+        result: Outcome::Base(base::SUCCESS),
     }
 }
 
@@ -129,7 +131,7 @@ fn parked(keep: bool) -> Effect
     if keep {
         return kept(2);
     }
-    gone(Outcome::Experimental(2004))
+    gone(Outcome::Experimental(experimental::SERVER_NAME_NOT_STORED))
 }
 
 // The row of a type in the table of effects; type 0 writes nothing.
@@ -137,14 +139,14 @@ pub fn effect_of(kind: AssignmentType, keep: bool) -> Effect
     ensures { λ r. ⌜ r ≡ effectOf kind keep ⌝ }
 {
     match kind {
-        AssignmentType::Removal => gone(Outcome::Base(2001)),
+        AssignmentType::Removal => gone(Outcome::Base(base::SUCCESS)),
         AssignmentType::StoringRemoval => parked(keep),
-        AssignmentType::Failure => gone(Outcome::Base(2001)),
+        AssignmentType::Failure => gone(Outcome::Base(base::SUCCESS)),
         AssignmentType::NoAssignment => Effect {
             write: false,
             state: 0,
             named: false,
-            result: Outcome::Base(2001),
+            result: Outcome::Base(base::SUCCESS),
         },
         AssignmentType::Registration => kept(1),
         AssignmentType::ReRegistration => kept(1),

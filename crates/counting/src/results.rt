@@ -1,5 +1,7 @@
 // "for each command (300 to 303, the rest as one) and each result, B and X apart": the rows and the columns of a report.
 use reading::Outcome;
+use reading::base;
+use reading::experimental;
 ghost use mathlib.Core.Path.{_≡_};
 ghost use Prim.Native.Nat.{_≤_, _<_};
 ghost use Rattle.counting.specs.Results.{baseResults, experimentalResults, indexIn, rowOf, columnOf, Listed};
@@ -24,19 +26,19 @@ fn base_column(n: u32) -> usize
     ensures { λ r. ⌜ (r ≡ indexIn n baseResults) × (r ≤ 13) ⌝ }
 {
     match n {
-        2001 => 0,
-        3001 => 1,
-        3007 => 2,
-        3008 => 3,
-        3009 => 4,
-        5001 => 5,
-        5003 => 6,
-        5004 => 7,
-        5005 => 8,
-        5009 => 9,
-        5011 => 10,
-        5012 => 11,
-        5014 => 12,
+        base::SUCCESS => 0,
+        base::COMMAND_UNSUPPORTED => 1,
+        base::APPLICATION_UNSUPPORTED => 2,
+        base::INVALID_HDR_BITS => 3,
+        base::INVALID_AVP_BITS => 4,
+        base::AVP_UNSUPPORTED => 5,
+        base::AUTHORIZATION_REJECTED => 6,
+        base::INVALID_AVP_VALUE => 7,
+        base::MISSING_AVP => 8,
+        base::AVP_OCCURS_TOO_MANY_TIMES => 9,
+        base::UNSUPPORTED_VERSION => 10,
+        base::UNABLE_TO_COMPLY => 11,
+        base::INVALID_AVP_LENGTH => 12,
         _ => 13,
     }
 }
@@ -45,18 +47,18 @@ fn experimental_column(n: u32) -> usize
     ensures { λ r. ⌜ (r ≡ indexIn n experimentalResults) × (r ≤ 12) ⌝ }
 {
     match n {
-        2001 => 0,
-        2002 => 1,
-        2003 => 2,
-        2004 => 3,
-        5001 => 4,
-        5002 => 5,
-        5003 => 6,
-        5004 => 7,
-        5005 => 8,
-        5006 => 9,
-        5007 => 10,
-        5011 => 11,
+        experimental::FIRST_REGISTRATION => 0,
+        experimental::SUBSEQUENT_REGISTRATION => 1,
+        experimental::UNREGISTERED_SERVICE => 2,
+        experimental::SERVER_NAME_NOT_STORED => 3,
+        experimental::USER_UNKNOWN => 4,
+        experimental::IDENTITIES_DONT_MATCH => 5,
+        experimental::IDENTITY_NOT_REGISTERED => 6,
+        experimental::ROAMING_NOT_ALLOWED => 7,
+        experimental::IDENTITY_ALREADY_REGISTERED => 8,
+        experimental::AUTH_SCHEME_NOT_SUPPORTED => 9,
+        experimental::IN_ASSIGNMENT_TYPE => 10,
+        experimental::FEATURE_UNSUPPORTED => 11,
         _ => 12,
     }
 }

@@ -26,13 +26,14 @@ use Rattle.choices.specs.declared.choice.Asked.{Asked}
 use Rattle.choices.specs.declared.choice.Sought.{Sought}
 use Rattle.choices.specs.declared.choice.Choice.{Choice}
 use Rattle.choices.specs.declared.choice.Choice.the-variants.{Alone, Server, Capabilities, First}
-use Rattle.decisions.specs.Carried.{blockFound, servedBy, carried}
+use Rattle.lookup.specs.Find.{blockFound}
+use Rattle.decisions.specs.Carried.{servedBy, carried}
 use Rattle.table.specs.SoundTable.{SoundTable}
 use Rattle.decisions.specs.Authorization.{askedAt, askedOf, authorizeFound, authorize}
 use Rattle.decisions.specs.Authentication.{claimedAt, claimedOf, toSend, authenticateFound, authenticate}
 use Rattle.decisions.specs.Location.{soughtAt, soughtOf, locateFound, locate}
 use Rattle.table.proofs.Sound.{sound-block}
-use Rattle.decisions.proofs.Among.{public-among}
+use Rattle.lookup.proofs.Among.{public-among}
 
 -- What a choice carries.
 module _ (f : Found) (r other : Outcome) (k : ℕ) {g : Given} where

@@ -15,7 +15,7 @@ use Rattle.lookup.specs.declared.Found.the-variants.{At, Nothing}
 use Rattle.choices.specs.Challenges.{claimOf, challengeOf}
 use Rattle.choices.specs.declared.challenge.Claimed.{Claimed}
 use Rattle.choices.specs.declared.plan.Plan.{Plan}
-use Rattle.decisions.specs.Carried.{blockFound}
+use Rattle.lookup.specs.Find.{blockFound}
 
 -- of a record's block b, where it is said whether the private identity is known, and whether there is a vector to send
 unfoldable pub claimedAt : List ℕ → Bool → List ℕ → List ℕ → Bool → Claimed

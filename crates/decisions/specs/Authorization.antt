@@ -13,7 +13,8 @@ use Rattle.lookup.specs.declared.Found.the-variants.{At, Nothing}
 use Rattle.choices.specs.Choices.{authorization}
 use Rattle.choices.specs.declared.Given.{Given}
 use Rattle.choices.specs.declared.choice.Asked.{Asked}
-use Rattle.decisions.specs.Carried.{blockFound, carried}
+use Rattle.lookup.specs.Find.{blockFound}
+use Rattle.decisions.specs.Carried.{carried}
 
 -- of a record's block b, where it is said whether the private identity is known and whether the record is barred, and all its set; h is the header block
 unfoldable pub askedAt : List ℕ → List ℕ → Bool → Bool → List ℕ → List ℕ → Asked

@@ -10,11 +10,6 @@ use Rattle.choices.specs.declared.Given.{Given}
 use Rattle.choices.specs.declared.choice.Choice.{Choice}
 use Rattle.choices.specs.declared.choice.Choice.the-variants.{Alone, Server, Capabilities, First}
 
--- the block of a record that was found, 0 where none was
-abbrev pub blockFound : Found → ℕ
-blockFound (At k) = k
-blockFound Nothing = 0
-
 -- the server name of a record that was found; "none, capabilities with" another result
 abbrev pub servedBy : Found → Outcome → Outcome → ℕ → Given
 servedBy (At j) r other k = givenServer r j

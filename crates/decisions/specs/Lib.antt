@@ -1,4 +1,3 @@
-pub mod Among
 pub mod Authentication
 pub mod Authorization
 pub mod Carried

@@ -12,7 +12,8 @@ use Rattle.lookup.specs.declared.Found.the-variants.{At, Nothing}
 use Rattle.choices.specs.Choices.{location}
 use Rattle.choices.specs.declared.Given.{Given}
 use Rattle.choices.specs.declared.choice.Sought.{Sought}
-use Rattle.decisions.specs.Carried.{blockFound, carried}
+use Rattle.lookup.specs.Find.{blockFound}
+use Rattle.decisions.specs.Carried.{carried}
 
 -- of a record's block
 unfoldable pub soughtAt : List ℕ → Sought

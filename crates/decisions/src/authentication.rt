@@ -12,7 +12,7 @@ ghost use mathlib.Core.Path.{_≡_};
 ghost use lib.ListN.{length};
 ghost use Rattle.table.specs.SoundTable.{SoundTable};
 ghost use Rattle.vectors.specs.VectorFile.{SoundVectors};
-ghost use Rattle.decisions.specs.Among.{Among};
+ghost use Rattle.lookup.specs.Among.{Among};
 ghost use Rattle.decisions.specs.Authentication.{claimedAt, claimedOf, toSend, authenticate};
 
 // The questions, put to a record's block b, where it is known whether the private identity is, and whether there is a vector to send.
@@ -73,5 +73,5 @@ pub fn authenticate(
     let f = lookup::find_public(t, count, public);
     let sent = to_send(v, user, number);
     let claimed = claim(t, count, user, scheme, 0 < sent.count, f);
-    challenge::challenge_of(challenge::claim_of(claimed), carrying::block_found(f), sent)
+    challenge::challenge_of(challenge::claim_of(claimed), lookup::block_found(f), sent)
 }

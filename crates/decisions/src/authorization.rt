@@ -12,7 +12,7 @@ ghost use lib.ListN.{length};
 ghost use Rattle.blocks.specs.Blocks.{blockOf};
 ghost use Rattle.table.specs.SoundTable.{SoundTable};
 ghost use Rattle.lookup.specs.Find.{barredAlone};
-ghost use Rattle.decisions.specs.Among.{Among};
+ghost use Rattle.lookup.specs.Among.{Among};
 ghost use Rattle.decisions.specs.Authorization.{askedAt, askedOf, authorize};
 
 // The questions, put to a record's block b, where it is known whether the private identity is.
@@ -72,7 +72,7 @@ pub fn authorize(
         t,
         count,
         user,
-        carrying::block_found(f),
+        lookup::block_found(f),
         choice::authorization(asked, kind),
     )
 }

@@ -6,17 +6,8 @@ use lookup::Found;
 use reading::Outcome;
 ghost use mathlib.Core.Path.{_≡_};
 ghost use Rattle.table.specs.SoundTable.{SoundTable};
-ghost use Rattle.decisions.specs.Carried.{blockFound, servedBy, carried};
-
-// The block of a record that was found, 0 where none was.
-pub fn block_found(f: Found) -> u32
-    ensures { λ r. ⌜ r ≡ blockFound f ⌝ }
-{
-    match f {
-        Found::At(k) => k,
-        Found::Nothing => 0,
-    }
-}
+ghost use Rattle.lookup.specs.Find.{blockFound};
+ghost use Rattle.decisions.specs.Carried.{servedBy, carried};
 
 // The server name of a record that was found, or else the capabilities of block k.
 fn served_by(f: Found, result: Outcome, other: Outcome, k: u32) -> Given

@@ -9,7 +9,7 @@ use record::subscriber::Record;
 ghost use mathlib.Core.Path.{_≡_};
 ghost use lib.ListN.{length};
 ghost use Rattle.table.specs.SoundTable.{SoundTable};
-ghost use Rattle.decisions.specs.Among.{Among};
+ghost use Rattle.lookup.specs.Among.{Among};
 ghost use Rattle.decisions.specs.Location.{soughtAt, soughtOf, locate};
 
 // The questions, put to a record's block.
@@ -44,7 +44,7 @@ pub fn locate(t: &[u8], count: usize, public: &[u8]) -> Given
     ensures { λ r. ⌜ r ≡ locate (now (t .entry)) count (now (public .entry)) ⌝ }
 {
     let f = lookup::find_public(t, count, public);
-    let k = carrying::block_found(f);
+    let k = lookup::block_found(f);
     let owner = fields::private(blocks::block(t, k as usize));
     carrying::carry(t, count, owner, k, choice::location(seek(t, count, f)))
 }

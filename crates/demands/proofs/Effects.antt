@@ -46,7 +46,7 @@ use Rattle.choices.specs.declared.plan.Finding.{Finding}
 use Rattle.choices.specs.declared.plan.Finding.the-variants.{Denied, Fine}
 use Rattle.choices.specs.declared.plan.Plan.{Plan}
 use Rattle.decisions.specs.Authentication.{claimedAt, claimedOf, authenticateFound, authenticate}
-use Rattle.decisions.proofs.Among.{public-among}
+use Rattle.lookup.proofs.Among.{public-among}
 use Rattle.assignment.specs.Assignment.{Assignment, meantBy, every, findAll, numbersOf, firstOf, ownedUpTo, ownAt, surveyOf, userKnown, ownerBy}
 use Rattle.blocks.specs.Changed.{isOne}
 use Rattle.assignment.specs.Assignment.{namedSurvey, ownedSurvey, assign, storedName, plannedRecords}

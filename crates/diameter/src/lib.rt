@@ -1,4 +1,5 @@
 // RFC 3588: AVPs read, at any place of any bytes; where a message's header has its fields.
+pub mod codes;
 pub mod message;
 
 ghost use mathlib.Core.Path.{_≡_};

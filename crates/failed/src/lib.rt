@@ -1,9 +1,10 @@
 // Failed-AVP: the faulty AVP of a request, its header alone, or an example of one that is missing.
+use diameter::codes;
 use octets::name;
 use octets::number;
 use pen::group;
 use reading::Content;
-use reading::faults;
+use reading::base;
 use reading::kinds;
 ghost use mathlib.Core.Path.{_≡_};
 ghost use Prim.Native.Nat.{_+_, _*_, _≤_, _<_};
@@ -69,7 +70,7 @@ pub fn put_faulty(out: &mut [u8], req: &[u8], at: usize, n: u32) -> usize
     requires { ⌜ length (failed (failedOf n (drop at (now req)))) ≤ length (now out) ⌝ }
     ensures { λ r. ⌜ Wrote (failed (failedOf n (drop at (now (req .entry))))) (now (out .entry)) (now (out .exit)) r ⌝ }
 {
-    if n == faults::INVALID_AVP_LENGTH {
+    if n == base::INVALID_AVP_LENGTH {
         return put_alone(out, req, at);
     }
     group::put_failed(out, whole(req, at))
@@ -116,6 +117,6 @@ pub fn put_example(out: &mut [u8], k: usize) -> usize
     let content = row.content;
     let four = is_four(content);
     let n = 8 + put_sample(&mut out[8..], row.code, row.vendor, four);
-    pen::put_head(out, group::FAILED_AVP, pen::FLAGS, n);
+    pen::put_head(out, codes::FAILED_AVP, pen::FLAGS, n);
     n
 }

@@ -27,7 +27,7 @@ use Rattle.choices.specs.declared.plan.Finding.the-variants.{Denied, Fine}
 use Rattle.choices.specs.declared.plan.Deed.the-variants.{Leave, Settle}
 use Rattle.choices.specs.declared.plan.Plan.{Plan}
 use Rattle.decisions.specs.Authentication.{claimedOf, authenticateFound, authenticate}
-use Rattle.decisions.proofs.Among.{public-among}
+use Rattle.lookup.proofs.Among.{public-among}
 use Rattle.assignment.specs.Assignment.{Assignment, assign, storedName}
 use Rattle.assignment.proofs.Rows.{Decided, alone, owned, named, assign-decided, row-fits}
 use Rattle.fitting.specs.Decide.{assignmentOf, uarPlan, sarPlan, lirPlan, marPlan, planRead}

@@ -27,7 +27,7 @@ use Rattle.requests.specs.Judged.{Judged, bad, fine}
 use Rattle.requests.specs.Request.{readRequest, dataSeen}
 use Rattle.choices.specs.declared.plan.Deed.{Deed}
 use Rattle.choices.specs.declared.plan.Deed.the-variants.{Leave, Settle, Challenge}
-use Rattle.decisions.proofs.Among.{public-among}
+use Rattle.lookup.proofs.Among.{public-among}
 use Rattle.assignment.specs.Assignment.{Assignment, findAll, numbersOf, ownedUpTo, plannedRecords}
 use Rattle.assignment.proofs.OwnTurns.{no-zero}
 use Rattle.fitting.specs.Decide.{assignmentOf, planRead, performed, decideJudged, decide}

@@ -15,7 +15,7 @@ use Rattle.calling.specs.Call.{Answered}
 use Rattle.calling.specs.Lent.{Lent, lent}
 use Rattle.calling.specs.Trial.{anyHolds}
 use Rattle.calling.specs.Serve.{Served}
-use Rattle.worked.proofs.Sample.{header, person, vector, room, digest, s, opened}
+use Rattle.worked_examples.proofs.Sample.{header, person, vector, room, digest, s, opened}
 use Rattle.demands.specs.Frame.{firstOwner, askedIn, subscriptionOf}
 use Rattle.demands.specs.Insertion.{message, requestOf, Inserted, ending, keep, faultIn}
 

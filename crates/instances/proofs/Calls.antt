@@ -19,8 +19,8 @@ use Rattle.calling.specs.Lent.{Lent, lent}
 use Rattle.calling.specs.Serve.{Served, trials, decision, serve}
 use Rattle.ndushavire.specs.Word.{word, callNumber, callValue, checkWord, callWord}
 use Rattle.ndushavire.specs.Reads.{Reads, ReadsCheck}
-use Rattle.worked.proofs.Computed.{known, come, held, roomy, no-vectors}
-use Rattle.worked.proofs.Sample.{header, room, request, answer, s, z}
+use Rattle.worked_examples.proofs.Computed.{known, come, held, roomy, no-vectors}
+use Rattle.worked_examples.proofs.Sample.{header, room, request, answer, s, z}
 use Rattle.demands.specs.Call.{turnedAway, answerTo}
 use Rattle.demands.proofs.Demands.{promised, checked, checked-vectors, demand-1, demand-1-number, demand-1-none, demand-1-block, demand-1-length, demand-1-fits}
 use Rattle.demands.proofs.Demands.{demand-1-within, demand-1-word, demand-1-kept, demand-2, demand-2-failure, demand-2-others, demand-2-header, demand-2-bytes}

@@ -14,8 +14,8 @@ use Rattle.diameter.specs.Put.{Piece}
 use Rattle.pen.specs.Bytes.{numberBytes}
 use Rattle.pen.specs.Groups.{failed}
 use Rattle.calling.specs.Serve.{decision, serve}
-use Rattle.worked.proofs.Computed.{come, held, roomy}
-use Rattle.worked.proofs.Sample.{header, subscriber, person, vector, reply, item, challenges, s, z}
+use Rattle.worked_examples.proofs.Computed.{come, held, roomy}
+use Rattle.worked_examples.proofs.Sample.{header, subscriber, person, vector, reply, item, challenges, s, z}
 use Rattle.requests.specs.Request.{dialectOf, cx}
 use Rattle.demands.specs.Call.{turnedAway}
 use Rattle.demands.specs.Insertion.{requestOf, Foreign, Quiet, Inserted, ending, keep, put, placeNow, placed, FirstMarked, Longer, firstMark}

@@ -14,8 +14,8 @@ use Rattle.pen.specs.Bytes.{wordBytes, headBytes, vendorHead, numberBytes}
 use Rattle.pen.specs.Groups.{failed}
 use Rattle.calling.specs.Lent.{Lent}
 use Rattle.calling.specs.Serve.{Served, serve}
-use Rattle.worked.proofs.Computed.{come, held, roomy, no-vectors}
-use Rattle.worked.proofs.Sample.{room, answer, s}
+use Rattle.worked_examples.proofs.Computed.{come, held, roomy, no-vectors}
+use Rattle.worked_examples.proofs.Sample.{room, answer, s}
 use Rattle.requests.specs.Request.{dialectOf, cx}
 use Rattle.demands.specs.Insertion.{requestOf, Foreign, Quiet, Inserted, ending, keep, put, putBefore, placeNow, placed, FirstMarked, Cut, Longer, Mark}
 use Rattle.demands.specs.Insertion.{firstMark, newer}

@@ -14,10 +14,10 @@ use Rattle.moving.specs.declared.Move.the-variants.{Moved}
 use Rattle.calling.specs.Call.{Answered}
 use Rattle.calling.specs.Lent.{Lent}
 use Rattle.calling.specs.Serve.{Served, serve}
-use Rattle.likeness.specs.Alike.{SameCall, holding}
-use Rattle.likeness.proofs.Moved.{forward-answers, back-answers}
-use Rattle.worked.proofs.Computed.{come, roomy, no-vectors}
-use Rattle.worked.proofs.Sample.{checked, header, person, room, answer, s}
+use Rattle.seen_alike.specs.Alike.{SameCall, holding}
+use Rattle.seen_alike.proofs.Moved.{forward-answers, back-answers}
+use Rattle.worked_examples.proofs.Computed.{come, roomy, no-vectors}
+use Rattle.worked_examples.proofs.Sample.{checked, header, person, room, answer, s}
 use Rattle.instances.proofs.Asked.{table, removed, sar, asked, comes, all}
 use Rattle.instances.proofs.Calls.{sound-table, removal}
 

@@ -15,8 +15,8 @@ use Rattle.calling.specs.Serve.{Served, serve, resultOf}
 use Rattle.blocks.specs.declared.Checked.the-variants.{Sound}
 use Rattle.ndushavire.specs.Word.{word, callPlace, callWord}
 use Rattle.ndushavire.specs.Reads.{placeIn}
-use Rattle.worked.proofs.Computed.{known, come, held, roomy, no-vectors}
-use Rattle.worked.proofs.Sample.{header, room, answer, s}
+use Rattle.worked_examples.proofs.Computed.{known, come, held, roomy, no-vectors}
+use Rattle.worked_examples.proofs.Sample.{header, room, answer, s}
 use Rattle.demands.specs.Insertion.{requestOf}
 use Rattle.demands.specs.Place.{first, pastTaken, ruleFault, OfRules, AtFault, Blames}
 use Rattle.demands.proofs.Place.{place-word, place-answer, place-is, place-blames, place-least, place-within, place-result, place-none, place-refused}

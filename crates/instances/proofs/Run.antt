@@ -22,13 +22,13 @@ use Rattle.calling.specs.Lent.{Lent, lent}
 use Rattle.calling.specs.Trial.{anyHolds}
 use Rattle.calling.specs.Serve.{Served, smallBuffer, checkValue, checkOf, decision, decided, serve}
 use Rattle.ndushavire.specs.Word.{callPlace}
-use Rattle.sending.specs.Sent.{sentBy, Challenges, usedAt, remaining, itemsFrom, saidOf, answerWith}
-use Rattle.sending.specs.Row.{Turn, lending, leftBy, sentOver, Once}
-use Rattle.sending.proofs.Sending.{refusal-leaves, command-leaves, failure-leaves, only-success, others-stay, unsent-stay, sent-mark, sent-bytes}
-use Rattle.sending.proofs.Sending.{sent-number, sent-some, sent-first, answer-sends, success-place, success-says, sent-once, sent-over, sent-before}
-use Rattle.sending.proofs.Sending.{sent-after, sent-never}
-use Rattle.worked.proofs.Computed.{knownTrials, come, roomy, unregistered-sound}
-use Rattle.worked.proofs.Sample.{vector, room, request, authentication, item, challenges, one, waiting, s, opened}
+use Rattle.vectors_sent.specs.Sent.{sentBy, Challenges, usedAt, remaining, itemsFrom, saidOf, answerWith}
+use Rattle.vectors_sent.specs.Row.{Turn, lending, leftBy, sentOver, Once}
+use Rattle.vectors_sent.proofs.Sending.{refusal-leaves, command-leaves, failure-leaves, only-success, others-stay, unsent-stay, sent-mark, sent-bytes}
+use Rattle.vectors_sent.proofs.Sending.{sent-number, sent-some, sent-first, answer-sends, success-place, success-says, sent-once, sent-over, sent-before}
+use Rattle.vectors_sent.proofs.Sending.{sent-after, sent-never}
+use Rattle.worked_examples.proofs.Computed.{knownTrials, come, roomy, unregistered-sound}
+use Rattle.worked_examples.proofs.Sample.{vector, room, request, authentication, item, challenges, one, waiting, s, opened}
 
 -- three vectors of one private identity; with the first two used; with all used
 unused : List ℕ

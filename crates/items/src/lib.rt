@@ -1,4 +1,5 @@
 // The items of an answer to an authentication request: one SIP-Auth-Data-Item for each vector that is sent.
+use diameter::codes;
 use vectors::choice::Sent;
 use vectors::vector;
 ghost use mathlib.Core.Path.{_≡_};
@@ -10,32 +11,19 @@ ghost use Rattle.vectors.specs.Chosen.{Sendable};
 ghost use Rattle.vectors.specs.VectorBlock.{vectorOf};
 ghost use Rattle.items.specs.Items.{challengeBytes, keyBytes, keySize, itemBytes, itemSize, itemsBytes, numberedBytes, sentBytes};
 
-// The codes: SIP-Number-Auth-Items, SIP-Auth-Data-Item, its number, SIP-Authentication-Scheme, SIP-Authenticate, SIP-Authorization, Confidentiality-Key,
-// Integrity-Key.
-const NUMBER_AUTH_ITEMS: u32 = 607;
-
-const AUTH_DATA_ITEM: u32 = 612;
-
-const ITEM_NUMBER: u32 = 613;
-
-const SCHEME: u32 = 608;
-
-const AUTHENTICATE: u32 = 609;
-
-const AUTHORIZATION: u32 = 610;
-
-const CONFIDENTIALITY_KEY: u32 = 625;
-
-const INTEGRITY_KEY: u32 = 626;
-
 // 613, 608 and 609 of item i; the only scheme that is served is `Digest-AKAv1-MD5`.
 fn put_challenge(out: &mut [u8], b: &[u8], i: u32) -> usize
     requires { ⌜ (length (now b) ≡ 512) × (88 ≤ length (now out)) ⌝ }
     ensures { λ r. ⌜ (r ≡ 88) × Wrote (challengeBytes i (now (b .entry))) (now (out .entry)) (now (out .exit)) r ⌝ }
 {
-    let a = pen::put_vendor_number(out, ITEM_NUMBER, i);
-    let c = a + pen::put_vendor_avp(&mut out[a..], SCHEME, b"Digest-AKAv1-MD5");
-    c + pen::put_vendor_avp(&mut out[c..], AUTHENTICATE, vector::rand_autn(b))
+    let a = pen::put_vendor_number(out, codes::SIP_ITEM_NUMBER, i);
+    let c = a
+        + pen::put_vendor_avp(
+            &mut out[a..],
+            codes::SIP_AUTHENTICATION_SCHEME,
+            b"Digest-AKAv1-MD5",
+        );
+    c + pen::put_vendor_avp(&mut out[c..], codes::SIP_AUTHENTICATE, vector::rand_autn(b))
 }
 
 // 610, 625 and 626.
@@ -43,14 +31,19 @@ fn put_keys(out: &mut [u8], b: &[u8]) -> usize
     requires { ⌜ (length (now b) ≡ 512) × (vectorOf (now b) .xres ≤ 16) × (keySize (now b) ≤ length (now out)) ⌝ }
     ensures { λ r. ⌜ (r ≡ keySize (now (b .entry))) × Wrote (keyBytes (now (b .entry))) (now (out .entry)) (now (out .exit)) r ⌝ }
 {
-    let a = pen::put_vendor_avp(out, AUTHORIZATION, vector::xres(b));
+    let a = pen::put_vendor_avp(out, codes::SIP_AUTHORIZATION, vector::xres(b));
     let c = a
         + pen::put_vendor_avp(
             &mut out[a..],
-            CONFIDENTIALITY_KEY,
+            codes::CONFIDENTIALITY_KEY,
             vector::confidentiality_key(b),
         );
-    c + pen::put_vendor_avp(&mut out[c..], INTEGRITY_KEY, vector::integrity_key(b))
+    c
+        + pen::put_vendor_avp(
+            &mut out[c..],
+            codes::INTEGRITY_KEY,
+            vector::integrity_key(b),
+        )
 }
 
 // The members of item i.
@@ -69,7 +62,7 @@ fn put_item(out: &mut [u8], b: &[u8], i: u32) -> usize
     ensures { λ r. ⌜ (r ≤ length (now (out .entry))) × Wrote (itemBytes i (now (b .entry))) (now (out .entry)) (now (out .exit)) r ⌝ }
 {
     let n = 12 + put_members(&mut out[12..], b, i);
-    pen::put_vendor_head(out, AUTH_DATA_ITEM, n);
+    pen::put_vendor_head(out, codes::SIP_AUTH_DATA_ITEM, n);
     n
 }
 
@@ -93,7 +86,7 @@ fn put_numbered(out: &mut [u8], v: &[u8], sent: Sent) -> usize
     requires { ⌜ Sendable (now v) sent × (16 + length (itemsBytes (now v) (sent .blocks) (sent .count)) ≤ length (now out)) ⌝ }
     ensures { λ r. ⌜ Wrote (numberedBytes (now (v .entry)) sent) (now (out .entry)) (now (out .exit)) r ⌝ }
 {
-    let a = pen::put_vendor_number(out, NUMBER_AUTH_ITEMS, sent.count as u32);
+    let a = pen::put_vendor_number(out, codes::SIP_NUMBER_AUTH_ITEMS, sent.count as u32);
     a + put_items(&mut out[a..], v, sent)
 }
 

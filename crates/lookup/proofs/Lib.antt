@@ -1,3 +1,4 @@
+pub mod Among
 pub mod First
 pub mod Halves
 pub mod Places

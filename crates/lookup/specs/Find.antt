@@ -20,6 +20,11 @@ abbrev pub isAt : Found → Bool
 isAt (At k) = true
 isAt Nothing = false
 
+-- the block of a record that was found, 0 where none was
+abbrev pub blockFound : Found → ℕ
+blockFound (At k) = k
+blockFound Nothing = 0
+
 -- the end of a found record's block
 abbrev pub endOf : Found → ℕ
 endOf (At k) = 512 * k + 512

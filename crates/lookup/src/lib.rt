@@ -13,7 +13,7 @@ ghost use lib.Dec.{eqb};
 ghost use Rattle.record.specs.Fields.{networksOf};
 ghost use Rattle.blocks.specs.Blocks.{blockOf};
 ghost use Rattle.table.specs.SoundTable.{SoundTable};
-ghost use Rattle.lookup.specs.Find.{isAt, findPublic, findPrivate, serverHere, findServer, freeHere, findFree, barredAlone};
+ghost use Rattle.lookup.specs.Find.{isAt, blockFound, findPublic, findPrivate, serverHere, findServer, freeHere, findFree, barredAlone};
 ghost use Rattle.lookup.specs.Network.{agreeAt, networkNumber, roamsIn, mayRoam};
 
 // The number of a record's block, or none.
@@ -29,6 +29,16 @@ fn is_at(f: Found) -> bool
     match f {
         Found::At(_) => true,
         Found::Nothing => false,
+    }
+}
+
+// The block of a record that was found, 0 where none was.
+pub fn block_found(f: Found) -> u32
+    ensures { λ r. ⌜ r ≡ blockFound f ⌝ }
+{
+    match f {
+        Found::At(k) => k,
+        Found::Nothing => 0,
     }
 }
 

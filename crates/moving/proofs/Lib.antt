@@ -1,6 +1,5 @@
 pub mod Bytes
 pub mod Carried
-pub mod First
 pub mod Mixed
 pub mod Moved
 pub mod Moving

@@ -19,7 +19,7 @@ use Rattle.table.specs.Check.{standsAt, soundAt, checkRecords, checkTable}
 use Rattle.blocks.specs.declared.Checked.the-variants.{Sound, Bad}
 use Rattle.table.proofs.Sound.{table-says}
 use Rattle.moving.specs.Outcomes.{Mixes}
-use Rattle.moving.proofs.First.{FirstNot, bad-holds}
+use Rattle.blocks.proofs.First.{FirstNot, bad-holds}
 use Rattle.moving.proofs.Moved.{each-edition, each-issue}
 
 pub throughout : (t : List ℕ) (file count k : ℕ) → checkTable t file ≡ Sound count → k ≤ count

@@ -23,7 +23,7 @@ use Rattle.moving.specs.Outcomes.{Outcome, came, refusing, moving, forwa
 use Rattle.moving.specs.Outcomes.{ForwardMoves, BackMoves, ForwardRefuses, BackRefuses, FirstWithSet, WithoutSets, SameRecord, SameHeader, SameTable}
 use Rattle.moving.specs.declared.Move.{Move}
 use Rattle.moving.specs.declared.Move.the-variants.{Moved, Refused}
-use Rattle.moving.proofs.First.{FirstNot, bad-says, bad-holds}
+use Rattle.blocks.proofs.First.{FirstNot, bad-says, bad-holds}
 use Rattle.moving.proofs.Same.{Bytes}
 use Rattle.moving.proofs.Carried.{record-same, header-same, set-same, public-same, private-same, server-same, mandatory-same, optional-same}
 use Rattle.moving.proofs.Carried.{profile-same, host-same, realm-same, network-same}

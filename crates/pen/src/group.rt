@@ -1,4 +1,5 @@
 // Grouped AVPs. A group's length counts its members' padding.
+use diameter::codes;
 ghost use mathlib.Core.Path.{_≡_};
 ghost use mathlib.Core.List.{_++_};
 ghost use Prim.Native.Nat.{_+_, _*_, _/_, _≤_};
@@ -7,38 +8,13 @@ ghost use Rattle.octets.specs.Run.{Wrote};
 ghost use Rattle.pen.specs.Bytes.{numberBytes, group};
 ghost use Rattle.pen.specs.Groups.{vendorApplication, experimental, failed, failedSize, vendorNumbers, words, capabilities, capabilitiesSize};
 
-// "260 (266, 258)": the vendor and the application Cx
-const VENDOR_SPECIFIC_APPLICATION_ID: u32 = 260;
-
-const VENDOR_ID: u32 = 266;
-
-const AUTH_APPLICATION_ID: u32 = 258;
-
-const CX: u32 = 16777216;
-
-// "268, or Experimental-Result 297 (266, 298)"; "Failed-AVP 279"
-const RESULT_CODE: u32 = 268;
-
-const EXPERIMENTAL_RESULT: u32 = 297;
-
-const EXPERIMENTAL_RESULT_CODE: u32 = 298;
-
-pub const FAILED_AVP: u32 = 279;
-
-// "Server-Capabilities 603 (604s, then 605s)"
-const SERVER_CAPABILITIES: u32 = 603;
-
-const MANDATORY_CAPABILITY: u32 = 604;
-
-const OPTIONAL_CAPABILITY: u32 = 605;
-
 // A group of Vendor-Id 10415 and one number more.
 fn put_of_vendor(out: &mut [u8], code: u32, member: u32, n: u32) -> usize
     requires { ⌜ 32 ≤ length (now out) ⌝ }
     ensures { λ r. ⌜ (r ≡ 32) × Wrote (group code (numberBytes 266 10415 ++ numberBytes member n)) (now (out .entry)) (now (out .exit)) r ⌝ }
 {
     crate::put_head(out, code, crate::FLAGS, 32);
-    let a = 8 + crate::put_number(&mut out[8..], VENDOR_ID, crate::VENDOR);
+    let a = 8 + crate::put_number(&mut out[8..], codes::VENDOR_ID, codes::VENDOR);
     a + crate::put_number(&mut out[a..], member, n)
 }
 
@@ -47,7 +23,12 @@ pub fn put_application(out: &mut [u8]) -> usize
     requires { ⌜ 32 ≤ length (now out) ⌝ }
     ensures { λ r. ⌜ (r ≡ 32) × Wrote vendorApplication (now (out .entry)) (now (out .exit)) r ⌝ }
 {
-    put_of_vendor(out, VENDOR_SPECIFIC_APPLICATION_ID, AUTH_APPLICATION_ID, CX)
+    put_of_vendor(
+        out,
+        codes::VENDOR_SPECIFIC_APPLICATION_ID,
+        codes::AUTH_APPLICATION_ID,
+        codes::CX,
+    )
 }
 
 // Result-Code.
@@ -55,7 +36,7 @@ pub fn put_base(out: &mut [u8], n: u32) -> usize
     requires { ⌜ 12 ≤ length (now out) ⌝ }
     ensures { λ r. ⌜ (r ≡ 12) × Wrote (numberBytes 268 n) (now (out .entry)) (now (out .exit)) r ⌝ }
 {
-    crate::put_number(out, RESULT_CODE, n)
+    crate::put_number(out, codes::RESULT_CODE, n)
 }
 
 // Experimental-Result.
@@ -63,7 +44,12 @@ pub fn put_experimental(out: &mut [u8], n: u32) -> usize
     requires { ⌜ 32 ≤ length (now out) ⌝ }
     ensures { λ r. ⌜ (r ≡ 32) × Wrote (experimental n) (now (out .entry)) (now (out .exit)) r ⌝ }
 {
-    put_of_vendor(out, EXPERIMENTAL_RESULT, EXPERIMENTAL_RESULT_CODE, n)
+    put_of_vendor(
+        out,
+        codes::EXPERIMENTAL_RESULT,
+        codes::EXPERIMENTAL_RESULT_CODE,
+        n,
+    )
 }
 
 // Failed-AVP with a copied AVP; with nothing, where there is none to copy.
@@ -71,7 +57,12 @@ pub fn put_failed(out: &mut [u8], src: &[u8]) -> usize
     requires { ⌜ failedSize (length (now src)) ≤ length (now out) ⌝ }
     ensures { λ r. ⌜ (r ≡ failedSize (length (now (src .entry)))) × Wrote (failed (now (src .entry))) (now (out .entry)) (now (out .exit)) r ⌝ }
 {
-    crate::put_head(out, FAILED_AVP, crate::FLAGS, 8 + (src.len() + 3) / 4 * 4);
+    crate::put_head(
+        out,
+        codes::FAILED_AVP,
+        crate::FLAGS,
+        8 + (src.len() + 3) / 4 * 4,
+    );
     8 + crate::put_copy(&mut out[8..], src)
 }
 
@@ -95,9 +86,9 @@ fn put_members(out: &mut [u8], mandatory: &[u8], optional: &[u8], m: usize, o: u
     ensures { λ r. ⌜ (r ≤ capabilitiesSize m o)
         × Wrote (capabilities (now (mandatory .entry)) (now (optional .entry))) (now (out .entry)) (now (out .exit)) r ⌝ }
 {
-    crate::put_vendor_head(out, SERVER_CAPABILITIES, 12 + 16 * m + 16 * o);
-    let a = 12 + put_numbers(&mut out[12..], MANDATORY_CAPABILITY, mandatory, m);
-    a + put_numbers(&mut out[a..], OPTIONAL_CAPABILITY, optional, o)
+    crate::put_vendor_head(out, codes::SERVER_CAPABILITIES, 12 + 16 * m + 16 * o);
+    let a = 12 + put_numbers(&mut out[12..], codes::MANDATORY_CAPABILITY, mandatory, m);
+    a + put_numbers(&mut out[a..], codes::OPTIONAL_CAPABILITY, optional, o)
 }
 
 // Server-Capabilities, or nothing where there are none.

@@ -1,6 +1,7 @@
 // AVPs written into the part of a buffer that starts at the current length.
 pub mod group;
 
+use diameter::codes;
 use octets::run;
 ghost use mathlib.Core.Path.{_≡_};
 ghost use Prim.Native.Nat.{_+_, _*_, _/_, _≤_};
@@ -14,8 +15,6 @@ ghost use Rattle.pen.specs.Bytes.{numberBytes, vendorNumber, ifThere};
 pub const FLAGS: u8 = 64;
 
 pub const VENDOR_FLAGS: u8 = 192;
-
-pub const VENDOR: u32 = 10415;
 
 fn put_word(out: &mut [u8], n: u32)
     requires { ⌜ 4 ≤ length (now out) ⌝ }
@@ -48,7 +47,7 @@ pub fn put_vendor_head(out: &mut [u8], code: u32, len: usize)
     ensures { λ _. ⌜ Wrote (vendorHead code len) (now (out .entry)) (now (out .exit)) 12 ⌝ }
 {
     put_head(out, code, VENDOR_FLAGS, len);
-    put_word(&mut out[8..], VENDOR);
+    put_word(&mut out[8..], codes::VENDOR);
 }
 
 // A copied AVP, or an AVP's data: zero padding follows.

@@ -7,6 +7,7 @@ use crate::plain;
 use diameter::Avp;
 use diameter::Read;
 use diameter::Span;
+use diameter::codes;
 ghost use mathlib.Core.Path.{_≡_};
 ghost use Prim.Native.Nat.{_≤_};
 ghost use lib.ListN.{length, getD};
@@ -38,8 +39,18 @@ fn application_member(application: u32, k: usize) -> Member
     ensures { λ r. ⌜ r ≡ getD (applicationMembers application) k nobody ⌝ }
 {
     match k {
-        0 => member(266, 0, Content::Number(crate::VENDOR, crate::VENDOR), true),
-        1 => member(258, 0, Content::Number(application, application), false),
+        0 => member(
+            codes::VENDOR_ID,
+            0,
+            Content::Number(codes::VENDOR, codes::VENDOR),
+            true,
+        ),
+        1 => member(
+            codes::AUTH_APPLICATION_ID,
+            0,
+            Content::Number(application, application),
+            false,
+        ),
         _ => member(0, 0, Content::Free, false),
     }
 }
@@ -49,7 +60,12 @@ fn item_member(k: usize) -> Member
     ensures { λ r. ⌜ r ≡ getD itemMembers k nobody ⌝ }
 {
     match k {
-        0 => member(608, crate::VENDOR, Content::Free, false),
+        0 => member(
+            codes::SIP_AUTHENTICATION_SCHEME,
+            codes::VENDOR,
+            Content::Free,
+            false,
+        ),
         _ => member(0, 0, Content::Free, false),
     }
 }

@@ -5,6 +5,7 @@ use crate::Kind;
 use crate::Use;
 use crate::group::Group;
 use diameter::Avp;
+use diameter::codes;
 ghost use mathlib.Core.Path.{_≡_};
 ghost use Prim.Native.Nat.{_<_};
 ghost use Rattle.diameter.specs.Reader.{ownOf, Here};
@@ -86,32 +87,96 @@ pub fn row_of(k: usize) -> Kind
     ensures { λ r. ⌜ r ≡ rowOf k ⌝ }
 {
     match k {
-        SESSION_ID => row(263, 0, Content::Free, N, N, N, N),
-        APPLICATION => row(260, 0, Content::Members(Group::Application), N, N, N, N),
-        SESSION_STATE => row(277, 0, Content::Number(1, 1), N, N, N, N),
-        ORIGIN_HOST => row(264, 0, Content::Free, N, N, N, N),
-        ORIGIN_REALM => row(296, 0, Content::Free, N, N, N, N),
-        DESTINATION_REALM => row(283, 0, Content::Free, N, N, N, N),
-        USER_NAME => row(1, 0, Content::Free, N, O, U, N),
-        PUBLIC_IDENTITY => row(601, crate::VENDOR, Content::Free, N, R, N, N),
-        VISITED_NETWORK => row(600, crate::VENDOR, Content::Free, N, U, U, U),
+        SESSION_ID => row(codes::SESSION_ID, 0, Content::Free, N, N, N, N),
+        APPLICATION => row(
+            codes::VENDOR_SPECIFIC_APPLICATION_ID,
+            0,
+            Content::Members(Group::Application),
+            N,
+            N,
+            N,
+            N,
+        ),
+        SESSION_STATE => row(
+            codes::AUTH_SESSION_STATE,
+            0,
+            Content::Number(1, 1),
+            N,
+            N,
+            N,
+            N,
+        ),
+        ORIGIN_HOST => row(codes::ORIGIN_HOST, 0, Content::Free, N, N, N, N),
+        ORIGIN_REALM => row(codes::ORIGIN_REALM, 0, Content::Free, N, N, N, N),
+        DESTINATION_REALM => row(codes::DESTINATION_REALM, 0, Content::Free, N, N, N, N),
+        USER_NAME => row(codes::USER_NAME, 0, Content::Free, N, O, U, N),
+        PUBLIC_IDENTITY => row(
+            codes::PUBLIC_IDENTITY,
+            codes::VENDOR,
+            Content::Free,
+            N,
+            R,
+            N,
+            N,
+        ),
+        VISITED_NETWORK => row(
+            codes::VISITED_NETWORK_IDENTIFIER,
+            codes::VENDOR,
+            Content::Free,
+            N,
+            U,
+            U,
+            U,
+        ),
         AUTH_DATA_ITEM => row(
-            612,
-            crate::VENDOR,
+            codes::SIP_AUTH_DATA_ITEM,
+            codes::VENDOR,
             Content::Members(Group::AuthDataItem),
             U,
             U,
             U,
             N,
         ),
-        NUMBER_AUTH_ITEMS => row(607, crate::VENDOR, NUMBER, U, U, U, N),
-        SERVER_NAME => row(602, crate::VENDOR, SERVER, U, N, U, N),
-        ASSIGNMENT_TYPE => row(614, crate::VENDOR, Content::Number(0, 11), U, N, U, U),
-        DATA_AVAILABLE => row(624, crate::VENDOR, Content::Number(0, 1), U, N, U, U),
-        AUTHORIZATION_TYPE => row(623, crate::VENDOR, Content::Number(0, 2), O, U, U, U),
-        DESTINATION_HOST => row(293, 0, Content::Free, O, O, O, O),
-        PROXY_INFO => row(284, 0, Content::Free, R, R, R, R),
-        ROUTE_RECORD => row(282, 0, Content::Free, R, R, R, R),
+        NUMBER_AUTH_ITEMS => row(
+            codes::SIP_NUMBER_AUTH_ITEMS,
+            codes::VENDOR,
+            NUMBER,
+            U,
+            U,
+            U,
+            N,
+        ),
+        SERVER_NAME => row(codes::SERVER_NAME, codes::VENDOR, SERVER, U, N, U, N),
+        ASSIGNMENT_TYPE => row(
+            codes::SERVER_ASSIGNMENT_TYPE,
+            codes::VENDOR,
+            Content::Number(0, 11),
+            U,
+            N,
+            U,
+            U,
+        ),
+        DATA_AVAILABLE => row(
+            codes::USER_DATA_ALREADY_AVAILABLE,
+            codes::VENDOR,
+            Content::Number(0, 1),
+            U,
+            N,
+            U,
+            U,
+        ),
+        AUTHORIZATION_TYPE => row(
+            codes::USER_AUTHORIZATION_TYPE,
+            codes::VENDOR,
+            Content::Number(0, 2),
+            O,
+            U,
+            U,
+            U,
+        ),
+        DESTINATION_HOST => row(codes::DESTINATION_HOST, 0, Content::Free, O, O, O, O),
+        PROXY_INFO => row(codes::PROXY_INFO, 0, Content::Free, R, R, R, R),
+        ROUTE_RECORD => row(codes::ROUTE_RECORD, 0, Content::Free, R, R, R, R),
         _ => row(0, 0, Content::Free, X, X, X, X),
     }
 }
@@ -121,16 +186,16 @@ fn base_kind(code: u32) -> usize
     ensures { λ r. ⌜ (r ≡ kindBy 0 0 code) × (r < kinds) ⌝ }
 {
     match code {
-        263 => SESSION_ID,
-        260 => APPLICATION,
-        277 => SESSION_STATE,
-        264 => ORIGIN_HOST,
-        296 => ORIGIN_REALM,
-        283 => DESTINATION_REALM,
-        1 => USER_NAME,
-        293 => DESTINATION_HOST,
-        284 => PROXY_INFO,
-        282 => ROUTE_RECORD,
+        codes::SESSION_ID => SESSION_ID,
+        codes::VENDOR_SPECIFIC_APPLICATION_ID => APPLICATION,
+        codes::AUTH_SESSION_STATE => SESSION_STATE,
+        codes::ORIGIN_HOST => ORIGIN_HOST,
+        codes::ORIGIN_REALM => ORIGIN_REALM,
+        codes::DESTINATION_REALM => DESTINATION_REALM,
+        codes::USER_NAME => USER_NAME,
+        codes::DESTINATION_HOST => DESTINATION_HOST,
+        codes::PROXY_INFO => PROXY_INFO,
+        codes::ROUTE_RECORD => ROUTE_RECORD,
         _ => 0,
     }
 }
@@ -140,14 +205,14 @@ fn vendor_kind(code: u32) -> usize
     ensures { λ r. ⌜ (r ≡ kindBy 128 10415 code) × (r < kinds) ⌝ }
 {
     match code {
-        601 => PUBLIC_IDENTITY,
-        600 => VISITED_NETWORK,
-        612 => AUTH_DATA_ITEM,
-        607 => NUMBER_AUTH_ITEMS,
-        602 => SERVER_NAME,
-        614 => ASSIGNMENT_TYPE,
-        624 => DATA_AVAILABLE,
-        623 => AUTHORIZATION_TYPE,
+        codes::PUBLIC_IDENTITY => PUBLIC_IDENTITY,
+        codes::VISITED_NETWORK_IDENTIFIER => VISITED_NETWORK,
+        codes::SIP_AUTH_DATA_ITEM => AUTH_DATA_ITEM,
+        codes::SIP_NUMBER_AUTH_ITEMS => NUMBER_AUTH_ITEMS,
+        codes::SERVER_NAME => SERVER_NAME,
+        codes::SERVER_ASSIGNMENT_TYPE => ASSIGNMENT_TYPE,
+        codes::USER_DATA_ALREADY_AVAILABLE => DATA_AVAILABLE,
+        codes::USER_AUTHORIZATION_TYPE => AUTHORIZATION_TYPE,
         _ => 0,
     }
 }
@@ -159,7 +224,7 @@ pub fn kind_by(flags: u8, vendor: u32, code: u32) -> usize
     if flags < diameter::V_FLAG {
         return base_kind(code);
     }
-    if vendor == crate::VENDOR {
+    if vendor == codes::VENDOR {
         return vendor_kind(code);
     }
     0

@@ -1,6 +1,7 @@
 // Reading a request: the kinds of AVPs, and rules (c) to (h) for one AVP.
 
-pub mod faults;
+pub mod base;
+pub mod experimental;
 pub mod group;
 pub mod kinds;
 pub mod plain;
@@ -16,7 +17,7 @@ pub struct Dialect {
     pub application: u32,
 }
 
-// The commands, and their application.
+// The commands.
 pub const UAR: usize = 300;
 
 pub const SAR: usize = 301;
@@ -24,11 +25,6 @@ pub const SAR: usize = 301;
 pub const LIR: usize = 302;
 
 pub const MAR: usize = 303;
-
-pub const CX: u32 = 16777216;
-
-// The vendor of the AVPs with V, and of an Experimental-Result.
-pub const VENDOR: u32 = 10415;
 
 // "B is a base Result-Code, X an Experimental-Result of vendor 10415. They share numbers and never stand for one another."
 pub enum Outcome {

@@ -1,6 +1,6 @@
 // The fault of what an AVP holds that is no group.
 use crate::Content;
-use crate::faults;
+use crate::base;
 use diameter::Avp;
 ghost use mathlib.Core.Path.{_≡_};
 ghost use Rattle.diameter.specs.Reader.{ownOf, Here};
@@ -19,10 +19,10 @@ fn number_fault(s: &[u8], a: Avp, least: u32, most: u32) -> u32
     ensures { λ r. ⌜ r ≡ numberFault least most (ownOf (now (s .entry)) a) ⌝ }
 {
     if a.len != a.head + 4 {
-        return faults::INVALID_AVP_LENGTH;
+        return base::INVALID_AVP_LENGTH;
     }
     let n = diameter::value_of(s, a);
-    fault_unless((least <= n) & (n <= most), faults::INVALID_AVP_VALUE)
+    fault_unless((least <= n) & (n <= most), base::INVALID_AVP_VALUE)
 }
 
 // (g), (h) The fault of what an AVP holds, 0 where there is none; a group's members are not looked at.
@@ -35,7 +35,7 @@ pub fn plain_fault(c: Content, s: &[u8], a: Avp) -> u32
         Content::Number(least, most) => number_fault(s, a, least, most),
         Content::Sized(least, most) => {
             let n = a.len - a.head;
-            fault_unless((least <= n) & (n <= most), faults::INVALID_AVP_VALUE)
+            fault_unless((least <= n) & (n <= most), base::INVALID_AVP_VALUE)
         }
         Content::Members(_) => 0,
     }

@@ -3,7 +3,7 @@ use crate::Content;
 use crate::Dialect;
 use crate::Ruled;
 use crate::Use;
-use crate::faults;
+use crate::base;
 use crate::group;
 use crate::kinds;
 use crate::plain;
@@ -25,7 +25,7 @@ pub fn content_fault(d: Dialect, c: Content, s: &[u8], a: Avp) -> u32
         Content::Number(_, _) => plain::plain_fault(c, s, a),
         Content::Sized(_, _) => plain::plain_fault(c, s, a),
         Content::Members(g) => {
-            plain::fault_unless(group::gathers(d, g, s, a), faults::INVALID_AVP_VALUE)
+            plain::fault_unless(group::gathers(d, g, s, a), base::INVALID_AVP_VALUE)
         }
     }
 }
@@ -35,7 +35,7 @@ fn of_unknown(flags: u8) -> Ruled
     ensures { λ r. ⌜ r ≡ ofUnknown flags ⌝ }
 {
     if flags / diameter::M_FLAG % 2 == 1 {
-        return Ruled::Fault(faults::AVP_UNSUPPORTED);
+        return Ruled::Fault(base::AVP_UNSUPPORTED);
     }
     Ruled::Skipped
 }
@@ -55,7 +55,7 @@ fn of_once(earlier: bool, fault: u32) -> Ruled
     ensures { λ r. ⌜ r ≡ ofOnce earlier fault ⌝ }
 {
     if earlier {
-        return Ruled::Fault(faults::AVP_OCCURS_TOO_MANY_TIMES);
+        return Ruled::Fault(base::AVP_OCCURS_TOO_MANY_TIMES);
     }
     of_content(fault)
 }
@@ -65,7 +65,7 @@ pub fn rule_by(u: Use, earlier: bool, flags: u8, fault: u32) -> Ruled
     ensures { λ r. ⌜ r ≡ ruleBy u earlier flags fault ⌝ }
 {
     if flags % diameter::P_FLAG != 0 {
-        return Ruled::Fault(faults::INVALID_AVP_BITS);
+        return Ruled::Fault(base::INVALID_AVP_BITS);
     }
     match u {
         Use::Unknown => of_unknown(flags),

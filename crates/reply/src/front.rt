@@ -1,4 +1,5 @@
 // How every answer begins: Session-Id, 260, the result, 277, 264, 296.
+use diameter::codes;
 use pen::group;
 use reading::Outcome;
 ghost use mathlib.Core.Path.{_≡_};
@@ -31,7 +32,7 @@ fn put_start(out: &mut [u8], session: &[u8], o: Outcome) -> usize
     let a = pen::put_copy(out, session);
     let b = a + group::put_application(&mut out[a..]);
     let c = b + put_result(&mut out[b..], o);
-    c + pen::put_number(&mut out[c..], crate::SESSION_STATE_CODE, 1)
+    c + pen::put_number(&mut out[c..], codes::AUTH_SESSION_STATE, 1)
 }
 
 // The same with the request's Session-Id.
@@ -47,13 +48,8 @@ fn put_origin(out: &mut [u8], t: &[u8], count: usize) -> usize
     requires { ⌜ SoundTable (now t) count × (length (originBytes (blockOf (now t) 0)) ≤ length (now out)) ⌝ }
     ensures { λ r. ⌜ (r ≤ length (now (out .entry))) × Wrote (originBytes (blockOf (now (t .entry)) 0)) (now (out .entry)) (now (out .exit)) r ⌝ }
 {
-    let a = pen::put_avp(out, crate::ORIGIN_HOST_CODE, parts::host(t, count));
-    a
-        + pen::put_avp(
-            &mut out[a..],
-            crate::ORIGIN_REALM_CODE,
-            parts::realm(t, count),
-        )
+    let a = pen::put_avp(out, codes::ORIGIN_HOST, parts::host(t, count));
+    a + pen::put_avp(&mut out[a..], codes::ORIGIN_REALM, parts::realm(t, count))
 }
 
 // What every answer has.

@@ -1,5 +1,6 @@
 // What a decision gives: User-Name, Public-Identity, Server-Name, vectors, Server-Capabilities, User-Data.
 use choices::Given;
+use diameter::codes;
 use pen::group;
 ghost use mathlib.Core.List.{_++_};
 ghost use Prim.Native.Nat.{_≤_};
@@ -17,8 +18,8 @@ fn put_identities(out: &mut [u8], t: &[u8], count: usize, g: Given) -> usize
 {
     let user = parts::user(t, count, g.user as usize);
     let public = parts::public(t, count, g.public as usize);
-    let a = pen::put_avp_if(out, crate::USER_NAME_CODE, user);
-    a + pen::put_vendor_if(&mut out[a..], crate::PUBLIC_IDENTITY_CODE, public)
+    let a = pen::put_avp_if(out, codes::USER_NAME, user);
+    a + pen::put_vendor_if(&mut out[a..], codes::PUBLIC_IDENTITY, public)
 }
 
 // The identities, and Server-Name.
@@ -28,7 +29,7 @@ fn put_names(out: &mut [u8], t: &[u8], count: usize, g: Given) -> usize
 {
     let server = parts::server(t, count, g.server as usize);
     let a = put_identities(out, t, count, g);
-    a + pen::put_vendor_if(&mut out[a..], crate::SERVER_NAME_CODE, server)
+    a + pen::put_vendor_if(&mut out[a..], codes::SERVER_NAME, server)
 }
 
 // Server-Capabilities and User-Data.
@@ -40,7 +41,7 @@ fn put_data(out: &mut [u8], t: &[u8], file: &[u8], count: usize, g: Given) -> us
     let optional = parts::optional(t, count, g.capable as usize);
     let data = parts::profile(t, count, file, g.profile as usize);
     let a = group::put_capabilities(out, mandatory, optional);
-    a + pen::put_vendor_if(&mut out[a..], crate::USER_DATA_CODE, data)
+    a + pen::put_vendor_if(&mut out[a..], codes::USER_DATA, data)
 }
 
 // The vectors that are sent, then the data.

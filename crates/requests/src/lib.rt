@@ -4,11 +4,12 @@ pub mod places;
 pub mod walk;
 
 use diameter::Read;
+use diameter::codes;
 use diameter::message;
 use octets::number;
 use reading::Dialect;
 use reading::Verdict;
-use reading::faults;
+use reading::base;
 use reading::kinds;
 ghost use mathlib.Core.Path.{_≡_};
 ghost use Prim.Native.Nat.{_≤_, _<_};
@@ -40,7 +41,7 @@ pub fn command(req: &[u8]) -> usize
 fn spoken(d: Dialect) -> bool
     ensures { λ r. ⌜ r ≡ spoken d ⌝ }
 {
-    (d.application == reading::CX) & (reading::UAR <= d.command) & (d.command <= reading::MAR)
+    (d.application == codes::CX) & (reading::UAR <= d.command) & (d.command <= reading::MAR)
 }
 
 // The header's first fault, 0 where there is none.
@@ -49,16 +50,16 @@ fn header_fault(req: &[u8], d: Dialect) -> u32
     ensures { λ r. ⌜ r ≡ headerFault d (now (req .entry)) ⌝ }
 {
     if req[message::VERSION_AT] != message::VERSION {
-        return faults::UNSUPPORTED_VERSION;
+        return base::UNSUPPORTED_VERSION;
     }
     if req[message::FLAGS_AT] / message::E_BIT % 2 == 1 {
-        return faults::INVALID_HDR_BITS;
+        return base::INVALID_HDR_BITS;
     }
     if !spoken(d) {
-        return faults::COMMAND_UNSUPPORTED;
+        return base::COMMAND_UNSUPPORTED;
     }
     if number::be32(req, message::APPLICATION_AT) != d.application {
-        return faults::APPLICATION_UNSUPPORTED;
+        return base::APPLICATION_UNSUPPORTED;
     }
     0
 }
@@ -102,7 +103,7 @@ fn complete(s: &[u8], d: Dialect, w: Walked) -> Walked
         let places = w.places;
         let k = missing(s, d, places);
         if k != 0 {
-            return walk::refuse(faults::MISSING_AVP, 0, k);
+            return walk::refuse(base::MISSING_AVP, 0, k);
         }
     }
     w
@@ -118,7 +119,7 @@ pub fn read_in(req: &[u8], d: Dialect) -> Walked
         return walk::refuse(n, 0, 0);
     }
     if first_other(req) {
-        return walk::refuse(faults::MISSING_AVP, 0, kinds::SESSION_ID);
+        return walk::refuse(base::MISSING_AVP, 0, kinds::SESSION_ID);
     }
     complete(req, d, walk::walk_message(req, d))
 }
@@ -130,7 +131,7 @@ pub fn read_request(req: &[u8]) -> Walked
 {
     let d = Dialect {
         command: command(req),
-        application: reading::CX,
+        application: codes::CX,
     };
     read_in(req, d)
 }

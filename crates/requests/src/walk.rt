@@ -6,7 +6,7 @@ use reading::Dialect;
 use reading::Outcome;
 use reading::Ruled;
 use reading::Verdict;
-use reading::faults;
+use reading::base;
 use reading::kinds;
 use reading::rules;
 ghost use mathlib.Core.Path.{_≡_};
@@ -38,7 +38,7 @@ pub fn accept(places: [usize; kinds::KINDS]) -> Walked
     Walked {
         ok: true,
         verdict: Verdict {
-            result: Outcome::Base(2001),
+            result: Outcome::Base(base::SUCCESS),
             place: 0,
             lacks: 0,
         },
@@ -57,7 +57,7 @@ pub fn walk_message(s: &[u8], d: Dialect) -> Walked
         let read = diameter::read_avp(s, at);
         let place = diameter::begins(read);
         let Read::Avp(a) = read else {
-            return refuse(faults::INVALID_AVP_LENGTH, place, 0);
+            return refuse(base::INVALID_AVP_LENGTH, place, 0);
         };
         let k = kinds::kind_of(s, a);
         match rules::rule_at(s, d, places, a, k) {

@@ -24,8 +24,6 @@ use Rattle.blocks.specs.declared.Checked.the-variants.{Sound}
 use Rattle.table.specs.SoundTable.{SoundTable}
 use Rattle.table.proofs.Agreement.{agrees-holds}
 use Rattle.table.proofs.Sound.{TableTests, table-holds, sound-tests, sound-record, sound-agrees, sound-limits, sound-public}
-use Rattle.lookup.specs.Find.{findPublic}
-use Rattle.lookup.proofs.Halves.{find-alike}
 use Rattle.rewrite.specs.Change.{Kept}
 use Rattle.rewrite.proofs.Bytes.{kept-low, kept-high}
 use Rattle.rewrite.proofs.Tables.{Keeping}
@@ -64,9 +62,9 @@ module _ (x y : List ℕ) (count : ℕ) (keeping : Keeping x y count) (sound : S
   was : TableTests x (sound .file) count
   was = sound-tests x count sound
 
-  public-same : (k : ℕ) → 1 ≤ k → k ≤ count → publicAt y k ≡ publicAt x k
+  pub keeping-public : (k : ℕ) → 1 ≤ k → k ≤ count → publicAt y k ≡ publicAt x k
   unfolding publicAt
-  public-same k a b = kept-public (blockOf x k) (blockOf y k) (keeping .each k a b) (sound-public x count sound k a b)
+  keeping-public k a b = kept-public (blockOf x k) (blockOf y k) (keeping .each k a b) (sound-public x count sound k a b)
 
   rises-same : (k : ℕ) → 1 ≤ k → k ≤ count → risesAt y k ≡ risesAt x k
   unfolding risesAt
@@ -75,7 +73,7 @@ module _ (x y : List ℕ) (count : ℕ) (keeping : Keeping x y count) (sound : S
       go : (z : Bool) → leb k 1 ≡ z
           → cond z true (isLess (orderOf (publicAt y (k - 1)) (publicAt y k))) ≡ cond z true (isLess (orderOf (publicAt x (k - 1)) (publicAt x k)))
       go true e = refl
-      go false e = let l : 1 < k = leb-false k 1 e in rw (public-same (k - 1) (omega arith) (omega arith), public-same k a b)
+      go false e = let l : 1 < k = leb-false k 1 e in rw (keeping-public (k - 1) (omega arith) (omega arith), keeping-public k a b)
 
   -- what sets are made of stays, whatever the block
   keeping-block : (k : ℕ) → (setOf (blockOf y k) ≡ setOf (blockOf x k)) × (privateOf (blockOf y k) ≡ privateOf (blockOf x k))
@@ -130,6 +128,3 @@ module _ (x y : List ℕ) (count : ℕ) (keeping : Keeping x y count) (sound : S
 
   pub keeping-says : SoundTable y count
   keeping-says = record { file = sound .file; checked = keeping-sound }
-
-  pub keeping-found : (name : List ℕ) → findPublic y count name ≡ findPublic x count name
-  keeping-found name = find-alike y x count name public-same

@@ -4,18 +4,14 @@ use mathlib.Core.Bool.{Bool, true, false, _&&_, _||_, not, cond}
 use mathlib.Core.Path.{_≡_, refl, sym, ap, _∙_}
 use mathlib.Core.List.{List}
 use native.Mathlib.Omega.{arith}
-use mir.Syntax.{w8}
-use mir.Val.{Fits}
 use lib.Dec.{eqb, ltb}
-use lib.ListN.{length, getD, take, drop, length-take}
-use lib.Seq.{getD-take, getD-drop}
+use lib.ListN.{length}
 use borrow.Author.Tests.{eqb-true, eq-eqb, ltb-true, ltb-false}
 use Rattle.octets.specs.Name.{same}
 use Rattle.octets.specs.Run.{zeroBetween}
 use Rattle.octets.specs.Sum.{sumWords}
 use Rattle.octets.proofs.Names.{same-eq}
 use Rattle.octets.proofs.Numbers.{Bytes}
-use Rattle.octets.proofs.Runs.{past-zero}
 use Rattle.record.specs.Fields.{stateOf, bitsOf, serverSize, serverOf, cleared, pendingSet}
 use Rattle.record.specs.RecordBlock.{recordOf, soundRecord}
 use Rattle.record.specs.Sets.{sameSet, agreeing}
@@ -24,7 +20,7 @@ use Rattle.record.proofs.OneSet.{Agree, agree-says, agree-refl, agree-sym, set-
 use Rattle.record.proofs.Tests.{RecordTests, record-says, Zeros, rest-says}
 use Rattle.blocks.specs.Blocks.{blockOf}
 use Rattle.table.specs.SoundTable.{SoundTable}
-use Rattle.blocks.proofs.Blocks.{block-length}
+use Rattle.blocks.proofs.Blocks.{block-length, block-bytes}
 use Rattle.table.proofs.Sound.{sound-size, sound-block, sound-record, sound-agrees}
 use Rattle.rewrite.specs.Change.{afterOf, reaches, Keeps, differ}
 use Rattle.rewrite.specs.Renew.{renewed, settled, challenged, changeOf, ChangeFits}
@@ -115,17 +111,6 @@ module _ (name : List ℕ) (most : length name ≤ 96) where
 fits-most : (c : Change) (name : List ℕ) → ChangeFits c name → length name ≤ 96
 fits-most (Settled state) name f = f .most
 fits-most Challenged name (least, most) = most
-
--- A block of bytes.
-pub block-bytes : (t : List ℕ) → Bytes t → (k : ℕ) → Bytes (blockOf t k)
-unfolding blockOf
-block-bytes t bytes k i = go (ltb i 512) refl
-  where
-    go : (x : Bool) → ltb i 512 ≡ x → Fits w8 (getD (take 512 (drop (512 * k) t)) i 0)
-    go true e = rw (getD-take 512 (drop (512 * k) t) i 0 (ltb-true i 512 e), getD-drop (512 * k) t i 0) (bytes (512 * k + i))
-    go false e =
-        let l : length (take 512 (drop (512 * k) t)) ≤ i = simp length-take (omega (arith, ltb-false i 512 e)) in
-        rw (← past-zero (take 512 (drop (512 * k) t)) i l) (omega arith)
 
 module _ (t : List ℕ) (count : ℕ) (sound : SoundTable t count) where
   -- the records of one set agree, whichever stands first

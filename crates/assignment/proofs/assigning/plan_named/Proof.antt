@@ -1,4 +1,4 @@
-use Rattle.decisions.proofs.Among.{public-among}
+use Rattle.lookup.proofs.Among.{public-among}
 use Rattle.assignment.proofs.Plans.{found-first, named-plan}
 use borrow.Author.Needs.{needs}
 use Rattle.assignment.proofs.assigning.plan_named.Statement.{statement}

@@ -1,4 +1,4 @@
-use Rattle.decisions.proofs.Among.{among-from, among-to}
+use Rattle.lookup.proofs.Among.{among-from, among-to}
 use Rattle.assignment.proofs.Plans.{user-absent, user-given}
 use borrow.Author.Needs.{needs}
 use Rattle.assignment.proofs.assigning.user_known.Statement.{statement}

@@ -1,4 +1,4 @@
-use Rattle.decisions.proofs.Among.{among-from, among-to}
+use Rattle.lookup.proofs.Among.{among-from, among-to}
 use Rattle.assignment.proofs.NameTurns.{change-fits, found-settled, found-none, none-altered, few-altered}
 use borrow.Author.Needs.{needs}
 use Rattle.assignment.proofs.naming.settle_found.Statement.{statement}

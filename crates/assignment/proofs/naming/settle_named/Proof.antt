@@ -8,7 +8,7 @@ use Rattle.rewrite.proofs.Counts.{sum-start, sum-end}
 use Rattle.diameter.specs.Message.{bodyOf}
 use Rattle.requests.specs.Request.{identities}
 use Rattle.requests.proofs.Naming.{named-less}
-use Rattle.decisions.proofs.Among.{public-among}
+use Rattle.lookup.proofs.Among.{public-among}
 use Rattle.assignment.specs.Assignment.{findAll, numbersOf}
 use Rattle.assignment.proofs.NameTurns.{restOf, settle-start, settle-none, settle-turn, settle-sound, settle-counts, settle-few, settle-end}
 use borrow.Author.Needs.{needs}

@@ -1,5 +1,5 @@
 use Rattle.decisions.proofs.Questions.{authenticated}
-use Rattle.decisions.proofs.Among.{public-among}
+use Rattle.lookup.proofs.Among.{public-among}
 use borrow.Author.Needs.{needs}
 use Rattle.decisions.proofs.authentication.authenticate.Statement.{statement}
 use Rattle.decisions.proofs.authentication.authenticate.Tie as tie

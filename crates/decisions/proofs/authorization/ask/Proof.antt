@@ -1,5 +1,5 @@
 use Rattle.decisions.proofs.Questions.{asked-known, asked-nothing}
-use Rattle.decisions.proofs.Among.{among-from, among-to, among-room}
+use Rattle.lookup.proofs.Among.{among-from, among-to, among-room}
 use borrow.Author.Needs.{needs}
 use Rattle.decisions.proofs.authorization.ask.Statement.{statement}
 use Rattle.decisions.proofs.authorization.ask.Tie as tie

@@ -1,5 +1,5 @@
 use Rattle.decisions.proofs.Questions.{authorized}
-use Rattle.decisions.proofs.Among.{public-among}
+use Rattle.lookup.proofs.Among.{public-among}
 use borrow.Author.Needs.{needs}
 use Rattle.decisions.proofs.authorization.authorize.Statement.{statement}
 use Rattle.decisions.proofs.authorization.authorize.Tie as tie

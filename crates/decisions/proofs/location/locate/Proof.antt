@@ -1,4 +1,4 @@
-use Rattle.decisions.proofs.Among.{public-among}
+use Rattle.lookup.proofs.Among.{public-among}
 use Rattle.decisions.proofs.Questions.{located, found-room}
 use borrow.Author.Needs.{needs}
 use Rattle.decisions.proofs.location.locate.Statement.{statement}

@@ -1,5 +1,5 @@
 use Rattle.decisions.proofs.Questions.{sought-known, sought-nothing}
-use Rattle.decisions.proofs.Among.{among-room}
+use Rattle.lookup.proofs.Among.{among-room}
 use borrow.Author.Needs.{needs}
 use Rattle.decisions.proofs.location.seek.Statement.{statement}
 use Rattle.decisions.proofs.location.seek.Tie as tie

@@ -1,0 +1,145 @@
+-- Sets (02 [6]), as theorems about `serve`, the check and the decisions. What the rules were before them is in specs/WithoutSets.
+use Prim.Native.Nat.{ℕ, _+_, _*_, _<_, _≤_}
+use mathlib.Core.Bool.{Bool, true, false, not, _&&_, _||_, true≢false}
+use mathlib.Core.Path.{_≡_, refl, sym, _∙_, ap}
+use mathlib.Core.List.{List, [], _∷_}
+use native.Mathlib.Omega.{arith}
+use lib.Dec.{eqb, leb}
+use lib.ListN.{length, getD, take, drop, drop-of-length-le, length-take, length-drop}
+use borrow.Author.Tests.{eqb-true, leb-true, leb-false}
+use Rattle.octets.specs.Number.{be16At}
+use Rattle.octets.proofs.All.{and-left, and-right}
+use Rattle.record.specs.Fields.{editionOf, setOf, bitsOf, barred, serverSize, serverOf}
+use Rattle.record.specs.RecordBlock.{recordOf}
+use Rattle.record.specs.Sets.{sameSet, agreeing}
+use Rattle.record.proofs.OneSet.{Agree, agree-says}
+use Rattle.blocks.specs.Blocks.{blockOf}
+use Rattle.table.specs.Check.{checkTable}
+use Rattle.table.specs.SoundTable.{SoundTable}
+use Rattle.blocks.specs.declared.Checked.the-variants.{Sound}
+use Rattle.blocks.proofs.Blocks.{block-length}
+use Rattle.table.proofs.Sound.{TableTests, table-says, sound-agrees, sound-block, sound-limits}
+use Rattle.lookup.specs.Find.{isAt, freeHere, freeAt, findFree, barredAlone}
+use Rattle.lookup.specs.declared.Found.{Found}
+use Rattle.lookup.specs.declared.Found.the-variants.{At, Nothing}
+use Rattle.lookup.proofs.First.{first-none, first-fails}
+use Rattle.rewrite.proofs.Reaching.{header-set}
+use Rattle.rewrite.proofs.Together as members
+use Rattle.moving.proofs.Moved.{tests-record, each-edition}
+use Rattle.choices.specs.declared.types.AssignmentType.{AssignmentType}
+use Rattle.assignment.specs.Assignment.{storesAt, fitsAt, rightAt}
+use Rattle.calling.specs.Lent.{Lent}
+use Rattle.calling.specs.Serve.{checkOf, serve}
+use Rattle.calling.proofs.Kept.{table-checked}
+use Rattle.older_rules.specs.Rules.{inForce, serveBy}
+use Rattle.older_rules.specs.WithoutSets.{NoSets, beforeSets}
+use Rattle.older_rules.proofs.Rules.{serve-now, rules-same, decided-same}
+use Rattle.older_rules.proofs.WithoutSets.{check-is, plan-is, carried-is}
+
+-- WITHOUT SETS. Over a table without sets every call comes to what it came to before, with the same table, vectors and buffer afterwards.
+pub without-sets : (x : Lent) → NoSets (x .table) → serveBy beforeSets x ≡ serve x
+without-sets x none =
+    rules-same beforeSets inForce x (check-is (x .table) none (length (x .profile)))
+    (λ count e. decided-same beforeSets inForce x count (plan-is (x .table) none count (x .request) (x .vectors)) (carried-is (x .table) none count))
+    ∙ serve-now x
+
+-- A sound table of the first edition is one, so that it is untouched.
+module _ (t : List ℕ) (file count : ℕ) (checked : checkTable t file ≡ Sound count) where
+  was : TableTests t file count
+  was = table-says t file count checked
+
+  sound : SoundTable t count
+  sound = record { file = file; checked = checked }
+
+  record-none : editionOf (blockOf t 0) ≡ 1 → (k : ℕ) → 1 ≤ k → k ≤ count → setOf (blockOf t k) ≡ 0
+  unfolding recordOf
+  record-none e k a b = go (eqb (setOf (blockOf t k)) 0) refl (rw (each-edition t file count was k b, e) at (tests-record t file count was k a b .set))
+    where
+      go : (x : Bool) → eqb (setOf (blockOf t k)) 0 ≡ x → (x || false) ≡ true → setOf (blockOf t k) ≡ 0
+      go true f g = eqb-true _ _ f
+      go false f g = absurd (true≢false (sym g))
+
+  past-none : (k : ℕ) → count < k → setOf (blockOf t k) ≡ 0
+  unfolding blockOf be16At
+  past-none k h = rw (drop-of-length-le t {i = 512 * k} (omega (arith, was .size)))
+
+  pub first-edition : editionOf (blockOf t 0) ≡ 1 → NoSets t
+  first-edition e k = go (leb k count) (leb 1 k) refl refl
+    where
+      go : (x y : Bool) → leb k count ≡ x → leb 1 k ≡ y → setOf (blockOf t k) ≡ 0
+      go false y f g = past-none k (leb-false k count f)
+      go true true f g = record-none e k (leb-true 1 k g) (leb-true k count f)
+      go true false f g = let q : k ≡ 0 = omega (arith, leb-false 1 k g) in rw q (header-set t count sound)
+
+-- AGREEMENT. Whatever a call comes to, the records of every set agree after it in state, pending and server name, if the table was sound.
+pub members-agree : (x : Lent) (count : ℕ) → checkOf x ≡ Sound count → (j k : ℕ) → 1 ≤ j → j < k → k ≤ count
+    → sameSet (blockOf (serve x .table) j) (blockOf (serve x .table) k) ≡ true
+    → agreeing (blockOf (serve x .table) j) (blockOf (serve x .table) k) ≡ true
+members-agree x count e j k a b c =
+    sound-agrees (serve x .table) count (record { file = length (x .profile); checked = table-checked x ∙ e }) j k a b c
+
+-- BARRING. A UAR's answer to "barred" is yes exactly where the record is barred and so is every record of its set.
+module _ (t : List ℕ) (count k : ℕ) where
+  pub record AllBarred : Type 0 where
+    pub own : barred (bitsOf (blockOf t k)) ≡ true
+    pub others : (j : ℕ) → 1 ≤ j → j ≤ count → sameSet (blockOf t k) (blockOf t j) ≡ true → barred (bitsOf (blockOf t j)) ≡ true
+
+  not-free : (x y : Bool) → (x && not y) ≡ false → x ≡ true → y ≡ true
+  not-free true true e f = refl
+  not-free true false e f = absurd (true≢false e)
+  not-free false y e f = absurd (true≢false (sym f))
+
+  pub barred-says : barredAlone t count (blockOf t k) ≡ true → AllBarred
+  unfolding barredAlone findFree freeAt freeHere
+  barred-says e =
+      record {
+        own = and-left (barred (bitsOf (blockOf t k))) _ e;
+        others = λ j a b s. not-free (sameSet (blockOf t k) (blockOf t j)) (barred (bitsOf (blockOf t j))) (fails j a b) s;
+      }
+    where
+      none : (f : Found) → not (isAt f) ≡ true → f ≡ Nothing
+      none (At j) g = absurd (true≢false (sym g))
+      none Nothing g = refl
+
+      fails : (j : ℕ) → 1 ≤ j → j ≤ count → (sameSet (blockOf t k) (blockOf t j) && not (barred (bitsOf (blockOf t j)))) ≡ false
+      fails j a b =
+          first-fails (freeAt t (blockOf t k)) count 1 (none (findFree t count (blockOf t k)) (and-right (barred (bitsOf (blockOf t k))) _ e)) j a (omega arith)
+
+  pub barred-holds : AllBarred → barredAlone t count (blockOf t k) ≡ true
+  unfolding barredAlone findFree freeAt freeHere
+  barred-holds s = rw (s .own, first-none (freeAt t (blockOf t k)) count 1 (λ j a b. free j a (omega arith)))
+    where
+      free : (j : ℕ) → 1 ≤ j → j ≤ count → (sameSet (blockOf t k) (blockOf t j) && not (barred (bitsOf (blockOf t j)))) ≡ false
+      free j a b = go (sameSet (blockOf t k) (blockOf t j)) refl
+        where
+          go : (x : Bool) → sameSet (blockOf t k) (blockOf t j) ≡ x → (x && not (barred (bitsOf (blockOf t j)))) ≡ false
+          go true e = rw (s .others j a b e)
+          go false e = refl
+
+-- A SAR's checks of a record's server name and state (type 0's B5012, X5005, X5007) say of every record of its set what they say of it, so that closing the
+-- records under sets before them would change nothing.
+module _ (t : List ℕ) (count : ℕ) (table : SoundTable t count) (j k : ℕ) (a : 1 ≤ j) (b : j ≤ count) (c : 1 ≤ k) (d : k ≤ count)
+    (one : sameSet (blockOf t j) (blockOf t k) ≡ true) where
+  agree : Agree (blockOf t j) (blockOf t k)
+  agree = agree-says (blockOf t j) (blockOf t k) (members.members-agree t count table j k a b c d one)
+
+  size-is : (i : ℕ) → 1 ≤ i → i ≤ count → length (serverOf (blockOf t i)) ≡ serverSize (blockOf t i)
+  unfolding serverOf recordOf
+  size-is i u v =
+      let w : length (blockOf t i) ≡ 512 = block-length t i (sound-block t count table i v) in
+      simp (length-take, length-drop) (omega (arith, w, sound-limits t count table i u v .server))
+
+  sizes : serverSize (blockOf t j) ≡ serverSize (blockOf t k)
+  sizes = sym (size-is j a b) ∙ ap length (agree .server) ∙ size-is k c d
+
+  pub stores-same : (server : List ℕ) → storesAt t server j ≡ storesAt t server k
+  unfolding storesAt
+  stores-same server = rw (agree .server)
+
+  pub fits-same : (server : List ℕ) → fitsAt t server j ≡ fitsAt t server k
+  unfolding fitsAt
+  fits-same server = rw (agree .server, sizes)
+
+  pub right-same : (kind : AssignmentType) → rightAt t kind j ≡ rightAt t kind k
+  unfolding rightAt
+  right-same kind = rw (agree .state)

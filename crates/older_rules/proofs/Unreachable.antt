@@ -1,0 +1,177 @@
+-- 02 [7], "A branch nobody can reach.": the B5012 of UAR and LIR, as it stood in the two decisions, and that it is never given over a sound table. The old
+-- decisions stand here and nowhere else.
+use Prim.Native.Nat.{ℕ, _<_, _≤_}
+use mathlib.Core.Bool.{Bool, true, false, cond, not, _&&_, true≢false}
+use mathlib.Core.Path.{_≡_, refl, sym, _∙_, ap}
+use mathlib.Core.List.{List}
+use native.Mathlib.Omega.{arith}
+use lib.Dec.{eqb, ltb}
+use lib.ListN.{length}
+use borrow.Author.Tests.{ltb-true, lt-ltb}
+use Rattle.record.specs.Fields.{stateOf, serverSize}
+use Rattle.blocks.specs.Blocks.{blockOf}
+use Rattle.table.specs.Named.{privateAt}
+use Rattle.table.specs.Check.{checkTable}
+use Rattle.table.specs.SoundTable.{SoundTable}
+use Rattle.blocks.specs.declared.Checked.the-variants.{Sound}
+use Rattle.table.proofs.Sound.{sound-served}
+use Rattle.lookup.specs.Find.{findPublic}
+use Rattle.lookup.specs.declared.Found.{Found}
+use Rattle.lookup.specs.declared.Found.the-variants.{At, Nothing}
+use Rattle.reading.specs.Kinds.{userName, publicIdentity, visitedNetwork, authorizationType}
+use Rattle.reading.specs.Rules.{Seen}
+use Rattle.reading.specs.declared.Outcome.{Outcome}
+use Rattle.reading.specs.declared.Outcome.the-variants.{Base, Experimental}
+use Rattle.diameter.specs.Message.{commandOf}
+use Rattle.requests.specs.Request.{dataSeen, valueSeen}
+use Rattle.choices.specs.Choices.{authorization, location}
+use Rattle.choices.specs.Plans.{only}
+use Rattle.choices.specs.declared.Given.{Given}
+use Rattle.choices.specs.declared.choice.Asked.{Asked}
+use Rattle.choices.specs.declared.choice.Sought.{Sought}
+use Rattle.choices.specs.declared.choice.Choice.{Choice}
+use Rattle.choices.specs.declared.choice.Choice.the-variants.{Alone, Server, Capabilities, First}
+use Rattle.choices.specs.declared.plan.Plan.{Plan}
+use Rattle.lookup.specs.Among.{Among}
+use Rattle.decisions.specs.Authorization.{askedAt, askedOf, authorizeFound, authorize}
+use Rattle.lookup.specs.Find.{blockFound}
+use Rattle.decisions.specs.Carried.{carried}
+use Rattle.decisions.specs.Location.{soughtAt, soughtOf, locateFound, locate}
+use Rattle.lookup.proofs.Among.{public-among}
+use Rattle.fitting.specs.Decide.{uarPlan, sarPlan, lirPlan, marPlan, planRead}
+use Rattle.fitting.specs.Deeds.{carriedOut}
+use Rattle.calling.specs.Lent.{Lent}
+use Rattle.calling.specs.Serve.{serve}
+use Rattle.older_rules.specs.Rules.{Rules, inForce, serveBy}
+use Rattle.older_rules.proofs.Rules.{serve-now, rules-same, decided-same}
+
+-- "the server name (none stored: B5012)"
+unfoldable pub serverIf : Bool → Outcome → Choice
+serverIf stored r = cond stored (Server r) (Alone (Base 5012))
+
+unfoldable pub oldAuthorization : Bool → Asked → ℕ → Choice
+oldAuthorization stored a kind =
+    cond (not (a .known)) (Alone (Experimental 5001))
+    (cond (not (a .together)) (Alone (Experimental 5002))
+    (cond (a .barred) (Alone (Base 5003))
+    (cond (not (eqb kind 1) && not (a .roams)) (Alone (Experimental 5004))
+    (cond (eqb kind 2) (Capabilities (Base 2001))
+    (cond (a .present) (serverIf stored (cond (eqb kind 0) (Experimental 2002) (Base 2001)))
+    (cond (eqb kind 1) (Alone (Experimental 5003))
+    (First (Experimental 2002) (Experimental 2001))))))))
+
+unfoldable pub oldLocation : Bool → Sought → Choice
+oldLocation stored a =
+    cond (not (a .known)) (Alone (Experimental 5001))
+    (cond (a .present) (serverIf stored (Base 2001))
+    (cond (not (a .services)) (Alone (Experimental 5003))
+    (First (Base 2001) (Experimental 2003))))
+
+-- whether the record that was found stores a server name
+abbrev pub storedIn : List ℕ → Found → Bool
+storedIn t (At k) = ltb 0 (serverSize (blockOf t k))
+storedIn t Nothing = false
+
+unfoldable pub oldAuthorize : List ℕ → ℕ → List ℕ → List ℕ → ℕ → Found → Given
+oldAuthorize t count user network kind f =
+    carried t count user (blockFound f) (oldAuthorization (storedIn t f) (askedOf t count user network f) kind)
+
+unfoldable pub oldLocate : List ℕ → ℕ → Found → Given
+oldLocate t count f = carried t count (privateAt t (blockFound f)) (blockFound f) (oldLocation (storedIn t f) (soughtOf t f))
+
+unfoldable pub oldPlan : List ℕ → List ℕ → ℕ → List ℕ → Seen → Plan
+oldPlan req t count v seen =
+    cond (eqb (commandOf req) 300)
+    (only
+    (oldAuthorize t count (dataSeen seen userName) (dataSeen seen visitedNetwork) (valueSeen seen authorizationType)
+    (findPublic t count (dataSeen seen publicIdentity))))
+    (cond (eqb (commandOf req) 301) (sarPlan req t count seen)
+    (cond (eqb (commandOf req) 302) (only (oldLocate t count (findPublic t count (dataSeen seen publicIdentity))))
+    (marPlan t count v seen)))
+
+abbrev pub withBranch : Rules
+withBranch = record { check = checkTable; plan = oldPlan; carry = carriedOut }
+
+-- Where a record in state 1 or 2 stores a name, the branch is not taken.
+authorization-same : (stored : Bool) (a : Asked) (kind : ℕ) → (a .present ≡ true → stored ≡ true) → oldAuthorization stored a kind ≡ authorization a kind
+unfolding oldAuthorization authorization serverIf
+authorization-same stored a kind h = go (a .present) h
+  where
+    go : (x : Bool) → (x ≡ true → stored ≡ true)
+        → cond (not (a .known)) (Alone (Experimental 5001))
+        (cond (not (a .together)) (Alone (Experimental 5002))
+        (cond (a .barred) (Alone (Base 5003))
+        (cond (not (eqb kind 1) && not (a .roams)) (Alone (Experimental 5004))
+        (cond (eqb kind 2) (Capabilities (Base 2001))
+        (cond x (cond stored (Server (cond (eqb kind 0) (Experimental 2002) (Base 2001))) (Alone (Base 5012)))
+        (cond (eqb kind 1) (Alone (Experimental 5003))
+        (First (Experimental 2002) (Experimental 2001))))))))
+        ≡ cond (not (a .known)) (Alone (Experimental 5001))
+        (cond (not (a .together)) (Alone (Experimental 5002))
+        (cond (a .barred) (Alone (Base 5003))
+        (cond (not (eqb kind 1) && not (a .roams)) (Alone (Experimental 5004))
+        (cond (eqb kind 2) (Capabilities (Base 2001))
+        (cond x (Server (cond (eqb kind 0) (Experimental 2002) (Base 2001)))
+        (cond (eqb kind 1) (Alone (Experimental 5003))
+        (First (Experimental 2002) (Experimental 2001))))))))
+    go true e = rw (e refl)
+    go false e = refl
+
+location-same : (stored : Bool) (a : Sought) → (a .present ≡ true → stored ≡ true) → oldLocation stored a ≡ location a
+unfolding oldLocation location serverIf
+location-same stored a h = go (a .present) h
+  where
+    go : (x : Bool) → (x ≡ true → stored ≡ true)
+        → cond (not (a .known)) (Alone (Experimental 5001))
+        (cond x (cond stored (Server (Base 2001)) (Alone (Base 5012)))
+        (cond (not (a .services)) (Alone (Experimental 5003))
+        (First (Base 2001) (Experimental 2003))))
+        ≡ cond (not (a .known)) (Alone (Experimental 5001))
+        (cond x (Server (Base 2001))
+        (cond (not (a .services)) (Alone (Experimental 5003))
+        (First (Base 2001) (Experimental 2003))))
+    go true e = rw (e refl)
+    go false e = refl
+
+module _ (t : List ℕ) (count : ℕ) (sound : SoundTable t count) where
+  -- "how a registered line can lack a server name. It can't."
+  served : (k : ℕ) → Among count (At k) → ltb 0 (stateOf (blockOf t k)) ≡ true → ltb 0 (serverSize (blockOf t k)) ≡ true
+  served k among e = lt-ltb _ _ (sound-served t count sound k (among .from k refl) (among .to k refl) (ltb-true _ _ e))
+
+  asked-served : (user network : List ℕ) (f : Found) → Among count f → askedOf t count user network f .present ≡ true → storedIn t f ≡ true
+  unfolding askedOf askedAt
+  asked-served user network (At k) among e = served k among e
+  asked-served user network Nothing among e = e
+
+  sought-served : (f : Found) → Among count f → soughtOf t f .present ≡ true → storedIn t f ≡ true
+  unfolding soughtOf soughtAt
+  sought-served (At k) among e = served k among e
+  sought-served Nothing among e = e
+
+  authorize-same : (user network : List ℕ) (kind : ℕ) (f : Found) → Among count f
+      → oldAuthorize t count user network kind f ≡ authorizeFound t count user network kind f
+  unfolding oldAuthorize authorizeFound
+  authorize-same user network kind f among =
+      rw (authorization-same (storedIn t f) (askedOf t count user network f) kind (asked-served user network f among))
+
+  locate-same : (f : Found) → Among count f → oldLocate t count f ≡ locateFound t count f
+  unfolding oldLocate locateFound
+  locate-same f among = rw (location-same (storedIn t f) (soughtOf t f) (sought-served f among))
+
+  plan-same : (req v : List ℕ) (seen : Seen) → oldPlan req t count v seen ≡ planRead req t count v seen
+  unfolding oldPlan planRead uarPlan lirPlan authorize locate
+  plan-same req v seen =
+      rw (
+        authorize-same (dataSeen seen userName) (dataSeen seen visitedNetwork) (valueSeen seen authorizationType)
+            (findPublic t count (dataSeen seen publicIdentity)) (public-among t count (dataSeen seen publicIdentity) refl),
+        locate-same (findPublic t count (dataSeen seen publicIdentity)) (public-among t count (dataSeen seen publicIdentity) refl),
+      )
+
+-- "Answers are the same for every input."
+pub same-for-every-input : (x : Lent) → serveBy withBranch x ≡ serve x
+same-for-every-input x =
+    rules-same withBranch inForce x refl
+    (λ count e.
+    decided-same withBranch inForce x count (plan-same (x .table) count (record { file = length (x .profile); checked = e }) (x .request) (x .vectors))
+    (λ s d. refl))
+    ∙ serve-now x

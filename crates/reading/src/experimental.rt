@@ -1,0 +1,24 @@
+// X: Experimental-Results of vendor 10415, by the names of 3GPP TS 29.229.
+pub const FIRST_REGISTRATION: u32 = 2001;
+
+pub const SUBSEQUENT_REGISTRATION: u32 = 2002;
+
+pub const UNREGISTERED_SERVICE: u32 = 2003;
+
+pub const SERVER_NAME_NOT_STORED: u32 = 2004;
+
+pub const USER_UNKNOWN: u32 = 5001;
+
+pub const IDENTITIES_DONT_MATCH: u32 = 5002;
+
+pub const IDENTITY_NOT_REGISTERED: u32 = 5003;
+
+pub const ROAMING_NOT_ALLOWED: u32 = 5004;
+
+pub const IDENTITY_ALREADY_REGISTERED: u32 = 5005;
+
+pub const AUTH_SCHEME_NOT_SUPPORTED: u32 = 5006;
+
+pub const IN_ASSIGNMENT_TYPE: u32 = 5007;
+
+pub const FEATURE_UNSUPPORTED: u32 = 5011;

@@ -1,0 +1,222 @@
+-- Each theorem of the numbers has an instance: its hypotheses are met by the small month, or by a part of it.
+use Prim.Native.Nat.{ℕ, _+_, _%_, _^_, _≤_, _<_, max}
+use mathlib.Core.List.{List, [], _∷_, _++_}
+use mathlib.Core.Path.{_≡_, refl, sym, ap, _∙_}
+use mathlib.Core.Logic.{inl, inr}
+use native.Mathlib.Omega.{arith}
+use lib.ListN.{length, getD, take, drop}
+use lib.Dec.{lit≤, lit<}
+use Rattle.blocks.specs.Blocks.{blockOf}
+use Rattle.table.specs.Check.{checkTable}
+use Rattle.blocks.specs.declared.Checked.the-variants.{Sound}
+use Rattle.reading.specs.declared.Outcome.the-variants.{Base}
+use Rattle.reading.specs.Verdicts.{numberOf}
+use Rattle.counting.specs.Results.{listed}
+use Rattle.counting.specs.Words.{longBytes}
+use Rattle.calling.specs.Lent.{Lent, lent, asking}
+use Rattle.calling.specs.Serve.{serve}
+use Rattle.ndushavire.specs.Word.{word, callWord}
+use Rattle.ndushavire.specs.Reads.{placeIn, valueIn}
+use Rattle.ndushavire.specs.Promise.{ReportPromise}
+use Rattle.reporting.specs.Pieces.{stopOf}
+use Rattle.reporting.specs.Row.{eventOf, row, left}
+use Rattle.reporting.specs.Report.{Reported, requestsOf, wordsOf, reported}
+use Rattle.report_numbers.specs.Area.{wordIn, rowsIn, refusalsIn}
+use Rattle.report_numbers.specs.File.{joined, Breaks}
+use Rattle.report_numbers.specs.Turns.{eventsOf, Place, callAt, answerLength, alteredOver, allIdle, goingOn}
+use Rattle.report_numbers.proofs.Numbers as numbers
+use Rattle.worked_examples.proofs.Sample.{block, room}
+use Rattle.report_example.proofs.Calls.{lir, removal, strayed, scrap, file, here, month, each, sound-here, counts, all}
+use Rattle.report_example.proofs.Calls.{located-counts}
+use Rattle.report_example.proofs.Month.{area, enough, month-requests, month-stop, month-number, month-events, counting}
+
+-- the month's length
+size : length file < 2 ^ 56
+unfolding all file joined
+size = lit< tt
+
+short : length (month .request) < 2 ^ 64
+unfolding month
+short = omega (arith, size)
+
+-- THE REPORT
+abbrev outcome : Reported
+outcome = reported month area
+
+promised : ReportPromise month area (word 7 0 0) (outcome .table) (outcome .vectors) (outcome .buffer) (outcome .area)
+promised =
+    record { word-is = ap (λ (n : ℕ). word n 0 0) (sym month-number); table-is = refl; vectors-is = refl; buffer-is = refl; area-is = refl }
+
+met-unique : word 7 0 0 ≡ word 7 0 0
+met-unique = numbers.report-unique month area (word 7 0 0) (word 7 0 0) _ _ _ _ _ _ _ _ promised promised .0
+
+met-meant : (reported month area .number ≡ 7) × (placeIn (word 7 0 0) ≡ 0) × (valueIn (word 7 0 0) ≡ 0)
+met-meant = let m = numbers.report-meant month area promised in (ap (λ (r : Reported). r .number) (m .0), m .1, m .2)
+
+-- THE FILE: the removal is the second of four requests
+second : Place (requestsOf month)
+second = record { before = lir ∷ []; request = removal; after = lir ∷ strayed ∷ []; is = month-requests }
+
+met-event : eventsOf month ≡ row month (lir ∷ []) ++ (eventOf (callAt month second) ∷ row (left month (lir ∷ removal ∷ [])) (lir ∷ strayed ∷ []))
+unfolding second
+met-event = numbers.report-event month second
+
+-- THE WORDS
+met-bytes : take 8 (drop 8 (reported month area .area)) ≡ longBytes (getD (wordsOf month) 1 0)
+met-bytes = numbers.report-bytes month area enough 1 (omega arith)
+
+met-place : wordIn (reported month area .area) 1 ≡ 452
+unfolding month
+met-place = numbers.report-place month area enough short ∙ month-stop
+
+met-word : wordIn (reported month area .area) 3 ≡ 136
+unfolding counting
+met-word = numbers.report-word month area enough 3 (omega arith) (omega arith) ∙ rw month-events
+
+met-count : wordIn (reported month area .area) 70 ≡ 1
+unfolding counting
+met-count = numbers.report-count month area enough short 70 (omega arith) (omega arith) (omega arith) (omega arith) ∙ rw month-events
+
+met-read : wordIn (reported month area .area) 0 ≡ 4
+met-read = numbers.report-read month area enough short ∙ ap length month-requests
+
+met-refused : wordIn (reported month area .area) 8 ≡ 1
+unfolding counting
+met-refused = numbers.report-refused month area enough short 4 (omega arith) (omega arith) ∙ rw month-events
+
+met-answered : wordIn (reported month area .area) 89 ≡ 1
+unfolding counting
+met-answered = numbers.report-answered month area enough short 2 19 (omega arith) (omega arith) ∙ rw month-events
+
+met-totals : rowsIn (reported month area .area) + refusalsIn (reported month area .area) ≡ 4
+met-totals = numbers.report-totals month area enough short ∙ met-read
+
+met-rows : rowsIn (reported month area .area) ≡ wordIn (reported month area .area) 4
+met-rows = numbers.report-rows month area enough short
+
+met-altered : wordIn (reported month area .area) 2 ≡ alteredOver month (requestsOf month)
+unfolding month
+met-altered = numbers.report-altered-exact month area enough size
+
+met-largest : answerLength (serve (callAt month second) .call) ≤ 136
+met-largest = rw met-word at (numbers.report-largest month area enough second)
+
+met-columns : Base 5012 ≡ Base 5012
+unfolding counting listed
+met-columns = numbers.report-columns (Base 5012) (Base 5012) refl refl refl
+
+-- THE ENDS: no room for the words; two requests that are a whole file; and the 3 bytes
+met-15 : reported month [] .number ≡ 15
+met-15 = ap (λ (r : Reported). r .number) (numbers.report-15-kept month [] (lit< tt))
+
+firstTwo : List ℕ
+firstTwo = joined (lir ∷ removal ∷ [])
+
+begun : Lent
+begun = lent firstTwo here [] [] room
+
+met-0 : reported begun area .number ≡ 0
+unfolding begun firstTwo
+met-0 = numbers.report-0-whole begun area enough (lir ∷ removal ∷ []) (each .0, (each .1 .0, tt)) refl .1
+
+met-0-file : joined (requestsOf begun) ≡ firstTwo
+unfolding begun
+met-0-file = numbers.report-0-file begun area enough met-0
+
+met-7 : Breaks (drop (stopOf file) file)
+unfolding month
+met-7 = numbers.report-7-breaks month area enough month-number
+
+-- a header length under 20, and one past the file
+under : Breaks (0x01 ∷ 0x00 ∷ 0x00 ∷ 0x13 ∷ [])
+unfolding all
+under = record { some = lit≤ tt; by = inr (inl (lit< tt)) }
+
+past : Breaks (0x01 ∷ 0x00 ∷ 0x00 ∷ 0x14 ∷ [])
+unfolding all
+past = record { some = lit≤ tt; by = inr (inr (lit< tt)) }
+
+-- ONE REQUEST
+alone : Lent
+alone = lent lir here [] [] room
+
+met-one : eventsOf alone ≡ counts 302 (Base 2001) 132 0 ∷ []
+unfolding alone
+met-one = numbers.report-one alone (each .0) ∙ rw located-counts
+
+met-one-ends : reported alone area .number ≡ 0
+unfolding alone
+met-one-ends = numbers.report-one-ends alone (each .0) area enough
+
+met-one-decides : reported alone area .table ≡ serve alone .table
+unfolding alone
+met-one-decides =
+    numbers.report-one-decides alone (each .0) area enough {r = callWord (serve alone .call)} {s = word (reported alone area .number) 0 0}
+    (record { word-is = refl; table-is = refl; vectors-is = refl; buffer-is = refl })
+    (record { word-is = refl; table-is = refl; vectors-is = refl; buffer-is = refl; area-is = refl })
+    .0
+
+-- TWO FILES: the rest of the month goes on where the first two requests ended
+rest : List ℕ
+rest = joined (lir ∷ strayed ∷ []) ++ scrap
+
+met-both : requestsOf (asking begun (begun .request ++ rest)) ≡ requestsOf begun ++ requestsOf (goingOn begun area rest)
+met-both = numbers.report-both begun rest area enough met-0
+
+met-both-events : eventsOf (asking begun (begun .request ++ rest)) ≡ eventsOf begun ++ eventsOf (goingOn begun area rest)
+met-both-events = numbers.report-both-events begun rest area enough met-0
+
+met-both-leaves : reported (asking begun (begun .request ++ rest)) area .table ≡ reported (goingOn begun area rest) area .table
+met-both-leaves = numbers.report-both-leaves begun rest area enough met-0 area enough .1
+
+met-both-words : wordIn (reported (asking begun (begun .request ++ rest)) area .area) 0
+    ≡ (wordIn (reported begun area .area) 0 + wordIn (reported (goingOn begun area rest) area .area) 0) % 2 ^ 64
+met-both-words = numbers.report-both-words begun rest area enough met-0 area enough 0 (omega arith) (omega arith) (omega arith)
+
+both-short : length (begun .request ++ rest) < 2 ^ 64
+unfolding all begun firstTwo rest joined
+both-short = lit< tt
+
+met-both-place : wordIn (reported (asking begun (begun .request ++ rest)) area .area) 1
+    ≡ wordIn (reported begun area .area) 1 + wordIn (reported (goingOn begun area rest) area .area) 1
+met-both-place = numbers.report-both-place begun rest area enough met-0 area enough both-short
+
+met-both-largest : wordIn (reported (asking begun (begun .request ++ rest)) area .area) 3
+    ≡ max (wordIn (reported begun area .area) 3) (wordIn (reported (goingOn begun area rest) area .area) 3)
+met-both-largest = numbers.report-both-largest begun rest area enough met-0 area enough
+
+-- WHAT STAYS
+met-sound : checkTable (reported month area .table) 0 ≡ Sound 1
+unfolding month
+met-sound = numbers.report-sound month area ∙ sound-here
+
+met-kept : getD (blockOf (reported month area .table) 1) 16 0 ≡ getD (blockOf here 1) 16 0
+unfolding month
+met-kept = numbers.report-kept month area 1 sound-here 1 16 (lit≤ tt) (lit< tt) refl
+
+-- over a block of zeros, a vector file of one byte, and with no buffer
+unsound : Lent
+unsound = lent file block [] [] room
+
+met-unsound : reported unsound area .table ≡ block
+unfolding all unsound
+met-unsound = numbers.report-unsound unsound area 0 refl .0
+
+spoilt : Lent
+spoilt = lent file here [] (3 ∷ []) room
+
+met-spoilt : reported spoilt area .vectors ≡ 3 ∷ []
+unfolding all spoilt
+met-spoilt = numbers.report-unsound-vectors spoilt area 0 refl .1
+
+cramped : Lent
+cramped = lent file here [] [] []
+
+met-small : reported cramped area .buffer ≡ []
+unfolding cramped
+met-small = numbers.report-small cramped area (lit< tt) .2
+
+-- a question alone
+met-idle : (reported alone area .table ≡ here) × (alteredOver alone (requestsOf alone) ≡ 0)
+unfolding alone allIdle numberOf
+met-idle = let i = numbers.report-idle alone area (rw met-one) in (i .0, i .2)

@@ -1,0 +1,119 @@
+-- The small month's report: by 7, with the place of the 3 bytes, the counts, the table and the buffer afterwards.
+use Prim.Native.Nat.{ℕ, _≤_}
+use mathlib.Core.Path.{_≡_, refl, ap, _∙_}
+use mathlib.Core.List.{List, [], _∷_, _++_}
+use mathlib.Core.Logic.{inl}
+use lib.ListN.{length, replicate}
+use lib.Dec.{lit≤}
+use Rattle.octets.specs.Run.{over}
+use Rattle.counting.specs.Results.{baseResults, experimentalResults, indexIn, rowOf, columnOf}
+use Rattle.counting.specs.Counted.{cellOf, howMany, alteredIn, largestIn, numberAt, wordAt, valuesBelow, countsOf}
+use Rattle.counting.specs.Words.{longBytes, bytesOf}
+use Rattle.counting.specs.declared.Event.{Event}
+use Rattle.counting.specs.declared.Event.the-variants as event
+use Rattle.reading.specs.declared.Outcome.the-variants.{Base, Experimental}
+use Rattle.calling.specs.Lent.{Lent, lent}
+use Rattle.reporting.specs.Pieces.{stopOf}
+use Rattle.reporting.specs.Row.{next, row, left}
+use Rattle.reporting.specs.Report.{Reported, requestsOf, wordsOf, ran, reported}
+use Rattle.report_numbers.specs.File.{joined, Breaks}
+use Rattle.report_numbers.specs.Turns.{eventsOf}
+use Rattle.report_numbers.proofs.Ends.{area-long}
+use Rattle.report_numbers.proofs.Numbers.{report-7-broken}
+use Rattle.report_example.proofs.Calls.{lir, removal, strayed, messages, scrap, file, here, gone, located, removed, sought, month, each, counts}
+use Rattle.report_example.proofs.Calls.{located-comes, removed-comes, sought-comes, strayed-comes, all}
+use Rattle.report_example.proofs.Calls.{located-counts, removed-counts, sought-counts, strayed-counts}
+
+-- an area of one byte more than the report
+unfoldable pub area : List ℕ
+area = replicate 1161 9
+
+pub enough : 1160 ≤ length area
+unfolding area
+enough = lit≤ tt
+
+pub breaks : Breaks scrap
+breaks = record { some = lit≤ tt; by = inl (lit≤ tt) }
+
+-- the file is read up to the 3 bytes
+month-read : (requestsOf month ≡ messages) × (stopOf file ≡ length (joined messages)) × (reported month area .number ≡ 7)
+unfolding month file
+month-read = report-7-broken month area enough messages each scrap refl breaks
+
+pub month-requests : requestsOf month ≡ messages
+month-requests = month-read .0
+
+pub month-number : reported month area .number ≡ 7
+month-number = month-read .2
+
+pub month-stop : stopOf file ≡ 452
+unfolding all joined
+month-stop = month-read .1
+
+-- the calls in turn
+after-located : next month lir ≡ lent file here [] [] located
+unfolding month next
+after-located = rw located-comes
+
+after-removed : next (lent file here [] [] located) removal ≡ lent file gone [] [] removed
+unfolding next
+after-removed = rw removed-comes
+
+after-sought : next (lent file gone [] [] removed) lir ≡ lent file gone [] [] sought
+unfolding next
+after-sought = rw sought-comes
+
+after-strayed : next (lent file gone [] [] sought) strayed ≡ lent file gone [] [] sought
+unfolding next
+after-strayed = rw strayed-comes
+
+abbrev pub events : List Event
+events = counts 302 (Base 2001) 132 0 ∷ counts 301 (Base 2001) 116 1 ∷ counts 302 (Experimental 5003) 136 0 ∷ event.Refused 4 ∷ []
+
+pub month-events : eventsOf month ≡ events
+unfolding row month
+month-events =
+    ap (row month) month-requests ∙ rw (after-located, after-removed, after-sought, located-counts, removed-counts, sought-counts, strayed-counts)
+
+month-left : left month (requestsOf month) ≡ lent file gone [] [] sought
+unfolding left
+month-left = ap (left month) month-requests ∙ rw (after-located, after-removed, after-sought, after-strayed)
+
+-- the words: 4 requests, stopped at byte 452, 1 record altered, the largest answer of 136 bytes, 3 answered; a refusal by 4, a SAR's B2001, a LIR's B2001 and
+-- a LIR's X5003
+abbrev words : List ℕ
+words =
+    4 ∷ 452 ∷ 1 ∷ 136 ∷ 3 ∷ replicate 3 0
+    ++ (1 ∷ replicate 36 0 ++ (1 ∷ replicate 24 0 ++ (1 ∷ replicate 18 0 ++ (1 ∷ replicate 55 0))))
+
+unfoldable pub counting : ℕ
+unfolding cellOf howMany alteredIn largestIn numberAt wordAt valuesBelow countsOf rowOf columnOf indexIn baseResults experimentalResults
+counting = 0
+
+month-words : wordsOf month ≡ words
+unfolding wordsOf counting month
+month-words = rw (month-events, month-stop)
+
+pub month-table : reported month area .table ≡ gone
+unfolding ran
+month-table = ap (λ (r : Reported). r .table) (area-long month area enough) ∙ ap (λ (y : Lent). y .table) month-left
+
+-- one statement
+record Month : Type 0 where
+  number : reported month area .number ≡ 7
+  table : reported month area .table ≡ gone
+  vectors : reported month area .vectors ≡ []
+  buffer : reported month area .buffer ≡ sought
+  area : reported month area .area ≡ bytesOf words ++ (9 ∷ [])
+
+reported-month : Month
+unfolding ran over bytesOf longBytes area
+reported-month =
+    let long = area-long month area enough in
+    record {
+      number = month-number;
+      table = month-table;
+      vectors = rw (long, month-left);
+      buffer = rw (long, month-left);
+      area = rw (long, month-words);
+    }

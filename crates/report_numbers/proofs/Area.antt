@@ -1,0 +1,168 @@
+-- The words that a report writes.
+use Prim.Native.Nat.{ℕ, zero, suc, _+_, _*_, _%_, _^_, _≤_, _<_}
+use mathlib.Core.List.{List}
+use mathlib.Core.Bool.{Bool, true, false}
+use mathlib.Core.Path.{_≡_, refl, sym, ap, _∙_}
+use mathlib.Core.Logic.{_⊎_, _≢_}
+use native.Mathlib.Omega.{arith}
+use native.Mathlib.Nat.{mod-lt, mod-eq-of-lt}
+use lib.ListN.{length, getD, take, drop, length-set}
+use lib.Seq.{getD-set-same, getD-set-other}
+use lib.Dec.{eqb, ltb}
+use borrow.Author.Tests.{ltb-true, ltb-false, eqb-true, eqb-false}
+use Rattle.octets.specs.Run.{over}
+use Rattle.counting.specs.Counted.{howMany, largestIn, numberAt, wordAt, countsOf}
+use Rattle.counting.specs.Totals.{sumFrom, rowTotals}
+use Rattle.counting.specs.Words.{longBytes, bytesOf}
+use Rattle.counting.proofs.Counts.{counts-length, counts-at}
+use Rattle.counting.proofs.Numbers.{word-largest, word-other, exact}
+use Rattle.counting.proofs.Totals.{rows-answered, totals-read}
+use Rattle.calling.specs.Lent.{Lent}
+use Rattle.calling.specs.Serve.{serve}
+use Rattle.reporting.specs.Pieces.{stopOf}
+use Rattle.reporting.specs.Report.{Reported, requestsOf, wordsOf, ran, reported}
+use Rattle.reporting.proofs.Whole.{row-fits}
+use Rattle.report_numbers.specs.Area.{wordIn, rowsIn, refusalsIn}
+use Rattle.report_numbers.specs.Turns.{eventsOf, Place, callAt, refusedBy, answeredIn, answerLength, alteredOver}
+use Rattle.report_numbers.proofs.Cut.{stop-within, few-pieces}
+use Rattle.report_numbers.proofs.Calls.{row-length, row-altered, over-most, largest-most, largest-least, largest-one}
+use Rattle.report_numbers.proofs.Cells.{refused-count, answered-count}
+use Rattle.report_numbers.proofs.Words.{area-length, area-past, area-word, area-bytes}
+use Rattle.report_numbers.proofs.Ends.{area-short, area-long}
+
+module _ (x : Lent) where
+  words-length : length (wordsOf x) ≡ 145
+  unfolding wordsOf
+  words-length = length-set (countsOf (eventsOf x)) 1 (stopOf (x .request)) ∙ counts-length (eventsOf x)
+
+  words-place : getD (wordsOf x) 1 0 ≡ stopOf (x .request)
+  unfolding wordsOf
+  words-place = getD-set-same (countsOf (eventsOf x)) 1 (stopOf (x .request)) 0 (omega (arith, counts-length (eventsOf x)))
+
+  words-at : (i : ℕ) → i < 145 → i ≢ 1 → getD (wordsOf x) i 0 ≡ wordAt (eventsOf x) i
+  unfolding wordsOf
+  words-at i h n = getD-set-other (countsOf (eventsOf x)) 1 i (stopOf (x .request)) 0 n ∙ counts-at (eventsOf x) i h
+
+  word-small : (i : ℕ) → wordAt (eventsOf x) i < 2 ^ 64
+  word-small i = go (eqb i 3) refl
+    where
+      go : (b : Bool) → eqb i 3 ≡ b → wordAt (eventsOf x) i < 2 ^ 64
+      go true e = rw (eqb-true i 3 e, word-largest (eventsOf x)) (omega (arith, largest-most x (requestsOf x)))
+      go false e = rw (word-other (eventsOf x) i (eqb-false i 3 e)) (mod-lt (numberAt (eventsOf x) i) {m = 2 ^ 64} (omega arith))
+
+  pub few-requests : 20 * length (eventsOf x) ≤ length (x .request)
+  few-requests = omega (arith, row-length x (requestsOf x), few-pieces (x .request))
+
+  pub report-length : (area : List ℕ) → length (reported x area .area) ≡ length area
+  unfolding ran
+  report-length area = go (ltb (length area) 1160) refl
+    where
+      go : (b : Bool) → ltb (length area) 1160 ≡ b → length (reported x area .area) ≡ length area
+      go true e = rw (area-short x area (ltb-true (length area) 1160 e))
+      go false e =
+          let h = ltb-false (length area) 1160 e in
+          rw (area-long x area h) (area-length (wordsOf x) area words-length h)
+
+sum-alike : (f g : ℕ → ℕ) (i n : ℕ) → ((k : ℕ) → i ≤ k → k < i + n → f k ≡ g k) → sumFrom f i n ≡ sumFrom g i n
+unfolding sumFrom
+sum-alike f g i zero h = refl
+sum-alike f g i (suc n) h = omega (arith, h i (omega arith) (omega arith), sum-alike f g (suc i) n (λ k a b. h k (omega arith) (omega arith)))
+
+module _ (x : Lent) (area : List ℕ) (room : 1160 ≤ length area) where
+  abbrev written : List ℕ
+  written = reported x area .area
+
+  written-is : written ≡ over (bytesOf (wordsOf x)) area
+  unfolding ran
+  written-is = ap (λ (r : Reported). r .area) (area-long x area room)
+
+  pub report-past : drop 1160 written ≡ drop 1160 area
+  report-past = rw written-is (area-past (wordsOf x) area (words-length x) room)
+
+  pub report-bytes : (i : ℕ) → i < 145 → take 8 (drop (8 * i) written) ≡ longBytes (getD (wordsOf x) i 0)
+  report-bytes i h = rw written-is (area-bytes (wordsOf x) area (words-length x) room i h)
+
+  pub report-word : (i : ℕ) → i < 145 → i ≢ 1 → wordIn written i ≡ wordAt (eventsOf x) i
+  report-word i h n =
+      let e = words-at x i h n in
+      rw written-is (area-word (wordsOf x) area (words-length x) room i h (rw e (word-small x i)) ∙ e)
+
+  pub report-place : length (x .request) < 2 ^ 64 → wordIn written 1 ≡ stopOf (x .request)
+  report-place l =
+      let e = words-place x in
+      rw written-is (area-word (wordsOf x) area (words-length x) room 1 (omega arith) (rw e (omega (arith, stop-within (x .request)))) ∙ e)
+
+  -- no remainder
+  pub report-exact : length (x .request) < 2 ^ 64 → (i : ℕ) → i < 145 → i ≢ 1 → i ≢ 2 → i ≢ 3 → wordIn written i ≡ numberAt (eventsOf x) i
+  report-exact l i h n m k = report-word i h n ∙ exact (eventsOf x) (omega (arith, few-requests x)) i m k
+
+  pub report-altered : wordIn written 2 ≡ alteredOver x (requestsOf x) % 2 ^ 64
+  unfolding numberAt
+  report-altered =
+      report-word 2 (omega arith) (omega arith)
+      ∙ word-other (eventsOf x) 2 (omega arith)
+      ∙ ap (λ (n : ℕ). n % 2 ^ 64) (row-altered x (requestsOf x))
+
+  pub report-altered-exact : length (x .request) < 2 ^ 56 → wordIn written 2 ≡ alteredOver x (requestsOf x)
+  report-altered-exact l =
+      report-altered ∙ mod-eq-of-lt (omega (arith, over-most x (requestsOf x), few-pieces (x .request)))
+
+  pub report-largest : wordIn written 3 ≡ largestIn (eventsOf x)
+  report-largest = report-word 3 (omega arith) (omega arith) ∙ word-largest (eventsOf x)
+
+  -- "the row totals add up to the requests read"
+  module _ (l : length (x .request) < 2 ^ 64) where
+    part : (i n : ℕ) → 5 ≤ i → i + n ≤ 145 → sumFrom (wordIn written) i n ≡ sumFrom (numberAt (eventsOf x)) i n
+    part i n a b =
+        sum-alike (wordIn written) (numberAt (eventsOf x)) i n
+        (λ k c d. report-exact l k (omega arith) (omega arith) (omega arith) (omega arith))
+
+    rows-are : rowsIn written ≡ rowTotals (eventsOf x)
+    rows-are =
+        omega (
+          arith,
+          part 20 25 (omega arith) (omega arith),
+          part 45 25 (omega arith) (omega arith),
+          part 70 25 (omega arith) (omega arith),
+          part 95 25 (omega arith) (omega arith),
+          part 120 25 (omega arith) (omega arith),
+        )
+
+    pub report-read : wordIn written 0 ≡ length (requestsOf x)
+    unfolding numberAt
+    report-read = report-exact l 0 (omega arith) (omega arith) (omega arith) (omega arith) ∙ row-length x (requestsOf x)
+
+    pub report-rows : rowsIn written ≡ wordIn written 4
+    report-rows =
+        rows-are
+        ∙ rows-answered (eventsOf x) (row-fits x (requestsOf x))
+        ∙ sym (report-exact l 4 (omega arith) (omega arith) (omega arith) (omega arith))
+
+    pub report-totals : rowsIn written + refusalsIn written ≡ wordIn written 0
+    report-totals =
+        omega (
+          arith,
+          rows-are,
+          part 5 15 (omega arith) (omega arith),
+          totals-read (eventsOf x) (row-fits x (requestsOf x)),
+          report-read,
+          row-length x (requestsOf x),
+        )
+
+    -- from word 5 on
+    pub refused-word : (n : ℕ) → 1 ≤ n → n ≤ 15 → wordIn written (4 + n) ≡ howMany (refusedBy n) (eventsOf x)
+    refused-word n a h =
+        report-exact l (4 + n) (omega arith) (omega arith) (omega arith) (omega arith)
+        ∙ refused-count (eventsOf x) (row-fits x (requestsOf x)) n a h
+
+    pub answered-word : (r c : ℕ) → r ≤ 4 → c < 25 → wordIn written (20 + (25 * r + c)) ≡ howMany (answeredIn r c) (eventsOf x)
+    answered-word r c h a =
+        report-exact l (20 + (25 * r + c)) (omega arith) (omega arith) (omega arith) (omega arith)
+        ∙ answered-count (eventsOf x) (row-fits x (requestsOf x)) r c a
+
+  -- the largest answer
+  pub largest-word : (p : Place (requestsOf x)) → answerLength (serve (callAt x p) .call) ≤ wordIn written 3
+  largest-word p = rw report-largest (largest-least x (requestsOf x) p)
+
+  pub largest-word-one : (wordIn written 3 ≡ 0) ⊎ ((p : Place (requestsOf x)) × (answerLength (serve (callAt x p) .call) ≡ wordIn written 3))
+  largest-word-one = rw report-largest (largest-one x (requestsOf x))

@@ -1,0 +1,140 @@
+-- Reports over one request, and over two files, one behind the other.
+use Prim.Native.Nat.{ℕ, _+_, _%_, _^_, _≤_, _<_, max}
+use mathlib.Core.Bool.{Bool, cond}
+use mathlib.Core.List.{List, [], _∷_, _++_}
+use mathlib.Core.Path.{_≡_, refl, sym, ap, _∙_}
+use mathlib.Core.Logic.{_≢_}
+use native.Mathlib.Omega.{arith}
+use native.Mathlib.Nat.{add-mod}
+use lib.ListN.{length, length-append}
+use lib.Dec.{eqb}
+use borrow.Author.Tests.{eq-eqb, eqb-true}
+use Rattle.counting.specs.Counted.{largestIn, numberAt}
+use Rattle.counting.specs.declared.Event.{Event}
+use Rattle.counting.proofs.Numbers.{number-append, largest-append, word-other}
+use Rattle.calling.specs.Lent.{Lent, asking}
+use Rattle.calling.specs.Serve.{serve}
+use Rattle.ndushavire.specs.Promise.{DecidePromise, ReportPromise}
+use Rattle.reporting.specs.Pieces.{pieces, totalOf, stopOf}
+use Rattle.reporting.specs.Row.{eventOf, next, row, left}
+use Rattle.reporting.specs.Report.{requestsOf, ended, ran, reported}
+use Rattle.report_numbers.specs.Area.{wordIn}
+use Rattle.report_numbers.specs.File.{OneRequest}
+use Rattle.report_numbers.specs.Turns.{eventsOf, goingOn}
+use Rattle.report_numbers.proofs.Area.{report-word, report-place, report-largest}
+use Rattle.report_numbers.proofs.Calls.{row-append, left-append, row-other, left-other, left-profile}
+use Rattle.report_numbers.proofs.Cells.{same-test}
+use Rattle.report_numbers.proofs.Cut.{one-piece, one-stop, two-pieces, total-append}
+use Rattle.report_numbers.proofs.Ends.{area-long, stop-zero, zero-stop}
+
+-- One request.
+module _ (x : Lent) (one : OneRequest (x .request)) where
+  pub one-event : eventsOf x ≡ eventOf x ∷ []
+  unfolding row
+  one-event = ap (row x) (one-piece (x .request) one)
+
+  one-left : left x (requestsOf x) ≡ next x (x .request)
+  unfolding left
+  one-left = ap (left x) (one-piece (x .request) one)
+
+  module _ (area : List ℕ) (room : 1160 ≤ length area) where
+    pub one-zero : reported x area .number ≡ 0
+    one-zero = stop-zero x area room (one-stop (x .request) one)
+
+    pub one-leaves : (reported x area .table ≡ serve x .table) × (reported x area .vectors ≡ serve x .vectors) × (reported x area .buffer ≡ serve x .buffer)
+    unfolding ran next
+    one-leaves = rw (area-long x area room, one-left) (refl, refl, refl)
+
+    pub one-decides : {r s : ℕ} {t u v w o q b : List ℕ} → DecidePromise x r t v o → ReportPromise x area s u w q b → (u ≡ t) × (w ≡ v) × (q ≡ o)
+    one-decides d p =
+        let l = one-leaves in
+        (p .table-is ∙ l .0 ∙ sym (d .table-is), p .vectors-is ∙ l .1 ∙ sym (d .vectors-is), p .buffer-is ∙ l .2 ∙ sym (d .buffer-is))
+
+-- Two files, the first used up: the second report goes on where the first ended.
+module _ (x : Lent) (more area : List ℕ) (room : 1160 ≤ length area) (whole : reported x area .number ≡ 0) where
+  abbrev both : Lent
+  both = asking x (x .request ++ more)
+
+  abbrev second : Lent
+  second = goingOn x area more
+
+  used : stopOf (x .request) ≡ length (x .request)
+  used = zero-stop x area room whole
+
+  pub two-requests : requestsOf both ≡ requestsOf x ++ requestsOf second
+  two-requests = two-pieces (x .request) more used
+
+  goes-on : asking (left x (requestsOf x)) more ≡ second
+  unfolding ran
+  goes-on = rw (area-long x area room, left-profile x (requestsOf x))
+
+  pub two-events : eventsOf both ≡ eventsOf x ++ eventsOf second
+  two-events =
+      ap (row both) two-requests
+      ∙ row-other x (x .request ++ more) (requestsOf x ++ requestsOf second)
+      ∙ row-append x (requestsOf x) (requestsOf second)
+      ∙ ap (λ (es : List Event). eventsOf x ++ es)
+      (sym (row-other (left x (requestsOf x)) more (requestsOf second)) ∙ ap (λ (y : Lent). row y (pieces more)) goes-on)
+
+  two-left : asking (left both (requestsOf both)) more ≡ left second (requestsOf second)
+  two-left =
+      ap (λ (y : Lent). asking y more)
+      (ap (left both) two-requests
+      ∙ left-other x (x .request ++ more) (requestsOf x ++ requestsOf second)
+      ∙ ap (λ (y : Lent). asking y (x .request ++ more)) (left-append x (requestsOf x) (requestsOf second)))
+      ∙ sym (left-other (left x (requestsOf x)) more (pieces more))
+      ∙ ap (λ (y : Lent). left y (pieces more)) goes-on
+
+  pub two-stop : stopOf (x .request ++ more) ≡ stopOf (x .request) + stopOf more
+  two-stop = ap totalOf two-requests ∙ total-append (requestsOf x) (pieces more)
+
+  two-ended : ended (x .request ++ more) ≡ ended more
+  unfolding ended
+  two-ended = ap (λ (b : Bool). cond b 0 7) same
+    where
+      n : ℕ
+      n = length (x .request)
+
+      same : eqb (stopOf (x .request ++ more)) (length (x .request ++ more)) ≡ eqb (stopOf more) (length more)
+      same =
+          rw (two-stop, used, length-append (x .request) more)
+          (same-test (n + stopOf more) (n + length more) (eqb (stopOf more) (length more)) (λ e. eq-eqb (stopOf more) (length more) (omega (arith, e)))
+          (λ e. omega (arith, eqb-true (stopOf more) (length more) e)))
+
+  module _ (again : List ℕ) (space : 1160 ≤ length again) where
+    pub two-leave : (reported both area .number ≡ reported second again .number)
+        × (reported both area .table ≡ reported second again .table)
+        × (reported both area .vectors ≡ reported second again .vectors)
+        × (reported both area .buffer ≡ reported second again .buffer)
+    unfolding ran
+    two-leave = rw (area-long both area room, area-long second again space) (
+      two-ended,
+      ap (λ (y : Lent). y .table) two-left,
+      ap (λ (y : Lent). y .vectors) two-left,
+      ap (λ (y : Lent). y .buffer) two-left,
+    )
+
+    pub two-words : (i : ℕ) → i < 145 → i ≢ 1 → i ≢ 3
+        → wordIn (reported both area .area) i ≡ (wordIn (reported x area .area) i + wordIn (reported second again .area) i) % 2 ^ 64
+    two-words i h m n =
+        report-word both area room i h m
+        ∙ word-other (eventsOf both) i n
+        ∙ ap (λ (es : List Event). numberAt es i % 2 ^ 64) two-events
+        ∙ ap (λ (k : ℕ). k % 2 ^ 64) (number-append (eventsOf x) (eventsOf second) i n)
+        ∙ add-mod (numberAt (eventsOf x) i) (numberAt (eventsOf second) i) (2 ^ 64)
+        ∙ rw (report-word x area room i h m, report-word second again space i h m, word-other (eventsOf x) i n, word-other (eventsOf second) i n)
+
+    pub two-largest : wordIn (reported both area .area) 3 ≡ max (wordIn (reported x area .area) 3) (wordIn (reported second again .area) 3)
+    two-largest =
+        report-largest both area room
+        ∙ ap largestIn two-events
+        ∙ largest-append (eventsOf x) (eventsOf second)
+        ∙ rw (report-largest x area room, report-largest second again space)
+
+    pub two-place : length (x .request ++ more) < 2 ^ 64
+        → wordIn (reported both area .area) 1 ≡ wordIn (reported x area .area) 1 + wordIn (reported second again .area) 1
+    two-place l =
+        let n : length (x .request ++ more) ≡ length (x .request) + length more = length-append (x .request) more in
+        report-place both area room l
+        ∙ two-stop
+        ∙ rw (report-place x area room (omega (arith, n, l)), report-place second again space (omega (arith, n, l)))

@@ -1,0 +1,120 @@
+-- Two sound tables of as many records that agree in every byte that a request can see: every call comes to the same, with the same vectors and the same
+-- buffer, and leaves tables that are alike again. What `AlikeTables`, `holding` and `SameCall` mean is in specs/Alike.
+use Prim.Native.Nat.{ℕ}
+use mathlib.Core.Bool.{Bool, true, false, cond}
+use mathlib.Core.Path.{_≡_, refl, sym, _∙_, ap}
+use mathlib.Core.List.{List, [], _∷_}
+use lib.ListN.{length}
+use Rattle.octets.proofs.Numbers.{Bytes}
+use Rattle.table.specs.SoundTable.{SoundTable}
+use Rattle.blocks.specs.declared.Checked.{Checked}
+use Rattle.blocks.specs.declared.Checked.the-variants.{Sound}
+use Rattle.rewrite.specs.Change.{alteredUpTo}
+use Rattle.rewrite.proofs.Counts.{altered-none}
+use Rattle.reading.specs.Rules.{Seen}
+use Rattle.choices.specs.declared.Given.{Given}
+use Rattle.reply.specs.Answer.{answerBytes}
+use Rattle.fitting.specs.Decide.{planRead, decide}
+use Rattle.calling.specs.Lent.{Lent}
+use Rattle.calling.specs.Trial.{Trial, tried}
+use Rattle.calling.specs.Serve.{Served, checkOf, checkValue, refused, answered, decision, resultOf, serve}
+use Rattle.seen_alike.specs.Alike.{AlikeTables, SameCall, holding}
+use Rattle.seen_alike.specs.Shown.{SameTables}
+use Rattle.seen_alike.proofs.Fields.{tables-same}
+use Rattle.seen_alike.proofs.Plans.{plan-same, given-same, place-same, vectors-same}
+use Rattle.seen_alike.proofs.Within.{Within}
+use Rattle.seen_alike.proofs.Answers.{answer-same, bytes-same}
+use Rattle.seen_alike.proofs.Effects.{tables-alike}
+use Rattle.seen_alike.proofs.Altered.{altered-same}
+
+-- What is planned, decided and answered; one of the tables is sound.
+module _ (t u : List ℕ) (count : ℕ) (sound : SoundTable t count) (alike : AlikeTables t u count) where
+  like : (file : List ℕ) → SameTables file t u count
+  like file = tables-same file t u count sound alike
+
+  pub plan-alike : (req v : List ℕ) (seen : Seen) → planRead req t count v seen ≡ planRead req u count v seen
+  plan-alike req v seen = plan-same [] t u count (like []) req v seen
+
+  pub given-alike : (req v : List ℕ) → decide req t count v .given ≡ decide req u count v .given
+  given-alike req v = given-same [] t u count (like []) req v
+
+  pub place-alike : (req v : List ℕ) → decide req t count v .place ≡ decide req u count v .place
+  place-alike req v = place-same [] t u count (like []) req v
+
+  pub vectors-alike : (req v : List ℕ) → decide req t count v .vectors ≡ decide req u count v .vectors
+  vectors-alike req v = vectors-same [] t u count (like []) req v
+
+  pub answer-alike : (req file v : List ℕ) (g : Given) → Within count g → answerBytes req t file v g ≡ answerBytes req u file v g
+  answer-alike req file v g within = answer-same file t u count (like file) g within req v
+
+  pub decision-alike : (req file v : List ℕ)
+      → answerBytes req t file v (decide req t count v .given) ≡ answerBytes req u file v (decide req u count v .given)
+  decision-alike req file v = bytes-same file t u count (like file) req v
+
+  -- the tables afterwards, if both are sound
+  pub table-alike : SoundTable u count → (req v : List ℕ) → AlikeTables (decide req t count v .table) (decide req u count v .table) count
+  table-alike other req v = tables-alike t u count sound other alike req v
+
+  -- how many records it alters, if both are of bytes
+  pub altered-alike : SoundTable u count → Bytes t → Bytes u → (req v : List ℕ)
+      → alteredUpTo t (decide req t count v .table) count ≡ alteredUpTo u (decide req u count v .table) count
+  altered-alike other bytes other-bytes req v = altered-same t u count sound other alike bytes other-bytes req v
+
+-- The same refusals, tried in one order: what holds of each that is given by both, and of what both do otherwise.
+tried-both : (P : Served → Served → Type 0) (give other : Trial → Served) (o p : Served) → ((r : Trial) → P (give r) (other r)) → P o p → (rs : List Trial)
+    → P (tried give o rs) (tried other p rs)
+unfolding tried
+tried-both P give other o p f h [] = h
+tried-both P give other o p f h (r ∷ rs) = go (r .holds) (tried-both P give other o p f h rs)
+  where
+    go : (x : Bool) → P (tried give o rs) (tried other p rs) → P (cond x (give r) (tried give o rs)) (cond x (other r) (tried other p rs))
+    go true next = f r
+    go false next = next
+
+-- A call, and the same call over a table that is alike; both are sound.
+module _ (x : Lent) (u : List ℕ) (count : ℕ) (first : checkOf x ≡ Sound count) (second : checkOf (holding x u) ≡ Sound count)
+    (alike : AlikeTables (x .table) u count) where
+  sound : SoundTable (x .table) count
+  sound = record { file = length (x .profile); checked = first }
+
+  other : SoundTable u count
+  other = record { file = length (x .profile); checked = second }
+
+  -- what holds of refusals and of the answers holds of the calls
+  both-by : (P : Served → Served → Type 0) → ((r : Trial) → P (refused x r) (refused (holding x u) r))
+      → P (answered x (decision x count)) (answered (holding x u) (decision (holding x u) count)) → P (serve x) (serve (holding x u))
+  unfolding serve
+  both-by P f h =
+      rw (first, second)
+      (tried-both P (refused x) (refused (holding x u)) (answered x (decision x count)) (answered (holding x u) (decision (holding x u) count)) f h _)
+
+  pub serve-alike : SameCall (serve x) (serve (holding x u))
+  unfolding refused answered
+  serve-alike =
+      let bytes = decision-alike (x .table) u count sound alike (x .request) (x .profile) (x .vectors) in
+      both-by SameCall (λ r. record { call = refl; vectors = refl; buffer = refl })
+      (record {
+        call = rw (bytes, place-alike (x .table) u count sound alike (x .request) (x .vectors));
+        vectors = vectors-alike (x .table) u count sound alike (x .request) (x .vectors);
+        buffer = rw bytes;
+      })
+
+  pub serve-after : AlikeTables (serve x .table) (serve (holding x u) .table) count
+  unfolding refused answered
+  serve-after =
+      both-by (λ r s. AlikeTables (r .table) (s .table) count) (λ r. alike)
+      (table-alike (x .table) u count sound alike other (x .request) (x .vectors))
+
+  -- what the report counts besides: the result, and the records altered
+  pub result-alike : resultOf x ≡ resultOf (holding x u)
+  result-alike =
+      ap (λ (c : Checked). decision x (checkValue c) .given .verdict .result) first
+      ∙ ap (λ (g : Given). g .verdict .result) (given-alike (x .table) u count sound alike (x .request) (x .vectors))
+      ∙ sym (ap (λ (c : Checked). decision (holding x u) (checkValue c) .given .verdict .result) second)
+
+  pub serve-altered : Bytes (x .table) → Bytes u → alteredUpTo (x .table) (serve x .table) count ≡ alteredUpTo u (serve (holding x u) .table) count
+  unfolding refused answered
+  serve-altered bytes other-bytes =
+      both-by (λ r s. alteredUpTo (x .table) (r .table) count ≡ alteredUpTo u (s .table) count)
+      (λ r. altered-none (x .table) count ∙ sym (altered-none u count))
+      (altered-alike (x .table) u count sound alike other bytes other-bytes (x .request) (x .vectors))

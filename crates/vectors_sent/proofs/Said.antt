@@ -1,0 +1,74 @@
+-- What an answer says of the vectors that are sent: their number, and of each its item, in this order.
+use Prim.Native.Nat.{ℕ, zero, suc, _+_, _≤_}
+use mathlib.Core.List.{List, [], _∷_, _++_, append-nil, append-assoc}
+use mathlib.Core.Bool.{false}
+use mathlib.Core.Path.{_≡_, refl, sym, ap}
+use native.Mathlib.Omega.{arith}
+use lib.ListN.{length, getD, take}
+use lib.Seq.{take-suc, length-take-le}
+use Rattle.octets.specs.Run.{over}
+use Rattle.blocks.specs.Blocks.{blockOf}
+use Rattle.vectors.specs.Chosen.{sentOf, Sendable}
+use Rattle.vectors.specs.declared.choice.Sent.{Sent}
+use Rattle.items.specs.Items.{itemBytes, itemsBytes, numberedBytes, sentBytes}
+use Rattle.reply.specs.Answer.{givenBytes, restBytes, bodyBytes, answerBytes}
+use Rattle.reading.specs.Verdicts.{numberOf}
+use Rattle.reading.specs.declared.Outcome.the-variants.{Base}
+use Rattle.requests.specs.Judged.{Judged, bad, fine}
+use Rattle.requests.specs.Request.{readRequest}
+use Rattle.fitting.specs.Decide.{performed, decideJudged, decide}
+use Rattle.fitting.proofs.Room.{decide-light}
+use Rattle.calling.specs.Call.{Answered}
+use Rattle.calling.specs.Lent.{Lent}
+use Rattle.calling.specs.Trial.{anyHolds}
+use Rattle.calling.specs.Serve.{checkOf, trials, answerOf, answered, serve, checkValue, decided}
+use Rattle.vectors_sent.specs.Sent.{sentBy, itemsFrom, saidOf, answerWith}
+use Rattle.vectors_sent.proofs.Calls.{answered-is, answered-sound}
+use Rattle.vectors_sent.proofs.Faults.{read-fails}
+
+module _ (v : List ℕ) where
+  -- one item more
+  items-more : (i : ℕ) (ks : List ℕ) (k : ℕ) → itemsFrom v i (ks ++ (k ∷ [])) ≡ itemsFrom v i ks ++ itemBytes (i + length ks) (blockOf v k)
+  unfolding itemsFrom
+  items-more i [] k = let n : i + 0 ≡ i = omega arith in rw (n, append-nil)
+  items-more i (j ∷ ks) k =
+      let n : suc i + length ks ≡ i + suc (length ks) = omega arith in
+      rw (items-more (suc i) ks k, n) (sym (append-assoc (itemBytes i (blockOf v j)) (itemsFrom v (suc i) ks) _))
+
+  items-are : (blocks : List ℕ) (n : ℕ) → n ≤ length blocks → itemsBytes v blocks n ≡ itemsFrom v 1 (take n blocks)
+  unfolding itemsBytes itemsFrom
+  items-are blocks zero h = refl
+  items-are blocks (suc n) h =
+      let m : length (take n blocks) ≡ n = length-take-le n blocks (omega arith) in
+      let q : 1 + n ≡ suc n = omega arith in
+      rw (items-are blocks n (omega arith), take-suc blocks n 0 (omega arith), items-more 1 (take n blocks) (getD blocks n 0), m, q)
+
+  said-is : (s : Sent) → s .count ≤ length (s .blocks) → sentBytes v s ≡ saidOf v (sentOf s)
+  unfolding sentBytes numberedBytes saidOf
+  said-is s h = let m : length (take (s .count) (s .blocks)) ≡ s .count = length-take-le (s .count) (s .blocks) h in rw (m, items-are (s .blocks) (s .count) h)
+
+module _ (x : Lent) (taken : anyHolds (trials x) ≡ false) where
+  sendable : Sendable (x .vectors) (decided x .given .sent)
+  sendable = decide-light (x .request) (x .table) (checkValue (checkOf x)) (x .vectors) (answered-sound x taken) .1
+
+  answer-is : answerOf x (decided x) ≡ answerWith x (decided x .given) (saidOf (x .vectors) (sentBy x))
+  unfolding answerBytes bodyBytes restBytes givenBytes sentBy
+  answer-is = rw (taken, said-is (x .vectors) (decided x .given .sent) (omega (arith, sendable .few, sendable .room)))
+
+  pub answer-says : (serve x .call
+      ≡ Answered (record { length = length (answerWith x (decided x .given) (saidOf (x .vectors) (sentBy x))); place = decided x .place }))
+      × (serve x .buffer ≡ over (answerWith x (decided x .given) (saidOf (x .vectors) (sentBy x))) (x .buffer))
+  unfolding answered
+  answer-says = (
+    rw (answered-is x taken) (ap (λ (b : List ℕ). Answered (record { length = length b; place = decided x .place })) answer-is),
+    rw (answered-is x taken) (ap (λ (b : List ℕ). over b (x .buffer)) answer-is),
+  )
+
+-- A success blames no AVP.
+pub success-nowhere : (req t : List ℕ) (count : ℕ) (v : List ℕ) → decide req t count v .given .verdict .result ≡ Base 2001 → decide req t count v .place ≡ 0
+unfolding decide decideJudged performed numberOf
+success-nowhere req t count v = go (readRequest req) refl
+  where
+    go : (j : Judged) → readRequest req ≡ j → decideJudged req t count v j .given .verdict .result ≡ Base 2001 → decideJudged req t count v j .place ≡ 0
+    go (bad f) e r = absurd (omega (arith, read-fails req f e, ap numberOf r))
+    go (fine seen) e r = refl

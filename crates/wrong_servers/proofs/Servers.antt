@@ -1,0 +1,283 @@
+-- "Try these against it": document 01's five wrong servers, four that break document 02 [1], and two that break [2]. Each is a function here, and at an input
+-- that is computed its outcome does not meet the promise.
+use Prim.Native.Nat.{ℕ, zero, suc, _≤_}
+use mathlib.Core.Path.{_≡_, refl, ap, _∙_}
+use mathlib.Core.Logic.{_≢_}
+use mathlib.Core.List.{List, [], _∷_, _++_}
+use mathlib.Core.Bool.{false}
+use native.Mathlib.Omega.{arith}
+use lib.ListN.{getD, take}
+use Rattle.octets.specs.Run.{over}
+use Rattle.blocks.specs.declared.Checked.the-variants.{Sound}
+use Rattle.vectors.specs.VectorFile.{checkVectors}
+use Rattle.pen.specs.Bytes.{vendorHead, vendorBytes, numberBytes, vendorNumber}
+use Rattle.pen.specs.Groups.{failed}
+use Rattle.calling.specs.Lent.{Lent, lent}
+use Rattle.calling.specs.Serve.{Served, serve}
+use Rattle.calling.specs.Call.{Answered}
+use Rattle.ndushavire.specs.Word.{word, checkWord, callWord}
+use Rattle.ndushavire.specs.Reads.{placeIn}
+use Rattle.ndushavire.specs.Promise.{CheckPromise, CheckVectorsPromise, DecidePromise}
+use Rattle.worked_examples.proofs.Computed.{known, come, roomy, no-vectors, registered-sound, unregistered-sound}
+use Rattle.worked_examples.proofs.Sample.{room, request, reply, answer, common, assignment, authentication, vector, item, challenges, one, waiting, two, s, z, opened}
+
+-- what a call leaves
+record Outcome : Type 0 where
+  word : ℕ
+  table : List ℕ
+  vectors : List ℕ
+  buffer : List ℕ
+
+-- A server may count its calls: it is a function of the number of the call in its run, 0 for the first, and of what is lent.
+abbrev Server : Type 0
+Server = ℕ → Lent → Outcome
+
+-- Call n of a run meets the promise, given x.
+abbrev Meets : Server → ℕ → Lent → Type 0
+Meets f n x = DecidePromise x (f n x .word) (f n x .table) (f n x .vectors) (f n x .buffer)
+
+-- The true server, which shows that the inputs below are no trap.
+truly : Server
+truly n x = record { word = callWord (serve x .call); table = serve x .table; vectors = serve x .vectors; buffer = serve x .buffer }
+
+truly-meets : (n : ℕ) (x : Lent) → Meets truly n x
+unfolding truly
+truly-meets n x = record { word-is = refl; table-is = refl; vectors-is = refl; buffer-is = refl }
+
+-- Two inputs over one registered line: a removal, B2001, which rewrites the record; and type 0 with another name, B5012. The word is 116 for both.
+removal : Lent
+removal = lent (assignment 5 s) (one 0 1 s) [] [] room
+
+question : Lent
+question = lent (assignment 0 z) (one 0 1 s) [] [] room
+
+abbrev comes : List ℕ → List ℕ → Served
+comes after bytes = record { call = Answered (record { length = 116; place = 0 }); table = after; vectors = []; buffer = over bytes room }
+
+removal-served : serve removal ≡ comes (one 0 0 []) (answer (numberBytes 268 2001) [])
+unfolding opened removal
+removal-served = come removal roomy registered-sound no-vectors refl
+
+question-served : serve question ≡ comes (one 0 1 s) (answer (numberBytes 268 5012) [])
+unfolding opened question
+question-served = come question roomy registered-sound no-vectors refl
+
+-- What the promise leaves of the removal: the word 116, state 0 in the record, and 2001, whose last byte is 209, in the answer; of the other 5012, whose last
+-- byte is 148.
+state : List ℕ → ℕ
+state t = getD t 520 0
+
+result : List ℕ → ℕ
+result o = getD o 75 0
+
+module _ (f : Server) (n : ℕ) where
+  removal-word : Meets f n removal → f n removal .word ≡ 116
+  removal-word p = p .word-is ∙ ap (λ (y : Served). callWord (y .call)) removal-served
+
+  removal-state : Meets f n removal → state (f n removal .table) ≡ 0
+  unfolding state opened
+  removal-state p = ap state (p .table-is ∙ ap (λ (y : Served). y .table) removal-served)
+
+  removal-result : Meets f n removal → result (f n removal .buffer) ≡ 209
+  unfolding result opened
+  removal-result p = ap result (p .buffer-is ∙ ap (λ (y : Served). y .buffer) removal-served)
+
+  question-result : Meets f n question → result (f n question .buffer) ≡ 148
+  unfolding result opened
+  question-result p = ap result (p .buffer-is ∙ ap (λ (y : Served). y .buffer) question-served)
+
+-- Two answers whose results end alike cannot both be right, whatever else they take from the request.
+alike-fails : (f : Server) (n : ℕ) → result (f n removal .buffer) ≡ result (f n question .buffer) → Meets f n removal → Meets f n question → ⊥
+alike-fails f n e p q = omega (arith, e, removal-result f n p, question-result f n q)
+
+-- 1. "a server that refuses everything", with any number, any place and anything besides, and leaves all as it came
+refusing : (Lent → ℕ) → (Lent → ℕ) → (Lent → ℕ) → Server
+refusing number place besides n x = record { word = word (number x) (place x) (besides x); table = x .table; vectors = x .vectors; buffer = x .buffer }
+
+refusing-fails : (number place besides : Lent → ℕ) → 1 ≤ number removal → (n : ℕ) → Meets (refusing number place besides) n removal → ⊥
+unfolding refusing
+refusing-fails number place besides h n p = omega (arith, removal-word (refusing number place besides) n p)
+
+-- 2. "one with a fixed answer": any word and any bytes, whatever is asked, and any files
+fixed : ℕ → List ℕ → (Lent → List ℕ) → (Lent → List ℕ) → Server
+fixed w bytes after spent n x = record { word = w; table = after x; vectors = spent x; buffer = over bytes (x .buffer) }
+
+fixed-fails : (w : ℕ) (bytes : List ℕ) (after spent : Lent → List ℕ) (n : ℕ) → Meets (fixed w bytes after spent) n removal
+    → Meets (fixed w bytes after spent) n question → ⊥
+unfolding fixed removal question
+fixed-fails w bytes after spent n = alike-fails (fixed w bytes after spent) n refl
+
+-- 3. "one that writes no record": any word, any vectors and any buffer, and the table as it came
+unwriting : (Lent → ℕ) → (Lent → List ℕ) → (Lent → List ℕ) → Server
+unwriting word spent bytes n x = record { word = word x; table = x .table; vectors = spent x; buffer = bytes x }
+
+unwriting-fails : (word : Lent → ℕ) (spent bytes : Lent → List ℕ) (n : ℕ) → Meets (unwriting word spent bytes) n removal → ⊥
+unfolding unwriting removal state opened
+unwriting-fails word spent bytes n p = omega (arith, removal-state (unwriting word spent bytes) n p)
+
+-- 4. "one that serves the first request of a run truly and only imitates later". It meets the promise at the first call; at each later one it does what the
+-- imitator does ..
+once : Server → Server
+once later zero x = truly zero x
+once later (suc n) x = later n x
+
+once-first : (later : Server) (x : Lent) → Meets (once later) 0 x
+unfolding once
+once-first later x = truly-meets 0 x
+
+once-later : (later : Server) (n : ℕ) (x : Lent) → Meets (once later) (suc n) x → Meets later n x
+unfolding once
+once-later later n x p = p
+
+-- .. which fails, be it one of the others or one that gives any outcome that it has seen or made up, by the number of the call and not by what is asked
+imitating : (ℕ → Outcome) → Server
+imitating outcome n x = outcome n
+
+once-fails : (outcome : ℕ → Outcome) (n : ℕ) → Meets (once (imitating outcome)) (suc n) removal → Meets (once (imitating outcome)) (suc n) question → ⊥
+unfolding imitating
+once-fails outcome n p q =
+    alike-fails (imitating outcome) n refl (once-later (imitating outcome) n removal p) (once-later (imitating outcome) n question q)
+
+once-unwriting-fails : (word : Lent → ℕ) (spent bytes : Lent → List ℕ) (n : ℕ) → Meets (once (unwriting word spent bytes)) (suc n) removal → ⊥
+once-unwriting-fails word spent bytes n p = unwriting-fails word spent bytes n (once-later (unwriting word spent bytes) n removal p)
+
+-- 5. "one that invents the answer's length": any other word, beside the true table and the true answer ..
+inventing : (Lent → ℕ) → Server
+inventing word n x = record { word = word x; table = truly n x .table; vectors = truly n x .vectors; buffer = truly n x .buffer }
+
+inventing-fails : (word : Lent → ℕ) → word removal ≢ 116 → (n : ℕ) → Meets (inventing word) n removal → ⊥
+unfolding inventing
+inventing-fails word h n p = h (removal-word (inventing word) n p)
+
+-- .. "or the record count": of the second entry, any word but the count of a sound table, and any but the first bad block of another
+abbrev Checker : Type 0
+Checker = List ℕ → List ℕ → ℕ
+
+count-fails : (f : Checker) → f (one 0 1 s) [] ≢ word 0 0 1 → CheckPromise (one 0 1 s) [] (f (one 0 1 s) []) → ⊥
+count-fails f h p = h (p .answer ∙ ap (checkWord 5) registered-sound)
+
+block-fails : (f : Checker) → f two [] ≢ word 5 0 2 → CheckPromise two [] (f two []) → ⊥
+unfolding opened
+block-fails f h p = h (p .answer)
+
+-- .. and of the check of vectors, any word but the number of blocks of a sound file, and any but the first bad block of another
+card-sound : checkVectors (vector 0 0x70 1) ≡ Sound 1
+unfolding opened
+card-sound = refl
+
+blocks-fails : (f : List ℕ → ℕ) → f (vector 0 0x70 1) ≢ word 0 0 1 → CheckVectorsPromise (vector 0 0x70 1) (f (vector 0 0x70 1)) → ⊥
+blocks-fails f h p = h (p .answer ∙ ap (checkWord 6) card-sound)
+
+cut-fails : (f : List ℕ → ℕ) → f (take 511 (vector 0 0x70 1)) ≢ word 6 0 0
+    → CheckVectorsPromise (take 511 (vector 0 0x70 1)) (f (take 511 (vector 0 0x70 1))) → ⊥
+unfolding opened
+cut-fails f h p = h (p .answer)
+
+-- Document 02 [1]. Over a line in state 0 that has one unused vector: a MAR for two, which gets one; and a MAR for none, B5012.
+challenge : Lent
+challenge = lent (authentication 2 s) (one 0 0 []) [] (vector 0 0x70 1) room
+
+nought : Lent
+nought = lent (authentication 0 s) (one 0 0 []) [] (vector 0 0x70 1) room
+
+challenge-served : serve challenge ≡ record {
+  call = Answered (record { length = 336; place = 0 });
+  table = waiting 0 s;
+  vectors = vector 1 0x70 1;
+  buffer = over (challenges 1 (item 1 1)) room;
+}
+unfolding opened challenge
+challenge-served = come challenge roomy unregistered-sound card-sound refl
+
+nought-served : serve nought ≡ record {
+  call = Answered (record { length = 116; place = 0 });
+  table = one 0 0 [];
+  vectors = vector 0 0x70 1;
+  buffer = over (reply 303 (numberBytes 268 5012) []) room;
+}
+unfolding opened nought
+nought-served = come nought roomy unregistered-sound card-sound refl
+
+-- Whether the vector is used, whether the record is pending, and the number that the answer says is sent.
+used : List ℕ → ℕ
+used v = getD v 1 0
+
+bits : List ℕ → ℕ
+bits t = getD t 521 0
+
+number : List ℕ → ℕ
+number o = getD o 159 0
+
+module _ (f : Server) (n : ℕ) where
+  challenge-used : Meets f n challenge → used (f n challenge .vectors) ≡ 1
+  unfolding used opened
+  challenge-used p = ap used (p .vectors-is ∙ ap (λ (y : Served). y .vectors) challenge-served)
+
+  challenge-bits : Meets f n challenge → bits (f n challenge .table) ≡ 1
+  unfolding bits opened
+  challenge-bits p = ap bits (p .table-is ∙ ap (λ (y : Served). y .table) challenge-served)
+
+  challenge-number : Meets f n challenge → number (f n challenge .buffer) ≡ 1
+  unfolding number opened
+  challenge-number p = ap number (p .buffer-is ∙ ap (λ (y : Served). y .buffer) challenge-served)
+
+  nought-used : Meets f n nought → used (f n nought .vectors) ≡ 0
+  unfolding used opened
+  nought-used p = ap used (p .vectors-is ∙ ap (λ (y : Served). y .vectors) nought-served)
+
+-- 6. one that sends the same vector again: it marks none, whatever else it does
+unmarking : (Lent → ℕ) → (Lent → List ℕ) → (Lent → List ℕ) → Server
+unmarking word after bytes n x = record { word = word x; table = after x; vectors = x .vectors; buffer = bytes x }
+
+unmarking-fails : (word : Lent → ℕ) (after bytes : Lent → List ℕ) (n : ℕ) → Meets (unmarking word after bytes) n challenge → ⊥
+unfolding unmarking challenge used opened
+unmarking-fails word after bytes n p = omega (arith, challenge-used (unmarking word after bytes) n p)
+
+-- 7. one that says the number asked, 2, for the number sent
+asked-fails : (f : Server) (n : ℕ) → number (f n challenge .buffer) ≡ 2 → Meets f n challenge → ⊥
+asked-fails f n e p = omega (arith, e, challenge-number f n p)
+
+-- 8. one that clears pending
+cleared-fails : (f : Server) (n : ℕ) → bits (f n challenge .table) ≡ 0 → Meets f n challenge → ⊥
+cleared-fails f n e p = omega (arith, e, challenge-bits f n p)
+
+-- 9. one that uses a vector though it answers with an error
+wasting-fails : (f : Server) (n : ℕ) → used (f n nought .vectors) ≡ 1 → Meets f n nought → ⊥
+wasting-fails f n e p = omega (arith, e, nought-used f n p)
+
+-- Document 02 [2]. A SAR of type 12, B5004, whose 614 stands at 144; and a SAR of type 1 with a second identity, which stands at 128: B5009, a decision's.
+faulty : Lent
+faulty = lent (assignment 12 s) (one 0 1 s) [] [] room
+
+second : Lent
+second =
+    let own = vendorBytes 602 s ++ (vendorNumber 614 1 ++ vendorNumber 624 1) in
+    lent (request 301 (common ++ (vendorBytes 601 (0x61 ∷ []) ++ (vendorBytes 601 (0x62 ∷ []) ++ own)))) (one 0 1 s) [] [] room
+
+faulty-call : serve faulty .call ≡ Answered (record { length = 140; place = 144 })
+unfolding opened faulty
+faulty-call = ap (λ (y : Served). y .call) (come faulty {y = known false (Sound 1) (Sound 0) faulty} roomy registered-sound no-vectors refl)
+
+second-served : serve second ≡ record {
+  call = Answered (record { length = 140; place = 0 });
+  table = one 0 1 s;
+  vectors = [];
+  buffer = over (answer (numberBytes 268 5009) (failed (vendorHead 601 13 ++ (0x62 ∷ [])))) room;
+}
+unfolding opened second
+second-served = come second roomy registered-sound no-vectors refl
+
+module _ (f : Server) (n : ℕ) where
+  faulty-place : Meets f n faulty → placeIn (f n faulty .word) ≡ 144
+  faulty-place p = ap placeIn (p .word-is ∙ ap callWord faulty-call)
+
+  second-place : Meets f n second → placeIn (f n second .word) ≡ 0
+  second-place p = ap placeIn (p .word-is ∙ ap (λ (y : Served). callWord (y .call)) second-served)
+
+-- 10. one that says another place than that of the AVP at fault, or none
+misplaced-fails : (f : Server) (n : ℕ) → placeIn (f n faulty .word) ≢ 144 → Meets f n faulty → ⊥
+misplaced-fails f n h p = h (faulty-place f n p)
+
+-- 11. one that says a place where a decision, and no reading rule, blames an AVP, though Failed-AVP holds it
+blaming-fails : (f : Server) (n : ℕ) → placeIn (f n second .word) ≢ 0 → Meets f n second → ⊥
+blaming-fails f n h p = h (second-place f n p)
