@@ -31,7 +31,7 @@ use Rattle.reading.specs.Groups.{countOf, enough, enoughAt, gathers}
 -- the table by the group
 module _ (d : Dialect) (g : Group) where
   module _ (k : ℕ) (r : Member) where
-    pub member-application : g ≡ Application → r ≡ getD (applicationMembers (d .application)) k nobody → r ≡ getD (membersOf d g) k nobody
+    pub member-application : g ≡ Application → r ≡ getD (applicationMembers (d .terms .application)) k nobody → r ≡ getD (membersOf d g) k nobody
     unfolding membersOf
     member-application e m = m ∙ rw e
 

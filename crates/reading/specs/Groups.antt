@@ -32,7 +32,7 @@ unfoldable pub itemMembers : List Member
 itemMembers = member 608 10415 Free false ∷ []
 
 unfoldable pub membersOf : Dialect → Group → List Member
-membersOf d Application = applicationMembers (d .application)
+membersOf d Application = applicationMembers (d .terms .application)
 membersOf d AuthDataItem = itemMembers
 
 -- an AVP of such a code and vendor; such a member: it passes (c) and holds what it must

@@ -74,8 +74,9 @@ fn item_member(k: usize) -> Member
 fn member_of(d: Dialect, g: Group, k: usize) -> Member
     ensures { λ r. ⌜ r ≡ getD (membersOf d g) k nobody ⌝ }
 {
+    let terms = d.terms;
     match g {
-        Group::Application => application_member(d.application, k),
+        Group::Application => application_member(terms.application, k),
         Group::AuthDataItem => item_member(k),
     }
 }

@@ -7,8 +7,10 @@ pub complete-spec : {M : Type 1} → statement M
 complete-spec =
     tie.close
     (tie.spec
+    (λ c. search needs)
+    (λ c. search needs)
     (λ c κs. search needs)
     (λ c κs. search needs)
     (λ c. search (needs, complete-lacking))
-    (λ c. search (needs, complete-whole))
-    (λ c. search (needs, complete-bad)))
+    (λ c. search (needs, complete-bad, complete-whole))
+    (λ c. search (needs, complete-bad, complete-whole)))
