@@ -12,7 +12,8 @@ use Rattle.diameter.specs.Message.{bodyOf}
 use Rattle.failed.specs.Failing.{failedOf, example, failedBy}
 use Rattle.reading.specs.declared.Verdict.{Verdict}
 use Rattle.choices.specs.declared.Given.{Given}
-use Rattle.reply.specs.Answer.{failedPart, proxies, givenBytes, endBytes, restBytes}
+use Rattle.reply.specs.Pieces.{givenBytes}
+use Rattle.answering.specs.Answer.{failedPart, proxies, endBytes, restBytes}
 use Rattle.reply.proofs.Rooms.{room-left, room-right}
 
 -- Failed-AVP: of a kind that is missing, of the AVP at a place, or none.

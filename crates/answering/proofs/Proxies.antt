@@ -17,7 +17,7 @@ use Rattle.diameter.proofs.Reading.{read-says, read-fault-says, walk-past}
 use Rattle.pen.specs.Bytes.{copied, copiedSize, ifThere}
 use Rattle.pen.proofs.Sizes.{copied-length}
 use Rattle.reading.specs.Kinds.{kindOf, proxyInfo}
-use Rattle.reply.specs.Answer.{proxy, proxies}
+use Rattle.answering.specs.Answer.{proxy, proxies}
 
 -- what was written fits where it stands
 pub wrote-fits : {w b xs : List ℕ} {n : ℕ} → Wrote w b xs n → length xs ≡ length b → n ≤ length b

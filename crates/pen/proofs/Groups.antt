@@ -14,9 +14,9 @@ use Rattle.pen.specs.Groups.{vendorApplication, experimental, failed, fa
 use Rattle.pen.proofs.Sizes.{there-length, there-room, copied-length, vendorHead-length, group-length, vendorGroup-length}
 use Rattle.pen.proofs.Writers.{wrote-there, wrote-none}
 
-pub application-length : length vendorApplication ≡ 32
+pub application-length : (application : ℕ) → length (vendorApplication application) ≡ 32
 unfolding vendorApplication group numberBytes
-application-length = refl
+application-length application = refl
 
 pub experimental-length : (n : ℕ) → length (experimental n) ≡ 32
 unfolding experimental group numberBytes

@@ -1,23 +1,19 @@
--- "The answer", byte by byte: of the request, the table, the profile file, the vector file and what a decision gives, which names blocks by their numbers.
+-- "The answer" in pieces: its header, what every answer has, and what a decision gives, which names blocks by their numbers.
 use Prim.Native.Nat.{ℕ, _+_, _*_, _/_, _%_}
 use mathlib.Core.List.{List, [], _∷_, _++_}
-use mathlib.Core.Option.{Option, none, some}
 use mathlib.Core.Bool.{cond}
 use lib.ListN.{length, getD, take, drop}
 use lib.Dec.{eqb, ltb}
 use Rattle.record.specs.Fields.{hostOf, realmOf, privateOf, publicOf, serverOf, mandatoryOf, optionalOf}
 use Rattle.blocks.specs.Blocks.{blockOf, ofBlock}
-use Rattle.diameter.specs.Walk.{Walk, ended, faulty, avp}
 use Rattle.pen.specs.Bytes.{copied, avpBytes, vendorBytes, numberBytes, ifThere}
-use Rattle.pen.specs.Groups.{vendorApplication, experimental, capabilities, failed}
-use Rattle.reading.specs.Kinds.{kindOf, proxyInfo}
+use Rattle.pen.specs.Groups.{vendorApplication, experimental, capabilities}
 use Rattle.diameter.specs.Message.{bodyOf}
 use Rattle.requests.specs.Request.{sessionOf}
 use Rattle.reading.specs.Verdicts.{numberOf}
 use Rattle.reading.specs.declared.Outcome.{Outcome}
 use Rattle.reading.specs.declared.Outcome.the-variants.{Base, Experimental}
-use Rattle.reading.specs.declared.Verdict.{Verdict}
-use Rattle.failed.specs.Failing.{failedBy}
+use Rattle.reading.specs.declared.Terms.{Terms}
 use Rattle.choices.specs.declared.Given.{Given}
 use Rattle.items.specs.Items.{sentBytes}
 use Rattle.parts.specs.Profile.{profileAt}
@@ -35,14 +31,14 @@ abbrev pub vendorNamed : ℕ → List ℕ → List ℕ
 vendorNamed code d = ifThere (ltb 0 (length d)) (vendorBytes code d)
 
 -- "Then Session-Id ..; 260 (266, 258); Result-Code 268 or Experimental-Result 297; 277 of 1; 264; 296"; h is the table's header block
-unfoldable pub frontBytes : List ℕ → Outcome → List ℕ
-frontBytes session result = copied session ++ vendorApplication ++ resultBytes result ++ numberBytes 277 1
+unfoldable pub frontBytes : Terms → List ℕ → Outcome → List ℕ
+frontBytes terms session result = copied session ++ vendorApplication (terms .application) ++ resultBytes result ++ numberBytes 277 1
 
 unfoldable pub originBytes : List ℕ → List ℕ
 originBytes h = avpBytes 264 (hostOf h) ++ avpBytes 296 (realmOf h)
 
-unfoldable pub topBytes : List ℕ → List ℕ → Outcome → List ℕ
-topBytes req t result = frontBytes (sessionOf (bodyOf req)) result ++ originBytes (blockOf t 0)
+unfoldable pub topBytes : Terms → List ℕ → List ℕ → Outcome → List ℕ
+topBytes terms req t result = frontBytes terms (sessionOf (bodyOf req)) result ++ originBytes (blockOf t 0)
 
 -- "User-Name ..", of a SAR and a MAR, and a MAR's "Public-Identity"; "Server-Name where a decision gives one"
 unfoldable pub identityBytes : List ℕ → Given → List ℕ
@@ -59,28 +55,6 @@ dataBytes t file g = capabilities (ofBlock mandatoryOf t (g .capable)) (ofBlock 
 unfoldable pub givenBytes : List ℕ → List ℕ → List ℕ → Given → List ℕ
 givenBytes t file v g = nameBytes t g ++ (sentBytes v (g .sent) ++ dataBytes t file g)
 
--- "Failed-AVP 279; every Proxy-Info before the first length fault, other faults or not"
-abbrev pub failedPart : Option (List ℕ) → List ℕ
-failedPart none = []
-failedPart (some a) = failed a
-
-unfoldable pub proxy : List ℕ → List ℕ
-proxy a = ifThere (eqb (kindOf a) proxyInfo) (copied a)
-
-unfoldable pub proxies : Walk → List ℕ
-proxies ended = []
-proxies (faulty t) = []
-proxies (avp a w) = proxy a ++ proxies w
-
-unfoldable pub endBytes : List ℕ → Verdict → List ℕ
-endBytes req v = failedPart (failedBy req v) ++ proxies (bodyOf req)
-
-unfoldable pub restBytes : List ℕ → List ℕ → List ℕ → List ℕ → Given → List ℕ
-restBytes req t file v g = givenBytes t file v g ++ endBytes req (g .verdict)
-
-unfoldable pub bodyBytes : List ℕ → List ℕ → List ℕ → List ℕ → Given → List ℕ
-bodyBytes req t file v g = topBytes req t (g .verdict .result) ++ restBytes req t file v g
-
 -- "Header: version 1, flags P as received and E exactly for 3xxx, no others, length its own, the rest as received."
 unfoldable pub flagsOf : ℕ → Outcome → ℕ
 flagsOf flags result = flags / 64 % 2 * 64 + cond (eqb (numberOf result / 1000) 3) 32 0
@@ -90,6 +64,3 @@ startBytes n flags = 1 ∷ n / 65536 % 256 ∷ n / 256 % 256 ∷ n % 256 ∷ fla
 
 unfoldable pub headerBytes : List ℕ → Outcome → ℕ → List ℕ
 headerBytes req result n = startBytes n (flagsOf (getD req 4 0) result) ++ take 15 (drop 5 req)
-
-unfoldable pub answerBytes : List ℕ → List ℕ → List ℕ → List ℕ → Given → List ℕ
-answerBytes req t file v g = headerBytes req (g .verdict .result) (20 + length (bodyBytes req t file v g)) ++ bodyBytes req t file v g

@@ -16,7 +16,7 @@ use Rattle.pen.proofs.Sizes.{copied-length, there-length}
 use Rattle.reading.specs.Kinds.{kindOf, sessionId, proxyInfo}
 use Rattle.diameter.specs.Message.{bodyOf}
 use Rattle.requests.specs.Request.{sessionOf}
-use Rattle.reply.specs.Answer.{proxy, proxies}
+use Rattle.answering.specs.Answer.{proxy, proxies}
 
 -- one AVP of a walk: it is Session-Id or Proxy-Info, and not both
 session-or-proxy : (a : List ℕ) (w : Walk) → copiedSize (length (sessionOf (avp a w))) + length (proxies (avp a w)) ≤ copiedSize (length a) + length (proxies w)
