@@ -23,7 +23,7 @@ fn claim_record(b: &[u8], known: bool, user: &[u8], scheme: &[u8], some: bool) -
     Claimed {
         known,
         together: name::same(fields::private(b), user),
-        served: name::same(scheme, b"Digest-AKAv1-MD5"),
+        served: name::same(scheme, &vectors::SCHEME),
         some,
     }
 }
