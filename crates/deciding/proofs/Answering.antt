@@ -20,22 +20,23 @@ use Rattle.choices.specs.Given.{givenFault}
 use Rattle.choices.specs.declared.Given.{Given}
 use Rattle.choices.specs.declared.plan.Plan.{Plan}
 use Rattle.reply.specs.Answer.{answerBytes}
-use Rattle.fitting.specs.Decide.{assignmentOf, planRead, performed, decideJudged, decide}
-use Rattle.fitting.specs.Deeds.{carriedOut, spentBy, DeedFits}
-use Rattle.fitting.proofs.Deeds as deeds
-use Rattle.fitting.proofs.Room.{answer-most, decide-light}
+use Rattle.deciding.specs.Plans.{planRead}
+use Rattle.deciding.specs.Decide.{performedBy, judgedBy, decideBy, decide}
+use Rattle.deciding.specs.Deeds.{carriedOut, spentBy, DeedFits}
+use Rattle.deciding.proofs.Deeds as deeds
+use Rattle.deciding.proofs.Room.{answer-most, decide-light}
 use Rattle.deciding.specs.Passed.{Passed}
 use Rattle.deciding.specs.Answers.{Tells}
 
 -- A fault: its verdict is given, and table and vectors stay.
 module _ (req t : List ℕ) (count : ℕ) (v : List ℕ) (f : Verdict) (is : readRequest req ≡ bad f) where
   pub fault-given : (g : Given) → g ≡ givenFault f → g ≡ decide req t count v .given
-  unfolding decide decideJudged
+  unfolding decideBy judgedBy
   fault-given g e = e ∙ rw is
 
   pub fault-tells : (file before after : List ℕ) (g : Given) (n : ℕ) → g ≡ givenFault f → Wrote (answerBytes req t file v g) before after n
       → Tells req t count file v before after (record { length = n; place = f .place; result = f .result; altered = 0 })
-  unfolding decide decideJudged
+  unfolding decideBy judgedBy
   fault-tells file before after g n e w =
       record {
         answers = rw (fault-given g e) at w;
@@ -48,31 +49,31 @@ module _ (req t : List ℕ) (count : ℕ) (v : List ℕ) (f : Verdict) (is : rea
   fault-near o p = omega (arith, p .most, read-placed req f (p .least) is .within)
 
   pub fault-table : t ≡ decide req t count v .table
-  unfolding decide decideJudged
+  unfolding decideBy judgedBy
   fault-table = rw is
 
   pub fault-vectors : v ≡ decide req t count v .vectors
-  unfolding decide decideJudged
+  unfolding decideBy judgedBy
   fault-vectors = rw is
 
 -- No fault: what is given, the table and the vectors are the plan's.
 module _ (req t : List ℕ) (count : ℕ) (v : List ℕ) (seen : Seen) (is : readRequest req ≡ fine seen) (p : Plan) (plans : p ≡ planRead req t count v seen) where
   pub plan-given : p .given ≡ decide req t count v .given
-  unfolding decide decideJudged performed
+  unfolding decideBy judgedBy performedBy
   plan-given = rw (plans, is)
 
-  pub plan-table : {y : List ℕ} → y ≡ carriedOut t count (assignmentOf t seen req) (p .deed) → y ≡ decide req t count v .table
-  unfolding decide decideJudged performed
+  pub plan-table : {y : List ℕ} → y ≡ carriedOut req t count seen (p .deed) → y ≡ decide req t count v .table
+  unfolding decideBy judgedBy performedBy
   plan-table e = e ∙ rw (plans, is)
 
   pub plan-vectors : {y : List ℕ} → y ≡ spentBy v (p .given .sent) (p .deed) → y ≡ decide req t count v .vectors
-  unfolding decide decideJudged performed
+  unfolding decideBy judgedBy performedBy
   plan-vectors e = e ∙ rw (plans, is)
 
   pub plan-tells : (file before after : List ℕ) (n altered : ℕ) {y : List ℕ} → Wrote (answerBytes req t file v (p .given)) before after n
-      → y ≡ carriedOut t count (assignmentOf t seen req) (p .deed) → altered ≡ alteredUpTo t y count
+      → y ≡ carriedOut req t count seen (p .deed) → altered ≡ alteredUpTo t y count
       → Tells req t count file v before after (record { length = n; place = 0; result = p .given .verdict .result; altered = altered })
-  unfolding decide decideJudged performed
+  unfolding decideBy judgedBy performedBy
   plan-tells file before after n altered w e a =
       record {
         answers = rw plan-given at w;

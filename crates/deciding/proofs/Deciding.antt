@@ -37,8 +37,8 @@ use Rattle.decisions.specs.Authorization.{authorize}
 use Rattle.decisions.specs.Location.{locate}
 use Rattle.assignment.specs.Assignment.{findAll, numbersOf, ownedUpTo, assign, storedName, plannedRecords}
 use Rattle.assignment.specs.Survey.{sarOf}
-use Rattle.fitting.specs.Decide.{numbersIn, assignmentOf, uarPlan, sarPlan, lirPlan, marPlan, planRead}
-use Rattle.fitting.specs.Deeds.{carriedOut, spentBy, DeedFits}
+use Rattle.deciding.specs.Plans.{numbersIn, assignmentOf, uarPlan, sarPlan, lirPlan, marPlan, planRead}
+use Rattle.deciding.specs.Deeds.{carriedOut, spentBy, DeedFits}
 
 pub numbers-read : (t : List ℕ) (seen : Seen) {n already : ℕ} {kind : AssignmentType} {named keep : Bool} → n ≡ valueSeen seen assignmentType → kind ≡ typeOf n
     → already ≡ valueSeen seen dataAvailable → named ≡ given seen userName → keep ≡ eqb (keepOf (blockOf t 0)) 1
@@ -94,33 +94,33 @@ module _ (t : List ℕ) (count : ℕ) (req : List ℕ) (seen : Seen) where
   module _ (w : Settling) where
     pub settled-owned : {name server user y : List ℕ} → name ≡ dataSeen seen serverName → server ≡ storedName (w .named) name → user ≡ dataSeen seen userName
         → w .owned ≡ true → y ≡ afterOf t count (reaches t (ownedUpTo t user count)) (settled (w .state) server)
-        → y ≡ carriedOut t count (assignmentOf t seen req) (Settle w)
+        → y ≡ carriedOut req t count seen (Settle w)
     unfolding carriedOut plannedRecords assignmentOf
     settled-owned a b c e f = rw e (f ∙ rw (b, a, c))
 
     pub settled-named : {name server y : List ℕ} → name ≡ dataSeen seen serverName → server ≡ storedName (w .named) name → w .owned ≡ false
         → y ≡ afterOf t count (reaches t (numbersOf (findAll t count (identities (bodyOf req))))) (settled (w .state) server)
-        → y ≡ carriedOut t count (assignmentOf t seen req) (Settle w)
+        → y ≡ carriedOut req t count seen (Settle w)
     unfolding carriedOut plannedRecords assignmentOf
     settled-named a b e f = rw e (f ∙ rw (b, a))
 
   pub challenged-set : (k : ℕ) {c : Change} {name y : List ℕ} → c ≡ Challenged → name ≡ dataSeen seen serverName
-      → y ≡ afterOf t count (reaches t (k ∷ [])) (changeOf c name) → y ≡ carriedOut t count (assignmentOf t seen req) (Challenge k)
+      → y ≡ afterOf t count (reaches t (k ∷ [])) (changeOf c name) → y ≡ carriedOut req t count seen (Challenge k)
   unfolding carriedOut assignmentOf changeOf
   challenged-set k b e f = f ∙ rw (b, e)
 
   -- by the deed
   module _ (d : Deed) where
-    pub done-leave : d ≡ Leave → t ≡ carriedOut t count (assignmentOf t seen req) d
+    pub done-leave : d ≡ Leave → t ≡ carriedOut req t count seen d
     unfolding carriedOut
     done-leave e = rw e
 
-    pub done-settle : (w : Settling) {y : List ℕ} → d ≡ Settle w → y ≡ carriedOut t count (assignmentOf t seen req) (Settle w)
-        → y ≡ carriedOut t count (assignmentOf t seen req) d
+    pub done-settle : (w : Settling) {y : List ℕ} → d ≡ Settle w → y ≡ carriedOut req t count seen (Settle w)
+        → y ≡ carriedOut req t count seen d
     done-settle w e f = rw e f
 
-    pub done-challenge : (k : ℕ) {y : List ℕ} → d ≡ Challenge k → y ≡ carriedOut t count (assignmentOf t seen req) (Challenge k)
-        → y ≡ carriedOut t count (assignmentOf t seen req) d
+    pub done-challenge : (k : ℕ) {y : List ℕ} → d ≡ Challenge k → y ≡ carriedOut req t count seen (Challenge k)
+        → y ≡ carriedOut req t count seen d
     done-challenge k e f = rw e f
 
 pub left-counts : (t : List ℕ) (count : ℕ) → 0 ≡ alteredUpTo t t count

@@ -5,7 +5,7 @@ use mathlib.Core.Path.{_≡_}
 use Rattle.octets.specs.Run.{Wrote}
 use Rattle.rewrite.specs.Change.{alteredUpTo}
 use Rattle.reply.specs.Answer.{answerBytes}
-use Rattle.fitting.specs.Decide.{decide}
+use Rattle.deciding.specs.Decide.{decide}
 use Rattle.deciding.specs.declared.Told.{Told}
 
 -- the answer of the decision, and nothing past it

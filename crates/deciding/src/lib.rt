@@ -13,7 +13,7 @@ ghost use Rattle.vectors.specs.VectorFile.{SoundVectors};
 ghost use Rattle.reading.specs.Places.{seenOf};
 ghost use Rattle.requests.specs.Judged.{bad, fine};
 ghost use Rattle.requests.specs.Request.{readRequest};
-ghost use Rattle.fitting.specs.Decide.{decide};
+ghost use Rattle.deciding.specs.Decide.{decide};
 ghost use Rattle.deciding.specs.Passed.{Passed};
 ghost use Rattle.deciding.specs.Answers.{Tells};
 

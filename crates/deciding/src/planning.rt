@@ -24,8 +24,8 @@ ghost use Rattle.reading.specs.Kinds.{serverName};
 ghost use Rattle.reading.specs.Places.{seenOf};
 ghost use Rattle.requests.specs.Judged.{fine};
 ghost use Rattle.requests.specs.Request.{readRequest, dataSeen};
-ghost use Rattle.fitting.specs.Decide.{numbersIn, uarPlan, sarPlan, lirPlan, marPlan, planRead};
-ghost use Rattle.fitting.specs.Deeds.{DeedFits};
+ghost use Rattle.deciding.specs.Plans.{numbersIn, uarPlan, sarPlan, lirPlan, marPlan, planRead};
+ghost use Rattle.deciding.specs.Deeds.{DeedFits};
 
 // Whether the header says that names are kept.
 fn keep(t: &[u8]) -> bool

@@ -39,9 +39,11 @@ use Rattle.parts.specs.Profile.{profileAt}
 use Rattle.parts.proofs.Fields as parts
 use Rattle.reply.specs.Answer.{failedPart, answerBytes}
 use Rattle.reply.proofs.Lengths.{answer-length}
-use Rattle.fitting.specs.Decide.{assignmentOf, uarPlan, sarPlan, lirPlan, marPlan, planRead, performed, decideJudged, decide}
-use Rattle.fitting.proofs.Blameless.{Blameless, Plain, carried-plain, plan-plain}
-use Rattle.fitting.proofs.Tests.{either}
+use Rattle.deciding.specs.Plans.{assignmentOf, uarPlan, sarPlan, lirPlan, marPlan, planRead}
+use Rattle.deciding.specs.Rules.{inForce}
+use Rattle.deciding.specs.Decide.{performedBy, judgedBy, decideBy, decide}
+use Rattle.deciding.proofs.Blameless.{Blameless, Plain, carried-plain, plan-plain}
+use Rattle.deciding.proofs.Tests.{either}
 
 -- What Failed-AVP holds is no more than the request itself, or an example.
 holds-short : (a : List ℕ) → length a ≤ 16384 → length (failedPart (some a)) ≤ 16400
@@ -82,15 +84,15 @@ challenge-light v (Denied r) k sent h = (inl refl, none-sendable v)
 challenge-light v Fine k sent h = (inl refl, h)
 
 pub decide-light : (req t : List ℕ) (count : ℕ) (v : List ℕ) → SoundVectors v → Light v (decide req t count v .given)
-unfolding decide decideJudged performed planRead uarPlan sarPlan lirPlan marPlan authorize authorizeFound locate locateFound
+unfolding decideBy judgedBy performedBy planRead uarPlan sarPlan lirPlan marPlan authorize authorizeFound locate locateFound
     authenticate authenticateFound toSend
 decide-light req t count v vectors = go (readRequest req)
   where
-    go : (j : Judged) → Light v (decideJudged req t count v j .given)
+    go : (j : Judged) → Light v (judgedBy inForce req t count v j .given)
     go (bad f) = (inl refl, none-sendable v)
     go (fine seen) =
         either (λ (p : Plan). Light v (p .given)) (eqb (commandOf req) 300) (carried-light v t count _ _ _)
-        (either (λ (p : Plan). Light v (p .given)) (eqb (commandOf req) 301) (assign-light t count v (assignmentOf t seen req))
+        (either (λ (p : Plan). Light v (p .given)) (eqb (commandOf req) 301) (assign-light t count v (assignmentOf req t seen))
         (either (λ (p : Plan). Light v (p .given)) (eqb (commandOf req) 302) (carried-light v t count _ _ _)
         (challenge-light v _ _ _ (unused-sendable v (dataSeen seen userName) _ vectors (omega arith)))))
 

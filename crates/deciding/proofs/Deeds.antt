@@ -30,8 +30,8 @@ use Rattle.decisions.specs.Authentication.{claimedOf, authenticateFound, authen
 use Rattle.lookup.proofs.Among.{public-among}
 use Rattle.assignment.specs.Assignment.{Assignment, assign, storedName}
 use Rattle.assignment.proofs.Rows.{Decided, alone, owned, named, assign-decided, row-fits}
-use Rattle.fitting.specs.Decide.{assignmentOf, uarPlan, sarPlan, lirPlan, marPlan, planRead}
-use Rattle.fitting.specs.Deeds.{DeedFits}
+use Rattle.deciding.specs.Plans.{assignmentOf, uarPlan, sarPlan, lirPlan, marPlan, planRead}
+use Rattle.deciding.specs.Deeds.{DeedFits}
 
 -- A SAR.
 module _ (count : ℕ) (server : List ℕ) (least : 1 ≤ length server) (most : length server ≤ 96) where
@@ -73,7 +73,7 @@ module _ (req t : List ℕ) (count : ℕ) (v : List ℕ) (seen : Seen) (sound : 
 
   sar-fits : commandOf req ≡ 301 → DeedFits count server (sarPlan req t count seen .deed)
   unfolding sarPlan
-  sar-fits c = assign-fits count server (server-least req seen is (inl c)) (server-most req seen is) t (assignmentOf t seen req)
+  sar-fits c = assign-fits count server (server-least req seen is (inl c)) (server-most req seen is) t (assignmentOf req t seen)
 
   mar-fits : (commandOf req ≡ 300 → ⊥) → (commandOf req ≡ 301 → ⊥) → (commandOf req ≡ 302 → ⊥) → DeedFits count server (marPlan t count v seen .deed)
   unfolding marPlan authenticate

@@ -1,4 +1,4 @@
--- "Decisions": what one request over a sound table of count records and a sound vector file comes to.
+-- "Decisions": what is planned for a request that was read, by its command. Nothing is written yet.
 use Prim.Native.Nat.{ℕ}
 use mathlib.Core.List.{List}
 use mathlib.Core.Bool.{cond}
@@ -8,33 +8,17 @@ use Rattle.blocks.specs.Blocks.{blockOf}
 use Rattle.reading.specs.Kinds.{userName, publicIdentity, visitedNetwork, serverName, assignmentType, dataAvailable, authorizationType}
 use Rattle.reading.specs.Kinds.{numberAuthItems}
 use Rattle.reading.specs.Rules.{Seen}
-use Rattle.requests.specs.Judged.{Judged, bad, fine}
 use Rattle.diameter.specs.Message.{commandOf, bodyOf}
-use Rattle.requests.specs.Request.{readRequest, given, dataSeen, valueSeen, schemeOf, identities}
+use Rattle.requests.specs.Request.{given, dataSeen, valueSeen, schemeOf, identities}
 use Rattle.requests.specs.Identity.{placesFrom}
-use Rattle.reading.specs.declared.Verdict.{Verdict}
 use Rattle.choices.specs.Types.{typeOf}
-use Rattle.choices.specs.Given.{givenFault}
 use Rattle.choices.specs.Plans.{only}
-use Rattle.choices.specs.declared.Given.{Given}
 use Rattle.choices.specs.declared.plan.Sar.{Sar}
 use Rattle.choices.specs.declared.plan.Plan.{Plan}
 use Rattle.decisions.specs.Authentication.{authenticate}
 use Rattle.decisions.specs.Authorization.{authorize}
 use Rattle.decisions.specs.Location.{locate}
 use Rattle.assignment.specs.Assignment.{Assignment, assign}
-use Rattle.fitting.specs.Deeds.{carriedOut, spentBy}
-
--- A decision: what the answer carries, "the place of the AVP at fault, or 0 when no AVP of the request is at fault", the table and the vector file afterwards
-pub record Decision : Type 0 where
-  pub given : Given
-  pub place : ℕ
-  pub table : List ℕ
-  pub vectors : List ℕ
-
--- a fault that reading found: nothing is altered
-abbrev pub faulted : List ℕ → List ℕ → Verdict → Decision
-faulted t v f = record { given = givenFault f; place = f .place; table = t; vectors = v }
 
 -- what a SAR says, and the header's keep
 abbrev pub numbersIn : List ℕ → Seen → Sar
@@ -46,8 +30,8 @@ numbersIn t seen =
       keep = eqb (keepOf (blockOf t 0)) 1;
     }
 
-unfoldable pub assignmentOf : List ℕ → Seen → List ℕ → Assignment
-assignmentOf t seen req =
+unfoldable pub assignmentOf : List ℕ → List ℕ → Seen → Assignment
+assignmentOf req t seen =
     record {
       numbers = numbersIn t seen;
       server = dataSeen seen serverName;
@@ -62,7 +46,7 @@ uarPlan t count seen =
     only (authorize t count (dataSeen seen userName) (dataSeen seen publicIdentity) (dataSeen seen visitedNetwork) (valueSeen seen authorizationType))
 
 unfoldable pub sarPlan : List ℕ → List ℕ → ℕ → Seen → Plan
-sarPlan req t count seen = assign t count (assignmentOf t seen req)
+sarPlan req t count seen = assign t count (assignmentOf req t seen)
 
 unfoldable pub lirPlan : List ℕ → ℕ → Seen → Plan
 lirPlan t count seen = only (locate t count (dataSeen seen publicIdentity))
@@ -78,14 +62,3 @@ planRead req t count v seen =
     (cond (eqb (commandOf req) 301) (sarPlan req t count seen)
     (cond (eqb (commandOf req) 302) (lirPlan t count seen)
     (marPlan t count v seen)))
-
--- what a plan comes to once it is carried out. What a decision says is no AVP's fault, a SAR's second identity neither
-unfoldable pub performed : List ℕ → ℕ → List ℕ → Assignment → Plan → Decision
-performed t count v s p = record { given = p .given; place = 0; table = carriedOut t count s (p .deed); vectors = spentBy v (p .given .sent) (p .deed) }
-
-unfoldable pub decideJudged : List ℕ → List ℕ → ℕ → List ℕ → Judged → Decision
-decideJudged req t count v (bad f) = faulted t v f
-decideJudged req t count v (fine seen) = performed t count v (assignmentOf t seen req) (planRead req t count v seen)
-
-unfoldable pub decide : List ℕ → List ℕ → ℕ → List ℕ → Decision
-decide req t count v = decideJudged req t count v (readRequest req)
