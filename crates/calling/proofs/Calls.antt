@@ -13,8 +13,8 @@ use Rattle.blocks.specs.declared.Checked.{Checked}
 use Rattle.blocks.specs.declared.Checked.the-variants.{Sound, Bad}
 use Rattle.table.specs.SoundTable.{SoundTable}
 use Rattle.vectors.specs.VectorFile.{checkVectors, SoundVectors}
-use Rattle.fitting.specs.Decide.{decide}
-use Rattle.fitting.proofs.Tests.{neither}
+use Rattle.deciding.specs.Decide.{decide}
+use Rattle.deciding.proofs.Tests.{neither}
 use Rattle.deciding.specs.Passed.{Passed}
 use Rattle.deciding.specs.Answers.{Tells}
 use Rattle.deciding.specs.declared.Told.{Told}
@@ -22,7 +22,7 @@ use Rattle.calling.specs.declared.Came.{Came}
 use Rattle.calling.specs.declared.Came.the-variants as came
 use Rattle.calling.specs.Lent.{Lent, lent}
 use Rattle.calling.specs.Trial.{tried}
-use Rattle.calling.specs.Serve.{refused, answered, smallBuffer, wrongSize, wrongLength, noRequest, checkOf, checkValue, serve}
+use Rattle.calling.specs.Serve.{refused, answered, smallBuffer, wrongSize, wrongLength, noRequest, checkOf, checkValue, serveFound, serveBy, serve}
 use Rattle.calling.specs.Leaves.{Leaves, early, serveChecked}
 
 pub length-all : (req : List ℕ) {n : ℕ} → n ≡ be24At req 1 → (not (eqb n (length req)) || not (eqb (length req % 4) 0)) ≡ wrongLength req
@@ -63,25 +63,25 @@ size-flags req e = omega (arith, size-least req e)
 -- The first four, in their order.
 module _ (req o : List ℕ) where
   pub early-buffer : length o < 36864 → 1 ≡ early req o
-  unfolding early
+  unfolding early tried
   early-buffer a = rw (lt-ltb (length o) 36864 a)
 
   module _ (room : 36864 ≤ length o) where
     pub early-size : wrongSize req ≡ true → 2 ≡ early req o
-    unfolding early
+    unfolding early tried
     early-size a = rw (le-ltb (length o) 36864 room, a)
 
     module _ (fits : wrongSize req ≡ false) {w : Bool} (is : w ≡ wrongLength req) where
       pub early-length : w ≡ true → 3 ≡ early req o
-      unfolding early
+      unfolding early tried
       early-length a = rw (le-ltb (length o) 36864 room, fits, sym is ∙ a)
 
       pub early-answer : w ≡ false → getD req 4 0 < 128 → 4 ≡ early req o
-      unfolding early
+      unfolding early tried
       early-answer a b = rw (le-ltb (length o) 36864 room, fits, sym is ∙ a, lt-ltb (getD req 4 0) 128 b)
 
       pub early-none : w ≡ false → 128 ≤ getD req 4 0 → 0 ≡ early req o
-      unfolding early
+      unfolding early tried
       early-none a b = rw (le-ltb (length o) 36864 room, fits, sym is ∙ a, le-ltb (getD req 4 0) 128 b)
 
 -- what it says where none holds
@@ -92,7 +92,7 @@ record Lets (req o : List ℕ) : Type 0 where
   asks : noRequest req ≡ false
 
 lets : (req o : List ℕ) → early req o ≡ 0 → Lets req o
-unfolding early
+unfolding early tried
 lets req o e = go (smallBuffer o) (wrongSize req) (wrongLength req) (noRequest req) refl refl refl refl e
   where
     go : (a b c d : Bool) → smallBuffer o ≡ a → wrongSize req ≡ b → wrongLength req ≡ c → noRequest req ≡ d
@@ -117,7 +117,7 @@ module _ (req t file v o : List ℕ) where
   x = lent req t file v o
 
   early-refuses : (count : ℕ) → 0 < early req o → Leaves x (serve x) count (came.Refused (early req o) 0) t v o
-  unfolding early serve tried refused
+  unfolding early serveBy serveFound tried refused
   early-refuses count h = go (smallBuffer o) (wrongSize req) (wrongLength req) (noRequest req) refl refl refl refl h
     where
       go : (a b c d : Bool) → smallBuffer o ≡ a → wrongSize req ≡ b → wrongLength req ≡ c → noRequest req ≡ d
@@ -163,7 +163,7 @@ module _ (req t file v o : List ℕ) where
 
   pub rest-serves : (c d : Checked) {n count : ℕ} {r : Came} {t' v' o' : List ℕ} → n ≡ early req o → n ≤ 0 → c ≡ checkTable t (length file) → d ≡ checkVectors v
       → Leaves x (serveChecked x c d) count r t' v' o' → Leaves x (serve x) count r t' v' o'
-  unfolding serve tried serveChecked
+  unfolding serveBy serveFound tried serveChecked
   rest-serves c d e z f g s =
       let l = lets req o (none e z) in
       rw (l .room, l .size, l .long, l .asks, ← f, ← g) s

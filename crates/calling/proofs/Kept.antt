@@ -11,12 +11,12 @@ use Rattle.blocks.specs.declared.Checked.the-variants.{Sound, Bad}
 use Rattle.table.specs.SoundTable.{SoundTable}
 use Rattle.vectors.specs.VectorFile.{checkVectors, SoundVectors}
 use Rattle.rewrite.proofs.Sound.{keeping-sound}
-use Rattle.fitting.proofs.Kept.{decide-keeping, decide-vectors}
-use Rattle.fitting.proofs.Tests.{neither}
+use Rattle.deciding.proofs.Kept.{decide-keeping, decide-vectors}
+use Rattle.deciding.proofs.Tests.{neither}
 use Rattle.calling.specs.Lent.{Lent}
 use Rattle.calling.specs.Trial.{Trial, anyHolds}
 use Rattle.calling.specs.Serve.{Served, smallBuffer, wrongSize, wrongLength, noRequest, isBad, checkOf, checkValue, trials, refused, answered, decided}
-use Rattle.calling.specs.Serve.{serve}
+use Rattle.calling.specs.Serve.{serveFound, serveBy, serve}
 use Rattle.calling.proofs.Trials.{tried-by}
 
 -- a file that is not bad is sound
@@ -52,7 +52,7 @@ module _ (x : Lent) where
 
   -- what holds of refusals by 1 to 6, and of the answer over sound files, holds of the call
   pub serve-by : (P : Served → Type 0) → ((r : Trial) → 1 ≤ r .number → r .number ≤ 6 → P (refused x r)) → (Taken → P (answered x (decided x))) → P (serve x)
-  unfolding serve
+  unfolding serveBy serveFound
   serve-by P f o =
       tried-by (λ (b : Bool) (s : Served). anyHolds (trials x) ≡ b → P s) (λ r. (1 ≤ r .number) × (r .number ≤ 6)) (refused x) (answered x (decided x))
       (λ r q h e. f r (q .0) (q .1)) (λ e. o (taken e)) (trials x) (

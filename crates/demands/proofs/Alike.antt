@@ -36,9 +36,11 @@ use Rattle.decisions.specs.Location.{locateFound, locate}
 use Rattle.assignment.specs.Assignment.{Assignment, meantBy, found, firstOf, namedSurvey, ownedSurvey, assignMeant, assign, plannedRecords}
 use Rattle.assignment.specs.declared.Meant.{Meant}
 use Rattle.assignment.specs.declared.Meant.the-variants.{Fault, Owned, Listed}
-use Rattle.fitting.specs.Decide.{Decision, assignmentOf, uarPlan, sarPlan, lirPlan, marPlan, planRead, performed}
-use Rattle.fitting.specs.Deeds.{carriedOut, spentBy}
-use Rattle.fitting.proofs.Blameless.{Blameless, carried-plain, plan-plain}
+use Rattle.deciding.specs.Plans.{assignmentOf, uarPlan, sarPlan, lirPlan, marPlan, planRead}
+use Rattle.deciding.specs.Rules.{inForce}
+use Rattle.deciding.specs.Decide.{Decision, performedBy}
+use Rattle.deciding.specs.Deeds.{carriedOut, spentBy}
+use Rattle.deciding.proofs.Blameless.{Blameless, carried-plain, plan-plain}
 use Rattle.demands.proofs.Moved.{failed-there}
 
 -- of what is given the same is answered
@@ -105,17 +107,18 @@ module _ (long short : List ℕ) where
       go false = second-same o r (a .1 .0) (b .1 .0) (ap (λ (l : List (List ℕ)). getD l 1 []) e)
 
   module _ (t : List ℕ) (count : ℕ) (v : List ℕ) where
-    meant-same : (s : Assignment) (m n : Meant) → SameMeant m n
-        → SameDecision long short (performed t count v s (assignMeant t count s m)) (performed t count v s (assignMeant t count s n))
-    unfolding assignMeant performed carriedOut spentBy
-    meant-same s m n (fault x y e f) = record { given = fault-same x y e f; table = refl; vectors = refl }
-    meant-same s m n owned =
+    meant-same : (req : List ℕ) (seen : Seen) (s : Assignment) (m n : Meant) → SameMeant m n
+        → SameDecision long short (performedBy inForce req t count v seen (assignMeant t count s m))
+        (performedBy inForce req t count v seen (assignMeant t count s n))
+    unfolding assignMeant performedBy carriedOut spentBy
+    meant-same req seen s m n (fault x y e f) = record { given = fault-same x y e f; table = refl; vectors = refl }
+    meant-same req seen s m n owned =
         record {
           given = blameless-same _ (plan-plain (findingOf (ownedSurvey t count s) (s .numbers .kind)) (s .numbers) 0 true .0);
           table = refl;
           vectors = refl;
         }
-    meant-same s m n (named p q) =
+    meant-same req seen s m n (named p q) =
         record {
           given = blameless-same _ (plan-plain (findingOf (namedSurvey t count s) (s .numbers .kind)) (s .numbers) (firstOf (found t count s)) false .0);
           table = refl;
@@ -124,24 +127,24 @@ module _ (long short : List ℕ) where
 
     module _ (seen : Seen) (named-same : identities (bodyOf long) ≡ identities (bodyOf short)) where
       abbrev longer : Assignment
-      longer = assignmentOf t seen long
+      longer = assignmentOf long t seen
 
       abbrev shorter : Assignment
-      shorter = assignmentOf t seen short
+      shorter = assignmentOf short t seen
 
       -- a plan is carried out alike
-      carried-alike : (d : Deed) → carriedOut t count longer d ≡ carriedOut t count shorter d
+      carried-alike : (d : Deed) → carriedOut long t count seen d ≡ carriedOut short t count seen d
       unfolding carriedOut plannedRecords assignmentOf
       carried-alike Leave = refl
       carried-alike (Settle w) = rw named-same
       carried-alike (Challenge k) = refl
 
-      performed-alike : (p : Plan) → performed t count v longer p ≡ performed t count v shorter p
-      unfolding performed
+      performed-alike : (p : Plan) → performedBy inForce long t count v seen p ≡ performedBy inForce short t count v seen p
+      unfolding performedBy
       performed-alike p = rw (carried-alike (p .deed))
 
-      plan-alike : (p : Plan) → Blameless (p .given) → SameDecision long short (performed t count v longer p) (performed t count v shorter p)
-      unfolding performed
+      plan-alike : (p : Plan) → Blameless (p .given) → SameDecision long short (performedBy inForce long t count v seen p) (performedBy inForce short t count v seen p)
+      unfolding performedBy
       plan-alike p b = rw (← performed-alike p) (record { given = blameless-same (p .given) b; table = refl; vectors = refl })
 
       -- the same SAR but for the places
@@ -159,9 +162,9 @@ module _ (long short : List ℕ) where
           (places-stand long 20)
           (places-stand short 20)
 
-      sar-same : SameDecision long short (performed t count v longer (sarPlan long t count seen)) (performed t count v shorter (sarPlan short t count seen))
+      sar-same : SameDecision long short (performedBy inForce long t count v seen (sarPlan long t count seen)) (performedBy inForce short t count v seen (sarPlan short t count seen))
       unfolding sarPlan assign
-      sar-same = rw (performed-alike _, meant-alike _) (meant-same shorter _ _ places-alike)
+      sar-same = rw (performed-alike _, meant-alike _) (meant-same short seen shorter _ _ places-alike)
 
       challenge-blameless : (f : Finding) (k : ℕ) (sent : Sent) → Blameless (challengeOf f k sent .given)
       unfolding challengeOf
@@ -181,16 +184,16 @@ module _ (long short : List ℕ) where
       mar-blameless = challenge-blameless _ _ _
 
       pub plan-same : commandOf long ≡ commandOf short
-          → SameDecision long short (performed t count v longer (planRead long t count v seen)) (performed t count v shorter (planRead short t count v seen))
+          → SameDecision long short (performedBy inForce long t count v seen (planRead long t count v seen)) (performedBy inForce short t count v seen (planRead short t count v seen))
       unfolding planRead
       plan-same e =
           rw e (go (eqb (commandOf short) 300) (eqb (commandOf short) 301) (eqb (commandOf short) 302))
         where
           go : (x y z : Bool)
               → SameDecision long short
-              (performed t count v longer
+              (performedBy inForce long t count v seen
               (cond x (uarPlan t count seen) (cond y (sarPlan long t count seen) (cond z (lirPlan t count seen) (marPlan t count v seen)))))
-              (performed t count v shorter
+              (performedBy inForce short t count v seen
               (cond x (uarPlan t count seen) (cond y (sarPlan short t count seen) (cond z (lirPlan t count seen) (marPlan t count v seen)))))
           go true y z = plan-alike (uarPlan t count seen) uar-blameless
           go false true z = sar-same

@@ -20,7 +20,8 @@ use Rattle.requests.specs.Request.{readRequest}
 use Rattle.failed.specs.Failing.{failedOf, failedBy}
 use Rattle.choices.specs.Given.{givenFault}
 use Rattle.reply.specs.Answer.{identityBytes, nameBytes, dataBytes, givenBytes, endBytes, restBytes, bodyBytes, answerBytes}
-use Rattle.fitting.specs.Decide.{Decision, faulted, performed, decideJudged, decide}
+use Rattle.deciding.specs.Rules.{inForce}
+use Rattle.deciding.specs.Decide.{Decision, faulted, performedBy, judgedBy, decideBy, decide}
 use Rattle.calling.specs.Lent.{Lent}
 use Rattle.ndushavire.specs.Word.{callPlace}
 use Rattle.calling.specs.Serve.{checkOf, answered, serve, checkValue, resultOf}
@@ -43,7 +44,7 @@ module _ (req : List ℕ) (n place : ℕ) (shown : List ℕ) (is : failedBy req 
 
 fault-decides : (req : List ℕ) (n place : ℕ) → readRequest req ≡ bad (faultAt n place) → (t : List ℕ) (count : ℕ) (v : List ℕ)
     → decide req t count v ≡ faulted t v (faultAt n place)
-unfolding decide decideJudged
+unfolding decideBy judgedBy
 fault-decides req n place e t count v = rw e
 
 pub fault-answered : (x : Lent) (n place : ℕ) (shown : List ℕ) → failedBy (x .request) (faultAt n place) ≡ some shown
@@ -61,10 +62,10 @@ placeOf (bad v) = v .place
 placeOf (fine seen) = 0
 
 decide-place : (req t : List ℕ) (count : ℕ) (v : List ℕ) → decide req t count v .place ≡ placeOf (readRequest req)
-unfolding decide decideJudged performed
+unfolding decideBy judgedBy performedBy
 decide-place req t count v = go (readRequest req)
   where
-    go : (j : Judged) → decideJudged req t count v j .place ≡ placeOf j
+    go : (j : Judged) → judgedBy inForce req t count v j .place ≡ placeOf j
     go (bad f) = refl
     go (fine seen) = refl
 

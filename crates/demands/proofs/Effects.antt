@@ -23,7 +23,7 @@ use Rattle.vectors.specs.declared.choice.Sent.{Sent}
 use Rattle.diameter.specs.Avp.{dataOf}
 use Rattle.diameter.specs.Reader.{avpAt}
 use Rattle.diameter.specs.Message.{versionOf, messageFlags, commandOf, applicationOf, bodyOf}
-use Rattle.reading.specs.Kinds.{rowOf, known, useIn, userName, publicIdentity}
+use Rattle.reading.specs.Kinds.{rowOf, known, useIn, userName, publicIdentity, serverName}
 use Rattle.reading.specs.Rules.{Seen}
 use Rattle.reading.specs.Verdicts.{lackOf, faultOf, numberOf}
 use Rattle.reading.specs.declared.Outcome.{Outcome}
@@ -53,10 +53,12 @@ use Rattle.assignment.specs.Assignment.{namedSurvey, ownedSurvey, assign, store
 use Rattle.assignment.specs.declared.Meant.the-variants.{Fault, Owned, Listed}
 use Rattle.assignment.proofs.OwnTurns.{no-zero}
 use Rattle.assignment.proofs.Rows.{Decided, alone, owned, named, assign-decided, row-fits}
-use Rattle.fitting.specs.Decide.{Decision, assignmentOf, uarPlan, sarPlan, lirPlan, marPlan, planRead, performed, decideJudged, decide}
-use Rattle.fitting.specs.Deeds.{carriedOut, spentBy}
-use Rattle.fitting.proofs.Kept.{named-later}
-use Rattle.fitting.proofs.Tests.{either}
+use Rattle.deciding.specs.Plans.{assignmentOf, uarPlan, sarPlan, lirPlan, marPlan, planRead}
+use Rattle.deciding.specs.Rules.{inForce}
+use Rattle.deciding.specs.Decide.{Decision, performedBy, judgedBy, decideBy, decide}
+use Rattle.deciding.specs.Deeds.{carriedOut, spentBy}
+use Rattle.deciding.proofs.Kept.{named-later}
+use Rattle.deciding.proofs.Tests.{either}
 use Rattle.demands.specs.Frame.{succeeds, ownerAt, firstOwner, askedIn, subscriptionOf}
 
 -- It writes: a success, with one change, which keeps what every effect keeps, of records of one subscription, none of them the header, and of their sets. It
@@ -135,19 +137,23 @@ claim-is a = go (a .known) (a .together) (a .served) (a .some) refl
     go true true true true e = matching e
 
 -- The plans of a request that says `s`, by its command.
-module _ (command : ℕ) (t : List ℕ) (count : ℕ) (v : List ℕ) (s : Assignment) (least : 1 ≤ length (s .server)) (most : length (s .server) ≤ 96) where
+module _ (command : ℕ) (req t : List ℕ) (count : ℕ) (v : List ℕ) (seen : Seen) (least : 1 ≤ length (dataSeen seen serverName))
+    (most : length (dataSeen seen serverName) ≤ 96) where
+  abbrev s : Assignment
+  s = assignmentOf req t seen
+
   abbrev subscription : Option (List ℕ)
   subscription = cond (s .numbers .named) (some (s .user)) (firstOwner t count (s .identities))
 
   abbrev Cases : Plan → Type 0
   Cases p =
-      ((performed t count v s p .table ≡ t) × (performed t count v s p .vectors ≡ v)) ⊎ Altered command t count v subscription (performed t count v s p)
+      ((performedBy inForce req t count v seen p .table ≡ t) × (performedBy inForce req t count v seen p .vectors ≡ v)) ⊎ Altered command t count v subscription (performedBy inForce req t count v seen p)
 
   -- A SAR: the row of its type is carried out on these records.
   module _ (is : command ≡ 301) where
     row-cases : (first : ℕ) (all : Bool) (records owner : List ℕ) → plannedRecords t count s all ≡ records → some owner ≡ subscription
         → every (ownAt t owner) records ≡ true → isOne records 0 ≡ false → Cases (planOf Fine (s .numbers) first all)
-    unfolding performed carriedOut spentBy planOf deedOf ownAt
+    unfolding performedBy carriedOut assignmentOf spentBy planOf deedOf ownAt
     row-cases first all records owner e a o l = go (effectOf (s .numbers .kind) (s .numbers .keep) .write) refl
       where
         go : (x : Bool) → effectOf (s .numbers .kind) (s .numbers .keep) .write ≡ x → Cases (planOf Fine (s .numbers) first all)
@@ -160,7 +166,7 @@ module _ (command : ℕ) (t : List ℕ) (count : ℕ) (v : List ℕ) (s : Assign
               change =
                   settled (effectOf (s .numbers .kind) (s .numbers .keep) .state)
                   (storedName (effectOf (s .numbers .kind) (s .numbers .keep) .named) (s .server));
-              keeps = settled-keeps _ _ (row-fits (s .server) least most (s .numbers .kind) (s .numbers .keep));
+              keeps = settled-keeps _ _ (row-fits (dataSeen seen serverName) least most (s .numbers .kind) (s .numbers .keep));
               table = rw (w, e);
               later = l;
               owned = λ k i. ap some (same-eq (privateAt t k) owner (one-holds (ownAt t owner) records k o i)) ∙ a;
@@ -179,7 +185,7 @@ module _ (command : ℕ) (t : List ℕ) (count : ℕ) (v : List ℕ) (s : Assign
         go Nothing e = absurd (true≢false (sym e))
 
     assign-cases : (length (s .places) ≡ length (s .identities)) → Cases (assign t count s)
-    unfolding ownedSurvey namedSurvey surveyOf plannedRecords performed carriedOut spentBy
+    unfolding ownedSurvey namedSurvey surveyOf plannedRecords performedBy carriedOut spentBy
     assign-cases counted = go (assign t count s) (assign-decided t count s)
       where
         go : (p : Plan) → Decided t count s p → Cases p
@@ -205,22 +211,22 @@ module _ (command : ℕ) (t : List ℕ) (count : ℕ) (v : List ℕ) (s : Assign
         go false f g = absurd (true≢false (sym g))
 
     record-cases : (a : Claimed) (k : ℕ) → 1 ≤ k → (a .together ≡ true → privateAt t k ≡ s .user) → (f : Finding) → Claim a f → Cases (challengeOf f k sent)
-    unfolding performed carriedOut spentBy challengeOf isOne numberOf
+    unfolding performedBy carriedOut assignmentOf spentBy challengeOf isOne numberOf
     record-cases a k from owns f (denied r) = inl (refl, refl)
     record-cases a k from owns f (matching e) =
         inr (record {
           good = refl;
           by = inr is;
           records = k ∷ [];
-          change = challenged (s .server);
-          keeps = challenged-keeps (s .server) least most;
+          change = challenged (dataSeen seen serverName);
+          keeps = challenged-keeps (dataSeen seen serverName) least most;
           table = refl;
           later = rw (ne-eqb 0 k (omega arith));
           owned = λ j i. rw (one-is j k i, named) (ap some (owns e));
         })
 
     found-cases : (f : Found) → ((k : ℕ) → f ≡ At k → 1 ≤ k) → Cases (authenticateFound t count (s .user) asked sent f)
-    unfolding authenticateFound claimedOf claimedAt privateAt performed carriedOut spentBy challengeOf claimOf
+    unfolding authenticateFound claimedOf claimedAt privateAt performedBy carriedOut spentBy challengeOf claimOf
     found-cases Nothing from = inl (refl, refl)
     found-cases (At k) from =
         let a = claimedOf t count (s .user) asked (ltb 0 (sent .count)) (At k) in
@@ -262,19 +268,18 @@ module _ (req t : List ℕ) (count : ℕ) (v : List ℕ) where
   Does d = ((d .table ≡ t) × (d .vectors ≡ v)) ⊎ Altered (commandOf req) t count v (subscriptionOf req t count) d
 
   module _ (seen : Seen) (e : readRequest req ≡ fine seen) where
-    abbrev s : Assignment
-    s = assignmentOf t seen req
+    abbrev s' : Assignment
+    s' = assignmentOf req t seen
 
-    asked-is : cond (s .numbers .named) (some (s .user)) (firstOwner t count (s .identities)) ≡ subscriptionOf req t count
+    asked-is : cond (s' .numbers .named) (some (s' .user)) (firstOwner t count (s' .identities)) ≡ subscriptionOf req t count
     unfolding subscriptionOf askedIn assignmentOf
     asked-is = rw e
 
-    places-counted : length (s .places) ≡ length (s .identities)
+    places-counted : length (s' .places) ≡ length (s' .identities)
     unfolding assignmentOf
     places-counted = sym (map-length (avpAt req) (placesFrom 20 (bodyOf req))) ∙ ap length (identities-at req 20)
 
-    server-some : (commandOf req ≡ 301) ⊎ (commandOf req ≡ 303) → (1 ≤ length (s .server)) × (length (s .server) ≤ 96)
-    unfolding assignmentOf
+    server-some : (commandOf req ≡ 301) ⊎ (commandOf req ≡ 303) → (1 ≤ length (dataSeen seen serverName)) × (length (dataSeen seen serverName) ≤ 96)
     server-some c = (server-least req seen e (apart c), server-most req seen e)
       where
         apart : (commandOf req ≡ 301) ⊎ (commandOf req ≡ 303)
@@ -282,27 +287,27 @@ module _ (req t : List ℕ) (count : ℕ) (v : List ℕ) where
         apart (inl a) = inl a
         apart (inr a) = inr (λ b. omega arith, λ b. omega arith, λ b. omega arith)
 
-    sar-does : commandOf req ≡ 301 → Does (performed t count v s (sarPlan req t count seen))
+    sar-does : commandOf req ≡ 301 → Does (performedBy inForce req t count v seen (sarPlan req t count seen))
     unfolding sarPlan
     sar-does c =
         let fits = server-some (inl c) in
-        rw (← asked-is) (assign-cases (commandOf req) t count v s (fits .0) (fits .1) c places-counted)
+        rw (← asked-is) (assign-cases (commandOf req) req t count v seen (fits .0) (fits .1) c places-counted)
 
-    mar-does : commandOf req ≡ 303 → Does (performed t count v s (marPlan t count v seen))
+    mar-does : commandOf req ≡ 303 → Does (performedBy inForce req t count v seen (marPlan t count v seen))
     unfolding marPlan authenticate assignmentOf
     mar-does c =
         let fits = server-some (inr c) in
         let public = dataSeen seen publicIdentity in
         rw (← asked-is)
-        (found-cases (commandOf req) t count v s (fits .0) (fits .1) c (user-given req seen e c) _ _ (findPublic t count public)
+        (found-cases (commandOf req) req t count v seen (fits .0) (fits .1) c (user-given req seen e c) _ _ (findPublic t count public)
         (public-among t count public refl .from))
 
-    read-does : Does (performed t count v s (planRead req t count v seen))
-    unfolding planRead uarPlan lirPlan performed carriedOut spentBy
+    read-does : Does (performedBy inForce req t count v seen (planRead req t count v seen))
+    unfolding planRead uarPlan lirPlan performedBy carriedOut spentBy
     read-does = go (eqb (commandOf req) 300) (eqb (commandOf req) 301) (eqb (commandOf req) 302) refl refl refl
       where
         go : (x y z : Bool) → eqb (commandOf req) 300 ≡ x → eqb (commandOf req) 301 ≡ y → eqb (commandOf req) 302 ≡ z
-            → Does (performed t count v s
+            → Does (performedBy inForce req t count v seen
             (cond x (uarPlan t count seen) (cond y (sarPlan req t count seen) (cond z (lirPlan t count seen) (marPlan t count v seen)))))
         go true y z a b c = inl (refl, refl)
         go false true z a b c = sar-does (eqb-true _ _ b)
@@ -310,9 +315,9 @@ module _ (req t : List ℕ) (count : ℕ) (v : List ℕ) where
         go false false false a b c = mar-does (read-last req seen e (eqb-false _ _ a) (eqb-false _ _ b) (eqb-false _ _ c))
 
   pub decide-does : Does (decide req t count v)
-  unfolding decide decideJudged
+  unfolding decideBy judgedBy
   decide-does = go (readRequest req) refl
     where
-      go : (j : Judged) → readRequest req ≡ j → Does (decideJudged req t count v j)
+      go : (j : Judged) → readRequest req ≡ j → Does (judgedBy inForce req t count v j)
       go (bad f) e = inl (refl, refl)
       go (fine seen) e = read-does seen e

@@ -32,7 +32,8 @@ use Rattle.reading.specs.declared.Verdict.{Verdict}
 use Rattle.requests.specs.Judged.{Judged, bad, fine, nothing, judge}
 use Rattle.requests.specs.Request.{dialectOf, cx, headerFault, firstOther, missing, complete, readWalk, readIn, readRequest}
 use Rattle.requests.proofs.Faulting.{read-placed}
-use Rattle.fitting.specs.Decide.{performed, decideJudged, decide}
+use Rattle.deciding.specs.Rules.{inForce}
+use Rattle.deciding.specs.Decide.{performedBy, judgedBy, decideBy, decide}
 use Rattle.demands.specs.Frame.{succeeds}
 use Rattle.demands.specs.Place.{behindAt, Reaches, first, pastTaken, pastSkipped, Breaks, lengthFault, ruleFault, OfRules, AtFault}
 
@@ -296,9 +297,9 @@ rules-fail n (inr (inr (inr (inr h)))) e = true≢false (sym e ∙ rw h)
 
 -- a decision's place is within the request
 pub decide-within : (req t : List ℕ) (count : ℕ) (v : List ℕ) → 20 ≤ length req → decide req t count v .place ≤ length req
-unfolding decide decideJudged performed
+unfolding decideBy judgedBy performedBy
 decide-within req t count v h = go (readRequest req) refl
   where
-    go : (j : Judged) → readRequest req ≡ j → decideJudged req t count v j .place ≤ length req
+    go : (j : Judged) → readRequest req ≡ j → judgedBy inForce req t count v j .place ≤ length req
     go (bad f) e = read-placed req f h e .within
     go (fine seen) e = omega arith

@@ -2,7 +2,7 @@
 use lib.ListN.{length}
 use Rattle.calling.specs.Lent.{Lent}
 use Rattle.calling.proofs.Calls.{size-least, size-most, length-even}
-use Rattle.fitting.proofs.Room.{answer-most}
+use Rattle.deciding.proofs.Room.{answer-most}
 use Rattle.demands.specs.Call.{Fits}
 
 pub fits : (x : Lent) → Fits x

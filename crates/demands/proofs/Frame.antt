@@ -22,7 +22,7 @@ use Rattle.rewrite.proofs.Reaching.{reaches-zero, reaches-closed}
 use Rattle.rewrite.proofs.Tables.{Keeping, keeping-same, kept-same, after-frame, after-keeping}
 use Rattle.diameter.specs.Message.{commandOf}
 use Rattle.blocks.specs.Changed.{isOne}
-use Rattle.fitting.specs.Decide.{Decision}
+use Rattle.deciding.specs.Decide.{Decision}
 use Rattle.calling.specs.Lent.{Lent}
 use Rattle.calling.specs.Serve.{checkOf, answered, decision, serve, checkValue}
 use Rattle.demands.specs.Call.{turnedAway}

@@ -25,7 +25,8 @@ use Rattle.requests.specs.Request.{dialectOf, cx, headerFault, firstOther, miss
 use Rattle.requests.proofs.Insert.{stranger-kind, identity-known, proxy-known, judge-marked, andThen, judge-glue, past}
 use Rattle.failed.specs.Failing.{failedBy}
 use Rattle.failed.proofs.Fronts.{failed-piece, failed-whole}
-use Rattle.fitting.specs.Decide.{faulted, decideJudged, decide}
+use Rattle.deciding.specs.Rules.{inForce}
+use Rattle.deciding.specs.Decide.{faulted, judgedBy, decideBy, decide}
 use Rattle.reply.specs.Answer.{proxy, proxies}
 use Rattle.calling.specs.Lent.{Lent, asking}
 use Rattle.calling.specs.Serve.{checkOf, answered, decision, serve, checkValue}
@@ -155,8 +156,8 @@ module _ {long short : List ℕ} {more : ℕ → ℕ} (none : more 0 ≡ 0) wher
 
   fault-keeps : (head : List ℕ) (h f : Bool) {from : ℕ} {i j : Judged} (k : Seen → Judged) → Moved long short from more i j → (not h || f || isFault j) ≡ true
       → (req t : List ℕ) (count : ℕ) (v : List ℕ)
-      → (decideJudged req t count v (readFrom head h f i k) .table ≡ t) × (decideJudged req t count v (readFrom head h f i k) .vectors ≡ v)
-  unfolding readFrom andThen complete decideJudged
+      → (judgedBy inForce req t count v (readFrom head h f i k) .table ≡ t) × (judgedBy inForce req t count v (readFrom head h f i k) .vectors ≡ v)
+  unfolding readFrom andThen complete judgedBy
   fault-keeps head false f k m e req t count v = (refl, refl)
   fault-keeps head true true k m e req t count v = (refl, refl)
   fault-keeps head true false k (faults x y m) e req t count v = (refl, refl)
@@ -388,7 +389,7 @@ module _ (head : List ℕ) (twenty : length head ≡ 20) (q : Piece) (qs rs : Li
 
   mark-decides : faultIn head (q ∷ m .front) ≡ false → (t : List ℕ) (count : ℕ) (v : List ℕ)
       → decide longer t count v ≡ faulted t v (faultAt 5001 markPlace)
-  unfolding decide decideJudged
+  unfolding decideBy judgedBy
   mark-decides e t count v = rw (mark-read e)
 
   pub mark-answered : faultIn head (q ∷ m .front) ≡ false → (x : Lent) → turnedAway (asking x shorter) ≡ false
@@ -398,8 +399,8 @@ module _ (head : List ℕ) (twenty : length head ≡ 20) (q : Piece) (qs rs : Li
       fault-answered (asking x longer) 5001 markPlace (m .mark .avp) mark-failed (mark-read e) f
       ∙ ap (unsupported (asking x longer) (m .mark)) (past-bytes 20 (q ∷ m .before) before-whole)
 
-  long-decides : (t : List ℕ) (count : ℕ) (v : List ℕ) → decide longer t count v ≡ decideJudged longer t count v longRead
-  unfolding decide
+  long-decides : (t : List ℕ) (count : ℕ) (v : List ℕ) → decide longer t count v ≡ judgedBy inForce longer t count v longRead
+  unfolding decideBy
   long-decides t count v = rw (message-read head twenty (bytesOf (q ∷ rs) ++ tail), long-read)
 
   pub marked-kept : (x : Lent) → (serve (asking x longer) .table ≡ x .table) × (serve (asking x longer) .vectors ≡ x .vectors)

@@ -19,7 +19,8 @@ use Rattle.diameter.specs.Message.{commandOf, bodyOf}
 use Rattle.reading.specs.Verdicts.{faultOf}
 use Rattle.requests.specs.Request.{dialectOf, cx, headerFault, readWalk, readIn, readRequest, identities, sessionOf}
 use Rattle.choices.specs.declared.Given.{Given}
-use Rattle.fitting.specs.Decide.{Decision, performed, decideJudged, decide}
+use Rattle.deciding.specs.Rules.{inForce}
+use Rattle.deciding.specs.Decide.{Decision, performedBy, judgedBy, decideBy, decide}
 use Rattle.reply.specs.Answer.{topBytes, identityBytes, nameBytes, dataBytes, givenBytes, proxies, endBytes, restBytes, bodyBytes, headerBytes, answerBytes}
 use Rattle.calling.specs.Lent.{Lent, asking}
 use Rattle.calling.specs.Serve.{wrongSize, wrongLength, noRequest, checkOf, answered, decision, serve, checkValue}
@@ -210,23 +211,23 @@ module _ (head : List ℕ) (twenty : length head ≡ 20) (b c : List ℕ) (alike
     both-named = rw (message-body head twenty b, message-body head twenty c) named
 
     judged-same : (t : List ℕ) (count : ℕ) (v : List ℕ) {j k : Judged} → Moved long short from more j k
-        → SameDecision long short (decideJudged long t count v j) (decideJudged short t count v k)
-    unfolding decideJudged
+        → SameDecision long short (judgedBy inForce long t count v j) (judgedBy inForce short t count v k)
+    unfolding judgedBy
     judged-same t count v (faults f g l) = record { given = fault-same long short f g (l .result) (l .failed); table = refl; vectors = refl }
     judged-same t count v (same seen) =
         plan-same long short t count v seen both-named (message-command head twenty b ∙ sym (message-command head twenty c))
 
     -- the place is the verdict's, or both have none
     judged-place : (t : List ℕ) (count : ℕ) (v : List ℕ) {j k : Judged} → Moved long short from more j k
-        → decideJudged long t count v j .place ≡ later more (decideJudged short t count v k .place)
-    unfolding decideJudged performed
+        → judgedBy inForce long t count v j .place ≡ later more (judgedBy inForce short t count v k .place)
+    unfolding judgedBy performedBy
     judged-place t count v (faults f g l) = l .place ∙ later-is more none (g .place)
     judged-place t count v (same seen) = refl
 
     decide-same : (t : List ℕ) (count : ℕ) (v : List ℕ)
         → SameDecision long short (decide long t count v) (decide short t count v)
         × (decide long t count v .place ≡ later more (decide short t count v .place))
-    unfolding decide
+    unfolding decideBy
     decide-same t count v = rw (message-read head twenty b, message-read head twenty c) (judged-same t count v read, judged-place t count v read)
 
     pub served-same : (x : Lent) → Fit b → Fit c → serve (asking x (message head b)) ≡ placed (later more) (serve (asking x (message head c)))

@@ -20,11 +20,11 @@ use Rattle.calling.specs.Call.{Answered, Refused}
 use Rattle.calling.specs.Lent.{Lent, asking}
 use Rattle.calling.specs.Trial.{Trial, anyHolds}
 use Rattle.calling.specs.Serve.{Served, smallBuffer, wrongSize, wrongLength, noRequest, isBad, unsound, checkOf, trials, refused}
-use Rattle.calling.specs.Serve.{answered, decision, checkValue, serve}
+use Rattle.calling.specs.Serve.{answered, decision, checkValue, serveFound, serveBy, serve}
 use Rattle.ndushavire.specs.Word.{callNumber, callPlace, callValue, callWord}
 use Rattle.ndushavire.specs.Reads.{Reads}
 use Rattle.calling.proofs.Calls.{size-least, size-most}
-use Rattle.fitting.proofs.Tests.{neither}
+use Rattle.deciding.proofs.Tests.{neither}
 use Rattle.demands.specs.Call.{turnedAway, answerTo, Fits, Exactly}
 use Rattle.demands.specs.Insertion.{placed}
 use Rattle.demands.proofs.Faults.{decide-within}
@@ -64,7 +64,7 @@ module _ (x : Lent) where
   -- What holds of every refusal and of the answer holds of the call.
   call-by : (P : Bool → Served → Type 0) (Q : Trial → Type 0) → All Q (trials x) → ((r : Trial) → Q r → r .holds ≡ true → P true (refused x r))
       → P false answer → P (turnedAway x) (serve x)
-  unfolding serve
+  unfolding serveBy serveFound
   call-by P Q h f o = tried-by P Q (refused x) answer f o (trials x) h
 
   -- What holds of any refusal at all, and of the answer, does.
@@ -72,7 +72,7 @@ module _ (x : Lent) where
   any-call P f o = call-by P (λ r. Unit) (six (λ r. Unit) (λ h n a b c. tt) tt) (λ r q h. f r) o
 
   pub refusals : Exactly (trials x) (callNumber (serve x .call))
-  unfolding serve refused answered
+  unfolding serveBy serveFound refused answered
   refusals =
       exactly (refused x) answer (λ (s : Served). callNumber (s .call)) (λ r. refl) refl (trials x) (
         refl,
@@ -197,6 +197,6 @@ module _ (x : Lent) where
 -- Two requests of which the trials say the same are refused alike.
 pub refused-alike : (x : Lent) (req other : List ℕ) → wrongSize req ≡ wrongSize other → wrongLength req ≡ wrongLength other → noRequest req ≡ noRequest other
     → turnedAway (asking x other) ≡ true → serve (asking x req) ≡ serve (asking x other)
-unfolding serve refused
+unfolding serveBy serveFound refused
 refused-alike x req other a b c e =
     rw (a, b, c) (tried-alike (refused (asking x other)) (answer (asking x req)) (answer (asking x other)) (trials (asking x other)) e)

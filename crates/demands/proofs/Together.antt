@@ -25,19 +25,24 @@ use Rattle.rewrite.proofs.Reaching.{named-twice-after}
 use Rattle.rewrite.proofs.Together.{members-agree, altered-together}
 use Rattle.rewrite.proofs.Writes.{differ-same}
 use Rattle.diameter.specs.Avp.{dataOf}
+use Rattle.reading.specs.Kinds.{serverName}
+use Rattle.reading.specs.Rules.{Seen}
 use Rattle.requests.specs.Judged.{Judged, bad, fine}
-use Rattle.requests.specs.Request.{readRequest}
+use Rattle.requests.specs.Request.{readRequest, dataSeen}
 use Rattle.choices.specs.Types.{isRemoval}
 use Rattle.choices.specs.declared.types.AssignmentType.{AssignmentType}
 use Rattle.choices.specs.declared.plan.Sar.{Sar}
+use Rattle.choices.specs.declared.plan.Settling.{Settling}
 use Rattle.choices.specs.declared.plan.Deed.{Deed}
 use Rattle.choices.specs.declared.plan.Deed.the-variants.{Leave, Settle, Challenge}
 use Rattle.assignment.specs.Assignment.{Assignment, meantBy, every, findAll, numbersOf, ownedUpTo, ownAt, storesAt, fitsAt, rightAt, surveyOf}
 use Rattle.assignment.specs.Assignment.{namedSurvey, assignMeant, assign, storedName, plannedRecords}
 use Rattle.assignment.specs.declared.Meant.the-variants.{Listed}
-use Rattle.fitting.specs.Decide.{assignmentOf, planRead, performed, decideJudged, decide}
-use Rattle.fitting.specs.Deeds.{carriedOut, DeedFits}
-use Rattle.fitting.proofs.Deeds.{plan-fits}
+use Rattle.deciding.specs.Plans.{assignmentOf, sarPlan, planRead}
+use Rattle.deciding.specs.Rules.{inForce}
+use Rattle.deciding.specs.Decide.{performedBy, judgedBy, decideBy, decide}
+use Rattle.deciding.specs.Deeds.{settledBy, carriedOut, DeedFits}
+use Rattle.deciding.proofs.Deeds.{plan-fits}
 use Rattle.calling.specs.Lent.{Lent}
 use Rattle.calling.specs.Serve.{checkOf, checkValue, refused, answered, serve}
 use Rattle.calling.proofs.Kept.{serve-by}
@@ -51,21 +56,22 @@ module _ (t : List ℕ) (count : ℕ) (sound : SoundTable t count) (bytes : Byte
   left-together : Together t
   left-together = differ-same (blockOf t j) ∙ sym (differ-same (blockOf t k))
 
-  deed-together : (s : Assignment) (e : Deed) → DeedFits count (s .server) e → Together (carriedOut t count s e)
-  unfolding carriedOut changeOf
-  deed-together s Leave f = left-together
-  deed-together s (Settle w) f =
+  deed-together : (req : List ℕ) (seen : Seen) (e : Deed) → DeedFits count (dataSeen seen serverName) e → Together (carriedOut req t count seen e)
+  unfolding carriedOut assignmentOf changeOf
+  deed-together req seen Leave f = left-together
+  deed-together req seen (Settle w) f =
+      let s = assignmentOf req t seen in
       altered-together t count sound bytes (Settled (w .state)) (storedName (w .named) (s .server)) f (plannedRecords t count s (w .owned)) j k a b c d one
-  deed-together s (Challenge i) (from, to, least, most) =
-      altered-together t count sound bytes Challenged (s .server) (least, most) (i ∷ []) j k a b c d one
+  deed-together req seen (Challenge i) (from, to, least, most) =
+      altered-together t count sound bytes Challenged (dataSeen seen serverName) (least, most) (i ∷ []) j k a b c d one
 
   decide-together : (req v : List ℕ) → Together (decide req t count v .table)
-  unfolding decide decideJudged performed assignmentOf
+  unfolding decideBy judgedBy performedBy
   decide-together req v = go (readRequest req) refl
     where
-      go : (e : Judged) → readRequest req ≡ e → Together (decideJudged req t count v e .table)
+      go : (e : Judged) → readRequest req ≡ e → Together (judgedBy inForce req t count v e .table)
       go (bad f) e = left-together
-      go (fine seen) e = deed-together (assignmentOf t seen req) (planRead req t count v seen .deed) (plan-fits req t count v seen sound e)
+      go (fine seen) e = deed-together req seen (planRead req t count v seen .deed) (plan-fits req t count v seen sound e)
 
 pub members-together : (x : Lent) (count : ℕ) → checkOf x ≡ Sound count → Bytes (x .table) → (j k : ℕ) → 1 ≤ j → j ≤ count → 1 ≤ k → k ≤ count
     → sameSet (blockOf (x .table) j) (blockOf (x .table) k) ≡ true
@@ -162,10 +168,9 @@ module _ (t : List ℕ) (count : ℕ) (sound : SoundTable t count) (k j : ℕ) (
     unfolding assign assignMeant findAll
     assign-once e = rw (e, listed (q ∷ ps), listed ps, named-once)
 
-    carried-once : (e : Deed) → carriedOut t count twice e ≡ carriedOut t count once e
-    unfolding carriedOut plannedRecords findAll numbersOf
-    carried-once Leave = refl
-    carried-once (Settle w) = rw (at-first, at-second) (go (w .owned))
+    settled-once : (w : Settling) → settledBy t count twice w ≡ settledBy t count once w
+    unfolding plannedRecords findAll numbersOf
+    settled-once w = rw (at-first, at-second) (go (w .owned))
       where
         change : List ℕ → List ℕ
         change = settled (w .state) (storedName (w .named) server)
@@ -177,9 +182,19 @@ module _ (t : List ℕ) (count : ℕ) (sound : SoundTable t count) (k j : ℕ) (
             ≡ afterOf t count (reaches t (cond x (ownedUpTo t user count) (k ∷ rest))) change
         go true = refl
         go false = named-twice-after t count k j rest change one
-    carried-once (Challenge i) = refl
 
-    pub named-twice : isRemoval (numbers .kind) ≡ true → (v : List ℕ)
-        → performed t count v twice (assign t count twice) ≡ performed t count v once (assign t count once)
-    unfolding performed
-    named-twice e v = rw (assign-once e, carried-once (assign t count once .deed))
+    module _ (double single : List ℕ) (more less : Seen) (says-twice : assignmentOf double t more ≡ twice) (says-once : assignmentOf single t less ≡ once) where
+      same-server : dataSeen more serverName ≡ dataSeen less serverName
+      unfolding assignmentOf
+      same-server = ap (λ (s : Assignment). s .server) says-twice ∙ sym (ap (λ (s : Assignment). s .server) says-once)
+
+      carried-once : (e : Deed) → carriedOut double t count more e ≡ carriedOut single t count less e
+      unfolding carriedOut
+      carried-once Leave = refl
+      carried-once (Settle w) = rw (says-twice, says-once) (settled-once w)
+      carried-once (Challenge i) = rw same-server
+
+      pub named-twice : isRemoval (numbers .kind) ≡ true → (v : List ℕ)
+          → performedBy inForce double t count v more (sarPlan double t count more) ≡ performedBy inForce single t count v less (sarPlan single t count less)
+      unfolding performedBy sarPlan
+      named-twice e v = rw (says-twice, says-once, assign-once e, carried-once (assign t count once .deed))

@@ -28,20 +28,20 @@ use Rattle.rewrite.proofs.Together as members
 use Rattle.moving.proofs.Moved.{tests-record, each-edition}
 use Rattle.choices.specs.declared.types.AssignmentType.{AssignmentType}
 use Rattle.assignment.specs.Assignment.{storesAt, fitsAt, rightAt}
+use Rattle.deciding.specs.Rules.{inForce}
 use Rattle.calling.specs.Lent.{Lent}
-use Rattle.calling.specs.Serve.{checkOf, serve}
+use Rattle.calling.specs.Serve.{checkOf, serveBy, serve}
 use Rattle.calling.proofs.Kept.{table-checked}
-use Rattle.older_rules.specs.Rules.{inForce, serveBy}
 use Rattle.older_rules.specs.WithoutSets.{NoSets, beforeSets}
-use Rattle.older_rules.proofs.Rules.{serve-now, rules-same, decided-same}
+use Rattle.older_rules.proofs.Rules.{rules-same, decided-same}
 use Rattle.older_rules.proofs.WithoutSets.{check-is, plan-is, carried-is}
 
 -- WITHOUT SETS. Over a table without sets every call comes to what it came to before, with the same table, vectors and buffer afterwards.
 pub without-sets : (x : Lent) → NoSets (x .table) → serveBy beforeSets x ≡ serve x
 without-sets x none =
     rules-same beforeSets inForce x (check-is (x .table) none (length (x .profile)))
-    (λ count e. decided-same beforeSets inForce x count (plan-is (x .table) none count (x .request) (x .vectors)) (carried-is (x .table) none count))
-    ∙ serve-now x
+    (λ count e.
+    decided-same beforeSets inForce x count (plan-is (x .table) none count (x .request) (x .vectors)) (carried-is (x .table) none count (x .request)))
 
 -- A sound table of the first edition is one, so that it is untouched.
 module _ (t : List ℕ) (file count : ℕ) (checked : checkTable t file ≡ Sound count) where

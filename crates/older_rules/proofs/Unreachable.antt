@@ -38,12 +38,13 @@ use Rattle.lookup.specs.Find.{blockFound}
 use Rattle.decisions.specs.Carried.{carried}
 use Rattle.decisions.specs.Location.{soughtAt, soughtOf, locateFound, locate}
 use Rattle.lookup.proofs.Among.{public-among}
-use Rattle.fitting.specs.Decide.{uarPlan, sarPlan, lirPlan, marPlan, planRead}
-use Rattle.fitting.specs.Deeds.{carriedOut}
+use Rattle.deciding.specs.Plans.{uarPlan, sarPlan, lirPlan, marPlan, planRead}
+use Rattle.deciding.specs.Rules.{inForce}
+use Rattle.deciding.specs.Deeds.{carriedOut}
+use Rattle.deciding.specs.Rules.{Rules, inForce}
 use Rattle.calling.specs.Lent.{Lent}
-use Rattle.calling.specs.Serve.{serve}
-use Rattle.older_rules.specs.Rules.{Rules, inForce, serveBy}
-use Rattle.older_rules.proofs.Rules.{serve-now, rules-same, decided-same}
+use Rattle.calling.specs.Serve.{serveBy, serve}
+use Rattle.older_rules.proofs.Rules.{rules-same, decided-same}
 
 -- "the server name (none stored: B5012)"
 unfoldable pub serverIf : Bool → Outcome → Choice
@@ -173,5 +174,4 @@ same-for-every-input x =
     rules-same withBranch inForce x refl
     (λ count e.
     decided-same withBranch inForce x count (plan-same (x .table) count (record { file = length (x .profile); checked = e }) (x .request) (x .vectors))
-    (λ s d. refl))
-    ∙ serve-now x
+    (λ seen d. refl))

@@ -28,9 +28,9 @@ use Rattle.reading.specs.Rules.{Seen}
 use Rattle.choices.specs.declared.plan.Deed.{Deed}
 use Rattle.choices.specs.declared.plan.Deed.the-variants.{Leave, Settle, Challenge}
 use Rattle.decisions.specs.Authorization.{askedAt, askedOf, authorizeFound, authorize}
-use Rattle.assignment.specs.Assignment.{Assignment, plannedRecords}
-use Rattle.fitting.specs.Decide.{uarPlan, planRead}
-use Rattle.fitting.specs.Deeds.{carriedOut}
+use Rattle.assignment.specs.Assignment.{plannedRecords}
+use Rattle.deciding.specs.Plans.{assignmentOf, uarPlan, planRead}
+use Rattle.deciding.specs.Deeds.{carriedOut}
 use Rattle.older_rules.specs.WithoutSets.{NoSets, checkBefore, askedBefore, authorizeBefore, carriedOutBefore, planBefore}
 
 -- Where the test is the same of each number, the first bad one is.
@@ -86,11 +86,11 @@ module _ (t : List ℕ) (none : NoSets t) where
     reached : (ks : List ℕ) (change : List ℕ → List ℕ) → afterOf t count (isOne ks) change ≡ afterOf t count (reaches t ks) change
     reached ks change = sym (after-choice t count (reaches t ks) (isOne ks) change (λ k h. reaches-named t none ks k))
 
-    pub carried-is : (s : Assignment) (d : Deed) → carriedOutBefore t count s d ≡ carriedOut t count s d
+    pub carried-is : (req : List ℕ) (seen : Seen) (d : Deed) → carriedOutBefore req t count seen d ≡ carriedOut req t count seen d
     unfolding carriedOutBefore carriedOut
-    carried-is s Leave = refl
-    carried-is s (Settle w) = reached (plannedRecords t count s (w .owned)) _
-    carried-is s (Challenge k) = reached (k ∷ []) _
+    carried-is req seen Leave = refl
+    carried-is req seen (Settle w) = reached (plannedRecords t count (assignmentOf req t seen) (w .owned)) _
+    carried-is req seen (Challenge k) = reached (k ∷ []) _
 
     pub plan-is : (req v : List ℕ) (seen : Seen) → planBefore req t count v seen ≡ planRead req t count v seen
     unfolding planBefore planRead uarPlan

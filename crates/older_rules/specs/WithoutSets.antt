@@ -19,7 +19,7 @@ use Rattle.lookup.specs.declared.Found.the-variants.{At, Nothing}
 use Rattle.blocks.specs.Changed.{isOne}
 use Rattle.rewrite.specs.Change.{afterOf}
 use Rattle.rewrite.specs.Renew.{settled, challenged}
-use Rattle.reading.specs.Kinds.{userName, publicIdentity, visitedNetwork, authorizationType}
+use Rattle.reading.specs.Kinds.{userName, publicIdentity, visitedNetwork, serverName, authorizationType}
 use Rattle.reading.specs.Rules.{Seen}
 use Rattle.diameter.specs.Message.{commandOf}
 use Rattle.requests.specs.Request.{dataSeen, valueSeen}
@@ -33,9 +33,9 @@ use Rattle.choices.specs.declared.plan.Plan.{Plan}
 use Rattle.decisions.specs.Authorization.{askedAt}
 use Rattle.lookup.specs.Find.{blockFound}
 use Rattle.decisions.specs.Carried.{carried}
-use Rattle.assignment.specs.Assignment.{Assignment, storedName, plannedRecords}
-use Rattle.fitting.specs.Decide.{sarPlan, lirPlan, marPlan}
-use Rattle.older_rules.specs.Rules.{Rules}
+use Rattle.assignment.specs.Assignment.{storedName, plannedRecords}
+use Rattle.deciding.specs.Plans.{assignmentOf, sarPlan, lirPlan, marPlan}
+use Rattle.deciding.specs.Rules.{Rules}
 
 -- a table in which no block has a set number
 abbrev pub NoSets : List ℕ → Type 0
@@ -60,11 +60,12 @@ authorizeBefore t count user public network kind =
     carried t count user (blockFound (findPublic t count public)) (authorization (askedBefore t count user network (findPublic t count public)) kind)
 
 -- effects on the records meant
-unfoldable pub carriedOutBefore : List ℕ → ℕ → Assignment → Deed → List ℕ
-carriedOutBefore t count s Leave = t
-carriedOutBefore t count s (Settle w) =
-    afterOf t count (isOne (plannedRecords t count s (w .owned))) (settled (w .state) (storedName (w .named) (s .server)))
-carriedOutBefore t count s (Challenge k) = afterOf t count (isOne (k ∷ [])) (challenged (s .server))
+unfoldable pub carriedOutBefore : List ℕ → List ℕ → ℕ → Seen → Deed → List ℕ
+carriedOutBefore req t count seen Leave = t
+carriedOutBefore req t count seen (Settle w) =
+    afterOf t count (isOne (plannedRecords t count (assignmentOf req t seen) (w .owned)))
+    (settled (w .state) (storedName (w .named) (assignmentOf req t seen .server)))
+carriedOutBefore req t count seen (Challenge k) = afterOf t count (isOne (k ∷ [])) (challenged (dataSeen seen serverName))
 
 -- the rest is what it is
 unfoldable pub planBefore : List ℕ → List ℕ → ℕ → List ℕ → Seen → Plan

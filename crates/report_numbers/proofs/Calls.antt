@@ -12,7 +12,7 @@ use Rattle.octets.specs.Name.{same}
 use Rattle.octets.proofs.Names.{same-refl}
 use Rattle.blocks.specs.Blocks.{blockOf}
 use Rattle.rewrite.specs.Change.{differ, alteredUpTo}
-use Rattle.fitting.proofs.Room.{answer-most}
+use Rattle.deciding.proofs.Room.{answer-most}
 use Rattle.counting.specs.Counted.{alteredIn, largestIn}
 use Rattle.counting.specs.Counted as counted
 use Rattle.counting.specs.declared.Event.{Event}

@@ -12,7 +12,7 @@ use borrow.Author.Tests.{lt-ltb, le-ltb, ltb-true, ltb-false}
 use Rattle.octets.specs.Number.{be24At}
 use Rattle.octets.proofs.Numbers.{be24-alike, be24-take}
 use Rattle.diameter.specs.Put.{All}
-use Rattle.fitting.proofs.Tests.{neither}
+use Rattle.deciding.proofs.Tests.{neither}
 use Rattle.reporting.specs.Pieces.{broken, piecesIn, pieces, totalOf, stopOf}
 use Rattle.reporting.proofs.Cutting.{pieces-none, pieces-first}
 use Rattle.report_numbers.specs.File.{OneRequest, joined, Breaks}

@@ -13,7 +13,7 @@ use Rattle.blocks.specs.declared.Checked.the-variants.{Sound, Bad}
 use Rattle.vectors.specs.VectorFile.{checkVectors}
 use Rattle.rewrite.specs.Change.{alterable}
 use Rattle.diameter.specs.Message.{commandOf}
-use Rattle.fitting.proofs.Tests.{neither}
+use Rattle.deciding.proofs.Tests.{neither}
 use Rattle.counting.specs.declared.Event.{Event}
 use Rattle.calling.specs.Lent.{Lent, asking}
 use Rattle.calling.specs.Trial.{anyHolds}

@@ -8,7 +8,7 @@ use lib.ListN.{length, take, drop, length-take, length-drop}
 use lib.Dec.{ltb}
 use borrow.Author.Tests.{lt-ltb, le-ltb, ltb-false}
 use Rattle.octets.specs.Number.{be24At}
-use Rattle.fitting.proofs.Tests.{neither}
+use Rattle.deciding.proofs.Tests.{neither}
 use Rattle.reporting.specs.Pieces.{broken, firstLength, piecesIn, pieces, totalOf}
 
 -- where a request stands: its length is at least 20 and it ends within the file

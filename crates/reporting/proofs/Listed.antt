@@ -57,8 +57,10 @@ use Rattle.decisions.specs.Location.{locateFound, locate}
 use Rattle.assignment.specs.Assignment.{Assignment, meantBy, namedSurvey, ownedSurvey, assignMeant, assign}
 use Rattle.assignment.specs.declared.Meant.{Meant}
 use Rattle.assignment.specs.declared.Meant.the-variants as meant
-use Rattle.fitting.specs.Decide.{assignmentOf, uarPlan, sarPlan, lirPlan, marPlan, planRead, performed, decideJudged, decide}
-use Rattle.fitting.proofs.Tests.{either}
+use Rattle.deciding.specs.Plans.{assignmentOf, uarPlan, sarPlan, lirPlan, marPlan, planRead}
+use Rattle.deciding.specs.Rules.{inForce}
+use Rattle.deciding.specs.Decide.{performedBy, judgedBy, decideBy, decide}
+use Rattle.deciding.proofs.Tests.{either}
 
 -- a fault's number, 0 where there is none
 abbrev Blames : ℕ → Type 0
@@ -255,14 +257,14 @@ challenge-listed Fine k sent l = refl
 
 -- whatever is asked, over any table and vector file
 pub decide-listed : (req t : List ℕ) (count : ℕ) (v : List ℕ) → Listed (decide req t count v .given .verdict .result)
-unfolding decide decideJudged performed planRead uarPlan sarPlan lirPlan marPlan authorize authorizeFound locate locateFound
+unfolding decideBy judgedBy performedBy planRead uarPlan sarPlan lirPlan marPlan authorize authorizeFound locate locateFound
     authenticate authenticateFound
 decide-listed req t count v = go (readRequest req) (read-listed (dialectOf cx req) req)
   where
-    go : (j : Judged) → JudgedListed j → GivenListed (decideJudged req t count v j .given)
+    go : (j : Judged) → JudgedListed j → GivenListed (judgedBy inForce req t count v j .given)
     go (bad f) l = l
     go (fine seen) l =
         either (λ (p : Plan). GivenListed (p .given)) (eqb (commandOf req) 300) (carried-listed t count _ _ _ (authorization-listed _ _))
-        (either (λ (p : Plan). GivenListed (p .given)) (eqb (commandOf req) 301) (assign-listed t count (assignmentOf t seen req))
+        (either (λ (p : Plan). GivenListed (p .given)) (eqb (commandOf req) 301) (assign-listed t count (assignmentOf req t seen))
         (either (λ (p : Plan). GivenListed (p .given)) (eqb (commandOf req) 302) (carried-listed t count _ _ _ (location-listed _))
         (challenge-listed _ _ _ (claim-listed _))))

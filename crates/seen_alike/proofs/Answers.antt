@@ -12,7 +12,7 @@ use Rattle.reading.specs.declared.Outcome.{Outcome}
 use Rattle.choices.specs.declared.Given.{Given}
 use Rattle.parts.specs.Profile.{profileAt}
 use Rattle.reply.specs.Answer.{originBytes, topBytes, identityBytes, nameBytes, dataBytes, givenBytes, restBytes, bodyBytes, answerBytes}
-use Rattle.fitting.specs.Decide.{decide}
+use Rattle.deciding.specs.Decide.{decide}
 use Rattle.seen_alike.specs.Shown.{SameTables}
 use Rattle.seen_alike.proofs.Plans.{given-same}
 use Rattle.seen_alike.proofs.Within.{Within, given-within}

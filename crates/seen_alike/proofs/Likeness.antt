@@ -14,10 +14,11 @@ use Rattle.rewrite.proofs.Counts.{altered-none}
 use Rattle.reading.specs.Rules.{Seen}
 use Rattle.choices.specs.declared.Given.{Given}
 use Rattle.reply.specs.Answer.{answerBytes}
-use Rattle.fitting.specs.Decide.{planRead, decide}
+use Rattle.deciding.specs.Plans.{planRead}
+use Rattle.deciding.specs.Decide.{decide}
 use Rattle.calling.specs.Lent.{Lent}
 use Rattle.calling.specs.Trial.{Trial, tried}
-use Rattle.calling.specs.Serve.{Served, checkOf, checkValue, refused, answered, decision, resultOf, serve}
+use Rattle.calling.specs.Serve.{Served, checkOf, checkValue, refused, answered, decision, resultOf, serveFound, serveBy, serve}
 use Rattle.seen_alike.specs.Alike.{AlikeTables, SameCall, holding}
 use Rattle.seen_alike.specs.Shown.{SameTables}
 use Rattle.seen_alike.proofs.Fields.{tables-same}
@@ -83,7 +84,7 @@ module _ (x : Lent) (u : List ℕ) (count : ℕ) (first : checkOf x ≡ Sound co
   -- what holds of refusals and of the answers holds of the calls
   both-by : (P : Served → Served → Type 0) → ((r : Trial) → P (refused x r) (refused (holding x u) r))
       → P (answered x (decision x count)) (answered (holding x u) (decision (holding x u) count)) → P (serve x) (serve (holding x u))
-  unfolding serve
+  unfolding serveBy serveFound
   both-by P f h =
       rw (first, second)
       (tried-both P (refused x) (refused (holding x u)) (answered x (decision x count)) (answered (holding x u) (decision (holding x u) count)) f h _)

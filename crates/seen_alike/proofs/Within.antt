@@ -37,8 +37,10 @@ use Rattle.lookup.proofs.Among.{public-among}
 use Rattle.assignment.specs.Assignment.{Assignment, findAll, firstOf, assignMeant, assign}
 use Rattle.assignment.specs.declared.Meant.{Meant}
 use Rattle.assignment.specs.declared.Meant.the-variants.{Fault, Owned, Listed}
-use Rattle.fitting.specs.Decide.{assignmentOf, uarPlan, sarPlan, lirPlan, marPlan, planRead, performed, decideJudged, decide}
-use Rattle.fitting.proofs.Tests.{either}
+use Rattle.deciding.specs.Plans.{assignmentOf, uarPlan, sarPlan, lirPlan, marPlan, planRead}
+use Rattle.deciding.specs.Rules.{inForce}
+use Rattle.deciding.specs.Decide.{performedBy, judgedBy, decideBy, decide}
+use Rattle.deciding.proofs.Tests.{either}
 
 -- each block that is named is one of so many records, or 0
 pub record Within (count : ℕ) (g : Given) : Type 0 where
@@ -108,14 +110,14 @@ module _ (t : List ℕ) (count : ℕ) where
   challenge-within Fine k sent h = record { user = h; public = h; server = omega arith; capable = omega arith; profile = omega arith }
 
   pub given-within : (req v : List ℕ) → Within count (decide req t count v .given)
-  unfolding decide decideJudged performed planRead uarPlan sarPlan lirPlan marPlan authorize authorizeFound locate locateFound
+  unfolding decideBy judgedBy performedBy planRead uarPlan sarPlan lirPlan marPlan authorize authorizeFound locate locateFound
       authenticate authenticateFound assign
   given-within req v = go (readRequest req)
     where
-      go : (j : Judged) → Within count (decideJudged req t count v j .given)
+      go : (j : Judged) → Within count (judgedBy inForce req t count v j .given)
       go (bad f) = fault-within count f
       go (fine seen) =
           either (λ (p : Plan). Within count (p .given)) (eqb (commandOf req) 300) (carried-within _ _ (public-within (dataSeen seen publicIdentity)) _)
-          (either (λ (p : Plan). Within count (p .given)) (eqb (commandOf req) 301) (meant-within (assignmentOf t seen req) _)
+          (either (λ (p : Plan). Within count (p .given)) (eqb (commandOf req) 301) (meant-within (assignmentOf req t seen) _)
           (either (λ (p : Plan). Within count (p .given)) (eqb (commandOf req) 302) (carried-within _ _ (public-within (dataSeen seen publicIdentity)) _)
           (challenge-within _ _ _ (public-within (dataSeen seen publicIdentity)))))

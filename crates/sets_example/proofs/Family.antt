@@ -17,9 +17,8 @@ use Rattle.vectors.specs.VectorFile.{checkVectors}
 use Rattle.pen.specs.Bytes.{avpBytes, vendorBytes, numberBytes, vendorNumber}
 use Rattle.calling.specs.Lent.{Lent, lent}
 use Rattle.calling.specs.Call.{Answered}
-use Rattle.calling.specs.Serve.{Served, serve}
+use Rattle.calling.specs.Serve.{Served, serveBy, serve}
 use Rattle.ndushavire.specs.Promise.{DecidePromise}
-use Rattle.older_rules.specs.Rules.{serveBy}
 use Rattle.older_rules.specs.WithoutSets.{beforeSets}
 use Rattle.older_rules.proofs.Sets.{without-sets, first-edition, members-agree}
 use Rattle.older_rules.proofs.Unreachable.{withBranch, same-for-every-input}

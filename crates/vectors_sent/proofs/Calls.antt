@@ -12,8 +12,8 @@ use Rattle.vectors.specs.Marked.{spent}
 use Rattle.vectors.specs.VectorFile.{checkVectors, SoundVectors}
 use Rattle.calling.specs.Lent.{Lent}
 use Rattle.calling.specs.Trial.{Trial, tried, anyHolds}
-use Rattle.calling.specs.Serve.{smallBuffer, wrongSize, wrongLength, noRequest, isBad, checkOf, trials, refused, answered, serve, checkValue, decided}
-use Rattle.fitting.proofs.Tests.{neither}
+use Rattle.calling.specs.Serve.{smallBuffer, wrongSize, wrongLength, noRequest, isBad, checkOf, trials, refused, answered, serveFound, serveBy, serve, checkValue, decided}
+use Rattle.deciding.proofs.Tests.{neither}
 use Rattle.vectors_sent.specs.Sent.{sentBy, Challenges, userOf, askedBy}
 use Rattle.vectors_sent.proofs.Cases.{Cases, other, success, decide-cases}
 
@@ -42,11 +42,11 @@ module _ (x : Lent) where
   v = x .vectors
 
   pub refused-vectors : anyHolds (trials x) ≡ true → serve x .vectors ≡ v
-  unfolding serve refused
+  unfolding serveBy serveFound refused
   refused-vectors e = tried-some (λ s. s .vectors ≡ v) (refused x) (answered x (decided x)) (λ r. refl) (trials x) e
 
   pub answered-is : anyHolds (trials x) ≡ false → serve x ≡ answered x (decided x)
-  unfolding serve
+  unfolding serveBy serveFound
   answered-is e = tried-none (refused x) (answered x (decided x)) (trials x) e
 
   pub answered-sound : anyHolds (trials x) ≡ false → SoundVectors v

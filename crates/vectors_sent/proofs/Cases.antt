@@ -38,9 +38,11 @@ use Rattle.decisions.specs.Carried.{carried}
 use Rattle.decisions.specs.Location.{locateFound, locate}
 use Rattle.assignment.specs.Assignment.{Assignment, found, firstOf, assign}
 use Rattle.assignment.proofs.Rows.{Decided, alone, owned, named, assign-decided}
-use Rattle.fitting.specs.Decide.{Decision, assignmentOf, uarPlan, sarPlan, lirPlan, marPlan, planRead, performed, decideJudged, decide}
-use Rattle.fitting.specs.Deeds.{spentBy}
-use Rattle.fitting.proofs.Blameless.{Plain, carried-plain, plan-plain}
+use Rattle.deciding.specs.Plans.{assignmentOf, uarPlan, sarPlan, lirPlan, marPlan, planRead}
+use Rattle.deciding.specs.Rules.{inForce}
+use Rattle.deciding.specs.Decide.{Decision, performedBy, judgedBy, decideBy, decide}
+use Rattle.deciding.specs.Deeds.{spentBy}
+use Rattle.deciding.proofs.Blameless.{Plain, carried-plain, plan-plain}
 use Rattle.vectors_sent.proofs.Faults.{read-fails, read-command}
 
 -- nothing is sent, and the file is as it was
@@ -160,7 +162,7 @@ module _ (req t : List ℕ) (count : ℕ) (v : List ℕ) where
 
   module _ (seen : Seen) (read : readRequest req ≡ fine seen) where
     abbrev after : Plan → Decision
-    after p = performed t count v (assignmentOf t seen req) p
+    after p = performedBy inForce req t count v seen p
 
     abbrev user : List ℕ
     user = dataSeen seen userName
@@ -169,12 +171,12 @@ module _ (req t : List ℕ) (count : ℕ) (v : List ℕ) where
     number = valueSeen seen numberAuthItems
 
     quiet-case : (p : Plan) → decision ≡ after p → Quiet v p → (commandOf req ≡ 303 → p .given .verdict .result ≢ Base 2001) → Cases
-    unfolding performed
+    unfolding performedBy
     quiet-case p d q a = other (record { still = rw d q; apart = λ c r. a c (ap (λ (z : Decision). z .given .verdict .result) (sym d) ∙ r) })
 
     sent-case : (p : Plan) → decision ≡ after p → commandOf req ≡ 303
         → Sends v user number (p .given) (marking v p) → Cases
-    unfolding performed
+    unfolding performedBy
     sent-case p d c s = success (record { seen = seen; read = read; command = c; sends = rw d s })
 
     mar-case : decision ≡ after (marPlan t count v seen) → commandOf req ≡ 303 → Cases
@@ -191,7 +193,7 @@ module _ (req t : List ℕ) (count : ℕ) (v : List ℕ) where
     unfolding uarPlan sarPlan lirPlan authorize authorizeFound locate locateFound
     command-case true y z a b c d = quiet-case _ d (carried-quiet v t count _ _ _) (λ e. absurd (omega (arith, eqb-true (commandOf req) 300 a)))
     command-case false true z a b c d =
-        quiet-case _ d (assign-quiet v t count (assignmentOf t seen req)) (λ e. absurd (omega (arith, eqb-true (commandOf req) 301 b)))
+        quiet-case _ d (assign-quiet v t count (assignmentOf req t seen)) (λ e. absurd (omega (arith, eqb-true (commandOf req) 301 b)))
     command-case false false true a b c d = quiet-case _ d (carried-quiet v t count _ _ _) (λ e. absurd (omega (arith, eqb-true (commandOf req) 302 c)))
     command-case false false false a b c d =
         let n = commandOf req in
@@ -199,9 +201,9 @@ module _ (req t : List ℕ) (count : ℕ) (v : List ℕ) where
         (omega (arith, eqb-false n 300 a, eqb-false n 301 b, eqb-false n 302 c, read-command req seen read .0, read-command req seen read .1))
 
   judged-case : (j : Judged) → readRequest req ≡ j → Cases
-  unfolding decide decideJudged planRead
+  unfolding decideBy judgedBy planRead
   judged-case (bad f) e =
-      let d : decision ≡ decideJudged req t count v (bad f) = rw e in
+      let d : decision ≡ judgedBy inForce req t count v (bad f) = rw e in
       other (record {
         still = rw d (record { none = refl; kept = refl });
         apart = λ c r. other-result (f .result) (read-fails req f e) (ap (λ (z : Decision). z .given .verdict .result) (sym d) ∙ r);

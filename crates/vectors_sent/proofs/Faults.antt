@@ -26,7 +26,7 @@ use Rattle.reading.specs.Rules.{Seen, contentFault, ofContent, ofUse, ruleBy, r
 use Rattle.reading.specs.Verdicts.{numberOf, faultOf, lackOf}
 use Rattle.requests.specs.Judged.{Judged, bad, fine, onRule, nothing, judge}
 use Rattle.requests.specs.Request.{dialectOf, cx, spoken, headerFault, firstOther, missing, complete, readWalk, readIn, readRequest}
-use Rattle.fitting.proofs.Tests.{either}
+use Rattle.deciding.proofs.Tests.{either}
 
 -- a number of a fault, or 0
 abbrev Failing : ℕ → Type 0

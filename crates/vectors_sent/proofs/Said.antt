@@ -16,8 +16,9 @@ use Rattle.reading.specs.Verdicts.{numberOf}
 use Rattle.reading.specs.declared.Outcome.the-variants.{Base}
 use Rattle.requests.specs.Judged.{Judged, bad, fine}
 use Rattle.requests.specs.Request.{readRequest}
-use Rattle.fitting.specs.Decide.{performed, decideJudged, decide}
-use Rattle.fitting.proofs.Room.{decide-light}
+use Rattle.deciding.specs.Rules.{inForce}
+use Rattle.deciding.specs.Decide.{performedBy, judgedBy, decideBy, decide}
+use Rattle.deciding.proofs.Room.{decide-light}
 use Rattle.calling.specs.Call.{Answered}
 use Rattle.calling.specs.Lent.{Lent}
 use Rattle.calling.specs.Trial.{anyHolds}
@@ -66,9 +67,9 @@ module _ (x : Lent) (taken : anyHolds (trials x) ≡ false) where
 
 -- A success blames no AVP.
 pub success-nowhere : (req t : List ℕ) (count : ℕ) (v : List ℕ) → decide req t count v .given .verdict .result ≡ Base 2001 → decide req t count v .place ≡ 0
-unfolding decide decideJudged performed numberOf
+unfolding decideBy judgedBy performedBy numberOf
 success-nowhere req t count v = go (readRequest req) refl
   where
-    go : (j : Judged) → readRequest req ≡ j → decideJudged req t count v j .given .verdict .result ≡ Base 2001 → decideJudged req t count v j .place ≡ 0
+    go : (j : Judged) → readRequest req ≡ j → judgedBy inForce req t count v j .given .verdict .result ≡ Base 2001 → judgedBy inForce req t count v j .place ≡ 0
     go (bad f) e r = absurd (omega (arith, read-fails req f e, ap numberOf r))
     go (fine seen) e r = refl

@@ -19,7 +19,7 @@ use Rattle.pen.specs.Groups.{experimental, failed}
 use Rattle.choices.specs.Given.{givenSent}
 use Rattle.choices.specs.declared.Given.{Given}
 use Rattle.decisions.specs.Authentication.{toSend}
-use Rattle.fitting.specs.Decide.{decide}
+use Rattle.deciding.specs.Decide.{decide}
 use Rattle.reply.specs.Answer.{answerBytes}
 use Rattle.calling.specs.Call.{Answered, Refused}
 use Rattle.calling.specs.Lent.{Lent, lent}

@@ -51,14 +51,15 @@ use Rattle.decisions.specs.Location.{soughtAt, soughtOf, locateFound, locate}
 use Rattle.requests.specs.Identity.{placesFrom}
 use Rattle.assignment.specs.Assignment.{meantBy, every, findAll, numbersOf, ownedHere, ownedUpTo, ownAt, storesAt, fitsAt, rightAt, surveyOf, userKnown}
 use Rattle.assignment.specs.Assignment.{ownerBy, namedSurvey, ownedSurvey, assignMeant, assign, storedName, plannedRecords}
-use Rattle.fitting.specs.Deeds.{carriedOut, spentBy}
-use Rattle.fitting.specs.Decide.{assignmentOf, uarPlan, sarPlan, lirPlan, marPlan, planRead, performed, decideJudged, decide}
+use Rattle.deciding.specs.Deeds.{carriedOut, spentBy}
+use Rattle.deciding.specs.Plans.{assignmentOf, uarPlan, sarPlan, lirPlan, marPlan, planRead}
+use Rattle.deciding.specs.Decide.{performedBy, judgedBy, decideBy}
 use Rattle.reading.specs.Verdicts.{numberOf}
 use Rattle.failed.specs.Failing.{headPart, alone, failedOf, sample, exampleOf, failedBy}
 use Rattle.reply.specs.Answer.{resultBytes, frontBytes, originBytes, topBytes, identityBytes, nameBytes, dataBytes, givenBytes, proxy, proxies, endBytes}
 use Rattle.reply.specs.Answer.{restBytes, bodyBytes, flagsOf, headerBytes, answerBytes}
 use Rattle.calling.specs.Trial.{tried}
-use Rattle.calling.specs.Serve.{wrongLength, refused, answered, serve}
+use Rattle.calling.specs.Serve.{wrongLength, refused, answered, serveFound, serveBy}
 
 -- `hss.isle` and `isle`
 unfoldable pub host : List ℕ
@@ -185,7 +186,7 @@ unfolding host realm block field wordsOf checked header subscriber person vector
     location findingOf grant deedOf planOf claimOf challengeOf typeOf carried askedAt askedOf authorizeFound authorize soughtAt soughtOf locateFound locate
     claimedAt claimedOf toSend authenticateFound authenticate meantBy every findAll numbersOf ownedHere ownedUpTo ownAt storesAt fitsAt rightAt
     surveyOf userKnown ownerBy namedSurvey ownedSurvey assignMeant assign storedName plannedRecords carriedOut spentBy assignmentOf uarPlan sarPlan lirPlan
-    marPlan planRead performed decideJudged decide numberOf resultBytes frontBytes originBytes topBytes identityBytes nameBytes dataBytes givenBytes proxy
+    marPlan planRead performedBy judgedBy decideBy numberOf resultBytes frontBytes originBytes topBytes identityBytes nameBytes dataBytes givenBytes proxy
     proxies endBytes challengeBytes keyBytes itemBytes itemsBytes numberedBytes sentBytes restBytes bodyBytes flagsOf headerBytes answerBytes tried
-    wrongLength refused answered serve
+    wrongLength refused answered serveFound serveBy
 opened = 0

@@ -15,8 +15,8 @@ use Rattle.lookup.specs.declared.Found.the-variants.{At, Nothing}
 use Rattle.reading.specs.Kinds.{publicIdentity, serverName}
 use Rattle.reading.specs.Rules.{Seen}
 use Rattle.requests.specs.Judged.{fine}
-use Rattle.diameter.specs.Message.{commandOf}
-use Rattle.requests.specs.Request.{readRequest, dataSeen}
+use Rattle.reading.specs.declared.Dialect.{Dialect}
+use Rattle.requests.specs.Request.{readIn, dataSeen}
 use Rattle.requests.proofs.Kept.{server-most, server-least}
 use Rattle.choices.specs.Challenges.{claimOf, challengeOf}
 use Rattle.choices.specs.Plans.{deedOf, planOf}
@@ -30,8 +30,8 @@ use Rattle.decisions.specs.Authentication.{claimedOf, authenticateFound, authen
 use Rattle.lookup.proofs.Among.{public-among}
 use Rattle.assignment.specs.Assignment.{Assignment, assign, storedName}
 use Rattle.assignment.proofs.Rows.{Decided, alone, owned, named, assign-decided, row-fits}
-use Rattle.fitting.specs.Decide.{assignmentOf, uarPlan, sarPlan, lirPlan, marPlan, planRead}
-use Rattle.fitting.specs.Deeds.{DeedFits}
+use Rattle.deciding.specs.Plans.{assignmentOf, uarPlan, sarPlan, lirPlan, marPlan, planRead}
+use Rattle.deciding.specs.Deeds.{DeedFits}
 
 -- A SAR.
 module _ (count : ℕ) (server : List ℕ) (least : 1 ≤ length server) (most : length server ≤ 96) where
@@ -67,26 +67,26 @@ module _ (count : ℕ) (server : List ℕ) (least : 1 ≤ length server) (most :
       go Fine = (among k refl .0, among k refl .1, least, most)
 
 -- What a request that was read has to be written.
-module _ (req t : List ℕ) (count : ℕ) (v : List ℕ) (seen : Seen) (sound : SoundTable t count) (is : readRequest req ≡ fine seen) where
+module _ (dialect : Dialect) (req t : List ℕ) (count : ℕ) (v : List ℕ) (seen : Seen) (sound : SoundTable t count) (is : readIn dialect req ≡ fine seen) where
   abbrev server : List ℕ
   server = dataSeen seen serverName
 
-  sar-fits : commandOf req ≡ 301 → DeedFits count server (sarPlan req t count seen .deed)
+  sar-fits : dialect .command ≡ 301 → DeedFits count server (sarPlan req t count seen .deed)
   unfolding sarPlan
-  sar-fits c = assign-fits count server (server-least req seen is (inl c)) (server-most req seen is) t (assignmentOf t seen req)
+  sar-fits c = assign-fits count server (server-least dialect req seen is (inl c)) (server-most dialect req seen is) t (assignmentOf req t seen)
 
-  mar-fits : (commandOf req ≡ 300 → ⊥) → (commandOf req ≡ 301 → ⊥) → (commandOf req ≡ 302 → ⊥) → DeedFits count server (marPlan t count v seen .deed)
+  mar-fits : (dialect .command ≡ 300 → ⊥) → (dialect .command ≡ 301 → ⊥) → (dialect .command ≡ 302 → ⊥) → DeedFits count server (marPlan t count v seen .deed)
   unfolding marPlan authenticate
   mar-fits a b c =
       let public = dataSeen seen publicIdentity in
-      found-fits count server (server-least req seen is (inr (a, b, c))) (server-most req seen is) t _ _ _ (findPublic t count public)
+      found-fits count server (server-least dialect req seen is (inr (a, b, c))) (server-most dialect req seen is) t _ _ _ (findPublic t count public)
       (λ k e. (public-among t count public refl .from k e, public-among t count public refl .to k e))
 
-  pub plan-fits : DeedFits count server (planRead req t count v seen .deed)
+  pub plan-fits : DeedFits count server (planRead dialect req t count v seen .deed)
   unfolding planRead uarPlan lirPlan
-  plan-fits = go (eqb (commandOf req) 300) (eqb (commandOf req) 301) (eqb (commandOf req) 302) refl refl refl
+  plan-fits = go (eqb (dialect .command) 300) (eqb (dialect .command) 301) (eqb (dialect .command) 302) refl refl refl
     where
-      go : (x y z : Bool) → eqb (commandOf req) 300 ≡ x → eqb (commandOf req) 301 ≡ y → eqb (commandOf req) 302 ≡ z
+      go : (x y z : Bool) → eqb (dialect .command) 300 ≡ x → eqb (dialect .command) 301 ≡ y → eqb (dialect .command) 302 ≡ z
           → DeedFits count server (cond x (uarPlan t count seen) (cond y (sarPlan req t count seen)
           (cond z (lirPlan t count seen) (marPlan t count v seen))) .deed)
       go true y z a b c = tt

@@ -17,7 +17,7 @@ use Rattle.choices.specs.declared.plan.Finding.{Finding}
 use Rattle.choices.specs.declared.plan.Finding.the-variants.{Denied, Fine}
 use Rattle.decisions.specs.Carried.{servedBy, carried}
 use Rattle.vectors.specs.Chosen.{noneSent}
-use Rattle.fitting.proofs.Tests.{either}
+use Rattle.deciding.proofs.Tests.{either}
 
 abbrev pub Blameless : Given → Type 0
 Blameless g = (g .verdict .place ≡ 0) × (g .verdict .lacks ≡ 0)

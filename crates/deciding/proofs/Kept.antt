@@ -23,16 +23,19 @@ use Rattle.rewrite.proofs.Tables.{Keeping, keeping-same, after-keeping}
 use Rattle.diameter.specs.Avp.{dataOf}
 use Rattle.reading.specs.Kinds.{serverName}
 use Rattle.reading.specs.Rules.{Seen}
+use Rattle.reading.specs.declared.Dialect.{Dialect}
 use Rattle.requests.specs.Judged.{Judged, bad, fine}
-use Rattle.requests.specs.Request.{readRequest, dataSeen}
+use Rattle.requests.specs.Request.{readIn, dataSeen}
 use Rattle.choices.specs.declared.plan.Deed.{Deed}
 use Rattle.choices.specs.declared.plan.Deed.the-variants.{Leave, Settle, Challenge}
 use Rattle.lookup.proofs.Among.{public-among}
 use Rattle.assignment.specs.Assignment.{Assignment, findAll, numbersOf, ownedUpTo, plannedRecords}
 use Rattle.assignment.proofs.OwnTurns.{no-zero}
-use Rattle.fitting.specs.Decide.{assignmentOf, planRead, performed, decideJudged, decide}
-use Rattle.fitting.specs.Deeds.{carriedOut, spentBy, DeedFits}
-use Rattle.fitting.proofs.Deeds.{plan-fits}
+use Rattle.deciding.specs.Plans.{assignmentOf, planRead}
+use Rattle.deciding.specs.Rules.{inForce}
+use Rattle.deciding.specs.Decide.{performedBy, judgedBy, decideBy, decide}
+use Rattle.deciding.specs.Deeds.{carriedOut, spentBy, DeedFits}
+use Rattle.deciding.proofs.Deeds.{plan-fits}
 
 -- block 0, the header, is none of those that a SAR means
 pub named-later : (t : List ℕ) (count : ℕ) (avps : List (List ℕ)) → isOne (numbersOf (findAll t count avps)) 0 ≡ false
@@ -56,20 +59,23 @@ module _ (t : List ℕ) (count : ℕ) (sound : SoundTable t count) where
   reached-keeping ks change keeps none =
       after-keeping t count change (sound-size t count sound) (reaches t ks) keeps (reaches-zero t count sound ks ∙ none) (reaches-closed t ks)
 
-  deed-keeping : (s : Assignment) (d : Deed) → DeedFits count (s .server) d → Keeping t (carriedOut t count s d) count
-  unfolding carriedOut isOne
-  deed-keeping s Leave f = keeping-same t count
-  deed-keeping s (Settle w) f = reached-keeping (plannedRecords t count s (w .owned)) _ (settled-keeps _ _ f) (planned-later t count s (w .owned))
-  deed-keeping s (Challenge k) (a, b, least, most) = reached-keeping (k ∷ []) _ (challenged-keeps (s .server) least most) (rw (ne-eqb 0 k (omega arith)))
+  deed-keeping : (req : List ℕ) (seen : Seen) (d : Deed) → DeedFits count (dataSeen seen serverName) d → Keeping t (carriedOut req t count seen d) count
+  unfolding carriedOut assignmentOf isOne
+  deed-keeping req seen Leave f = keeping-same t count
+  deed-keeping req seen (Settle w) f =
+      let s = assignmentOf req t seen in
+      reached-keeping (plannedRecords t count s (w .owned)) _ (settled-keeps _ _ f) (planned-later t count s (w .owned))
+  deed-keeping req seen (Challenge k) (a, b, least, most) =
+      reached-keeping (k ∷ []) _ (challenged-keeps (dataSeen seen serverName) least most) (rw (ne-eqb 0 k (omega arith)))
 
-pub decide-keeping : (req t : List ℕ) (count : ℕ) (v : List ℕ) → SoundTable t count → Keeping t (decide req t count v .table) count
-unfolding decide decideJudged performed assignmentOf
-decide-keeping req t count v sound = go (readRequest req) refl
+pub decide-keeping : (dialect : Dialect) (req t : List ℕ) (count : ℕ) (v : List ℕ) → SoundTable t count → Keeping t (decide dialect req t count v .table) count
+unfolding decideBy judgedBy performedBy
+decide-keeping dialect req t count v sound = go (readIn dialect req) refl
   where
-    go : (j : Judged) → readRequest req ≡ j → Keeping t (decideJudged req t count v j .table) count
+    go : (j : Judged) → readIn dialect req ≡ j → Keeping t (judgedBy inForce dialect req t count v j .table) count
     go (bad f) e = keeping-same t count
     go (fine seen) e =
-        deed-keeping t count sound (assignmentOf t seen req) (planRead req t count v seen .deed) (plan-fits req t count v seen sound e)
+        deed-keeping t count sound req seen (planRead dialect req t count v seen .deed) (plan-fits dialect req t count v seen sound e)
 
 spent-kept : (v : List ℕ) → SoundVectors v → (sent : Sent) (d : Deed) → checkVectors (spentBy v sent d) ≡ checkVectors v
 unfolding spentBy
@@ -77,10 +83,10 @@ spent-kept v s sent Leave = refl
 spent-kept v s sent (Settle w) = refl
 spent-kept v s sent (Challenge k) = spent-sound v s (sentOf sent)
 
-pub decide-vectors : (req t : List ℕ) (count : ℕ) (v : List ℕ) → SoundVectors v → checkVectors (decide req t count v .vectors) ≡ checkVectors v
-unfolding decide decideJudged performed
-decide-vectors req t count v s = go (readRequest req)
+pub decide-vectors : (dialect : Dialect) (req t : List ℕ) (count : ℕ) (v : List ℕ) → SoundVectors v → checkVectors (decide dialect req t count v .vectors) ≡ checkVectors v
+unfolding decideBy judgedBy performedBy
+decide-vectors dialect req t count v s = go (readIn dialect req)
   where
-    go : (j : Judged) → checkVectors (decideJudged req t count v j .vectors) ≡ checkVectors v
+    go : (j : Judged) → checkVectors (judgedBy inForce dialect req t count v j .vectors) ≡ checkVectors v
     go (bad f) = refl
-    go (fine seen) = spent-kept v s (planRead req t count v seen .given .sent) (planRead req t count v seen .deed)
+    go (fine seen) = spent-kept v s (planRead dialect req t count v seen .given .sent) (planRead dialect req t count v seen .deed)

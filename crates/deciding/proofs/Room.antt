@@ -14,15 +14,18 @@ use Rattle.vectors.specs.VectorFile.{SoundVectors}
 use Rattle.vectors.specs.declared.choice.Sent.{Sent}
 use Rattle.vectors.proofs.Sendable.{none-sendable, unused-sendable}
 use Rattle.reading.specs.Kinds.{userName}
+use Rattle.requests.specs.Judged.{Judged, bad, fine}
 use Rattle.pen.specs.Bytes.{copiedSize}
 use Rattle.pen.proofs.Groups as groups
-use Rattle.requests.specs.Judged.{Judged, bad, fine}
-use Rattle.diameter.specs.Message.{commandOf}
-use Rattle.requests.specs.Request.{readRequest, dataSeen}
+use Rattle.requests.specs.Request.{readIn, dataSeen}
 use Rattle.reading.specs.Verdicts.{numberOf}
+use Rattle.reading.specs.Rules.{Seen}
+use Rattle.reading.specs.declared.Dialect.{Dialect}
+use Rattle.reading.specs.declared.Terms.{Terms}
 use Rattle.reading.specs.declared.Verdict.{Verdict}
 use Rattle.failed.specs.Failing.{failedOf, example, failedBy}
 use Rattle.failed.proofs.Short.{fault-length, example-length}
+use Rattle.choices.specs.Given.{givenFault}
 use Rattle.choices.specs.declared.Given.{Given}
 use Rattle.choices.specs.declared.plan.Finding.the-variants.{Denied, Fine}
 use Rattle.choices.specs.declared.plan.Plan.{Plan}
@@ -37,11 +40,13 @@ use Rattle.assignment.specs.Assignment.{Assignment, found, firstOf, assign}
 use Rattle.assignment.proofs.Rows.{Decided, alone, owned, named, assign-decided}
 use Rattle.parts.specs.Profile.{profileAt}
 use Rattle.parts.proofs.Fields as parts
-use Rattle.reply.specs.Answer.{failedPart, answerBytes}
-use Rattle.reply.proofs.Lengths.{answer-length}
-use Rattle.fitting.specs.Decide.{assignmentOf, uarPlan, sarPlan, lirPlan, marPlan, planRead, performed, decideJudged, decide}
-use Rattle.fitting.proofs.Blameless.{Blameless, Plain, carried-plain, plan-plain}
-use Rattle.fitting.proofs.Tests.{either}
+use Rattle.answering.specs.Answer.{failedPart, answerBytes}
+use Rattle.answering.proofs.Lengths.{answer-length}
+use Rattle.deciding.specs.Plans.{assignmentOf, uarPlan, sarPlan, lirPlan, marPlan, planRead}
+use Rattle.deciding.specs.Rules.{inForce}
+use Rattle.deciding.specs.Decide.{performedBy, judgedBy, decideBy, decide}
+use Rattle.deciding.proofs.Blameless.{Blameless, Plain, carried-plain, plan-plain}
+use Rattle.deciding.proofs.Tests.{either}
 
 -- What Failed-AVP holds is no more than the request itself, or an example.
 holds-short : (a : List ℕ) → length a ≤ 16384 → length (failedPart (some a)) ≤ 16400
@@ -81,37 +86,40 @@ unfolding challengeOf
 challenge-light v (Denied r) k sent h = (inl refl, none-sendable v)
 challenge-light v Fine k sent h = (inl refl, h)
 
-pub decide-light : (req t : List ℕ) (count : ℕ) (v : List ℕ) → SoundVectors v → Light v (decide req t count v .given)
-unfolding decide decideJudged performed planRead uarPlan sarPlan lirPlan marPlan authorize authorizeFound locate locateFound
-    authenticate authenticateFound toSend
-decide-light req t count v vectors = go (readRequest req)
+pub plan-light : (dialect : Dialect) (req t : List ℕ) (count : ℕ) (v : List ℕ) (seen : Seen) → SoundVectors v → Light v (planRead dialect req t count v seen .given)
+unfolding planRead uarPlan sarPlan lirPlan marPlan authorize authorizeFound locate locateFound authenticate authenticateFound toSend
+plan-light dialect req t count v seen vectors =
+    either (λ (p : Plan). Light v (p .given)) (eqb (dialect .command) 300) (carried-light v t count _ _ _)
+    (either (λ (p : Plan). Light v (p .given)) (eqb (dialect .command) 301) (assign-light t count v (assignmentOf req t seen))
+    (either (λ (p : Plan). Light v (p .given)) (eqb (dialect .command) 302) (carried-light v t count _ _ _)
+    (challenge-light v _ _ _ (unused-sendable v (dataSeen seen userName) _ vectors (omega arith)))))
+
+pub fault-light : (v : List ℕ) (f : Verdict) → Light v (givenFault f)
+fault-light v f = (inl refl, none-sendable v)
+
+pub decide-light : (dialect : Dialect) (req t : List ℕ) (count : ℕ) (v : List ℕ) → SoundVectors v → Light v (decide dialect req t count v .given)
+unfolding decideBy judgedBy performedBy
+decide-light dialect req t count v vectors = go (readIn dialect req)
   where
-    go : (j : Judged) → Light v (decideJudged req t count v j .given)
-    go (bad f) = (inl refl, none-sendable v)
-    go (fine seen) =
-        either (λ (p : Plan). Light v (p .given)) (eqb (commandOf req) 300) (carried-light v t count _ _ _)
-        (either (λ (p : Plan). Light v (p .given)) (eqb (commandOf req) 301) (assign-light t count v (assignmentOf t seen req))
-        (either (λ (p : Plan). Light v (p .given)) (eqb (commandOf req) 302) (carried-light v t count _ _ _)
-        (challenge-light v _ _ _ (unused-sendable v (dataSeen seen userName) _ vectors (omega arith)))))
+    go : (j : Judged) → Light v (judgedBy inForce dialect req t count v j .given)
+    go (bad f) = fault-light v f
+    go (fine seen) = plan-light dialect req t count v seen vectors
 
 -- "answer buffer under 36,864 bytes" is refused: no answer is longer
-module _ (t file : List ℕ) (count : ℕ) (s : SoundTable t count) (v : List ℕ) (vectors : SoundVectors v) (req : List ℕ) (h : 20 ≤ length req)
+module _ (t file : List ℕ) (count : ℕ) (s : SoundTable t count) (v : List ℕ) (terms : Terms) (req : List ℕ) (h : 20 ≤ length req)
     (k : length req ≤ 16384) (e : length req % 4 ≡ 0) where
-  light-most : (g : Given) → Light v g → length (answerBytes req t file v g) ≤ 36864
+  pub answer-most : (g : Given) → Light v g → length (answerBytes terms req t file v g) ≤ 36864
   unfolding failedBy
-  light-most g l = go (l .0)
+  answer-most g l = go (l .0)
     where
-      most : length (answerBytes req t file v g) ≤ 3716 + length req + copiedSize (length (profileAt t file (g .profile)))
+      most : length (answerBytes terms req t file v g) ≤ 3716 + length req + copiedSize (length (profileAt t file (g .profile)))
           + length (failedPart (failedBy req (g .verdict)))
-      most = answer-length t count s req file v g (l .1) h e
+      most = answer-length t count s terms req file v g (l .1) h e
 
-      go : (g .profile ≡ 0) ⊎ ((g .verdict .place ≡ 0) × (g .verdict .lacks ≡ 0)) → length (answerBytes req t file v g) ≤ 36864
+      go : (g .profile ≡ 0) ⊎ ((g .verdict .place ≡ 0) × (g .verdict .lacks ≡ 0)) → length (answerBytes terms req t file v g) ≤ 36864
       go (inl p) =
           let none : length (profileAt t file (g .profile)) ≡ 0 = rw p in
           omega (arith, most, failed-short req (g .verdict) k)
       go (inr b) =
           let none : length (failedPart (failedBy req (g .verdict))) ≡ 0 = rw (b .0, b .1) in
           omega (arith, most, parts.profile-length t file count s (g .profile))
-
-  pub answer-most : length (answerBytes req t file v (decide req t count v .given)) ≤ 36864
-  answer-most = light-most (decide req t count v .given) (decide-light req t count v vectors)
