@@ -24,7 +24,7 @@ use Rattle.deciding.specs.Plans.{planRead}
 use Rattle.deciding.specs.Decide.{performedBy, judgedBy, decideBy, decide}
 use Rattle.deciding.specs.Deeds.{carriedOut, spentBy, DeedFits}
 use Rattle.deciding.proofs.Deeds as deeds
-use Rattle.deciding.proofs.Room.{answer-most, decide-light}
+use Rattle.deciding.proofs.Room.{answer-most}
 use Rattle.deciding.specs.Passed.{Passed}
 use Rattle.deciding.specs.Answers.{Tells}
 
@@ -83,15 +83,15 @@ module _ (req t : List ℕ) (count : ℕ) (v : List ℕ) (seen : Seen) (is : rea
       }
 
   pub plan-fits : SoundTable t count → DeedFits count (dataSeen seen serverName) (p .deed)
-  plan-fits sound = rw plans (deeds.plan-fits req t count v seen sound is)
+  plan-fits sound = rw plans (deeds.plan-fits req t count v seen is)
 
   pub plan-sendable : SoundTable t count → SoundVectors v → Sendable v (p .given .sent)
-  plan-sendable sound vectors = rw plan-given (decide-light req t count v vectors .1)
+  plan-sendable sound vectors = rw plan-given (deeds.decide-sendable req t count v vectors)
 
 -- What is given, where that is the decision's, can be sent.
 pub given-sendable : (req t o : List ℕ) (count : ℕ) (v : List ℕ) (g : Given) → Passed req o → SoundTable t count → SoundVectors v
     → g ≡ decide req t count v .given → Sendable v (g .sent)
-given-sendable req t o count v g p s vectors is = rw is (decide-light req t count v vectors .1)
+given-sendable req t o count v g p s vectors is = rw is (deeds.decide-sendable req t count v vectors)
 
 -- The answer of what is given, where that is the decision's.
 module _ (req t file : List ℕ) (count : ℕ) (v : List ℕ) (g : Given) (is : g ≡ decide req t count v .given) where
