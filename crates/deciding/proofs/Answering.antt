@@ -2,6 +2,7 @@
 use Prim.Native.Nat.{ℕ, _≤_}
 use mathlib.Core.List.{List}
 use mathlib.Core.Path.{_≡_, refl, sym, _∙_}
+use mathlib.Core.Logic.{inl}
 use native.Mathlib.Omega.{arith}
 use lib.ListN.{length}
 use borrow.Author.Tests.{ne-eqb}
@@ -9,6 +10,7 @@ use Rattle.octets.specs.Run.{Wrote}
 use Rattle.table.specs.SoundTable.{SoundTable}
 use Rattle.vectors.specs.Chosen.{Sendable}
 use Rattle.vectors.specs.VectorFile.{SoundVectors}
+use Rattle.vectors.proofs.Sendable.{none-sendable}
 use Rattle.rewrite.specs.Change.{alteredUpTo}
 use Rattle.rewrite.proofs.Counts.{altered-none}
 use Rattle.reading.specs.Rules.{Seen}
@@ -29,8 +31,8 @@ use Rattle.answering.specs.Answer.{answerBytes}
 use Rattle.deciding.specs.Plans.{uarPlan, sarPlan, lirPlan, marPlan, planRead}
 use Rattle.deciding.specs.Decide.{performedBy, judgedBy, decideBy, decide}
 use Rattle.deciding.specs.Deeds.{carriedOut, spentBy}
-use Rattle.deciding.proofs.Deeds.{plan-fits}
-use Rattle.deciding.proofs.Room.{plan-light, fault-light, answer-most}
+use Rattle.deciding.proofs.Deeds.{plan-fits, plan-light, plan-sendable}
+use Rattle.deciding.proofs.Room.{given-most}
 use Rattle.deciding.specs.Passed.{Passed}
 use Rattle.deciding.specs.Answers.{Planned, Tells}
 
@@ -68,10 +70,11 @@ fault-near dialect req places o w f e is p = omega (arith, p .most, read-placed 
 -- Its answer fits, and so does that of a plan.
 module _ (v : List ℕ) (f : Verdict) (g : Given) (e : g ≡ givenFault f) where
   pub fault-sendable : Sendable v (g .sent)
-  fault-sendable = rw e (fault-light v f .1)
+  fault-sendable = rw e (none-sendable v)
 
   pub fault-room : (req t file o : List ℕ) (count : ℕ) (terms : Terms) → Passed req o → SoundTable t count → length (answerBytes terms req t file v g) ≤ 36864
-  fault-room req t file o count terms p s = rw e (answer-most t file count s v terms req (p .least) (p .most) (p .fours) (givenFault f) (fault-light v f))
+  fault-room req t file o count terms p s =
+      rw e (given-most t file count s v req (p .least) (p .most) (p .fours) terms (givenFault f) (none-sendable v) (inl refl))
 
 -- By the dialect's command, what is planned is so.
 module _ (dialect : Dialect) (req t : List ℕ) (count : ℕ) (v : List ℕ) (seen : Seen) (p : Plan) where
@@ -80,8 +83,8 @@ module _ (dialect : Dialect) (req t : List ℕ) (count : ℕ) (v : List ℕ) (se
     planned e =
         record {
           plan-is = e;
-          fits = rw e (plan-fits dialect req t count v seen sound is);
-          sendable = rw e (plan-light dialect req t count v seen vectors .1);
+          fits = rw e (plan-fits dialect req t count v seen is);
+          sendable = rw e (plan-sendable dialect req t count v vectors seen is);
         }
 
     pub planned-uar : dialect .command ≡ 300 → p ≡ uarPlan t count seen → Planned dialect req t count v seen p
@@ -101,10 +104,11 @@ module _ (dialect : Dialect) (req t : List ℕ) (count : ℕ) (v : List ℕ) (se
     unfolding planRead
     planned-mar a b d q = planned (rw (ne-eqb (dialect .command) 300 a, ne-eqb (dialect .command) 301 b, ne-eqb (dialect .command) 302 d) q)
 
-  pub plan-room : (file o : List ℕ) (terms : Terms) → Planned dialect req t count v seen p → Passed req o → SoundTable t count → SoundVectors v
+  pub plan-room : (file o : List ℕ) (terms : Terms) → Planned dialect req t count v seen p → readIn dialect req ≡ fine seen → Passed req o → SoundTable t count
       → length (answerBytes terms req t file v (p .given)) ≤ 36864
-  plan-room file o terms plans q s vectors =
-      rw (plans .plan-is) (answer-most t file count s v terms req (q .least) (q .most) (q .fours) _ (plan-light dialect req t count v seen vectors))
+  plan-room file o terms plans is q s =
+      given-most t file count s v req (q .least) (q .most) (q .fours) terms (p .given) (plans .sendable)
+      (rw (plans .plan-is) (plan-light dialect req t count v seen is))
 
 -- No fault: what is given, the table and the vectors are the plan's.
 module _ (dialect : Dialect) (req t : List ℕ) (count : ℕ) (v : List ℕ) (seen : Seen) (is : readIn dialect req ≡ fine seen) (p : Plan)

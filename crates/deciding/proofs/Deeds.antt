@@ -1,95 +1,53 @@
--- What is to be written fits: each row of the table of effects, and the name that a challenge stores.
-use Prim.Native.Nat.{ℕ, _≤_}
+-- What is to be written fits, what is to be sent can be sent, and what is given has room.
+use Prim.Native.Nat.{ℕ}
 use mathlib.Core.List.{List}
-use mathlib.Core.Bool.{Bool, true, false, cond}
-use mathlib.Core.Path.{_≡_, refl, sym}
-use mathlib.Core.Logic.{_⊎_, inl, inr}
-use lib.ListN.{length}
-use lib.Dec.{eqb}
-use borrow.Author.Tests.{eqb-true, eqb-false}
-use Rattle.table.specs.SoundTable.{SoundTable}
-use Rattle.vectors.specs.declared.choice.Sent.{Sent}
-use Rattle.lookup.specs.Find.{findPublic}
-use Rattle.lookup.specs.declared.Found.{Found}
-use Rattle.lookup.specs.declared.Found.the-variants.{At, Nothing}
-use Rattle.reading.specs.Kinds.{publicIdentity, serverName}
+use mathlib.Core.Path.{_≡_}
+use mathlib.Core.Logic.{_⊎_}
+use native.Mathlib.Omega.{arith}
+use Rattle.vectors.specs.Chosen.{Sendable}
+use Rattle.vectors.specs.VectorFile.{SoundVectors}
+use Rattle.vectors.proofs.Sendable.{none-sendable, unused-sendable}
+use Rattle.reading.specs.Kinds.{userName, serverName}
 use Rattle.reading.specs.Rules.{Seen}
-use Rattle.requests.specs.Judged.{fine}
 use Rattle.reading.specs.declared.Dialect.{Dialect}
+use Rattle.requests.specs.Judged.{fine}
 use Rattle.requests.specs.Request.{readIn, dataSeen}
-use Rattle.requests.proofs.Kept.{server-most, server-least}
-use Rattle.choices.specs.Challenges.{claimOf, challengeOf}
-use Rattle.choices.specs.Plans.{deedOf, planOf}
-use Rattle.choices.specs.Types.{effectOf}
-use Rattle.choices.specs.declared.types.Effect.{Effect}
-use Rattle.choices.specs.declared.plan.Finding.{Finding}
-use Rattle.choices.specs.declared.plan.Finding.the-variants.{Denied, Fine}
-use Rattle.choices.specs.declared.plan.Deed.the-variants.{Leave, Settle}
 use Rattle.choices.specs.declared.plan.Plan.{Plan}
-use Rattle.decisions.specs.Authentication.{claimedOf, authenticateFound, authenticate}
-use Rattle.lookup.proofs.Among.{public-among}
-use Rattle.assignment.specs.Assignment.{Assignment, assign, storedName}
-use Rattle.assignment.proofs.Rows.{Decided, alone, owned, named, assign-decided, row-fits}
-use Rattle.deciding.specs.Plans.{assignmentOf, uarPlan, sarPlan, lirPlan, marPlan, planRead}
+use Rattle.decisions.specs.Authentication.{toSend}
+use Rattle.deciding.specs.Plans.{planRead}
+use Rattle.deciding.specs.Decide.{performedBy, decide}
 use Rattle.deciding.specs.Deeds.{DeedFits}
+use Rattle.deciding.proofs.Comes.{Blameless, Comes, tells, settles, challenges, comes, decide-by}
 
--- A SAR.
-module _ (count : ℕ) (server : List ℕ) (least : 1 ≤ length server) (most : length server ≤ 96) where
-  row-deed : (s : Assignment) (first : ℕ) (all : Bool) → DeedFits count server (planOf Fine (s .numbers) first all .deed)
-  unfolding planOf deedOf
-  row-deed s first all = go (effectOf (s .numbers .kind) (s .numbers .keep) .write)
-    where
-      go : (x : Bool) → DeedFits count server (cond x (Settle (record {
-        owned = all;
-        state = effectOf (s .numbers .kind) (s .numbers .keep) .state;
-        named = effectOf (s .numbers .kind) (s .numbers .keep) .named;
-      })) Leave)
-      go true = row-fits server least most (s .numbers .kind) (s .numbers .keep)
-      go false = tt
+pub plan-fits : (dialect : Dialect) (req t : List ℕ) (count : ℕ) (v : List ℕ) (seen : Seen) → readIn dialect req ≡ fine seen
+    → DeedFits count (dataSeen seen serverName) (planRead dialect req t count v seen .deed)
+plan-fits dialect req t count v seen is = go (planRead dialect req t count v seen) (comes dialect req t count v seen is)
+  where
+    go : (p : Plan) → Comes dialect req t count v seen p → DeedFits count (dataSeen seen serverName) (p .deed)
+    go p (tells g x) = tt
+    go p (settles g w x) = x .fits
+    go p (challenges k x) = x .fits
 
-  assign-fits : (t : List ℕ) (s : Assignment) → DeedFits count server (assign t count s .deed)
-  assign-fits t s = go (assign t count s) (assign-decided t count s)
-    where
-      go : (p : Plan) → Decided t count s p → DeedFits count server (p .deed)
-      go p (alone v) = tt
-      go p (owned e c) = row-deed s _ true
-      go p (named place e c) = row-deed s _ false
+-- an answer has User-Data or Failed-AVP, and not both
+pub plan-light : (dialect : Dialect) (req t : List ℕ) (count : ℕ) (v : List ℕ) (seen : Seen) → readIn dialect req ≡ fine seen
+    → (planRead dialect req t count v seen .given .profile ≡ 0) ⊎ Blameless (planRead dialect req t count v seen .given)
+plan-light dialect req t count v seen is = go (planRead dialect req t count v seen) (comes dialect req t count v seen is)
+  where
+    go : (p : Plan) → Comes dialect req t count v seen p → (p .given .profile ≡ 0) ⊎ Blameless (p .given)
+    go p (tells g x) = x .carries .light
+    go p (settles g w x) = x .carries .light
+    go p (challenges k x) = x .carries .light
 
-  -- A MAR: a success is about a record that was found.
-  found-fits : (t user asked : List ℕ) (sent : Sent) (f : Found) → ((k : ℕ) → f ≡ At k → (1 ≤ k) × (k ≤ count))
-      → DeedFits count server (authenticateFound t count user asked sent f .deed)
-  unfolding authenticateFound claimedOf claimOf challengeOf
-  found-fits t user asked sent Nothing among = tt
-  found-fits t user asked sent (At k) among = go (claimOf (claimedOf t count user asked _ (At k)))
-    where
-      go : (c : Finding) → DeedFits count server (challengeOf c k sent .deed)
-      go (Denied r) = tt
-      go Fine = (among k refl .0, among k refl .1, least, most)
+module _ (dialect : Dialect) (req t : List ℕ) (count : ℕ) (v : List ℕ) (vectors : SoundVectors v) where
+  comes-sendable : (seen : Seen) (p : Plan) → Comes dialect req t count v seen p → Sendable v (p .given .sent)
+  unfolding toSend
+  comes-sendable seen p (tells g x) = rw (x .none) (none-sendable v)
+  comes-sendable seen p (settles g w x) = rw (x .none) (none-sendable v)
+  comes-sendable seen p (challenges k x) = unused-sendable v (dataSeen seen userName) _ vectors (omega arith)
 
--- What a request that was read has to be written.
-module _ (dialect : Dialect) (req t : List ℕ) (count : ℕ) (v : List ℕ) (seen : Seen) (sound : SoundTable t count) (is : readIn dialect req ≡ fine seen) where
-  abbrev server : List ℕ
-  server = dataSeen seen serverName
+  pub plan-sendable : (seen : Seen) → readIn dialect req ≡ fine seen → Sendable v (planRead dialect req t count v seen .given .sent)
+  plan-sendable seen is = comes-sendable seen (planRead dialect req t count v seen) (comes dialect req t count v seen is)
 
-  sar-fits : dialect .command ≡ 301 → DeedFits count server (sarPlan req t count seen .deed)
-  unfolding sarPlan
-  sar-fits c = assign-fits count server (server-least dialect req seen is (inl c)) (server-most dialect req seen is) t (assignmentOf req t seen)
-
-  mar-fits : (dialect .command ≡ 300 → ⊥) → (dialect .command ≡ 301 → ⊥) → (dialect .command ≡ 302 → ⊥) → DeedFits count server (marPlan t count v seen .deed)
-  unfolding marPlan authenticate
-  mar-fits a b c =
-      let public = dataSeen seen publicIdentity in
-      found-fits count server (server-least dialect req seen is (inr (a, b, c))) (server-most dialect req seen is) t _ _ _ (findPublic t count public)
-      (λ k e. (public-among t count public refl .from k e, public-among t count public refl .to k e))
-
-  pub plan-fits : DeedFits count server (planRead dialect req t count v seen .deed)
-  unfolding planRead uarPlan lirPlan
-  plan-fits = go (eqb (dialect .command) 300) (eqb (dialect .command) 301) (eqb (dialect .command) 302) refl refl refl
-    where
-      go : (x y z : Bool) → eqb (dialect .command) 300 ≡ x → eqb (dialect .command) 301 ≡ y → eqb (dialect .command) 302 ≡ z
-          → DeedFits count server (cond x (uarPlan t count seen) (cond y (sarPlan req t count seen)
-          (cond z (lirPlan t count seen) (marPlan t count v seen))) .deed)
-      go true y z a b c = tt
-      go false true z a b c = sar-fits (eqb-true _ _ b)
-      go false false true a b c = tt
-      go false false false a b c = mar-fits (eqb-false _ _ a) (eqb-false _ _ b) (eqb-false _ _ c)
+  pub decide-sendable : Sendable v (decide dialect req t count v .given .sent)
+  unfolding performedBy
+  decide-sendable = decide-by dialect req t count v (λ d. Sendable v (d .given .sent)) (λ f e b. none-sendable v) (λ seen e p c. comes-sendable seen p c)

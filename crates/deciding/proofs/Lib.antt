@@ -1,7 +1,8 @@
 pub mod Answering
-pub mod Blameless
+pub mod Comes
 pub mod Deciding
 pub mod Deeds
 pub mod Kept
+pub mod Read
 pub mod Room
 pub mod Tests

@@ -3,9 +3,11 @@ use Prim.Native.Nat.{ℕ}
 use mathlib.Core.List.{List, [], _∷_, map}
 use mathlib.Core.Bool.{Bool, true, false, cond, _&&_}
 use mathlib.Core.Path.{_≡_, refl, sym, ap, _∙_}
+use mathlib.Core.Logic.{_⊎_, inl, inr}
 use native.Mathlib.Omega.{arith}
 use lib.ListN.{length, getD}
 use lib.Dec.{eqb}
+use borrow.Author.Tests.{eqb-true, eqb-false}
 use Rattle.diameter.specs.Put.{All}
 use Rattle.diameter.specs.Reader.{avpAt}
 use Rattle.reading.specs.Kinds.{publicIdentity}
@@ -13,7 +15,8 @@ use Rattle.reading.specs.Rules.{Seen}
 use Rattle.reading.specs.Verdicts.{faultAt}
 use Rattle.diameter.specs.Message.{commandOf, bodyOf}
 use Rattle.reading.specs.Verdicts.{lackOf}
-use Rattle.requests.specs.Request.{identities}
+use Rattle.requests.specs.Judged.{fine}
+use Rattle.requests.specs.Request.{readRequest, identities}
 use Rattle.reading.specs.declared.Verdict.{Verdict}
 use Rattle.requests.specs.Identity.{placesFrom}
 use Rattle.requests.proofs.Naming.{Stood, identities-at, places-stand}
@@ -22,25 +25,18 @@ use Rattle.failed.proofs.Fronts.{failed-at}
 use Rattle.choices.specs.Types.{isRemoval}
 use Rattle.choices.specs.Given.{givenFault}
 use Rattle.choices.specs.Plans.{findingOf}
-use Rattle.choices.specs.Challenges.{challengeOf}
 use Rattle.choices.specs.declared.Given.{Given}
-use Rattle.choices.specs.declared.plan.Finding.{Finding}
-use Rattle.choices.specs.declared.plan.Finding.the-variants.{Denied, Fine}
 use Rattle.choices.specs.declared.plan.Deed.{Deed}
 use Rattle.choices.specs.declared.plan.Deed.the-variants.{Leave, Settle, Challenge}
 use Rattle.choices.specs.declared.plan.Plan.{Plan}
-use Rattle.vectors.specs.declared.choice.Sent.{Sent}
-use Rattle.decisions.specs.Authentication.{authenticateFound, authenticate}
-use Rattle.decisions.specs.Authorization.{authorizeFound, authorize}
-use Rattle.decisions.specs.Location.{locateFound, locate}
 use Rattle.assignment.specs.Assignment.{Assignment, meantBy, found, firstOf, namedSurvey, ownedSurvey, assignMeant, assign, plannedRecords}
 use Rattle.assignment.specs.declared.Meant.{Meant}
 use Rattle.assignment.specs.declared.Meant.the-variants.{Fault, Owned, Listed}
-use Rattle.deciding.specs.Plans.{assignmentOf, uarPlan, sarPlan, lirPlan, marPlan, planRead}
+use Rattle.deciding.specs.Plans.{assignmentOf, sarPlan, planRead}
 use Rattle.deciding.specs.Rules.{inForce}
 use Rattle.deciding.specs.Decide.{Decision, performedBy}
 use Rattle.deciding.specs.Deeds.{carriedOut, spentBy}
-use Rattle.deciding.proofs.Blameless.{Blameless, carried-plain, plan-plain}
+use Rattle.deciding.proofs.Comes.{Blameless, Comes, tells, settles, challenges, plan-blameless, comes}
 use Rattle.demands.proofs.Moved.{failed-there}
 
 -- of what is given the same is answered
@@ -114,13 +110,13 @@ module _ (long short : List ℕ) where
     meant-same req seen s m n (fault x y e f) = record { given = fault-same x y e f; table = refl; vectors = refl }
     meant-same req seen s m n owned =
         record {
-          given = blameless-same _ (plan-plain (findingOf (ownedSurvey t count s) (s .numbers .kind)) (s .numbers) 0 true .0);
+          given = blameless-same _ (plan-blameless (findingOf (ownedSurvey t count s) (s .numbers .kind)) (s .numbers) 0 true);
           table = refl;
           vectors = refl;
         }
     meant-same req seen s m n (named p q) =
         record {
-          given = blameless-same _ (plan-plain (findingOf (namedSurvey t count s) (s .numbers .kind)) (s .numbers) (firstOf (found t count s)) false .0);
+          given = blameless-same _ (plan-blameless (findingOf (namedSurvey t count s) (s .numbers .kind)) (s .numbers) (firstOf (found t count s)) false);
           table = refl;
           vectors = refl;
         }
@@ -166,36 +162,24 @@ module _ (long short : List ℕ) where
       unfolding sarPlan assign
       sar-same = rw (performed-alike _, meant-alike _) (meant-same short seen shorter _ _ places-alike)
 
-      challenge-blameless : (f : Finding) (k : ℕ) (sent : Sent) → Blameless (challengeOf f k sent .given)
-      unfolding challengeOf
-      challenge-blameless (Denied r) k sent = (refl, refl)
-      challenge-blameless Fine k sent = (refl, refl)
+      -- but for a SAR's identities a decision blames no AVP, and but for a SAR the plans are one
+      blames : (p : Plan) → Comes short t count v seen p → (commandOf short ≡ 301) ⊎ Blameless (p .given)
+      blames p (tells g x) = x .blames
+      blames p (settles g w x) = inl (x .command)
+      blames p (challenges k x) = inr (refl, refl)
 
-      uar-blameless : Blameless (uarPlan t count seen .given)
-      unfolding uarPlan authorize authorizeFound
-      uar-blameless = carried-plain t count _ _ _ .0
+      abbrev Same : Plan → Plan → Type 0
+      Same p q = SameDecision long short (performedBy inForce long t count v seen p) (performedBy inForce short t count v seen q)
 
-      lir-blameless : Blameless (lirPlan t count seen .given)
-      unfolding lirPlan locate locateFound
-      lir-blameless = carried-plain t count _ _ _ .0
-
-      mar-blameless : Blameless (marPlan t count v seen .given)
-      unfolding marPlan authenticate authenticateFound
-      mar-blameless = challenge-blameless _ _ _
-
-      pub plan-same : commandOf long ≡ commandOf short
-          → SameDecision long short (performedBy inForce long t count v seen (planRead long t count v seen)) (performedBy inForce short t count v seen (planRead short t count v seen))
+      pub plan-same : readRequest short ≡ fine seen → commandOf long ≡ commandOf short
+          → Same (planRead long t count v seen) (planRead short t count v seen)
       unfolding planRead
-      plan-same e =
-          rw e (go (eqb (commandOf short) 300) (eqb (commandOf short) 301) (eqb (commandOf short) 302))
+      plan-same read e = go (eqb (commandOf short) 301) refl (blames _ (comes short t count v seen read))
         where
-          go : (x y z : Bool)
-              → SameDecision long short
-              (performedBy inForce long t count v seen
-              (cond x (uarPlan t count seen) (cond y (sarPlan long t count seen) (cond z (lirPlan t count seen) (marPlan t count v seen)))))
-              (performedBy inForce short t count v seen
-              (cond x (uarPlan t count seen) (cond y (sarPlan short t count seen) (cond z (lirPlan t count seen) (marPlan t count v seen)))))
-          go true y z = plan-alike (uarPlan t count seen) uar-blameless
-          go false true z = sar-same
-          go false false true = plan-alike (lirPlan t count seen) lir-blameless
-          go false false false = plan-alike (marPlan t count v seen) mar-blameless
+          go : (x : Bool) → eqb (commandOf short) 301 ≡ x → (commandOf short ≡ 301) ⊎ Blameless (planRead short t count v seen .given)
+              → Same (planRead long t count v seen) (planRead short t count v seen)
+          go true f b = rw (e, eqb-true (commandOf short) 301 f) sar-same
+          go false f (inl n) = absurd (eqb-false (commandOf short) 301 f n)
+          go false f (inr b) =
+              let one : planRead long t count v seen ≡ planRead short t count v seen = rw (e, f) in
+              rw one (plan-alike (planRead short t count v seen) b)

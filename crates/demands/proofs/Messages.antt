@@ -210,12 +210,12 @@ module _ (head : List ℕ) (twenty : length head ≡ 20) (b c : List ℕ) (alike
     both-named : identities (bodyOf long) ≡ identities (bodyOf short)
     both-named = rw (message-body head twenty b, message-body head twenty c) named
 
-    judged-same : (t : List ℕ) (count : ℕ) (v : List ℕ) {j k : Judged} → Moved long short from more j k
+    judged-same : (t : List ℕ) (count : ℕ) (v : List ℕ) {j k : Judged} → readRequest short ≡ k → Moved long short from more j k
         → SameDecision long short (judgedBy inForce long t count v j) (judgedBy inForce short t count v k)
     unfolding judgedBy
-    judged-same t count v (faults f g l) = record { given = fault-same long short f g (l .result) (l .failed); table = refl; vectors = refl }
-    judged-same t count v (same seen) =
-        plan-same long short t count v seen both-named (message-command head twenty b ∙ sym (message-command head twenty c))
+    judged-same t count v is (faults f g l) = record { given = fault-same long short f g (l .result) (l .failed); table = refl; vectors = refl }
+    judged-same t count v is (same seen) =
+        plan-same long short t count v seen both-named is (message-command head twenty b ∙ sym (message-command head twenty c))
 
     -- the place is the verdict's, or both have none
     judged-place : (t : List ℕ) (count : ℕ) (v : List ℕ) {j k : Judged} → Moved long short from more j k
@@ -228,7 +228,7 @@ module _ (head : List ℕ) (twenty : length head ≡ 20) (b c : List ℕ) (alike
         → SameDecision long short (decide long t count v) (decide short t count v)
         × (decide long t count v .place ≡ later more (decide short t count v .place))
     unfolding decideBy
-    decide-same t count v = rw (message-read head twenty b, message-read head twenty c) (judged-same t count v read, judged-place t count v read)
+    decide-same t count v = rw (message-read head twenty b, message-read head twenty c) (judged-same t count v (message-read head twenty c) read, judged-place t count v read)
 
     pub served-same : (x : Lent) → Fit b → Fit c → serve (asking x (message head b)) ≡ placed (later more) (serve (asking x (message head c)))
     served-same x f g = go (turnedAway (asking x short)) refl

@@ -71,7 +71,7 @@ module _ (t : List ℕ) (count : ℕ) (sound : SoundTable t count) (bytes : Byte
     where
       go : (e : Judged) → readRequest req ≡ e → Together (judgedBy inForce req t count v e .table)
       go (bad f) e = left-together
-      go (fine seen) e = deed-together req seen (planRead req t count v seen .deed) (plan-fits req t count v seen sound e)
+      go (fine seen) e = deed-together req seen (planRead req t count v seen .deed) (plan-fits req t count v seen e)
 
 pub members-together : (x : Lent) (count : ℕ) → checkOf x ≡ Sound count → Bytes (x .table) → (j k : ℕ) → 1 ≤ j → j ≤ count → 1 ≤ k → k ≤ count
     → sameSet (blockOf (x .table) j) (blockOf (x .table) k) ≡ true

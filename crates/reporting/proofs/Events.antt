@@ -9,6 +9,7 @@ use Rattle.blocks.specs.declared.Checked.{Checked}
 use Rattle.diameter.specs.Message.{commandOf}
 use Rattle.counting.specs.Counted.{Fits, counted}
 use Rattle.counting.specs.declared.Event.{Event}
+use Rattle.deciding.proofs.Comes.{decide-carries}
 use Rattle.calling.specs.Lent.{Lent, lent}
 use Rattle.calling.specs.Serve.{Served, checkOf, checkValue, refused, answered, serve}
 use Rattle.calling.specs.Leaves.{Leaves}
@@ -17,14 +18,13 @@ use Rattle.calling.specs.declared.Came.the-variants as came
 use Rattle.calling.proofs.Kept.{serve-by}
 use Rattle.reporting.specs.Row.{eventBy, eventOf, eventFrom}
 use Rattle.reporting.specs.Counts.{Counts}
-use Rattle.reporting.proofs.Listed.{decide-listed}
 
 -- refusals have numbers up to 6, and every result has a column
 pub event-fits : (x : Lent) → Fits (eventOf x)
 unfolding eventOf refused answered
 event-fits x =
     serve-by x (λ (s : Served). Fits (eventBy x (s .call))) (λ r a b. (a, omega arith))
-    (λ k. decide-listed (x .request) (x .table) (checkValue (checkOf x)) (x .vectors))
+    (λ k. decide-carries (x .request) (x .table) (checkValue (checkOf x)) (x .vectors) .result)
 
 module _ (x : Lent) {command : ℕ} (is : command ≡ commandOf (x .request)) where
   event-is : (r : Came) {t' v' o' : List ℕ} → Leaves x (serve x) (checkValue (checkOf x)) r t' v' o' → eventFrom command r ≡ eventOf x

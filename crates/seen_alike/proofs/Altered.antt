@@ -159,4 +159,4 @@ module _ (t u : List ℕ) (count : ℕ) (sound : SoundTable t count) (other : So
           → alteredUpTo t (judgedBy inForce req t count v j .table) count ≡ alteredUpTo u (judgedBy inForce req u count v j .table) count
       go (bad f) e = altered-none t count ∙ sym (altered-none u count)
       go (fine seen) e =
-          rw (← plan-same [] t u count like req v seen) (deed-altered req v seen (planRead req t count v seen .deed) (plan-fits req t count v seen sound e))
+          rw (← plan-same [] t u count like req v seen) (deed-altered req v seen (planRead req t count v seen .deed) (plan-fits req t count v seen e))

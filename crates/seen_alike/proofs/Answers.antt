@@ -13,9 +13,9 @@ use Rattle.choices.specs.declared.Given.{Given}
 use Rattle.parts.specs.Profile.{profileAt}
 use Rattle.reply.specs.Answer.{originBytes, topBytes, identityBytes, nameBytes, dataBytes, givenBytes, restBytes, bodyBytes, answerBytes}
 use Rattle.deciding.specs.Decide.{decide}
+use Rattle.deciding.proofs.Comes.{Within, decide-carries}
 use Rattle.seen_alike.specs.Shown.{SameTables}
 use Rattle.seen_alike.proofs.Plans.{given-same}
-use Rattle.seen_alike.proofs.Within.{Within, given-within}
 
 module _ (file t u : List ℕ) (count : ℕ) (like : SameTables file t u count) where
   -- something of a record, nothing where there is none
@@ -66,5 +66,5 @@ module _ (file t u : List ℕ) (count : ℕ) (like : SameTables file t u count) 
   -- the answer of the decision
   pub bytes-same : (req v : List ℕ) → answerBytes req t file v (decide req t count v .given) ≡ answerBytes req u file v (decide req u count v .given)
   bytes-same req v =
-      answer-same (decide req t count v .given) (given-within t count req v) req v
+      answer-same (decide req t count v .given) (decide-carries req t count v .within) req v
       ∙ ap (answerBytes req u file v) (given-same file t u count like req v)

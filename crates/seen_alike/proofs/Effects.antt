@@ -166,4 +166,4 @@ module _ (t u : List ℕ) (count : ℕ) (sound : SoundTable t count) (other : So
       go : (j : Judged) → readRequest req ≡ j → AlikeTables (judgedBy inForce req t count v j .table) (judgedBy inForce req u count v j .table) count
       go (bad f) e = alike
       go (fine seen) e =
-          rw (← plan-same [] t u count like req v seen) (deed-alike req v seen (planRead req t count v seen .deed) (plan-fits req t count v seen sound e))
+          rw (← plan-same [] t u count like req v seen) (deed-alike req v seen (planRead req t count v seen .deed) (plan-fits req t count v seen e))

@@ -83,7 +83,7 @@ module _ (x : Lent) where
     unfolding answered
     vectors-are = rw (answered-is taken)
 
-    decided-case : Cases (x .request) (x .table) (checkValue (checkOf x)) v → Quiet ⊎ Sending
+    decided-case : Cases (x .request) (x .table) (checkValue (checkOf x)) v (decided x) → Quiet ⊎ Sending
     decided-case (other o) =
         inl (record { kept = vectors-are ∙ o .still .kept; none = sent-is ∙ o .still .none; apart = λ c. o .apart (c .command) (c .success) })
     decided-case (success s) =

@@ -14,18 +14,16 @@ use Rattle.items.specs.Items.{itemBytes, itemsBytes, numberedBytes, sentBytes}
 use Rattle.reply.specs.Answer.{givenBytes, restBytes, bodyBytes, answerBytes}
 use Rattle.reading.specs.Verdicts.{numberOf}
 use Rattle.reading.specs.declared.Outcome.the-variants.{Base}
-use Rattle.requests.specs.Judged.{Judged, bad, fine}
-use Rattle.requests.specs.Request.{readRequest}
-use Rattle.deciding.specs.Rules.{inForce}
-use Rattle.deciding.specs.Decide.{performedBy, judgedBy, decideBy, decide}
-use Rattle.deciding.proofs.Room.{decide-light}
+use Rattle.deciding.specs.Decide.{performedBy, decide}
+use Rattle.deciding.proofs.Comes.{decide-by}
+use Rattle.deciding.proofs.Deeds.{decide-sendable}
+use Rattle.deciding.proofs.Read.{fails-most}
 use Rattle.calling.specs.Call.{Answered}
 use Rattle.calling.specs.Lent.{Lent}
 use Rattle.calling.specs.Trial.{anyHolds}
 use Rattle.calling.specs.Serve.{checkOf, trials, answerOf, answered, serve, checkValue, decided}
 use Rattle.vectors_sent.specs.Sent.{sentBy, itemsFrom, saidOf, answerWith}
 use Rattle.vectors_sent.proofs.Calls.{answered-is, answered-sound}
-use Rattle.vectors_sent.proofs.Faults.{read-fails}
 
 module _ (v : List ℕ) where
   -- one item more
@@ -50,7 +48,7 @@ module _ (v : List ℕ) where
 
 module _ (x : Lent) (taken : anyHolds (trials x) ≡ false) where
   sendable : Sendable (x .vectors) (decided x .given .sent)
-  sendable = decide-light (x .request) (x .table) (checkValue (checkOf x)) (x .vectors) (answered-sound x taken) .1
+  sendable = decide-sendable (x .request) (x .table) (checkValue (checkOf x)) (x .vectors) (answered-sound x taken)
 
   answer-is : answerOf x (decided x) ≡ answerWith x (decided x .given) (saidOf (x .vectors) (sentBy x))
   unfolding answerBytes bodyBytes restBytes givenBytes sentBy
@@ -67,9 +65,7 @@ module _ (x : Lent) (taken : anyHolds (trials x) ≡ false) where
 
 -- A success blames no AVP.
 pub success-nowhere : (req t : List ℕ) (count : ℕ) (v : List ℕ) → decide req t count v .given .verdict .result ≡ Base 2001 → decide req t count v .place ≡ 0
-unfolding decideBy judgedBy performedBy numberOf
-success-nowhere req t count v = go (readRequest req) refl
-  where
-    go : (j : Judged) → readRequest req ≡ j → judgedBy inForce req t count v j .given .verdict .result ≡ Base 2001 → judgedBy inForce req t count v j .place ≡ 0
-    go (bad f) e r = absurd (omega (arith, read-fails req f e, ap numberOf r))
-    go (fine seen) e r = refl
+unfolding performedBy numberOf
+success-nowhere req t count v =
+    decide-by req t count v (λ d. d .given .verdict .result ≡ Base 2001 → d .place ≡ 0)
+    (λ f e b r. absurd (omega (arith, fails-most (f .result) b, ap numberOf r))) (λ seen e p c r. refl)
