@@ -13,6 +13,9 @@ use Rattle.blocks.specs.declared.Checked.{Checked}
 use Rattle.blocks.specs.declared.Checked.the-variants.{Sound, Bad}
 use Rattle.table.specs.SoundTable.{SoundTable}
 use Rattle.vectors.specs.VectorFile.{checkVectors, SoundVectors}
+use Rattle.reading.specs.declared.Dialect.{Dialect}
+use Rattle.reading.specs.declared.Terms.{Terms}
+use Rattle.requests.specs.Request.{dialectOf}
 use Rattle.deciding.specs.Decide.{decide}
 use Rattle.deciding.proofs.Tests.{neither}
 use Rattle.deciding.specs.Passed.{Passed}
@@ -44,6 +47,9 @@ checked-sound t n count e f = record { file = n; checked = sym e ∙ f }
 
 pub vectors-sound : (v : List ℕ) (n : ℕ) {d : Checked} → d ≡ checkVectors v → d ≡ Sound n → SoundVectors v
 vectors-sound v n e f = record { count = n; checked = sym e ∙ f }
+
+pub dialect-own : (req : List ℕ) (terms : Terms) (d : Dialect) → d ≡ dialectOf terms req → d ≡ dialectOf (d .terms) req
+dialect-own req terms d e = rw e
 
 -- a size that is not wrong
 size-within : (req : List ℕ) → wrongSize req ≡ false → (20 ≤ length req) × (length req ≤ 16384)
@@ -112,9 +118,9 @@ passes req o e h =
     let s = size-within req (l .size) in
     record { least = s .0; most = s .1; fours = length-even req (l .long); room = ltb-false (length o) 36864 (l .room) }
 
-module _ (req t file v o : List ℕ) where
+module _ (req t file v o : List ℕ) (terms : Terms) where
   abbrev x : Lent
-  x = lent req t file v o
+  x = lent req t file v o terms
 
   early-refuses : (count : ℕ) → 0 < early req o → Leaves x (serve x) count (came.Refused (early req o) 0) t v o
   unfolding early serveBy serveFound tried refused
@@ -139,26 +145,29 @@ module _ (req t file v o : List ℕ) where
   unfolding serveChecked tried refused
   over-bad c d k e = record { call-is = rw e; table-is = rw e; vectors-is = rw e; buffer-is = rw e; noted = tt }
 
-  pub over-good : (c d : Checked) (count : ℕ) {r : Came} {t' v' o' : List ℕ} → c ≡ Sound count
-      → Leaves x (serveChecked x (Sound count) d) count r t' v' o' → Leaves x (serveChecked x c d) (checkValue c) r t' v' o'
-  over-good c d count e s = rw e s
+  pub over-good : (c d : Checked) (count : ℕ) (dialect : Dialect) {r : Came} {t' v' o' : List ℕ} → dialect ≡ dialectOf terms req → c ≡ Sound count
+      → Leaves (lent req t file v o (dialect .terms)) (serveChecked (lent req t file v o (dialect .terms)) (Sound count) d) count r t' v' o'
+      → Leaves x (serveChecked x c d) (checkValue c) r t' v' o'
+  over-good c d count dialect is e s = rw e (rw is at s)
 
   module _ (count : ℕ) (d : Checked) where
     pub over-spoilt : (k : ℕ) → d ≡ Bad k → Leaves x (serveChecked x (Sound count) d) count (came.Refused 6 0) t v o
     unfolding serveChecked tried refused
     over-spoilt k e = record { call-is = rw e; table-is = rw e; vectors-is = rw e; buffer-is = rw e; noted = tt }
 
-    pub over-answered : (m : ℕ) (told : Told) {t' v' o' : List ℕ} → d ≡ Sound m → Tells req t count file v o o' told
-        → t' ≡ decide req t count v .table → v' ≡ decide req t count v .vectors
+    pub over-answered : (m : ℕ) (dialect : Dialect) (told : Told) {t' v' o' : List ℕ} → dialect ≡ dialectOf terms req → d ≡ Sound m
+        → Tells dialect req t count file v o o' told → t' ≡ decide dialect req t count v .table → v' ≡ decide dialect req t count v .vectors
         → Leaves x (serveChecked x (Sound count) d) count (came.Answered told) t' v' o'
     unfolding serveChecked tried answered
-    over-answered m told e a f g =
+    over-answered m dialect told is e a f g =
+        let b = rw is at a in
+        let t-is = rw is at f in
         record {
-          call-is = rw (e, a .answers .count, a .place-is);
-          table-is = f ∙ rw e;
-          vectors-is = g ∙ rw e;
-          buffer-is = a .answers .bytes ∙ rw e;
-          noted = (a .result-is, rw f (a .altered-is));
+          call-is = rw (e, b .answers .count, b .place-is);
+          table-is = t-is ∙ rw e;
+          vectors-is = (rw is at g) ∙ rw e;
+          buffer-is = b .answers .bytes ∙ rw e;
+          noted = (b .command-is, b .result-is, rw t-is (b .altered-is));
         }
 
   pub rest-serves : (c d : Checked) {n count : ℕ} {r : Came} {t' v' o' : List ℕ} → n ≡ early req o → n ≤ 0 → c ≡ checkTable t (length file) → d ≡ checkVectors v

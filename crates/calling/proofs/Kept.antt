@@ -13,7 +13,7 @@ use Rattle.vectors.specs.VectorFile.{checkVectors, SoundVectors}
 use Rattle.rewrite.proofs.Sound.{keeping-sound}
 use Rattle.deciding.proofs.Kept.{decide-keeping, decide-vectors}
 use Rattle.deciding.proofs.Tests.{neither}
-use Rattle.calling.specs.Lent.{Lent}
+use Rattle.calling.specs.Lent.{Lent, dialectIn}
 use Rattle.calling.specs.Trial.{Trial, anyHolds}
 use Rattle.calling.specs.Serve.{Served, smallBuffer, wrongSize, wrongLength, noRequest, isBad, checkOf, checkValue, trials, refused, answered, decided}
 use Rattle.calling.specs.Serve.{serveFound, serveBy, serve}
@@ -71,11 +71,11 @@ module _ (x : Lent) where
       (λ k.
       let sound : SoundTable (x .table) (checkValue (checkOf x)) = record { file = length (x .profile); checked = k .table } in
       keeping-sound (x .table) (decided x .table) (checkValue (checkOf x))
-      (decide-keeping (x .request) (x .table) (checkValue (checkOf x)) (x .vectors) sound) sound
+      (decide-keeping (dialectIn x) (x .request) (x .table) (checkValue (checkOf x)) (x .vectors) sound) sound
       ∙ sym (k .table))
 
   pub vectors-checked : checkVectors (serve x .vectors) ≡ checkVectors (x .vectors)
   unfolding refused answered
   vectors-checked =
       serve-by (λ s. checkVectors (s .vectors) ≡ checkVectors (x .vectors)) (λ r a b. refl)
-      (λ k. decide-vectors (x .request) (x .table) (checkValue (checkOf x)) (x .vectors) (k .vectors))
+      (λ k. decide-vectors (dialectIn x) (x .request) (x .table) (checkValue (checkOf x)) (x .vectors) (k .vectors))

@@ -4,6 +4,7 @@ use mathlib.Core.Path.{_≡_}
 use mathlib.Core.List.{List}
 use Rattle.blocks.specs.declared.Checked.{Checked}
 use Rattle.rewrite.specs.Change.{alteredUpTo}
+use Rattle.diameter.specs.Message.{commandOf}
 use Rattle.calling.specs.Call.{callOf}
 use Rattle.calling.specs.Lent.{Lent}
 use Rattle.calling.specs.Trial.{tried}
@@ -11,9 +12,10 @@ use Rattle.calling.specs.Serve.{Served, earlyTrials, fileTrials, refused
 use Rattle.calling.specs.declared.Came.{Came}
 use Rattle.calling.specs.declared.Came.the-variants as came
 
--- of an answer over a table of count records: its result, and how many records have other bytes in the table afterwards
+-- of an answer over a table of count records: the request's command, the result, and how many records have other bytes in the table afterwards
 abbrev pub Noted : Lent → ℕ → List ℕ → Came → Type 0
-Noted x count table' (came.Answered told) = (told .result ≡ decision x count .given .verdict .result) × (told .altered ≡ alteredUpTo (x .table) table' count)
+Noted x count table' (came.Answered told) =
+    (told .command ≡ commandOf (x .request)) × (told .result ≡ decision x count .given .verdict .result) × (told .altered ≡ alteredUpTo (x .table) table' count)
 Noted x count table' (came.Refused number besides) = Unit
 
 pub record Leaves (x : Lent) (s : Served) (count : ℕ) (r : Came) (table' vectors' buffer' : List ℕ) : Type 0 where

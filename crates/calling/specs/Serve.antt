@@ -11,10 +11,10 @@ use Rattle.blocks.specs.declared.Checked.the-variants.{Sound, Bad}
 use Rattle.vectors.specs.VectorFile.{checkVectors}
 use Rattle.deciding.specs.Rules.{Rules, inForce}
 use Rattle.deciding.specs.Decide.{Decision, decideBy}
-use Rattle.reply.specs.Answer.{answerBytes}
+use Rattle.answering.specs.Answer.{answerBytes}
 use Rattle.reading.specs.declared.Outcome.{Outcome}
 use Rattle.calling.specs.Call.{Call, Answered, Refused}
-use Rattle.calling.specs.Lent.{Lent}
+use Rattle.calling.specs.Lent.{Lent, dialectIn}
 use Rattle.calling.specs.Trial.{Trial, tried}
 
 -- what comes of a call
@@ -79,7 +79,7 @@ refused x r = record { call = Refused (r .number) (r .besides); table = x .table
 -- the answer of a decision; "the call returns the answer's length; buffer bytes past it stay"; "and the entry shall return, beside the answer's length,
 -- the place of the AVP at fault"
 abbrev pub answerOf : Lent → Decision → List ℕ
-answerOf x d = answerBytes (x .request) (x .table) (x .profile) (x .vectors) (d .given)
+answerOf x d = answerBytes (x .terms) (x .request) (x .table) (x .profile) (x .vectors) (d .given)
 
 unfoldable pub answered : Lent → Decision → Served
 answered x d =
@@ -92,7 +92,7 @@ answered x d =
 
 -- A call under some rules, where the check of the table answers so: "Tried in this order. .. Otherwise the call returns the answer's length"
 abbrev pub decisionBy : Rules → Lent → ℕ → Decision
-decisionBy r x count = decideBy r (x .request) (x .table) count (x .vectors)
+decisionBy r x count = decideBy r (dialectIn x) (x .request) (x .table) count (x .vectors)
 
 unfoldable pub serveFound : Rules → Lent → Checked → Served
 serveFound r x c = tried (refused x) (answered x (decisionBy r x (checkValue c))) (trialsOf x c)
