@@ -1,6 +1,6 @@
 -- What comes of a move, by its conditions, and the other way round.
 use Prim.Native.Nat.{ℕ, _^_, _<_, _≤_}
-use mathlib.Core.Bool.{Bool, true, false, _&&_, _||_, true≢false}
+use mathlib.Core.Bool.{Bool, true, false, _&&_, _||_, true≢false, or-true}
 use mathlib.Core.Path.{_≡_, refl, sym, _∙_, ap}
 use mathlib.Core.List.{List}
 use mathlib.Core.Logic.{_≢_, inl, inr}
@@ -196,10 +196,6 @@ first-edition e n d f = go (eqb n 0) refl (rw d at f)
 pub small : 0 < 2 ^ 32
 small = omega arith
 
-second : (x : Bool) → (x || true) ≡ true
-second true = refl
-second false = refl
-
 module _ (t : List ℕ) (file count : ℕ) (e : checkTable t file ≡ Sound count) where
   was : TableTests t file count
   was = table-says t file count e
@@ -266,7 +262,7 @@ module _ (t : List ℕ) (file count : ℕ) (e : checkTable t file ≡ Sound coun
   -- forward
   module _ (issue : ℕ) (small : issue < 2 ^ 32) where
     pub forward-sound : checkTable (movedAll t count 2 issue) file ≡ Sound count
-    forward-sound = moved-sound t file count 2 issue was small (second (eqb 2 1 && eqb issue 0)) (λ k a b. second (eqb (setOf (blockOf t k)) 0))
+    forward-sound = moved-sound t file count 2 issue was small (or-true (eqb 2 1 && eqb issue 0)) (λ k a b. or-true (eqb (setOf (blockOf t k)) 0))
 
     forward-edition : editionOf (blockOf (movedAll t count 2 issue) 0) ≡ 2
     forward-edition = edition-new t count 2 issue (was .size) 0 (omega arith)
