@@ -12,12 +12,12 @@ use Rattle.octets.specs.Sum.{sumWords}
 use Rattle.octets.proofs.All.{and-left, and-right}
 use Rattle.octets.proofs.Chains.{chain-says}
 use Rattle.record.specs.Fields.{editionOf, issueOf, setOf}
-use Rattle.record.specs.HeaderBlock.{headerOf, soundCounts, soundEdition, isHeader, soundNumbers, soundHeaderRest, soundHeader}
-use Rattle.record.specs.Networks.{soundNetworks}
+use Rattle.record.specs.HeaderBlock.{headerOf, soundEdition, soundHeader}
 use Rattle.record.specs.RecordBlock.{recordOf, soundRecord}
 use Rattle.record.specs.declared.header.Header.{Header}
+use Rattle.record.proofs.Alike.{SameFields, fields-same, member-same}
 use Rattle.record.proofs.OneSet.{SameMember}
-use Rattle.record.proofs.Tests.{RecordTests, record-says, record-holds, Limits, limits-say, header-says}
+use Rattle.record.proofs.Tests.{RecordTests, record-says, record-holds, Limits, limits-say, HeaderTests, header-says}
 use Rattle.blocks.specs.Blocks.{blockOf}
 use Rattle.table.specs.Named.{publicAt}
 use Rattle.table.specs.Check.{isLess, risesAt, standsAt, agreesAt, soundAt, checkTable}
@@ -29,8 +29,7 @@ use Rattle.blocks.specs.Changed.{changedAt}
 use Rattle.blocks.proofs.Changed.{all-length, all-block}
 use Rattle.moving.specs.Moves.{moved, movedAll, Carried, headerWith}
 use Rattle.moving.proofs.Bytes.{moved-whole, moved-edition, moved-issue, moved-sum, moved-twice}
-use Rattle.moving.proofs.Carried.{moved-carried, first-same, set-same, header-same, public-same, private-same, server-same, record-kept}
-use Rattle.moving.proofs.Carried.{header-kept}
+use Rattle.moving.proofs.Carried.{moved-carried, fields-run, set-same, header-same, record-kept, header-kept}
 use Rattle.moving.proofs.Same.{Bytes, block-bytes, moved-same}
 
 -- What a sound table says of each block: its sum, and the header's edition and issue number.
@@ -47,12 +46,8 @@ module _ (t : List ℕ) (file count : ℕ) (was : TableTests t file count) where
   pub tests-limits : (k : ℕ) → 1 ≤ k → k ≤ count → Limits (recordOf (blockOf t k))
   tests-limits k a b = limits-say (recordOf (blockOf t k)) (tests-record k a b .limits)
 
-  header-sum : sumWords first 128 ≡ 0
-  unfolding soundHeader
-  header-sum =
-      let tests : List Bool = isHeader (headerOf first) ∷ soundNumbers (headerOf first) ∷ soundHeaderRest first (headerOf first)
-      ∷ soundNetworks first (headerOf first .networks) ∷ [] in
-      eqb-true _ _ (chain-says (eqb (sumWords first 128) 0) tests (chain-says (soundCounts (headerOf first)) (_ ∷ []) (was .header) 1) 0)
+  pub header-tests : HeaderTests first
+  header-tests = header-says first (was .header)
 
   record-edition : (k : ℕ) → 1 ≤ k → k ≤ count → editionOf (blockOf t k) ≡ editionOf first
   unfolding recordOf headerOf
@@ -77,11 +72,11 @@ module _ (t : List ℕ) (file count : ℕ) (was : TableTests t file count) where
   each-issue k h = each-block issueOf k h record-issue
 
   each-sum : (k : ℕ) → k ≤ count → sumWords (blockOf t k) 128 ≡ 0
-  each-sum k h = each-block (λ (b : List ℕ). sumWords b 128) k h (λ j a b. tests-record j a b .sum ∙ sym header-sum) ∙ header-sum
+  each-sum k h = each-block (λ (b : List ℕ). sumWords b 128) k h (λ j a b. tests-record j a b .sum ∙ sym (header-tests .sum)) ∙ header-tests .sum
 
   -- edition 1 or 2; edition 1 names no issue number
   pub header-edition : soundEdition (headerOf first) ≡ true
-  header-edition = header-says first (was .header) .edition
+  header-edition = header-tests .edition
 
 -- The blocks of a moved table.
 module _ (t : List ℕ) (count edition issue : ℕ) (size : length t ≡ 512 * (count + 1)) where
@@ -142,11 +137,15 @@ module _ (t : List ℕ) (file count edition issue : ℕ) (was : TableTests t fil
   header-sound : soundHeader (blockOf y 0) ≡ true
   header-sound =
       header-kept (blockOf t 0) (blockOf y 0) (carried 0 none) (rw (edition-is 0 none, issue-is 0 none) right)
-      (sum-new t count edition issue (was .size) 0 none) (was .header)
+      (sum-new t count edition issue (was .size) 0 none) (header-tests t file count was)
+
+  fields-is : (k : ℕ) → 1 ≤ k → k ≤ count → SameFields (blockOf t k) (blockOf y k)
+  fields-is k a b =
+      fields-same (blockOf t k) (blockOf y k) (fields-run (blockOf t k) (blockOf y k) (carried k b)) (tests-limits t file count was k a b)
 
   public-is : (k : ℕ) → 1 ≤ k → k ≤ count → publicAt y k ≡ publicAt t k
   unfolding publicAt
-  public-is k a b = public-same (blockOf t k) (blockOf y k) (carried k b) (tests-limits t file count was k a b)
+  public-is k a b = fields-is k a b .public
 
   rises-is : (k : ℕ) → 1 ≤ k → k ≤ count → risesAt y k ≡ risesAt t k
   unfolding risesAt
@@ -164,15 +163,7 @@ module _ (t : List ℕ) (file count edition issue : ℕ) (was : TableTests t fil
       (sum-new t count edition issue (was .size) k b) (rw (edition-is k b) (sets k a b)) (tests-record t file count was k a b))
 
   member-is : (k : ℕ) → 1 ≤ k → k ≤ count → SameMember (blockOf t k) (blockOf y k)
-  member-is k a b =
-      let limits : Limits (recordOf (blockOf t k)) = tests-limits t file count was k a b in
-      record {
-        set = set-same (blockOf t k) (blockOf y k) (carried k b);
-        private = private-same (blockOf t k) (blockOf y k) (carried k b) limits;
-        state = first-same (blockOf t k) (blockOf y k) (carried k b) 8 (omega arith) (omega arith);
-        bits = first-same (blockOf t k) (blockOf y k) (carried k b) 9 (omega arith) (omega arith);
-        server = server-same (blockOf t k) (blockOf y k) (carried k b) limits;
-      }
+  member-is k a b = member-same (blockOf t k) (blockOf y k) (fields-is k a b) (set-same (blockOf t k) (blockOf y k) (carried k b))
 
   agrees-is : (k : ℕ) → 1 ≤ k → k ≤ count → agreesAt y k ≡ agreesAt t k
   agrees-is k a b = agrees-alike t y k (λ j u v. member-is j u (omega arith)) a
