@@ -7,6 +7,7 @@ use mathlib.Core.Logic.{_≢_, inl, inr}
 use native.Mathlib.Omega.{arith}
 use lib.Dec.{eqb}
 use borrow.Author.Tests.{eq-eqb, ne-eqb, eqb-true, eqb-false}
+use Rattle.octets.proofs.Numbers.{Bytes}
 use Rattle.record.specs.Fields.{editionOf, issueOf, setOf}
 use Rattle.record.specs.HeaderBlock.{headerOf}
 use Rattle.record.specs.RecordBlock.{recordOf}
@@ -18,16 +19,15 @@ use Rattle.table.specs.SoundTable.{SoundTable}
 use Rattle.blocks.specs.declared.Checked.{Checked}
 use Rattle.blocks.specs.declared.Checked.the-variants.{Sound, Bad}
 use Rattle.blocks.proofs.First.{good-each, all-good}
-use Rattle.table.proofs.Sound.{TableTests, table-says, sound-networks, sound-place}
+use Rattle.table.proofs.Sound.{TableTests, table-says, sound-networks, sound-place, tests-record, tests-limits}
 use Rattle.moving.specs.Moves.{movedAll, noSet, firstSet, Carried}
 use Rattle.moving.specs.Outcomes.{Outcome, came, refusing, moving, forwardSound, backPast, backSound, forwardChecked, backChecked, forward, back}
 use Rattle.moving.specs.Outcomes.{ForwardMoves, BackMoves, ForwardRefuses, BackRefuses, FirstWithSet, WithoutSets, SameRecord, SameHeader, SameTable}
 use Rattle.moving.specs.declared.Move.{Move}
 use Rattle.moving.specs.declared.Move.the-variants.{Moved, Refused}
 use Rattle.blocks.proofs.First.{FirstNot, bad-says, bad-holds}
-use Rattle.moving.proofs.Same.{Bytes}
 use Rattle.moving.proofs.Carried.{first-run, fields-run, record-same, header-same, set-same}
-use Rattle.moving.proofs.Moved.{tests-record, tests-limits, header-tests, header-edition, each-edition, moved-size, each-carried, edition-new, issue-new}
+use Rattle.moving.proofs.Moved.{header-tests, header-edition, each-edition, moved-size, each-carried, edition-new, issue-new}
 use Rattle.moving.proofs.Moved.{moved-sound, there-again}
 
 -- Two outcomes of one input are one.

@@ -1,11 +1,11 @@
 -- Sets (02 [6]), as theorems about `serve`, the check and the decisions. What the rules were before them is in specs/WithoutSets.
-use Prim.Native.Nat.{ℕ, _+_, _*_, _<_, _≤_}
+use Prim.Native.Nat.{ℕ, _*_, _<_, _≤_}
 use mathlib.Core.Bool.{Bool, true, false, not, _&&_, _||_, true≢false}
 use mathlib.Core.Path.{_≡_, refl, sym, _∙_, ap}
-use mathlib.Core.List.{List, [], _∷_}
+use mathlib.Core.List.{List}
 use native.Mathlib.Omega.{arith}
 use lib.Dec.{eqb, leb}
-use lib.ListN.{length, getD, take, drop, drop-of-length-le, length-take, length-drop}
+use lib.ListN.{length, drop-of-length-le, length-take, length-drop}
 use borrow.Author.Tests.{eqb-true, leb-true, leb-false}
 use Rattle.octets.specs.Number.{be16At}
 use Rattle.octets.proofs.All.{and-left, and-right}
@@ -18,14 +18,14 @@ use Rattle.table.specs.Check.{checkTable}
 use Rattle.table.specs.SoundTable.{SoundTable}
 use Rattle.blocks.specs.declared.Checked.the-variants.{Sound}
 use Rattle.blocks.proofs.Blocks.{block-length}
-use Rattle.table.proofs.Sound.{TableTests, table-says, sound-agrees, sound-block, sound-limits}
+use Rattle.table.proofs.Sound.{TableTests, table-says, sound-agrees, sound-block, sound-limits, tests-record}
 use Rattle.lookup.specs.Find.{isAt, freeHere, freeAt, findFree, barredAlone}
 use Rattle.lookup.specs.declared.Found.{Found}
 use Rattle.lookup.specs.declared.Found.the-variants.{At, Nothing}
 use Rattle.lookup.proofs.First.{first-none, first-fails}
 use Rattle.rewrite.proofs.Reaching.{header-set}
 use Rattle.rewrite.proofs.Together as members
-use Rattle.moving.proofs.Moved.{tests-record, each-edition}
+use Rattle.moving.proofs.Moved.{each-edition}
 use Rattle.choices.specs.declared.types.AssignmentType.{AssignmentType}
 use Rattle.assignment.specs.Assignment.{storesAt, fitsAt, rightAt}
 use Rattle.calling.specs.Lent.{Lent}
