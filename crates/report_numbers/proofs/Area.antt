@@ -1,5 +1,5 @@
 -- The words that a report writes.
-use Prim.Native.Nat.{ℕ, zero, suc, _+_, _*_, _%_, _^_, _≤_, _<_}
+use Prim.Native.Nat.{ℕ, _+_, _*_, _%_, _^_, _≤_, _<_}
 use mathlib.Core.List.{List}
 use mathlib.Core.Bool.{Bool, true, false}
 use mathlib.Core.Path.{_≡_, refl, sym, ap, _∙_}
@@ -12,11 +12,12 @@ use lib.Dec.{eqb, ltb}
 use borrow.Author.Tests.{ltb-true, ltb-false, eqb-true, eqb-false}
 use Rattle.octets.specs.Run.{over}
 use Rattle.counting.specs.Counted.{howMany, largestIn, numberAt, wordAt, countsOf}
-use Rattle.counting.specs.Totals.{sumFrom, rowTotals}
+use Rattle.counting.specs.Layout.{sumFrom}
+use Rattle.counting.specs.Totals.{rowTotals}
 use Rattle.counting.specs.Words.{longBytes, bytesOf}
 use Rattle.counting.proofs.Counts.{counts-length, counts-at}
 use Rattle.counting.proofs.Numbers.{word-largest, word-other, exact}
-use Rattle.counting.proofs.Totals.{rows-answered, totals-read}
+use Rattle.counting.proofs.Totals.{sum-alike, rows-answered, totals-read}
 use Rattle.calling.specs.Lent.{Lent}
 use Rattle.calling.specs.Serve.{serve}
 use Rattle.reporting.specs.Pieces.{stopOf}
@@ -62,11 +63,6 @@ module _ (x : Lent) where
       go false e =
           let h = ltb-false (length area) 1160 e in
           rw (area-long x area h) (area-length (wordsOf x) area words-length h)
-
-sum-alike : (f g : ℕ → ℕ) (i n : ℕ) → ((k : ℕ) → i ≤ k → k < i + n → f k ≡ g k) → sumFrom f i n ≡ sumFrom g i n
-unfolding sumFrom
-sum-alike f g i zero h = refl
-sum-alike f g i (suc n) h = omega (arith, h i (omega arith) (omega arith), sum-alike f g (suc i) n (λ k a b. h k (omega arith) (omega arith)))
 
 module _ (x : Lent) (area : List ℕ) (room : 1160 ≤ length area) where
   abbrev written : List ℕ

@@ -7,6 +7,8 @@ use native.Mathlib.Omega.{arith}
 use lib.ListN.{length, getD}
 use lib.Dec.{eqb}
 use borrow.Author.Tests.{eqb-true, eq-eqb, ne-eqb, ltb-true}
+use Rattle.octets.proofs.All.{and-left, and-right}
+use Rattle.octets.proofs.Chains.{_also_}
 use Rattle.reading.specs.declared.Outcome.{Outcome}
 use Rattle.reading.specs.declared.Outcome.the-variants.{Base, Experimental}
 use Rattle.counting.specs.Results.{baseResults, experimentalResults, indexIn, rowOf, columnOf, listed, Listed}
@@ -27,17 +29,6 @@ pub same-test : (a b : ℕ) (c : Bool) → (a ≡ b → c ≡ true) → (c ≡ t
 same-test a b true f g = eq-eqb a b (g refl)
 same-test a b false f g = ne-eqb a b (λ e. let z : false ≡ true = f e in false≢true z)
 
-both : (a b : Bool) → a ≡ true → b ≡ true → (a && b) ≡ true
-both a b e f = rw (e, f)
-
-first-true : (a b : Bool) → (a && b) ≡ true → a ≡ true
-first-true true b e = refl
-first-true false b e = e
-
-second-true : (a b : Bool) → (a && b) ≡ true → b ≡ true
-second-true true b e = e
-second-true false b e = absurd (false≢true e)
-
 refused-there : (n : ℕ) → n ≤ 15 → (e : Event) → Fits e → standsIn (4 + n) e ≡ refusedBy n e
 unfolding cellOf
 refused-there n h (Answered e) f =
@@ -52,12 +43,12 @@ answered-there r c h (Answered e) f =
     let column = columnOf (e .result) in
     let l : column < 25 = listed-column (e .result) f in
     same-test (20 + (25 * row + column)) (20 + (25 * r + c)) (eqb row r && eqb column c)
-    (λ q. both (eqb row r) (eqb column c) (eq-eqb row r (omega (arith, q, l))) (eq-eqb column c (omega (arith, q, l))))
+    (λ q. eq-eqb row r (omega (arith, q, l)) also eq-eqb column c (omega (arith, q, l)))
     (λ q.
     omega (
       arith,
-      eqb-true row r (first-true (eqb row r) (eqb column c) q),
-      eqb-true column c (second-true (eqb row r) (eqb column c) q),
+      eqb-true row r (and-left (eqb row r) (eqb column c) q),
+      eqb-true column c (and-right (eqb row r) (eqb column c) q),
     ))
 answered-there r c h (Refused m) f =
     let other : 4 + m ≡ 20 + (25 * r + c) → ⊥ = λ q. omega (arith, q, f .1) in
