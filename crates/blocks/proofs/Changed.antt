@@ -1,9 +1,9 @@
 -- A file of blocks with one of them changed, or with the chosen ones, by its blocks: a changed one anew, and every other as it was.
 use Prim.Native.Nat.{ℕ, zero, suc, _+_, _-_, _*_, _<_, _≤_}
-use mathlib.Core.Bool.{Bool, true, false, cond, _&&_}
+use mathlib.Core.Bool.{Bool, true, false, cond, _&&_, _||_, or-assoc}
 use mathlib.Core.Path.{_≡_, refl, sym, _∙_, ap}
 use mathlib.Core.Logic.{_≢_}
-use mathlib.Core.List.{List, [], _++_, append-nil, append-assoc}
+use mathlib.Core.List.{List, [], _∷_, _++_, append-nil, append-assoc}
 use native.Mathlib.Omega.{arith}
 use lib.Dec.{eqb, ltb}
 use borrow.Author.Tests.{eqb-true, eqb-false, lt-ltb, le-ltb, ltb-true, ltb-false}
@@ -14,7 +14,13 @@ use native.Mathlib.Nat.{add-sub-cancel-left}
 use Rattle.octets.proofs.Parts.{part-alike, spliced, spliced-part, spliced-length, spliced-before, spliced-after}
 use Rattle.blocks.specs.Blocks.{blockOf, tableOf}
 use Rattle.blocks.proofs.Blocks.{block-length, table-same, table-is, table-length, table-block}
-use Rattle.blocks.specs.Changed.{changedAt, changedAll, changedIn}
+use Rattle.blocks.specs.Changed.{isOne, changedAt, changedAll, changedIn}
+
+-- A choice by two lists of numbers is that by either.
+pub one-append : (ks ms : List ℕ) (j : ℕ) → isOne (ks ++ ms) j ≡ (isOne ks j || isOne ms j)
+unfolding isOne
+one-append [] ms j = refl
+one-append (k ∷ ks) ms j = rw (one-append ks ms j) (sym (or-assoc (eqb j k) (isOne ks j) (isOne ms j)))
 
 module _ (t : List ℕ) (k : ℕ) (y : List ℕ) (whole : length y ≡ 512) (fits : 512 * k + 512 ≤ length t) where
   block-spliced : blockOf (spliced t (512 * k) y) k ≡ y

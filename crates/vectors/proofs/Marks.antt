@@ -16,7 +16,7 @@ use Rattle.blocks.proofs.Blocks.{block-length}
 use Rattle.blocks.specs.Sealed.{sealed}
 use Rattle.blocks.specs.Changed.{changedAt, changedIn, isOne}
 use Rattle.blocks.proofs.Sealed.{sealed-length, seal-before, seal-alike}
-use Rattle.blocks.proofs.Changed.{Whole, block-put, all-none, all-length, all-block, one-more}
+use Rattle.blocks.proofs.Changed.{Whole, block-put, all-none, all-length, all-block, one-more, one-append}
 use Rattle.vectors.specs.Chosen.{sentOf, Sendable}
 use Rattle.vectors.specs.Marked.{markedUsed, spent}
 use Rattle.vectors.specs.declared.choice.Sent.{Sent}
@@ -64,12 +64,7 @@ mark-lent v k e = block-put markedUsed v k e
 -- One number more among those sent.
 sent-more : (ks : List ℕ) (k j : ℕ) → isOne (ks ++ (k ∷ [])) j ≡ (isOne ks j || eqb j k)
 unfolding isOne
-sent-more [] k j = or-false (eqb j k)
-sent-more (i ∷ ks) k j = go (eqb j i) (sent-more ks k j)
-  where
-    go : (x : Bool) → isOne (ks ++ (k ∷ [])) j ≡ (isOne ks j || eqb j k) → (x || isOne (ks ++ (k ∷ [])) j) ≡ ((x || isOne ks j) || eqb j k)
-    go true e = refl
-    go false e = e
+sent-more ks k j = one-append ks (k ∷ []) j ∙ ap (λ (x : Bool). isOne ks j || x) (or-false (eqb j k))
 
 module _ (v : List ℕ) (whole : length v % 512 ≡ 0) where
   size : length v ≡ 512 * (length v / 512)
