@@ -63,7 +63,9 @@ module _ (t : List ℕ) (file count : ℕ) (was : TableTests t file count) where
   each-issue k h = each-block issueOf k h record-issue
 
   each-sum : (k : ℕ) → k ≤ count → sumWords (blockOf t k) 128 ≡ 0
-  each-sum k h = each-block (λ (b : List ℕ). sumWords b 128) k h (λ j a b. tests-record t file count was j a b .sum ∙ sym (header-tests .sum)) ∙ header-tests .sum
+  each-sum k h =
+      each-block (λ (b : List ℕ). sumWords b 128) k h (λ j a b. tests-record t file count was j a b .sum ∙ sym (header-tests .sum))
+      ∙ header-tests .sum
 
   -- edition 1 or 2; edition 1 names no issue number
   pub header-edition : soundEdition (headerOf first) ≡ true

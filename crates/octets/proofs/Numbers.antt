@@ -135,7 +135,7 @@ module _ (s : List ℕ) (at : ℕ) (bytes : Bytes s) where
   pub word-held : putBe32 s at (be32At s at) ≡ s
   unfolding putBe32 be32At
   word-held =
-      let d = digits (getD s at 0) (getD s (at + 1) 0) (getD s (at + 2) 0) (getD s (at + 3) 0) (bytes at) (bytes (at + 1)) (bytes (at + 2)) (bytes (at + 3)) refl in
+      let d = digits _ _ _ _ (bytes at) (bytes (at + 1)) (bytes (at + 2)) (bytes (at + 3)) refl in
       rw (d .0, set-getD s at 0, d .1, set-getD s (at + 1) 0, d .2, set-getD s (at + 2) 0, d .3) (set-getD s (at + 3) 0)
 
   pub word-lt : be32At s at < 2 ^ 32
