@@ -7,7 +7,7 @@ use lib.ListN.{length}
 use borrow.Author.Tests.{eq-eqb, ne-eqb}
 use Rattle.lines.specs.Words.{Words}
 use Rattle.calling.specs.Lent.{Lent}
-use Rattle.ndushavire.specs.Reads.{numberIn, valueIn}
+use Rattle.ndushavire.specs.Word.{numberIn, valueIn}
 use Rattle.ndushavire.specs.Promise.{DecidePromise}
 use Rattle.demands.proofs.Demands.{demand-1-word, demand-1-within}
 use Rattle.answer.specs.Said.{SaidFits, Said, SaidTo}

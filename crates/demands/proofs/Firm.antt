@@ -1,5 +1,5 @@
 -- How firm the promise is: it leaves one return for each input, and the word returned decides the answer.
-use Prim.Native.Nat.{ℕ, zero, suc, _+_, _*_, _/_, _≤_, _<_}
+use Prim.Native.Nat.{ℕ, zero, suc, _+_, _*_, _≤_, _<_}
 use mathlib.Core.Bool.{Bool, true, false, _&&_, cond}
 use mathlib.Core.Path.{_≡_, refl, sym, _∙_}
 use mathlib.Core.Logic.{_≢_}
@@ -21,8 +21,9 @@ use Rattle.calling.specs.Call.{Answer}
 use Rattle.calling.specs.Call.{Answered, Refused}
 use Rattle.calling.specs.Lent.{Lent}
 use Rattle.calling.specs.Serve.{checkValue}
-use Rattle.ndushavire.specs.Word.{word, checkWord, callWord}
-use Rattle.ndushavire.specs.Reads.{numberIn, placeIn, valueIn, Reads, ReadsCheck}
+use Rattle.ndushavire.specs.Word.{word, checkWord, callWord, numberIn}
+use Rattle.ndushavire.specs.Reads.{Reads, ReadsCheck}
+use Rattle.ndushavire.proofs.Parts.{parts}
 use Rattle.ndushavire.specs.Promise.{CheckPromise, CheckVectorsPromise, DecidePromise, ForwardPromise, BackPromise, VersionPromise}
 
 -- Any two returns that meet the promise are equal.
@@ -38,18 +39,7 @@ pub decide-unique : (x : Lent) (r s : ℕ) (t u v w o q : List ℕ) → DecidePr
 decide-unique x r s t u v w o q a b =
     (a .word-is ∙ sym (b .word-is), a .table-is ∙ sym (b .table-is), a .vectors-is ∙ sym (b .vectors-is), a .buffer-is ∙ sym (b .buffer-is))
 
--- What is put into a word is read out of it: the number, the place, the value.
-record Parts (number place value : ℕ) : Type 0 where
-  number-is : numberIn (word number place value) ≡ number
-  place-is : placeIn (word number place value) ≡ place
-  value-is : valueIn (word number place value) ≡ value
-
-parts : (number place value : ℕ) → place < 65536 → value < 4294967296 → Parts number place value
-parts number place value l h =
-    let q : word number place value / 4294967296 ≡ number * 65536 + place = omega arith in
-    record { number-is = omega arith; place-is = rw q (omega arith); value-is = omega arith }
-
--- So is a call read back out of its word.
+-- What is put into a word is read out of it; so is a call.
 pub answer-reads : (a : Answer) → a .place < 65536 → a .length < 4294967296 → Reads (Answered a) (callWord (Answered a))
 answer-reads a l h =
     let p = parts 0 (a .place) (a .length) l h in

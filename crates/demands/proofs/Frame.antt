@@ -2,7 +2,7 @@
 use Prim.Native.Nat.{ℕ, zero, suc, _+_, _*_, _/_, _≤_, _<_}
 use mathlib.Core.List.{List, [], _∷_}
 use mathlib.Core.Option.{Option, some}
-use mathlib.Core.Bool.{Bool, true, false, _||_, true≢false}
+use mathlib.Core.Bool.{Bool, true, false, _||_, true≢false, or-true}
 use mathlib.Core.Path.{_≡_, refl, sym, _∙_}
 use mathlib.Core.Logic.{_⊎_, inl, inr, _≢_}
 use native.Mathlib.Omega.{arith}
@@ -39,10 +39,6 @@ reached-owned t subscription [] own j e = absurd (true≢false (sym e))
 reached-owned t subscription (k ∷ ks) own j e =
     go (eqb j k) (sameSet (blockOf t k) (blockOf t j)) refl refl e (reached-owned t subscription ks (λ i f. own i (rw f (or-true (eqb i k)))) j)
   where
-    or-true : (x : Bool) → (x || true) ≡ true
-    or-true true = refl
-    or-true false = refl
-
     first : isOne (k ∷ ks) k ≡ true
     first = rw (eq-eqb k k refl)
 

@@ -14,8 +14,7 @@ use Rattle.requests.specs.Request.{dialectOf, cx, headerFault, firstOther, read
 use Rattle.failed.specs.Failing.{failedOf}
 use Rattle.calling.specs.Lent.{Lent}
 use Rattle.calling.specs.Serve.{Served, serve, resultOf}
-use Rattle.ndushavire.specs.Word.{callPlace}
-use Rattle.ndushavire.specs.Reads.{placeIn}
+use Rattle.ndushavire.specs.Word.{callPlace, placeIn}
 use Rattle.ndushavire.specs.Promise.{DecidePromise}
 use Rattle.demands.specs.Call.{turnedAway}
 use Rattle.demands.specs.Frame.{succeeds}

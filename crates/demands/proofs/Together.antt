@@ -1,28 +1,21 @@
 -- Sets, over whole calls: the members of a set are altered together or not at all; and a removal naming two members of one set is like naming one.
-use Prim.Native.Nat.{ℕ, _+_, _*_, _≤_}
+use Prim.Native.Nat.{ℕ, _≤_}
 use mathlib.Core.List.{List, [], _∷_}
 use mathlib.Core.Bool.{Bool, true, false, cond, _&&_}
 use mathlib.Core.Path.{_≡_, refl, sym, ap, _∙_}
-use native.Mathlib.Omega.{arith}
-use lib.ListN.{length, take, drop, length-take, length-drop}
+use lib.ListN.{length}
 use Rattle.octets.proofs.Numbers.{Bytes}
-use Rattle.record.specs.Fields.{serverSize, serverOf}
-use Rattle.record.specs.RecordBlock.{recordOf}
 use Rattle.record.specs.Sets.{sameSet}
-use Rattle.record.proofs.OneSet.{OneSet, set-says, Agree, agree-says}
 use Rattle.blocks.specs.Blocks.{blockOf}
-use Rattle.table.specs.Named.{privateAt}
 use Rattle.table.specs.SoundTable.{SoundTable}
 use Rattle.blocks.specs.declared.Checked.the-variants.{Sound}
-use Rattle.blocks.proofs.Blocks.{block-length}
-use Rattle.table.proofs.Sound.{sound-block, sound-limits}
-use Rattle.lookup.specs.Find.{isAt, findPublic}
-use Rattle.lookup.specs.declared.Found.the-variants.{At, Nothing}
+use Rattle.lookup.specs.Find.{findPublic}
+use Rattle.lookup.specs.declared.Found.the-variants.{At}
 use Rattle.rewrite.specs.Change.{afterOf, reaches, differ}
 use Rattle.rewrite.specs.Renew.{settled, changeOf}
 use Rattle.rewrite.specs.declared.Change.the-variants.{Settled, Challenged}
 use Rattle.rewrite.proofs.Reaching.{named-twice-after}
-use Rattle.rewrite.proofs.Together.{members-agree, altered-together}
+use Rattle.rewrite.proofs.Together.{altered-together}
 use Rattle.rewrite.proofs.Writes.{differ-same}
 use Rattle.diameter.specs.Avp.{dataOf}
 use Rattle.reading.specs.Kinds.{serverName}
@@ -43,6 +36,7 @@ use Rattle.deciding.specs.Rules.{inForce}
 use Rattle.deciding.specs.Decide.{performedBy, judgedBy, decideBy, decide}
 use Rattle.deciding.specs.Deeds.{settledBy, carriedOut, DeedFits}
 use Rattle.deciding.proofs.Deeds.{plan-fits}
+use Rattle.assignment.proofs.Members.{own-same, stores-same, fits-same, right-same}
 use Rattle.calling.specs.Lent.{Lent}
 use Rattle.calling.specs.Serve.{checkOf, checkValue, refused, answered, serve}
 use Rattle.calling.proofs.Kept.{serve-by}
@@ -89,44 +83,8 @@ members-together x count e bytes j k a b c d one =
     q = ap checkValue e
 
 -- NAMED TWICE. What is seen of two records of one set is what is seen of one.
-server-length : (b : List ℕ) → length b ≡ 512 → serverSize b ≤ 96 → length (serverOf b) ≡ serverSize b
-unfolding serverOf
-server-length b l h = simp (length-take, length-drop) (omega arith)
-
 module _ (t : List ℕ) (count : ℕ) (sound : SoundTable t count) (k j : ℕ) (a : 1 ≤ k) (b : k ≤ count) (c : 1 ≤ j) (d : j ≤ count)
     (one : sameSet (blockOf t k) (blockOf t j) ≡ true) where
-  alike : OneSet (blockOf t k) (blockOf t j)
-  alike = set-says (blockOf t k) (blockOf t j) one
-
-  agree : Agree (blockOf t k) (blockOf t j)
-  agree = agree-says (blockOf t k) (blockOf t j) (members-agree t count sound k j a b c d one)
-
-  room : (i : ℕ) → 1 ≤ i → i ≤ count → serverSize (blockOf t i) ≤ 96
-  unfolding recordOf
-  room i l m = sound-limits t count sound i l m .server
-
-  length-is : (i : ℕ) → 1 ≤ i → i ≤ count → length (serverOf (blockOf t i)) ≡ serverSize (blockOf t i)
-  length-is i l m = server-length (blockOf t i) (block-length t i (sound-block t count sound i m)) (room i l m)
-
-  size-same : serverSize (blockOf t j) ≡ serverSize (blockOf t k)
-  size-same = sym (length-is j c d) ∙ ap length (sym (agree .server)) ∙ length-is k a b
-
-  own-same : (owner : List ℕ) → ownAt t owner j ≡ ownAt t owner k
-  unfolding ownAt privateAt
-  own-same owner = rw (alike .private)
-
-  stores-same : (server : List ℕ) → storesAt t server j ≡ storesAt t server k
-  unfolding storesAt
-  stores-same server = rw (agree .server)
-
-  fits-same : (server : List ℕ) → fitsAt t server j ≡ fitsAt t server k
-  unfolding fitsAt
-  fits-same server = rw (agree .server, size-same)
-
-  right-same : (kind : AssignmentType) → rightAt t kind j ≡ rightAt t kind k
-  unfolding rightAt
-  right-same kind = rw (agree .state)
-
   every-twice : (p : ℕ → Bool) → p j ≡ p k → (ks : List ℕ) → every p (k ∷ (j ∷ ks)) ≡ every p (k ∷ ks)
   unfolding every
   every-twice p e ks = rw e (go (p k) (every p ks))
@@ -140,10 +98,10 @@ module _ (t : List ℕ) (count : ℕ) (sound : SoundTable t count) (k j : ℕ) (
   unfolding surveyOf
   survey-twice owner server kind known ks =
       rw (
-        every-twice (ownAt t owner) (own-same owner) ks,
-        every-twice (storesAt t server) (stores-same server) ks,
-        every-twice (fitsAt t server) (fits-same server) ks,
-        every-twice (rightAt t kind) (right-same kind) ks,
+        every-twice (ownAt t owner) (sym (own-same t count sound k j a b c d one owner)) ks,
+        every-twice (storesAt t server) (sym (stores-same t count sound k j a b c d one server)) ks,
+        every-twice (fitsAt t server) (sym (fits-same t count sound k j a b c d one server)) ks,
+        every-twice (rightAt t kind) (sym (right-same t count sound k j a b c d one kind)) ks,
       )
 
   -- A removal of identities a, b and others is decided as one of a and the others, with the same table afterwards, where a and b are of one set.

@@ -1,14 +1,11 @@
 -- Demand 3: its hypotheses can be met by a SAR and what is put into it, computed.
-use Prim.Native.Nat.{ℕ, zero, suc, _<_}
+use Prim.Native.Nat.{ℕ}
 use mathlib.Core.Path.{_≡_, refl, ap, _∙_}
 use mathlib.Core.List.{List, [], _∷_, _++_}
 use mathlib.Core.Option.{Option, none}
 use mathlib.Core.Logic.{_⊎_}
-use mathlib.Core.Bool.{Bool, true, _&&_}
-use lib.ListN.{getD}
-use lib.Dec.{ltb, lit≤, lit<}
-use borrow.Author.Tests.{ltb-true}
-use Rattle.octets.proofs.All.{and-left, and-right}
+use lib.Dec.{lit≤}
+use Rattle.octets.proofs.Numbers.{allBytes, are-bytes}
 use Rattle.diameter.specs.Put.{Piece}
 use Rattle.pen.specs.Bytes.{wordBytes, headBytes, vendorHead, numberBytes}
 use Rattle.pen.specs.Groups.{failed}
@@ -171,19 +168,9 @@ unfolding all isWhole allWhole many
 met-3-table = demand-3-table head refl session many (many ++ (loud ∷ [])) (all-whole (session ∷ many) refl) [] refl (lit≤ tt) (asked []) (markedAt many [])
 
 -- the SAR as bytes is such a header and row
-allBytes : List ℕ → Bool
-allBytes [] = true
-allBytes (x ∷ l) = ltb x 256 && allBytes l
-
-are-bytes : (l : List ℕ) → allBytes l ≡ true → (i : ℕ) → getD l i 0 < 256
-unfolding allBytes
-are-bytes [] e i = lit< tt
-are-bytes (x ∷ l) e zero = ltb-true x 256 (and-left (ltb x 256) _ e)
-are-bytes (x ∷ l) e (suc i) = are-bytes l (and-right (ltb x 256) _ e) i
-
 met-3-any : Cut (sar s 5)
 unfolding all allBytes
-met-3-any = demand-3-any (sar s 5) (are-bytes (sar s 5) refl) refl refl
+met-3-any = demand-3-any (sar s 5) (λ i. are-bytes (sar s 5) refl i .fits) refl refl
 
 -- In one sentence: the SAR of type 5 with two unmarked ones put in, and with a marked one behind them.
 cut-sar : Cut (sar s 5)

@@ -13,8 +13,7 @@ use Rattle.requests.specs.Judged.{nothing}
 use Rattle.calling.specs.Lent.{Lent, lent}
 use Rattle.calling.specs.Serve.{Served, serve, resultOf}
 use Rattle.blocks.specs.declared.Checked.the-variants.{Sound}
-use Rattle.ndushavire.specs.Word.{word, callPlace, callWord}
-use Rattle.ndushavire.specs.Reads.{placeIn}
+use Rattle.ndushavire.specs.Word.{word, callPlace, callWord, placeIn}
 use Rattle.worked_examples.proofs.Computed.{known, come, held, roomy, no-vectors}
 use Rattle.worked_examples.proofs.Sample.{header, room, answer, s}
 use Rattle.demands.specs.Insertion.{requestOf}

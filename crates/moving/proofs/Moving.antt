@@ -2,6 +2,7 @@
 use Prim.Native.Nat.{ℕ, _^_, _<_, _≤_}
 use mathlib.Core.Path.{_≡_, sym, _∙_}
 use mathlib.Core.List.{List}
+use Rattle.octets.proofs.Numbers.{Bytes}
 use Rattle.record.specs.Fields.{editionOf, issueOf}
 use Rattle.blocks.specs.Blocks.{blockOf}
 use Rattle.table.specs.Check.{checkTable}
@@ -10,7 +11,6 @@ use Rattle.moving.specs.Outcomes.{Outcome, came, refusing, moving, forwa
 use Rattle.moving.specs.Outcomes.{Mixes, ForwardMoves, BackMoves, ForwardRefuses, BackRefuses, SameTable}
 use Rattle.moving.specs.declared.Move.{Move}
 use Rattle.moving.specs.declared.Move.the-variants.{Moved, Refused}
-use Rattle.moving.proofs.Same.{Bytes}
 use Rattle.moving.proofs.Outcomes as outcomes
 use Rattle.moving.proofs.Mixed as mixed
 

@@ -1,20 +1,19 @@
 -- Moves of a small table, computed by the definitions, and each theorem of the page at it.
-use Prim.Native.Nat.{ℕ, zero, suc, _+_, _*_, _≤_}
-use mathlib.Core.Bool.{Bool, true, _&&_}
+use Prim.Native.Nat.{ℕ, _+_, _*_, _≤_}
+use mathlib.Core.Bool.{true}
 use mathlib.Core.List.{List, [], _∷_, _++_}
 use mathlib.Core.Path.{_≡_, refl, sym, ap, _∙_}
 use mathlib.Core.Logic.{inl}
 use native.Mathlib.Omega.{arith}
-use lib.Dec.{ltb, lit<, lit≤}
+use lib.Dec.{lit<, lit≤}
 use lib.ListN.{length, replicate, set}
 use lib.Seq.{sets}
-use borrow.Author.Tests.{ltb-true}
 use Rattle.octets.specs.All.{allBelow}
 use Rattle.octets.specs.Name.{orderOf}
 use Rattle.octets.specs.Number.{be16At, be32At, putBe32}
 use Rattle.octets.specs.Run.{zeros, zeroBetween}
 use Rattle.octets.specs.Sum.{sumWords}
-use Rattle.octets.proofs.All.{and-left, and-right}
+use Rattle.octets.proofs.Numbers.{Bytes, allBytes, are-bytes}
 use Rattle.record.specs.Fields.{editionOf, issueOf, setOf, publicOf, serverOf}
 use Rattle.record.specs.HeaderBlock.{headerOf, soundHeader}
 use Rattle.record.specs.Networks.{usedPlace, soundPlace, sameByte, otherPlace, newPlace, soundNetworks}
@@ -31,7 +30,6 @@ use Rattle.moving.specs.Outcomes.{came, refusing, moving, forwardSound, 
 use Rattle.moving.specs.Outcomes.{OtherEdition, HasSets, WithoutSets, Mixes, ForwardMoves, BackMoves, ForwardRefuses, BackRefuses, SameTable}
 use Rattle.moving.specs.declared.Move.the-variants.{Moved}
 use Rattle.moving.proofs.Moving as page
-use Rattle.moving.proofs.Same.{Bytes}
 
 -- A header of one record with host `h` and realm `r`; record 1, public identity `a`, private identity `p`, in state 1 at `s`; of an edition and an issue
 -- number, and the record of a set.
@@ -99,16 +97,6 @@ unfolding opened
 second-moved = refl
 
 -- What the theorems ask of them.
-allBytes : List ℕ → Bool
-allBytes [] = true
-allBytes (x ∷ l) = ltb x 256 && allBytes l
-
-are-bytes : (l : List ℕ) → allBytes l ≡ true → Bytes l
-unfolding allBytes
-are-bytes [] e i = lit< tt
-are-bytes (x ∷ l) e zero = ltb-true x 256 (and-left (ltb x 256) _ e)
-are-bytes (x ∷ l) e (suc i) = are-bytes l (and-right (ltb x 256) _ e) i
-
 first-bytes : Bytes first
 unfolding opened allBytes
 first-bytes = are-bytes first refl

@@ -1,5 +1,5 @@
--- The word that a call returned, read back: bits 48 to 63, 32 to 47 and 0 to 31, and what they say.
-use Prim.Native.Nat.{ℕ, _/_, _%_}
+-- The word that a call returned, read back, and what it says.
+use Prim.Native.Nat.{ℕ}
 use mathlib.Core.Bool.{Bool, true, false}
 use mathlib.Core.Path.{_≡_}
 use lib.Dec.{eqb}
@@ -8,16 +8,7 @@ use Rattle.blocks.specs.declared.Checked.the-variants.{Sound, Bad}
 use Rattle.calling.specs.Call.{Call}
 use Rattle.calling.specs.Call.{Answered, Refused}
 use Rattle.calling.specs.Serve.{checkValue}
-use Rattle.ndushavire.specs.Word.{checkNumber, callNumber, callPlace, callValue}
-
-abbrev pub numberIn : ℕ → ℕ
-numberIn w = w / 281474976710656
-
-abbrev pub placeIn : ℕ → ℕ
-placeIn w = w / 4294967296 % 65536
-
-abbrev pub valueIn : ℕ → ℕ
-valueIn w = w % 4294967296
+use Rattle.ndushavire.specs.Word.{numberIn, placeIn, valueIn, checkNumber, callNumber, callPlace, callValue}
 
 abbrev pub callBy : Bool → ℕ → ℕ → ℕ → Call
 callBy true number place value = Answered (record { length = value; place = place })

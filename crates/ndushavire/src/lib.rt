@@ -1,33 +1,23 @@
 // What the daemon calls.
+pub mod word;
+
 use blocks::Checked;
 use calling::Came;
 use moving::Move;
 ghost use mathlib.Core.Path.{_≡_};
 ghost use Rattle.calling.specs.Call.{callOf};
 ghost use Rattle.calling.specs.Lent.{lent};
-ghost use Rattle.ndushavire.specs.Word.{word, checkWord, callWord, moveWord};
+ghost use Rattle.ndushavire.specs.Word.{checkWord, callWord, moveWord};
 ghost use Rattle.ndushavire.specs.Promise.{CheckPromise, CheckVectorsPromise, DecidePromise, ReportPromise};
 ghost use Rattle.ndushavire.specs.Promise.{ForwardPromise, BackPromise, VersionPromise};
-
-// What the number of a returned word counts, 2^48, and what the place counts, 2^32.
-const NUMBER: u64 = 281474976710656;
-
-const PLACE: u64 = 4294967296;
-
-// A number, a place and what is returned besides, as one word.
-fn word(number: u16, place: u16, value: u32) -> u64
-    ensures { λ r. ⌜ r ≡ word number place value ⌝ }
-{
-    (number as u64) * NUMBER + (place as u64) * PLACE + (value as u64)
-}
 
 // The word of a check's answer: a bad block has the refusal's number.
 fn check_word(number: u16, c: Checked) -> u64
     ensures { λ r. ⌜ r ≡ checkWord number c ⌝ }
 {
     match c {
-        Checked::Sound(count) => word(0, 0, count),
-        Checked::Bad(block) => word(number, 0, block),
+        Checked::Sound(count) => word::of(0, 0, count),
+        Checked::Bad(block) => word::of(number, 0, block),
     }
 }
 
@@ -52,8 +42,8 @@ fn call_word(c: Came) -> u64
     ensures { λ r. ⌜ r ≡ callWord (callOf c) ⌝ }
 {
     match c {
-        Came::Answered(told) => word(0, told.place, told.length),
-        Came::Refused { number, besides } => word(number, 0, besides),
+        Came::Answered(told) => word::of(0, told.place, told.length),
+        Came::Refused { number, besides } => word::of(number, 0, besides),
     }
 }
 
@@ -88,7 +78,7 @@ pub extern "C" fn ndushavire_report(
         (lent (now (requests .entry)) (now (table .entry)) (now (profile .entry)) (now (vectors .entry)) (now (answer .entry))) (now (report .entry))
         r (now (table .exit)) (now (vectors .exit)) (now (answer .exit)) (now (report .exit)) ⌝ }
 {
-    word(
+    word::of(
         reporting::report(requests, table, profile, vectors, answer, report),
         0,
         0,
@@ -100,8 +90,8 @@ fn move_word(m: Move) -> u64
     ensures { λ r. ⌜ r ≡ moveWord m ⌝ }
 {
     match m {
-        Move::Moved(count) => word(0, 0, count),
-        Move::Refused { number, block } => word(number, 0, block),
+        Move::Moved(count) => word::of(0, 0, count),
+        Move::Refused { number, block } => word::of(number, 0, block),
     }
 }
 

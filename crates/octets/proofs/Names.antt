@@ -112,7 +112,7 @@ less-tail x y s t e h =
     let b : x ≤ y = omega arith in
     rw (le-ltb _ _ a, le-ltb _ _ b) h
 
-never : {A : Type 0} → _≡_ {A = ℕ} 0 1 → A
+pub never : {A : Type 0} → _≡_ {A = ℕ} 0 1 → A
 never e = absurd (omega arith)
 
 less-cases : (x y : ℕ) (s t : List ℕ) → orderOf (x ∷ s) (y ∷ t) ≡ Less → (x < y) ⊎ ((x ≡ y) × (orderOf s t ≡ Less))

@@ -7,6 +7,7 @@ use native.Mathlib.Omega.{arith}
 use lib.Dec.{ltb}
 use lib.ListN.{length, getD, take}
 use borrow.Author.Tests.{lt-ltb, le-ltb, ltb-true, ltb-false}
+use Rattle.octets.proofs.Names.{never}
 use Rattle.octets.specs.Name.{orderOf, byLength}
 use Rattle.octets.specs.declared.name.Order.{Order}
 use Rattle.octets.specs.declared.name.Order.the-variants.{Less, Equal, Greater}
@@ -15,9 +16,6 @@ abbrev pub byField : Order → Order → Order
 byField Less o = Less
 byField Equal o = o
 byField Greater o = Greater
-
-never : {A : Type 0} → _≡_ {A = ℕ} 0 1 → A
-never e = absurd (omega arith)
 
 -- No name comes before none, and none after another.
 empty-first : {A : Type 0} (u : List ℕ) → orderOf [] u ≡ Greater → A

@@ -1,6 +1,6 @@
 -- Without sets each rule is what it was: the check, the barring rule, the effects.
 use Prim.Native.Nat.{ℕ, suc, zero, _+_, _-_, _*_, _<_, _≤_}
-use mathlib.Core.Bool.{Bool, true, false, not, _&&_, _||_, cond, true≢false}
+use mathlib.Core.Bool.{Bool, true, false, not, _&&_, _||_, cond, true≢false, and-true}
 use mathlib.Core.Path.{_≡_, refl, sym, _∙_, ap}
 use mathlib.Core.List.{List, [], _∷_}
 use native.Mathlib.Omega.{arith}
@@ -53,11 +53,7 @@ module _ (t : List ℕ) (none : NoSets t) where
 
   sound-is : (h : Header) (file k : ℕ) → standsAt t h file k ≡ soundAt t h file k
   unfolding soundAt
-  sound-is h file k = rw (agrees k) (go (standsAt t h file k))
-    where
-      go : (x : Bool) → x ≡ (x && true)
-      go true = refl
-      go false = refl
+  sound-is h file k = rw (agrees k) (sym (and-true (standsAt t h file k)))
 
   pub check-is : (file : ℕ) → checkBefore t file ≡ checkTable t file
   unfolding checkBefore checkTable checkRecords
@@ -68,11 +64,7 @@ module _ (t : List ℕ) (none : NoSets t) where
   module _ (count : ℕ) where
     alone-is : (k : ℕ) → barred (bitsOf (blockOf t k)) ≡ barredAlone t count (blockOf t k)
     unfolding barredAlone
-    alone-is k = rw (← free-none t count (blockOf t k) refl (none k)) (go (barred (bitsOf (blockOf t k))))
-      where
-        go : (x : Bool) → x ≡ (x && true)
-        go true = refl
-        go false = refl
+    alone-is k = rw (← free-none t count (blockOf t k) refl (none k)) (sym (and-true (barred (bitsOf (blockOf t k)))))
 
     asked-is : (user network : List ℕ) (f : Found) → askedBefore t count user network f ≡ askedOf t count user network f
     unfolding askedBefore askedOf

@@ -15,8 +15,7 @@ use Rattle.counting.specs.Results.{listed}
 use Rattle.counting.specs.Words.{longBytes}
 use Rattle.calling.specs.Lent.{Lent, lent, asking}
 use Rattle.calling.specs.Serve.{serve}
-use Rattle.ndushavire.specs.Word.{word, callWord}
-use Rattle.ndushavire.specs.Reads.{placeIn, valueIn}
+use Rattle.ndushavire.specs.Word.{word, callWord, placeIn, valueIn}
 use Rattle.ndushavire.specs.Promise.{ReportPromise}
 use Rattle.reporting.specs.Pieces.{stopOf}
 use Rattle.reporting.specs.Row.{eventOf, row, left}

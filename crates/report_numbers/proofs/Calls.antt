@@ -1,7 +1,7 @@
 -- The calls of a report in turn: two rows of them, the records altered, the largest answer.
-use Prim.Native.Nat.{ℕ, zero, suc, _+_, _*_, _≤_, max}
+use Prim.Native.Nat.{ℕ, suc, _+_, _*_, _≤_, max}
 use mathlib.Core.List.{List, [], _∷_, _++_}
-use mathlib.Core.Bool.{Bool, true, false, cond}
+use mathlib.Core.Bool.{Bool, true, false}
 use mathlib.Core.Path.{_≡_, refl, sym, ap, _∙_}
 use mathlib.Core.Logic.{_⊎_, inl, inr}
 use native.Mathlib.Omega.{arith}
@@ -17,7 +17,7 @@ use Rattle.counting.specs.Counted.{alteredIn, largestIn}
 use Rattle.counting.specs.Counted as counted
 use Rattle.counting.specs.declared.Event.{Event}
 use Rattle.counting.proofs.Numbers.{largest-append}
-use Rattle.rewrite.proofs.Counts.{altered-none}
+use Rattle.rewrite.proofs.Counts.{altered-none, altered-most}
 use Rattle.calling.specs.Call.{Call, Answered, Refused}
 use Rattle.calling.specs.Lent.{Lent, asking}
 use Rattle.calling.specs.Serve.{Served, checkOf, checkValue, refused, answered, serve}
@@ -85,15 +85,6 @@ row-altered x [] = refl
 row-altered x (p ∷ ps) = omega (arith, event-altered (asking x p), row-altered (next x p) ps)
 
 -- at most all of 4,096 a call
-altered-most : (t u : List ℕ) (n : ℕ) → alteredUpTo t u n ≤ n
-unfolding alteredUpTo differ
-altered-most t u zero = omega arith
-altered-most t u (suc n) = go (same (blockOf t (suc n)) (blockOf u (suc n))) (altered-most t u n)
-  where
-    go : (b : Bool) → alteredUpTo t u n ≤ n → alteredUpTo t u n + cond b 0 1 ≤ suc n
-    go true h = omega arith
-    go false h = omega arith
-
 pub over-most : (x : Lent) (ps : List (List ℕ)) → alteredOver x ps ≤ 4096 * length ps
 unfolding alteredOver
 over-most x [] = omega arith

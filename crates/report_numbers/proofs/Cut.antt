@@ -15,6 +15,7 @@ use Rattle.diameter.specs.Put.{All}
 use Rattle.deciding.proofs.Tests.{neither}
 use Rattle.reporting.specs.Pieces.{broken, piecesIn, pieces, totalOf, stopOf}
 use Rattle.reporting.proofs.Cutting.{pieces-none, pieces-first}
+use Rattle.octets.proofs.Parts.{nothing}
 use Rattle.report_numbers.specs.File.{OneRequest, joined, Breaks}
 
 -- a request stands first
@@ -188,10 +189,6 @@ module _ (s more : List ℕ) (whole : stopOf s ≡ length s) where
       let d = laid s in
       let z : length (d .rest) ≤ 0 = omega (arith, ap length (rest-is s), rest-length s) in
       sym (d .file ∙ ap (λ (r : List ℕ). joined (pieces s) ++ r) (nothing (d .rest) z) ∙ append-nil (joined (pieces s)))
-    where
-      nothing : (r : List ℕ) → length r ≤ 0 → r ≡ []
-      nothing [] h = refl
-      nothing (b ∷ bs) h = absurd (omega arith)
 
   pub two-pieces : pieces (s ++ more) ≡ pieces s ++ pieces more
   two-pieces = ap (λ (r : List ℕ). pieces (r ++ more)) (sym used-file) ∙ pieces-joined (pieces s) (pieces-one s) more

@@ -17,10 +17,11 @@ use Rattle.reading.specs.declared.Outcome.{Outcome}
 use Rattle.diameter.specs.Put.{All}
 use Rattle.counting.specs.Results.{columnOf, Listed}
 use Rattle.counting.specs.Counted.{howMany, numberAt, wordAt}
+use Rattle.counting.specs.Layout.{readWord, stopWord, alteredWord, largestWord, answeredWord, refusalWord, cellWord}
 use Rattle.counting.specs.Words.{longBytes}
 use Rattle.calling.specs.Lent.{Lent, asking}
 use Rattle.calling.specs.Serve.{checkOf, serve}
-use Rattle.ndushavire.specs.Reads.{numberIn, placeIn, valueIn}
+use Rattle.ndushavire.specs.Word.{numberIn, placeIn, valueIn}
 use Rattle.ndushavire.specs.Promise.{DecidePromise, ReportPromise}
 use Rattle.reporting.specs.Pieces.{stopOf}
 use Rattle.reporting.specs.Row.{eventOf, row, left}
@@ -78,10 +79,10 @@ module _ (x : Lent) (a : List ℕ) (room : 1160 ≤ length a) where
   report-length = area.report-length x a
 
   -- Word 1 is the byte where reading stopped, and every other counts over the row of `serve`'s outcomes.
-  pub report-place : length (x .request) < 2 ^ 64 → wordIn (reported x a .area) 1 ≡ stopOf (x .request)
+  pub report-place : length (x .request) < 2 ^ 64 → wordIn (reported x a .area) stopWord ≡ stopOf (x .request)
   report-place = area.report-place x a room
 
-  pub report-word : (i : ℕ) → i < 145 → i ≢ 1 → wordIn (reported x a .area) i ≡ wordAt (eventsOf x) i
+  pub report-word : (i : ℕ) → i < 145 → i ≢ stopWord → wordIn (reported x a .area) i ≡ wordAt (eventsOf x) i
   report-word = area.report-word x a room
 
   -- "Counts of 64 bits": there are fewer requests than bytes, so of a file under 2^64 bytes a count is the number itself.
@@ -89,40 +90,40 @@ module _ (x : Lent) (a : List ℕ) (room : 1160 ≤ length a) where
   report-few = cut.few-pieces (x .request)
 
   module _ (short : length (x .request) < 2 ^ 64) where
-    pub report-count : (i : ℕ) → i < 145 → i ≢ 1 → i ≢ 2 → i ≢ 3 → wordIn (reported x a .area) i ≡ numberAt (eventsOf x) i
+    pub report-count : (i : ℕ) → i < 145 → i ≢ stopWord → i ≢ alteredWord → i ≢ largestWord → wordIn (reported x a .area) i ≡ numberAt (eventsOf x) i
     report-count = area.report-exact x a room short
 
-    pub report-read : wordIn (reported x a .area) 0 ≡ length (requestsOf x)
+    pub report-read : wordIn (reported x a .area) readWord ≡ length (requestsOf x)
     report-read = area.report-read x a room short
 
     -- "for each refusal, how many", and "for each command (300 to 303, the rest as one) and each result, B and X apart, how many".
-    pub report-refused : (n : ℕ) → 1 ≤ n → n ≤ 15 → wordIn (reported x a .area) (4 + n) ≡ howMany (refusedBy n) (eventsOf x)
+    pub report-refused : (n : ℕ) → 1 ≤ n → n ≤ 15 → wordIn (reported x a .area) (refusalWord n) ≡ howMany (refusedBy n) (eventsOf x)
     report-refused n l h = area.refused-word x a room short n l h
 
-    pub report-answered : (r c : ℕ) → r ≤ 4 → c < 25 → wordIn (reported x a .area) (20 + (25 * r + c)) ≡ howMany (answeredIn r c) (eventsOf x)
+    pub report-answered : (r c : ℕ) → r ≤ 4 → c < 25 → wordIn (reported x a .area) (cellWord r c) ≡ howMany (answeredIn r c) (eventsOf x)
     report-answered r c h l = area.answered-word x a room short r c h l
 
     -- "THE ROW TOTALS ADD UP TO THE REQUESTS READ": the five rows and the refusals 1 to 15; the rows alone are the requests answered.
-    pub report-totals : rowsIn (reported x a .area) + refusalsIn (reported x a .area) ≡ wordIn (reported x a .area) 0
+    pub report-totals : rowsIn (reported x a .area) + refusalsIn (reported x a .area) ≡ wordIn (reported x a .area) readWord
     report-totals = area.report-totals x a room short
 
-    pub report-rows : rowsIn (reported x a .area) ≡ wordIn (reported x a .area) 4
+    pub report-rows : rowsIn (reported x a .area) ≡ wordIn (reported x a .area) answeredWord
     report-rows = area.report-rows x a room short
 
   -- "RECORDS ALTERED, ONCE PER REQUEST": the sum over the calls of how many records have other bytes after each; its remainder by 2^64, which is the sum
   -- itself of a file under 2^56 bytes.
-  pub report-altered : wordIn (reported x a .area) 2 ≡ alteredOver x (requestsOf x) % 2 ^ 64
+  pub report-altered : wordIn (reported x a .area) alteredWord ≡ alteredOver x (requestsOf x) % 2 ^ 64
   report-altered = area.report-altered x a room
 
-  pub report-altered-exact : length (x .request) < 2 ^ 56 → wordIn (reported x a .area) 2 ≡ alteredOver x (requestsOf x)
+  pub report-altered-exact : length (x .request) < 2 ^ 56 → wordIn (reported x a .area) alteredWord ≡ alteredOver x (requestsOf x)
   report-altered-exact = area.report-altered-exact x a room
 
   -- "AND THE LARGEST ANSWER": none is longer, and it is one of them, or 0.
-  pub report-largest : (p : Place (requestsOf x)) → answerLength (serve (callAt x p) .call) ≤ wordIn (reported x a .area) 3
+  pub report-largest : (p : Place (requestsOf x)) → answerLength (serve (callAt x p) .call) ≤ wordIn (reported x a .area) largestWord
   report-largest = area.largest-word x a room
 
-  pub report-largest-one : (wordIn (reported x a .area) 3 ≡ 0)
-      ⊎ ((p : Place (requestsOf x)) × (answerLength (serve (callAt x p) .call) ≡ wordIn (reported x a .area) 3))
+  pub report-largest-one : (wordIn (reported x a .area) largestWord ≡ 0)
+      ⊎ ((p : Place (requestsOf x)) × (answerLength (serve (callAt x p) .call) ≡ wordIn (reported x a .area) largestWord))
   report-largest-one = area.largest-word-one x a room
 
 -- No two results have one column.
@@ -189,18 +190,18 @@ module _ (x : Lent) (more a : List ℕ) (room : 1160 ≤ length a) (whole : repo
     report-both-leaves = join.two-leave x more a room whole b space
 
     -- The counts add up, and so do the places; the largest answer is the larger of the two.
-    pub report-both-words : (i : ℕ) → i < 145 → i ≢ 1 → i ≢ 3
+    pub report-both-words : (i : ℕ) → i < 145 → i ≢ stopWord → i ≢ largestWord
         → wordIn (reported (asking x (x .request ++ more)) a .area) i
         ≡ (wordIn (reported x a .area) i + wordIn (reported (goingOn x a more) b .area) i) % 2 ^ 64
     report-both-words = join.two-words x more a room whole b space
 
     pub report-both-place : length (x .request ++ more) < 2 ^ 64
-        → wordIn (reported (asking x (x .request ++ more)) a .area) 1
-        ≡ wordIn (reported x a .area) 1 + wordIn (reported (goingOn x a more) b .area) 1
+        → wordIn (reported (asking x (x .request ++ more)) a .area) stopWord
+        ≡ wordIn (reported x a .area) stopWord + wordIn (reported (goingOn x a more) b .area) stopWord
     report-both-place = join.two-place x more a room whole b space
 
-    pub report-both-largest : wordIn (reported (asking x (x .request ++ more)) a .area) 3
-        ≡ max (wordIn (reported x a .area) 3) (wordIn (reported (goingOn x a more) b .area) 3)
+    pub report-both-largest : wordIn (reported (asking x (x .request ++ more)) a .area) largestWord
+        ≡ max (wordIn (reported x a .area) largestWord) (wordIn (reported (goingOn x a more) b .area) largestWord)
     report-both-largest = join.two-largest x more a room whole b space
 
 -- WHAT STAYS. The checks say of the table and of the vector file what they said before: a sound one stays sound, with as many records or blocks.
