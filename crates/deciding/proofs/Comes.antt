@@ -341,8 +341,8 @@ module _ (req t : List ℕ) (count : ℕ) (v : List ℕ) (seen : Seen) (read : r
     unfolding grant
     grant-tells first r h l =
         either (Tells req t count v seen) (carriesUser (sar .numbers .kind))
-        (of-result req t count v seen r first 0 0 _ l h (omega arith) (omega arith) (either (λ (k : ℕ). k ≤ count) (eqb (sar .numbers .already) 0) h (omega arith))
-        other)
+        (of-result req t count v seen r first 0 0 _ l h (omega arith) (omega arith)
+        (either (λ (k : ℕ). k ≤ count) (eqb (sar .numbers .already) 0) h (omega arith)) other)
         (alone req t count v seen r l other)
 
     abbrev row : Effect
@@ -484,7 +484,8 @@ module _ (req t : List ℕ) (count : ℕ) (v : List ℕ) (seen : Seen) (read : r
     found-comes Nothing among = tells _ (alone req t count v seen (Experimental 5001) refl (λ e. refl))
     found-comes (At k) among =
         let a = claimedOf t count (dataSeen seen userName) (schemeOf seen) (ltb 0 (sending req t count v seen .count)) (At k) in
-        challenge-comes k (among .from k refl) (among .to k refl) a (λ e. same-eq (privateAt t k) (dataSeen seen userName) e) (λ e. ltb-true 0 _ e) (claimOf a) (claim a)
+        challenge-comes k (among .from k refl) (among .to k refl) a (λ e. same-eq (privateAt t k) (dataSeen seen userName) e) (λ e. ltb-true 0 _ e)
+        (claimOf a) (claim a)
 
     mar-comes : Came (marPlan t count v seen)
     unfolding marPlan authenticate

@@ -2,7 +2,7 @@
 use Prim.Native.Nat.{ℕ}
 use mathlib.Core.List.{List}
 use mathlib.Core.Option.{Option, some}
-use mathlib.Core.Bool.{true, false}
+use mathlib.Core.Bool.{true}
 use mathlib.Core.Path.{_≡_, refl, ap, _∙_}
 use mathlib.Core.Logic.{_⊎_, inl, inr}
 use Rattle.table.specs.Named.{privateAt}
@@ -29,7 +29,6 @@ pub record Altered (command : ℕ) (t : List ℕ) (count : ℕ) (v : List ℕ) (
   pub change : List ℕ → List ℕ
   pub keeps : Keeps change
   pub table : d .table ≡ afterOf t count (reaches t records) change
-  pub later : isOne records 0 ≡ false
   pub owned : (k : ℕ) → isOne records k ≡ true → some (privateAt t k) ≡ subscription
 
 module _ (req t : List ℕ) (count : ℕ) (v : List ℕ) where
@@ -53,7 +52,6 @@ module _ (req t : List ℕ) (count : ℕ) (v : List ℕ) where
           change = w .change;
           keeps = w .keeps;
           table = w .table;
-          later = w .later;
           owned = λ k i. ap some (w .owned k i) ∙ owner-asked (w .owner) (w .whose);
         }
 

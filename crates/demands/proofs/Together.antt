@@ -1,10 +1,10 @@
 -- Sets, over whole calls: the members of a set are altered together or not at all; and a removal naming two members of one set is like naming one.
-use Prim.Native.Nat.{ℕ, _+_, _*_, _≤_}
+use Prim.Native.Nat.{ℕ, _≤_}
 use mathlib.Core.List.{List, [], _∷_}
 use mathlib.Core.Bool.{Bool, true, false, cond, _&&_}
 use mathlib.Core.Path.{_≡_, refl, sym, ap, _∙_}
 use native.Mathlib.Omega.{arith}
-use lib.ListN.{length, take, drop, length-take, length-drop}
+use lib.ListN.{length, length-take, length-drop}
 use Rattle.octets.proofs.Numbers.{Bytes}
 use Rattle.record.specs.Fields.{serverSize, serverOf}
 use Rattle.record.specs.RecordBlock.{recordOf}
@@ -16,8 +16,8 @@ use Rattle.table.specs.SoundTable.{SoundTable}
 use Rattle.blocks.specs.declared.Checked.the-variants.{Sound}
 use Rattle.blocks.proofs.Blocks.{block-length}
 use Rattle.table.proofs.Sound.{sound-block, sound-limits}
-use Rattle.lookup.specs.Find.{isAt, findPublic}
-use Rattle.lookup.specs.declared.Found.the-variants.{At, Nothing}
+use Rattle.lookup.specs.Find.{findPublic}
+use Rattle.lookup.specs.declared.Found.the-variants.{At}
 use Rattle.rewrite.specs.Change.{afterOf, reaches, differ}
 use Rattle.rewrite.specs.Renew.{settled, changeOf}
 use Rattle.rewrite.specs.declared.Change.the-variants.{Settled, Challenged}
