@@ -15,7 +15,8 @@ use Rattle.decisions.specs.Authentication.{toSend}
 use Rattle.deciding.specs.Plans.{planRead}
 use Rattle.deciding.specs.Decide.{performedBy, decide}
 use Rattle.deciding.specs.Deeds.{DeedFits}
-use Rattle.deciding.proofs.Comes.{Comes, tells, settles, challenges, comes, decide-by}
+use Rattle.deciding.proofs.Cases.{Comes, tells, settles, challenges}
+use Rattle.deciding.proofs.Comes.{comes, decide-by}
 
 pub plan-fits : (req t : List ℕ) (count : ℕ) (v : List ℕ) (seen : Seen) → readRequest req ≡ fine seen
     → DeedFits count (dataSeen seen serverName) (planRead req t count v seen .deed)

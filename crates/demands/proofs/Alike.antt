@@ -36,7 +36,8 @@ use Rattle.deciding.specs.Plans.{assignmentOf, sarPlan, planRead}
 use Rattle.deciding.specs.Rules.{inForce}
 use Rattle.deciding.specs.Decide.{Decision, performedBy}
 use Rattle.deciding.specs.Deeds.{carriedOut, spentBy}
-use Rattle.deciding.proofs.Comes.{Blameless, Comes, tells, settles, challenges, plan-blameless, comes}
+use Rattle.deciding.proofs.Cases.{Blameless, Comes, tells, settles, challenges}
+use Rattle.deciding.proofs.Comes.{plan-blameless, comes}
 use Rattle.demands.proofs.Moved.{failed-there}
 
 -- of what is given the same is answered

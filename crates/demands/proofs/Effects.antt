@@ -17,7 +17,8 @@ use Rattle.blocks.specs.Changed.{isOne}
 use Rattle.deciding.specs.Rules.{inForce}
 use Rattle.deciding.specs.Decide.{Decision, performedBy, decide}
 use Rattle.deciding.specs.Deeds.{carriedOut, spentBy}
-use Rattle.deciding.proofs.Comes.{Owner, the-user, the-first, Writes, Comes, tells, settles, challenges, decide-by}
+use Rattle.deciding.proofs.Cases.{Owner, the-user, the-first, Writes, Comes, tells, settles, challenges}
+use Rattle.deciding.proofs.Comes.{decide-by}
 use Rattle.demands.specs.Frame.{succeeds, firstOwner, askedIn, subscriptionOf}
 
 -- It writes: a success, with one change, which keeps what every effect keeps, of records of one subscription, none of them the header, and of their sets. It
