@@ -1,6 +1,6 @@
 -- Whatever a call comes to, a table is sound after it with so many records if it was before, and so is the vector file; an unsound one stays as it is.
 use Prim.Native.Nat.{_≤_}
-use mathlib.Core.Bool.{Bool, false, true≢false}
+use mathlib.Core.Bool.{Bool, true, false, true≢false}
 use mathlib.Core.Path.{_≡_, refl, sym, _∙_}
 use lib.ListN.{length}
 use native.Mathlib.Omega.{arith}
@@ -49,6 +49,15 @@ module _ (x : Lent) where
         table = sound-count (checkOf x) (f .0);
         vectors = record { count = checkValue (checkVectors (x .vectors)); checked = sound-count (checkVectors (x .vectors)) (g .0) };
       }
+
+  -- what holds of any refusal, and of the answer where none is given, holds of the call
+  pub serve-either : (P : Bool → Served → Type 0) → ((r : Trial) → P true (refused x r)) → P false (answered x (decided x)) → P (anyHolds (trials x)) (serve x)
+  unfolding serveBy serveFound
+  serve-either P f o =
+      tried-by P (λ r. Unit) (refused x) (answered x (decided x)) (λ r q h. f r) o (trials x) (tt, (tt, (tt, (tt, (tt, (tt, tt))))))
+
+  pub answered-is : anyHolds (trials x) ≡ false → serve x ≡ answered x (decided x)
+  answered-is = serve-either (λ b s. b ≡ false → s ≡ answered x (decided x)) (λ r e. absurd (true≢false e)) (λ e. refl)
 
   -- what holds of refusals by 1 to 6, and of the answer over sound files, holds of the call
   pub serve-by : (P : Served → Type 0) → ((r : Trial) → 1 ≤ r .number → r .number ≤ 6 → P (refused x r)) → (Taken → P (answered x (decided x))) → P (serve x)

@@ -1,10 +1,10 @@
--- What a request that was read comes to, by cases: it tells, and nothing is written; it settles, as a SAR does; it challenges, as a MAR does. Laws about
--- decisions go by these cases, with what each says.
-use Prim.Native.Nat.{ℕ, _/_, _≤_, _<_}
+-- A request that was read comes to one of the cases of `Cases`: the decisions of the four commands, walked through once. Laws about decisions go by
+-- `decide-by` and these cases.
+use Prim.Native.Nat.{ℕ, _≤_, _<_}
 use mathlib.Core.List.{List, [], _∷_, map}
 use mathlib.Core.Bool.{Bool, true, false, cond, not, _&&_, _||_, true≢false}
 use mathlib.Core.Path.{_≡_, refl, sym, ap, _∙_}
-use mathlib.Core.Logic.{_⊎_, inl, inr}
+use mathlib.Core.Logic.{inl, inr}
 use native.Mathlib.Omega.{arith}
 use lib.ListN.{length}
 use lib.Dec.{eqb, ltb}
@@ -13,22 +13,19 @@ use Rattle.octets.proofs.All.{and-left, and-right}
 use Rattle.octets.proofs.Names.{same-eq}
 use Rattle.blocks.specs.Changed.{isOne}
 use Rattle.table.specs.Named.{privateAt}
-use Rattle.vectors.specs.Chosen.{noneSent}
-use Rattle.vectors.specs.declared.choice.Sent.{Sent}
 use Rattle.lookup.specs.Find.{isAt, findPublic, servesAt, findServer, blockFound}
 use Rattle.lookup.specs.declared.Found.{Found}
 use Rattle.lookup.specs.declared.Found.the-variants.{At, Nothing}
 use Rattle.lookup.specs.Among.{Among}
 use Rattle.lookup.proofs.Among.{public-among}
 use Rattle.lookup.proofs.First.{first-stands}
-use Rattle.rewrite.specs.Change.{afterOf, reaches, Keeps}
 use Rattle.rewrite.specs.Renew.{settled, challenged, Fitting}
 use Rattle.rewrite.proofs.Challenged.{challenged-keeps}
 use Rattle.rewrite.proofs.Settled.{settled-keeps}
 use Rattle.diameter.specs.Avp.{dataOf}
 use Rattle.diameter.specs.Message.{bodyOf}
 use Rattle.diameter.specs.Reader.{avpAt}
-use Rattle.reading.specs.Kinds.{rowOf, known, useIn, userName, publicIdentity, serverName, numberAuthItems}
+use Rattle.reading.specs.Kinds.{rowOf, known, useIn, userName, publicIdentity, serverName}
 use Rattle.reading.specs.Rules.{Seen}
 use Rattle.reading.specs.Verdicts.{numberOf}
 use Rattle.reading.specs.declared.Dialect.{Dialect}
@@ -43,8 +40,7 @@ use Rattle.requests.proofs.Kept.{read-needed, server-most, server-least}
 use Rattle.requests.proofs.Naming.{identities-at}
 use Rattle.choices.specs.Challenges.{claimOf, challengeOf}
 use Rattle.choices.specs.Choices.{authorization, location}
-use Rattle.choices.specs.Given.{blameless, givenOf, givenFault, givenSent}
-use Rattle.choices.specs.Plans.{findingOf, grant, only, deedOf, planOf}
+use Rattle.choices.specs.Plans.{findingOf, grant, deedOf, planOf}
 use Rattle.choices.specs.Types.{isRemoval, asksOnly, carriesUser, effectOf}
 use Rattle.choices.specs.declared.Given.{Given}
 use Rattle.choices.specs.declared.challenge.Claimed.{Claimed}
@@ -52,18 +48,17 @@ use Rattle.choices.specs.declared.choice.Asked.{Asked}
 use Rattle.choices.specs.declared.choice.Choice.{Choice}
 use Rattle.choices.specs.declared.choice.Choice.the-variants.{Alone, Server, Capabilities, First}
 use Rattle.choices.specs.declared.choice.Sought.{Sought}
-use Rattle.choices.specs.declared.plan.Deed.the-variants.{Leave, Settle, Challenge}
+use Rattle.choices.specs.declared.plan.Deed.the-variants.{Leave, Settle}
 use Rattle.choices.specs.declared.plan.Finding.{Finding}
 use Rattle.choices.specs.declared.plan.Finding.the-variants.{Denied, Fine}
 use Rattle.choices.specs.declared.plan.Plan.{Plan}
 use Rattle.choices.specs.declared.plan.Sar.{Sar}
-use Rattle.choices.specs.declared.plan.Settling.{Settling}
 use Rattle.choices.specs.declared.plan.Survey.{Survey}
 use Rattle.choices.specs.declared.types.Effect.{Effect}
 use Rattle.choices.specs.declared.types.AssignmentType.{AssignmentType}
 use Rattle.choices.specs.declared.types.AssignmentType.the-variants.{NoAssignment, Registration, ReRegistration, UnregisteredUser, Removal}
 use Rattle.choices.specs.declared.types.AssignmentType.the-variants.{StoringRemoval, Failure}
-use Rattle.decisions.specs.Authentication.{claimedAt, claimedOf, toSend, authenticateFound, authenticate}
+use Rattle.decisions.specs.Authentication.{claimedAt, claimedOf, authenticateFound, authenticate}
 use Rattle.decisions.specs.Authorization.{authorizeFound, authorize}
 use Rattle.decisions.specs.Carried.{servedBy, carried}
 use Rattle.decisions.specs.Location.{locateFound, locate}
@@ -74,157 +69,61 @@ use Rattle.assignment.specs.declared.Meant.the-variants as meant
 use Rattle.assignment.proofs.OwnTurns.{no-zero}
 use Rattle.assignment.proofs.Rows.{row-fits}
 use Rattle.deciding.specs.Plans.{assignmentOf, uarPlan, sarPlan, lirPlan, marPlan, planRead}
-use Rattle.deciding.specs.Deeds.{settledBy, challengedBy, DeedFits}
 use Rattle.deciding.specs.Rules.{inForce}
 use Rattle.deciding.specs.Decide.{Decision, faulted, performedBy, judgedBy, decideBy, decide}
 use Rattle.deciding.proofs.Read.{Fails, fails-listed, read-fails, read-command}
 use Rattle.deciding.proofs.Tests.{either}
+use Rattle.deciding.proofs.Cases.{Blameless, Succeeds, Carries, carries-fault, sending, Tells, Owner, the-user}
+use Rattle.deciding.proofs.Cases.{the-first, Comes, tells, settles, challenges, of-result, alone}
 
--- no AVP of the request is at fault
-abbrev pub Blameless : Given → Type 0
-Blameless g = (g .verdict .place ≡ 0) × (g .verdict .lacks ≡ 0)
+-- what was found is one of the records, or nothing
+public-within : (t : List ℕ) (count : ℕ) (name : List ℕ) → blockFound (findPublic t count name) ≤ count
+public-within t count name = go (findPublic t count name) refl
+  where
+    go : (f : Found) → findPublic t count name ≡ f → blockFound f ≤ count
+    go (At k) e = public-among t count name (sym e) .to k refl
+    go Nothing e = omega arith
 
--- a result 2xxx
-abbrev Succeeds : Outcome → Type 0
-Succeeds r = eqb (numberOf r / 1000) 2 ≡ true
+-- UAR and LIR
+abbrev ChoiceListed : Choice → Type 0
+ChoiceListed (Alone r) = Listed r
+ChoiceListed (Server r) = Listed r
+ChoiceListed (Capabilities r) = Listed r
+ChoiceListed (First r other) = Listed r × Listed other
 
--- each block that is named is one of so many records, or 0
-pub record Within (count : ℕ) (g : Given) : Type 0 where
-  pub user : g .user ≤ count
-  pub public : g .public ≤ count
-  pub server : g .server ≤ count
-  pub capable : g .capable ≤ count
-  pub profile : g .profile ≤ count
+authorization-listed : (a : Asked) (kind : ℕ) → ChoiceListed (authorization a kind)
+unfolding authorization listed indexIn baseResults experimentalResults
+authorization-listed a kind =
+    either ChoiceListed (not (a .known)) refl
+    (either ChoiceListed (not (a .together)) refl
+    (either ChoiceListed (a .barred) refl
+    (either ChoiceListed (not (eqb kind 1) && not (a .roams)) refl
+    (either ChoiceListed (eqb kind 2) refl
+    (either ChoiceListed (a .present) (either Listed (eqb kind 0) refl refl)
+    (either ChoiceListed (eqb kind 1) refl
+    (refl, refl)))))))
 
--- What every answer carries: a result that has a column of the report, things of the table's records, and User-Data or Failed-AVP, not both.
-pub record Carries (count : ℕ) (g : Given) : Type 0 where
-  pub result : Listed (g .verdict .result)
-  pub within : Within count g
-  pub light : (g .profile ≡ 0) ⊎ Blameless g
-
-carries-fault : (count : ℕ) (f : Verdict) → Listed (f .result) → Carries count (givenFault f)
-carries-fault count f l =
-    record {
-      result = l;
-      within = record { user = omega arith; public = omega arith; server = omega arith; capable = omega arith; profile = omega arith };
-      light = inl refl;
-    }
+location-listed : (a : Sought) → ChoiceListed (location a)
+unfolding location listed indexIn baseResults experimentalResults
+location-listed a =
+    either ChoiceListed (not (a .known)) refl
+    (either ChoiceListed (a .present) refl
+    (either ChoiceListed (not (a .services)) refl
+    (refl, refl)))
 
 module _ (dialect : Dialect) (req t : List ℕ) (count : ℕ) (v : List ℕ) (seen : Seen) where
-  abbrev s : Assignment
-  s = assignmentOf req t seen
-
-  abbrev name : List ℕ
-  name = dataSeen seen serverName
-
-  abbrev sending : Sent
-  sending = toSend v (dataSeen seen userName) (valueSeen seen numberAuthItems)
-
-  -- It tells: no vector is sent. Only a SAR can be blamed here, for its identities, and a MAR that only tells is no success.
-  pub record Tells (g : Given) : Type 0 where
-    pub carries : Carries count g
-    pub none : g .sent ≡ noneSent
-    pub blames : (dialect .command ≡ 301) ⊎ Blameless g
-    pub apart : dialect .command ≡ 303 → Fails (g .verdict .result)
-
-  -- Whose the records are that are written: the User-Name's, or those of the subscription of the first identity.
-  pub data Owner : List ℕ → Type 0 where
-    the-user : given seen userName ≡ true → Owner (dataSeen seen userName)
-    the-first : (a : List ℕ) (avps : List (List ℕ)) (k : ℕ) → given seen userName ≡ false → identities (bodyOf req) ≡ a ∷ avps
-        → findPublic t count (dataOf a) ≡ At k → Owner (privateAt t k)
-
-  -- What is written: one change, which keeps what every effect keeps, of records of one subscription, none of them the header, and of their sets.
-  pub record Writes (after : List ℕ) : Type 0 where
-    pub records : List ℕ
-    pub change : List ℕ → List ℕ
-    pub keeps : Keeps change
-    pub table : after ≡ afterOf t count (reaches t records) change
-    pub later : isOne records 0 ≡ false
-    pub owner : List ℕ
-    pub whose : Owner owner
-    pub owned : (k : ℕ) → isOne records k ≡ true → privateAt t k ≡ owner
-
-  pub record Settles (g : Given) (w : Settling) : Type 0 where
-    pub command : dialect .command ≡ 301
-    pub carries : Carries count g
-    pub none : g .sent ≡ noneSent
-    pub good : Succeeds (g .verdict .result)
-    pub fits : Fitting (w .state) (storedName (w .named) name)
-    pub writes : Writes (settledBy t count s w)
-
-  pub record Challenges (k : ℕ) : Type 0 where
-    pub command : dialect .command ≡ 303
-    pub carries : Carries count (givenSent k sending)
-    pub some : 0 < sending .count
-    pub fits : DeedFits count name (Challenge k)
-    pub writes : Writes (challengedBy t count name k)
-
-  pub data Comes : Plan → Type 0 where
-    tells : (g : Given) → Tells g → Comes (only g)
-    settles : (g : Given) (w : Settling) → Settles g w → Comes (record { given = g; deed = Settle w })
-    challenges : (k : ℕ) → Challenges k → Comes (record { given = givenSent k sending; deed = Challenge k })
-
-  -- a result of no AVP's fault, with blocks
-  of-result : (r : Outcome) (user server capable profile : ℕ) → Listed r → user ≤ count → server ≤ count → capable ≤ count → profile ≤ count
-      → (dialect .command ≡ 303 → Fails r) → Tells (givenOf (blameless r) user server capable profile)
-  of-result r user server capable profile l a b c d apart =
-      record {
-        carries =
-            record { result = l; within = record { user = a; public = omega arith; server = b; capable = c; profile = d }; light = inr (refl, refl) };
-        none = refl;
-        blames = inr (refl, refl);
-        apart = apart;
-      }
-
-  alone : (r : Outcome) → Listed r → (dialect .command ≡ 303 → Fails r) → Tells (givenOf (blameless r) 0 0 0 0)
-  alone r l apart = of-result r 0 0 0 0 l (omega arith) (omega arith) (omega arith) (omega arith) apart
-
-  public-within : (name : List ℕ) → blockFound (findPublic t count name) ≤ count
-  public-within name = go (findPublic t count name) refl
-    where
-      go : (f : Found) → findPublic t count name ≡ f → blockFound f ≤ count
-      go (At k) e = public-among t count name (sym e) .to k refl
-      go Nothing e = omega arith
-
-  -- UAR and LIR
-  abbrev ChoiceListed : Choice → Type 0
-  ChoiceListed (Alone r) = Listed r
-  ChoiceListed (Server r) = Listed r
-  ChoiceListed (Capabilities r) = Listed r
-  ChoiceListed (First r other) = Listed r × Listed other
-
-  authorization-listed : (a : Asked) (kind : ℕ) → ChoiceListed (authorization a kind)
-  unfolding authorization listed indexIn baseResults experimentalResults
-  authorization-listed a kind =
-      either ChoiceListed (not (a .known)) refl
-      (either ChoiceListed (not (a .together)) refl
-      (either ChoiceListed (a .barred) refl
-      (either ChoiceListed (not (eqb kind 1) && not (a .roams)) refl
-      (either ChoiceListed (eqb kind 2) refl
-      (either ChoiceListed (a .present) (either Listed (eqb kind 0) refl refl)
-      (either ChoiceListed (eqb kind 1) refl
-      (refl, refl)))))))
-
-  location-listed : (a : Sought) → ChoiceListed (location a)
-  unfolding location listed indexIn baseResults experimentalResults
-  location-listed a =
-      either ChoiceListed (not (a .known)) refl
-      (either ChoiceListed (a .present) refl
-      (either ChoiceListed (not (a .services)) refl
-      (refl, refl)))
-
-  carried-tells : (user : List ℕ) (k : ℕ) → k ≤ count → (c : Choice) → ChoiceListed c → (dialect .command ≡ 303 → ⊥) → Tells (carried t count user k c)
+  carried-tells : (user : List ℕ) (k : ℕ) → k ≤ count → (c : Choice) → ChoiceListed c → (dialect .command ≡ 303 → ⊥) → Tells dialect req t count v seen (carried t count user k c)
   unfolding carried findServer
-  carried-tells user k h (Alone r) l n = alone r l (λ e. absurd (n e))
-  carried-tells user k h (Server r) l n = of-result r 0 k 0 0 l (omega arith) h (omega arith) (omega arith) (λ e. absurd (n e))
-  carried-tells user k h (Capabilities r) l n = of-result r 0 0 k 0 l (omega arith) (omega arith) h (omega arith) (λ e. absurd (n e))
+  carried-tells user k h (Alone r) l n = alone dialect req t count v seen r l (λ e. absurd (n e))
+  carried-tells user k h (Server r) l n = of-result dialect req t count v seen r 0 k 0 0 l (omega arith) h (omega arith) (omega arith) (λ e. absurd (n e))
+  carried-tells user k h (Capabilities r) l n = of-result dialect req t count v seen r 0 0 k 0 l (omega arith) (omega arith) h (omega arith) (λ e. absurd (n e))
   carried-tells user k h (First r other) l n = go (findServer t count user) refl
     where
-      go : (f : Found) → findServer t count user ≡ f → Tells (servedBy f r other k)
+      go : (f : Found) → findServer t count user ≡ f → Tells dialect req t count v seen (servedBy f r other k)
       go (At j) e =
-          of-result r 0 j 0 0 (l .0) (omega arith) (omega (arith, first-stands (servesAt t user) count 1 j e .to)) (omega arith) (omega arith)
+          of-result dialect req t count v seen r 0 j 0 0 (l .0) (omega arith) (omega (arith, first-stands (servesAt t user) count 1 j e .to)) (omega arith) (omega arith)
           (λ z. absurd (n z))
-      go Nothing e = of-result other 0 0 k 0 (l .1) (omega arith) (omega arith) h (omega arith) (λ z. absurd (n z))
+      go Nothing e = of-result dialect req t count v seen other 0 0 k 0 (l .1) (omega arith) (omega arith) h (omega arith) (λ z. absurd (n z))
 
 -- SAR. What is found of its records: a listed result, or all are known and of one subscription.
 data Reached (v : Survey) : Finding → Type 0 where
@@ -411,7 +310,7 @@ module _ (dialect : Dialect) (req t : List ℕ) (count : ℕ) (v : List ℕ) (se
     first-within : (avps : List (List ℕ)) → firstOf (findAll t count avps) ≤ count
     unfolding findAll
     first-within [] = omega arith
-    first-within (a ∷ avps) = public-within dialect req t count v seen (dataOf a)
+    first-within (a ∷ avps) = public-within t count (dataOf a)
 
     named-comes : (length (identities (bodyOf req)) ≡ 0 → ⊥) → (f : Finding) → Reached (namedSurvey t count sar) f
         → Came (planOf f (sar .numbers) (firstOf (found t count sar)) false)
@@ -502,11 +401,11 @@ module _ (dialect : Dialect) (req t : List ℕ) (count : ℕ) (v : List ℕ) (se
       go : (x y z : Bool) → eqb (dialect .command) 300 ≡ x → eqb (dialect .command) 301 ≡ y → eqb (dialect .command) 302 ≡ z
           → Came (cond x (uarPlan t count seen) (cond y (sarPlan req t count seen) (cond z (lirPlan t count seen) (marPlan t count v seen))))
       go true y z a b c =
-          tells _ (carried-tells dialect req t count v seen _ _ (public-within dialect req t count v seen public) _ (authorization-listed dialect req t count v seen _ _)
+          tells _ (carried-tells dialect req t count v seen _ _ (public-within t count public) _ (authorization-listed _ _)
           (λ e. absurd (omega (arith, eqb-true (dialect .command) 300 a))))
       go false true z a b c = sar-comes (eqb-true _ _ b)
       go false false true a b c =
-          tells _ (carried-tells dialect req t count v seen _ _ (public-within dialect req t count v seen public) _ (location-listed dialect req t count v seen _)
+          tells _ (carried-tells dialect req t count v seen _ _ (public-within t count public) _ (location-listed _)
           (λ e. absurd (omega (arith, eqb-true (dialect .command) 302 c))))
       go false false false a b c =
           let n = dialect .command in

@@ -1,8 +1,8 @@
 -- The plan of each command, and what carrying it out leaves.
-use Prim.Native.Nat.{ℕ, _+_, _*_, _≤_}
+use Prim.Native.Nat.{ℕ, _≤_}
 use mathlib.Core.List.{List, [], _∷_}
 use mathlib.Core.Bool.{Bool, true, false}
-use mathlib.Core.Path.{_≡_, refl, sym, _∙_}
+use mathlib.Core.Path.{_≡_, sym, _∙_}
 use native.Mathlib.Omega.{arith}
 use lib.ListN.{length}
 use lib.Dec.{eqb}
@@ -14,7 +14,7 @@ use Rattle.vectors.specs.Chosen.{sentOf}
 use Rattle.vectors.specs.Marked.{spent}
 use Rattle.vectors.specs.declared.choice.Sent.{Sent}
 use Rattle.rewrite.specs.Change.{afterOf, reaches, alteredUpTo}
-use Rattle.rewrite.specs.Renew.{settled, challenged, Fitting, changeOf, ChangeFits}
+use Rattle.rewrite.specs.Renew.{settled, Fitting, changeOf, ChangeFits}
 use Rattle.rewrite.specs.declared.Change.{Change}
 use Rattle.rewrite.specs.declared.Change.the-variants.{Challenged}
 use Rattle.rewrite.proofs.Counts.{altered-none}

@@ -14,7 +14,8 @@ use Rattle.reading.specs.declared.Dialect.{Dialect}
 use Rattle.choices.specs.declared.plan.Plan.{Plan}
 use Rattle.deciding.specs.Decide.{performedBy, decide}
 use Rattle.deciding.specs.Deeds.{carriedOut, spentBy}
-use Rattle.deciding.proofs.Comes.{Writes, Comes, tells, settles, challenges, decide-by}
+use Rattle.deciding.proofs.Cases.{Writes, Comes, tells, settles, challenges}
+use Rattle.deciding.proofs.Comes.{decide-by}
 
 -- what is written keeps what every effect keeps
 writes-keeping : (dialect : Dialect) (req t : List ℕ) (count : ℕ) (v : List ℕ) (seen : Seen) → SoundTable t count → {y : List ℕ} → Writes dialect req t count v seen y → Keeping t y count

@@ -1,4 +1,5 @@
 pub mod Answering
+pub mod Cases
 pub mod Comes
 pub mod Deciding
 pub mod Deeds

@@ -24,7 +24,8 @@ use Rattle.parts.proofs.Fields as parts
 use Rattle.answering.specs.Answer.{failedPart, answerBytes}
 use Rattle.answering.proofs.Lengths.{answer-length}
 use Rattle.deciding.specs.Decide.{decide}
-use Rattle.deciding.proofs.Comes.{Blameless, decide-carries}
+use Rattle.deciding.proofs.Cases.{Blameless}
+use Rattle.deciding.proofs.Comes.{decide-carries}
 use Rattle.deciding.proofs.Deeds.{decide-sendable}
 use Rattle.deciding.proofs.Tests.{either}
 

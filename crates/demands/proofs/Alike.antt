@@ -36,7 +36,8 @@ use Rattle.deciding.specs.Plans.{assignmentOf, sarPlan, planRead}
 use Rattle.deciding.specs.Rules.{inForce}
 use Rattle.deciding.specs.Decide.{Decision, performedBy}
 use Rattle.deciding.specs.Deeds.{carriedOut, spentBy}
-use Rattle.deciding.proofs.Comes.{Blameless, Comes, tells, settles, challenges, plan-blameless, comes}
+use Rattle.deciding.proofs.Cases.{Blameless, Comes, tells, settles, challenges}
+use Rattle.deciding.proofs.Comes.{plan-blameless, comes}
 use Rattle.demands.proofs.Moved.{failed-there}
 
 -- of what is given the same is answered
@@ -128,6 +129,9 @@ module _ (long short : List ℕ) where
       abbrev shorter : Assignment
       shorter = assignmentOf short t seen
 
+      abbrev Same : Plan → Plan → Type 0
+      Same p q = SameDecision long short (performedBy inForce long t count v seen p) (performedBy inForce short t count v seen q)
+
       -- a plan is carried out alike
       carried-alike : (d : Deed) → carriedOut long t count seen d ≡ carriedOut short t count seen d
       unfolding carriedOut plannedRecords assignmentOf
@@ -139,7 +143,7 @@ module _ (long short : List ℕ) where
       unfolding performedBy
       performed-alike p = rw (carried-alike (p .deed))
 
-      plan-alike : (p : Plan) → Blameless (p .given) → SameDecision long short (performedBy inForce long t count v seen p) (performedBy inForce short t count v seen p)
+      plan-alike : (p : Plan) → Blameless (p .given) → Same p p
       unfolding performedBy
       plan-alike p b = rw (← performed-alike p) (record { given = blameless-same (p .given) b; table = refl; vectors = refl })
 
@@ -158,7 +162,7 @@ module _ (long short : List ℕ) where
           (places-stand long 20)
           (places-stand short 20)
 
-      sar-same : SameDecision long short (performedBy inForce long t count v seen (sarPlan long t count seen)) (performedBy inForce short t count v seen (sarPlan short t count seen))
+      sar-same : Same (sarPlan long t count seen) (sarPlan short t count seen)
       unfolding sarPlan assign
       sar-same = rw (performed-alike _, meant-alike _) (meant-same short seen shorter _ _ places-alike)
 
@@ -167,9 +171,6 @@ module _ (long short : List ℕ) where
       blames p (tells g x) = x .blames
       blames p (settles g w x) = inl (x .command)
       blames p (challenges k x) = inr (refl, refl)
-
-      abbrev Same : Plan → Plan → Type 0
-      Same p q = SameDecision long short (performedBy inForce long t count v seen p) (performedBy inForce short t count v seen q)
 
       pub plan-same : readRequest short ≡ fine seen → commandOf long ≡ commandOf short
           → Same (planRead long t count v seen) (planRead short t count v seen)

@@ -2,7 +2,7 @@
 use Prim.Native.Nat.{ℕ}
 use mathlib.Core.List.{List}
 use mathlib.Core.Option.{Option, some}
-use mathlib.Core.Bool.{true, false}
+use mathlib.Core.Bool.{true}
 use mathlib.Core.Path.{_≡_, refl, ap, _∙_}
 use mathlib.Core.Logic.{_⊎_, inl, inr}
 use Rattle.table.specs.Named.{privateAt}
@@ -17,7 +17,8 @@ use Rattle.blocks.specs.Changed.{isOne}
 use Rattle.deciding.specs.Rules.{inForce}
 use Rattle.deciding.specs.Decide.{Decision, performedBy, decide}
 use Rattle.deciding.specs.Deeds.{carriedOut, spentBy}
-use Rattle.deciding.proofs.Comes.{Owner, the-user, the-first, Writes, Comes, tells, settles, challenges, decide-by}
+use Rattle.deciding.proofs.Cases.{Owner, the-user, the-first, Writes, Comes, tells, settles, challenges}
+use Rattle.deciding.proofs.Comes.{decide-by}
 use Rattle.demands.specs.Frame.{succeeds, firstOwner, askedIn, subscriptionOf}
 
 -- It writes: a success, with one change, which keeps what every effect keeps, of records of one subscription, none of them the header, and of their sets. It
@@ -29,7 +30,6 @@ pub record Altered (command : ℕ) (t : List ℕ) (count : ℕ) (v : List ℕ) (
   pub change : List ℕ → List ℕ
   pub keeps : Keeps change
   pub table : d .table ≡ afterOf t count (reaches t records) change
-  pub later : isOne records 0 ≡ false
   pub owned : (k : ℕ) → isOne records k ≡ true → some (privateAt t k) ≡ subscription
 
 module _ (req t : List ℕ) (count : ℕ) (v : List ℕ) where
@@ -53,7 +53,6 @@ module _ (req t : List ℕ) (count : ℕ) (v : List ℕ) where
           change = w .change;
           keeps = w .keeps;
           table = w .table;
-          later = w .later;
           owned = λ k i. ap some (w .owned k i) ∙ owner-asked (w .owner) (w .whose);
         }
 

@@ -18,8 +18,7 @@ use Rattle.blocks.specs.declared.Checked.the-variants.{Sound}
 use Rattle.table.specs.SoundTable.{SoundTable}
 use Rattle.table.proofs.Sound.{sound-size}
 use Rattle.rewrite.specs.Change.{alterable, reaches, Kept}
-use Rattle.rewrite.proofs.Reaching.{reaches-zero, reaches-closed}
-use Rattle.rewrite.proofs.Tables.{Keeping, keeping-same, kept-same, after-frame, after-keeping}
+use Rattle.rewrite.proofs.Tables.{Keeping, keeping-same, kept-same, after-frame}
 use Rattle.diameter.specs.Message.{commandOf}
 use Rattle.blocks.specs.Changed.{isOne}
 use Rattle.deciding.specs.Decide.{Decision}
@@ -29,6 +28,7 @@ use Rattle.demands.specs.Call.{turnedAway}
 use Rattle.demands.specs.Frame.{succeeds, subscriptionOf}
 use Rattle.calling.proofs.Kept.{taken, table-checked}
 use Rattle.demands.proofs.Refusals.{refused-kept, answered-is}
+use Rattle.deciding.proofs.Kept.{decide-keeping}
 use Rattle.demands.proofs.Effects.{Altered, Does, decide-does}
 
 -- The records of a set are of one subscription, so that an effect on records of a subscription reaches no record of another.
@@ -50,17 +50,11 @@ reached-owned t subscription (k ∷ ks) own j e =
         rw (← s .private) (own k first)
     go false false f g i next = next i
 
--- What an effect leaves: of the table what every effect keeps, and the blocks of another subscription.
+-- What an effect leaves: the blocks of another subscription.
 module _ (command : ℕ) (t : List ℕ) (count : ℕ) (v : List ℕ) (subscription : Option (List ℕ)) (d : Decision) (sound : SoundTable t count)
     (a : Altered command t count v subscription d) where
   size : length t ≡ 512 * (count + 1)
   size = sound-size t count sound
-
-  altered-keeping : Keeping t (d .table) count
-  altered-keeping =
-      rw (a .table)
-      (after-keeping t count (a .change) size (reaches t (a .records)) (a .keeps) (reaches-zero t count sound (a .records) ∙ a .later)
-      (reaches-closed t (a .records)))
 
   altered-others : (k : ℕ) → k ≤ count → some (privateAt t k) ≢ subscription → blockOf (d .table) k ≡ blockOf t k
   altered-others k h n = go (reaches t (a .records) k) refl
@@ -130,8 +124,7 @@ module _ (x : Lent) (count : ℕ) (sound : checkOf x ≡ Sound count) where
   -- what every effect keeps is kept by every call
   call-keeping : Keeping t (serve x .table) count
   call-keeping =
-      after-call (λ y z. Keeping t y count) (keeping-same t count)
-      (λ a. altered-keeping (commandOf (x .request)) t count v asked (decision x count) says a)
+      after-call (λ y z. Keeping t y count) (keeping-same t count) (λ a. decide-keeping (x .request) t count v says)
 
   pub header-kept : blockOf (serve x .table) 0 ≡ blockOf t 0
   header-kept = call-keeping .header

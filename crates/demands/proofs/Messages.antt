@@ -228,7 +228,8 @@ module _ (head : List ℕ) (twenty : length head ≡ 20) (b c : List ℕ) (alike
         → SameDecision long short (decide long t count v) (decide short t count v)
         × (decide long t count v .place ≡ later more (decide short t count v .place))
     unfolding decideBy
-    decide-same t count v = rw (message-read head twenty b, message-read head twenty c) (judged-same t count v (message-read head twenty c) read, judged-place t count v read)
+    decide-same t count v =
+        rw (message-read head twenty b, message-read head twenty c) (judged-same t count v (message-read head twenty c) read, judged-place t count v read)
 
     pub served-same : (x : Lent) → Fit b → Fit c → serve (asking x (message head b)) ≡ placed (later more) (serve (asking x (message head c)))
     served-same x f g = go (turnedAway (asking x short)) refl

@@ -29,7 +29,7 @@ use Rattle.demands.specs.Call.{turnedAway, answerTo, Fits, Exactly}
 use Rattle.demands.specs.Insertion.{placed}
 use Rattle.demands.proofs.Faults.{decide-within}
 use Rattle.demands.proofs.Firm.{check-most, answer-reads, refusal-reads}
-use Rattle.calling.proofs.Kept.{taken}
+use Rattle.calling.proofs.Kept.{taken, serve-either}
 use Rattle.calling.proofs.Trials.{tried-by, tried-alike}
 use Rattle.demands.proofs.Trials.{exactly}
 
@@ -69,7 +69,7 @@ module _ (x : Lent) where
 
   -- What holds of any refusal at all, and of the answer, does.
   any-call : (P : Bool → Served → Type 0) → ((r : Trial) → P true (refused x r)) → P false answer → P (turnedAway x) (serve x)
-  any-call P f o = call-by P (λ r. Unit) (six (λ r. Unit) (λ h n a b c. tt) tt) (λ r q h. f r) o
+  any-call = serve-either x
 
   pub refusals : Exactly (trials x) (callNumber (serve x .call))
   unfolding serveBy serveFound refused answered

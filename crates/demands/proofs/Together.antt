@@ -3,12 +3,15 @@ use Prim.Native.Nat.{ℕ, _≤_}
 use mathlib.Core.List.{List, [], _∷_}
 use mathlib.Core.Bool.{Bool, true, false, cond, _&&_}
 use mathlib.Core.Path.{_≡_, refl, sym, ap, _∙_}
-use lib.ListN.{length}
+use lib.ListN.{length, length-take, length-drop}
+use native.Mathlib.Omega.{arith}
 use Rattle.octets.proofs.Numbers.{Bytes}
 use Rattle.record.specs.Sets.{sameSet}
 use Rattle.blocks.specs.Blocks.{blockOf}
 use Rattle.table.specs.SoundTable.{SoundTable}
 use Rattle.blocks.specs.declared.Checked.the-variants.{Sound}
+use Rattle.blocks.proofs.Blocks.{block-length}
+use Rattle.table.proofs.Sound.{sound-block, sound-limits}
 use Rattle.lookup.specs.Find.{findPublic}
 use Rattle.lookup.specs.declared.Found.the-variants.{At}
 use Rattle.rewrite.specs.Change.{afterOf, reaches, differ}

@@ -1,11 +1,11 @@
 -- Sets (02 [6]), as theorems about `serve`, the check and the decisions. What the rules were before them is in specs/WithoutSets.
 use Prim.Native.Nat.{ℕ, _*_, _<_, _≤_}
 use mathlib.Core.Bool.{Bool, true, false, not, _&&_, _||_, true≢false}
-use mathlib.Core.Path.{_≡_, refl, sym, _∙_}
+use mathlib.Core.Path.{_≡_, refl, sym, _∙_, ap}
 use mathlib.Core.List.{List}
 use native.Mathlib.Omega.{arith}
 use lib.Dec.{eqb, leb}
-use lib.ListN.{length, drop-of-length-le}
+use lib.ListN.{length, drop-of-length-le, length-take, length-drop}
 use borrow.Author.Tests.{eqb-true, leb-true, leb-false}
 use Rattle.octets.specs.Number.{be16At}
 use Rattle.octets.proofs.All.{and-left, and-right}

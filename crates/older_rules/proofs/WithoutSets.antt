@@ -4,8 +4,6 @@ use mathlib.Core.Bool.{Bool, true, false, not, _&&_, _||_, cond, true≢false, a
 use mathlib.Core.Path.{_≡_, refl, sym, _∙_, ap}
 use mathlib.Core.List.{List, [], _∷_}
 use native.Mathlib.Omega.{arith}
-use lib.Dec.{eqb}
-use lib.ListN.{length}
 use Rattle.record.specs.Fields.{setOf, bitsOf, barred}
 use Rattle.record.specs.HeaderBlock.{headerOf}
 use Rattle.record.specs.Sets.{sameSet}
@@ -13,10 +11,8 @@ use Rattle.record.specs.declared.header.Header.{Header}
 use Rattle.blocks.specs.Blocks.{blockOf}
 use Rattle.blocks.specs.Blocks.{firstBad}
 use Rattle.table.specs.Check.{standsAt, agreesAt, soundAt, checkRecords, checkTable}
-use Rattle.blocks.specs.declared.Checked.{Checked}
-use Rattle.blocks.specs.declared.Checked.the-variants.{Bad}
 use Rattle.table.proofs.Agreement.{agrees-holds}
-use Rattle.lookup.specs.Find.{isAt, findFree, barredAlone, findPublic}
+use Rattle.lookup.specs.Find.{barredAlone, findPublic}
 use Rattle.lookup.specs.declared.Found.{Found}
 use Rattle.lookup.specs.declared.Found.the-variants.{At, Nothing}
 use Rattle.lookup.proofs.Scans.{free-none}
@@ -27,7 +23,7 @@ use Rattle.rewrite.proofs.Tables.{after-choice}
 use Rattle.reading.specs.Rules.{Seen}
 use Rattle.choices.specs.declared.plan.Deed.{Deed}
 use Rattle.choices.specs.declared.plan.Deed.the-variants.{Leave, Settle, Challenge}
-use Rattle.decisions.specs.Authorization.{askedAt, askedOf, authorizeFound, authorize}
+use Rattle.decisions.specs.Authorization.{askedOf, authorizeFound, authorize}
 use Rattle.assignment.specs.Assignment.{plannedRecords}
 use Rattle.deciding.specs.Plans.{assignmentOf, uarPlan, planRead}
 use Rattle.deciding.specs.Deeds.{carriedOut}

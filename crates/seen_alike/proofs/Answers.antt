@@ -13,7 +13,8 @@ use Rattle.choices.specs.declared.Given.{Given}
 use Rattle.parts.specs.Profile.{profileAt}
 use Rattle.reply.specs.Answer.{originBytes, topBytes, identityBytes, nameBytes, dataBytes, givenBytes, restBytes, bodyBytes, answerBytes}
 use Rattle.deciding.specs.Decide.{decide}
-use Rattle.deciding.proofs.Comes.{Within, decide-carries}
+use Rattle.deciding.proofs.Cases.{Within}
+use Rattle.deciding.proofs.Comes.{decide-carries}
 use Rattle.seen_alike.specs.Shown.{SameTables}
 use Rattle.seen_alike.proofs.Plans.{given-same}
 

@@ -19,7 +19,7 @@ use Rattle.deciding.specs.Decide.{decide}
 use Rattle.calling.specs.Lent.{Lent}
 use Rattle.calling.specs.Trial.{Trial, tried}
 use Rattle.calling.specs.Serve.{Served, checkOf, checkValue, refused, answered, decision, resultOf, serveFound, serveBy, serve}
-use Rattle.deciding.proofs.Comes.{Within}
+use Rattle.deciding.proofs.Cases.{Within}
 use Rattle.seen_alike.specs.Alike.{AlikeTables, SameCall, holding}
 use Rattle.seen_alike.specs.Shown.{SameTables}
 use Rattle.seen_alike.proofs.Fields.{tables-same}

@@ -23,7 +23,8 @@ use Rattle.decisions.specs.Authentication.{toSend}
 use Rattle.deciding.specs.Rules.{inForce}
 use Rattle.deciding.specs.Decide.{Decision, performedBy, decide}
 use Rattle.deciding.specs.Deeds.{spentBy}
-use Rattle.deciding.proofs.Comes.{Comes, tells, settles, challenges, decide-by}
+use Rattle.deciding.proofs.Cases.{Comes, tells, settles, challenges}
+use Rattle.deciding.proofs.Comes.{decide-by}
 use Rattle.deciding.proofs.Read.{fails-most}
 
 -- nothing is sent, and the file is as it was

@@ -23,7 +23,8 @@ use Rattle.calling.specs.Lent.{Lent}
 use Rattle.calling.specs.Trial.{anyHolds}
 use Rattle.calling.specs.Serve.{checkOf, trials, answerOf, answered, serve, checkValue, decided}
 use Rattle.vectors_sent.specs.Sent.{sentBy, itemsFrom, saidOf, answerWith}
-use Rattle.vectors_sent.proofs.Calls.{answered-is, answered-sound}
+use Rattle.calling.proofs.Kept.{answered-is}
+use Rattle.vectors_sent.proofs.Calls.{answered-sound}
 
 module _ (v : List ℕ) where
   -- one item more
