@@ -1,4 +1,5 @@
 pub mod Alike
+pub mod Barring
 pub mod Blaming
 pub mod Cuts
 pub mod Demands
@@ -13,5 +14,6 @@ pub mod Messages
 pub mod Moved
 pub mod Place
 pub mod Refusals
+pub mod Results
 pub mod Together
 pub mod Trials
