@@ -1,13 +1,13 @@
 -- "B5003 now exactly when the identity is barred and no non-barred one shares its nonzero set; its place is the same": the result of a UAR.
 use Prim.Native.Nat.{ℕ, _≤_}
 use mathlib.Core.List.{List}
-use mathlib.Core.Bool.{Bool, true, false, true≢false}
-use mathlib.Core.Path.{_≡_, refl, sym, ap, _∙_}
+use mathlib.Core.Bool.{true, false, true≢false}
+use mathlib.Core.Path.{_≡_, refl, sym, ap, subst, _∙_}
 use mathlib.Core.Logic.{_⊎_, inl, inr, _≢_}
 use native.Mathlib.Omega.{arith}
 use lib.ListN.{length}
-use Rattle.octets.specs.Name.{same}
 use Rattle.octets.proofs.Names.{same-eq, same-yes, same-no}
+use Rattle.record.specs.Fields.{bitsOf, barred}
 use Rattle.record.specs.Sets.{sameSet}
 use Rattle.record.proofs.OneSet.{OneSet, set-says, set-holds}
 use Rattle.blocks.specs.Blocks.{blockOf}
@@ -40,7 +40,7 @@ use Rattle.demands.specs.Sets.{Shares, BarredAlone, Stands, Belongs, Bar
 use Rattle.demands.proofs.Results.{read-other, barred-asked, asked-unknown, asked-apart, asked-barred}
 
 -- The two ways to say that records share a set.
-shares-says : (t : List ℕ) (k j : ℕ) → sameSet (blockOf t k) (blockOf t j) ≡ true → Shares t k j
+pub shares-says : (t : List ℕ) (k j : ℕ) → sameSet (blockOf t k) (blockOf t j) ≡ true → Shares t k j
 shares-says t k j e =
     let s : OneSet (blockOf t k) (blockOf t j) = set-says (blockOf t k) (blockOf t j) e in
     record { nonzero = s .numbered; number = s .number; subscription = s .private }
@@ -168,3 +168,13 @@ module _ (x : Lent) (count : ℕ) (sound : checkOf x ≡ Sound count) (uar : com
   pub barred-apart : (seen : Seen) → readRequest (x .request) ≡ fine seen → (k j : ℕ) → Stands t count k (dataSeen seen publicIdentity)
       → Belongs t count j (dataSeen seen userName) → privateAt t k ≢ dataSeen seen userName → resultOf x ≡ Experimental 5002
   barred-apart = apart
+
+  -- every record of the set is barred then, whichever reading found the identity
+  pub free-goes : (b : Barred x count) (seen : Seen) → readRequest (x .request) ≡ fine seen → (k j : ℕ) → Stands t count k (dataSeen seen publicIdentity)
+      → 1 ≤ j → j ≤ count → Shares t k j → barred (bitsOf (blockOf t j)) ≡ true
+  free-goes b seen read k j s from to h =
+      let e : fine seen ≡ fine (b .seen) = sym read ∙ b .read in
+      let same-seen : seen ≡ b .seen = cc in
+      let name : publicAt t k ≡ publicAt t (b .block) = s .name ∙ ap (λ (l : Seen). dataSeen l publicIdentity) same-seen ∙ sym (b .public .name) in
+      let q : k ≡ b .block = one-block t count table k (b .block) (s .from) (b .public .from) (s .to) (b .public .to) name in
+      b .alone .others j from to (subst (λ (i : ℕ). Shares t i j) q h)

@@ -88,7 +88,7 @@ unfolding grant
 grant-result s first r = either (λ (g : Given). g .verdict .result ≡ r) (carriesUser (s .kind)) refl refl
 
 -- a test of all the records holds of each
-one-holds : (p : ℕ → Bool) (ks : List ℕ) (k : ℕ) → every p ks ≡ true → isOne ks k ≡ true → p k ≡ true
+pub one-holds : (p : ℕ → Bool) (ks : List ℕ) (k : ℕ) → every p ks ≡ true → isOne ks k ≡ true → p k ≡ true
 unfolding every isOne
 one-holds p [] k a e = absurd (true≢false (sym e))
 one-holds p (j ∷ ks) k a e = go (eqb k j) refl e (one-holds p ks k (and-right (p j) (every p ks) a))
@@ -242,7 +242,7 @@ module _ (req : List ℕ) (seen : Seen) (read : readRequest req ≡ fine seen) w
       go false false false u f e = absurd (let q : _≡_ {A = ℕ} 0 1 = cc in omega arith)
       go false false true u f e = f
 
-  read-last : commandOf req ≢ 300 → commandOf req ≢ 301 → commandOf req ≢ 302 → commandOf req ≡ 303
+  pub read-last : commandOf req ≢ 300 → commandOf req ≢ 301 → commandOf req ≢ 302 → commandOf req ≡ 303
   read-last a b c =
       let least = leb-true 300 (commandOf req) (and-left (leb 300 (commandOf req)) _ read-spoken) in
       let most = leb-true (commandOf req) 303 (and-right (leb 300 (commandOf req)) _ read-spoken) in

@@ -17,7 +17,7 @@ use Rattle.calling.specs.Trial.{tried}
 use Rattle.calling.specs.Serve.{Served, checkOf, checkValue, serve}
 use Rattle.older_rules.specs.Rules.{Rules, inForce, judgedBy, decideBy, serveFound, serveBy}
 
-decide-now : (req t : List ℕ) (count : ℕ) (v : List ℕ) → decideBy inForce req t count v ≡ decide req t count v
+pub decide-now : (req t : List ℕ) (count : ℕ) (v : List ℕ) → decideBy inForce req t count v ≡ decide req t count v
 unfolding decideBy decide judgedBy decideJudged performed
 decide-now req t count v = go (readRequest req)
   where
