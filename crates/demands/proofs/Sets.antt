@@ -5,8 +5,7 @@ use mathlib.Core.Bool.{true, false, true≢false}
 use mathlib.Core.Path.{_≡_, sym, _∙_}
 use mathlib.Core.Logic.{_⊎_, _≢_, _↔_}
 use mathlib.Core.List.{List, _++_}
-use lib.ListN.{length}
-use Rattle.octets.proofs.Numbers.{Bytes}
+use lib.ListN.{length, getD}
 use Rattle.record.specs.Fields.{editionOf, bitsOf, barred}
 use Rattle.record.specs.Sets.{sameSet}
 use Rattle.blocks.specs.Blocks.{blockOf}
@@ -65,10 +64,11 @@ later-blamed-call x j k block d e =
 
 -- "Every effect of a SAR or an authentication request reaches the whole set,": of two records of one set both have other bytes after a call, or neither; and
 -- they agree after it.
-pub members-together : (x : Lent) (count : ℕ) → checkOf x ≡ Sound count → Bytes (x .table) → (j k : ℕ) → 1 ≤ j → j ≤ count → 1 ≤ k → k ≤ count
-    → Shares (x .table) j k
+pub members-together : (x : Lent) (count : ℕ) → checkOf x ≡ Sound count → ((i : ℕ) → getD (x .table) i 0 < 256) → (j k : ℕ)
+    → 1 ≤ j → j ≤ count → 1 ≤ k → k ≤ count → Shares (x .table) j k
     → differ (blockOf (x .table) j) (blockOf (serve x .table) j) ≡ differ (blockOf (x .table) k) (blockOf (serve x .table) k)
-members-together x count sound bytes j k a b c d s = together.members-together x count sound bytes j k a b c d (barring.shares-holds (x .table) j k s)
+members-together x count sound bytes j k a b c d s =
+    together.members-together x count sound (λ i. record { fits = bytes i }) j k a b c d (barring.shares-holds (x .table) j k s)
 
 pub members-agree : (x : Lent) (count : ℕ) → checkOf x ≡ Sound count → (j k : ℕ) → 1 ≤ j → j < k → k ≤ count → Shares (serve x .table) j k
     → Agrees (serve x .table) j k
