@@ -90,7 +90,8 @@ module _ (d : Dialect) (sar : d .command ≡ 301) where
 
   -- one AVP in the first alone, a Public-Identity
   module _ (one : List ℕ) (identity : kindOf one ≡ publicIdentity) (w : Walk) where
-    judge-left : (qs : List (List ℕ)) (at to : ℕ) (s r u : Seen) → Beside s r → judge d at (glue qs (avp one w)) s ≡ fine u → Follows (judge d to (glue qs w) r) u
+    judge-left : (qs : List (List ℕ)) (at to : ℕ) (s r u : Seen) → Beside s r → judge d at (glue qs (avp one w)) s ≡ fine u
+        → Follows (judge d to (glue qs w) r) u
     unfolding judge glue
     judge-left [] at to s r u b = go (rule d s one)
       where
@@ -139,12 +140,14 @@ module _ (head : List ℕ) (sar : commandOf head ≡ 301) (one : List ℕ) (iden
   abbrev d : Dialect
   d = dialectOf cx head
 
-  pub read-left : (q : List ℕ) (qs : List (List ℕ)) (u : Seen) → readBody head (glue (q ∷ qs) (avp one w)) ≡ fine u → Follows (readBody head (glue (q ∷ qs) w)) u
+  pub read-left : (q : List ℕ) (qs : List (List ℕ)) (u : Seen) → readBody head (glue (q ∷ qs) (avp one w)) ≡ fine u
+      → Follows (readBody head (glue (q ∷ qs) w)) u
   unfolding readBody readWalk glue
   read-left q qs u = go (eqb (headerFault d head) 0) (not (eqb (kindOf q) sessionId))
     where
       go : (x y : Bool)
-          → cond x (cond y (bad (lackOf sessionId)) (complete d (judge d 20 (avp q (glue qs (avp one w))) nothing))) (bad (faultOf (headerFault d head))) ≡ fine u
+          → cond x (cond y (bad (lackOf sessionId)) (complete d (judge d 20 (avp q (glue qs (avp one w))) nothing))) (bad (faultOf (headerFault d head)))
+          ≡ fine u
           → Follows (cond x (cond y (bad (lackOf sessionId)) (complete d (judge d 20 (avp q (glue qs w)) nothing))) (bad (faultOf (headerFault d head)))) u
       go false y e = fine-bad u (faultOf (headerFault d head)) e
       go true true e = fine-bad u (lackOf sessionId) e

@@ -31,7 +31,8 @@ use Rattle.demands.proofs.Alike.{SameDecision, blameless-same}
 use Rattle.demands.proofs.Barring.{shares-holds, stands-found}
 use Rattle.demands.proofs.LeftOut.{beside-at, Follows, read-left, read-first, copies-left, identities-left, identities-glue}
 use Rattle.demands.proofs.Members.{assign-is, named-twice}
-use Rattle.demands.proofs.Messages.{readBody, message-length, message-command, message-body, message-read, Fit, turned-same, refused-same, Alike, answered-same}
+use Rattle.demands.proofs.Messages.{readBody, message-length, message-command, message-body, message-read, Fit, turned-same, refused-same, Alike}
+use Rattle.demands.proofs.Messages.{answered-same}
 use Rattle.demands.proofs.Refusals.{refused-placed, answer-is}
 
 -- A row of AVPs, and the same without one.
@@ -133,7 +134,8 @@ module _ (head : List ℕ) (twenty : length head ≡ 20) (before : List Piece) (
       still =
           sym (identities-glue (avpsOf before) rest)
           ∙ ap identities (sym (glue-glue (avpsOf before) (avpsOf after) ended))
-          ∙ ap (λ (l : List (List ℕ)). identities (glue l ended)) (sym (avps-joined before after) ∙ ap avpsOf (m .still) ∙ avps-joined (m .front) (m .other ∷ m .back))
+          ∙ ap (λ (l : List (List ℕ)). identities (glue l ended))
+          (sym (avps-joined before after) ∙ ap avpsOf (m .still) ∙ avps-joined (m .front) (m .other ∷ m .back))
           ∙ ap identities (glue-glue (avpsOf (m .front)) (m .other .avp ∷ avpsOf (m .back)) ended)
           ∙ identities-left (m .other .avp) (m .identity) (glue (avpsOf (m .back)) ended) (avpsOf (m .front))
 
@@ -230,7 +232,8 @@ module _ (head : List ℕ) (twenty : length head ≡ 20) (before : List Piece) (
       served-twice = go (turnedAway (asking x (message head short))) refl
         where
           go : (y : Bool) → turnedAway (asking x (message head short)) ≡ y → serve (asking x (message head long)) ≡ serve (asking x (message head short))
-          go true e = refused-same head twenty long short fit-long fit-short x (λ (p : ℕ). p) e ∙ refused-placed (asking x (message head short)) (λ (p : ℕ). p) e
+          go true e =
+              refused-same head twenty long short fit-long fit-short x (λ (p : ℕ). p) e ∙ refused-placed (asking x (message head short)) (λ (p : ℕ). p) e
           go false e =
               answer-is (asking x (message head long)) (turned-same head twenty long short fit-long fit-short x ∙ e)
               ∙ answers-at (checkValue (checkOf x)) (ap checkValue sound)

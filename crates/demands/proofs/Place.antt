@@ -23,7 +23,8 @@ use Rattle.demands.specs.Place.{OfRules, Blames, blaming}
 use Rattle.demands.proofs.Refusals.{word-reads, refused-nowhere}
 use Rattle.demands.proofs.Fitting.{fits}
 use Rattle.demands.proofs.Faults.{fault-least, fault-within, fault-number, rules-lack, rules-fail}
-use Rattle.demands.proofs.Blaming.{blames-answer, place-blamed, unblamed, blames-result, read-unblamed, fault-bytes, place-limit, base-experimental, base-number}
+use Rattle.demands.proofs.Blaming.{blames-answer, place-blamed, unblamed, blames-result, read-unblamed, fault-bytes, place-limit, base-experimental}
+use Rattle.demands.proofs.Blaming.{base-number}
 
 module _ (x : Lent) where
   -- Out of the word that the exported call returns, bits 32 to 47, the caller reads the place.

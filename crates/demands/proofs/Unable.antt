@@ -53,8 +53,8 @@ module _ (req t : List ℕ) (count : ℕ) (v : List ℕ) where
       go (fine seen) r e = by (eqb (commandOf req) 300) (eqb (commandOf req) 301) (eqb (commandOf req) 302) refl refl refl e
         where
           by : (x y z : Bool) → eqb (commandOf req) 300 ≡ x → eqb (commandOf req) 301 ≡ y → eqb (commandOf req) 302 ≡ z
-              → cond x (uarPlan t count seen) (cond y (sarPlan req t count seen) (cond z (lirPlan t count seen) (marPlan t count v seen))) .given .verdict .result
-              ≡ Base 5012
+              → cond x (uarPlan t count seen) (cond y (sarPlan req t count seen) (cond z (lirPlan t count seen) (marPlan t count v seen)))
+              .given .verdict .result ≡ Base 5012
               → (commandOf req ≡ 301) ⊎ (commandOf req ≡ 303)
           by true y z a b c e = without (uarPlan t count seen) (uar-without t count seen) e
           by false true z a b c e = inl (eqb-true _ _ b)

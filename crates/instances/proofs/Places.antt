@@ -19,7 +19,8 @@ use Rattle.worked_examples.proofs.Computed.{known, come, held, roomy, no-vector
 use Rattle.worked_examples.proofs.Sample.{header, room, answer, s}
 use Rattle.demands.specs.Insertion.{requestOf}
 use Rattle.demands.specs.Place.{first, pastTaken, ruleFault, OfRules, AtFault, Blames}
-use Rattle.demands.proofs.Place.{place-word, place-answer, place-is, place-blames, place-least, place-within, place-bytes, place-there, place-result, place-none, place-refused}
+use Rattle.demands.proofs.Place.{place-word, place-answer, place-is, place-blames, place-least, place-within, place-bytes, place-there, place-result}
+use Rattle.demands.proofs.Place.{place-none, place-refused}
 use Rattle.demands.proofs.Place.{place-header, place-first, place-decided, place-missing, place-experimental, place-success, place-most}
 use Rattle.instances.proofs.Calls.{sound-empty}
 use Rattle.instances.proofs.Asked.{base, vendor, head, session, application, common, own, rest, sar, asked, comesTo, loud, all}

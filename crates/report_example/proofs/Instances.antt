@@ -8,13 +8,14 @@ use lib.ListN.{length, getD, take, drop}
 use lib.Dec.{lit≤, lit<}
 use Rattle.blocks.specs.Blocks.{blockOf}
 use Rattle.table.specs.Check.{checkTable}
+use Rattle.blocks.specs.declared.Checked.{Checked}
 use Rattle.blocks.specs.declared.Checked.the-variants.{Sound}
 use Rattle.reading.specs.declared.Outcome.the-variants.{Base}
 use Rattle.reading.specs.Verdicts.{numberOf}
 use Rattle.counting.specs.Results.{columnOf, listed}
 use Rattle.counting.specs.Words.{longBytes}
 use Rattle.calling.specs.Lent.{Lent, lent, asking}
-use Rattle.calling.specs.Serve.{resultOf, serve}
+use Rattle.calling.specs.Serve.{checkValue, decision, resultOf, serve}
 use Rattle.ndushavire.specs.Word.{word, callWord}
 use Rattle.ndushavire.specs.Reads.{placeIn, valueIn}
 use Rattle.ndushavire.specs.Promise.{ReportPromise}
@@ -105,15 +106,23 @@ met-columns : Base 5012 ≡ Base 5012
 unfolding counting listed
 met-columns = numbers.report-columns (Base 5012) (Base 5012) refl refl refl
 
--- the LIR's result has a column, which is its own
+-- the LIR's result has a column; the removal's is in the same, and so is the same
 alone : Lent
 alone = lent lir here [] [] room
 
 met-column : columnOf (resultOf alone) < 25
 met-column = numbers.report-column alone
 
-met-own-column : resultOf alone ≡ resultOf alone
-met-own-column = numbers.report-own-column alone alone refl
+taking : Lent
+taking = lent removal here [] [] room
+
+both-first : columnOf (resultOf alone) ≡ columnOf (resultOf taking)
+unfolding all alone taking counting
+both-first = ap (λ (c : Checked). columnOf (decision alone (checkValue c) .given .verdict .result)) sound-here
+    ∙ sym (ap (λ (c : Checked). columnOf (decision taking (checkValue c) .given .verdict .result)) sound-here)
+
+met-own-column : resultOf alone ≡ resultOf taking
+met-own-column = numbers.report-own-column alone taking both-first
 
 met-unable : (wordIn (reported month area .area) 31 ≡ 0) × (wordIn (reported month area .area) 81 ≡ 0)
 met-unable = numbers.report-unable month area enough

@@ -1,7 +1,7 @@
 -- A family: lines of one private identity that share a set, computed. The definitions of 02 [6] are tried here, the theorems about sets have their instances,
 -- and three wrong servers fail the promise.
-use Prim.Native.Nat.{ℕ, _≤_}
-use mathlib.Core.Path.{_≡_, refl, sym, ap, _∙_}
+use Prim.Native.Nat.{ℕ}
+use mathlib.Core.Path.{_≡_, refl, ap, _∙_}
 use mathlib.Core.Bool.{true, false}
 use mathlib.Core.List.{List, [], _∷_, _++_}
 use native.Mathlib.Omega.{arith}
@@ -11,7 +11,6 @@ use Rattle.record.specs.Fields.{editionOf}
 use Rattle.record.specs.Sets.{sameSet, agreeing}
 use Rattle.blocks.specs.Blocks.{blockOf}
 use Rattle.table.specs.Check.{checkTable}
-use Rattle.blocks.specs.declared.Checked.{Checked}
 use Rattle.blocks.specs.declared.Checked.the-variants.{Sound, Bad}
 use Rattle.vectors.specs.VectorFile.{checkVectors}
 use Rattle.pen.specs.Bytes.{avpBytes, vendorBytes, numberBytes, vendorNumber}
@@ -24,7 +23,8 @@ use Rattle.older_rules.specs.WithoutSets.{beforeSets}
 use Rattle.older_rules.proofs.Sets.{without-sets, first-edition, members-agree}
 use Rattle.older_rules.proofs.Unreachable.{withBranch, same-for-every-input}
 use Rattle.worked_examples.proofs.Computed.{known, come, roomy, no-vectors, registered-sound}
-use Rattle.worked_examples.proofs.Sample.{checked, header, subscriber, request, reply, answer, common, assignment, authentication, vector, item, challenges, room, one, s, z, opened}
+use Rattle.worked_examples.proofs.Sample.{checked, header, subscriber, request, reply, answer, common, assignment, authentication, vector, room, one, s, z}
+use Rattle.worked_examples.proofs.Sample.{opened}
 
 -- a header of the second edition; a line of the private identity `p`, or of another, with a set number
 unfoldable pub head : ℕ → List ℕ

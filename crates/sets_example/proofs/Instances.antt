@@ -1,7 +1,7 @@
 -- The theorems of 02 [6] and [7] (demands/proofs/Sets and demands/proofs/Unreachable) have instances: their hypotheses are met by a family, computed.
 use Prim.Native.Nat.{ℕ, zero, suc, _<_, _≤_}
 use mathlib.Core.Path.{_≡_, refl, sym, ap, subst, _∙_}
-use mathlib.Core.Bool.{Bool, true, _&&_}
+use mathlib.Core.Bool.{Bool, true, false, _&&_}
 use mathlib.Core.Logic.{_⊎_, inl, _≢_}
 use mathlib.Core.List.{List, [], _∷_, _++_}
 use native.Mathlib.Omega.{arith}
@@ -22,6 +22,7 @@ use Rattle.reading.specs.declared.Outcome.{Outcome}
 use Rattle.reading.specs.declared.Outcome.the-variants.{Base, Experimental}
 use Rattle.requests.specs.Judged.{Judged, bad, fine}
 use Rattle.requests.specs.Request.{readRequest}
+use Rattle.calling.specs.Call.{Refused}
 use Rattle.calling.specs.Lent.{Lent, lent}
 use Rattle.calling.specs.Lent as lending
 use Rattle.calling.specs.Serve.{Served, checkOf, checkValue, decision, resultOf, serve}
@@ -32,8 +33,10 @@ use Rattle.demands.proofs.Sets as sets
 use Rattle.demands.proofs.Unreachable as unreachable
 use Rattle.older_rules.specs.Rules.{decideBy}
 use Rattle.older_rules.proofs.Unreachable.{withBranch}
+use Rattle.worked_examples.proofs.Computed.{known, come, roomy, no-vectors}
 use Rattle.worked_examples.proofs.Sample.{room, assignment, authentication, s, z, opened}
-use Rattle.sets_example.proofs.Family.{head, line, pair, family, asking, shut, registration, family-sound, registered, admitted, barred-sound, shut-sound}
+use Rattle.sets_example.proofs.Family.{head, line, pair, family, asking, shut, registration, family-sound, registered, admitted, barred-sound}
+use Rattle.sets_example.proofs.Family.{shut-sound}
 
 -- what a request that is read holds; the result of a call over a sound table
 abbrev seenIn : Judged → Seen
@@ -46,7 +49,7 @@ result x count r e f = ap (λ (c : Checked). decision x (checkValue c) .given .v
 -- `a` and `b` share a set
 shared : Shares (family 2 1 s) 1 2
 unfolding opened head line family
-shared = record { nonzero = lit< tt; number = refl; subscription = refl }
+shared = sets.set-is (family 2 1 s) 1 2 .0 refl
 
 a-stands : Stands (family 2 1 s) 3 1 (0x61 ∷ [])
 unfolding opened head line family
@@ -99,6 +102,15 @@ met-blamed = sets.later-blamed apart 0 1 2 disagreeing
 
 met-blamed-check : ReadsCheck 5 (Bad 2) (checkWord 5 (checkTable apart 0))
 met-blamed-check = sets.later-blamed-check apart [] 1 2 disagreeing (record { answer = refl })
+
+blamed-call : serve (lent asking apart [] [] room) .call ≡ Refused 5 2
+unfolding opened asking
+blamed-call =
+    let x = lent asking apart [] [] room in
+    ap (λ (y : Served). y .call) (come x {y = known false (Bad 2) (Sound 0) x} roomy met-blamed no-vectors refl)
+
+met-blamed-call : _≡_ {A = ℕ} 2 2
+met-blamed-call = sets.later-blamed-call (lent asking apart [] [] room) 1 2 2 disagreeing blamed-call
 
 -- B5003 where both are barred, before X5004: no network is named in the header
 abbrev turnedOut : Lent
@@ -162,7 +174,8 @@ idle-shared : Shares (family 0 0 []) 1 2
 unfolding opened head line family
 idle-shared = record { nonzero = lit< tt; number = refl; subscription = refl }
 
-met-together : differ (blockOf (family 0 0 []) 1) (blockOf (serve registration .table) 1) ≡ differ (blockOf (family 0 0 []) 2) (blockOf (serve registration .table) 2)
+met-together : differ (blockOf (family 0 0 []) 1) (blockOf (serve registration .table) 1)
+    ≡ differ (blockOf (family 0 0 []) 2) (blockOf (serve registration .table) 2)
 met-together =
     sets.members-together registration 3 family-sound family-bytes 1 2 (lit≤ tt) (lit≤ tt) (lit≤ tt) (lit≤ tt) idle-shared
 
