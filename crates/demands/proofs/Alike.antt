@@ -58,7 +58,7 @@ pub record SameDecision (long short : List ℕ) (d e : Decision) : Type 0 where
 
 module _ (long short : List ℕ) where
   -- no AVP is at fault
-  blameless-same : (g : Given) → Blameless g → SameGiven long short g g
+  pub blameless-same : (g : Given) → Blameless g → SameGiven long short g g
   unfolding failedBy
   blameless-same g b =
       record { result = refl; failed = rw (b .0, b .1); user = refl; public = refl; server = refl; capable = refl; profile = refl; sent = refl }

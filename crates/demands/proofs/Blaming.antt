@@ -1,12 +1,12 @@
 -- The answer to an AVP at fault, in which nothing is given but the verdict; and the place of a call, by what reading its request comes to.
-use Prim.Native.Nat.{ℕ, _≤_, _<_}
+use Prim.Native.Nat.{ℕ, _+_, _≤_, _<_}
 use mathlib.Core.List.{List}
 use mathlib.Core.Option.{some}
 use mathlib.Core.Bool.{Bool, true, false}
 use mathlib.Core.Path.{_≡_, refl, sym, ap, _∙_}
 use mathlib.Core.Logic.{_≢_}
 use native.Mathlib.Omega.{arith}
-use lib.ListN.{drop}
+use lib.ListN.{length, drop}
 use lib.Dec.{eqb}
 use borrow.Author.Tests.{eqb-true, eqb-false}
 use Rattle.pen.specs.Bytes.{ifThere}
@@ -25,7 +25,7 @@ use Rattle.deciding.specs.Decide.{Decision, faulted, performedBy, judgedBy, dec
 use Rattle.calling.specs.Lent.{Lent}
 use Rattle.ndushavire.specs.Word.{callPlace}
 use Rattle.calling.specs.Serve.{checkOf, answered, serve, checkValue, resultOf}
-use Rattle.calling.proofs.Calls.{size-most}
+use Rattle.calling.proofs.Calls.{size-most, length-even}
 use Rattle.demands.specs.Call.{turnedAway}
 use Rattle.demands.specs.Place.{Blames, faultBody, faultBytes, blaming}
 use Rattle.calling.proofs.Kept.{taken}
@@ -38,9 +38,9 @@ module _ (req : List ℕ) (n place : ℕ) (shown : List ℕ) (is : failedBy req 
   unfolding bodyBytes restBytes givenBytes nameBytes identityBytes sentBytes dataBytes endBytes capabilities ifThere
   fault-body t file v = rw is
 
-  fault-bytes : (t file v : List ℕ) → answerBytes req t file v (givenFault (faultAt n place)) ≡ faultBytes req t n shown
+  fault-whole : (t file v : List ℕ) → answerBytes req t file v (givenFault (faultAt n place)) ≡ faultBytes req t n shown
   unfolding answerBytes
-  fault-bytes t file v = rw (fault-body t file v)
+  fault-whole t file v = rw (fault-body t file v)
 
 fault-decides : (req : List ℕ) (n place : ℕ) → readRequest req ≡ bad (faultAt n place) → (t : List ℕ) (count : ℕ) (v : List ℕ)
     → decide req t count v ≡ faulted t v (faultAt n place)
@@ -54,7 +54,7 @@ fault-answered x n place shown is e away =
     let count = checkValue (checkOf x) in
     answer-is x away
     ∙ ap (answered x) (fault-decides (x .request) n place e (x .table) count (x .vectors))
-    ∙ rw (fault-bytes (x .request) n place shown is (x .table) (x .profile) (x .vectors))
+    ∙ rw (fault-whole (x .request) n place shown is (x .table) (x .profile) (x .vectors))
 
 -- The place is the verdict's, and 0 of a request that was read.
 abbrev placeOf : Judged → ℕ
@@ -113,6 +113,16 @@ module _ (x : Lent) where
 
   pub read-unblamed : (seen : Seen) → readRequest (x .request) ≡ fine seen → (p : ℕ) → Blames x p → ⊥
   read-unblamed seen e p b = fine-bad seen (faultAt (b .result) p) (sym e ∙ fault-read (x .request) (b .result) p (b .fault))
+
+  -- places and lengths are multiples of 4
+  pub fault-bytes : (p : ℕ) → Blames x p → p + 4 ≤ length (x .request)
+  fault-bytes p b =
+      omega (
+        arith,
+        fault-within (x .request) (b .result) p (b .fault),
+        fault-fours (x .request) (b .result) p (b .fault),
+        length-even (x .request) (taken x (b .taken) .lengths),
+      )
 
   -- so it is at most 16,380
   pub place-limit : place ≤ 16380

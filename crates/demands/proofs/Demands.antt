@@ -22,9 +22,10 @@ use Rattle.calling.specs.Call.{Answered, Refused}
 use Rattle.calling.specs.Lent.{Lent, asking}
 use Rattle.calling.specs.Serve.{wrongSize, wrongLength, checkOf, trials, answered, decision, serve}
 use Rattle.ndushavire.specs.Word.{callNumber, callValue, callWord}
-use Rattle.ndushavire.specs.Reads.{callIn, Reads, ReadsCheck}
-use Rattle.ndushavire.specs.Promise.{CheckPromise, CheckVectorsPromise, DecidePromise}
-use Rattle.demands.proofs.Firm.{check-said, check-vectors-said}
+use Rattle.ndushavire.specs.Reads.{callIn, Reads, ReadsCheck, ReadsMove}
+use Rattle.ndushavire.specs.Promise.{CheckPromise, CheckVectorsPromise, DecidePromise, ForwardPromise, BackPromise}
+use Rattle.moving.specs.Outcomes.{forward, back}
+use Rattle.demands.proofs.Firm.{check-said, check-vectors-said, forward-said, back-said}
 use Rattle.reading.specs.declared.Dialect.{Dialect}
 use Rattle.requests.specs.Request.{dialectOf, cx}
 use Rattle.demands.specs.Call.{turnedAway, answerTo, Exactly}
@@ -52,6 +53,14 @@ checked t file p = check-said t file p
 
 pub checked-vectors : (v : List ℕ) {r : ℕ} → CheckVectorsPromise v r → ReadsCheck 6 (checkVectors v) r
 checked-vectors v p = check-vectors-said v p
+
+-- THE MOVES. Out of the word of a move between editions the caller reads number 0 and the count of records, or the refusal's number, 5 or 8, and its block.
+-- Bits 32 to 47 are 0.
+pub moved-forward : (t file : List ℕ) (issue : ℕ) {r : ℕ} {t' : List ℕ} → ForwardPromise t file issue r t' → ReadsMove (forward t (length file) issue .move) r
+moved-forward t file issue p = forward-said t file issue p
+
+pub moved-back : (t file : List ℕ) {r : ℕ} {t' : List ℕ} → BackPromise t file r t' → ReadsMove (back t (length file) .move) r
+moved-back t file p = back-said t file p
 
 -- DEMAND 1. Every call ends in an answer or in exactly one of six refusals, each given exactly when the papers say, tried in their order.
 module _ (x : Lent) where

@@ -200,7 +200,7 @@ module _ (head : List ℕ) (twenty : length head ≡ 20) (b c : List ℕ) (alike
         message-rest head twenty c,
       )
 
-  answered-same : (x : Lent) (h : ℕ → ℕ) (d e : Decision) → SameDecision long short d e → d .place ≡ h (e .place)
+  pub answered-same : (x : Lent) (h : ℕ → ℕ) (d e : Decision) → SameDecision long short d e → d .place ≡ h (e .place)
       → answered (asking x long) d ≡ placed h (answered (asking x short) e)
   unfolding answered
   answered-same x h d e s p = rw (answer-same (x .table) (x .profile) (x .vectors) (d .given) (e .given) (s .given), s .table, s .vectors, p)

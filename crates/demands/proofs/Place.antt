@@ -1,6 +1,6 @@
 -- The place that a call returns beside the answer's length, as theorems about `serve`, which is what the exported call is promised to return and to leave
 -- (`promised` in proofs/Demands), for anything lent. What the words below mean is in specs/Place.
-use Prim.Native.Nat.{ℕ, _≤_, _<_}
+use Prim.Native.Nat.{ℕ, _+_, _≤_, _<_}
 use mathlib.Core.List.{List}
 use mathlib.Core.Bool.{true, true≢false}
 use mathlib.Core.Path.{_≡_, sym, ap, _∙_}
@@ -22,7 +22,8 @@ use Rattle.demands.specs.Place.{OfRules, Blames, blaming}
 use Rattle.demands.proofs.Refusals.{word-reads, refused-nowhere}
 use Rattle.demands.proofs.Fitting.{fits}
 use Rattle.demands.proofs.Faults.{fault-least, fault-within, fault-number, rules-lack, rules-fail}
-use Rattle.demands.proofs.Blaming.{blames-answer, place-blamed, unblamed, blames-result, read-unblamed, place-limit, base-experimental, base-number}
+use Rattle.demands.proofs.Blaming.{blames-answer, place-blamed, unblamed, blames-result, read-unblamed, fault-bytes, place-limit, base-experimental}
+use Rattle.demands.proofs.Blaming.{base-number}
 
 module _ (x : Lent) where
   -- Out of the word that the exported call returns, bits 32 to 47, the caller reads the place.
@@ -47,6 +48,17 @@ module _ (x : Lent) where
 
   pub place-within : (place : ℕ) → Blames x place → place < length (x .request)
   place-within place b = fault-within (x .request) (b .result) place (b .fault)
+
+  -- At least 4 bytes of the request stand there, the AVP's code.
+  pub place-bytes : (place : ℕ) → Blames x place → place + 4 ≤ length (x .request)
+  place-bytes = fault-bytes x
+
+  -- So of every place but 0 that the caller reads out of the word.
+  pub place-there : {r : ℕ} {t' v' o' : List ℕ} → DecidePromise x r t' v' o' → placeIn r ≢ 0 → (20 ≤ placeIn r) × (placeIn r + 4 ≤ length (x .request))
+  place-there p n =
+      let e = place-word p in
+      let b = place-blames (λ z. n (e ∙ z)) in
+      (rw e (place-least (callPlace (serve x .call)) b), rw e (place-bytes (callPlace (serve x .call)) b))
 
   -- The result is one of (a), (c), (d), (f), (g) and (h).
   pub place-result : (place : ℕ) (b : Blames x place) → (resultOf x ≡ Base (b .result)) × OfRules (b .result)

@@ -1,7 +1,7 @@
--- Sets, over whole calls: the members of a set are altered together or not at all; and a removal naming two members of one set is like naming one.
+-- Sets, over whole calls: the members of a set are altered together or not at all.
 use Prim.Native.Nat.{ℕ, _≤_}
 use mathlib.Core.List.{List, [], _∷_}
-use mathlib.Core.Bool.{Bool, true, false, cond, _&&_}
+use mathlib.Core.Bool.{true}
 use mathlib.Core.Path.{_≡_, refl, sym, ap, _∙_}
 use lib.ListN.{length, length-take, length-drop}
 use native.Mathlib.Omega.{arith}
@@ -31,8 +31,7 @@ use Rattle.choices.specs.declared.plan.Sar.{Sar}
 use Rattle.choices.specs.declared.plan.Settling.{Settling}
 use Rattle.choices.specs.declared.plan.Deed.{Deed}
 use Rattle.choices.specs.declared.plan.Deed.the-variants.{Leave, Settle, Challenge}
-use Rattle.assignment.specs.Assignment.{Assignment, meantBy, every, findAll, numbersOf, ownedUpTo, ownAt, storesAt, fitsAt, rightAt, surveyOf}
-use Rattle.assignment.specs.Assignment.{namedSurvey, assignMeant, assign, storedName, plannedRecords}
+use Rattle.assignment.specs.Assignment.{Assignment, meantBy, every, findAll, numbersOf, ownedUpTo, ownAt, storesAt, fitsAt, rightAt, surveyOf, namedSurvey, assignMeant, assign, storedName, plannedRecords}
 use Rattle.assignment.specs.declared.Meant.the-variants.{Listed}
 use Rattle.deciding.specs.Plans.{assignmentOf, sarPlan, planRead}
 use Rattle.deciding.specs.Rules.{inForce}
@@ -84,78 +83,3 @@ members-together x count e bytes j k a b c d one =
 
     q : checkValue (checkOf x) ≡ count
     q = ap checkValue e
-
--- NAMED TWICE. What is seen of two records of one set is what is seen of one.
-module _ (t : List ℕ) (count : ℕ) (sound : SoundTable t count) (k j : ℕ) (a : 1 ≤ k) (b : k ≤ count) (c : 1 ≤ j) (d : j ≤ count)
-    (one : sameSet (blockOf t k) (blockOf t j) ≡ true) where
-  every-twice : (p : ℕ → Bool) → p j ≡ p k → (ks : List ℕ) → every p (k ∷ (j ∷ ks)) ≡ every p (k ∷ ks)
-  unfolding every
-  every-twice p e ks = rw e (go (p k) (every p ks))
-    where
-      go : (x y : Bool) → (x && (x && y)) ≡ (x && y)
-      go true y = refl
-      go false y = refl
-
-  survey-twice : (owner server : List ℕ) (kind : AssignmentType) (known : Bool) (ks : List ℕ)
-      → surveyOf t owner server kind known (k ∷ (j ∷ ks)) ≡ surveyOf t owner server kind known (k ∷ ks)
-  unfolding surveyOf
-  survey-twice owner server kind known ks =
-      rw (
-        every-twice (ownAt t owner) (sym (own-same t count sound k j a b c d one owner)) ks,
-        every-twice (storesAt t server) (sym (stores-same t count sound k j a b c d one server)) ks,
-        every-twice (fitsAt t server) (sym (fits-same t count sound k j a b c d one server)) ks,
-        every-twice (rightAt t kind) (sym (right-same t count sound k j a b c d one kind)) ks,
-      )
-
-  -- A removal of identities a, b and others is decided as one of a and the others, with the same table afterwards, where a and b are of one set.
-  module _ (numbers : Sar) (server user : List ℕ) (first second : List ℕ) (others : List (List ℕ)) (p q : ℕ) (ps : List ℕ)
-      (at-first : findPublic t count (dataOf first) ≡ At k) (at-second : findPublic t count (dataOf second) ≡ At j) where
-    abbrev once : Assignment
-    once = record { numbers = numbers; server = server; user = user; identities = first ∷ others; places = p ∷ ps }
-
-    abbrev twice : Assignment
-    twice = record { numbers = numbers; server = server; user = user; identities = first ∷ (second ∷ others); places = p ∷ (q ∷ ps) }
-
-    named-once : namedSurvey t count twice ≡ namedSurvey t count once
-    unfolding namedSurvey findAll numbersOf every
-    named-once = rw (at-first, at-second) (survey-twice _ _ _ _ _)
-
-    listed : (ps : List ℕ) → meantBy true (numbers .named) (p ∷ ps) ≡ Listed p
-    unfolding meantBy
-    listed [] = refl
-    listed (i ∷ is) = refl
-
-    assign-once : isRemoval (numbers .kind) ≡ true → assign t count twice ≡ assign t count once
-    unfolding assign assignMeant findAll
-    assign-once e = rw (e, listed (q ∷ ps), listed ps, named-once)
-
-    settled-once : (w : Settling) → settledBy t count twice w ≡ settledBy t count once w
-    unfolding plannedRecords findAll numbersOf
-    settled-once w = rw (at-first, at-second) (go (w .owned))
-      where
-        change : List ℕ → List ℕ
-        change = settled (w .state) (storedName (w .named) server)
-
-        rest : List ℕ
-        rest = numbersOf (findAll t count others)
-
-        go : (x : Bool) → afterOf t count (reaches t (cond x (ownedUpTo t user count) (k ∷ (j ∷ rest)))) change
-            ≡ afterOf t count (reaches t (cond x (ownedUpTo t user count) (k ∷ rest))) change
-        go true = refl
-        go false = named-twice-after t count k j rest change one
-
-    module _ (double single : List ℕ) (more less : Seen) (says-twice : assignmentOf double t more ≡ twice) (says-once : assignmentOf single t less ≡ once) where
-      same-server : dataSeen more serverName ≡ dataSeen less serverName
-      unfolding assignmentOf
-      same-server = ap (λ (s : Assignment). s .server) says-twice ∙ sym (ap (λ (s : Assignment). s .server) says-once)
-
-      carried-once : (e : Deed) → carriedOut double t count more e ≡ carriedOut single t count less e
-      unfolding carriedOut
-      carried-once Leave = refl
-      carried-once (Settle w) = rw (says-twice, says-once) (settled-once w)
-      carried-once (Challenge i) = rw same-server
-
-      pub named-twice : isRemoval (numbers .kind) ≡ true → (v : List ℕ)
-          → performedBy inForce double t count v more (sarPlan double t count more) ≡ performedBy inForce single t count v less (sarPlan single t count less)
-      unfolding performedBy sarPlan
-      named-twice e v = rw (says-twice, says-once, assign-once e, carried-once (assign t count once .deed))

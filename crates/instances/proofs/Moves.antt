@@ -1,4 +1,4 @@
--- No answer shows a move between editions: the hypotheses can be met by the removal, over the table in both editions, computed.
+-- The word of a move is read back, and no answer shows a move: the hypotheses can be met by the table in both editions and the removal, computed.
 use Prim.Native.Nat.{ℕ}
 use mathlib.Core.Path.{_≡_, refl, sym, ap, _∙_}
 use mathlib.Core.List.{List, [], _++_}
@@ -9,11 +9,16 @@ use Rattle.blocks.specs.declared.Checked.the-variants.{Sound}
 use Rattle.table.specs.Check.{checkTable}
 use Rattle.pen.specs.Bytes.{numberBytes}
 use Rattle.moving.specs.Moves.{moved, movedAll, noSet, firstSet}
-use Rattle.moving.specs.Outcomes.{Outcome, came, forwardSound, backPast, backSound, forwardChecked, backChecked, forward, back}
-use Rattle.moving.specs.declared.Move.the-variants.{Moved}
+use Rattle.moving.specs.Outcomes.{Outcome, came, refusing, forwardSound, backPast, backSound, forwardChecked, backChecked, forward, back}
+use Rattle.moving.specs.declared.Move.{Move}
+use Rattle.moving.specs.declared.Move.the-variants.{Moved, Refused}
 use Rattle.calling.specs.Call.{Answered}
 use Rattle.calling.specs.Lent.{Lent}
 use Rattle.calling.specs.Serve.{Served, serve}
+use Rattle.ndushavire.specs.Word.{word, moveWord}
+use Rattle.ndushavire.specs.Reads.{ReadsMove}
+use Rattle.demands.proofs.Demands.{moved-forward, moved-back}
+use Rattle.sets_example.proofs.Family as family
 use Rattle.seen_alike.specs.Alike.{SameCall, holding}
 use Rattle.seen_alike.proofs.Moved.{forward-answers, back-answers}
 use Rattle.worked_examples.proofs.Computed.{come, roomy, no-vectors}
@@ -43,6 +48,26 @@ sound-second = refl
 again : back second 0 ≡ came (Moved 2) table
 unfolding all later second moved movedAll noSet firstSet backPast backSound backChecked back
 again = ap (backChecked second) sound-second
+
+-- out of the word of each the caller reads 2 records; the move back from a family with a set is refusal 8, block 1
+reads-forward : (m : Move) → forward table 0 7 .move ≡ m → ReadsMove m (moveWord m)
+reads-forward m e = rw e at (moved-forward table [] 7 {t' = forward table 0 7 .table} (record { word-is = refl; table-is = refl }))
+
+reads-back : (t : List ℕ) (m : Move) → back t 0 .move ≡ m → ReadsMove m (moveWord m)
+reads-back t m e = rw e at (moved-back t [] {t' = back t 0 .table} (record { word-is = refl; table-is = refl }))
+
+met-moved-forward : ReadsMove (Moved 2) 2
+met-moved-forward = reads-forward (Moved 2) (ap (λ (o : Outcome). o .move) there)
+
+met-moved-back : ReadsMove (Moved 2) 2
+met-moved-back = reads-back second (Moved 2) (ap (λ (o : Outcome). o .move) again)
+
+with-set : back (family.family 0 0 []) 0 ≡ refusing (family.family 0 0 []) 8 1
+unfolding all family.head family.line family.family noSet firstSet backPast backSound backChecked back
+with-set = ap (backChecked (family.family 0 0 [])) family.family-sound
+
+met-moved-refused : ReadsMove (Refused 8 1) (word 8 0 1)
+met-moved-refused = reads-back (family.family 0 0 []) (Refused 8 1) (ap (λ (o : Outcome). o .move) with-set)
 
 -- the removal, and the same over edition 2: its answer, computed, and the table afterwards, which keeps edition and issue number
 abbrev x : Lent

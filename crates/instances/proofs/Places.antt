@@ -18,7 +18,8 @@ use Rattle.worked_examples.proofs.Computed.{known, come, held, roomy, no-vector
 use Rattle.worked_examples.proofs.Sample.{header, room, answer, s}
 use Rattle.demands.specs.Insertion.{requestOf}
 use Rattle.demands.specs.Place.{first, pastTaken, ruleFault, OfRules, AtFault, Blames}
-use Rattle.demands.proofs.Place.{place-word, place-answer, place-is, place-blames, place-least, place-within, place-result, place-none, place-refused}
+use Rattle.demands.proofs.Place.{place-word, place-answer, place-is, place-blames, place-least, place-within, place-bytes, place-there, place-result}
+use Rattle.demands.proofs.Place.{place-none, place-refused}
 use Rattle.demands.proofs.Place.{place-header, place-first, place-decided, place-missing, place-experimental, place-success, place-most}
 use Rattle.instances.proofs.Calls.{sound-empty}
 use Rattle.instances.proofs.Asked.{base, vendor, head, session, application, common, own, rest, sar, asked, comesTo, loud, all}
@@ -64,6 +65,9 @@ met-least = place-least (bare (sar s 12)) 144 blames
 met-within : 144 < length (sar s 12)
 met-within = place-within (bare (sar s 12)) 144 blames
 
+met-bytes : 148 ≤ length (sar s 12)
+met-bytes = place-bytes (bare (sar s 12)) 144 blames
+
 met-result : (resultOf (bare (sar s 12)) ≡ Base 5004) × OfRules 5004
 unfolding blames
 met-result = place-result (bare (sar s 12)) 144 blames
@@ -74,6 +78,13 @@ unfolding all
 met-word =
     place-word (bare (sar s 12))
     (record { word-is = ap (λ (y : Served). callWord (y .call)) (sym met-answer); table-is = refl; vectors-is = refl; buffer-is = refl })
+
+met-there : (20 ≤ 144) × (148 ≤ length (sar s 12))
+unfolding all
+met-there =
+    place-there (bare (sar s 12)) {r = word 0 144 140}
+    (record { word-is = ap (λ (y : Served). callWord (y .call)) (sym met-answer); table-is = refl; vectors-is = refl; buffer-is = refl })
+    (λ e. let n : _≡_ {A = ℕ} 144 0 = e in omega arith)
 
 met-most : callPlace (serve (bare (sar s 12)) .call) ≤ 16380
 met-most = place-most (bare (sar s 12))

@@ -54,6 +54,14 @@ callWord (Answered a) = word 0 (a .place) (a .length)
 callWord (Refused number besides) = word number 0 besides
 
 -- a move: number 0 with the count of records; a refusal's number with the block
+abbrev pub moveNumber : Move → ℕ
+moveNumber (Moved count) = 0
+moveNumber (move.Refused number block) = number
+
+abbrev pub moveValue : Move → ℕ
+moveValue (Moved count) = count
+moveValue (move.Refused number block) = block
+
 abbrev pub moveWord : Move → ℕ
 moveWord (Moved count) = word 0 0 count
 moveWord (move.Refused number block) = word number 0 block

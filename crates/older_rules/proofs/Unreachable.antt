@@ -42,7 +42,8 @@ use Rattle.deciding.specs.Deeds.{carriedOut}
 use Rattle.deciding.specs.Rules.{Rules, inForce}
 use Rattle.calling.specs.Lent.{Lent}
 use Rattle.calling.specs.Serve.{serveBy, serve}
-use Rattle.older_rules.proofs.Rules.{rules-same, decided-same}
+use Rattle.older_rules.proofs.Rules.{rules-same, decided-same, serve-now}
+use Rattle.older_rules.specs.Rules.{Rules, inForce, decideBy, serveBy}
 
 -- "the server name (none stored: B5012)"
 unfoldable pub serverIf : Bool → Outcome → Choice
@@ -166,10 +167,12 @@ module _ (t : List ℕ) (count : ℕ) (sound : SoundTable t count) where
         locate-same (findPublic t count (dataSeen seen publicIdentity)) (public-among t count (dataSeen seen publicIdentity) refl),
       )
 
+pub decided-alike : (x : Lent) (count : ℕ) → checkTable (x .table) (length (x .profile)) ≡ Sound count
+    → decideBy withBranch (x .request) (x .table) count (x .vectors) ≡ decideBy inForce (x .request) (x .table) count (x .vectors)
+decided-alike x count e =
+    decided-same withBranch inForce x count (plan-same (x .table) count (record { file = length (x .profile); checked = e }) (x .request) (x .vectors))
+    (λ s d. refl)
+
 -- "Answers are the same for every input."
 pub same-for-every-input : (x : Lent) → serveBy withBranch x ≡ serve x
-same-for-every-input x =
-    rules-same withBranch inForce x refl
-    (λ count e.
-    decided-same withBranch inForce x count (plan-same (x .table) count (record { file = length (x .profile); checked = e }) (x .request) (x .vectors))
-    (λ seen d. refl))
+same-for-every-input x = rules-same withBranch inForce x refl (decided-alike x)

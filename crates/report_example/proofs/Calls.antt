@@ -94,12 +94,16 @@ each = (
 )
 
 -- what each call comes to
+abbrev pub leaves : ℕ → List ℕ → List ℕ → List ℕ → Served
+leaves length table vectors buffer = record { call = Answered (record { length = length; place = 0 }); table = table; vectors = vectors; buffer = buffer }
+
 abbrev pub comes : ℕ → List ℕ → List ℕ → Served
-comes length table buffer = record { call = Answered (record { length = length; place = 0 }); table = table; vectors = []; buffer = buffer }
+comes length table buffer = leaves length table [] buffer
 
 -- a call leaves a buffer of the least room as long as it was
-stays : (x : Lent) (length : ℕ) (table buffer : List ℕ) → serve x ≡ comes length table buffer → smallBuffer (x .buffer) ≡ false → smallBuffer buffer ≡ false
-stays x length table buffer e h =
+pub stays : (x : Lent) (length : ℕ) (table vectors buffer : List ℕ) → serve x ≡ leaves length table vectors buffer → smallBuffer (x .buffer) ≡ false
+    → smallBuffer buffer ≡ false
+stays x length table vectors buffer e h =
     ap (λ (y : Served). smallBuffer (y .buffer)) (sym e) ∙ ap (λ (n : ℕ). ltb n 36864) (demand-2-room x) ∙ h
 
 pub located-comes : serve (lending lir here room) ≡ comes 132 here located
@@ -107,21 +111,21 @@ unfolding all
 located-comes = come (lending lir here room) roomy sound-here no-vectors refl
 
 located-roomy : smallBuffer located ≡ false
-located-roomy = stays (lending lir here room) 132 here located located-comes roomy
+located-roomy = stays (lending lir here room) 132 here [] located located-comes roomy
 
 pub removed-comes : serve (lending removal here located) ≡ comes 116 gone removed
 unfolding all
 removed-comes = come (lending removal here located) located-roomy sound-here no-vectors refl
 
 removed-roomy : smallBuffer removed ≡ false
-removed-roomy = stays (lending removal here located) 116 gone removed removed-comes located-roomy
+removed-roomy = stays (lending removal here located) 116 gone [] removed removed-comes located-roomy
 
 pub sought-comes : serve (lending lir gone removed) ≡ comes 136 gone sought
 unfolding all
 sought-comes = come (lending lir gone removed) removed-roomy sound-gone no-vectors refl
 
 sought-roomy : smallBuffer sought ≡ false
-sought-roomy = stays (lending lir gone removed) 136 gone sought sought-comes removed-roomy
+sought-roomy = stays (lending lir gone removed) 136 gone [] sought sought-comes removed-roomy
 
 pub strayed-comes : serve (lending strayed gone sought) ≡ record { call = Refused 4 0; table = gone; vectors = []; buffer = sought }
 unfolding all
@@ -132,10 +136,10 @@ abbrev pub counts : ℕ → Outcome → ℕ → ℕ → Event
 counts command result length altered = event.Answered (record { command = command; result = result; length = length; altered = altered })
 
 -- from what the call comes to, so that it is not computed again
-pub counted-from : (x : Lent) (length : ℕ) (table buffer : List ℕ) → serve x ≡ comes length table buffer → checkOf x ≡ Sound 1
+pub counted-from : (x : Lent) (length : ℕ) (table vectors buffer : List ℕ) → serve x ≡ leaves length table vectors buffer → checkOf x ≡ Sound 1
     → eventOf x ≡ counts (commandOf (x .request)) (decision x 1 .given .verdict .result) length (alteredUpTo (x .table) table 1)
 unfolding eventOf
-counted-from x length table buffer e f =
+counted-from x length table vectors buffer e f =
     ap (λ (y : Served). eventBy x (y .call)) e
     ∙ ap (λ (n : ℕ). counts (commandOf (x .request)) (resultOf x) length n)
     (ap (λ (y : Served). alteredUpTo (x .table) (y .table) (checkValue (checkOf x))) e)
@@ -144,15 +148,15 @@ counted-from x length table buffer e f =
 
 pub located-counts : eventOf (lending lir here room) ≡ counts 302 (Base 2001) 132 0
 unfolding all
-located-counts = counted-from (lending lir here room) 132 here located located-comes sound-here
+located-counts = counted-from (lending lir here room) 132 here [] located located-comes sound-here
 
 pub removed-counts : eventOf (lending removal here located) ≡ counts 301 (Base 2001) 116 1
 unfolding all
-removed-counts = counted-from (lending removal here located) 116 gone removed removed-comes sound-here
+removed-counts = counted-from (lending removal here located) 116 gone [] removed removed-comes sound-here
 
 pub sought-counts : eventOf (lending lir gone removed) ≡ counts 302 (Experimental 5003) 136 0
 unfolding all
-sought-counts = counted-from (lending lir gone removed) 136 gone sought sought-comes sound-gone
+sought-counts = counted-from (lending lir gone removed) 136 gone [] sought sought-comes sound-gone
 
 pub strayed-counts : eventOf (lending strayed gone sought) ≡ event.Refused 4
 unfolding eventOf

@@ -8,14 +8,16 @@ use lib.ListN.{length, getD, take, drop}
 use lib.Dec.{lit≤, lit<}
 use Rattle.blocks.specs.Blocks.{blockOf}
 use Rattle.table.specs.Check.{checkTable}
+use Rattle.blocks.specs.declared.Checked.{Checked}
 use Rattle.blocks.specs.declared.Checked.the-variants.{Sound}
 use Rattle.reading.specs.declared.Outcome.the-variants.{Base}
 use Rattle.reading.specs.Verdicts.{numberOf}
-use Rattle.counting.specs.Results.{listed}
+use Rattle.counting.specs.Results.{columnOf, listed}
 use Rattle.counting.specs.Words.{longBytes}
 use Rattle.calling.specs.Lent.{Lent, lent, asking}
-use Rattle.calling.specs.Serve.{serve}
+use Rattle.calling.specs.Serve.{serve, checkValue, decision, resultOf}
 use Rattle.ndushavire.specs.Word.{word, callWord, placeIn, valueIn}
+use Rattle.ndushavire.specs.Reads.{placeIn, valueIn}
 use Rattle.ndushavire.specs.Promise.{ReportPromise}
 use Rattle.reporting.specs.Pieces.{stopOf}
 use Rattle.reporting.specs.Row.{eventOf, row, left}
@@ -104,6 +106,27 @@ met-columns : Base 5012 ≡ Base 5012
 unfolding counting listed
 met-columns = numbers.report-columns (Base 5012) (Base 5012) refl refl refl
 
+-- the LIR's result has a column; the removal's is in the same, and so is the same
+alone : Lent
+alone = lent lir here [] [] room
+
+met-column : columnOf (resultOf alone) < 25
+met-column = numbers.report-column alone
+
+taking : Lent
+taking = lent removal here [] [] room
+
+both-first : columnOf (resultOf alone) ≡ columnOf (resultOf taking)
+unfolding all alone taking counting
+both-first = ap (λ (c : Checked). columnOf (decision alone (checkValue c) .given .verdict .result)) sound-here
+    ∙ sym (ap (λ (c : Checked). columnOf (decision taking (checkValue c) .given .verdict .result)) sound-here)
+
+met-own-column : resultOf alone ≡ resultOf taking
+met-own-column = numbers.report-own-column alone taking both-first
+
+met-unable : (wordIn (reported month area .area) 31 ≡ 0) × (wordIn (reported month area .area) 81 ≡ 0)
+met-unable = numbers.report-unable month area enough
+
 -- THE ENDS: no room for the words; two requests that are a whole file; and the 3 bytes
 met-15 : reported month [] .number ≡ 15
 met-15 = ap (λ (r : Reported). r .number) (numbers.report-15-kept month [] (lit< tt))
@@ -136,8 +159,6 @@ unfolding all
 past = record { some = lit≤ tt; by = inr (inr (lit< tt)) }
 
 -- ONE REQUEST
-alone : Lent
-alone = lent lir here [] [] room
 
 met-one : eventsOf alone ≡ counts 302 (Base 2001) 132 0 ∷ []
 unfolding alone

@@ -4,8 +4,8 @@
 use Prim.Native.Nat.{ℕ, _+_, _*_, _%_, _^_, _≤_, _<_, max}
 use mathlib.Core.List.{List, [], _∷_, _++_}
 use mathlib.Core.Bool.{true, false}
-use mathlib.Core.Path.{_≡_}
-use mathlib.Core.Logic.{_⊎_, _≢_}
+use mathlib.Core.Path.{_≡_, refl}
+use mathlib.Core.Logic.{_⊎_, inl, inr, _≢_}
 use lib.ListN.{length, getD, take, drop}
 use lib.Dec.{eqb, ltb}
 use Rattle.blocks.specs.Blocks.{blockOf}
@@ -20,8 +20,9 @@ use Rattle.counting.specs.Counted.{howMany, numberAt, wordAt}
 use Rattle.counting.specs.Layout.{readWord, stopWord, alteredWord, largestWord, answeredWord, refusalWord, cellWord}
 use Rattle.counting.specs.Words.{longBytes}
 use Rattle.calling.specs.Lent.{Lent, asking}
-use Rattle.calling.specs.Serve.{checkOf, serve}
+use Rattle.calling.specs.Serve.{checkOf, serve, resultOf}
 use Rattle.ndushavire.specs.Word.{numberIn, placeIn, valueIn}
+use Rattle.ndushavire.specs.Reads.{numberIn, placeIn, valueIn}
 use Rattle.ndushavire.specs.Promise.{DecidePromise, ReportPromise}
 use Rattle.reporting.specs.Pieces.{stopOf}
 use Rattle.reporting.specs.Row.{eventOf, row, left}
@@ -32,6 +33,7 @@ use Rattle.report_numbers.specs.Turns.{eventsOf, Place, callAt, refusedB
 use Rattle.report_numbers.proofs.Area as area
 use Rattle.report_numbers.proofs.Calls as calls
 use Rattle.report_numbers.proofs.Cells as cells
+use Rattle.report_numbers.proofs.Columns as columns
 use Rattle.report_numbers.proofs.Cut as cut
 use Rattle.report_numbers.proofs.Ends as ends
 use Rattle.report_numbers.proofs.Firm as firm
@@ -110,6 +112,10 @@ module _ (x : Lent) (a : List ℕ) (room : 1160 ≤ length a) where
     pub report-rows : rowsIn (reported x a .area) ≡ wordIn (reported x a .area) answeredWord
     report-rows = area.report-rows x a room short
 
+  -- Column B5012 of the rows 300 and 302 is 0 in every report: 02 [7] has shown that no UAR and no LIR comes to it.
+  pub report-unable : (wordIn (reported x a .area) 31 ≡ 0) × (wordIn (reported x a .area) 81 ≡ 0)
+  report-unable = (columns.unable-word 0 (inl refl) x a room, columns.unable-word 2 (inr refl) x a room)
+
   -- "RECORDS ALTERED, ONCE PER REQUEST": the sum over the calls of how many records have other bytes after each; its remainder by 2^64, which is the sum
   -- itself of a file under 2^56 bytes.
   pub report-altered : wordIn (reported x a .area) alteredWord ≡ alteredOver x (requestsOf x) % 2 ^ 64
@@ -126,7 +132,14 @@ module _ (x : Lent) (a : List ℕ) (room : 1160 ≤ length a) where
       ⊎ ((p : Place (requestsOf x)) × (answerLength (serve (callAt x p) .call) ≡ wordIn (reported x a .area) largestWord))
   report-largest-one = area.largest-word-one x a room
 
--- No two results have one column.
+-- "each result, B and X apart": the result of every call has a column, and two results have two.
+pub report-column : (x : Lent) → columnOf (resultOf x) < 25
+report-column = columns.column-within
+
+pub report-own-column : (x y : Lent) → columnOf (resultOf x) ≡ columnOf (resultOf y) → resultOf x ≡ resultOf y
+report-own-column = columns.column-own
+
+-- No two results that have a column have the same.
 pub report-columns : (o p : Outcome) → Listed o → Listed p → columnOf o ≡ columnOf p → o ≡ p
 report-columns = cells.columns-apart
 

@@ -1,0 +1,78 @@
+-- B5012: no UAR and no LIR comes to it, under the rules in force or, over a sound table, under those that had the branch; so it is a SAR's or a MAR's.
+use Prim.Native.Nat.{ℕ}
+use mathlib.Core.List.{List}
+use mathlib.Core.Bool.{Bool, true, false, cond, true≢false}
+use mathlib.Core.Path.{_≡_, refl, sym, ap, _∙_}
+use mathlib.Core.Logic.{_⊎_, inl, inr, _≢_}
+use native.Mathlib.Omega.{arith}
+use lib.Dec.{eqb}
+use borrow.Author.Tests.{eqb-true, eqb-false}
+use Rattle.blocks.specs.Changed.{isOne}
+use Rattle.blocks.specs.declared.Checked.the-variants.{Sound}
+use Rattle.diameter.specs.Message.{commandOf}
+use Rattle.reading.specs.Rules.{Seen}
+use Rattle.reading.specs.declared.Outcome.the-variants.{Base}
+use Rattle.requests.specs.Judged.{Judged, bad, fine}
+use Rattle.requests.specs.Request.{readRequest}
+use Rattle.choices.specs.declared.plan.Plan.{Plan}
+use Rattle.decisions.specs.Authorization.{authorizeFound, authorize}
+use Rattle.decisions.specs.Location.{locateFound, locate}
+use Rattle.fitting.specs.Decide.{Decision, uarPlan, sarPlan, lirPlan, marPlan, planRead, performed, decideJudged, decide}
+use Rattle.calling.specs.Lent.{Lent}
+use Rattle.calling.specs.Serve.{checkOf}
+use Rattle.older_rules.specs.Rules.{decideBy}
+use Rattle.older_rules.proofs.Rules.{decide-now}
+use Rattle.older_rules.proofs.Unreachable.{withBranch, decided-alike}
+use Rattle.demands.proofs.Effects.{read-last}
+use Rattle.demands.proofs.Results.{read-other, isBase, carried-without, authorization-without, location-without}
+
+-- a UAR's and a LIR's plan
+module _ (t : List ℕ) (count : ℕ) (seen : Seen) where
+  uar-without : isBase 5012 (uarPlan t count seen .given .verdict .result) ≡ false
+  unfolding uarPlan authorize authorizeFound
+  uar-without = carried-without 5012 t count _ _ _ (authorization-without _ _)
+
+  lir-without : isBase 5012 (lirPlan t count seen .given .verdict .result) ≡ false
+  unfolding lirPlan locate locateFound
+  lir-without = carried-without 5012 t count _ _ _ (location-without _)
+
+-- what a request comes to with B5012: it was read, and it is a SAR or a MAR
+module _ (req t : List ℕ) (count : ℕ) (v : List ℕ) where
+  abbrev Comes : Type 0
+  Comes = decide req t count v .given .verdict .result ≡ Base 5012
+
+  without : {A : Type 0} (p : Plan) → isBase 5012 (p .given .verdict .result) ≡ false → p .given .verdict .result ≡ Base 5012 → A
+  without p n e = absurd (true≢false (sym (ap (isBase 5012) e) ∙ n))
+
+  pub unable-whose : Comes → (commandOf req ≡ 301) ⊎ (commandOf req ≡ 303)
+  unfolding decide decideJudged performed planRead isOne
+  unable-whose e = go (readRequest req) refl e
+    where
+      go : (j : Judged) → readRequest req ≡ j → decideJudged req t count v j .given .verdict .result ≡ Base 5012 → (commandOf req ≡ 301) ⊎ (commandOf req ≡ 303)
+      go (bad f) r e = absurd (read-other req f (Base 5012) refl r e)
+      go (fine seen) r e = by (eqb (commandOf req) 300) (eqb (commandOf req) 301) (eqb (commandOf req) 302) refl refl refl e
+        where
+          by : (x y z : Bool) → eqb (commandOf req) 300 ≡ x → eqb (commandOf req) 301 ≡ y → eqb (commandOf req) 302 ≡ z
+              → cond x (uarPlan t count seen) (cond y (sarPlan req t count seen) (cond z (lirPlan t count seen) (marPlan t count v seen)))
+              .given .verdict .result ≡ Base 5012
+              → (commandOf req ≡ 301) ⊎ (commandOf req ≡ 303)
+          by true y z a b c e = without (uarPlan t count seen) (uar-without t count seen) e
+          by false true z a b c e = inl (eqb-true _ _ b)
+          by false false true a b c e = without (lirPlan t count seen) (lir-without t count seen) e
+          by false false false a b c e = inr (read-last req seen r (eqb-false _ _ a) (eqb-false _ _ b) (eqb-false _ _ c))
+
+  pub unable-never : (commandOf req ≡ 300) ⊎ (commandOf req ≡ 302) → Comes → ⊥
+  unable-never c e = go c (unable-whose e)
+    where
+      go : (commandOf req ≡ 300) ⊎ (commandOf req ≡ 302) → (commandOf req ≡ 301) ⊎ (commandOf req ≡ 303) → ⊥
+      go (inl a) (inl b) = omega arith
+      go (inl a) (inr b) = omega arith
+      go (inr a) (inl b) = omega arith
+      go (inr a) (inr b) = omega arith
+
+-- with the branch, over a sound table
+pub branch-never : (x : Lent) (count : ℕ) → checkOf x ≡ Sound count → (commandOf (x .request) ≡ 300) ⊎ (commandOf (x .request) ≡ 302)
+    → decideBy withBranch (x .request) (x .table) count (x .vectors) .given .verdict .result ≢ Base 5012
+branch-never x count sound c e =
+    unable-never (x .request) (x .table) count (x .vectors) c
+    (ap (λ (d : Decision). d .given .verdict .result) (sym (decided-alike x count sound ∙ decide-now (x .request) (x .table) count (x .vectors))) ∙ e)
