@@ -46,8 +46,9 @@ OTHERS = set('''
     AKAv1-MD5 Digest-AKAv1-MD5 unknown nonce= response= axioms= libraries-built=trusted logic-built=trusted
     Bob a aa bob isle r key=value
 '''.split()) | {
-    r'a\0', '#', r'\"', r'\\', r'\xHH', 't .entry', 'refused 2', 'installed', 'number << 48', 'number << 48 | place << 32 | value', 'N passed, 0 failed', 'PKG_CONFIG_PATH=PREFIX/lib/pkgconfig', "awk '$1 < 10'", 'chmod a-w', 'freeDiameterd -c relay.conf', 'save()',
-    'save("SAA", "location", "0", "0")', 'ims.mnc001.mcc001.3gppnetwork.org',
+    r'a\0', '#', r'\"', r'\\', r'\xHH', 't .entry', 'refused 2', 'installed', 'number << 48', 'number << 48 | place << 32 | value', 'N passed, 0 failed',
+    'PKG_CONFIG_PATH=PREFIX/lib/pkgconfig', "awk '$1 < 10'", 'chmod a-w', 'freeDiameterd -c relay.conf', 'save()', 'save("SAA", "location", "0", "0")',
+    'ims.mnc001.mcc001.3gppnetwork.org',
 }
 SAMPLE = re.compile(r'(sip|tel):\S+|<\w+/>|\d+ passed, 0 failed')
 # What is made or installed and is not in the tree.
@@ -114,9 +115,11 @@ class Tree:
     def __init__(self):
         self.crates = re.findall(r'(?m)^([a-z_]+):', read('crates.txt'))
         self.modules, self.statements, self.code, self.contracts, self.text = {}, {}, {}, {}, []
-        for path in sorted(glob.glob('crates/*/*/*.antt') + glob.glob('crates/*/src/*.rt')):
-            crate, part, file = path[len('crates/'):].split('/')
-            text, key = read(path), (crate, part, file.rpartition('.')[0])
+        for path in sorted(glob.glob('crates/*/*/**/*.antt', recursive=True) + glob.glob('crates/*/src/**/*.rt', recursive=True)):
+            crate, part, file = path[len('crates/'):].split('/', 2)
+            if file.endswith('/Proof.antt'):
+                continue  # of one function; it has no names that are used elsewhere
+            text, key = read(path), (crate, part, os.path.splitext(os.path.basename(file))[0])
             self.text.append(folded(text))
             if part == 'src':
                 self.code[crate, key[2]] = declared_by(re.sub(r'//.*', '', text))
@@ -125,7 +128,8 @@ class Tree:
             else:
                 found = declared_in(re.sub(r'(?m)(^|\s)--( .*|$)', '', text))
                 self.modules[key] = {name for name, _ in found}
-                self.statements['%s/%s' % (crate, key[2]) if part == 'proofs' else key] = [name for name, stated in found if stated]
+                if part == 'proofs':
+                    self.statements['%s/%s' % (crate, key[2])] = [name for name, stated in found if stated]
         self.make, self.kit, self.header = read('Makefile'), read('KIT-ID').strip(), read('include/ndushavire.h')
         self.targets = set(' '.join(re.findall(r'(?m)^\.PHONY: (.*)', self.make)).split())
         self.around = '\n'.join(read(path) for path in glob.glob('examples/*.[ch]') + glob.glob('include/*') + glob.glob('packaging/*'))
@@ -406,9 +410,9 @@ def check_wrong_answers(tree):
 
 def check_manual(tree, page):
     text = read(page)
-    for form, of in ((r'(?m)^\.(?:Fn|Fo|Dv) (\w+)', ''), (r'(?m)^\.(?:It \d+ |It )?Dv (\w+)', ''), (r'(?m)^\.(?:It )?Fl (\S+)', '-')):
+    for form, of in ((r'(?m)^\.(?:Fn|Fo) (\w+)', ''), (r'(?m)^\.(?:It (?:\d+ )?)?Dv (\w+)', ''), (r'(?m)^\.(?:It )?Fl (\S+)', '-')):
         for name in re.findall(form, text):
-            if of + name not in tree.around and of + name not in ' '.join(tree.text):
+            if of + name not in tree.around:
                 fault(page, 'has `%s`, and neither header nor examples have it' % (of + name))
 
 
