@@ -13,7 +13,9 @@
 import functools, glob, os, re, sys
 
 # The pages of statements, by crate and module of proofs/, and which tables of docs/ARCHITECTURE.md name their theorems: those with this in the heading, or
-# any. A module in WITH_STEPS has steps of proofs as well, and its statements are those that docs/PROVED.md names.
+# any. A module in WITH_STEPS has steps of proofs as well, and its statements are those that docs/PROVED.md names. A module whose head says that it is such a
+# page (PAGE) must be here, and so must one that docs/PROVED.md cites under "Proved".
+PAGE = re.compile('as theorems about|the statements alone')
 ANY = ''
 STATEMENTS = {
     'demands/Demands': ANY,
@@ -30,11 +32,8 @@ STATEMENTS = {
     'vectors_sent/Sending': '02 [1]',
 }
 WITH_STEPS = {'rewrite/Reaching', 'seen_alike/Likeness'}
-# What else of proofs/ docs/PROVED.md cites under "Proved": examples, instances, wrong servers, single laws.
-NO_STATEMENTS = {
-    'fitting/Room', 'instances/Moves', 'moving/Worked', 'sets_example/Family', 'table/Sound', 'worked_examples/Challenges', 'worked_examples/Examples',
-    'worked_examples/Readings', 'wrong_servers/Servers',
-}
+# Modules of proofs/, in whatever crate, that docs/PROVED.md cites under "Proved" and that are no such pages: examples, instances, wrong servers, single laws.
+NO_STATEMENTS = {'Challenges', 'Examples', 'Family', 'Moves', 'Readings', 'Room', 'Servers', 'Sound', 'Worked'}
 # The crates that have wrong servers or wrong reporters, each with a theorem `.. -fails`.
 WRONG = ('report_example', 'sets_example', 'wrong_servers')
 # What a cell of the column Theorem says where there is no theorem: it is the contract of a function of that row; or there is none, and why.
@@ -114,7 +113,7 @@ def declared_by(text):
 class Tree:
     def __init__(self):
         self.crates = re.findall(r'(?m)^([a-z_]+):', read('crates.txt'))
-        self.modules, self.statements, self.code, self.contracts, self.text = {}, {}, {}, {}, []
+        self.modules, self.statements, self.code, self.contracts, self.text, self.pages = {}, {}, {}, {}, [], set()
         for path in sorted(glob.glob('crates/*/*/**/*.antt', recursive=True) + glob.glob('crates/*/src/**/*.rt', recursive=True)):
             crate, part, file = path[len('crates/'):].split('/', 2)
             if file.endswith('/Proof.antt'):
@@ -130,6 +129,7 @@ class Tree:
                 self.modules[key] = {name for name, _ in found}
                 if part == 'proofs':
                     self.statements['%s/%s' % (crate, key[2])] = [name for name, stated in found if stated]
+                    self.pages |= {'%s/%s' % (crate, key[2])} if PAGE.search(folded(text.partition('\nuse ')[0].replace('--', ''))) else set()
         self.make, self.kit, self.header = read('Makefile'), read('KIT-ID').strip(), read('include/ndushavire.h')
         self.targets = set(' '.join(re.findall(r'(?m)^\.PHONY: (.*)', self.make)).split())
         self.around = '\n'.join(read(path) for path in glob.glob('examples/*.[ch]') + glob.glob('include/*') + glob.glob('packaging/*'))
@@ -381,9 +381,11 @@ def by_contract(tree, row):
 def check_statements(tree, page, rows):
     proved = read('docs/PROVED.md').partition('\n## Trusted')[0]
     said = set(spans(folded(proved)))
-    for path in set(re.findall(r'`([a-z_]+)/proofs/(\w+)\.antt`', proved)):
-        if '/'.join(path) not in STATEMENTS and '/'.join(path) not in NO_STATEMENTS:
-            fault('docs/PROVED.md', 'cites `%s/proofs/%s.antt`, of which tests/pages.py does not say whether it is a page of statements' % path)
+    for crate, module in set(re.findall(r'`([a-z_]+)/proofs/(\w+)\.antt`', proved)):
+        if '%s/%s' % (crate, module) not in STATEMENTS and module not in NO_STATEMENTS:
+            fault('docs/PROVED.md', 'cites `%s/proofs/%s.antt`, of which tests/pages.py does not say whether it is a page of statements' % (crate, module))
+    for module in sorted(tree.pages - set(STATEMENTS)):
+        fault('tests/pages.py', 'does not have the page of statements %s' % module)
     for module, of in STATEMENTS.items():
         cells = [named(row['Theorem']) for heading, row in rows if of in heading]
         if module not in tree.statements:

@@ -75,6 +75,7 @@ def maps():
         spoil('crates/%s.antt' % module.replace('/', '/proofs/'), more('pub %s : ℕ' % name), 'does not name `%s` of `%s`' % (name, module))
     spoil(page, lambda text: re.sub(r'(?m)^(\| "There and back .*\|)[^|]*\|$', r'\1 |', text), 'has no theorem, and does not say why')
     spoil(page, lambda text: re.sub(r'(?m)^(\| "UAR\." )\|[^|]*\|', r'\1| `calling/Serve`: `serve` |', text), 'goes by a contract, and no function there')
+    spoil('crates/table/proofs/NoSuch.antt', more('-- It is proved,\n-- as theorems about `serve`.'), 'does not have the page of statements table/NoSuch')
     spoil('docs/PROVED.md', lambda text: text.replace('\n## Trusted', '\n`counting/proofs/Totals.antt`\n\n## Trusted'), 'does not say whether it is a page of')
     noticed()
     spoil(page, lambda text: re.sub(r'(?m)^(\| "There and back .*\|)[^|]*\|$', r'\1 `serve` |', text), 'and no file of proofs/ declares it')
