@@ -10,7 +10,7 @@ use Rattle.blocks.specs.declared.Checked.the-variants.{Sound, Bad}
 use Rattle.vectors.specs.Chosen.{unusedOf, sentOf}
 use Rattle.vectors.specs.Marked.{spent}
 use Rattle.vectors.specs.VectorFile.{checkVectors, SoundVectors}
-use Rattle.calling.specs.Lent.{Lent}
+use Rattle.calling.specs.Lent.{Lent, dialectIn}
 use Rattle.calling.specs.Trial.{Trial, tried, anyHolds}
 use Rattle.calling.specs.Serve.{smallBuffer, wrongSize, wrongLength, noRequest, isBad, checkOf, trials, refused, answered, serveFound, serveBy, serve, checkValue, decided}
 use Rattle.deciding.proofs.Tests.{neither}
@@ -83,7 +83,7 @@ module _ (x : Lent) where
     unfolding answered
     vectors-are = rw (answered-is taken)
 
-    decided-case : Cases (x .request) (x .table) (checkValue (checkOf x)) v (decided x) → Quiet ⊎ Sending
+    decided-case : Cases (dialectIn x) (x .request) (x .table) (checkValue (checkOf x)) v (decided x) → Quiet ⊎ Sending
     decided-case (other o) =
         inl (record { kept = vectors-are ∙ o .still .kept; none = sent-is ∙ o .still .none; apart = λ c. o .apart (c .command) (c .success) })
     decided-case (success s) =
@@ -101,4 +101,4 @@ module _ (x : Lent) where
     where
       go : (y : Bool) → anyHolds (trials x) ≡ y → Quiet ⊎ Sending
       go true e = inl (record { kept = refused-vectors e; none = rw e; apart = λ c. true≢false (sym e ∙ c .taken) })
-      go false e = decided-case e (decide-cases (x .request) (x .table) (checkValue (checkOf x)) v)
+      go false e = decided-case e (decide-cases (dialectIn x) (x .request) (x .table) (checkValue (checkOf x)) v)
