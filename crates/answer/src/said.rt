@@ -2,6 +2,7 @@
 use ndushavire::word;
 ghost use Prim.Native.Nat.{_≤_};
 ghost use lib.ListN.{length};
+ghost use Rattle.requests.specs.Request.{underCx};
 ghost use Rattle.calling.specs.Lent.{lent};
 ghost use Rattle.answer.specs.Said.{SaidFits, Said, SaidTo};
 
@@ -21,7 +22,7 @@ fn put_said(out: &mut [u8], w: u64) -> usize
 pub fn answer_to(out: &mut [u8], req: &[u8], t: &mut [u8], file: &[u8], v: &mut [u8]) -> usize
     requires { ⌜ 30 ≤ length (now out) ⌝ }
     ensures { λ r. ⌜ (r ≤ length (now (out .exit)))
-        × SaidTo (lent (now (req .entry)) (now (t .entry)) (now (file .entry)) (now (v .entry)) (now (out .entry))) (now (out .exit)) r ⌝ }
+        × SaidTo (lent (now (req .entry)) (now (t .entry)) (now (file .entry)) (now (v .entry)) (now (out .entry)) underCx) (now (out .exit)) r ⌝ }
 {
     let w = ndushavire::ndushavire_decide(req, t, file, v, out);
     put_said(out, w)

@@ -12,11 +12,12 @@ use Rattle.diameter.specs.Put.{All}
 use Rattle.diameter.specs.Reader.{avpAt}
 use Rattle.reading.specs.Kinds.{publicIdentity}
 use Rattle.reading.specs.Rules.{Seen}
+use Rattle.reading.specs.declared.Dialect.{Dialect}
 use Rattle.reading.specs.Verdicts.{faultAt}
-use Rattle.diameter.specs.Message.{commandOf, bodyOf}
+use Rattle.diameter.specs.Message.{bodyOf}
 use Rattle.reading.specs.Verdicts.{lackOf}
 use Rattle.requests.specs.Judged.{fine}
-use Rattle.requests.specs.Request.{readRequest, identities}
+use Rattle.requests.specs.Request.{readIn, identities}
 use Rattle.reading.specs.declared.Verdict.{Verdict}
 use Rattle.requests.specs.Identity.{placesFrom}
 use Rattle.requests.proofs.Naming.{Stood, identities-at, places-stand}
@@ -167,20 +168,22 @@ module _ (long short : List ℕ) where
       sar-same = rw (performed-alike _, meant-alike _) (meant-same short seen shorter _ _ places-alike)
 
       -- but for a SAR's identities a decision blames no AVP, and but for a SAR the plans are one
-      blames : (p : Plan) → Comes short t count v seen p → (commandOf short ≡ 301) ⊎ Blameless (p .given)
-      blames p (tells g x) = x .blames
-      blames p (settles g w x) = inl (x .command)
-      blames p (challenges k x) = inr (refl, refl)
+      blames : (d : Dialect) (p : Plan) → Comes d short t count v seen p → (d .command ≡ 301) ⊎ Blameless (p .given)
+      blames d p (tells g x) = x .blames
+      blames d p (settles g w x) = inl (x .command)
+      blames d p (challenges k x) = inr (refl, refl)
 
-      pub plan-same : readRequest short ≡ fine seen → commandOf long ≡ commandOf short
-          → Same (planRead long t count v seen) (planRead short t count v seen)
+      abbrev Same : Plan → Plan → Type 0
+      Same p q = SameDecision long short (performedBy inForce long t count v seen p) (performedBy inForce short t count v seen q)
+
+      pub plan-same : (d : Dialect) → readIn d short ≡ fine seen → Same (planRead d long t count v seen) (planRead d short t count v seen)
       unfolding planRead
-      plan-same read e = go (eqb (commandOf short) 301) refl (blames _ (comes short t count v seen read))
+      plan-same d read = go (eqb (d .command) 301) refl (blames d _ (comes d short t count v seen read))
         where
-          go : (x : Bool) → eqb (commandOf short) 301 ≡ x → (commandOf short ≡ 301) ⊎ Blameless (planRead short t count v seen .given)
-              → Same (planRead long t count v seen) (planRead short t count v seen)
-          go true f b = rw (e, eqb-true (commandOf short) 301 f) sar-same
-          go false f (inl n) = absurd (eqb-false (commandOf short) 301 f n)
+          go : (x : Bool) → eqb (d .command) 301 ≡ x → (d .command ≡ 301) ⊎ Blameless (planRead d short t count v seen .given)
+              → Same (planRead d long t count v seen) (planRead d short t count v seen)
+          go true f b = rw (eqb-true (d .command) 301 f) sar-same
+          go false f (inl n) = absurd (eqb-false (d .command) 301 f n)
           go false f (inr b) =
-              let one : planRead long t count v seen ≡ planRead short t count v seen = rw (e, f) in
-              rw one (plan-alike (planRead short t count v seen) b)
+              let one : planRead d long t count v seen ≡ planRead d short t count v seen = rw f in
+              rw one (plan-alike (planRead d short t count v seen) b)

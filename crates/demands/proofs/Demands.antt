@@ -19,7 +19,7 @@ use Rattle.diameter.specs.Message.{commandOf}
 use Rattle.rewrite.specs.Change.{alterable}
 use Rattle.calling.specs.Call.{Answer}
 use Rattle.calling.specs.Call.{Answered, Refused}
-use Rattle.calling.specs.Lent.{Lent, asking}
+use Rattle.calling.specs.Lent.{Lent, asking, dialectIn}
 use Rattle.calling.specs.Serve.{wrongSize, wrongLength, checkOf, trials, answered, decision, serve}
 use Rattle.ndushavire.specs.Word.{callNumber, callValue, callWord}
 use Rattle.ndushavire.specs.Reads.{callIn, Reads, ReadsCheck, ReadsMove}
@@ -27,7 +27,7 @@ use Rattle.ndushavire.specs.Promise.{CheckPromise, CheckVectorsPromise, DecideP
 use Rattle.moving.specs.Outcomes.{forward, back}
 use Rattle.demands.proofs.Firm.{check-said, check-vectors-said, forward-said, back-said}
 use Rattle.reading.specs.declared.Dialect.{Dialect}
-use Rattle.requests.specs.Request.{dialectOf, cx}
+use Rattle.requests.specs.Request.{dialectOf}
 use Rattle.demands.specs.Call.{turnedAway, answerTo, Exactly}
 use Rattle.demands.specs.Frame.{succeeds, subscriptionOf}
 use Rattle.demands.specs.Insertion.{requestOf, Foreign, Quiet, Inserted, keep, placeNow, placed, FirstMarked, faultIn, behindRow, unsupported}
@@ -114,7 +114,7 @@ module _ (x : Lent) (count : ℕ) (sound : checkOf x ≡ Sound count) where
   demand-2-failure = failure-kept x count sound
 
   -- A block whose private identity is not that of the subscription asked about is as it was, and so is the header.
-  pub demand-2-others : (k : ℕ) → k ≤ count → some (privateAt (x .table) k) ≢ subscriptionOf (x .request) (x .table) count
+  pub demand-2-others : (k : ℕ) → k ≤ count → some (privateAt (x .table) k) ≢ subscriptionOf (dialectIn x) (x .request) (x .table) count
       → blockOf (serve x .table) k ≡ blockOf (x .table) k
   demand-2-others = others-kept x count sound
 
@@ -156,7 +156,7 @@ module _ (x : Lent) where
 -- answer is the one of B5001 with the first such in Failed-AVP, and its place, unless the call is refused or the header or an AVP before that one breaks a
 -- reading rule. Before the first AVP there is no place, for (b) wants a Session-Id there; nor does this speak of AVPs with reserved flags, which (c) calls
 -- B3009.
-pub demand-3 : (x : Lent) (longer : List ℕ) (l : Longer (x .request) longer) → Newer x longer l
+pub demand-3 : (x : Lent) (longer : List ℕ) (l : Longer (x .terms) (x .request) longer) → Newer x longer l
 demand-3 = longer-newer
 
 -- Case by case: a request is a header, a row of AVPs that pass (a), `q` and then `qs`, and any bytes behind them; the longer one has the row `q` and then `rs`.
@@ -164,28 +164,28 @@ module _ (head : List ℕ) (twenty : length head ≡ 20) (q : Piece) (qs rs : Li
     (most : length (requestOf head (q ∷ rs) tail) ≤ 16384) (x : Lent) where
   -- If none of them is marked M, the call comes to the same but for the place, which moves with its AVP, and leaves the same table, the same vectors and the
   -- same buffer.
-  pub demand-3-unmarked : (i : Inserted (Quiet (dialectOf cx head)) qs rs)
+  pub demand-3-unmarked : (i : Inserted (Quiet (dialectOf (x .terms) head)) qs rs)
       → serve (asking x (requestOf head (q ∷ rs) tail)) ≡ placed (placeNow (keep q i)) (serve (asking x (requestOf head (q ∷ qs) tail)))
-  demand-3-unmarked i = unmarked-same head twenty q qs rs whole tail fours most i x
+  demand-3-unmarked i = unmarked-same head twenty q qs rs whole tail fours most x i
 
   -- If one is, the table is as it was, and no vector is used ..
-  pub demand-3-table : FirstMarked (dialectOf cx head) qs rs → serve (asking x (requestOf head (q ∷ rs) tail)) .table ≡ x .table
-  demand-3-table m = marked-kept head twenty q qs rs whole tail fours most m x .0
+  pub demand-3-table : FirstMarked (dialectOf (x .terms) head) qs rs → serve (asking x (requestOf head (q ∷ rs) tail)) .table ≡ x .table
+  demand-3-table m = marked-kept head twenty q qs rs whole tail fours most x m .0
 
-  pub demand-3-vectors : FirstMarked (dialectOf cx head) qs rs → serve (asking x (requestOf head (q ∷ rs) tail)) .vectors ≡ x .vectors
-  demand-3-vectors m = marked-kept head twenty q qs rs whole tail fours most m x .1
+  pub demand-3-vectors : FirstMarked (dialectOf (x .terms) head) qs rs → serve (asking x (requestOf head (q ∷ rs) tail)) .vectors ≡ x .vectors
+  demand-3-vectors m = marked-kept head twenty q qs rs whole tail fours most x m .1
 
   -- .. and the answer is the one of B5001 with the first marked one in Failed-AVP (before a missing AVP, and before a SAR's own B5005 and B5009), its place
   -- that where the first marked one begins ..
-  pub demand-3-marked : (m : FirstMarked (dialectOf cx head) qs rs) → faultIn head (q ∷ m .front) ≡ false
+  pub demand-3-marked : (m : FirstMarked (dialectOf (x .terms) head) qs rs) → faultIn (dialectOf (x .terms) head) head (q ∷ m .front) ≡ false
       → turnedAway (asking x (requestOf head (q ∷ qs) tail)) ≡ false
       → serve (asking x (requestOf head (q ∷ rs) tail)) ≡ unsupported (asking x (requestOf head (q ∷ rs) tail)) (m .mark) (behindRow (q ∷ m .before))
-  demand-3-marked m e = mark-answered head twenty q qs rs whole tail fours most m e x
+  demand-3-marked m e = mark-answered head twenty q qs rs whole tail fours most x m e
 
   -- .. unless the header or an AVP before it breaks a reading rule, (a) to (h): then the call gives what it gives without them, the place moved as above.
-  pub demand-3-fault : (m : FirstMarked (dialectOf cx head) qs rs) → faultIn head (q ∷ m .front) ≡ true
+  pub demand-3-fault : (m : FirstMarked (dialectOf (x .terms) head) qs rs) → faultIn (dialectOf (x .terms) head) head (q ∷ m .front) ≡ true
       → serve (asking x (requestOf head (q ∷ rs) tail)) ≡ placed (placeNow (keep q (m .quiet))) (serve (asking x (requestOf head (q ∷ qs) tail)))
-  demand-3-fault m e = fault-first head twenty q qs rs whole tail fours most m e x
+  demand-3-fault m e = fault-first head twenty q qs rs whole tail fours most x m e
 
 -- These are all cases: of those put in none is marked, or one is the first that is.
 pub demand-3-cases : (d : Dialect) (qs rs : List Piece) → Inserted (Foreign d) qs rs → Inserted (Quiet d) qs rs ⊎ FirstMarked d qs rs

@@ -7,11 +7,11 @@ use mathlib.Core.Path.{_≡_, refl, ap, _∙_}
 use mathlib.Core.Logic.{_⊎_, inl, inr}
 use Rattle.table.specs.Named.{privateAt}
 use Rattle.rewrite.specs.Change.{afterOf, reaches, Keeps}
-use Rattle.diameter.specs.Message.{commandOf}
+use Rattle.reading.specs.declared.Dialect.{Dialect}
 use Rattle.reading.specs.Rules.{Seen}
 use Rattle.reading.specs.Verdicts.{numberOf}
 use Rattle.requests.specs.Judged.{fine}
-use Rattle.requests.specs.Request.{readRequest, given}
+use Rattle.requests.specs.Request.{readIn, given}
 use Rattle.choices.specs.declared.plan.Plan.{Plan}
 use Rattle.blocks.specs.Changed.{isOne}
 use Rattle.deciding.specs.Rules.{inForce}
@@ -32,19 +32,19 @@ pub record Altered (command : ℕ) (t : List ℕ) (count : ℕ) (v : List ℕ) (
   pub table : d .table ≡ afterOf t count (reaches t records) change
   pub owned : (k : ℕ) → isOne records k ≡ true → some (privateAt t k) ≡ subscription
 
-module _ (req t : List ℕ) (count : ℕ) (v : List ℕ) where
+module _ (dialect : Dialect) (req t : List ℕ) (count : ℕ) (v : List ℕ) where
   -- what a decision does: nothing, or it writes
   abbrev pub Does : Decision → Type 0
-  Does d = ((d .table ≡ t) × (d .vectors ≡ v)) ⊎ Altered (commandOf req) t count v (subscriptionOf req t count) d
+  Does d = ((d .table ≡ t) × (d .vectors ≡ v)) ⊎ Altered (dialect .command) t count v (subscriptionOf dialect req t count) d
 
-  module _ (seen : Seen) (read : readRequest req ≡ fine seen) where
-    owner-asked : (owner : List ℕ) → Owner req t count v seen owner → some owner ≡ subscriptionOf req t count
+  module _ (seen : Seen) (read : readIn dialect req ≡ fine seen) where
+    owner-asked : (owner : List ℕ) → Owner dialect req t count v seen owner → some owner ≡ subscriptionOf dialect req t count
     unfolding subscriptionOf askedIn firstOwner
     owner-asked owner (the-user g) = rw (read, g)
     owner-asked owner (the-first a avps k g i f) = rw (read, g, i, f)
 
-    altered : (d : Decision) → succeeds (d .given .verdict .result) ≡ true → ((commandOf req ≡ 301) × (d .vectors ≡ v)) ⊎ (commandOf req ≡ 303)
-        → Writes req t count v seen (d .table) → Altered (commandOf req) t count v (subscriptionOf req t count) d
+    altered : (d : Decision) → succeeds (d .given .verdict .result) ≡ true → ((dialect .command ≡ 301) × (d .vectors ≡ v)) ⊎ (dialect .command ≡ 303)
+        → Writes dialect req t count v seen (d .table) → Altered (dialect .command) t count v (subscriptionOf dialect req t count) d
     altered d good by w =
         record {
           good = good;
@@ -56,11 +56,11 @@ module _ (req t : List ℕ) (count : ℕ) (v : List ℕ) where
           owned = λ k i. ap some (w .owned k i) ∙ owner-asked (w .owner) (w .whose);
         }
 
-    plan-does : (p : Plan) → Comes req t count v seen p → Does (performedBy inForce req t count v seen p)
+    plan-does : (p : Plan) → Comes dialect req t count v seen p → Does (performedBy inForce req t count v seen p)
     unfolding performedBy carriedOut spentBy numberOf
     plan-does p (tells g x) = inl (refl, refl)
     plan-does p (settles g w x) = inr (altered _ (x .good) (inl (x .command, refl)) (x .writes))
     plan-does p (challenges k x) = inr (altered _ refl (inr (x .command)) (x .writes))
 
-  pub decide-does : Does (decide req t count v)
-  decide-does = decide-by req t count v Does (λ f e b. inl (refl, refl)) plan-does
+  pub decide-does : Does (decide dialect req t count v)
+  decide-does = decide-by dialect req t count v Does (λ f e b. inl (refl, refl)) plan-does

@@ -22,7 +22,7 @@ use Rattle.rewrite.proofs.Tables.{Keeping, keeping-same, kept-same, after-frame
 use Rattle.diameter.specs.Message.{commandOf}
 use Rattle.blocks.specs.Changed.{isOne}
 use Rattle.deciding.specs.Decide.{Decision}
-use Rattle.calling.specs.Lent.{Lent}
+use Rattle.calling.specs.Lent.{Lent, dialectIn}
 use Rattle.calling.specs.Serve.{checkOf, answered, decision, serve, checkValue}
 use Rattle.demands.specs.Call.{turnedAway}
 use Rattle.demands.specs.Frame.{succeeds, subscriptionOf}
@@ -72,7 +72,7 @@ module _ (x : Lent) (count : ℕ) (sound : checkOf x ≡ Sound count) where
   v = x .vectors
 
   abbrev asked : Option (List ℕ)
-  asked = subscriptionOf (x .request) t count
+  asked = subscriptionOf (dialectIn x) (x .request) t count
 
   abbrev Wrote : Type 0
   Wrote = Altered (commandOf (x .request)) t count v asked (decision x count)
@@ -82,13 +82,13 @@ module _ (x : Lent) (count : ℕ) (sound : checkOf x ≡ Sound count) where
   unfolding answered
   after-call P p q = go (turnedAway x) refl
     where
-      decided : Does (x .request) t count v (decision x count) → P (decision x count .table) (decision x count .vectors)
+      decided : Does (dialectIn x) (x .request) t count v (decision x count) → P (decision x count .table) (decision x count .vectors)
       decided (inl (e, f)) = rw (e, f) p
       decided (inr a) = q a
 
       go : (y : Bool) → turnedAway x ≡ y → P (serve x .table) (serve x .vectors)
       go true e = rw (refused-kept x e .0, refused-kept x e .1) p
-      go false e = rw (answered-is x count sound e) (decided (decide-does (x .request) t count v))
+      go false e = rw (answered-is x count sound e) (decided (decide-does (dialectIn x) (x .request) t count v))
 
   -- where none is made, both are as they came
   abbrev Left : Type 0

@@ -11,7 +11,7 @@ use lib.Dec.{ltb}
 use borrow.Author.Tests.{ltb-false}
 use Rattle.diameter.specs.Put.{Piece, avpsOf, Whole, All}
 use Rattle.reading.specs.declared.Dialect.{Dialect}
-use Rattle.requests.specs.Request.{dialectOf, cx}
+use Rattle.requests.specs.Request.{dialectOf}
 use Rattle.requests.proofs.Insert.{past}
 use Rattle.calling.specs.Lent.{Lent, asking}
 use Rattle.calling.specs.Serve.{serve}
@@ -126,7 +126,7 @@ marked-or-not {dialect} {qs} {rs} i = go (split i)
 
 -- A request, its AVPs after the first, the longer row, and what is behind it.
 module _ (head : List ℕ) (twenty : length head ≡ 20) (q : Piece) (qs rs : List Piece) (whole : All Whole (q ∷ qs)) (tail : List ℕ) (fours : length tail % 4 ≡ 0)
-    (most : length (requestOf head (q ∷ rs) tail) ≤ 16384) (x : Lent) (i : Inserted (Foreign (dialectOf cx head)) qs rs) where
+    (most : length (requestOf head (q ∷ rs) tail) ≤ 16384) (x : Lent) (i : Inserted (Foreign (dialectOf (x .terms) head)) qs rs) where
   abbrev short : Lent
   short = asking x (requestOf head (q ∷ qs) tail)
 
@@ -147,26 +147,26 @@ module _ (head : List ℕ) (twenty : length head ≡ 20) (q : Piece) (qs rs : Li
       go true e = refl
       go false e = f .before (20 + sizeOf q) p (ltb-false p (20 + sizeOf q) e) h
 
-  marked-newer : (f : Found i) (y z : Bool) → turnedAway short ≡ y → faultIn head (q ∷ f .first .front) ≡ z
+  marked-newer : (f : Found i) (y z : Bool) → turnedAway short ≡ y → faultIn (dialectOf (x .terms) head) head (q ∷ f .first .front) ≡ z
       → serve long ≡ cond (y || z) (placed now (serve short)) (unsupported long (f .first .mark) (behindRow (q ∷ f .first .before)))
-  marked-newer f true z a b = both-refused head twenty q qs rs whole tail fours most i x now a
+  marked-newer f true z a b = both-refused head twenty q qs rs whole tail fours most x i now a
   marked-newer f false true a b =
-      fault-more head twenty q qs rs whole tail fours most (f .first) (putBefore (keep q i) 20) (none-before q i) (found-before f) b x
-  marked-newer f false false a b = mark-answered head twenty q qs rs whole tail fours most (f .first) b x a
+      fault-more head twenty q qs rs whole tail fours most x (f .first) (putBefore (keep q i) 20) (none-before q i) (found-before f) b
+  marked-newer f false false a b = mark-answered head twenty q qs rs whole tail fours most x (f .first) b a
 
   row-newer : Split i → serve long ≡ newer short (long .request) head q now (firstMark i)
   unfolding newer putBefore
   row-newer (inl n) =
       let same : (p : ℕ) → placeNow (keep q (n .quiet)) p ≡ now p = λ p. rw (n .before (20 + sizeOf q) p) in
-      rw (n .is) (unmarked-same head twenty q qs rs whole tail fours most (n .quiet) x ∙ ap (λ (f : ℕ → ℕ). placed f (serve short)) (fun-ext same))
-  row-newer (inr f) = rw (f .is) (marked-newer f (turnedAway short) (faultIn head (q ∷ f .first .front)) refl refl)
+      rw (n .is) (unmarked-same head twenty q qs rs whole tail fours most x (n .quiet) ∙ ap (λ (f : ℕ → ℕ). placed f (serve short)) (fun-ext same))
+  row-newer (inr f) = rw (f .is) (marked-newer f (turnedAway short) (faultIn (dialectOf (x .terms) head) head (q ∷ f .first .front)) refl refl)
 
   row-kept : Split i → (m : Mark) → firstMark i ≡ some m → (serve long .table ≡ x .table) × (serve long .vectors ≡ x .vectors)
   row-kept (inl n) m g = absurd (Option·none-ne-some m (sym (n .is) ∙ g))
-  row-kept (inr f) m g = marked-kept head twenty q qs rs whole tail fours most (f .first) x
+  row-kept (inr f) m g = marked-kept head twenty q qs rs whole tail fours most x (f .first)
 
 -- The same of the bytes.
-pub longer-newer : (x : Lent) (longer : List ℕ) (l : Longer (x .request) longer) → Newer x longer l
+pub longer-newer : (x : Lent) (longer : List ℕ) (l : Longer (x .terms) (x .request) longer) → Newer x longer l
 longer-newer x longer l =
     let c = l .cut in
     let long = requestOf (c .head) (c .first ∷ l .row) (c .tail) in

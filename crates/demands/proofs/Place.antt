@@ -10,9 +10,9 @@ use Rattle.diameter.specs.Message.{bodyOf}
 use Rattle.reading.specs.Rules.{Seen}
 use Rattle.reading.specs.declared.Outcome.the-variants.{Base, Experimental}
 use Rattle.requests.specs.Judged.{fine}
-use Rattle.requests.specs.Request.{dialectOf, cx, headerFault, firstOther, readRequest}
+use Rattle.requests.specs.Request.{headerFault, firstOther, readIn}
 use Rattle.failed.specs.Failing.{failedOf}
-use Rattle.calling.specs.Lent.{Lent}
+use Rattle.calling.specs.Lent.{Lent, dialectIn}
 use Rattle.calling.specs.Serve.{Served, serve, resultOf}
 use Rattle.ndushavire.specs.Word.{callPlace, placeIn}
 use Rattle.ndushavire.specs.Promise.{DecidePromise}
@@ -44,10 +44,10 @@ module _ (x : Lent) where
 
   -- It is at least 20, and lies within the request.
   pub place-least : (place : ℕ) → Blames x place → 20 ≤ place
-  place-least place b = fault-least (x .request) (b .result) place (b .fault)
+  place-least place b = fault-least (dialectIn x) (x .request) (b .result) place (b .fault)
 
   pub place-within : (place : ℕ) → Blames x place → place < length (x .request)
-  place-within place b = fault-within (x .request) (b .result) place (b .fault)
+  place-within place b = fault-within (dialectIn x) (x .request) (b .result) place (b .fault)
 
   -- At least 4 bytes of the request stand there, the AVP's code.
   pub place-bytes : (place : ℕ) → Blames x place → place + 4 ≤ length (x .request)
@@ -62,7 +62,7 @@ module _ (x : Lent) where
 
   -- The result is one of (a), (c), (d), (f), (g) and (h).
   pub place-result : (place : ℕ) (b : Blames x place) → (resultOf x ≡ Base (b .result)) × OfRules (b .result)
-  place-result place b = (blames-result x place b, fault-number (x .request) (b .result) place (b .fault))
+  place-result place b = (blames-result x place b, fault-number (dialectIn x) (x .request) (b .result) place (b .fault))
 
   -- WHERE NONE IS, the place is 0 ..
   pub place-none : ((place : ℕ) → Blames x place → ⊥) → callPlace (serve x .call) ≡ 0
@@ -73,7 +73,7 @@ module _ (x : Lent) where
   place-refused = refused-nowhere x
 
   -- .. for a header fault, ..
-  pub place-header : headerFault (dialectOf cx (x .request)) (x .request) ≢ 0 → callPlace (serve x .call) ≡ 0
+  pub place-header : headerFault (dialectIn x) (x .request) ≢ 0 → callPlace (serve x .call) ≡ 0
   place-header n = place-none (λ p b. n (b .fault .header))
 
   -- .. for a first AVP that is no Session-Id, (b), though an AVP stands there, ..
@@ -81,7 +81,7 @@ module _ (x : Lent) where
   place-first e = place-none (λ p b. true≢false (sym e ∙ b .fault .session))
 
   -- .. for whatever is decided of a request in which reading found no fault, a SAR's B5009 for its second identity too, ..
-  pub place-decided : (seen : Seen) → readRequest (x .request) ≡ fine seen → callPlace (serve x .call) ≡ 0
+  pub place-decided : (seen : Seen) → readIn (dialectIn x) (x .request) ≡ fine seen → callPlace (serve x .call) ≡ 0
   place-decided seen e = place-none (read-unblamed x seen e)
 
   -- .. for each B5005, reading's and a SAR's, ..

@@ -17,7 +17,7 @@ use Rattle.diameter.specs.Put.{All}
 use Rattle.calling.specs.Call.{Answer}
 use Rattle.calling.specs.Call.{Call}
 use Rattle.calling.specs.Call.{Answered, Refused}
-use Rattle.calling.specs.Lent.{Lent, asking}
+use Rattle.calling.specs.Lent.{Lent, asking, dialectIn}
 use Rattle.calling.specs.Trial.{Trial, anyHolds}
 use Rattle.calling.specs.Serve.{Served, smallBuffer, wrongSize, wrongLength, noRequest, isBad, unsound, checkOf, trials, refused}
 use Rattle.calling.specs.Serve.{answered, decision, checkValue, serveFound, serveBy, serve}
@@ -171,7 +171,7 @@ module _ (x : Lent) where
         near : turnedAway x ≡ false → decision x count .place < 65536
         near e =
             let s = taken x e .size in
-            omega (arith, size-most (x .request) s, decide-within (x .request) (x .table) count (x .vectors) (size-least (x .request) s))
+            omega (arith, size-most (x .request) s, decide-within (dialectIn x) (x .request) (x .table) count (x .vectors) (size-least (x .request) s))
 
     pub answer-within : callNumber (serve x .call) ≡ 0 → callValue (serve x .call) ≤ length (x .buffer)
     unfolding refused answered

@@ -23,8 +23,9 @@ use Rattle.rewrite.proofs.Writes.{differ-same}
 use Rattle.diameter.specs.Avp.{dataOf}
 use Rattle.reading.specs.Kinds.{serverName}
 use Rattle.reading.specs.Rules.{Seen}
+use Rattle.reading.specs.declared.Dialect.{Dialect}
 use Rattle.requests.specs.Judged.{Judged, bad, fine}
-use Rattle.requests.specs.Request.{readRequest, dataSeen}
+use Rattle.requests.specs.Request.{readIn, dataSeen}
 use Rattle.choices.specs.Types.{isRemoval}
 use Rattle.choices.specs.declared.types.AssignmentType.{AssignmentType}
 use Rattle.choices.specs.declared.plan.Sar.{Sar}
@@ -39,7 +40,7 @@ use Rattle.deciding.specs.Decide.{performedBy, judgedBy, decideBy, decide}
 use Rattle.deciding.specs.Deeds.{settledBy, carriedOut, DeedFits}
 use Rattle.deciding.proofs.Deeds.{plan-fits}
 use Rattle.assignment.proofs.Members.{own-same, stores-same, fits-same, right-same}
-use Rattle.calling.specs.Lent.{Lent}
+use Rattle.calling.specs.Lent.{Lent, dialectIn}
 use Rattle.calling.specs.Serve.{checkOf, checkValue, refused, answered, serve}
 use Rattle.calling.proofs.Kept.{serve-by}
 
@@ -61,13 +62,13 @@ module _ (t : List ℕ) (count : ℕ) (sound : SoundTable t count) (bytes : Byte
   deed-together req seen (Challenge i) (from, to, least, most) =
       altered-together t count sound bytes Challenged (dataSeen seen serverName) (least, most) (i ∷ []) j k a b c d one
 
-  decide-together : (req v : List ℕ) → Together (decide req t count v .table)
+  decide-together : (dialect : Dialect) (req v : List ℕ) → Together (decide dialect req t count v .table)
   unfolding decideBy judgedBy performedBy
-  decide-together req v = go (readRequest req) refl
+  decide-together dialect req v = go (readIn dialect req) refl
     where
-      go : (e : Judged) → readRequest req ≡ e → Together (judgedBy inForce req t count v e .table)
+      go : (e : Judged) → readIn dialect req ≡ e → Together (judgedBy inForce dialect req t count v e .table)
       go (bad f) e = left-together
-      go (fine seen) e = deed-together req seen (planRead req t count v seen .deed) (plan-fits req t count v seen e)
+      go (fine seen) e = deed-together req seen (planRead dialect req t count v seen .deed) (plan-fits dialect req t count v seen e)
 
 pub members-together : (x : Lent) (count : ℕ) → checkOf x ≡ Sound count → Bytes (x .table) → (j k : ℕ) → 1 ≤ j → j ≤ count → 1 ≤ k → k ≤ count
     → sameSet (blockOf (x .table) j) (blockOf (x .table) k) ≡ true
@@ -76,7 +77,7 @@ unfolding refused answered
 members-together x count e bytes j k a b c d one =
     serve-by x (λ s. differ (blockOf (x .table) j) (blockOf (s .table) j) ≡ differ (blockOf (x .table) k) (blockOf (s .table) k))
     (λ r l m. left-together (x .table) count sound bytes j k a b c d one)
-    (λ h. rw q (decide-together (x .table) count sound bytes j k a b c d one (x .request) (x .vectors)))
+    (λ h. rw q (decide-together (x .table) count sound bytes j k a b c d one (dialectIn x) (x .request) (x .vectors)))
   where
     sound : SoundTable (x .table) count
     sound = record { file = length (x .profile); checked = e }

@@ -14,6 +14,7 @@ use Rattle.table.specs.Check.{checkTable}
 use Rattle.vectors.specs.VectorFile.{checkVectors}
 use Rattle.diameter.specs.Put.{bytesOf}
 use Rattle.pen.specs.Bytes.{numberBytes}
+use Rattle.requests.specs.Request.{underCx}
 use Rattle.calling.specs.Call.{Answered, Refused}
 use Rattle.calling.specs.Lent.{Lent, lent}
 use Rattle.calling.specs.Serve.{Served, trials, decision, serve}
@@ -122,7 +123,7 @@ unfolding all room
 met-1-kept = demand-1-kept (asked (take 19 (sar s 5))) refl .0
 
 doubled : Lent
-doubled = lent (sar s 5) twice [] [] room
+doubled = lent (sar s 5) twice [] [] room underCx
 
 doubled-refused : serve doubled .call ≡ Refused 5 2
 unfolding all doubled
@@ -134,7 +135,7 @@ met-1-block = demand-1-block doubled 2 doubled-refused
 
 -- a SAR that reads no vector, over these and over a table of no record
 spoilt : Lent
-spoilt = lent (sar s 5) (header 0 0) [] short room
+spoilt = lent (sar s 5) (header 0 0) [] short room underCx
 
 short-bad : checkVectors short ≡ Bad 0
 unfolding all short
@@ -155,7 +156,7 @@ met-1-sixth-kept : serve spoilt .vectors ≡ short
 unfolding all spoilt
 met-1-sixth-kept = demand-1-kept spoilt (held spoilt roomy sound-empty short-bad refl) .1
 
-met-1-fifth-first : serve (lent (sar s 5) [] [] short room) .call ≡ Refused 5 0
+met-1-fifth-first : serve (lent (sar s 5) [] [] short room underCx) .call ≡ Refused 5 0
 unfolding all room short
 met-1-fifth-first = refl
 

@@ -10,6 +10,7 @@ use Rattle.pen.specs.Bytes.{wordBytes, vendorHead, numberBytes}
 use Rattle.pen.specs.Groups.{failed}
 use Rattle.reading.specs.declared.Outcome.the-variants.{Base}
 use Rattle.requests.specs.Judged.{nothing}
+use Rattle.requests.specs.Request.{underCx}
 use Rattle.calling.specs.Lent.{Lent, lent}
 use Rattle.calling.specs.Serve.{Served, serve, resultOf}
 use Rattle.blocks.specs.declared.Checked.the-variants.{Sound}
@@ -25,14 +26,14 @@ use Rattle.instances.proofs.Calls.{sound-empty}
 use Rattle.instances.proofs.Asked.{base, vendor, head, session, application, common, own, rest, sar, asked, comesTo, loud, all}
 
 abbrev bare : List ℕ → Lent
-bare req = lent req (header 0 0) [] [] room
+bare req = lent req (header 0 0) [] [] room underCx
 
 -- a SAR of Session-Id and a row of AVPs
 abbrev row : List Piece → List ℕ
 row qs = requestOf head (session ∷ qs) []
 
 -- Type 12 is bad content, (h). Reading takes eight AVPs, the first at 20, and comes to the 614 at 144.
-wrongType : AtFault (sar s 12) 5004 144
+wrongType : AtFault (dialectOf underCx (sar s 12)) (sar s 12) 5004 144
 unfolding all
 wrongType =
     record {

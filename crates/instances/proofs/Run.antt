@@ -18,6 +18,7 @@ use Rattle.blocks.specs.Changed.{isOne}
 use Rattle.pen.specs.Bytes.{vendorNumber}
 use Rattle.reading.specs.Verdicts.{numberOf}
 use Rattle.reading.specs.declared.Outcome.the-variants.{Base}
+use Rattle.requests.specs.Request.{underCx}
 use Rattle.calling.specs.Call.{Answered}
 use Rattle.calling.specs.Lent.{Lent, lent}
 use Rattle.calling.specs.Trial.{anyHolds}
@@ -43,7 +44,7 @@ used = vector 1 0x70 1 ++ (vector 1 0x70 5 ++ vector 1 0x70 9)
 
 -- a MAR for two vectors over a table, and the row of two: the first stores the server name and sets pending, and the second is over the table that it left
 turn : List ℕ → Turn
-turn table = record { request = authentication 2 s; table = table; profile = []; buffer = room }
+turn table = record { request = authentication 2 s; table = table; profile = []; buffer = room; terms = underCx }
 
 abbrev row : List Turn
 row = turn (one 0 0 []) ∷ turn (waiting 0 s) ∷ []
@@ -56,10 +57,10 @@ second = lending fewer (turn (waiting 0 s))
 
 -- a call without room for an answer; one of a request without AVPs, over a sound table and with room
 abbrev refused : Lent
-refused = lent [] [] [] unused []
+refused = lent [] [] [] unused [] underCx
 
 abbrev other : ℕ → Lent
-other command = lent (request command []) (one 0 0 []) [] unused room
+other command = lent (request command []) (one 0 0 []) [] unused room underCx
 
 -- a call that is answered by these bytes
 comes : List ℕ → List ℕ → Served

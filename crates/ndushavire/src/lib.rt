@@ -3,8 +3,11 @@ pub mod word;
 
 use blocks::Checked;
 use calling::Came;
+use diameter::codes;
 use moving::Move;
+use reading::Terms;
 ghost use mathlib.Core.Path.{_≡_};
+ghost use Rattle.requests.specs.Request.{underCx};
 ghost use Rattle.calling.specs.Call.{callOf};
 ghost use Rattle.calling.specs.Lent.{lent};
 ghost use Rattle.ndushavire.specs.Word.{checkWord, callWord, moveWord};
@@ -58,10 +61,13 @@ pub extern "C" fn ndushavire_decide(
     answer: &mut [u8],
 ) -> u64
     ensures { λ r. ⌜ DecidePromise
-        (lent (now (request .entry)) (now (table .entry)) (now (profile .entry)) (now (vectors .entry)) (now (answer .entry)))
+        (lent (now (request .entry)) (now (table .entry)) (now (profile .entry)) (now (vectors .entry)) (now (answer .entry)) underCx)
         r (now (table .exit)) (now (vectors .exit)) (now (answer .exit)) ⌝ }
 {
-    call_word(calling::call(request, table, profile, vectors, answer))
+    let terms = Terms {
+        application: codes::CX,
+    };
+    call_word(calling::call(request, table, profile, vectors, answer, terms))
 }
 
 // "A report over a file of many requests laid end to end": it is written to an area of its own, as 145 numbers of 64 bits.
@@ -75,14 +81,14 @@ pub extern "C" fn ndushavire_report(
     report: &mut [u8],
 ) -> u64
     ensures { λ r. ⌜ ReportPromise
-        (lent (now (requests .entry)) (now (table .entry)) (now (profile .entry)) (now (vectors .entry)) (now (answer .entry))) (now (report .entry))
+        (lent (now (requests .entry)) (now (table .entry)) (now (profile .entry)) (now (vectors .entry)) (now (answer .entry)) underCx) (now (report .entry))
         r (now (table .exit)) (now (vectors .exit)) (now (answer .exit)) (now (report .exit)) ⌝ }
 {
-    word::of(
-        reporting::report(requests, table, profile, vectors, answer, report),
-        0,
-        0,
-    )
+    let terms = Terms {
+        application: codes::CX,
+    };
+    let number = reporting::report(requests, table, profile, vectors, answer, report, terms);
+    word::of(number, 0, 0)
 }
 
 // The word of a move.

@@ -6,11 +6,11 @@ use Rattle.blocks.specs.declared.Checked.{Checked}
 use Rattle.blocks.specs.declared.Checked.the-variants.{Sound, Bad}
 use Rattle.reading.specs.Rules.{Seen}
 use Rattle.requests.specs.Judged.{Judged, bad, fine}
-use Rattle.requests.specs.Request.{readRequest}
+use Rattle.requests.specs.Request.{readIn}
 use Rattle.choices.specs.declared.plan.Deed.{Deed}
 use Rattle.deciding.specs.Rules.{Rules}
 use Rattle.deciding.specs.Decide.{performedBy, judgedBy, decideBy}
-use Rattle.calling.specs.Lent.{Lent}
+use Rattle.calling.specs.Lent.{Lent, dialectIn}
 use Rattle.calling.specs.Trial.{tried}
 use Rattle.calling.specs.Serve.{decisionBy, serveFound, serveBy}
 
@@ -28,12 +28,12 @@ module _ (r s : Rules) (x : Lent) where
 
   -- of one request that was read, by its plan and by what is written
   pub decided-same : (count : ℕ)
-      → ((seen : Seen) → r .plan (x .request) (x .table) count (x .vectors) seen ≡ s .plan (x .request) (x .table) count (x .vectors) seen)
+      → ((seen : Seen) → r .plan (dialectIn x) (x .request) (x .table) count (x .vectors) seen ≡ s .plan (dialectIn x) (x .request) (x .table) count (x .vectors) seen)
       → ((seen : Seen) (d : Deed) → r .carry (x .request) (x .table) count seen d ≡ s .carry (x .request) (x .table) count seen d)
       → decisionBy r x count ≡ decisionBy s x count
   unfolding decideBy judgedBy performedBy
-  decided-same count plans carries = go (readRequest (x .request))
+  decided-same count plans carries = go (readIn (dialectIn x) (x .request))
     where
-      go : (j : Judged) → judgedBy r (x .request) (x .table) count (x .vectors) j ≡ judgedBy s (x .request) (x .table) count (x .vectors) j
+      go : (j : Judged) → judgedBy r (dialectIn x) (x .request) (x .table) count (x .vectors) j ≡ judgedBy s (dialectIn x) (x .request) (x .table) count (x .vectors) j
       go (bad f) = refl
       go (fine seen) = rw (plans seen, carries _ _)

@@ -28,7 +28,7 @@ use Rattle.choices.specs.declared.types.AssignmentType.{AssignmentType}
 use Rattle.assignment.specs.Assignment.{storesAt, fitsAt, rightAt}
 use Rattle.deciding.specs.Rules.{inForce}
 use Rattle.assignment.proofs.Members as asked
-use Rattle.calling.specs.Lent.{Lent}
+use Rattle.calling.specs.Lent.{Lent, dialectIn}
 use Rattle.calling.specs.Serve.{checkOf, serveBy, serve}
 use Rattle.calling.proofs.Kept.{table-checked}
 use Rattle.older_rules.specs.WithoutSets.{NoSets, beforeSets}
@@ -40,7 +40,7 @@ pub without-sets : (x : Lent) → NoSets (x .table) → serveBy beforeSets x ≡
 without-sets x none =
     rules-same beforeSets inForce x (check-is (x .table) none (length (x .profile)))
     (λ count e.
-    decided-same beforeSets inForce x count (plan-is (x .table) none count (x .request) (x .vectors)) (carried-is (x .table) none count (x .request)))
+    decided-same beforeSets inForce x count (plan-is (x .table) none count (dialectIn x) (x .request) (x .vectors)) (carried-is (x .table) none count (x .request)))
 
 -- A sound table of the first edition is one, so that it is untouched.
 module _ (t : List ℕ) (file count : ℕ) (checked : checkTable t file ≡ Sound count) where

@@ -20,7 +20,7 @@ use Rattle.reading.specs.Kinds.{userName, publicIdentity, visitedNetwork, autho
 use Rattle.reading.specs.Rules.{Seen}
 use Rattle.reading.specs.declared.Outcome.{Outcome}
 use Rattle.reading.specs.declared.Outcome.the-variants.{Base, Experimental}
-use Rattle.diameter.specs.Message.{commandOf}
+use Rattle.reading.specs.declared.Dialect.{Dialect}
 use Rattle.requests.specs.Request.{dataSeen, valueSeen}
 use Rattle.choices.specs.Choices.{authorization, location}
 use Rattle.choices.specs.Plans.{only}
@@ -40,7 +40,7 @@ use Rattle.deciding.specs.Plans.{uarPlan, sarPlan, lirPlan, marPlan, planRead}
 use Rattle.deciding.specs.Rules.{inForce}
 use Rattle.deciding.specs.Deeds.{carriedOut}
 use Rattle.deciding.specs.Rules.{Rules, inForce}
-use Rattle.calling.specs.Lent.{Lent}
+use Rattle.calling.specs.Lent.{Lent, dialectIn}
 use Rattle.calling.specs.Serve.{serveBy, serve}
 use Rattle.older_rules.proofs.Rules.{rules-same, decided-same, serve-now}
 use Rattle.older_rules.specs.Rules.{Rules, inForce, decideBy, serveBy}
@@ -79,14 +79,14 @@ oldAuthorize t count user network kind f =
 unfoldable pub oldLocate : List ℕ → ℕ → Found → Given
 oldLocate t count f = carried t count (privateAt t (blockFound f)) (blockFound f) (oldLocation (storedIn t f) (soughtOf t f))
 
-unfoldable pub oldPlan : List ℕ → List ℕ → ℕ → List ℕ → Seen → Plan
-oldPlan req t count v seen =
-    cond (eqb (commandOf req) 300)
+unfoldable pub oldPlan : Dialect → List ℕ → List ℕ → ℕ → List ℕ → Seen → Plan
+oldPlan d req t count v seen =
+    cond (eqb (d .command) 300)
     (only
     (oldAuthorize t count (dataSeen seen userName) (dataSeen seen visitedNetwork) (valueSeen seen authorizationType)
     (findPublic t count (dataSeen seen publicIdentity))))
-    (cond (eqb (commandOf req) 301) (sarPlan req t count seen)
-    (cond (eqb (commandOf req) 302) (only (oldLocate t count (findPublic t count (dataSeen seen publicIdentity))))
+    (cond (eqb (d .command) 301) (sarPlan req t count seen)
+    (cond (eqb (d .command) 302) (only (oldLocate t count (findPublic t count (dataSeen seen publicIdentity))))
     (marPlan t count v seen)))
 
 abbrev pub withBranch : Rules
@@ -158,9 +158,9 @@ module _ (t : List ℕ) (count : ℕ) (sound : SoundTable t count) where
   unfolding oldLocate locateFound
   locate-same f among = rw (location-same (storedIn t f) (soughtOf t f) (sought-served f among))
 
-  plan-same : (req v : List ℕ) (seen : Seen) → oldPlan req t count v seen ≡ planRead req t count v seen
+  plan-same : (d : Dialect) (req v : List ℕ) (seen : Seen) → oldPlan d req t count v seen ≡ planRead d req t count v seen
   unfolding oldPlan planRead uarPlan lirPlan authorize locate
-  plan-same req v seen =
+  plan-same d req v seen =
       rw (
         authorize-same (dataSeen seen userName) (dataSeen seen visitedNetwork) (valueSeen seen authorizationType)
             (findPublic t count (dataSeen seen publicIdentity)) (public-among t count (dataSeen seen publicIdentity) refl),
@@ -168,9 +168,9 @@ module _ (t : List ℕ) (count : ℕ) (sound : SoundTable t count) where
       )
 
 pub decided-alike : (x : Lent) (count : ℕ) → checkTable (x .table) (length (x .profile)) ≡ Sound count
-    → decideBy withBranch (x .request) (x .table) count (x .vectors) ≡ decideBy inForce (x .request) (x .table) count (x .vectors)
+    → decisionBy withBranch x count ≡ decision x count
 decided-alike x count e =
-    decided-same withBranch inForce x count (plan-same (x .table) count (record { file = length (x .profile); checked = e }) (x .request) (x .vectors))
+    decided-same withBranch inForce x count (plan-same (x .table) count (record { file = length (x .profile); checked = e }) (dialectIn x) (x .request) (x .vectors))
     (λ s d. refl)
 
 -- "Answers are the same for every input."

@@ -21,6 +21,7 @@ use Rattle.rewrite.specs.Change.{afterOf, reaches}
 use Rattle.rewrite.proofs.Reaching.{reaches-named}
 use Rattle.rewrite.proofs.Tables.{after-choice}
 use Rattle.reading.specs.Rules.{Seen}
+use Rattle.reading.specs.declared.Dialect.{Dialect}
 use Rattle.choices.specs.declared.plan.Deed.{Deed}
 use Rattle.choices.specs.declared.plan.Deed.the-variants.{Leave, Settle, Challenge}
 use Rattle.decisions.specs.Authorization.{askedOf, authorizeFound, authorize}
@@ -80,6 +81,6 @@ module _ (t : List ℕ) (none : NoSets t) where
     carried-is req seen (Settle w) = reached (plannedRecords t count (assignmentOf req t seen) (w .owned)) _
     carried-is req seen (Challenge k) = reached (k ∷ []) _
 
-    pub plan-is : (req v : List ℕ) (seen : Seen) → planBefore req t count v seen ≡ planRead req t count v seen
+    pub plan-is : (d : Dialect) (req v : List ℕ) (seen : Seen) → planBefore d req t count v seen ≡ planRead d req t count v seen
     unfolding planBefore planRead uarPlan
-    plan-is req v seen = rw (authorize-is _ _ _ _)
+    plan-is d req v seen = rw (authorize-is _ _ _ _)

@@ -21,7 +21,7 @@ use Rattle.rewrite.specs.Change.{afterOf}
 use Rattle.rewrite.specs.Renew.{settled, challenged}
 use Rattle.reading.specs.Kinds.{userName, publicIdentity, visitedNetwork, serverName, authorizationType}
 use Rattle.reading.specs.Rules.{Seen}
-use Rattle.diameter.specs.Message.{commandOf}
+use Rattle.reading.specs.declared.Dialect.{Dialect}
 use Rattle.requests.specs.Request.{dataSeen, valueSeen}
 use Rattle.choices.specs.Choices.{authorization}
 use Rattle.choices.specs.Plans.{only}
@@ -68,12 +68,12 @@ carriedOutBefore req t count seen (Settle w) =
 carriedOutBefore req t count seen (Challenge k) = afterOf t count (isOne (k ∷ [])) (challenged (dataSeen seen serverName))
 
 -- the rest is what it is
-unfoldable pub planBefore : List ℕ → List ℕ → ℕ → List ℕ → Seen → Plan
-planBefore req t count v seen =
-    cond (eqb (commandOf req) 300)
+unfoldable pub planBefore : Dialect → List ℕ → List ℕ → ℕ → List ℕ → Seen → Plan
+planBefore d req t count v seen =
+    cond (eqb (d .command) 300)
     (only (authorizeBefore t count (dataSeen seen userName) (dataSeen seen publicIdentity) (dataSeen seen visitedNetwork) (valueSeen seen authorizationType)))
-    (cond (eqb (commandOf req) 301) (sarPlan req t count seen)
-    (cond (eqb (commandOf req) 302) (lirPlan t count seen)
+    (cond (eqb (d .command) 301) (sarPlan req t count seen)
+    (cond (eqb (d .command) 302) (lirPlan t count seen)
     (marPlan t count v seen)))
 
 abbrev pub beforeSets : Rules

@@ -18,6 +18,7 @@ use Rattle.reading.specs.declared.Outcome.{Outcome}
 use Rattle.reading.specs.declared.Outcome.the-variants.{Base, Experimental}
 use Rattle.counting.specs.declared.Event.{Event}
 use Rattle.counting.specs.declared.Event.the-variants as event
+use Rattle.requests.specs.Request.{underCx}
 use Rattle.calling.specs.Call.{Answered, Refused}
 use Rattle.calling.specs.Lent.{Lent, lent}
 use Rattle.calling.specs.Serve.{Served, smallBuffer, checkOf, checkValue, decision, resultOf, serve}
@@ -63,11 +64,11 @@ unfoldable pub sought : List ℕ
 sought = over (reply 302 (experimental 5003) []) removed
 
 unfoldable pub month : Lent
-month = lent file here [] [] room
+month = lent file here [] [] room underCx
 
 -- what is lent to each call
 abbrev pub lending : List ℕ → List ℕ → List ℕ → Lent
-lending message table buffer = lent message table [] [] buffer
+lending message table buffer = lent message table [] [] buffer underCx
 
 -- all that a call opens
 unfoldable pub all : ℕ

@@ -14,6 +14,7 @@ use Rattle.reading.specs.declared.Outcome.the-variants.{Base}
 use Rattle.reading.specs.Verdicts.{numberOf}
 use Rattle.counting.specs.Results.{columnOf, listed}
 use Rattle.counting.specs.Words.{longBytes}
+use Rattle.requests.specs.Request.{underCx}
 use Rattle.calling.specs.Lent.{Lent, lent, asking}
 use Rattle.calling.specs.Serve.{serve, checkValue, decision, resultOf}
 use Rattle.ndushavire.specs.Word.{word, callWord, placeIn, valueIn}
@@ -135,7 +136,7 @@ firstTwo : List ℕ
 firstTwo = joined (lir ∷ removal ∷ [])
 
 begun : Lent
-begun = lent firstTwo here [] [] room
+begun = lent firstTwo here [] [] room underCx
 
 met-0 : reported begun area .number ≡ 0
 unfolding begun firstTwo
@@ -216,21 +217,21 @@ met-kept = numbers.report-kept month area 1 sound-here 1 16 (lit≤ tt) (lit< tt
 
 -- over a block of zeros, a vector file of one byte, and with no buffer
 unsound : Lent
-unsound = lent file block [] [] room
+unsound = lent file block [] [] room underCx
 
 met-unsound : reported unsound area .table ≡ block
 unfolding all unsound
 met-unsound = numbers.report-unsound unsound area 0 refl .0
 
 spoilt : Lent
-spoilt = lent file here [] (3 ∷ []) room
+spoilt = lent file here [] (3 ∷ []) room underCx
 
 met-spoilt : reported spoilt area .vectors ≡ 3 ∷ []
 unfolding all spoilt
 met-spoilt = numbers.report-unsound-vectors spoilt area 0 refl .1
 
 cramped : Lent
-cramped = lent file here [] [] []
+cramped = lent file here [] [] [] underCx
 
 met-small : reported cramped area .buffer ≡ []
 unfolding cramped

@@ -12,6 +12,7 @@ use Rattle.counting.specs.Words.{longBytes, bytesOf}
 use Rattle.counting.specs.declared.Event.{Event}
 use Rattle.counting.specs.declared.Event.the-variants as event
 use Rattle.reading.specs.declared.Outcome.the-variants.{Base, Experimental}
+use Rattle.requests.specs.Request.{underCx}
 use Rattle.calling.specs.Lent.{Lent, lent}
 use Rattle.reporting.specs.Pieces.{stopOf}
 use Rattle.reporting.specs.Row.{next, row, left}
@@ -51,19 +52,19 @@ unfolding all joined
 month-stop = month-read .1
 
 -- the calls in turn
-after-located : next month lir ≡ lent file here [] [] located
+after-located : next month lir ≡ lent file here [] [] located underCx
 unfolding month next
 after-located = rw located-comes
 
-after-removed : next (lent file here [] [] located) removal ≡ lent file gone [] [] removed
+after-removed : next (lent file here [] [] located underCx) removal ≡ lent file gone [] [] removed underCx
 unfolding next
 after-removed = rw removed-comes
 
-after-sought : next (lent file gone [] [] removed) lir ≡ lent file gone [] [] sought
+after-sought : next (lent file gone [] [] removed underCx) lir ≡ lent file gone [] [] sought underCx
 unfolding next
 after-sought = rw sought-comes
 
-after-strayed : next (lent file gone [] [] sought) strayed ≡ lent file gone [] [] sought
+after-strayed : next (lent file gone [] [] sought underCx) strayed ≡ lent file gone [] [] sought underCx
 unfolding next
 after-strayed = rw strayed-comes
 
@@ -75,7 +76,7 @@ unfolding row month
 month-events =
     ap (row month) month-requests ∙ rw (after-located, after-removed, after-sought, located-counts, removed-counts, sought-counts, strayed-counts)
 
-month-left : left month (requestsOf month) ≡ lent file gone [] [] sought
+month-left : left month (requestsOf month) ≡ lent file gone [] [] sought underCx
 unfolding left
 month-left = ap (left month) month-requests ∙ rw (after-located, after-removed, after-sought, after-strayed)
 

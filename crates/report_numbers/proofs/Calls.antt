@@ -19,7 +19,7 @@ use Rattle.counting.specs.declared.Event.{Event}
 use Rattle.counting.proofs.Numbers.{largest-append}
 use Rattle.rewrite.proofs.Counts.{altered-none, altered-most}
 use Rattle.calling.specs.Call.{Call, Answered, Refused}
-use Rattle.calling.specs.Lent.{Lent, asking}
+use Rattle.calling.specs.Lent.{Lent, asking, dialectIn}
 use Rattle.calling.specs.Serve.{Served, checkOf, checkValue, refused, answered, serve}
 use Rattle.calling.proofs.Calls.{size-least, size-most, length-even}
 use Rattle.calling.proofs.Kept.{serve-by}
@@ -112,8 +112,8 @@ call-most x =
     let req = x .request in
     serve-by x (λ (s : Served). answerLength (s .call) ≤ 36864) (λ r a b. omega arith)
     (λ k.
-    answer-most (x .table) (x .profile) (checkValue (checkOf x)) (record { file = length (x .profile); checked = k .table }) (x .vectors) (k .vectors) req
-    (size-least req (k .size)) (size-most req (k .size)) (length-even req (k .lengths)))
+    answer-most (x .table) (x .profile) (checkValue (checkOf x)) (record { file = length (x .profile); checked = k .table }) (x .vectors) req
+    (size-least req (k .size)) (size-most req (k .size)) (length-even req (k .lengths)) (dialectIn x) (k .vectors))
 
 pub largest-most : (x : Lent) (ps : List (List ℕ)) → largestIn (row x ps) ≤ 36864
 unfolding row largestIn

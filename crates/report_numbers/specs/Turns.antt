@@ -57,4 +57,4 @@ allIdle (e ∷ es) = idle e && allIdle es
 
 -- what a report left, lent to a report over another file
 abbrev pub goingOn : Lent → List ℕ → List ℕ → Lent
-goingOn x area more = lent more (reported x area .table) (x .profile) (reported x area .vectors) (reported x area .buffer)
+goingOn x area more = lent more (reported x area .table) (x .profile) (reported x area .vectors) (reported x area .buffer) (x .terms)

@@ -10,6 +10,7 @@ use Rattle.octets.specs.Run.{Wrote}
 use Rattle.counting.specs.Counted.{AllFit, noCounts, countsOf}
 use Rattle.counting.specs.Words.{bytesOf}
 use Rattle.counting.proofs.Counts.{all-length, none-length, counted-counts}
+use Rattle.reading.specs.declared.Terms.{Terms}
 use Rattle.calling.specs.Lent.{Lent, lent, asking}
 use Rattle.reporting.specs.Pieces.{stopOf}
 use Rattle.reporting.specs.Row.{next, row}
@@ -28,15 +29,15 @@ unfolding row
 row-fits x [] = tt
 row-fits x (p ∷ ps) = (event-fits (asking x p), row-fits (next x p) ps)
 
-pub area-short : (req t file v o area : List ℕ) → length area < 1160 → Reports (lent req t file v o) area 15 t v o area
+pub area-short : (req t file v o area : List ℕ) (terms : Terms) → length area < 1160 → Reports (lent req t file v o terms) area 15 t v o area
 unfolding reported
-area-short req t file v o area h =
+area-short req t file v o area terms h =
     let q = lt-ltb (length area) 1160 h in
     record { number-is = rw q; table-is = rw q; vectors-is = rw q; buffer-is = rw q; area-is = rw q }
 
-module _ (req t file v o : List ℕ) {c t' v' o' : List ℕ} {at : ℕ} (r : Runs (lent req t file v o) noCounts c t' v' o' at) where
+module _ (req t file v o : List ℕ) (terms : Terms) {c t' v' o' : List ℕ} {at : ℕ} (r : Runs (lent req t file v o terms) noCounts c t' v' o' at) where
   abbrev x : Lent
-  x = lent req t file v o
+  x = lent req t file v o terms
 
   pub words-whole : length (set c 1 at) ≡ 145
   words-whole = length-set c 1 at ∙ ap length (r .counts-is) ∙ all-length noCounts (row x (requestsOf x)) ∙ none-length

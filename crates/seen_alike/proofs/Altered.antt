@@ -29,8 +29,9 @@ use Rattle.rewrite.proofs.Tables.{after-block}
 use Rattle.rewrite.proofs.Unchanged.{held-all}
 use Rattle.reading.specs.Kinds.{serverName}
 use Rattle.reading.specs.Rules.{Seen}
+use Rattle.reading.specs.declared.Dialect.{Dialect}
 use Rattle.requests.specs.Judged.{Judged, bad, fine}
-use Rattle.requests.specs.Request.{readRequest, dataSeen}
+use Rattle.requests.specs.Request.{readIn, dataSeen}
 use Rattle.choices.specs.declared.plan.Deed.{Deed}
 use Rattle.choices.specs.declared.plan.Deed.the-variants.{Leave, Settle, Challenge}
 use Rattle.assignment.specs.Assignment.{plannedRecords}
@@ -151,12 +152,12 @@ module _ (t u : List ℕ) (count : ℕ) (sound : SoundTable t count) (other : So
       (reaches-same t u count sound other alike (k ∷ []) ((a, b), tt))
       (λ j l h. challenged-at j l h server most) count (omega arith)
 
-  pub altered-same : (req v : List ℕ) → alteredUpTo t (decide req t count v .table) count ≡ alteredUpTo u (decide req u count v .table) count
+  pub altered-same : (dialect : Dialect) (req v : List ℕ) → alteredUpTo t (decide dialect req t count v .table) count ≡ alteredUpTo u (decide dialect req u count v .table) count
   unfolding decideBy judgedBy performedBy
-  altered-same req v = go (readRequest req) refl
+  altered-same dialect req v = go (readIn dialect req) refl
     where
-      go : (j : Judged) → readRequest req ≡ j
-          → alteredUpTo t (judgedBy inForce req t count v j .table) count ≡ alteredUpTo u (judgedBy inForce req u count v j .table) count
+      go : (j : Judged) → readIn dialect req ≡ j
+          → alteredUpTo t (judgedBy inForce dialect req t count v j .table) count ≡ alteredUpTo u (judgedBy inForce dialect req u count v j .table) count
       go (bad f) e = altered-none t count ∙ sym (altered-none u count)
       go (fine seen) e =
-          rw (← plan-same [] t u count like req v seen) (deed-altered req v seen (planRead req t count v seen .deed) (plan-fits req t count v seen e))
+          rw (← plan-same [] t u count like req v dialect seen) (deed-altered req v seen (planRead dialect req t count v seen .deed) (plan-fits dialect req t count v seen e))

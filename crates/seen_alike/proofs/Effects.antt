@@ -24,8 +24,9 @@ use Rattle.rewrite.proofs.Tables.{after-block}
 use Rattle.diameter.specs.Put.{All}
 use Rattle.reading.specs.Kinds.{serverName}
 use Rattle.reading.specs.Rules.{Seen}
+use Rattle.reading.specs.declared.Dialect.{Dialect}
 use Rattle.requests.specs.Judged.{Judged, bad, fine}
-use Rattle.requests.specs.Request.{readRequest, dataSeen}
+use Rattle.requests.specs.Request.{readIn, dataSeen}
 use Rattle.choices.specs.declared.plan.Deed.{Deed}
 use Rattle.choices.specs.declared.plan.Deed.the-variants.{Leave, Settle, Challenge}
 use Rattle.assignment.specs.Assignment.{plannedRecords}
@@ -159,11 +160,11 @@ module _ (t u : List ℕ) (count : ℕ) (sound : SoundTable t count) (other : So
       (reaches-same (k ∷ []) ((a, b), tt))
       (λ j l h. challenged-alike (blockOf t j) (blockOf u j) (alike .blocks j h) server (room j l h))
 
-  pub tables-alike : (req v : List ℕ) → AlikeTables (decide req t count v .table) (decide req u count v .table) count
+  pub tables-alike : (dialect : Dialect) (req v : List ℕ) → AlikeTables (decide dialect req t count v .table) (decide dialect req u count v .table) count
   unfolding decideBy judgedBy performedBy
-  tables-alike req v = go (readRequest req) refl
+  tables-alike dialect req v = go (readIn dialect req) refl
     where
-      go : (j : Judged) → readRequest req ≡ j → AlikeTables (judgedBy inForce req t count v j .table) (judgedBy inForce req u count v j .table) count
+      go : (j : Judged) → readIn dialect req ≡ j → AlikeTables (judgedBy inForce dialect req t count v j .table) (judgedBy inForce dialect req u count v j .table) count
       go (bad f) e = alike
       go (fine seen) e =
-          rw (← plan-same [] t u count like req v seen) (deed-alike req v seen (planRead req t count v seen .deed) (plan-fits req t count v seen e))
+          rw (← plan-same [] t u count like req v dialect seen) (deed-alike req v seen (planRead dialect req t count v seen .deed) (plan-fits dialect req t count v seen e))

@@ -4,8 +4,9 @@ use mathlib.Core.Path.{_≡_, refl, ap}
 use mathlib.Core.List.{List}
 use Rattle.reading.specs.Kinds.{publicIdentity, authorizationType, numberAuthItems}
 use Rattle.reading.specs.Rules.{Seen}
+use Rattle.reading.specs.declared.Dialect.{Dialect}
 use Rattle.requests.specs.Judged.{Judged, bad, fine}
-use Rattle.requests.specs.Request.{readRequest, dataSeen, valueSeen, schemeOf}
+use Rattle.requests.specs.Request.{readIn, dataSeen, valueSeen, schemeOf}
 use Rattle.choices.specs.declared.plan.Plan.{Plan}
 use Rattle.deciding.specs.Plans.{assignmentOf, uarPlan, sarPlan, lirPlan, marPlan, planRead}
 use Rattle.deciding.specs.Rules.{inForce}
@@ -37,30 +38,31 @@ module _ (file t u : List ℕ) (count : ℕ) (like : SameTables file t u count) 
   unfolding marPlan
   mar-same seen = authenticate-same file t u count like v _ _ (schemeOf seen) (valueSeen seen numberAuthItems)
 
-  pub plan-same : (seen : Seen) → planRead req t count v seen ≡ planRead req u count v seen
-  unfolding planRead
-  plan-same seen = rw (uar-same seen, sar-same seen, lir-same seen, mar-same seen)
+  module _ (dialect : Dialect) where
+    pub plan-same : (seen : Seen) → planRead dialect req t count v seen ≡ planRead dialect req u count v seen
+    unfolding planRead
+    plan-same seen = rw (uar-same seen, sar-same seen, lir-same seen, mar-same seen)
 
-  pub given-same : decide req t count v .given ≡ decide req u count v .given
-  unfolding decideBy judgedBy performedBy
-  given-same = go (readRequest req)
-    where
-      go : (j : Judged) → judgedBy inForce req t count v j .given ≡ judgedBy inForce req u count v j .given
-      go (bad f) = refl
-      go (fine seen) = ap (λ (p : Plan). p .given) (plan-same seen)
+    pub given-same : decide dialect req t count v .given ≡ decide dialect req u count v .given
+    unfolding decideBy judgedBy performedBy
+    given-same = go (readIn dialect req)
+      where
+        go : (j : Judged) → judgedBy inForce dialect req t count v j .given ≡ judgedBy inForce dialect req u count v j .given
+        go (bad f) = refl
+        go (fine seen) = ap (λ (p : Plan). p .given) (plan-same seen)
 
-  pub place-same : decide req t count v .place ≡ decide req u count v .place
-  unfolding decideBy judgedBy performedBy
-  place-same = go (readRequest req)
-    where
-      go : (j : Judged) → judgedBy inForce req t count v j .place ≡ judgedBy inForce req u count v j .place
-      go (bad f) = refl
-      go (fine seen) = refl
+    pub place-same : decide dialect req t count v .place ≡ decide dialect req u count v .place
+    unfolding decideBy judgedBy performedBy
+    place-same = go (readIn dialect req)
+      where
+        go : (j : Judged) → judgedBy inForce dialect req t count v j .place ≡ judgedBy inForce dialect req u count v j .place
+        go (bad f) = refl
+        go (fine seen) = refl
 
-  pub vectors-same : decide req t count v .vectors ≡ decide req u count v .vectors
-  unfolding decideBy judgedBy performedBy
-  vectors-same = go (readRequest req)
-    where
-      go : (j : Judged) → judgedBy inForce req t count v j .vectors ≡ judgedBy inForce req u count v j .vectors
-      go (bad f) = refl
-      go (fine seen) = ap (λ (p : Plan). spentBy v (p .given .sent) (p .deed)) (plan-same seen)
+    pub vectors-same : decide dialect req t count v .vectors ≡ decide dialect req u count v .vectors
+    unfolding decideBy judgedBy performedBy
+    vectors-same = go (readIn dialect req)
+      where
+        go : (j : Judged) → judgedBy inForce dialect req t count v j .vectors ≡ judgedBy inForce dialect req u count v j .vectors
+        go (bad f) = refl
+        go (fine seen) = ap (λ (p : Plan). spentBy v (p .given .sent) (p .deed)) (plan-same seen)

@@ -14,6 +14,7 @@ use Rattle.table.specs.Check.{checkTable}
 use Rattle.blocks.specs.declared.Checked.the-variants.{Sound, Bad}
 use Rattle.vectors.specs.VectorFile.{checkVectors}
 use Rattle.pen.specs.Bytes.{avpBytes, vendorBytes, numberBytes, vendorNumber}
+use Rattle.requests.specs.Request.{underCx}
 use Rattle.calling.specs.Lent.{Lent, lent}
 use Rattle.calling.specs.Call.{Answered}
 use Rattle.calling.specs.Serve.{Served, serveBy, serve}
@@ -77,7 +78,7 @@ unfolding opened head line family
 family-sound = refl
 
 abbrev pub registration : Lent
-registration = lent (assignment 1 s) (family 0 0 []) [] [] room
+registration = lent (assignment 1 s) (family 0 0 []) [] [] room underCx
 
 pub registered : serve registration
     ≡ record {
@@ -94,7 +95,7 @@ unfoldable challenged : List ℕ
 challenged = head 3 ++ (line 1 0x61 0x70 1 0 1 s ++ (line 2 0x62 0x70 1 0 1 s ++ line 3 0x63 0x70 0 0 0 []))
 
 challenge : Lent
-challenge = lent (authentication 1 s) (family 0 0 []) [] (vector 0 0x70 0x20) room
+challenge = lent (authentication 1 s) (family 0 0 []) [] (vector 0 0x70 0x20) room underCx
 
 card-sound : checkVectors (vector 0 0x70 0x20) ≡ Sound 1
 unfolding opened
@@ -110,7 +111,7 @@ unfoldable pub asking : List ℕ
 asking = request 300 (common ++ (avpBytes 1 (0x70 ∷ []) ++ (vendorBytes 601 (0x61 ∷ []) ++ (vendorBytes 600 (0x76 ∷ []) ++ vendorNumber 623 1))))
 
 abbrev pub admitted : Lent
-admitted = lent asking (family 2 1 s) [] [] room
+admitted = lent asking (family 2 1 s) [] [] room underCx
 
 pub barred-sound : checkTable (family 2 1 s) 0 ≡ Sound 3
 unfolding opened head line family
@@ -133,7 +134,7 @@ pub shut-sound : checkTable shut 0 ≡ Sound 3
 unfolding opened head line shut
 shut-sound = refl
 
-turned-away : serve (lent asking shut [] [] room)
+turned-away : serve (lent asking shut [] [] room underCx)
     ≡ record {
       call = Answered (record { length = 116; place = 0 });
       table = shut;
@@ -141,7 +142,7 @@ turned-away : serve (lent asking shut [] [] room)
       buffer = over (reply 300 (numberBytes 268 5003) []) room;
     }
 unfolding opened head line shut asking
-turned-away = come (lent asking shut [] [] room) roomy shut-sound no-vectors refl
+turned-away = come (lent asking shut [] [] room underCx) roomy shut-sound no-vectors refl
 
 -- The theorems have instances: the registered family's members agree; a first edition's table is served as it was before sets, and before 02 [7].
 one-set : sameSet (blockOf (serve registration .table) 1) (blockOf (serve registration .table) 2) ≡ true
@@ -152,7 +153,7 @@ met-agreement : agreeing (blockOf (serve registration .table) 1) (blockOf (serve
 met-agreement = members-agree registration 3 family-sound 1 2 (omega arith) (omega arith) (omega arith) one-set
 
 alone : Lent
-alone = lent (assignment 5 s) (one 0 1 s) [] [] room
+alone = lent (assignment 5 s) (one 0 1 s) [] [] room underCx
 
 alone-first : editionOf (blockOf (one 0 1 s) 0) ≡ 1
 unfolding opened

@@ -7,11 +7,12 @@ use mathlib.Core.Logic.{_⊎_, inl, inr}
 use lib.ListN.{length}
 use Rattle.vectors.specs.Chosen.{unusedOf, sentOf}
 use Rattle.vectors.specs.Marked.{spent}
-use Rattle.vectors.specs.VectorFile.{SoundVectors}
-use Rattle.calling.specs.Lent.{Lent}
-use Rattle.calling.specs.Trial.{anyHolds}
-use Rattle.calling.specs.Serve.{checkOf, trials, refused, answered, serve, checkValue, decided}
+use Rattle.vectors.specs.VectorFile.{SoundVectors, checkVectors}
+use Rattle.calling.specs.Lent.{Lent, dialectIn}
+use Rattle.calling.specs.Trial.{anyHolds, Trial, tried}
+use Rattle.calling.specs.Serve.{checkOf, trials, refused, answered, serve, checkValue, decided, smallBuffer, wrongSize, wrongLength, noRequest, isBad, serveFound, serveBy}
 use Rattle.calling.proofs.Kept.{taken, serve-either, answered-is}
+use Rattle.deciding.proofs.Tests.{neither}
 use Rattle.vectors_sent.specs.Sent.{sentBy, Challenges, userOf, askedBy}
 use Rattle.vectors_sent.proofs.Cases.{Cases, other, success, decide-cases}
 
@@ -49,7 +50,7 @@ module _ (x : Lent) where
     unfolding answered
     vectors-are = rw (answered-is x none-holds)
 
-    decided-case : Cases (x .request) (x .table) (checkValue (checkOf x)) v (decided x) → Quiet ⊎ Sending
+    decided-case : Cases (dialectIn x) (x .request) (x .table) (checkValue (checkOf x)) v (decided x) → Quiet ⊎ Sending
     decided-case (other o) =
         inl (record { kept = vectors-are ∙ o .still .kept; none = sent-is ∙ o .still .none; apart = λ c. o .apart (c .command) (c .success) })
     decided-case (success s) =
@@ -67,4 +68,4 @@ module _ (x : Lent) where
     where
       go : (y : Bool) → anyHolds (trials x) ≡ y → Quiet ⊎ Sending
       go true e = inl (record { kept = refused-vectors e; none = rw e; apart = λ c. true≢false (sym e ∙ c .taken) })
-      go false e = decided-case e (decide-cases (x .request) (x .table) (checkValue (checkOf x)) v)
+      go false e = decided-case e (decide-cases (dialectIn x) (x .request) (x .table) (checkValue (checkOf x)) v)

@@ -14,9 +14,9 @@ use Rattle.reading.specs.declared.Outcome.the-variants.{Base}
 use Rattle.reading.specs.Kinds.{userName, numberAuthItems}
 use Rattle.reading.specs.Rules.{Seen}
 use Rattle.reading.specs.Verdicts.{numberOf}
-use Rattle.diameter.specs.Message.{commandOf}
+use Rattle.reading.specs.declared.Dialect.{Dialect}
 use Rattle.requests.specs.Judged.{fine}
-use Rattle.requests.specs.Request.{readRequest, dataSeen, valueSeen}
+use Rattle.requests.specs.Request.{readIn, dataSeen, valueSeen}
 use Rattle.choices.specs.declared.Given.{Given}
 use Rattle.choices.specs.declared.plan.Plan.{Plan}
 use Rattle.decisions.specs.Authentication.{toSend}
@@ -47,30 +47,30 @@ other-result : (r : Outcome) → 3000 ≤ numberOf r → r ≢ Base 2001
 unfolding numberOf
 other-result r h e = let n : numberOf r ≡ 2001 = ap numberOf e in omega arith
 
-module _ (req t : List ℕ) (count : ℕ) (v : List ℕ) (d : Decision) where
+module _ (dialect : Dialect) (req t : List ℕ) (count : ℕ) (v : List ℕ) (d : Decision) where
   -- a success of a MAR
   pub record Success : Type 0 where
     pub seen : Seen
-    pub read : readRequest req ≡ fine seen
-    pub command : commandOf req ≡ 303
+    pub read : readIn dialect req ≡ fine seen
+    pub command : dialect .command ≡ 303
     pub sends : Sends v (dataSeen seen userName) (valueSeen seen numberAuthItems) (d .given) (d .vectors)
 
   -- another command, or no success
   pub record Other : Type 0 where
     pub still : Still v (d .given .sent) (d .vectors)
-    pub apart : commandOf req ≡ 303 → d .given .verdict .result ≢ Base 2001
+    pub apart : dialect .command ≡ 303 → d .given .verdict .result ≢ Base 2001
 
   pub data Cases : Type 0 where
     other : Other → Cases
     success : Success → Cases
 
-pub decide-cases : (req t : List ℕ) (count : ℕ) (v : List ℕ) → Cases req t count v (decide req t count v)
+pub decide-cases : (dialect : Dialect) (req t : List ℕ) (count : ℕ) (v : List ℕ) → Cases dialect req t count v (decide dialect req t count v)
 unfolding performedBy spentBy toSend packed
-decide-cases req t count v =
-    decide-by req t count v (Cases req t count v)
+decide-cases dialect req t count v =
+    decide-by dialect req t count v (Cases dialect req t count v)
     (λ f e b. other (record { still = record { none = refl; kept = refl }; apart = λ c. other-result (f .result) (fails-most (f .result) b) })) go
   where
-    go : (seen : Seen) → readRequest req ≡ fine seen → (p : Plan) → Comes req t count v seen p → Cases req t count v (performedBy inForce req t count v seen p)
+    go : (seen : Seen) → readIn dialect req ≡ fine seen → (p : Plan) → Comes dialect req t count v seen p → Cases dialect req t count v (performedBy inForce req t count v seen p)
     go seen e p (tells g x) =
         other (record {
           still = record { none = rw (x .none); kept = refl };

@@ -11,7 +11,9 @@ use Rattle.blocks.specs.Blocks.{blockOf}
 use Rattle.vectors.specs.Chosen.{sentOf, Sendable}
 use Rattle.vectors.specs.declared.choice.Sent.{Sent}
 use Rattle.items.specs.Items.{itemBytes, itemsBytes, numberedBytes, sentBytes}
-use Rattle.reply.specs.Answer.{givenBytes, restBytes, bodyBytes, answerBytes}
+use Rattle.reading.specs.declared.Dialect.{Dialect}
+use Rattle.reply.specs.Pieces.{givenBytes}
+use Rattle.answering.specs.Answer.{restBytes, bodyBytes, answerBytes}
 use Rattle.reading.specs.Verdicts.{numberOf}
 use Rattle.reading.specs.declared.Outcome.the-variants.{Base}
 use Rattle.deciding.specs.Decide.{performedBy, decide}
@@ -19,7 +21,7 @@ use Rattle.deciding.proofs.Comes.{decide-by}
 use Rattle.deciding.proofs.Deeds.{decide-sendable}
 use Rattle.deciding.proofs.Read.{fails-most}
 use Rattle.calling.specs.Call.{Answered}
-use Rattle.calling.specs.Lent.{Lent}
+use Rattle.calling.specs.Lent.{Lent, dialectIn}
 use Rattle.calling.specs.Trial.{anyHolds}
 use Rattle.calling.specs.Serve.{checkOf, trials, answerOf, answered, serve, checkValue, decided}
 use Rattle.vectors_sent.specs.Sent.{sentBy, itemsFrom, saidOf, answerWith}
@@ -49,7 +51,7 @@ module _ (v : List ℕ) where
 
 module _ (x : Lent) (taken : anyHolds (trials x) ≡ false) where
   sendable : Sendable (x .vectors) (decided x .given .sent)
-  sendable = decide-sendable (x .request) (x .table) (checkValue (checkOf x)) (x .vectors) (answered-sound x taken)
+  sendable = decide-sendable (dialectIn x) (x .request) (x .table) (checkValue (checkOf x)) (x .vectors) (answered-sound x taken)
 
   answer-is : answerOf x (decided x) ≡ answerWith x (decided x .given) (saidOf (x .vectors) (sentBy x))
   unfolding answerBytes bodyBytes restBytes givenBytes sentBy
@@ -65,8 +67,8 @@ module _ (x : Lent) (taken : anyHolds (trials x) ≡ false) where
   )
 
 -- A success blames no AVP.
-pub success-nowhere : (req t : List ℕ) (count : ℕ) (v : List ℕ) → decide req t count v .given .verdict .result ≡ Base 2001 → decide req t count v .place ≡ 0
+pub success-nowhere : (dialect : Dialect) (req t : List ℕ) (count : ℕ) (v : List ℕ) → decide dialect req t count v .given .verdict .result ≡ Base 2001 → decide dialect req t count v .place ≡ 0
 unfolding performedBy numberOf
-success-nowhere req t count v =
-    decide-by req t count v (λ d. d .given .verdict .result ≡ Base 2001 → d .place ≡ 0)
+success-nowhere dialect req t count v =
+    decide-by dialect req t count v (λ d. d .given .verdict .result ≡ Base 2001 → d .place ≡ 0)
     (λ f e b r. absurd (omega (arith, fails-most (f .result) b, ap numberOf r))) (λ seen e p c r. refl)

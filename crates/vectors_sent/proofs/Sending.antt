@@ -17,7 +17,7 @@ use Rattle.pen.specs.Bytes.{vendorNumber, ifThere}
 use Rattle.reading.specs.declared.Outcome.the-variants.{Base}
 use Rattle.diameter.specs.Message.{commandOf}
 use Rattle.calling.specs.Call.{Answered}
-use Rattle.calling.specs.Lent.{Lent}
+use Rattle.calling.specs.Lent.{Lent, dialectIn}
 use Rattle.calling.specs.Trial.{anyHolds}
 use Rattle.calling.specs.Serve.{checkOf, trials, serve, checkValue, decided, resultOf}
 use Rattle.ndushavire.specs.Word.{callPlace}
@@ -111,7 +111,7 @@ module _ (x : Lent) where
   -- Of a success the place is 0, for no AVP is at fault ..
   pub success-place : Challenges x → callPlace (serve x .call) ≡ 0
   success-place c =
-      ap callPlace (answer-sends (c .taken) .0) ∙ success-nowhere (x .request) (x .table) (checkValue (checkOf x)) (x .vectors) (c .success)
+      ap callPlace (answer-sends (c .taken) .0) ∙ success-nowhere (dialectIn x) (x .request) (x .table) (checkValue (checkOf x)) (x .vectors) (c .success)
 
   -- .. and this is the number sent in 607, and so many items.
   pub success-says : Challenges x

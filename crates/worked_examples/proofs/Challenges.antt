@@ -20,7 +20,8 @@ use Rattle.choices.specs.Given.{givenSent}
 use Rattle.choices.specs.declared.Given.{Given}
 use Rattle.decisions.specs.Authentication.{toSend}
 use Rattle.deciding.specs.Decide.{decide}
-use Rattle.reply.specs.Answer.{answerBytes}
+use Rattle.answering.specs.Answer.{answerBytes}
+use Rattle.requests.specs.Request.{underCx}
 use Rattle.calling.specs.Call.{Answered, Refused}
 use Rattle.calling.specs.Lent.{Lent, lent}
 use Rattle.calling.specs.Serve.{Served, serve}
@@ -104,10 +105,10 @@ unfolding opened stored unsent
 unsent-sound = refl
 
 to-the-byte :
-    serve (lent mar table [] unsent room)
+    serve (lent mar table [] unsent room underCx)
     ≡ left (header 1 0 ++ line 1 1 0x73 (0xB9 ∷ 0xFC ∷ 0xFE ∷ 0xFE ∷ [])) (stored 1 (0x42 ∷ 0x98 ∷ 0x83 ∷ 0x7B ∷ [])) maa
 unfolding opened mar maa stored line table unsent
-to-the-byte = come (lent mar table [] unsent room) roomy table-sound unsent-sound refl
+to-the-byte = come (lent mar table [] unsent room underCx) roomy table-sound unsent-sound refl
 
 -- Two files with what their checks answer, so that these are computed once; and a row: a request over them, and what is left.
 record Files : Type 0 where
@@ -122,7 +123,7 @@ data Row : Type 0 where
   row : Files → List ℕ → Served → Row
 
 abbrev calling : Files → List ℕ → Lent
-calling f req = lent req (f .table) [] (f .vectors) room
+calling f req = lent req (f .table) [] (f .vectors) room underCx
 
 abbrev Comes : Row → Type 0
 Comes (row f req y) = serve (calling f req) ≡ y
@@ -204,23 +205,23 @@ unfolding opened mixed
 numbers-come = all-come numbers (refl, (refl, (refl, (refl, tt))))
 
 -- these four by name
-pub one-sent : serve (lent (authentication 1 s) (one 0 1 s) [] (vector 0 0x70 1) room) ≡ left (one 0 1 s) (vector 1 0x70 1) (challenges 1 (item 1 1))
+pub one-sent : serve (lent (authentication 1 s) (one 0 1 s) [] (vector 0 0x70 1) room underCx) ≡ left (one 0 1 s) (vector 1 0x70 1) (challenges 1 (item 1 1))
 one-sent = numbers-come .0
 
-pub two-left : serve (lent (authentication 3 s) (one 0 1 s) [] (mixed 0 0 0) room) ≡ left (one 0 1 s) (mixed 0 1 1) (challenges 2 (item 1 5 ++ item 2 9))
+pub two-left : serve (lent (authentication 3 s) (one 0 1 s) [] (mixed 0 0 0) room underCx) ≡ left (one 0 1 s) (mixed 0 1 1) (challenges 2 (item 1 5 ++ item 2 9))
 two-left = numbers-come .1 .0
 
 pub none-asked :
-    serve (lent (authentication 0 s) (one 0 1 s) [] (vector 0 0x70 1) room) ≡ left (one 0 1 s) (vector 0 0x70 1) (reply 303 (numberBytes 268 5012) [])
+    serve (lent (authentication 0 s) (one 0 1 s) [] (vector 0 0x70 1) room underCx) ≡ left (one 0 1 s) (vector 0 0x70 1) (reply 303 (numberBytes 268 5012) [])
 none-asked = numbers-come .1 .1 .0
 
 pub none-unused :
-    serve (lent (authentication 1 s) (one 0 1 s) [] (vector 1 0x70 1) room) ≡ left (one 0 1 s) (vector 1 0x70 1) (reply 303 (numberBytes 268 5012) [])
+    serve (lent (authentication 1 s) (one 0 1 s) [] (vector 1 0x70 1) room underCx) ≡ left (one 0 1 s) (vector 1 0x70 1) (reply 303 (numberBytes 268 5012) [])
 none-unused = numbers-come .1 .1 .1 .0
 
 -- "No vector is ever sent twice": the same MAR again, over what the first call left
 abbrev again : List ℕ → Served → Served
-again req y = serve (lent req (y .table) [] (y .vectors) room)
+again req y = serve (lent req (y .table) [] (y .vectors) room underCx)
 
 twice :
     again (authentication 1 s) (again (authentication 1 s) (left (one 0 1 s) (vector 0 0x70 1) []))
@@ -246,7 +247,7 @@ at-most : decide (authentication 17 s) (one 0 1 s) 1 seventeen .given ≡ sixtee
 unfolding opened cards sixteen
 at-most = refl
 
-at-most-sent : answerBytes (authentication 17 s) (one 0 1 s) [] seventeen sixteen ≡ challenges 16 (items 16)
+at-most-sent : answerBytes underCx (authentication 17 s) (one 0 1 s) [] seventeen sixteen ≡ challenges 16 (items 16)
 unfolding opened cards sixteen items
 at-most-sent = refl
 

@@ -13,6 +13,7 @@ use Rattle.table.specs.Check.{checkTable}
 use Rattle.blocks.specs.Sealed.{sealed}
 use Rattle.pen.specs.Bytes.{vendorHead, avpBytes, numberBytes}
 use Rattle.pen.specs.Groups.{experimental, failed}
+use Rattle.requests.specs.Request.{underCx}
 use Rattle.calling.specs.Call.{Call}
 use Rattle.calling.specs.Call.{Answered, Refused}
 use Rattle.calling.specs.Lent.{lent}
@@ -29,7 +30,7 @@ data Case : Type 0 where
 
 abbrev Right : Case → Type 0
 Right (call req table room comes after bytes) =
-    serve (lent req table [] [] (replicate room 0)) ≡ record { call = comes; table = after; vectors = []; buffer = over bytes (replicate room 0) }
+    serve (lent req table [] [] (replicate room 0) underCx) ≡ record { call = comes; table = after; vectors = []; buffer = over bytes (replicate room 0) }
 Right (check table answer) = checkTable table 0 ≡ answer
 Right (sum b n) = sumWords b 128 ≡ n
 
@@ -142,7 +143,7 @@ record Called (req table : List ℕ) (room : ℕ) (comes : Call) (after bytes : 
   small : Bool
   size : ltb room 36864 ≡ small
   computed : (o : List ℕ)
-      → known small answer (Sound 0) (lent req table [] [] o) ≡ record { call = comes; table = after; vectors = []; buffer = over bytes o }
+      → known small answer (Sound 0) (lent req table [] [] o underCx) ≡ record { call = comes; table = after; vectors = []; buffer = over bytes o }
 
 abbrev Computes : Case → Type 0
 Computes (call req table room comes after bytes) = Called req table room comes after bytes
@@ -151,7 +152,7 @@ Computes (sum b n) = sumWords b 128 ≡ n
 
 right : (c : Case) → Computes c → Right c
 right (call req table room comes after bytes) g =
-    come (lent req table [] [] (replicate room 0)) (sized room (g .size)) (g .checked) no-vectors (g .computed (replicate room 0))
+    come (lent req table [] [] (replicate room 0) underCx) (sized room (g .size)) (g .checked) no-vectors (g .computed (replicate room 0))
 right (check table answer) e = e
 right (sum b n) e = e
 

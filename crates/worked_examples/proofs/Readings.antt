@@ -9,7 +9,7 @@ use Rattle.reading.specs.Kinds.{userName, publicIdentity, authDataItem, numberA
 use Rattle.reading.specs.Verdicts.{faultAt, faultOf, lackOf}
 use Rattle.failed.specs.Failing.{example}
 use Rattle.requests.specs.Judged.{Judged, bad, fine}
-use Rattle.requests.specs.Request.{readRequest, dataSeen, valueSeen, schemeOf}
+use Rattle.requests.specs.Request.{dialectOf, underCx, readIn, dataSeen, valueSeen, schemeOf}
 use Rattle.worked_examples.proofs.Sample.{common, request, s, z, opened}
 
 -- a fault; or what is said: User-Name, Public-Identity, the scheme, the number of items asked for, Server-Name
@@ -36,7 +36,7 @@ row [] = []
 row (a ∷ avps) = a ++ row avps
 
 reading : Case → Reading
-reading c = readingOf (readRequest (request (c .command) (common ++ row (c .avps))))
+reading c = let req = request (c .command) (common ++ row (c .avps)) in readingOf (readIn (dialectOf underCx req) req)
 
 -- User-Name `p` and Public-Identity `a`; three items asked for, and the Server-Name `s`; a MAR whose 612, at byte 140, holds these bytes
 user : List ℕ

@@ -38,7 +38,7 @@ use Rattle.reading.specs.Contents.{numberFault, plainFault}
 use Rattle.reading.specs.Groups.{applicationMembers, itemMembers, membersOf, isOf, fits, unlike, onlyOf, countOf, enough, enoughAt, gathers}
 use Rattle.reading.specs.Rules.{contentFault, ruleBy, rule}
 use Rattle.requests.specs.Judged.{nothing, judge}
-use Rattle.requests.specs.Request.{headerFault, missingFrom, missing, complete, readWalk, readIn, identities}
+use Rattle.requests.specs.Request.{cx, headerFault, missingFrom, missing, complete, readWalk, readIn, identities}
 use Rattle.items.specs.Items.{challengeBytes, keyBytes, itemBytes, itemsBytes, numberedBytes, sentBytes}
 use Rattle.choices.specs.Challenges.{claimOf, challengeOf}
 use Rattle.choices.specs.Choices.{authorization, location}
@@ -56,8 +56,8 @@ use Rattle.deciding.specs.Plans.{assignmentOf, uarPlan, sarPlan, lirPlan, marPl
 use Rattle.deciding.specs.Decide.{performedBy, judgedBy, decideBy}
 use Rattle.reading.specs.Verdicts.{numberOf}
 use Rattle.failed.specs.Failing.{headPart, alone, failedOf, sample, exampleOf, failedBy}
-use Rattle.reply.specs.Answer.{resultBytes, frontBytes, originBytes, topBytes, identityBytes, nameBytes, dataBytes, givenBytes, proxy, proxies, endBytes}
-use Rattle.reply.specs.Answer.{restBytes, bodyBytes, flagsOf, headerBytes, answerBytes}
+use Rattle.reply.specs.Pieces.{resultBytes, frontBytes, originBytes, topBytes, identityBytes, nameBytes, dataBytes, givenBytes, flagsOf, headerBytes}
+use Rattle.answering.specs.Answer.{proxy, proxies, endBytes, restBytes, bodyBytes, answerBytes}
 use Rattle.calling.specs.Trial.{tried}
 use Rattle.calling.specs.Serve.{wrongLength, refused, answered, serveFound, serveBy}
 
@@ -118,7 +118,7 @@ request command body =
 unfoldable pub reply : ℕ → List ℕ → List ℕ → List ℕ
 reply command result rest =
     let own = avpBytes 264 host ++ (avpBytes 296 realm ++ rest) in
-    set (request command (avpBytes 263 (0x73 ∷ []) ++ (vendorApplication ++ (result ++ (numberBytes 277 1 ++ own))))) 4 0x40
+    set (request command (avpBytes 263 (0x73 ∷ []) ++ (vendorApplication cx ++ (result ++ (numberBytes 277 1 ++ own))))) 4 0x40
 
 unfoldable pub answer : List ℕ → List ℕ → List ℕ
 answer result rest = reply 301 result rest
@@ -126,7 +126,7 @@ answer result rest = reply 301 result rest
 -- what every request needs, and a SAR of a type for the identity `a` with a server name
 unfoldable pub common : List ℕ
 common =
-    avpBytes 263 (0x73 ∷ []) ++ (vendorApplication ++
+    avpBytes 263 (0x73 ∷ []) ++ (vendorApplication cx ++
     (numberBytes 277 1 ++ (avpBytes 264 (0x63 ∷ []) ++ (avpBytes 296 (0x72 ∷ []) ++ avpBytes 283 (0x72 ∷ [])))))
 
 unfoldable pub assignment : ℕ → List ℕ → List ℕ

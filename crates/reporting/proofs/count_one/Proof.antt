@@ -9,7 +9,6 @@ count-one-spec =
     (tie.spec
     (λ c κs. search needs)
     (λ c κs. search needs)
-    (λ c κs. search needs)
     (λ c κs. search (needs, counted-fits))
     (λ c. search needs)
     (λ c. search needs)
