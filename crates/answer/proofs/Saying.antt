@@ -1,10 +1,5 @@
 -- What is said of a word fits the buffer, and is the answer or the refusal.
-use Prim.Native.Nat.{ℕ, _≤_}
-use mathlib.Core.List.{List, [], _∷_}
-use mathlib.Core.Path.{_≡_, refl, sym, _∙_}
-use native.Mathlib.Omega.{arith}
-use lib.ListN.{length}
-use borrow.Author.Tests.{eq-eqb, ne-eqb}
+use Rattle.octets.specs.Standard.{ℕ, _≤_, List, [], _∷_, _≡_, refl, sym, _∙_, arith, length, eq-eqb, ne-eqb}
 use Rattle.lines.specs.Words.{Words}
 use Rattle.calling.specs.Lent.{Lent}
 use Rattle.ndushavire.specs.Word.{numberIn, valueIn}

@@ -1,13 +1,6 @@
 -- How long the copies out of a request are: Session-Id, every Proxy-Info, and what Failed-AVP holds.
-use Prim.Native.Nat.{ℕ, zero, suc, pred, _+_, _-_, _%_, _≤_}
-use mathlib.Core.Path.{_≡_, refl}
-use mathlib.Core.Bool.{Bool, true, false, cond, _&&_}
-use mathlib.Core.List.{List, [], _∷_}
-use native.Mathlib.Omega.{arith}
-use lib.Dec.{eqb}
-use lib.ListN.{length, take, drop, length-append, length-drop}
-use lib.Seq.{length-take-le}
-use borrow.Author.Tests.{eqb-true, ne-eqb}
+use Rattle.octets.specs.Standard.{ℕ, zero, suc, pred, _+_, _-_, _%_, _≤_, _≡_, refl, Bool, true, false, cond, _&&_, List, [], _∷_, arith, eqb, length}
+use Rattle.octets.specs.Standard.{take, drop, length-append, length-drop, length-take-le, eqb-true, ne-eqb}
 use Rattle.diameter.specs.Avp.{padded, avpFlags, avpLen, reserved, sound}
 use Rattle.diameter.specs.Walk.{Walk, avp, onSound, walkFrom, walk}
 use Rattle.diameter.proofs.Walks.{sound-says}

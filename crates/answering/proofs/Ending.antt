@@ -1,9 +1,5 @@
 -- How an answer ends: Failed-AVP, then every Proxy-Info, after what a decision gives.
-use Prim.Native.Nat.{ℕ, _+_, _≤_, _<_}
-use mathlib.Core.Path.{_≡_, refl, sym}
-use mathlib.Core.List.{List}
-use lib.ListN.{length, drop, length-append}
-use borrow.Author.Tests.{lt-ltb, le-ltb}
+use Rattle.octets.specs.Standard.{ℕ, _+_, _≤_, _<_, _≡_, refl, sym, List, length, drop, length-append, lt-ltb, le-ltb}
 use Rattle.octets.specs.Run.{over, Wrote}
 use Rattle.octets.proofs.Writes.{lent, back, then, named}
 use Rattle.pen.specs.Groups.{failed}

@@ -1,9 +1,5 @@
 -- How long an answer is at the most.
-use Prim.Native.Nat.{ℕ, _+_, _%_, _≤_}
-use mathlib.Core.List.{List}
-use mathlib.Core.Path.{_≡_}
-use native.Mathlib.Omega.{arith}
-use lib.ListN.{length, length-append}
+use Rattle.octets.specs.Standard.{ℕ, _+_, _%_, _≤_, List, _≡_, arith, length, length-append}
 use Rattle.table.specs.SoundTable.{SoundTable}
 use Rattle.vectors.specs.Chosen.{Sendable}
 use Rattle.diameter.specs.Message.{bodyOf}

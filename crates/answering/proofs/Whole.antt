@@ -1,9 +1,5 @@
 -- The whole answer: its body, then its header.
-use Prim.Native.Nat.{ℕ, _+_, _≤_}
-use mathlib.Core.Path.{refl}
-use mathlib.Core.List.{List}
-use native.Mathlib.Omega.{arith}
-use lib.ListN.{length, length-append, length-take, length-drop}
+use Rattle.octets.specs.Standard.{ℕ, _+_, _≤_, refl, List, arith, length, length-append, length-take, length-drop}
 use Rattle.octets.specs.Run.{Wrote}
 use Rattle.octets.proofs.Writes.{lent, back, then, named, then-front}
 use Rattle.reading.specs.declared.Terms.{Terms}

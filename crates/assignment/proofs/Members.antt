@@ -1,10 +1,5 @@
 -- What a SAR asks of a record it asks alike of every record of its set: they are of one subscription, and agree in state and server name.
-use Prim.Native.Nat.{ℕ, _≤_}
-use mathlib.Core.Bool.{true}
-use mathlib.Core.Path.{_≡_, sym, ap, _∙_}
-use mathlib.Core.List.{List}
-use native.Mathlib.Omega.{arith}
-use lib.ListN.{length, length-take, length-drop}
+use Rattle.octets.specs.Standard.{ℕ, _≤_, true, _≡_, sym, ap, _∙_, List, arith, length, length-take, length-drop}
 use Rattle.record.specs.Fields.{serverSize, serverOf}
 use Rattle.record.specs.RecordBlock.{recordOf}
 use Rattle.record.specs.Sets.{sameSet}

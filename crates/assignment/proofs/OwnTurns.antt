@@ -1,13 +1,7 @@
 -- The turns of the loop that settles a subscription's records: those not in state 0, which are whole sets.
-use Prim.Native.Nat.{ℕ, zero, suc, _+_, _*_, _<_, _≤_}
-use mathlib.Core.List.{List, [], _∷_}
-use mathlib.Core.Bool.{Bool, true, false, cond, _&&_, _||_, and-true, or-false, true≢false}
-use mathlib.Core.Path.{_≡_, refl, sym, ap, _∙_}
-use mathlib.Core.Logic.{_≢_}
-use native.Mathlib.Omega.{arith}
-use lib.ListN.{length}
-use lib.Dec.{eqb, leb, ltb}
-use borrow.Author.Tests.{eqb-true, eqb-false, ltb-true, ltb-false, le-leb, lt-leb, ne-eqb}
+use Rattle.octets.specs.Standard.{ℕ, zero, suc, _+_, _*_, _<_, _≤_, List, [], _∷_, Bool, true, false, cond, _&&_, _||_, and-true, or-false}
+use Rattle.octets.specs.Standard.{true≢false, _≡_, refl, sym, ap, _∙_, _≢_, arith, length, eqb, leb, ltb, eqb-true, eqb-false, ltb-true, ltb-false}
+use Rattle.octets.specs.Standard.{le-leb, lt-leb, ne-eqb}
 use Rattle.record.specs.Sets.{sameSet}
 use Rattle.record.proofs.OneSet.{OneSet, set-says, Agree, agree-says}
 use Rattle.blocks.specs.Blocks.{blockOf}

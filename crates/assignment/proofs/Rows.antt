@@ -1,15 +1,11 @@
 -- Each row of the table of effects fits a record: it has a server name exactly in state 1 or 2.
-use Prim.Native.Nat.{ℕ, _≤_}
-use mathlib.Core.Bool.{Bool, true, false}
-use mathlib.Core.List.{List}
-use native.Mathlib.Omega.{arith}
-use lib.ListN.{length}
+use Rattle.octets.specs.Standard.{ℕ, _≤_, Bool, true, false, List, arith, length}
 use Rattle.rewrite.specs.Renew.{Fitting}
 use Rattle.rewrite.proofs.Settled.{fits-named, fits-none}
 use Rattle.choices.specs.Types.{effectOf}
 use Rattle.choices.specs.declared.types.AssignmentType.{AssignmentType}
-use Rattle.choices.specs.declared.types.AssignmentType.the-variants.{NoAssignment, Registration, ReRegistration, UnregisteredUser, Removal, StoringRemoval}
-use Rattle.choices.specs.declared.types.AssignmentType.the-variants.{Failure}
+use Rattle.choices.specs.declared.types.AssignmentType.the-variants.{NoAssignment, Registration, ReRegistration, UnregisteredUser, Removal}
+use Rattle.choices.specs.declared.types.AssignmentType.the-variants.{StoringRemoval, Failure}
 use Rattle.assignment.specs.Assignment.{storedName}
 
 module _ (server : List ℕ) (least : 1 ≤ length server) (most : length server ≤ 96) where

@@ -1,16 +1,7 @@
 -- A file of blocks with one of them changed, or with the chosen ones, by its blocks: a changed one anew, and every other as it was.
-use Prim.Native.Nat.{ℕ, zero, suc, _+_, _-_, _*_, _<_, _≤_}
-use mathlib.Core.Bool.{Bool, true, false, cond, _&&_, _||_, or-assoc}
-use mathlib.Core.Path.{_≡_, refl, sym, _∙_, ap}
-use mathlib.Core.Logic.{_≢_}
-use mathlib.Core.List.{List, [], _∷_, _++_, append-nil, append-assoc}
-use native.Mathlib.Omega.{arith}
-use lib.Dec.{eqb, ltb}
-use borrow.Author.Tests.{eqb-true, eqb-false, lt-ltb, le-ltb, ltb-true, ltb-false}
-use lib.ListN.{length, getD, take, drop}
-use lib.Seq.{take-at, drop-at, drop-drop}
-use borrow.Rule.Slice.PartMut.{midOf, putMid}
-use native.Mathlib.Nat.{add-sub-cancel-left}
+use Rattle.octets.specs.Standard.{ℕ, zero, suc, _+_, _-_, _*_, _<_, _≤_, Bool, true, false, cond, _&&_, _||_, or-assoc, _≡_, refl, sym, _∙_, ap, _≢_}
+use Rattle.octets.specs.Standard.{List, [], _∷_, _++_, append-nil, append-assoc, arith, eqb, ltb, eqb-true, eqb-false, lt-ltb, le-ltb, ltb-true}
+use Rattle.octets.specs.Standard.{ltb-false, length, getD, take, drop, take-at, drop-at, drop-drop, midOf, putMid, add-sub-cancel-left}
 use Rattle.octets.proofs.Parts.{part-alike, spliced, spliced-part, spliced-length, spliced-before, spliced-after}
 use Rattle.blocks.specs.Blocks.{blockOf, tableOf}
 use Rattle.blocks.proofs.Blocks.{block-length, table-same, table-is, table-length, table-block}

@@ -1,13 +1,6 @@
 -- A block that is given a new check word: it sums to zero, and is as it was before that word.
-use Prim.Native.Nat.{ℕ, suc, _+_, _*_, _%_, _^_, _<_, _≤_}
-use mathlib.Core.Path.{_≡_, sym, _∙_}
-use mathlib.Core.Logic.{_≢_}
-use mathlib.Core.List.{List, [], _∷_, _++_, append-nil}
-use native.Mathlib.Omega.{arith}
-use native.Mathlib.Nat.{mod-lt}
-use lib.Dec.{lit<}
-use lib.ListN.{length, getD, set, take, length-set, drop-of-length-le}
-use lib.Seq.{getD-set-other, sets-eq}
+use Rattle.octets.specs.Standard.{ℕ, suc, _+_, _*_, _%_, _^_, _<_, _≤_, _≡_, sym, _∙_, _≢_, List, [], _∷_, _++_, append-nil, arith, mod-lt, lit<}
+use Rattle.octets.specs.Standard.{length, getD, set, take, length-set, drop-of-length-le, getD-set-other, sets-eq}
 use Rattle.octets.specs.Number.{be32At, putBe32}
 use Rattle.octets.specs.Sum.{sumWords}
 use Rattle.octets.proofs.Numbers.{Bytes, word-put, word-held, word-lt}

@@ -1,12 +1,6 @@
 -- What each way through a call leaves.
-use Prim.Native.Nat.{ℕ, _≤_, _<_, _%_}
-use mathlib.Core.List.{List}
-use mathlib.Core.Bool.{Bool, true, false, cond, not, _||_, true≢false}
-use mathlib.Core.Path.{_≡_, refl, sym, _∙_}
-use native.Mathlib.Omega.{arith}
-use lib.ListN.{length, getD}
-use lib.Dec.{eqb, ltb}
-use borrow.Author.Tests.{lt-ltb, le-ltb, eqb-true, ltb-false}
+use Rattle.octets.specs.Standard.{ℕ, _≤_, _<_, _%_, List, Bool, true, false, cond, not, _||_, true≢false, _≡_, refl, sym, _∙_, arith, length, getD}
+use Rattle.octets.specs.Standard.{eqb, ltb, lt-ltb, le-ltb, eqb-true, ltb-false}
 use Rattle.octets.specs.Number.{be24At}
 use Rattle.table.specs.Check.{checkTable}
 use Rattle.blocks.specs.declared.Checked.{Checked}
@@ -22,11 +16,12 @@ use Rattle.deciding.specs.Passed.{Passed}
 use Rattle.deciding.specs.Answers.{Tells}
 use Rattle.deciding.specs.declared.Told.{Told}
 use Rattle.calling.specs.declared.Came.{Came}
-use Rattle.calling.specs.declared.Came.the-variants as came
 use Rattle.calling.specs.Lent.{Lent, lent}
 use Rattle.calling.specs.Trial.{tried}
-use Rattle.calling.specs.Serve.{refused, answered, smallBuffer, wrongSize, wrongLength, noRequest, checkOf, checkValue, serveFound, serveBy, serve}
+use Rattle.calling.specs.Serve.{refused, answered, smallBuffer, wrongSize, wrongLength, noRequest, checkOf, checkValue, serveFound, serveBy}
+use Rattle.calling.specs.Serve.{serve}
 use Rattle.calling.specs.Leaves.{Leaves, early, serveChecked}
+use Rattle.calling.specs.declared.Came.the-variants as came
 
 pub length-all : (req : List ℕ) {n : ℕ} → n ≡ be24At req 1 → (not (eqb n (length req)) || not (eqb (length req % 4) 0)) ≡ wrongLength req
 unfolding wrongLength

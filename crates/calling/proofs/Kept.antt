@@ -1,10 +1,5 @@
 -- Whatever a call comes to, a table is sound after it with so many records if it was before, and so is the vector file; an unsound one stays as it is.
-use Prim.Native.Nat.{_≤_}
-use mathlib.Core.Bool.{Bool, true, false, true≢false}
-use mathlib.Core.Path.{_≡_, refl, sym, _∙_}
-use lib.ListN.{length}
-use native.Mathlib.Omega.{arith}
-use borrow.Author.Tests.{ltb-false}
+use Rattle.octets.specs.Standard.{_≤_, Bool, true, false, true≢false, _≡_, refl, sym, _∙_, length, arith, ltb-false}
 use Rattle.table.specs.Check.{checkTable}
 use Rattle.blocks.specs.declared.Checked.{Checked}
 use Rattle.blocks.specs.declared.Checked.the-variants.{Sound, Bad}
@@ -15,8 +10,8 @@ use Rattle.deciding.proofs.Kept.{decide-keeping, decide-vectors}
 use Rattle.deciding.proofs.Tests.{neither}
 use Rattle.calling.specs.Lent.{Lent, dialectIn}
 use Rattle.calling.specs.Trial.{Trial, anyHolds}
-use Rattle.calling.specs.Serve.{Served, smallBuffer, wrongSize, wrongLength, noRequest, isBad, checkOf, checkValue, trials, refused, answered, decided}
-use Rattle.calling.specs.Serve.{serveFound, serveBy, serve}
+use Rattle.calling.specs.Serve.{Served, smallBuffer, wrongSize, wrongLength, noRequest, isBad, checkOf, checkValue, trials, refused, answered}
+use Rattle.calling.specs.Serve.{decided, serveFound, serveBy, serve}
 use Rattle.calling.proofs.Trials.{tried-by}
 
 -- a file that is not bad is sound

@@ -1,15 +1,9 @@
 -- Requests counted one by one come to the numbers of the definitions.
-use Prim.Native.Nat.{ℕ, zero, suc, _+_, _%_, _^_, _<_, max}
-use native.Mathlib.Omega.{arith}
-use native.Mathlib.Nat.{mod-eq-of-lt, zero-max, max-zero, zero-add, add-zero}
-use mathlib.Core.Path.{_≡_, refl, sym, ap, _∙_}
-use mathlib.Core.List.{List, [], _∷_, _++_}
-use lib.ListN.{length, getD, length-replicate, getD-replicate}
-use lib.Seq.{ext-getD}
-use mathlib.Core.Bool.{Bool, true, false}
-use lib.Dec.{eqb}
-use borrow.Author.Tests.{eqb-true, eqb-false}
-use Rattle.counting.specs.Counted.{AllFit, alteredIn, largestIn, howMany, numberAt, wordAt, valuesBelow, countsOf, noCounts, counted, countedAll}
+use Rattle.octets.specs.Standard.{ℕ, zero, suc, _+_, _%_, _^_, _<_, max, arith, mod-eq-of-lt, zero-max, max-zero, zero-add, add-zero, _≡_, refl, sym}
+use Rattle.octets.specs.Standard.{ap, _∙_, List, [], _∷_, _++_, length, getD, length-replicate, getD-replicate, ext-getD, Bool, true, false, eqb}
+use Rattle.octets.specs.Standard.{eqb-true, eqb-false}
+use Rattle.counting.specs.Counted.{AllFit, alteredIn, largestIn, howMany, numberAt, wordAt, valuesBelow, countsOf, noCounts, counted}
+use Rattle.counting.specs.Counted.{countedAll}
 use Rattle.counting.specs.declared.Event.{Event}
 use Rattle.counting.proofs.Word.{counted-length, counted-at, counted-small, counted-largest}
 use Rattle.counting.proofs.Numbers.{each-word, number-cell, number-more, word-largest, word-other}

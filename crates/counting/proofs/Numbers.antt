@@ -1,12 +1,6 @@
 -- The numbers of a report, word by word: of one request more, of two rows of requests, and at most as many as were read.
-use Prim.Native.Nat.{ℕ, zero, suc, _+_, _%_, _^_, _≤_, _<_, max}
-use native.Mathlib.Omega.{arith}
-use native.Mathlib.Nat.{mod-eq-of-lt, zero-max}
-use mathlib.Core.Bool.{Bool, true, false, cond}
-use mathlib.Core.Path.{_≡_, refl, sym, _∙_}
-use mathlib.Core.List.{List, [], _∷_, _++_}
-use lib.ListN.{length, length-append}
-use borrow.Author.Tests.{ne-eqb}
+use Rattle.octets.specs.Standard.{ℕ, zero, suc, _+_, _%_, _^_, _≤_, _<_, max, arith, mod-eq-of-lt, zero-max, Bool, true, false, cond, _≡_, refl, sym}
+use Rattle.octets.specs.Standard.{_∙_, List, [], _∷_, _++_, length, length-append, ne-eqb}
 use Rattle.counting.specs.Counted.{cellOf, Fits, isAnswered, standsIn, howMany, alteredIn, largestIn, numberAt, wordAt}
 use Rattle.counting.specs.Layout.{readWord, stopWord, alteredWord, largestWord, answeredWord}
 use Rattle.counting.specs.declared.Event.{Event}

@@ -1,11 +1,8 @@
 -- Where requests are counted, computed from the definitions.
-use Prim.Native.Nat.{ℕ}
-use mathlib.Core.Bool.{false}
-use mathlib.Core.Path.{_≡_, refl}
-use mathlib.Core.List.{List, [], _∷_}
+use Rattle.octets.specs.Standard.{ℕ, false, _≡_, refl, List, [], _∷_}
 use Rattle.reading.specs.declared.Outcome.{Outcome}
 use Rattle.reading.specs.declared.Outcome.the-variants.{Base, Experimental}
-use Rattle.counting.specs.Results.{baseResults, experimentalResults, indexIn, rowOf, columnOf, listed}
+use Rattle.counting.specs.Results.{baseResults, experimentalResults, indexIn, commandRow, columnOf, listed}
 use Rattle.counting.specs.Counted.{cellOf, howMany, alteredIn, largestIn, numberAt}
 use Rattle.counting.specs.Layout.{readWord, alteredWord, largestWord, answeredWord, refusalWord, cellWord, sumFrom}
 use Rattle.counting.specs.Totals.{rowTotals, refusalTotal}
@@ -29,7 +26,7 @@ record Places : Type 0 where
   no-column : listed (Experimental 5012) ≡ false
 
 places : Places
-unfolding cellOf rowOf columnOf listed indexIn baseResults experimentalResults answer
+unfolding cellOf commandRow columnOf listed indexIn baseResults experimentalResults answer
 places =
     record {
       unable = refl;
@@ -64,7 +61,7 @@ record Numbers : Type 0 where
   refusals : refusalTotal four ≡ 1
 
 numbers : Numbers
-unfolding numberAt howMany alteredIn largestIn sumFrom cellOf rowOf columnOf indexIn baseResults experimentalResults answer four
+unfolding numberAt howMany alteredIn largestIn sumFrom cellOf commandRow columnOf indexIn baseResults experimentalResults answer four
 numbers =
     record {
       read = refl;

@@ -1,13 +1,6 @@
 -- "the row totals add up to the requests read".
-use Prim.Native.Nat.{ℕ, zero, suc, _+_, _≤_, _<_}
-use native.Mathlib.Omega.{arith}
-use native.Mathlib.Nat.{zero-add, suc-add, add-zero}
-use mathlib.Core.Bool.{Bool, true, false, cond}
-use mathlib.Core.Path.{_≡_, refl, _∙_}
-use mathlib.Core.List.{List, [], _∷_}
-use lib.ListN.{length}
-use lib.Dec.{eqb}
-use borrow.Author.Tests.{eqb-true, eqb-false, ne-eqb}
+use Rattle.octets.specs.Standard.{ℕ, zero, suc, _+_, _≤_, _<_, arith, zero-add, suc-add, add-zero, Bool, true, false, cond, _≡_, refl, _∙_, List, []}
+use Rattle.octets.specs.Standard.{_∷_, length, eqb, eqb-true, eqb-false, ne-eqb}
 use Rattle.counting.specs.Counted.{cellOf, Fits, AllFit, isAnswered, standsIn, howMany, numberAt}
 use Rattle.counting.specs.Layout.{sumFrom}
 use Rattle.counting.specs.Totals.{rowTotals, refusalTotal}

@@ -1,14 +1,6 @@
 -- One word where one request more is counted.
-use Prim.Native.Nat.{ℕ, _+_, _%_, _^_, _<_, max}
-use native.Mathlib.Omega.{arith}
-use native.Mathlib.Nat.{mod-lt, mod-mod, mod-add-mod, add-assoc, max-zero}
-use mathlib.Core.Bool.{Bool, true, false, cond}
-use mathlib.Core.Path.{_≡_, refl, sym, ap, _∙_}
-use mathlib.Core.List.{List}
-use lib.ListN.{length, getD, length-set}
-use lib.Seq.{getD-set-same, getD-set-other}
-use lib.Dec.{eqb}
-use borrow.Author.Tests.{eqb-true, eqb-false, ne-eqb}
+use Rattle.octets.specs.Standard.{ℕ, _+_, _%_, _^_, _<_, max, arith, mod-lt, mod-mod, mod-add-mod, add-assoc, max-zero, Bool, true, false, cond, _≡_}
+use Rattle.octets.specs.Standard.{refl, sym, ap, _∙_, List, length, getD, length-set, getD-set-same, getD-set-other, eqb, eqb-true, eqb-false, ne-eqb}
 use Rattle.counting.specs.Counted.{cellOf, Fits, answerLength, plus, larger, counted}
 use Rattle.counting.specs.declared.Entry.{Entry}
 use Rattle.counting.specs.declared.Event.{Event}

@@ -5,13 +5,13 @@ use mathlib.Core.List.{List, [], _∷_}
 use lib.ListN.{length, getD, set, replicate}
 use lib.Dec.{eqb}
 use Rattle.counting.specs.Layout.{readWord, stopWord, alteredWord, largestWord, answeredWord, refusalWord, cellWord}
-use Rattle.counting.specs.Results.{rowOf, columnOf, Listed}
+use Rattle.counting.specs.Results.{commandRow, columnOf, Listed}
 use Rattle.counting.specs.declared.Event.{Event}
 use Rattle.counting.specs.declared.Event.the-variants.{Answered, Refused}
 
 -- the word that a request is counted in: by its command and result, or by its refusal
 unfoldable pub cellOf : Event → ℕ
-cellOf (Answered e) = cellWord (rowOf (e .command)) (columnOf (e .result))
+cellOf (Answered e) = cellWord (commandRow (e .command)) (columnOf (e .result))
 cellOf (Refused n) = refusalWord n
 
 -- what can be counted: a result that has a column, a refusal that has a word

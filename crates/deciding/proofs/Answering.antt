@@ -1,11 +1,5 @@
 -- What is written and what is left, by what reading the request found.
-use Prim.Native.Nat.{ℕ, _≤_}
-use mathlib.Core.List.{List}
-use mathlib.Core.Path.{_≡_, refl, sym, _∙_}
-use mathlib.Core.Logic.{inl}
-use native.Mathlib.Omega.{arith}
-use lib.ListN.{length}
-use borrow.Author.Tests.{ne-eqb}
+use Rattle.octets.specs.Standard.{ℕ, _≤_, List, _≡_, refl, sym, _∙_, inl, arith, length, ne-eqb}
 use Rattle.octets.specs.Run.{Wrote}
 use Rattle.table.specs.SoundTable.{SoundTable}
 use Rattle.vectors.specs.Chosen.{Sendable}
@@ -18,7 +12,6 @@ use Rattle.requests.specs.Judged.{bad, fine}
 use Rattle.requests.specs.Request.{readIn}
 use Rattle.requests.specs.Found.{judgedOf}
 use Rattle.requests.specs.declared.Walked.{Walked}
-use Rattle.requests.specs.declared.Walked.the-variants as walked
 use Rattle.requests.proofs.Faulting.{read-placed}
 use Rattle.requests.proofs.Requests.{judged-bad}
 use Rattle.reading.specs.declared.Dialect.{Dialect}
@@ -35,6 +28,7 @@ use Rattle.deciding.proofs.Deeds.{plan-fits, plan-light, plan-sendable}
 use Rattle.deciding.proofs.Room.{given-most}
 use Rattle.deciding.specs.Passed.{Passed}
 use Rattle.deciding.specs.Answers.{Planned, Tells}
+use Rattle.requests.specs.declared.Walked.the-variants as walked
 
 -- A fault: its verdict is given, and table and vectors stay.
 module _ (dialect : Dialect) (req t : List ℕ) (count : ℕ) (v : List ℕ) (f : Verdict) (is : readIn dialect req ≡ bad f) where

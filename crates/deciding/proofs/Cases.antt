@@ -1,12 +1,6 @@
 -- What a request that was read may come to, case by case, with what laws above need of each: it tells, and nothing is written; it settles, as a SAR does; it
 -- challenges, as a MAR does.
-use Prim.Native.Nat.{ℕ, _/_, _≤_, _<_}
-use mathlib.Core.List.{List, _∷_}
-use mathlib.Core.Bool.{true, false}
-use mathlib.Core.Path.{_≡_, refl}
-use mathlib.Core.Logic.{_⊎_, inl, inr}
-use native.Mathlib.Omega.{arith}
-use lib.Dec.{eqb}
+use Rattle.octets.specs.Standard.{ℕ, _/_, _≤_, _<_, List, _∷_, true, false, _≡_, refl, _⊎_, inl, inr, arith, eqb}
 use Rattle.blocks.specs.Changed.{isOne}
 use Rattle.table.specs.Named.{privateAt}
 use Rattle.vectors.specs.Chosen.{noneSent}
@@ -31,13 +25,12 @@ use Rattle.choices.specs.declared.Given.{Given}
 use Rattle.choices.specs.declared.plan.Deed.the-variants.{Settle, Challenge}
 use Rattle.choices.specs.declared.plan.Plan.{Plan}
 use Rattle.choices.specs.declared.plan.Settling.{Settling}
-use Rattle.decisions.specs.Authentication.{toSend}
-use Rattle.assignment.specs.Assignment.{Assignment}
-use Rattle.assignment.specs.Assignment.{storedName}
-use Rattle.assignment.specs.declared.Meant.the-variants as meant
+use Rattle.questions.specs.Authentication.{toSend}
+use Rattle.assignment.specs.Assignment.{Assignment, storedName}
 use Rattle.deciding.specs.Plans.{assignmentOf}
 use Rattle.deciding.specs.Deeds.{settledBy, challengedBy, DeedFits}
 use Rattle.deciding.proofs.Read.{Fails}
+use Rattle.assignment.specs.declared.Meant.the-variants as meant
 
 -- no AVP of the request is at fault
 abbrev pub Blameless : Given → Type 0

@@ -1,14 +1,7 @@
 -- A request that was read comes to one of the cases of `Cases`: the decisions of the four commands, walked through once. Laws about decisions go by
 -- `decide-by` and these cases.
-use Prim.Native.Nat.{ℕ, _≤_, _<_}
-use mathlib.Core.List.{List, [], _∷_, map}
-use mathlib.Core.Bool.{Bool, true, false, cond, not, _&&_, _||_, true≢false}
-use mathlib.Core.Path.{_≡_, refl, sym, ap, _∙_}
-use mathlib.Core.Logic.{inl, inr}
-use native.Mathlib.Omega.{arith}
-use lib.ListN.{length}
-use lib.Dec.{eqb, ltb}
-use borrow.Author.Tests.{eqb-true, eqb-false, ne-eqb, ltb-true}
+use Rattle.octets.specs.Standard.{ℕ, _≤_, _<_, List, [], _∷_, map, Bool, true, false, cond, not, _&&_, _||_, true≢false, _≡_, refl, sym, ap, _∙_, inl}
+use Rattle.octets.specs.Standard.{inr, arith, length, eqb, ltb, eqb-true, eqb-false, ne-eqb, ltb-true}
 use Rattle.octets.proofs.All.{and-left, and-right}
 use Rattle.octets.proofs.Names.{same-eq}
 use Rattle.blocks.specs.Changed.{isOne}
@@ -35,7 +28,7 @@ use Rattle.reading.specs.declared.Verdict.{Verdict}
 use Rattle.counting.specs.Results.{baseResults, experimentalResults, indexIn, listed, Listed}
 use Rattle.requests.specs.Identity.{placesFrom}
 use Rattle.requests.specs.Judged.{Judged, bad, fine}
-use Rattle.requests.specs.Request.{readIn, given, dataSeen, valueSeen, schemeOf, identities}
+use Rattle.requests.specs.Request.{readIn, given, dataSeen, schemeOf, identities}
 use Rattle.requests.proofs.Kept.{read-needed, server-most, server-least}
 use Rattle.requests.proofs.Naming.{identities-at}
 use Rattle.choices.specs.Challenges.{claimOf, challengeOf}
@@ -58,14 +51,13 @@ use Rattle.choices.specs.declared.types.Effect.{Effect}
 use Rattle.choices.specs.declared.types.AssignmentType.{AssignmentType}
 use Rattle.choices.specs.declared.types.AssignmentType.the-variants.{NoAssignment, Registration, ReRegistration, UnregisteredUser, Removal}
 use Rattle.choices.specs.declared.types.AssignmentType.the-variants.{StoringRemoval, Failure}
-use Rattle.decisions.specs.Authentication.{claimedAt, claimedOf, authenticateFound, authenticate}
-use Rattle.decisions.specs.Authorization.{authorizeFound, authorize}
-use Rattle.decisions.specs.Carried.{servedBy, carried}
-use Rattle.decisions.specs.Location.{locateFound, locate}
-use Rattle.assignment.specs.Assignment.{Assignment, meantBy, every, found, findAll, numbersOf, firstOf, ownAt, surveyOf, ownerBy}
-use Rattle.assignment.specs.Assignment.{namedSurvey, ownedSurvey, assignMeant, assign, storedName, plannedRecords}
+use Rattle.questions.specs.Authentication.{claimedAt, claimedOf, authenticateFound, authenticate}
+use Rattle.questions.specs.Authorization.{authorizeFound, authorize}
+use Rattle.questions.specs.Carried.{servedBy, carried}
+use Rattle.questions.specs.Location.{locateFound, locate}
+use Rattle.assignment.specs.Assignment.{Assignment, meantBy, every, found, findAll, numbersOf, firstOf, ownAt, surveyOf, ownerBy, namedSurvey}
+use Rattle.assignment.specs.Assignment.{ownedSurvey, assignMeant, assign, storedName, plannedRecords}
 use Rattle.assignment.specs.declared.Meant.{Meant}
-use Rattle.assignment.specs.declared.Meant.the-variants as meant
 use Rattle.assignment.proofs.OwnTurns.{no-zero}
 use Rattle.assignment.proofs.Rows.{row-fits}
 use Rattle.deciding.specs.Plans.{assignmentOf, uarPlan, sarPlan, lirPlan, marPlan, planRead}
@@ -73,8 +65,9 @@ use Rattle.deciding.specs.Rules.{inForce}
 use Rattle.deciding.specs.Decide.{Decision, faulted, performedBy, judgedBy, decideBy, decide}
 use Rattle.deciding.proofs.Read.{Fails, fails-listed, read-fails, read-command}
 use Rattle.deciding.proofs.Tests.{either}
-use Rattle.deciding.proofs.Cases.{Blameless, Succeeds, Carries, carries-fault, sending, Tells, Owner, the-user}
-use Rattle.deciding.proofs.Cases.{the-first, Comes, tells, settles, challenges, of-result, alone}
+use Rattle.deciding.proofs.Cases.{Blameless, Succeeds, Carries, carries-fault, sending, Tells, Owner, the-user, the-first, Comes, tells}
+use Rattle.deciding.proofs.Cases.{settles, challenges, of-result, alone}
+use Rattle.assignment.specs.declared.Meant.the-variants as meant
 
 -- what was found is one of the records, or nothing
 public-within : (t : List ℕ) (count : ℕ) (name : List ℕ) → blockFound (findPublic t count name) ≤ count

@@ -1,11 +1,5 @@
 -- The plan of each command, and what carrying it out leaves.
-use Prim.Native.Nat.{ℕ, _≤_}
-use mathlib.Core.List.{List, [], _∷_}
-use mathlib.Core.Bool.{Bool, true, false}
-use mathlib.Core.Path.{_≡_, sym, _∙_}
-use native.Mathlib.Omega.{arith}
-use lib.ListN.{length}
-use lib.Dec.{eqb}
+use Rattle.octets.specs.Standard.{ℕ, _≤_, List, [], _∷_, Bool, true, false, _≡_, sym, _∙_, arith, length, eqb}
 use Rattle.record.specs.Fields.{keepOf}
 use Rattle.blocks.specs.Blocks.{blockOf}
 use Rattle.table.specs.SoundTable.{SoundTable}
@@ -18,7 +12,8 @@ use Rattle.rewrite.specs.Renew.{settled, Fitting, changeOf, ChangeFits}
 use Rattle.rewrite.specs.declared.Change.{Change}
 use Rattle.rewrite.specs.declared.Change.the-variants.{Challenged}
 use Rattle.rewrite.proofs.Counts.{altered-none}
-use Rattle.reading.specs.Kinds.{userName, publicIdentity, visitedNetwork, serverName, assignmentType, dataAvailable, authorizationType, numberAuthItems}
+use Rattle.reading.specs.Kinds.{userName, publicIdentity, visitedNetwork, serverName, assignmentType, dataAvailable, authorizationType}
+use Rattle.reading.specs.Kinds.{numberAuthItems}
 use Rattle.reading.specs.Rules.{Seen}
 use Rattle.diameter.specs.Message.{bodyOf}
 use Rattle.requests.specs.Request.{given, dataSeen, valueSeen, schemeOf, identities}
@@ -31,9 +26,9 @@ use Rattle.choices.specs.declared.plan.Settling.{Settling}
 use Rattle.choices.specs.declared.plan.Deed.{Deed}
 use Rattle.choices.specs.declared.plan.Deed.the-variants.{Leave, Settle, Challenge}
 use Rattle.choices.specs.declared.plan.Plan.{Plan}
-use Rattle.decisions.specs.Authentication.{authenticate}
-use Rattle.decisions.specs.Authorization.{authorize}
-use Rattle.decisions.specs.Location.{locate}
+use Rattle.questions.specs.Authentication.{authenticate}
+use Rattle.questions.specs.Authorization.{authorize}
+use Rattle.questions.specs.Location.{locate}
 use Rattle.assignment.specs.Assignment.{findAll, numbersOf, ownedUpTo, assign, storedName, plannedRecords}
 use Rattle.assignment.specs.Survey.{sarOf}
 use Rattle.deciding.specs.Plans.{numbersIn, assignmentOf, uarPlan, sarPlan, lirPlan, marPlan}

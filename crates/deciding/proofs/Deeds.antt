@@ -1,9 +1,5 @@
 -- What is to be written fits, what is to be sent can be sent, and what is given has room.
-use Prim.Native.Nat.{ℕ}
-use mathlib.Core.List.{List}
-use mathlib.Core.Path.{_≡_}
-use mathlib.Core.Logic.{_⊎_}
-use native.Mathlib.Omega.{arith}
+use Rattle.octets.specs.Standard.{ℕ, List, _≡_, _⊎_, arith}
 use Rattle.vectors.specs.Chosen.{Sendable}
 use Rattle.vectors.specs.VectorFile.{SoundVectors}
 use Rattle.vectors.proofs.Sendable.{none-sendable, unused-sendable}
@@ -13,7 +9,7 @@ use Rattle.reading.specs.declared.Dialect.{Dialect}
 use Rattle.requests.specs.Judged.{fine}
 use Rattle.requests.specs.Request.{readIn, dataSeen}
 use Rattle.choices.specs.declared.plan.Plan.{Plan}
-use Rattle.decisions.specs.Authentication.{toSend}
+use Rattle.questions.specs.Authentication.{toSend}
 use Rattle.deciding.specs.Plans.{planRead}
 use Rattle.deciding.specs.Decide.{performedBy, decide}
 use Rattle.deciding.specs.Deeds.{DeedFits}

@@ -1,7 +1,5 @@
 -- A decision keeps a sound table sound, with as many records, and a sound vector file sound: whoever checked them need not check again.
-use Prim.Native.Nat.{ℕ}
-use mathlib.Core.List.{List}
-use mathlib.Core.Path.{_≡_, refl, _∙_}
+use Rattle.octets.specs.Standard.{ℕ, List, _≡_, refl, _∙_}
 use Rattle.table.specs.SoundTable.{SoundTable}
 use Rattle.table.proofs.Sound.{sound-size}
 use Rattle.vectors.specs.VectorFile.{checkVectors, SoundVectors}

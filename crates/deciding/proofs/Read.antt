@@ -1,14 +1,6 @@
 -- What reading comes to: every result that it blames has a column of the report and is no success; and no other command than the four is let pass.
-use Prim.Native.Nat.{ℕ, _+_, _/_, _%_, _≤_}
-use mathlib.Core.List.{List, [], _∷_}
-use mathlib.Core.Option.{none}
-use mathlib.Core.Bool.{Bool, true, false, cond, not, _&&_}
-use mathlib.Core.Path.{_≡_, refl}
-use mathlib.Core.Logic.{_⊎_, inl, inr}
-use native.Mathlib.Omega.{arith}
-use lib.ListN.{length, getD}
-use lib.Dec.{eqb, leb}
-use borrow.Author.Tests.{eqb-true, eqb-false, leb-true}
+use Rattle.octets.specs.Standard.{ℕ, _+_, _/_, _%_, _≤_, List, [], _∷_, none, Bool, true, false, cond, not, _&&_, _≡_, refl, _⊎_, inl, inr, arith}
+use Rattle.octets.specs.Standard.{length, getD, eqb, leb, eqb-true, eqb-false, leb-true}
 use Rattle.octets.proofs.All.{and-left, and-right}
 use Rattle.octets.proofs.Chains.{chain-says}
 use Rattle.diameter.specs.Avp.{padded, avpHead, avpFlags, dataOf, valueOf, reserved, marked}

@@ -1,17 +1,9 @@
 -- Every answer fits: no request of at most 16,384 bytes has one of more than 36,864.
-use Prim.Native.Nat.{ℕ, _+_, _≤_, _%_}
-use mathlib.Core.List.{List}
-use mathlib.Core.Option.{Option, some}
-use mathlib.Core.Path.{_≡_}
-use mathlib.Core.Logic.{_⊎_, inl, inr}
-use native.Mathlib.Omega.{arith}
-use lib.ListN.{length, drop, length-drop}
-use lib.Dec.{ltb}
+use Rattle.octets.specs.Standard.{ℕ, _+_, _≤_, _%_, List, Option, some, _≡_, _⊎_, inl, inr, arith, length, drop, length-drop, ltb}
 use Rattle.table.specs.SoundTable.{SoundTable}
 use Rattle.vectors.specs.Chosen.{Sendable}
 use Rattle.vectors.specs.VectorFile.{SoundVectors}
 use Rattle.pen.specs.Bytes.{copiedSize}
-use Rattle.pen.proofs.Groups as groups
 use Rattle.reading.specs.Verdicts.{numberOf}
 use Rattle.reading.specs.declared.Dialect.{Dialect}
 use Rattle.reading.specs.declared.Terms.{Terms}
@@ -20,7 +12,6 @@ use Rattle.failed.specs.Failing.{failedOf, example, failedBy}
 use Rattle.failed.proofs.Short.{fault-length, example-length}
 use Rattle.choices.specs.declared.Given.{Given}
 use Rattle.parts.specs.Profile.{profileAt}
-use Rattle.parts.proofs.Fields as parts
 use Rattle.answering.specs.Answer.{failedPart, answerBytes}
 use Rattle.answering.proofs.Lengths.{answer-length}
 use Rattle.deciding.specs.Decide.{decide}
@@ -28,6 +19,8 @@ use Rattle.deciding.proofs.Cases.{Blameless}
 use Rattle.deciding.proofs.Comes.{decide-carries}
 use Rattle.deciding.proofs.Deeds.{decide-sendable}
 use Rattle.deciding.proofs.Tests.{either}
+use Rattle.pen.proofs.Groups as groups
+use Rattle.parts.proofs.Fields as parts
 
 -- What Failed-AVP holds is no more than the request itself, or an example.
 holds-short : (a : List ℕ) → length a ≤ 16384 → length (failedPart (some a)) ≤ 16400

@@ -1,6 +1,5 @@
 -- Laws of tests: what holds of both branches, and of two tests that fail.
-use mathlib.Core.Bool.{Bool, true, false, cond, _||_, true≢false}
-use mathlib.Core.Path.{_≡_, refl}
+use Rattle.octets.specs.Standard.{Bool, true, false, cond, _||_, true≢false, _≡_, refl}
 
 pub either : {X : Type 0} (P : X → Type 0) (x : Bool) {a b : X} → P a → P b → P (cond x a b)
 either P true p q = p

@@ -16,9 +16,9 @@ use Rattle.choices.specs.Types.{typeOf}
 use Rattle.choices.specs.Plans.{only}
 use Rattle.choices.specs.declared.plan.Sar.{Sar}
 use Rattle.choices.specs.declared.plan.Plan.{Plan}
-use Rattle.decisions.specs.Authentication.{authenticate}
-use Rattle.decisions.specs.Authorization.{authorize}
-use Rattle.decisions.specs.Location.{locate}
+use Rattle.questions.specs.Authentication.{authenticate}
+use Rattle.questions.specs.Authorization.{authorize}
+use Rattle.questions.specs.Location.{locate}
 use Rattle.assignment.specs.Assignment.{Assignment, assign}
 
 -- what a SAR says, and the header's keep

@@ -1,21 +1,13 @@
 -- Demand 3: two requests that say the same are decided alike. The places of their AVPs may differ, and Failed-AVP holds the same all the same.
-use Prim.Native.Nat.{ℕ}
-use mathlib.Core.List.{List, [], _∷_, map}
-use mathlib.Core.Bool.{Bool, true, false, cond, _&&_}
-use mathlib.Core.Path.{_≡_, refl, sym, ap, _∙_}
-use mathlib.Core.Logic.{_⊎_, inl, inr}
-use native.Mathlib.Omega.{arith}
-use lib.ListN.{length, getD}
-use lib.Dec.{eqb}
-use borrow.Author.Tests.{eqb-true, eqb-false}
+use Rattle.octets.specs.Standard.{ℕ, List, [], _∷_, map, Bool, true, false, cond, _&&_, _≡_, refl, sym, ap, _∙_, _⊎_, inl, inr, arith, length, getD}
+use Rattle.octets.specs.Standard.{eqb, eqb-true, eqb-false}
 use Rattle.diameter.specs.Put.{All}
 use Rattle.diameter.specs.Reader.{avpAt}
 use Rattle.reading.specs.Kinds.{publicIdentity}
 use Rattle.reading.specs.Rules.{Seen}
 use Rattle.reading.specs.declared.Dialect.{Dialect}
-use Rattle.reading.specs.Verdicts.{faultAt}
+use Rattle.reading.specs.Verdicts.{faultAt, lackOf}
 use Rattle.diameter.specs.Message.{bodyOf}
-use Rattle.reading.specs.Verdicts.{lackOf}
 use Rattle.requests.specs.Judged.{fine}
 use Rattle.requests.specs.Request.{readIn, identities}
 use Rattle.reading.specs.declared.Verdict.{Verdict}

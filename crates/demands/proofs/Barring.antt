@@ -1,11 +1,5 @@
 -- "B5003 now exactly when the identity is barred and no non-barred one shares its nonzero set; its place is the same": the result of a UAR.
-use Prim.Native.Nat.{ℕ, _≤_}
-use mathlib.Core.List.{List}
-use mathlib.Core.Bool.{true, false, true≢false}
-use mathlib.Core.Path.{_≡_, refl, sym, ap, subst, _∙_}
-use mathlib.Core.Logic.{_⊎_, inl, inr, _≢_}
-use native.Mathlib.Omega.{arith}
-use lib.ListN.{length}
+use Rattle.octets.specs.Standard.{ℕ, _≤_, List, true, false, true≢false, _≡_, refl, sym, ap, subst, _∙_, _⊎_, inl, inr, _≢_, arith, length}
 use Rattle.octets.proofs.Names.{same-eq, same-yes, same-no}
 use Rattle.record.specs.Fields.{bitsOf, barred}
 use Rattle.record.specs.Sets.{sameSet}
@@ -30,8 +24,8 @@ use Rattle.requests.specs.Judged.{Judged, bad, fine}
 use Rattle.requests.specs.Request.{readRequest, dataSeen, valueSeen}
 use Rattle.choices.specs.Choices.{authorization}
 use Rattle.choices.specs.declared.choice.Asked.{Asked}
-use Rattle.decisions.specs.Authorization.{askedAt, askedOf, authorizeFound, authorize}
-use Rattle.decisions.specs.Carried.{carried}
+use Rattle.questions.specs.Authorization.{askedAt, askedOf, authorizeFound, authorize}
+use Rattle.questions.specs.Carried.{carried}
 use Rattle.fitting.specs.Decide.{uarPlan, planRead, performed, decideJudged, decide}
 use Rattle.calling.specs.Lent.{Lent}
 use Rattle.calling.specs.Serve.{checkOf, checkValue, decision, resultOf}

@@ -1,14 +1,6 @@
 -- The answer to an AVP at fault, in which nothing is given but the verdict; and the place of a call, by what reading its request comes to.
-use Prim.Native.Nat.{ℕ, _+_, _≤_, _<_}
-use mathlib.Core.List.{List}
-use mathlib.Core.Option.{some}
-use mathlib.Core.Bool.{Bool, true, false}
-use mathlib.Core.Path.{_≡_, refl, sym, ap, _∙_}
-use mathlib.Core.Logic.{_≢_}
-use native.Mathlib.Omega.{arith}
-use lib.ListN.{length, drop}
-use lib.Dec.{eqb}
-use borrow.Author.Tests.{eqb-true, eqb-false}
+use Rattle.octets.specs.Standard.{ℕ, _+_, _≤_, _<_, List, some, Bool, true, false, _≡_, refl, sym, ap, _∙_, _≢_, arith, length, drop, eqb, eqb-true}
+use Rattle.octets.specs.Standard.{eqb-false}
 use Rattle.pen.specs.Bytes.{ifThere}
 use Rattle.pen.specs.Groups.{capabilities}
 use Rattle.items.specs.Items.{sentBytes}

@@ -1,12 +1,6 @@
 -- The three demands, as theorems about `serve`: what a call comes to, the table, the vectors and the buffer afterwards, for anything lent.
 -- What the words below mean is in specs/Call, specs/Frame and specs/Insertion.
-use Prim.Native.Nat.{ℕ, _/_, _%_, _<_, _≤_}
-use mathlib.Core.List.{List, _∷_}
-use mathlib.Core.Option.{some}
-use mathlib.Core.Bool.{true, false}
-use mathlib.Core.Path.{_≡_}
-use mathlib.Core.Logic.{_⊎_, _≢_}
-use lib.ListN.{length, getD, drop}
+use Rattle.octets.specs.Standard.{ℕ, _/_, _%_, _<_, _≤_, List, _∷_, some, true, false, _≡_, _⊎_, _≢_, length, getD, drop}
 use Rattle.octets.specs.Run.{over}
 use Rattle.blocks.specs.Blocks.{blockOf}
 use Rattle.table.specs.Named.{privateAt}
@@ -17,8 +11,7 @@ use Rattle.diameter.specs.Avp.{sound}
 use Rattle.diameter.specs.Put.{Piece, Whole, All}
 use Rattle.diameter.specs.Message.{commandOf}
 use Rattle.rewrite.specs.Change.{alterable}
-use Rattle.calling.specs.Call.{Answer}
-use Rattle.calling.specs.Call.{Answered, Refused}
+use Rattle.calling.specs.Call.{Answer, Answered, Refused}
 use Rattle.calling.specs.Lent.{Lent, asking, dialectIn}
 use Rattle.calling.specs.Serve.{wrongSize, wrongLength, checkOf, trials, answered, decision, serve}
 use Rattle.ndushavire.specs.Word.{callNumber, callValue, callWord}
@@ -35,7 +28,8 @@ use Rattle.demands.specs.Insertion.{Cut, Longer, Newer}
 use Rattle.demands.proofs.Refusals.{refusals, number-most, besides-none, besides-block, answer-long, answer-within, word-reads, refused-kept}
 use Rattle.demands.proofs.Refusals.{answered-is, buffer-length, buffer-past}
 use Rattle.demands.proofs.Fitting.{fits}
-use Rattle.demands.proofs.Frame.{failure-kept, others-kept, header-kept, bytes-kept, bits-kept, size-kept, sound-kept, question-kept, vectors-kept}
+use Rattle.demands.proofs.Frame.{failure-kept, others-kept, header-kept, bytes-kept, bits-kept, size-kept, sound-kept, question-kept}
+use Rattle.demands.proofs.Frame.{vectors-kept}
 use Rattle.demands.proofs.Insertions.{unmarked-same, marked-kept, mark-answered, fault-first}
 use Rattle.demands.proofs.Longer.{marked-or-not, longer-newer}
 use Rattle.demands.proofs.Cuts.{every-request}

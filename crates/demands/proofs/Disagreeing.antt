@@ -1,11 +1,5 @@
 -- "all records of a set agree in state, pending and server name, the later block being blamed": what the check answers.
-use Prim.Native.Nat.{ℕ, _+_, _*_, _<_, _≤_}
-use mathlib.Core.Bool.{Bool, true, false}
-use mathlib.Core.Path.{_≡_, refl}
-use mathlib.Core.List.{List}
-use native.Mathlib.Omega.{arith}
-use lib.ListN.{length}
-use borrow.Author.Tests.{eq-eqb, le-leb}
+use Rattle.octets.specs.Standard.{ℕ, _+_, _*_, _<_, _≤_, Bool, true, false, _≡_, refl, List, arith, length, eq-eqb, le-leb}
 use Rattle.octets.proofs.All.{and-right}
 use Rattle.record.specs.HeaderBlock.{headerOf}
 use Rattle.record.specs.Sets.{agreeing}

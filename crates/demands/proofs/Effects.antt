@@ -1,10 +1,5 @@
 -- What a decision does to the table and the vectors: nothing, or one change of records of the subscription asked about, by a SAR or by a MAR.
-use Prim.Native.Nat.{ℕ}
-use mathlib.Core.List.{List}
-use mathlib.Core.Option.{Option, some}
-use mathlib.Core.Bool.{true}
-use mathlib.Core.Path.{_≡_, refl, ap, _∙_}
-use mathlib.Core.Logic.{_⊎_, inl, inr}
+use Rattle.octets.specs.Standard.{ℕ, List, Option, some, true, _≡_, refl, ap, _∙_, _⊎_, inl, inr}
 use Rattle.table.specs.Named.{privateAt}
 use Rattle.rewrite.specs.Change.{afterOf, reaches, Keeps}
 use Rattle.reading.specs.declared.Dialect.{Dialect}

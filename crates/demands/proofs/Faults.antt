@@ -1,15 +1,7 @@
 -- The AVP at fault: what reading comes to is what specs/Place tells, and what a decision makes of it.
-use Prim.Native.Nat.{ℕ, zero, suc, _+_, _-_, _%_, _≤_, _<_}
-use mathlib.Core.List.{List, [], _∷_}
-use mathlib.Core.Option.{none, some}
-use mathlib.Core.Bool.{Bool, true, false, not, cond, _&&_, true≢false}
-use mathlib.Core.Path.{_≡_, refl, sym, ap, _∙_}
-use mathlib.Core.Logic.{_⊎_, inl, inr, _≢_}
-use native.Mathlib.Omega.{arith}
-use lib.ListN.{length, getD, take, drop, set, length-drop}
-use lib.Seq.{drop-drop, length-take-le}
-use lib.Dec.{eqb, leb}
-use borrow.Author.Tests.{eqb-true, eqb-false}
+use Rattle.octets.specs.Standard.{ℕ, zero, suc, _+_, _%_, _≤_, _<_, List, [], _∷_, none, some, Bool, true, false, not, cond, _&&_, true≢false, _≡_}
+use Rattle.octets.specs.Standard.{refl, sym, ap, _∙_, _⊎_, inl, inr, _≢_, arith, length, getD, take, drop, set, length-drop, drop-drop}
+use Rattle.octets.specs.Standard.{length-take-le, eqb, leb, eqb-true, eqb-false}
 use Rattle.diameter.specs.Avp.{padded, avpHead, avpFlags, avpLen, dataOf, valueOf, reserved, marked, sound}
 use Rattle.diameter.specs.Walk.{Walk, avp, walk}
 use Rattle.diameter.specs.Reader.{present, avpOf, avpAt}
@@ -35,7 +27,7 @@ use Rattle.requests.proofs.Faulting.{read-placed}
 use Rattle.deciding.specs.Rules.{inForce}
 use Rattle.deciding.specs.Decide.{performedBy, judgedBy, decideBy, decide}
 use Rattle.demands.specs.Frame.{succeeds}
-use Rattle.demands.specs.Place.{behindAt, Reaches, first, pastTaken, pastSkipped, Breaks, lengthFault, ruleFault, OfRules, AtFault}
+use Rattle.demands.specs.Place.{behindAt, ReadingReaches, first, pastTaken, pastSkipped, Breaks, lengthFault, ruleFault, OfRules, AtFault}
 
 pub fine-bad : {A : Type 0} (seen : Seen) (v : Verdict) → fine seen ≡ bad v → A
 fine-bad seen v e = let z : _≡_ {A = ℕ} 0 1 = cc in absurd (omega arith)
@@ -83,7 +75,7 @@ module _ (d : Dialect) (req : List ℕ) where
   judge-breaks at seen n (lengthFault h s) = rw (walk-faulty (drop at req) s (rw length-drop (omega arith)))
   judge-breaks at seen n (ruleFault m s e) = rw (avp-walked req at s, e)
 
-  judge-reaches : {at : ℕ} {seen : Seen} → Reaches d req at seen → judgeAt 20 nothing ≡ judgeAt at seen
+  judge-reaches : {at : ℕ} {seen : Seen} → ReadingReaches d req at seen → judgeAt 20 nothing ≡ judgeAt at seen
   judge-reaches first = refl
   judge-reaches (pastTaken at seen r s e) = judge-reaches r ∙ judge-taken at seen s e
   judge-reaches (pastSkipped at seen r s e) = judge-reaches r ∙ judge-skipped at seen s e
@@ -93,17 +85,17 @@ module _ (d : Dialect) (req : List ℕ) where
     pub number : ℕ
     pub place : ℕ
     pub seen : Seen
-    pub reached : Reaches d req place seen
+    pub reached : ReadingReaches d req place seen
     pub breaks : Breaks d req seen place number
     pub is : v ≡ faultAt number place
 
-  found-here : (at : ℕ) (seen : Seen) → Reaches d req at seen → (n : ℕ) → Breaks d req seen at n → (v : Verdict) → judgeAt at seen ≡ bad v → Finds v
+  found-here : (at : ℕ) (seen : Seen) → ReadingReaches d req at seen → (n : ℕ) → Breaks d req seen at n → (v : Verdict) → judgeAt at seen ≡ bad v → Finds v
   found-here at seen r n b v e =
       let q : bad (faultAt n at) ≡ bad v = sym (judge-breaks at seen n b) ∙ e in
       record { number = n; place = at; seen = seen; reached = r; breaks = b; is = cc }
 
   abbrev FindsWithin : ℕ → Type 0
-  FindsWithin k = (at : ℕ) (seen : Seen) → length (drop at req) ≤ k → Reaches d req at seen → (v : Verdict) → judgeAt at seen ≡ bad v → Finds v
+  FindsWithin k = (at : ℕ) (seen : Seen) → length (drop at req) ≤ k → ReadingReaches d req at seen → (v : Verdict) → judgeAt at seen ≡ bad v → Finds v
 
   found-none : (at : ℕ) (seen : Seen) → length (drop at req) ≡ 0 → (v : Verdict) → judgeAt at seen ≡ bad v → Finds v
   unfolding judge
@@ -189,7 +181,7 @@ read-fault d req v n e = go (eqb (headerFault d req) 0) refl e
     go false h f = nowhere d req v (faultOf (headerFault d req)) refl n f
 
 -- Where it stands: behind the header, within the request, at a multiple of 4.
-reaches-least : (d : Dialect) (req : List ℕ) {at : ℕ} {seen : Seen} → Reaches d req at seen → (20 ≤ at) × (at % 4 ≡ 0)
+reaches-least : (d : Dialect) (req : List ℕ) {at : ℕ} {seen : Seen} → ReadingReaches d req at seen → (20 ≤ at) × (at % 4 ≡ 0)
 unfolding padded
 reaches-least d req first = (omega arith, refl)
 reaches-least d req (pastTaken at seen r s e) = let h = reaches-least d req r in (omega (arith, h .0), omega (arith, h .1))

@@ -1,35 +1,26 @@
 -- How firm the promise is: it leaves one return for each input, and the word returned decides the answer.
-use Prim.Native.Nat.{ℕ, zero, suc, _+_, _*_, _≤_, _<_}
-use mathlib.Core.Bool.{Bool, true, false, _&&_, cond}
-use mathlib.Core.Path.{_≡_, refl, sym, _∙_}
-use mathlib.Core.Logic.{inl, inr, _≢_}
-use mathlib.Core.List.{List}
-use native.Mathlib.Omega.{arith}
-use lib.ListN.{length}
-use lib.Dec.{leb, eqb}
-use borrow.Author.Tests.{eq-eqb, ne-eqb}
+use Rattle.octets.specs.Standard.{ℕ, zero, suc, _+_, _*_, _≤_, _<_, Bool, true, false, _&&_, cond, _≡_, refl, sym, _∙_, inl, inr, _≢_, List, arith}
+use Rattle.octets.specs.Standard.{length, leb, eqb, eq-eqb, ne-eqb}
 use Rattle.record.specs.HeaderBlock.{headerOf, soundHeader}
 use Rattle.record.proofs.Sound.{header-count}
-use Rattle.blocks.specs.Blocks.{blockOf}
-use Rattle.blocks.specs.Blocks.{firstBad}
+use Rattle.blocks.specs.Blocks.{blockOf, firstBad}
 use Rattle.table.specs.Check.{soundAt, checkRecords, checkTable}
 use Rattle.blocks.specs.declared.Checked.{Checked}
 use Rattle.blocks.specs.declared.Checked.the-variants.{Sound, Bad}
 use Rattle.vectors.specs.VectorFile.{piecesOf, soundPiece, checkVectors}
 use Rattle.vectors.proofs.Pieces.{piece-near}
-use Rattle.calling.specs.Call.{Answer}
-use Rattle.calling.specs.Call.{Answered, Refused}
+use Rattle.calling.specs.Call.{Answer, Answered, Refused}
 use Rattle.calling.specs.Lent.{Lent}
 use Rattle.calling.specs.Serve.{checkValue}
 use Rattle.ndushavire.specs.Word.{word, checkWord, callWord, numberIn, moveWord}
-use Rattle.ndushavire.specs.Reads.{Reads, ReadsCheck, numberIn, placeIn, valueIn, ReadsMove}
+use Rattle.ndushavire.specs.Reads.{Reads, ReadsCheck, numberIn, ReadsMove}
 use Rattle.ndushavire.proofs.Parts.{parts}
 use Rattle.moving.specs.Outcomes.{forward, back, ForwardRefuses, BackRefuses}
 use Rattle.moving.specs.declared.Move.{Move}
 use Rattle.moving.specs.declared.Move.the-variants.{Moved}
-use Rattle.moving.specs.declared.Move.the-variants as move
 use Rattle.moving.proofs.Moving.{forward-moved, forward-refuses, back-moved, back-refuses}
 use Rattle.ndushavire.specs.Promise.{CheckPromise, CheckVectorsPromise, DecidePromise, ForwardPromise, BackPromise, VersionPromise}
+use Rattle.moving.specs.declared.Move.the-variants as move
 
 -- Any two returns that meet the promise are equal.
 pub check-unique : (table profile : List ℕ) (r s : ℕ) → CheckPromise table profile r → CheckPromise table profile s → r ≡ s

@@ -1,5 +1,5 @@
 -- Every answer fits: no request within the limits has one that is longer than the smallest buffer.
-use lib.ListN.{length}
+use Rattle.octets.specs.Standard.{length}
 use Rattle.calling.specs.Lent.{Lent, dialectIn}
 use Rattle.calling.proofs.Calls.{size-least, size-most, length-even}
 use Rattle.deciding.proofs.Room.{answer-most}

@@ -1,14 +1,6 @@
 -- Demand 2: what a call leaves alone, and that a sound table stays sound.
-use Prim.Native.Nat.{ℕ, zero, suc, _+_, _*_, _/_, _≤_, _<_}
-use mathlib.Core.List.{List, [], _∷_}
-use mathlib.Core.Option.{Option, some}
-use mathlib.Core.Bool.{Bool, true, false, _||_, true≢false, or-true}
-use mathlib.Core.Path.{_≡_, refl, sym, _∙_}
-use mathlib.Core.Logic.{_⊎_, inl, inr, _≢_}
-use native.Mathlib.Omega.{arith}
-use lib.Dec.{eqb}
-use lib.ListN.{length, getD}
-use borrow.Author.Tests.{eqb-true, eq-eqb}
+use Rattle.octets.specs.Standard.{ℕ, zero, suc, _+_, _*_, _/_, _≤_, _<_, List, [], _∷_, Option, some, Bool, true, false, _||_, true≢false, or-true}
+use Rattle.octets.specs.Standard.{_≡_, refl, sym, _∙_, _⊎_, inl, inr, _≢_, arith, eqb, length, getD, eqb-true, eq-eqb}
 use Rattle.record.specs.Sets.{sameSet}
 use Rattle.record.proofs.OneSet.{OneSet, set-says}
 use Rattle.blocks.specs.Blocks.{blockOf}

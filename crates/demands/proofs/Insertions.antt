@@ -1,15 +1,7 @@
 -- Demand 3: AVPs of unknown kinds put into a request after its first AVP. Without M nothing changes; the first with M is B5001, unless a fault before it
 -- decides.
-use Prim.Native.Nat.{ℕ, _+_, _%_, _≤_, _<_}
-use mathlib.Core.List.{List, [], _∷_, _++_, append-assoc}
-use mathlib.Core.Option.{some}
-use mathlib.Core.Bool.{Bool, true, false, not, cond, _||_, true≢false}
-use mathlib.Core.Path.{_≡_, refl, sym, ap, _∙_}
-use native.Mathlib.Omega.{arith}
-use native.Mathlib.Nat.{zero-add}
-use lib.ListN.{length, drop, length-append}
-use lib.Dec.{eqb}
-use borrow.Author.Tests.{lt-ltb}
+use Rattle.octets.specs.Standard.{ℕ, _+_, _%_, _≤_, _<_, List, [], _∷_, _++_, append-assoc, some, Bool, true, false, not, cond, _||_, true≢false, _≡_}
+use Rattle.octets.specs.Standard.{refl, sym, ap, _∙_, arith, zero-add, length, drop, length-append, eqb, lt-ltb}
 use Rattle.pen.specs.Bytes.{ifThere}
 use Rattle.diameter.specs.Avp.{padded}
 use Rattle.diameter.specs.Walk.{Walk, ended, avp, walk}
@@ -38,8 +30,8 @@ use Rattle.demands.proofs.Refusals.{refused-kept, answered-is}
 use Rattle.demands.proofs.Blaming.{fault-answered}
 use Rattle.demands.proofs.Moved.{Moved, faults, same, moved-as, moved-by, judge-amid, past-later, past-bytes, past-drop, failed-there}
 use Rattle.demands.proofs.Moved.{Row-moved, row-moved, ends-none, ends-same}
-use Rattle.demands.proofs.Messages.{message-dialect, message-length, message-drop, message-read}
-use Rattle.demands.proofs.Messages.{readBody, Fit, turned-same, refused-same, Alike, served-same}
+use Rattle.demands.proofs.Messages.{message-dialect, message-length, message-drop, message-read, readBody, Fit, turned-same, refused-same}
+use Rattle.demands.proofs.Messages.{Alike, served-same}
 
 -- what a fold that passes over those put in makes of the longer row
 inserted-same : {X : Type 0} {P : Piece → Type 0} (f : Walk → X) → ((a : List ℕ) (v w : Walk) → f v ≡ f w → f (avp a v) ≡ f (avp a w))

@@ -1,15 +1,6 @@
 -- A SAR and the same SAR without one of its Public-Identities: how each is read.
-use Prim.Native.Nat.{ℕ, _+_}
-use mathlib.Core.List.{List, [], _∷_, _++_}
-use mathlib.Core.Option.{Option, none, some}
-use mathlib.Core.Bool.{Bool, true, false, cond, not}
-use mathlib.Core.Path.{_≡_, refl, sym, ap, _∙_}
-use mathlib.Core.Logic.{_≢_}
-use native.Mathlib.Omega.{arith}
-use lib.ListN.{length, getD, set}
-use lib.Seq.{getD-set-other, set-set, set-comm}
-use lib.Dec.{eqb}
-use borrow.Author.Tests.{eqb-true, eqb-false}
+use Rattle.octets.specs.Standard.{ℕ, _+_, List, [], _∷_, _++_, Option, none, some, Bool, true, false, cond, not, _≡_, refl, sym, ap, _∙_, _≢_, arith}
+use Rattle.octets.specs.Standard.{length, getD, set, getD-set-other, set-set, set-comm, eqb, eqb-true, eqb-false}
 use Rattle.diameter.specs.Avp.{padded}
 use Rattle.diameter.specs.Walk.{Walk, ended, faulty, avp}
 use Rattle.diameter.specs.Put.{glue}

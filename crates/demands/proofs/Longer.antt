@@ -1,14 +1,6 @@
 -- Demand 3 about two requests as bytes: those put in are unmarked, or one of them is the first that is marked, and each case is a law.
-use Prim.Native.Nat.{ℕ, _+_, _%_, _≤_, _<_}
-use mathlib.Core.List.{List, [], _∷_}
-use mathlib.Core.Option.{none, some, Option·none-ne-some}
-use mathlib.Core.Bool.{Bool, true, false, cond, _||_}
-use mathlib.Core.Path.{_≡_, refl, sym, ap, _∙_, fun-ext}
-use mathlib.Core.Logic.{_⊎_, inl, inr}
-use native.Mathlib.Omega.{arith}
-use lib.ListN.{length}
-use lib.Dec.{ltb}
-use borrow.Author.Tests.{ltb-false}
+use Rattle.octets.specs.Standard.{ℕ, _+_, _%_, _≤_, _<_, List, [], _∷_, none, some, Option·none-ne-some, Bool, true, false, cond, _||_, _≡_, refl}
+use Rattle.octets.specs.Standard.{sym, ap, _∙_, fun-ext, _⊎_, inl, inr, arith, length, ltb, ltb-false}
 use Rattle.diameter.specs.Put.{Piece, avpsOf, Whole, All}
 use Rattle.reading.specs.declared.Dialect.{Dialect}
 use Rattle.requests.specs.Request.{dialectOf}
@@ -16,8 +8,8 @@ use Rattle.requests.proofs.Insert.{past}
 use Rattle.calling.specs.Lent.{Lent, asking}
 use Rattle.calling.specs.Serve.{serve}
 use Rattle.demands.specs.Call.{turnedAway}
-use Rattle.demands.specs.Insertion.{requestOf, Foreign, isMarked, Quiet, Inserted, ending, keep, put, FirstMarked, faultIn, unsupported, Longer, Mark}
-use Rattle.demands.specs.Insertion.{sizeOf, putBefore, placeNow, placed, behindRow, behind, firstMark, newer, Newer}
+use Rattle.demands.specs.Insertion.{requestOf, Foreign, isMarked, Quiet, Inserted, ending, keep, put, FirstMarked, faultIn, unsupported, Longer}
+use Rattle.demands.specs.Insertion.{Mark, sizeOf, putBefore, placeNow, placed, behindRow, behind, firstMark, newer, Newer}
 use Rattle.demands.proofs.Insertions.{none-before, unmarked-same, both-refused, marked-kept, mark-answered, fault-more}
 
 -- none is marked
@@ -27,13 +19,13 @@ record None {dialect : Dialect} {qs rs : List Piece} (i : Inserted (Foreign dial
   before : (at p : ℕ) → putBefore quiet at p ≡ putBefore i at p
 
 -- the mark that is found, with the rows around it; before an AVP in front of it stand unmarked ones alone
-record Found {dialect : Dialect} {qs rs : List Piece} (i : Inserted (Foreign dialect) qs rs) : Type 0 where
+record MarkFound {dialect : Dialect} {qs rs : List Piece} (i : Inserted (Foreign dialect) qs rs) : Type 0 where
   first : FirstMarked dialect qs rs
   is : firstMark i ≡ some (record { front = first .front; before = first .before; mark = first .mark })
   before : (at p : ℕ) → at ≤ p → p < past at (avpsOf (first .front)) → putBefore (first .quiet) at p ≡ putBefore i at p
 
 abbrev Split : {dialect : Dialect} {qs rs : List Piece} → Inserted (Foreign dialect) qs rs → Type 0
-Split {dialect} {qs} {rs} i = None i ⊎ Found i
+Split {dialect} {qs} {rs} i = None i ⊎ MarkFound i
 
 split-keep : (q : Piece) {dialect : Dialect} {qs rs : List Piece} (i : Inserted (Foreign dialect) qs rs) → Split i → Split (keep q i)
 unfolding firstMark putBefore avpsOf past
@@ -137,7 +129,7 @@ module _ (head : List ℕ) (twenty : length head ≡ 20) (q : Piece) (qs rs : Li
   now = placeNow (keep q i)
 
   -- what was put in before a place, by the row in front alone
-  found-before : (f : Found i) (p : ℕ) → 20 ≤ p → p < past 20 (avpsOf (q ∷ f .first .front))
+  found-before : (f : MarkFound i) (p : ℕ) → 20 ≤ p → p < past 20 (avpsOf (q ∷ f .first .front))
       → putBefore (keep q (f .first .quiet)) 20 p ≡ putBefore (keep q i) 20 p
   unfolding putBefore avpsOf past
   found-before f p l h = go (ltb p (20 + sizeOf q)) refl
@@ -147,7 +139,7 @@ module _ (head : List ℕ) (twenty : length head ≡ 20) (q : Piece) (qs rs : Li
       go true e = refl
       go false e = f .before (20 + sizeOf q) p (ltb-false p (20 + sizeOf q) e) h
 
-  marked-newer : (f : Found i) (y z : Bool) → turnedAway short ≡ y → faultIn (dialectOf (x .terms) head) head (q ∷ f .first .front) ≡ z
+  marked-newer : (f : MarkFound i) (y z : Bool) → turnedAway short ≡ y → faultIn (dialectOf (x .terms) head) head (q ∷ f .first .front) ≡ z
       → serve long ≡ cond (y || z) (placed now (serve short)) (unsupported long (f .first .mark) (behindRow (q ∷ f .first .before)))
   marked-newer f true z a b = both-refused head twenty q qs rs whole tail fours most x i now a
   marked-newer f false true a b =

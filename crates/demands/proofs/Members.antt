@@ -1,11 +1,6 @@
 -- A removal that names one member of a set more is decided as one that does not name it, wherever it stands among the others.
-use Prim.Native.Nat.{ℕ, _≤_}
-use mathlib.Core.List.{List, [], _∷_, _++_}
-use mathlib.Core.Bool.{Bool, true, false, cond, _&&_, _||_, and-assoc, true≢false}
-use mathlib.Core.Path.{_≡_, refl, sym, ap, _∙_}
-use lib.Dec.{eqb}
-use lib.ListN.{length}
-use borrow.Author.Tests.{eqb-true, eq-eqb}
+use Rattle.octets.specs.Standard.{ℕ, _≤_, List, [], _∷_, _++_, Bool, true, false, cond, _&&_, _||_, and-assoc, true≢false, _≡_, refl, sym, ap, _∙_}
+use Rattle.octets.specs.Standard.{eqb, length, eqb-true, eq-eqb}
 use Rattle.octets.proofs.All.{and-left, and-right}
 use Rattle.octets.proofs.Names.{same-eq}
 use Rattle.record.specs.Sets.{sameSet}
@@ -25,8 +20,8 @@ use Rattle.diameter.specs.Avp.{dataOf}
 use Rattle.choices.specs.Types.{isRemoval, carriesUser}
 use Rattle.choices.specs.Plans.{findingOf, grant, planOf}
 use Rattle.choices.specs.declared.types.AssignmentType.{AssignmentType}
-use Rattle.choices.specs.declared.types.AssignmentType.the-variants.{NoAssignment, Registration, ReRegistration, UnregisteredUser, Removal, StoringRemoval}
-use Rattle.choices.specs.declared.types.AssignmentType.the-variants.{Failure}
+use Rattle.choices.specs.declared.types.AssignmentType.the-variants.{NoAssignment, Registration, ReRegistration, UnregisteredUser, Removal}
+use Rattle.choices.specs.declared.types.AssignmentType.the-variants.{StoringRemoval, Failure}
 use Rattle.choices.specs.declared.plan.Sar.{Sar}
 use Rattle.choices.specs.declared.plan.Survey.{Survey}
 use Rattle.choices.specs.declared.plan.Finding.{Finding}

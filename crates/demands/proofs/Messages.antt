@@ -1,15 +1,7 @@
 -- A request of a header and a body: what is read out of it, and that a call looks at the header and the walk over the body alone.
-use Prim.Native.Nat.{ℕ, zero, suc, _+_, _/_, _%_, _<_, _≤_}
-use mathlib.Core.List.{List}
-use mathlib.Core.Bool.{Bool, true, false, cond}
-use mathlib.Core.Path.{_≡_, refl, sym, ap, _∙_}
-use mathlib.Core.Logic.{_≢_}
-use native.Mathlib.Omega.{arith}
-use native.Mathlib.Nat.{zero-add}
-use lib.ListN.{length, getD, set, take, drop, length-set, length-append, length-drop, List·getD-append}
-use lib.Seq.{drop-at, take-append-le, drop-append-le, drop-set-lt, getD-set-other}
-use lib.Dec.{eqb}
-use borrow.Author.Tests.{eq-eqb, ne-eqb, le-ltb}
+use Rattle.octets.specs.Standard.{ℕ, zero, suc, _+_, _/_, _%_, _<_, _≤_, List, Bool, true, false, cond, _≡_, refl, sym, ap, _∙_, _≢_, arith, zero-add}
+use Rattle.octets.specs.Standard.{length, getD, set, take, drop, length-set, length-append, length-drop, List·getD-append, drop-at, take-append-le}
+use Rattle.octets.specs.Standard.{drop-append-le, drop-set-lt, getD-set-other, eqb, eq-eqb, ne-eqb, le-ltb}
 use Rattle.octets.specs.Number.{be24At, putBe24}
 use Rattle.octets.proofs.Numbers.{be24-alike, be32-alike, field-put}
 use Rattle.diameter.specs.Walk.{Walk, walk}

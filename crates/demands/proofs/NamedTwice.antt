@@ -1,11 +1,6 @@
 -- "a removal naming two members of one set is like naming one": the call with one identity fewer.
-use Prim.Native.Nat.{ℕ, _+_, _≤_}
-use mathlib.Core.List.{List, [], _∷_, _++_, map, append-nil}
-use mathlib.Core.Bool.{Bool, true, false}
-use mathlib.Core.Option.{none}
-use mathlib.Core.Path.{_≡_, refl, sym, ap, subst, _∙_}
-use native.Mathlib.Omega.{arith}
-use lib.ListN.{length, getD, length-append}
+use Rattle.octets.specs.Standard.{ℕ, _≤_, List, [], _∷_, _++_, map, append-nil, Bool, true, false, none, _≡_, refl, sym, ap, subst, _∙_, arith}
+use Rattle.octets.specs.Standard.{length, getD, length-append}
 use Rattle.blocks.specs.declared.Checked.the-variants.{Sound}
 use Rattle.table.specs.SoundTable.{SoundTable}
 use Rattle.diameter.specs.Walk.{Walk, ended, avp, walk}
@@ -31,8 +26,8 @@ use Rattle.demands.proofs.Alike.{SameDecision, blameless-same}
 use Rattle.demands.proofs.Barring.{shares-holds, stands-found}
 use Rattle.demands.proofs.LeftOut.{beside-at, Follows, read-left, read-first, copies-left, identities-left, identities-glue}
 use Rattle.demands.proofs.Members.{assign-is, named-twice}
-use Rattle.demands.proofs.Messages.{readBody, message-length, message-command, message-body, message-read, Fit, turned-same, refused-same, Alike}
-use Rattle.demands.proofs.Messages.{answered-same}
+use Rattle.demands.proofs.Messages.{readBody, message-length, message-command, message-body, message-read, Fit, turned-same, refused-same}
+use Rattle.demands.proofs.Messages.{Alike, answered-same}
 use Rattle.demands.proofs.Refusals.{refused-placed, answer-is}
 
 -- A row of AVPs, and the same without one.

@@ -1,11 +1,6 @@
 -- The place that a call returns beside the answer's length, as theorems about `serve`, which is what the exported call is promised to return and to leave
 -- (`promised` in proofs/Demands), for anything lent. What the words below mean is in specs/Place.
-use Prim.Native.Nat.{ℕ, _+_, _≤_, _<_}
-use mathlib.Core.List.{List}
-use mathlib.Core.Bool.{true, true≢false}
-use mathlib.Core.Path.{_≡_, sym, ap, _∙_}
-use mathlib.Core.Logic.{_≢_}
-use lib.ListN.{length, drop}
+use Rattle.octets.specs.Standard.{ℕ, _+_, _≤_, _<_, List, true, true≢false, _≡_, sym, ap, _∙_, _≢_, length, drop}
 use Rattle.diameter.specs.Message.{bodyOf}
 use Rattle.reading.specs.Rules.{Seen}
 use Rattle.reading.specs.declared.Outcome.the-variants.{Base, Experimental}
@@ -22,8 +17,8 @@ use Rattle.demands.specs.Place.{OfRules, Blames, blaming}
 use Rattle.demands.proofs.Refusals.{word-reads, refused-nowhere}
 use Rattle.demands.proofs.Fitting.{fits}
 use Rattle.demands.proofs.Faults.{fault-least, fault-within, fault-number, rules-lack, rules-fail}
-use Rattle.demands.proofs.Blaming.{blames-answer, place-blamed, unblamed, blames-result, read-unblamed, fault-bytes, place-limit, base-experimental}
-use Rattle.demands.proofs.Blaming.{base-number}
+use Rattle.demands.proofs.Blaming.{blames-answer, place-blamed, unblamed, blames-result, read-unblamed, fault-bytes, place-limit}
+use Rattle.demands.proofs.Blaming.{base-experimental, base-number}
 
 module _ (x : Lent) where
   -- Out of the word that the exported call returns, bits 32 to 47, the caller reads the place.

@@ -1,30 +1,18 @@
 -- Demand 1: an answer, or exactly one of six refusals. What a refused call leaves, and what an answered one writes.
-use Prim.Native.Nat.{ℕ, _≤_, _<_}
-use mathlib.Core.List.{List}
-use mathlib.Core.Bool.{Bool, true, false, true≢false}
-use mathlib.Core.Path.{_≡_, refl, sym, ap, _∙_}
-use mathlib.Core.Logic.{_≢_}
-use native.Mathlib.Omega.{arith}
-use lib.ListN.{length, drop}
-use lib.Seq.{drop-at}
-use borrow.Author.Tests.{ltb-false}
+use Rattle.octets.specs.Standard.{ℕ, _≤_, _<_, List, Bool, true, false, true≢false, _≡_, refl, sym, ap, _∙_, _≢_, arith, length, drop, drop-at}
 use Rattle.octets.specs.Run.{over}
 use Rattle.octets.proofs.Writes.{over-length}
 use Rattle.blocks.specs.declared.Checked.{Checked}
 use Rattle.blocks.specs.declared.Checked.the-variants.{Sound, Bad}
-use Rattle.vectors.specs.VectorFile.{checkVectors, SoundVectors}
 use Rattle.diameter.specs.Put.{All}
-use Rattle.calling.specs.Call.{Answer}
-use Rattle.calling.specs.Call.{Call}
-use Rattle.calling.specs.Call.{Answered, Refused}
+use Rattle.calling.specs.Call.{Answer, Call, Answered, Refused}
 use Rattle.calling.specs.Lent.{Lent, asking, dialectIn}
-use Rattle.calling.specs.Trial.{Trial, anyHolds}
-use Rattle.calling.specs.Serve.{Served, smallBuffer, wrongSize, wrongLength, noRequest, isBad, unsound, checkOf, trials, refused}
-use Rattle.calling.specs.Serve.{answered, decision, checkValue, serveFound, serveBy, serve}
+use Rattle.calling.specs.Trial.{Trial}
+use Rattle.calling.specs.Serve.{Served, wrongSize, wrongLength, noRequest, isBad, unsound, checkOf, trials, refused, answered, decision, checkValue}
+use Rattle.calling.specs.Serve.{serveFound, serveBy, serve}
 use Rattle.ndushavire.specs.Word.{callNumber, callPlace, callValue, callWord}
 use Rattle.ndushavire.specs.Reads.{Reads}
 use Rattle.calling.proofs.Calls.{size-least, size-most}
-use Rattle.deciding.proofs.Tests.{neither}
 use Rattle.demands.specs.Call.{turnedAway, answerTo, Fits, Exactly}
 use Rattle.demands.specs.Insertion.{placed}
 use Rattle.demands.proofs.Faults.{decide-within}

@@ -1,13 +1,6 @@
 -- Which results can be: reading blames one of ten, and no other; and what the choices of a UAR and a LIR never come to.
-use Prim.Native.Nat.{ℕ, _+_, _/_, _%_}
-use mathlib.Core.List.{List, [], _∷_}
-use mathlib.Core.Option.{none}
-use mathlib.Core.Bool.{Bool, true, false, cond, not, _&&_, true≢false}
-use mathlib.Core.Path.{_≡_, refl, sym, ap, _∙_}
-use mathlib.Core.Logic.{_⊎_, inl, inr, _≢_}
-use lib.ListN.{length, getD}
-use lib.Dec.{eqb, leb}
-use borrow.Author.Tests.{eqb-false}
+use Rattle.octets.specs.Standard.{ℕ, _+_, _/_, _%_, List, [], _∷_, none, Bool, true, false, cond, not, _&&_, true≢false, _≡_, refl, sym, ap, _∙_, _⊎_}
+use Rattle.octets.specs.Standard.{inl, inr, _≢_, length, getD, eqb, leb, eqb-false}
 use Rattle.blocks.specs.Changed.{isOne}
 use Rattle.diameter.specs.Avp.{padded, avpHead, avpFlags, dataOf, valueOf, reserved, marked}
 use Rattle.diameter.specs.Message.{versionOf, messageFlags, applicationOf, bodyOf}
@@ -37,7 +30,7 @@ use Rattle.choices.specs.declared.choice.Asked.{Asked}
 use Rattle.choices.specs.declared.choice.Choice.{Choice}
 use Rattle.choices.specs.declared.choice.Choice.the-variants.{Alone, Server, Capabilities, First}
 use Rattle.choices.specs.declared.choice.Sought.{Sought}
-use Rattle.decisions.specs.Carried.{servedBy, carried}
+use Rattle.questions.specs.Carried.{servedBy, carried}
 use Rattle.fitting.proofs.Tests.{either}
 
 -- the header's four, (b) and what is missing, and those of (a) and (c) to (h)

@@ -1,11 +1,6 @@
 -- 02 [6], "Registering one registers the set, and the barring rule was wrong.", sentence by sentence: the statements alone, each by the law that has its
 -- proof. What the words below mean is in specs/Sets; what the rules were before is in older_rules/specs/WithoutSets.
-use Prim.Native.Nat.{ℕ, _<_, _≤_}
-use mathlib.Core.Bool.{true, false, true≢false}
-use mathlib.Core.Path.{_≡_, sym, _∙_}
-use mathlib.Core.Logic.{_⊎_, _≢_, _↔_}
-use mathlib.Core.List.{List, _++_}
-use lib.ListN.{length, getD}
+use Rattle.octets.specs.Standard.{ℕ, _<_, _≤_, true, false, true≢false, _≡_, sym, _∙_, _⊎_, _≢_, _↔_, List, _++_, length, getD}
 use Rattle.record.specs.Fields.{editionOf, bitsOf, barred}
 use Rattle.record.specs.Sets.{sameSet}
 use Rattle.blocks.specs.Blocks.{blockOf}
@@ -27,11 +22,11 @@ use Rattle.ndushavire.specs.Reads.{ReadsCheck}
 use Rattle.ndushavire.specs.Promise.{CheckPromise}
 use Rattle.older_rules.specs.Rules.{serveBy}
 use Rattle.older_rules.specs.WithoutSets.{NoSets, beforeSets}
-use Rattle.older_rules.proofs.Sets as older
 use Rattle.demands.specs.Sets.{Shares, Agrees, Disagrees, Stands, Belongs, Barred, Removes, OneFewer, Member}
-use Rattle.demands.proofs.Barring as barring
 use Rattle.demands.proofs.Blaming.{base-experimental}
 use Rattle.demands.proofs.Demands.{checked, demand-1-block}
+use Rattle.older_rules.proofs.Sets as older
+use Rattle.demands.proofs.Barring as barring
 use Rattle.demands.proofs.Disagreeing as disagreeing
 use Rattle.demands.proofs.NamedTwice as named
 use Rattle.demands.proofs.Together as together

@@ -1,45 +1,31 @@
 -- Sets, over whole calls: the members of a set are altered together or not at all.
-use Prim.Native.Nat.{ℕ, _≤_}
-use mathlib.Core.List.{List, [], _∷_}
-use mathlib.Core.Bool.{true}
-use mathlib.Core.Path.{_≡_, refl, sym, ap, _∙_}
-use lib.ListN.{length, length-take, length-drop}
-use native.Mathlib.Omega.{arith}
+use Rattle.octets.specs.Standard.{ℕ, _≤_, List, [], _∷_, true, _≡_, refl, sym, ap, _∙_, length}
 use Rattle.octets.proofs.Numbers.{Bytes}
 use Rattle.record.specs.Sets.{sameSet}
 use Rattle.blocks.specs.Blocks.{blockOf}
 use Rattle.table.specs.SoundTable.{SoundTable}
 use Rattle.blocks.specs.declared.Checked.the-variants.{Sound}
-use Rattle.blocks.proofs.Blocks.{block-length}
-use Rattle.table.proofs.Sound.{sound-block, sound-limits}
-use Rattle.lookup.specs.Find.{findPublic}
-use Rattle.lookup.specs.declared.Found.the-variants.{At}
-use Rattle.rewrite.specs.Change.{afterOf, reaches, differ}
-use Rattle.rewrite.specs.Renew.{settled, changeOf}
+use Rattle.rewrite.specs.Change.{differ}
+use Rattle.rewrite.specs.Renew.{changeOf}
 use Rattle.rewrite.specs.declared.Change.the-variants.{Settled, Challenged}
-use Rattle.rewrite.proofs.Reaching.{named-twice-after}
 use Rattle.rewrite.proofs.Together.{altered-together}
 use Rattle.rewrite.proofs.Writes.{differ-same}
-use Rattle.diameter.specs.Avp.{dataOf}
 use Rattle.reading.specs.Kinds.{serverName}
 use Rattle.reading.specs.Rules.{Seen}
 use Rattle.reading.specs.declared.Dialect.{Dialect}
 use Rattle.requests.specs.Judged.{Judged, bad, fine}
 use Rattle.requests.specs.Request.{readIn, dataSeen}
-use Rattle.choices.specs.Types.{isRemoval}
 use Rattle.choices.specs.declared.types.AssignmentType.{AssignmentType}
 use Rattle.choices.specs.declared.plan.Sar.{Sar}
 use Rattle.choices.specs.declared.plan.Settling.{Settling}
 use Rattle.choices.specs.declared.plan.Deed.{Deed}
 use Rattle.choices.specs.declared.plan.Deed.the-variants.{Leave, Settle, Challenge}
-use Rattle.assignment.specs.Assignment.{Assignment, meantBy, every, findAll, numbersOf, ownedUpTo, ownAt, storesAt, fitsAt, rightAt, surveyOf, namedSurvey, assignMeant, assign, storedName, plannedRecords}
-use Rattle.assignment.specs.declared.Meant.the-variants.{Listed}
-use Rattle.deciding.specs.Plans.{assignmentOf, sarPlan, planRead}
+use Rattle.assignment.specs.Assignment.{Assignment, storedName, plannedRecords}
+use Rattle.deciding.specs.Plans.{assignmentOf, planRead}
 use Rattle.deciding.specs.Rules.{inForce}
 use Rattle.deciding.specs.Decide.{performedBy, judgedBy, decideBy, decide}
-use Rattle.deciding.specs.Deeds.{settledBy, carriedOut, DeedFits}
+use Rattle.deciding.specs.Deeds.{carriedOut, DeedFits}
 use Rattle.deciding.proofs.Deeds.{plan-fits}
-use Rattle.assignment.proofs.Members.{own-same, stores-same, fits-same, right-same}
 use Rattle.calling.specs.Lent.{Lent, dialectIn}
 use Rattle.calling.specs.Serve.{checkOf, checkValue, refused, answered, serve}
 use Rattle.calling.proofs.Kept.{serve-by}

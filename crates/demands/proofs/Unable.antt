@@ -1,12 +1,6 @@
 -- B5012: no UAR and no LIR comes to it, under the rules in force or, over a sound table, under those that had the branch; so it is a SAR's or a MAR's.
-use Prim.Native.Nat.{ℕ}
-use mathlib.Core.List.{List}
-use mathlib.Core.Bool.{Bool, true, false, cond, true≢false}
-use mathlib.Core.Path.{_≡_, refl, sym, ap, _∙_}
-use mathlib.Core.Logic.{_⊎_, inl, inr, _≢_}
-use native.Mathlib.Omega.{arith}
-use lib.Dec.{eqb}
-use borrow.Author.Tests.{eqb-true, eqb-false}
+use Rattle.octets.specs.Standard.{ℕ, List, Bool, true, false, cond, true≢false, _≡_, refl, sym, ap, _∙_, _⊎_, inl, inr, _≢_, arith, eqb, eqb-true}
+use Rattle.octets.specs.Standard.{eqb-false}
 use Rattle.blocks.specs.Changed.{isOne}
 use Rattle.blocks.specs.declared.Checked.the-variants.{Sound}
 use Rattle.diameter.specs.Message.{commandOf}
@@ -15,8 +9,8 @@ use Rattle.reading.specs.declared.Outcome.the-variants.{Base}
 use Rattle.requests.specs.Judged.{Judged, bad, fine}
 use Rattle.requests.specs.Request.{readRequest}
 use Rattle.choices.specs.declared.plan.Plan.{Plan}
-use Rattle.decisions.specs.Authorization.{authorizeFound, authorize}
-use Rattle.decisions.specs.Location.{locateFound, locate}
+use Rattle.questions.specs.Authorization.{authorizeFound, authorize}
+use Rattle.questions.specs.Location.{locateFound, locate}
 use Rattle.fitting.specs.Decide.{Decision, uarPlan, sarPlan, lirPlan, marPlan, planRead, performed, decideJudged, decide}
 use Rattle.calling.specs.Lent.{Lent}
 use Rattle.calling.specs.Serve.{checkOf}

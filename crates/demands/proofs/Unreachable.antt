@@ -1,9 +1,6 @@
 -- 02 [7], "A branch nobody can reach.", sentence by sentence: the statements alone, each by the law that has its proof. The branch as it was stands in
 -- older_rules/proofs/Unreachable, and nowhere else.
-use Prim.Native.Nat.{ℕ, _<_, _≤_}
-use mathlib.Core.Path.{_≡_}
-use mathlib.Core.Logic.{_⊎_, _≢_}
-use mathlib.Core.List.{List}
+use Rattle.octets.specs.Standard.{ℕ, _<_, _≤_, _≡_, _⊎_, _≢_, List}
 use Rattle.record.specs.Fields.{stateOf, serverSize}
 use Rattle.blocks.specs.Blocks.{blockOf}
 use Rattle.blocks.specs.declared.Checked.the-variants.{Sound}

@@ -33,12 +33,12 @@ behindAt req at = at + padded (length (avpAt req at))
 
 -- Reading comes to a place of the request with no fault before it: to the first AVP's, behind the header's 20 bytes; and behind each AVP that passes (a) and
 -- that (c) to (h) take or skip. `seen` are those that were taken.
-pub data Reaches (d : Dialect) (req : List ℕ) : ℕ → Seen → Type 0 where
-  first : Reaches d req 20 nothing
-  pastTaken : (at : ℕ) (seen : Seen) → Reaches d req at seen → sound (drop at req) ≡ true → rule d seen (avpAt req at) ≡ Taken
-      → Reaches d req (behindAt req at) (set seen (kindOf (avpAt req at)) (some (avpAt req at)))
-  pastSkipped : (at : ℕ) (seen : Seen) → Reaches d req at seen → sound (drop at req) ≡ true → rule d seen (avpAt req at) ≡ Skipped
-      → Reaches d req (behindAt req at) seen
+pub data ReadingReaches (d : Dialect) (req : List ℕ) : ℕ → Seen → Type 0 where
+  first : ReadingReaches d req 20 nothing
+  pastTaken : (at : ℕ) (seen : Seen) → ReadingReaches d req at seen → sound (drop at req) ≡ true → rule d seen (avpAt req at) ≡ Taken
+      → ReadingReaches d req (behindAt req at) (set seen (kindOf (avpAt req at)) (some (avpAt req at)))
+  pastSkipped : (at : ℕ) (seen : Seen) → ReadingReaches d req at seen → sound (drop at req) ≡ true → rule d seen (avpAt req at) ≡ Skipped
+      → ReadingReaches d req (behindAt req at) seen
 
 -- The AVP at a place is at fault, with a result: by (a), also "too few bytes left for the header"; or else by (c), (d), (f), (g) or (h).
 pub data Breaks (d : Dialect) (req : List ℕ) (seen : Seen) (at : ℕ) : ℕ → Type 0 where
@@ -54,7 +54,7 @@ pub record AtFault (d : Dialect) (req : List ℕ) (n place : ℕ) : Type 0 where
   pub header : headerFault d req ≡ 0
   pub session : firstOther (bodyOf req) ≡ false
   pub seen : Seen
-  pub reached : Reaches d req place seen
+  pub reached : ReadingReaches d req place seen
   pub breaks : Breaks d req seen place n
 
 -- a call that is not refused, of a request in which the AVP at a place is at fault

@@ -1,14 +1,7 @@
 -- The faulty AVP of a request: its own bytes, or its header alone.
-use Prim.Native.Nat.{ℕ, _+_, _-_, _*_, _/_, _%_, _≤_, _<_, min}
-use mathlib.Core.Path.{_≡_, refl, sym, ap, _∙_}
-use mathlib.Core.Bool.{Bool, true, false, cond}
-use mathlib.Core.List.{List, [], _∷_}
-use native.Mathlib.Omega.{arith}
-use native.Mathlib.Nat.{add-sub-cancel-left}
-use lib.Dec.{leb}
-use lib.ListN.{length, getD, take, drop, set, length-take, length-drop, length-set, drop-of-length-le}
-use lib.Seq.{take-nil, getD-drop}
-use borrow.Author.Tests.{leb-true, le-leb, lt-leb, eq-eqb, ne-eqb}
+use Rattle.octets.specs.Standard.{ℕ, _+_, _-_, _*_, _/_, _%_, _≤_, _<_, min, _≡_, refl, sym, ap, _∙_, Bool, true, false, cond, List, [], _∷_, arith}
+use Rattle.octets.specs.Standard.{add-sub-cancel-left, leb, length, getD, take, drop, set, length-take, length-drop, length-set, drop-of-length-le}
+use Rattle.octets.specs.Standard.{take-nil, getD-drop, leb-true, le-leb, lt-leb, eq-eqb, ne-eqb}
 use Rattle.octets.specs.Number.{be24At, putBe24}
 use Rattle.octets.specs.Run.{over, Wrote}
 use Rattle.octets.proofs.Writes.{named, over-length}

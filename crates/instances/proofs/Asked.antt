@@ -1,11 +1,5 @@
 -- What the instances are of: a table of two subscriptions, a file of two vectors, a SAR and a MAR as rows of AVPs, and what is put into them.
-use Prim.Native.Nat.{ℕ, _+_}
-use mathlib.Core.Path.{_≡_}
-use mathlib.Core.List.{List, [], _∷_, _++_}
-use mathlib.Core.Bool.{Bool, true, _&&_}
-use lib.ListN.{length}
-use lib.Dec.{eqb}
-use borrow.Author.Tests.{eqb-true}
+use Rattle.octets.specs.Standard.{ℕ, _+_, _≡_, List, [], _∷_, _++_, Bool, true, _&&_, length, eqb, eqb-true}
 use Rattle.octets.proofs.All.{and-left, and-right}
 use Rattle.octets.specs.Run.{over}
 use Rattle.diameter.specs.Avp.{padded, avpLen, sound}

@@ -1,12 +1,5 @@
 -- Demands 2 and 3 over the vectors: their hypotheses can be met by a MAR, computed.
-use Prim.Native.Nat.{ℕ}
-use mathlib.Core.Path.{_≡_, refl, ap, _∙_}
-use mathlib.Core.List.{List, [], _∷_, _++_}
-use mathlib.Core.Bool.{false}
-use mathlib.Core.Option.{Option·some-injective}
-use native.Mathlib.Omega.{arith}
-use lib.ListN.{getD}
-use lib.Dec.{lit≤, lit<}
+use Rattle.octets.specs.Standard.{ℕ, _≡_, refl, ap, _∙_, List, [], _∷_, _++_, false, Option·some-injective, arith, getD, lit≤, lit<}
 use Rattle.blocks.specs.Blocks.{blockOf}
 use Rattle.blocks.specs.declared.Checked.the-variants.{Sound}
 use Rattle.table.specs.Check.{checkTable}
@@ -19,8 +12,8 @@ use Rattle.worked_examples.proofs.Sample.{header, subscriber, person, vector, r
 use Rattle.requests.specs.Request.{dialectOf, underCx}
 use Rattle.demands.specs.Call.{turnedAway}
 use Rattle.demands.specs.Insertion.{requestOf, Foreign, Quiet, Inserted, ending, keep, put, placeNow, placed, FirstMarked, Longer, firstMark}
-use Rattle.demands.proofs.Demands.{demand-2, demand-2-failure, demand-2-others, demand-2-bytes, demand-2-sound, demand-2-vectors, demand-3, demand-3-unmarked}
-use Rattle.demands.proofs.Demands.{demand-3-vectors, demand-3-marked}
+use Rattle.demands.proofs.Demands.{demand-2, demand-2-failure, demand-2-others, demand-2-bytes, demand-2-sound, demand-2-vectors, demand-3}
+use Rattle.demands.proofs.Demands.{demand-3-unmarked, demand-3-vectors, demand-3-marked}
 use Rattle.instances.proofs.Asked.{table, vectors, marHead, session, application, common, sar, marOwn, marRest, mar, carded, comesTo, plain}
 use Rattle.instances.proofs.Asked.{loud, all, isWhole, allWhole, all-whole, kept}
 use Rattle.instances.proofs.Calls.{sound-table, sound-vectors}

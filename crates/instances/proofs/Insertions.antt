@@ -1,10 +1,5 @@
 -- Demand 3: its hypotheses can be met by a SAR and what is put into it, computed.
-use Prim.Native.Nat.{ℕ}
-use mathlib.Core.Path.{_≡_, refl, ap, _∙_}
-use mathlib.Core.List.{List, [], _∷_, _++_}
-use mathlib.Core.Option.{Option, none}
-use mathlib.Core.Logic.{_⊎_}
-use lib.Dec.{lit≤}
+use Rattle.octets.specs.Standard.{ℕ, _≡_, refl, ap, _∙_, List, [], _∷_, _++_, Option, none, _⊎_, lit≤}
 use Rattle.octets.proofs.Numbers.{allBytes, are-bytes}
 use Rattle.diameter.specs.Put.{Piece}
 use Rattle.pen.specs.Bytes.{wordBytes, headBytes, vendorHead, numberBytes}
@@ -14,11 +9,11 @@ use Rattle.calling.specs.Serve.{Served, serve}
 use Rattle.worked_examples.proofs.Computed.{come, held, roomy, no-vectors}
 use Rattle.worked_examples.proofs.Sample.{room, answer, s}
 use Rattle.requests.specs.Request.{dialectOf, underCx}
-use Rattle.demands.specs.Insertion.{requestOf, Foreign, Quiet, Inserted, ending, keep, put, putBefore, placeNow, placed, FirstMarked, Cut, Longer, Mark}
-use Rattle.demands.specs.Insertion.{firstMark, newer}
+use Rattle.demands.specs.Insertion.{requestOf, Foreign, Quiet, Inserted, ending, keep, put, putBefore, placeNow, placed, FirstMarked, Cut, Longer}
+use Rattle.demands.specs.Insertion.{Mark, firstMark, newer}
 use Rattle.demands.proofs.Demands.{demand-3, demand-3-unmarked, demand-3-table, demand-3-marked, demand-3-fault, demand-3-cases, demand-3-any}
-use Rattle.instances.proofs.Asked.{table, removed, vendor, head, session, application, common, own, rest, sar, asked, comesTo, comes, blamed, plain}
-use Rattle.instances.proofs.Asked.{zeroVendor, loud, all, isWhole, allWhole, all-whole, kept}
+use Rattle.instances.proofs.Asked.{table, removed, vendor, head, session, application, common, own, rest, sar, asked, comesTo, comes, blamed}
+use Rattle.instances.proofs.Asked.{plain, zeroVendor, loud, all, isWhole, allWhole, all-whole, kept}
 use Rattle.instances.proofs.Calls.{sound-table, removal}
 
 foreign-plain : Foreign (dialectOf underCx head) plain

@@ -1,9 +1,5 @@
 -- "a removal naming two members of one set is like naming one" can be met: `a` and `c` share a set, `b` between them has none, and a removal names all three.
-use Prim.Native.Nat.{ℕ, _≤_}
-use mathlib.Core.Path.{_≡_, refl, _∙_}
-use mathlib.Core.List.{List, [], _∷_, _++_}
-use lib.ListN.{length}
-use lib.Dec.{lit≤, lit<}
+use Rattle.octets.specs.Standard.{ℕ, _≤_, _≡_, refl, _∙_, List, [], _∷_, _++_, length, lit≤, lit<}
 use Rattle.blocks.specs.declared.Checked.the-variants.{Sound}
 use Rattle.table.specs.Check.{checkTable}
 use Rattle.diameter.specs.Put.{Piece, bytesOf}
@@ -16,10 +12,10 @@ use Rattle.calling.specs.Serve.{serve}
 use Rattle.demands.specs.Insertion.{message}
 use Rattle.demands.specs.Sets.{Removes, OneFewer, Member}
 use Rattle.demands.proofs.Sets.{like-naming-one}
-use Rattle.sets_example.proofs.Family as family
 use Rattle.worked_examples.proofs.Computed.{come, roomy, no-vectors}
 use Rattle.worked_examples.proofs.Sample.{room, answer, s}
 use Rattle.instances.proofs.Asked.{vendor, head, session, application, common, comes, all, isWhole, allWhole, all-whole}
+use Rattle.sets_example.proofs.Family as family
 
 -- the three lines in a state, at a server
 unfoldable lines : ℕ → List ℕ → List ℕ

@@ -1,10 +1,5 @@
 -- The place: the hypotheses of its theorems can be met, by SARs over a table of no record, computed.
-use Prim.Native.Nat.{ℕ, _≤_, _<_}
-use mathlib.Core.Path.{_≡_, refl, sym, ap}
-use mathlib.Core.Bool.{false}
-use mathlib.Core.List.{List, [], _∷_, _++_, map}
-use native.Mathlib.Omega.{arith}
-use lib.ListN.{length, take, set}
+use Rattle.octets.specs.Standard.{ℕ, _≤_, _<_, _≡_, refl, sym, ap, false, List, [], _∷_, _++_, map, arith, length, take, set}
 use Rattle.diameter.specs.Put.{Piece}
 use Rattle.pen.specs.Bytes.{wordBytes, vendorHead, numberBytes}
 use Rattle.pen.specs.Groups.{failed}
@@ -20,8 +15,8 @@ use Rattle.worked_examples.proofs.Sample.{header, room, answer, s}
 use Rattle.demands.specs.Insertion.{requestOf}
 use Rattle.demands.specs.Place.{first, pastTaken, ruleFault, OfRules, AtFault, Blames}
 use Rattle.demands.proofs.Place.{place-word, place-answer, place-is, place-blames, place-least, place-within, place-bytes, place-there, place-result}
-use Rattle.demands.proofs.Place.{place-none, place-refused}
-use Rattle.demands.proofs.Place.{place-header, place-first, place-decided, place-missing, place-experimental, place-success, place-most}
+use Rattle.demands.proofs.Place.{place-none, place-refused, place-header, place-first, place-decided, place-missing, place-experimental}
+use Rattle.demands.proofs.Place.{place-success, place-most}
 use Rattle.instances.proofs.Calls.{sound-empty}
 use Rattle.instances.proofs.Asked.{base, vendor, head, session, application, common, own, rest, sar, asked, comesTo, loud, all}
 

@@ -1,18 +1,11 @@
 -- The laws of the vector file can be met: two MARs in a row, each for two vectors, over a file of three of their name, computed. They send two and one.
-use Prim.Native.Nat.{ℕ, _<_}
-use mathlib.Core.Path.{_≡_, refl, sym, ap, _∙_}
-use mathlib.Core.List.{List, [], _∷_, _++_}
-use mathlib.Core.Bool.{true, false, cond}
-use mathlib.Core.Logic.{_≢_}
-use native.Mathlib.Omega.{arith}
-use lib.ListN.{length, getD}
-use lib.Dec.{lit<}
+use Rattle.octets.specs.Standard.{ℕ, _<_, _≡_, refl, sym, ap, _∙_, List, [], _∷_, _++_, true, false, cond, _≢_, arith, length, getD, lit<}
 use Rattle.octets.specs.Run.{over}
 use Rattle.blocks.specs.Blocks.{blockOf}
 use Rattle.blocks.specs.declared.Checked.{Checked}
 use Rattle.blocks.specs.declared.Checked.the-variants.{Sound}
 use Rattle.table.specs.Check.{checkTable}
-use Rattle.vectors.specs.Chosen.{howMany, sentOf}
+use Rattle.vectors.specs.Chosen.{countFrom, sentOf}
 use Rattle.vectors.specs.VectorFile.{checkVectors}
 use Rattle.blocks.specs.Changed.{isOne}
 use Rattle.pen.specs.Bytes.{vendorNumber}
@@ -27,8 +20,8 @@ use Rattle.ndushavire.specs.Word.{callPlace}
 use Rattle.vectors_sent.specs.Sent.{sentBy, Challenges, usedAt, remaining, itemsFrom, saidOf, answerWith}
 use Rattle.vectors_sent.specs.Row.{Turn, lending, leftBy, sentOver, Once}
 use Rattle.vectors_sent.proofs.Sending.{refusal-leaves, command-leaves, failure-leaves, only-success, others-stay, unsent-stay, sent-mark, sent-bytes}
-use Rattle.vectors_sent.proofs.Sending.{sent-number, sent-some, sent-first, answer-sends, success-place, success-says, sent-once, sent-over, sent-before}
-use Rattle.vectors_sent.proofs.Sending.{sent-after, sent-never}
+use Rattle.vectors_sent.proofs.Sending.{sent-number, sent-some, sent-first, answer-sends, success-place, success-says, sent-once, sent-over}
+use Rattle.vectors_sent.proofs.Sending.{sent-before, sent-after, sent-never}
 use Rattle.worked_examples.proofs.Computed.{knownTrials, come, held, roomy, unregistered-sound}
 use Rattle.worked_examples.proofs.Sample.{vector, room, request, authentication, item, challenges, one, waiting, s, opened}
 
@@ -68,7 +61,7 @@ comes vectors bytes = record { call = Answered (record { length = length bytes; 
 
 -- all that the instances open
 all : ℕ
-unfolding opened unused fewer used turn comes anyHolds sentBy remaining howMany
+unfolding opened unused fewer used turn comes anyHolds sentBy remaining countFrom
 all = 0
 
 -- the answers, with the number sent in 607, the table and the vectors afterwards; and the blocks that are sent

@@ -1,12 +1,5 @@
 -- What a moved block keeps: the bytes between those that a move may write, and so the numbers there; and that it is as sound as it was.
-use Prim.Native.Nat.{ℕ, _+_, _*_}
-use mathlib.Core.Bool.{true, _||_}
-use mathlib.Core.Path.{_≡_, refl, _∙_}
-use mathlib.Core.List.{List, [], _∷_}
-use native.Mathlib.Omega.{arith}
-use lib.Dec.{eqb}
-use lib.ListN.{getD}
-use borrow.Author.Tests.{eq-eqb}
+use Rattle.octets.specs.Standard.{ℕ, _+_, _*_, true, _||_, _≡_, refl, _∙_, List, [], _∷_, arith, eqb, getD, eq-eqb}
 use Rattle.octets.specs.Run.{zeroBetween}
 use Rattle.octets.specs.Sum.{sumWords}
 use Rattle.octets.proofs.Chains.{chain-says, _also_}

@@ -1,12 +1,6 @@
 -- A table that was moved, by its blocks: what it keeps, that it is as sound as it was, and there and back.
-use Prim.Native.Nat.{ℕ, suc, _+_, _-_, _*_, _^_, _<_, _≤_}
-use mathlib.Core.Bool.{Bool, true, false, _&&_, _||_}
-use mathlib.Core.Path.{_≡_, refl, sym, _∙_, ap}
-use mathlib.Core.List.{List, [], _∷_}
-use native.Mathlib.Omega.{arith}
-use lib.Dec.{eqb, leb}
-use lib.ListN.{length}
-use borrow.Author.Tests.{eqb-true, leb-true, leb-false}
+use Rattle.octets.specs.Standard.{ℕ, suc, _+_, _*_, _^_, _<_, _≤_, Bool, true, false, _&&_, _||_, _≡_, refl, sym, _∙_, ap, List, [], _∷_, arith, eqb}
+use Rattle.octets.specs.Standard.{leb, length, eqb-true, leb-true, leb-false}
 use Rattle.octets.specs.Sum.{sumWords}
 use Rattle.octets.proofs.Chains.{chain-says}
 use Rattle.octets.proofs.Numbers.{Bytes}

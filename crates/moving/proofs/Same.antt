@@ -1,8 +1,5 @@
 -- A sound block that is moved to the edition and the issue number that it has is as it was: its check word follows from its bytes.
-use Prim.Native.Nat.{ℕ}
-use mathlib.Core.Path.{_≡_, _∙_, ap}
-use mathlib.Core.List.{List}
-use lib.Seq.{set-getD}
+use Rattle.octets.specs.Standard.{ℕ, _≡_, _∙_, ap, List, set-getD}
 use Rattle.octets.specs.Sum.{sumWords}
 use Rattle.octets.proofs.Numbers.{Bytes, word-held}
 use Rattle.record.specs.Fields.{editionOf, issueOf}

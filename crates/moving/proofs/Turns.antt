@@ -1,16 +1,8 @@
 -- What the functions that write leave: a block, a block of a table, and the turns of the loop over all of them; the first record with a set.
-use Prim.Native.Nat.{ℕ, suc, _+_, _-_, _*_, _<_, _≤_}
-use mathlib.Core.Bool.{Bool, true}
-use mathlib.Core.Path.{_≡_, sym, _∙_, ap}
-use mathlib.Core.List.{List}
-use native.Mathlib.Omega.{arith}
-use native.Mathlib.Nat.{add-sub-cancel}
-use lib.Dec.{eqb}
-use lib.ListN.{length, set, length-set}
-use borrow.Rule.Slice.PartMut.{midOf, putMid}
+use Rattle.octets.specs.Standard.{ℕ, suc, _+_, _-_, _*_, _<_, _≤_, Bool, true, _≡_, sym, _∙_, ap, List, arith, add-sub-cancel, eqb, length, set}
+use Rattle.octets.specs.Standard.{length-set, midOf, putMid}
 use Rattle.octets.specs.Number.{be16At, putBe32}
-use Rattle.blocks.specs.Blocks.{blockOf}
-use Rattle.blocks.specs.Blocks.{firstBad}
+use Rattle.blocks.specs.Blocks.{blockOf, firstBad}
 use Rattle.blocks.specs.Sealed.{sealed}
 use Rattle.blocks.specs.Changed.{changedAll, changedIn}
 use Rattle.blocks.proofs.Sealed.{sealed-length}

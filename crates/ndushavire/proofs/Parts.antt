@@ -1,7 +1,5 @@
 -- What is put into a word is read out of it: the number, the place, the value.
-use Prim.Native.Nat.{ℕ, _+_, _*_, _/_, _<_}
-use mathlib.Core.Path.{_≡_}
-use native.Mathlib.Omega.{arith}
+use Rattle.octets.specs.Standard.{ℕ, _+_, _*_, _/_, _<_, _≡_, arith}
 use Rattle.ndushavire.specs.Word.{word, numberIn, placeIn, valueIn}
 
 pub record Parts (number place value : ℕ) : Type 0 where

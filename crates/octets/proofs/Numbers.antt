@@ -1,17 +1,9 @@
 -- Laws of numbers in bytes: in a part of a list, past a store, and read back.
-use Prim.Native.Nat.{ℕ, zero, suc, _+_, _*_, _/_, _%_, _^_, _<_, _≤_}
-use mathlib.Core.Bool.{Bool, true, _&&_}
-use mathlib.Core.Path.{_≡_, refl, sym, ap, _∙_}
-use mathlib.Core.List.{List, [], _∷_}
-use native.Mathlib.Omega.{arith}
-use native.Mathlib.Nat.{mod-eq-of-lt, add-assoc, add-zero, zero-add}
+use Rattle.octets.specs.Standard.{ℕ, zero, suc, _+_, _*_, _/_, _%_, _^_, _<_, _≤_, Bool, true, _&&_, _≡_, refl, sym, ap, _∙_, List, [], _∷_}
+use Rattle.octets.specs.Standard.{arith, mod-eq-of-lt, add-assoc, add-zero, zero-add, ltb, shr-shr, length, getD, set, take, drop}
+use Rattle.octets.specs.Standard.{getD-set-other, getD-drop, getD-take, set-getD, ltb-true}
 use mir.Syntax.{w8}
 use mir.Val.{Fits}
-use lib.Dec.{ltb}
-use lib.Pow.{shr-shr}
-use lib.ListN.{length, getD, set, take, drop}
-use lib.Seq.{getD-set-other, getD-drop, getD-take, set-getD}
-use borrow.Author.Tests.{ltb-true}
 use Rattle.octets.specs.Number.{four, be16At, be24At, be32At, be64At, putBe24, putBe32}
 use Rattle.octets.specs.Run.{putName}
 use Rattle.octets.proofs.All.{and-left, and-right}

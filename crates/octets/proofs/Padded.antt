@@ -1,12 +1,6 @@
 -- Two names that stand in fields of one length, with zeros past them: the fields' order tells theirs, and where the fields are the same their lengths do.
-use Prim.Native.Nat.{ℕ, zero, suc, _≤_}
-use mathlib.Core.Bool.{Bool, true, false, cond}
-use mathlib.Core.Path.{_≡_, refl}
-use mathlib.Core.List.{List, [], _∷_}
-use native.Mathlib.Omega.{arith}
-use lib.Dec.{ltb}
-use lib.ListN.{length, getD, take}
-use borrow.Author.Tests.{lt-ltb, le-ltb, ltb-true, ltb-false}
+use Rattle.octets.specs.Standard.{ℕ, zero, suc, _≤_, Bool, true, false, cond, _≡_, refl, List, [], _∷_, arith, ltb, length, getD, take, lt-ltb}
+use Rattle.octets.specs.Standard.{le-ltb, ltb-true, ltb-false}
 use Rattle.octets.proofs.Names.{never}
 use Rattle.octets.specs.Name.{orderOf, byLength}
 use Rattle.octets.specs.declared.name.Order.{Order}

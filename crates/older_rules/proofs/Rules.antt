@@ -1,7 +1,5 @@
 -- Rules that check a table alike, and decide alike over a sound one, are one call.
-use Prim.Native.Nat.{ℕ}
-use mathlib.Core.Path.{_≡_, refl}
-use lib.ListN.{length}
+use Rattle.octets.specs.Standard.{ℕ, _≡_, refl, length}
 use Rattle.blocks.specs.declared.Checked.{Checked}
 use Rattle.blocks.specs.declared.Checked.the-variants.{Sound, Bad}
 use Rattle.reading.specs.Rules.{Seen}

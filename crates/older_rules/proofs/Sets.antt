@@ -1,12 +1,6 @@
 -- Sets (02 [6]), as theorems about `serve`, the check and the decisions. What the rules were before them is in specs/WithoutSets.
-use Prim.Native.Nat.{ℕ, _*_, _<_, _≤_}
-use mathlib.Core.Bool.{Bool, true, false, not, _&&_, _||_, true≢false}
-use mathlib.Core.Path.{_≡_, refl, sym, _∙_, ap}
-use mathlib.Core.List.{List}
-use native.Mathlib.Omega.{arith}
-use lib.Dec.{eqb, leb}
-use lib.ListN.{length, drop-of-length-le, length-take, length-drop}
-use borrow.Author.Tests.{eqb-true, leb-true, leb-false}
+use Rattle.octets.specs.Standard.{ℕ, _*_, _<_, _≤_, Bool, true, false, not, _&&_, _||_, true≢false, _≡_, refl, sym, _∙_, List, arith, eqb, leb}
+use Rattle.octets.specs.Standard.{length, drop-of-length-le, eqb-true, leb-true, leb-false}
 use Rattle.octets.specs.Number.{be16At}
 use Rattle.octets.proofs.All.{and-left, and-right}
 use Rattle.record.specs.Fields.{editionOf, setOf, bitsOf, barred}
@@ -22,18 +16,18 @@ use Rattle.lookup.specs.declared.Found.{Found}
 use Rattle.lookup.specs.declared.Found.the-variants.{At, Nothing}
 use Rattle.lookup.proofs.First.{first-none, first-fails}
 use Rattle.rewrite.proofs.Reaching.{header-set}
-use Rattle.rewrite.proofs.Together as members
 use Rattle.moving.proofs.Moved.{each-edition}
 use Rattle.choices.specs.declared.types.AssignmentType.{AssignmentType}
 use Rattle.assignment.specs.Assignment.{storesAt, fitsAt, rightAt}
 use Rattle.deciding.specs.Rules.{inForce}
-use Rattle.assignment.proofs.Members as asked
 use Rattle.calling.specs.Lent.{Lent, dialectIn}
 use Rattle.calling.specs.Serve.{checkOf, serveBy, serve}
 use Rattle.calling.proofs.Kept.{table-checked}
 use Rattle.older_rules.specs.WithoutSets.{NoSets, beforeSets}
 use Rattle.older_rules.proofs.Rules.{rules-same, decided-same}
 use Rattle.older_rules.proofs.WithoutSets.{check-is, plan-is, carried-is}
+use Rattle.rewrite.proofs.Together as members
+use Rattle.assignment.proofs.Members as asked
 
 -- WITHOUT SETS. Over a table without sets every call comes to what it came to before, with the same table, vectors and buffer afterwards.
 pub without-sets : (x : Lent) → NoSets (x .table) → serveBy beforeSets x ≡ serve x

@@ -1,19 +1,13 @@
 -- 02 [7], "A branch nobody can reach.": the B5012 of UAR and LIR, as it stood in the two decisions, and that it is never given over a sound table. The old
 -- decisions stand here and nowhere else.
-use Prim.Native.Nat.{ℕ}
-use mathlib.Core.Bool.{Bool, true, false, cond, not, _&&_}
-use mathlib.Core.Path.{_≡_, refl}
-use mathlib.Core.List.{List}
-use lib.Dec.{eqb, ltb}
-use lib.ListN.{length}
-use borrow.Author.Tests.{ltb-true, lt-ltb}
+use Rattle.octets.specs.Standard.{ℕ, Bool, true, false, cond, not, _&&_, _≡_, refl, List, eqb, ltb, length, ltb-true, lt-ltb}
 use Rattle.record.specs.Fields.{stateOf, serverSize}
 use Rattle.blocks.specs.Blocks.{blockOf}
 use Rattle.table.specs.Named.{privateAt}
 use Rattle.table.specs.Check.{checkTable}
 use Rattle.table.specs.SoundTable.{SoundTable}
 use Rattle.table.proofs.Sound.{sound-served}
-use Rattle.lookup.specs.Find.{findPublic}
+use Rattle.lookup.specs.Find.{findPublic, blockFound}
 use Rattle.lookup.specs.declared.Found.{Found}
 use Rattle.lookup.specs.declared.Found.the-variants.{At, Nothing}
 use Rattle.reading.specs.Kinds.{userName, publicIdentity, visitedNetwork, authorizationType}
@@ -31,19 +25,17 @@ use Rattle.choices.specs.declared.choice.Choice.{Choice}
 use Rattle.choices.specs.declared.choice.Choice.the-variants.{Alone, Server, Capabilities, First}
 use Rattle.choices.specs.declared.plan.Plan.{Plan}
 use Rattle.lookup.specs.Among.{Among}
-use Rattle.decisions.specs.Authorization.{askedAt, askedOf, authorizeFound, authorize}
-use Rattle.lookup.specs.Find.{blockFound}
-use Rattle.decisions.specs.Carried.{carried}
-use Rattle.decisions.specs.Location.{soughtAt, soughtOf, locateFound, locate}
+use Rattle.questions.specs.Authorization.{askedAt, askedOf, authorizeFound, authorize}
+use Rattle.questions.specs.Carried.{carried}
+use Rattle.questions.specs.Location.{soughtAt, soughtOf, locateFound, locate}
 use Rattle.lookup.proofs.Among.{public-among}
 use Rattle.deciding.specs.Plans.{uarPlan, sarPlan, lirPlan, marPlan, planRead}
-use Rattle.deciding.specs.Rules.{inForce}
+use Rattle.deciding.specs.Rules.{inForce, Rules}
 use Rattle.deciding.specs.Deeds.{carriedOut}
-use Rattle.deciding.specs.Rules.{Rules, inForce}
 use Rattle.calling.specs.Lent.{Lent, dialectIn}
 use Rattle.calling.specs.Serve.{serveBy, serve}
-use Rattle.older_rules.proofs.Rules.{rules-same, decided-same, serve-now}
-use Rattle.older_rules.specs.Rules.{Rules, inForce, decideBy, serveBy}
+use Rattle.older_rules.proofs.Rules.{rules-same, decided-same}
+use Rattle.older_rules.specs.Rules.{Rules, inForce, serveBy}
 
 -- "the server name (none stored: B5012)"
 unfoldable pub serverIf : Bool → Outcome → Choice

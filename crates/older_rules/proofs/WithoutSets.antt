@@ -1,15 +1,10 @@
 -- Without sets each rule is what it was: the check, the barring rule, the effects.
-use Prim.Native.Nat.{ℕ, suc, zero, _+_, _-_, _*_, _<_, _≤_}
-use mathlib.Core.Bool.{Bool, true, false, not, _&&_, _||_, cond, true≢false, and-true}
-use mathlib.Core.Path.{_≡_, refl, sym, _∙_, ap}
-use mathlib.Core.List.{List, [], _∷_}
-use native.Mathlib.Omega.{arith}
+use Rattle.octets.specs.Standard.{ℕ, suc, zero, _+_, _<_, _≤_, Bool, true, false, true≢false, and-true, _≡_, refl, sym, _∙_, List, [], _∷_, arith}
 use Rattle.record.specs.Fields.{setOf, bitsOf, barred}
 use Rattle.record.specs.HeaderBlock.{headerOf}
 use Rattle.record.specs.Sets.{sameSet}
 use Rattle.record.specs.declared.header.Header.{Header}
-use Rattle.blocks.specs.Blocks.{blockOf}
-use Rattle.blocks.specs.Blocks.{firstBad}
+use Rattle.blocks.specs.Blocks.{blockOf, firstBad}
 use Rattle.table.specs.Check.{standsAt, agreesAt, soundAt, checkRecords, checkTable}
 use Rattle.table.proofs.Agreement.{agrees-holds}
 use Rattle.lookup.specs.Find.{barredAlone, findPublic}
@@ -24,7 +19,7 @@ use Rattle.reading.specs.Rules.{Seen}
 use Rattle.reading.specs.declared.Dialect.{Dialect}
 use Rattle.choices.specs.declared.plan.Deed.{Deed}
 use Rattle.choices.specs.declared.plan.Deed.the-variants.{Leave, Settle, Challenge}
-use Rattle.decisions.specs.Authorization.{askedOf, authorizeFound, authorize}
+use Rattle.questions.specs.Authorization.{askedOf, authorizeFound, authorize}
 use Rattle.assignment.specs.Assignment.{plannedRecords}
 use Rattle.deciding.specs.Plans.{assignmentOf, uarPlan, planRead}
 use Rattle.deciding.specs.Deeds.{carriedOut}

@@ -30,9 +30,9 @@ use Rattle.choices.specs.declared.choice.Asked.{Asked}
 use Rattle.choices.specs.declared.plan.Deed.{Deed}
 use Rattle.choices.specs.declared.plan.Deed.the-variants.{Leave, Settle, Challenge}
 use Rattle.choices.specs.declared.plan.Plan.{Plan}
-use Rattle.decisions.specs.Authorization.{askedAt}
+use Rattle.questions.specs.Authorization.{askedAt}
 use Rattle.lookup.specs.Find.{blockFound}
-use Rattle.decisions.specs.Carried.{carried}
+use Rattle.questions.specs.Carried.{carried}
 use Rattle.assignment.specs.Assignment.{storedName, plannedRecords}
 use Rattle.deciding.specs.Plans.{assignmentOf, sarPlan, lirPlan, marPlan}
 use Rattle.deciding.specs.Rules.{Rules}

@@ -1,19 +1,13 @@
 -- Two blocks that are the same in a run of bytes are the same in every field that stands there.
-use Prim.Native.Nat.{ℕ, _+_, _*_, _<_, _≤_}
-use mathlib.Core.Bool.{Bool, _||_, not}
-use mathlib.Core.Path.{_≡_, ap}
-use mathlib.Core.List.{List}
-use native.Mathlib.Omega.{arith}
-use lib.Dec.{leb}
-use lib.ListN.{length, getD, take, drop}
+use Rattle.octets.specs.Standard.{ℕ, _+_, _*_, _<_, _≤_, Bool, _||_, not, _≡_, ap, List, arith, leb, length, getD, take, drop}
 use Rattle.octets.specs.Number.{be16At, be32At}
 use Rattle.octets.specs.Run.{zeroBetween}
 use Rattle.octets.proofs.All.{all-alike}
 use Rattle.octets.proofs.Numbers.{be16-alike, be32-alike}
 use Rattle.octets.proofs.Parts.{part-alike}
 use Rattle.octets.proofs.Runs.{zero-alike}
-use Rattle.record.specs.Fields.{hostSize, realmSize, hostOf, realmOf, stateOf, bitsOf, roamingOf, mandatoryCount, optionalCount, serverSize, publicOf}
-use Rattle.record.specs.Fields.{privateOf, serverOf, mandatoryOf, optionalOf, profileOf, setOf}
+use Rattle.record.specs.Fields.{hostSize, realmSize, hostOf, realmOf, stateOf, bitsOf, roamingOf, mandatoryCount, optionalCount, serverSize}
+use Rattle.record.specs.Fields.{publicOf, privateOf, serverOf, mandatoryOf, optionalOf, profileOf, setOf}
 use Rattle.record.specs.Networks.{placeAt, networkOf, usedPlace, soundPlace, sameByte, otherPlace, newPlace, soundNetworks}
 use Rattle.record.specs.RecordBlock.{recordOf}
 use Rattle.record.proofs.OneSet.{SameMember}

@@ -1,17 +1,12 @@
 -- What a sound block says, a field for each test of it.
-use Prim.Native.Nat.{ℕ, _+_, _*_, _≤_}
-use mathlib.Core.Bool.{Bool, true}
-use mathlib.Core.Path.{_≡_}
-use mathlib.Core.List.{List, [], _∷_}
-use lib.Dec.{eqb, leb}
-use borrow.Author.Tests.{eqb-true, leb-true, eq-eqb, le-leb}
+use Rattle.octets.specs.Standard.{ℕ, _+_, _*_, _≤_, Bool, true, _≡_, List, [], _∷_, eqb, leb, eqb-true, leb-true, eq-eqb, le-leb}
 use Rattle.octets.specs.Run.{zeroBetween}
 use Rattle.octets.specs.Sum.{sumWords}
 use Rattle.octets.proofs.Chains.{chain-says, _also_}
 use Rattle.record.specs.HeaderBlock.{headerOf, soundCounts, soundEdition, isHeader, soundNumbers, soundHeaderRest, soundHeader}
 use Rattle.record.specs.Networks.{soundNetworks}
-use Rattle.record.specs.RecordBlock.{recordOf, isRecord, soundSet, soundLimits, soundServer, soundRoaming, soundProfile, pastNames, pastCapabilities}
-use Rattle.record.specs.RecordBlock.{soundRest, soundRecord}
+use Rattle.record.specs.RecordBlock.{recordOf, isRecord, soundSet, soundLimits, soundServer, soundRoaming, soundProfile, pastNames}
+use Rattle.record.specs.RecordBlock.{pastCapabilities, soundRest, soundRecord}
 use Rattle.record.specs.declared.header.Header.{Header}
 use Rattle.record.specs.declared.subscriber.Record.{Record}
 

@@ -1,10 +1,5 @@
 -- How long the pieces of an answer are at the most.
-use Prim.Native.Nat.{ℕ, _+_, _≤_}
-use mathlib.Core.List.{List}
-use mathlib.Core.Path.{_≡_}
-use native.Mathlib.Omega.{arith}
-use lib.Dec.{ltb}
-use lib.ListN.{length, length-append, length-take, length-drop}
+use Rattle.octets.specs.Standard.{ℕ, _+_, _≤_, List, _≡_, arith, ltb, length, length-append, length-take, length-drop}
 use Rattle.record.specs.Fields.{hostOf, realmOf, privateOf, publicOf, serverOf, mandatoryOf, optionalOf}
 use Rattle.blocks.specs.Blocks.{blockOf, ofBlock}
 use Rattle.table.specs.SoundTable.{SoundTable}

@@ -1,10 +1,5 @@
 -- A small month: where is `a`, its removal, where is it now, an answer that strayed into the file, and 3 bytes. The calls, computed one by one.
-use Prim.Native.Nat.{ℕ}
-use mathlib.Core.Path.{_≡_, refl, sym, ap, _∙_}
-use mathlib.Core.List.{List, [], _∷_, _++_}
-use mathlib.Core.Bool.{false}
-use lib.ListN.{length, set}
-use lib.Dec.{ltb, lit≤}
+use Rattle.octets.specs.Standard.{ℕ, _≡_, refl, sym, ap, _∙_, List, [], _∷_, _++_, false, length, set, ltb, lit≤}
 use Rattle.octets.specs.Run.{over}
 use Rattle.blocks.specs.declared.Checked.{Checked}
 use Rattle.blocks.specs.declared.Checked.the-variants.{Sound}
@@ -17,16 +12,16 @@ use Rattle.pen.specs.Groups.{experimental}
 use Rattle.reading.specs.declared.Outcome.{Outcome}
 use Rattle.reading.specs.declared.Outcome.the-variants.{Base, Experimental}
 use Rattle.counting.specs.declared.Event.{Event}
-use Rattle.counting.specs.declared.Event.the-variants as event
 use Rattle.requests.specs.Request.{underCx}
 use Rattle.calling.specs.Call.{Answered, Refused}
 use Rattle.calling.specs.Lent.{Lent, lent}
 use Rattle.calling.specs.Serve.{Served, smallBuffer, checkOf, checkValue, decision, resultOf, serve}
 use Rattle.reporting.specs.Row.{eventBy, eventOf}
-use Rattle.report_numbers.specs.File.{OneRequest, joined}
+use Rattle.report_numbers.specs.File.{OneRequest, endToEnd}
 use Rattle.demands.proofs.Demands.{demand-2-room}
 use Rattle.worked_examples.proofs.Computed.{come, roomy, no-vectors, registered-sound, unregistered-sound}
 use Rattle.worked_examples.proofs.Sample.{room, request, reply, answer, common, assignment, one, s, opened}
+use Rattle.counting.specs.declared.Event.the-variants as event
 
 -- a LIR and a SAR of type 5 for `a`; a message with the R bit clear
 unfoldable pub lir : List ℕ
@@ -45,7 +40,7 @@ abbrev pub scrap : List ℕ
 scrap = 0x01 ∷ 0x00 ∷ 0x00 ∷ []
 
 unfoldable pub file : List ℕ
-file = joined messages ++ scrap
+file = endToEnd messages ++ scrap
 
 -- the table: `a` registered at `s`, and not registered; the buffer, as each answer leaves it
 unfoldable pub here : List ℕ

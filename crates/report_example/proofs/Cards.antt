@@ -1,11 +1,6 @@
 -- A month of cards: two MARs of one private identity, each for one vector, over a file of one. The first is sent it and stores the server name, and for the
 -- second none is left: table and vectors are carried along.
-use Prim.Native.Nat.{ℕ, _≤_}
-use mathlib.Core.Path.{_≡_, refl, ap, _∙_}
-use mathlib.Core.List.{List, [], _∷_}
-use mathlib.Core.Bool.{false}
-use native.Mathlib.Omega.{arith}
-use lib.Dec.{lit≤}
+use Rattle.octets.specs.Standard.{ℕ, _≡_, refl, ap, _∙_, List, [], _∷_, false, arith, lit≤}
 use Rattle.octets.specs.Run.{over}
 use Rattle.blocks.specs.declared.Checked.the-variants.{Sound}
 use Rattle.table.specs.Check.{checkTable}
@@ -19,7 +14,7 @@ use Rattle.calling.specs.Serve.{smallBuffer, serve}
 use Rattle.reporting.specs.Row.{eventOf, next, row, left}
 use Rattle.reporting.specs.Report.{Reported, requestsOf, ran, reported}
 use Rattle.report_numbers.specs.Area.{wordIn}
-use Rattle.report_numbers.specs.File.{OneRequest, joined}
+use Rattle.report_numbers.specs.File.{OneRequest, endToEnd}
 use Rattle.report_numbers.specs.Turns.{eventsOf}
 use Rattle.report_numbers.proofs.Ends.{area-long}
 use Rattle.report_numbers.proofs.Numbers.{report-0-whole, report-word}
@@ -54,7 +49,7 @@ unfoldable pub denied : List ℕ
 denied = over (reply 303 (numberBytes 268 5012) []) sent
 
 unfoldable pub cards : Lent
-cards = lent (joined marks) idle [] fresh room
+cards = lent (endToEnd marks) idle [] fresh room
 
 unfoldable cardsAll : ℕ
 unfolding all mar fresh used idle named sent denied
@@ -117,11 +112,11 @@ cards-read = report-0-whole cards area enough marks each-mar refl
 pub cards-requests : requestsOf cards ≡ marks
 cards-requests = cards-read .0
 
-after-sent : next cards mar ≡ lent (joined marks) named [] used sent
+after-sent : next cards mar ≡ lent (endToEnd marks) named [] used sent
 unfolding cards next
 after-sent = rw sent-comes
 
-after-denied : next (lent (joined marks) named [] used sent) mar ≡ lent (joined marks) named [] used denied
+after-denied : next (lent (endToEnd marks) named [] used sent) mar ≡ lent (endToEnd marks) named [] used denied
 unfolding next
 after-denied = rw denied-comes
 
@@ -132,7 +127,7 @@ pub cards-events : eventsOf cards ≡ dealt
 unfolding row cards
 cards-events = ap (row cards) cards-requests ∙ rw (after-sent, sent-counts, denied-counts)
 
-cards-left : left cards (requestsOf cards) ≡ lent (joined marks) named [] used denied
+cards-left : left cards (requestsOf cards) ≡ lent (endToEnd marks) named [] used denied
 unfolding left
 cards-left = ap (left cards) cards-requests ∙ rw (after-sent, after-denied)
 

@@ -1,11 +1,6 @@
 -- Each theorem of the numbers has an instance: its hypotheses are met by the small month, or by a part of it.
-use Prim.Native.Nat.{ℕ, _+_, _%_, _^_, _≤_, _<_, max}
-use mathlib.Core.List.{List, [], _∷_, _++_}
-use mathlib.Core.Path.{_≡_, refl, sym, ap, _∙_}
-use mathlib.Core.Logic.{inl, inr}
-use native.Mathlib.Omega.{arith}
-use lib.ListN.{length, getD, take, drop}
-use lib.Dec.{lit≤, lit<}
+use Rattle.octets.specs.Standard.{ℕ, _+_, _%_, _^_, _≤_, _<_, max, List, [], _∷_, _++_, _≡_, refl, sym, ap, _∙_, inl, inr, arith, length, getD, take}
+use Rattle.octets.specs.Standard.{drop, lit≤, lit<}
 use Rattle.blocks.specs.Blocks.{blockOf}
 use Rattle.table.specs.Check.{checkTable}
 use Rattle.blocks.specs.declared.Checked.{Checked}
@@ -24,17 +19,16 @@ use Rattle.reporting.specs.Pieces.{stopOf}
 use Rattle.reporting.specs.Row.{eventOf, row, left}
 use Rattle.reporting.specs.Report.{Reported, requestsOf, wordsOf, reported}
 use Rattle.report_numbers.specs.Area.{wordIn, rowsIn, refusalsIn}
-use Rattle.report_numbers.specs.File.{joined, Breaks}
-use Rattle.report_numbers.specs.Turns.{eventsOf, Place, callAt, answerLength, alteredOver, allIdle, goingOn}
-use Rattle.report_numbers.proofs.Numbers as numbers
+use Rattle.report_numbers.specs.File.{endToEnd, BrokenOff}
+use Rattle.report_numbers.specs.Turns.{eventsOf, InTurn, callAt, callLength, alteredOver, allIdle, goingOn}
 use Rattle.worked_examples.proofs.Sample.{block, room}
-use Rattle.report_example.proofs.Calls.{lir, removal, strayed, scrap, file, here, month, each, sound-here, counts, all}
-use Rattle.report_example.proofs.Calls.{located-counts}
+use Rattle.report_example.proofs.Calls.{lir, removal, strayed, scrap, file, here, month, each, sound-here, counts, all, located-counts}
 use Rattle.report_example.proofs.Month.{area, enough, month-requests, month-stop, month-number, month-events, counting}
+use Rattle.report_numbers.proofs.Numbers as numbers
 
 -- the month's length
 size : length file < 2 ^ 56
-unfolding all file joined
+unfolding all file endToEnd
 size = lit< tt
 
 short : length (month .request) < 2 ^ 64
@@ -56,7 +50,7 @@ met-meant : (reported month area .number ≡ 7) × (placeIn (word 7 0 0) ≡ 0) 
 met-meant = let m = numbers.report-meant month area promised in (ap (λ (r : Reported). r .number) (m .0), m .1, m .2)
 
 -- THE FILE: the removal is the second of four requests
-second : Place (requestsOf month)
+second : InTurn (requestsOf month)
 second = record { before = lir ∷ []; request = removal; after = lir ∷ strayed ∷ []; is = month-requests }
 
 met-event : eventsOf month ≡ row month (lir ∷ []) ++ (eventOf (callAt month second) ∷ row (left month (lir ∷ removal ∷ [])) (lir ∷ strayed ∷ []))
@@ -100,7 +94,7 @@ met-altered : wordIn (reported month area .area) 2 ≡ alteredOver month (reques
 unfolding month
 met-altered = numbers.report-altered-exact month area enough size
 
-met-largest : answerLength (serve (callAt month second) .call) ≤ 136
+met-largest : callLength (serve (callAt month second) .call) ≤ 136
 met-largest = rw met-word at (numbers.report-largest month area enough second)
 
 met-columns : Base 5012 ≡ Base 5012
@@ -133,7 +127,7 @@ met-15 : reported month [] .number ≡ 15
 met-15 = ap (λ (r : Reported). r .number) (numbers.report-15-kept month [] (lit< tt))
 
 firstTwo : List ℕ
-firstTwo = joined (lir ∷ removal ∷ [])
+firstTwo = endToEnd (lir ∷ removal ∷ [])
 
 begun : Lent
 begun = lent firstTwo here [] [] room underCx
@@ -142,20 +136,20 @@ met-0 : reported begun area .number ≡ 0
 unfolding begun firstTwo
 met-0 = numbers.report-0-whole begun area enough (lir ∷ removal ∷ []) (each .0, (each .1 .0, tt)) refl .1
 
-met-0-file : joined (requestsOf begun) ≡ firstTwo
+met-0-file : endToEnd (requestsOf begun) ≡ firstTwo
 unfolding begun
 met-0-file = numbers.report-0-file begun area enough met-0
 
-met-7 : Breaks (drop (stopOf file) file)
+met-7 : BrokenOff (drop (stopOf file) file)
 unfolding month
 met-7 = numbers.report-7-breaks month area enough month-number
 
 -- a header length under 20, and one past the file
-under : Breaks (0x01 ∷ 0x00 ∷ 0x00 ∷ 0x13 ∷ [])
+under : BrokenOff (0x01 ∷ 0x00 ∷ 0x00 ∷ 0x13 ∷ [])
 unfolding all
 under = record { some = lit≤ tt; by = inr (inl (lit< tt)) }
 
-past : Breaks (0x01 ∷ 0x00 ∷ 0x00 ∷ 0x14 ∷ [])
+past : BrokenOff (0x01 ∷ 0x00 ∷ 0x00 ∷ 0x14 ∷ [])
 unfolding all
 past = record { some = lit≤ tt; by = inr (inr (lit< tt)) }
 
@@ -179,7 +173,7 @@ met-one-decides =
 
 -- TWO FILES: the rest of the month goes on where the first two requests ended
 rest : List ℕ
-rest = joined (lir ∷ strayed ∷ []) ++ scrap
+rest = endToEnd (lir ∷ strayed ∷ []) ++ scrap
 
 met-both : requestsOf (asking begun (begun .request ++ rest)) ≡ requestsOf begun ++ requestsOf (goingOn begun area rest)
 met-both = numbers.report-both begun rest area enough met-0
@@ -195,7 +189,7 @@ met-both-words : wordIn (reported (asking begun (begun .request ++ rest)) area .
 met-both-words = numbers.report-both-words begun rest area enough met-0 area enough 0 (omega arith) (omega arith) (omega arith)
 
 both-short : length (begun .request ++ rest) < 2 ^ 64
-unfolding all begun firstTwo rest joined
+unfolding all begun firstTwo rest endToEnd
 both-short = lit< tt
 
 met-both-place : wordIn (reported (asking begun (begun .request ++ rest)) area .area) 1

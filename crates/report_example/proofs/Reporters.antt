@@ -1,12 +1,6 @@
 -- Wrong reporters: each is a function here, and over the small month, or over that of the cards, its outcome does not meet the promise.
-use Prim.Native.Nat.{ℕ, _^_, _≤_, _<_}
-use mathlib.Core.Path.{_≡_, refl, sym, ap, _∙_}
-use mathlib.Core.Logic.{_≢_}
-use mathlib.Core.Bool.{false}
-use mathlib.Core.List.{List, [], _∷_, _++_}
-use native.Mathlib.Omega.{arith}
-use lib.ListN.{length, getD, set, length-set}
-use lib.Seq.{getD-set-other}
+use Rattle.octets.specs.Standard.{ℕ, _^_, _≤_, _<_, _≡_, refl, sym, ap, _∙_, _≢_, false, List, [], _∷_, _++_, arith, length, getD, set, length-set}
+use Rattle.octets.specs.Standard.{getD-set-other}
 use Rattle.octets.specs.Run.{over}
 use Rattle.blocks.specs.declared.Checked.the-variants.{Sound}
 use Rattle.diameter.specs.Message.{commandOf}
@@ -14,9 +8,8 @@ use Rattle.pen.specs.Bytes.{numberBytes}
 use Rattle.reading.specs.declared.Outcome.{Outcome}
 use Rattle.reading.specs.declared.Outcome.the-variants.{Base}
 use Rattle.counting.specs.Counted.{wordAt, countsOf}
-use Rattle.counting.specs.Words.{bytesOf}
+use Rattle.counting.specs.Words.{wordsBytes}
 use Rattle.counting.specs.declared.Event.{Event}
-use Rattle.counting.specs.declared.Event.the-variants as event
 use Rattle.counting.proofs.Counts.{counts-length, counts-at}
 use Rattle.calling.specs.Lent.{Lent, asking, lent}
 use Rattle.calling.specs.Serve.{Served, serve}
@@ -35,6 +28,7 @@ use Rattle.worked_examples.proofs.Sample.{answer, room}
 use Rattle.report_example.proofs.Calls.{removal, strayed, here, gone, month, sound-here, lending, counts, counted-from, located-counts, all}
 use Rattle.report_example.proofs.Cards.{fresh, used, cards, cards-requests, cards-events, cards-vectors, sent-comes, sent-counts, again-counts}
 use Rattle.report_example.proofs.Month.{area, enough, month-requests, month-events, month-number, month-table, counting}
+use Rattle.counting.specs.declared.Event.the-variants as event
 
 -- what a report leaves
 record Left : Type 0 where
@@ -62,7 +56,7 @@ truly-meets x a = record { word-is = refl; table-is = refl; vectors-is = refl; b
 
 -- One that counts another row of outcomes, and is right in all else.
 writes : (Lent → List Event) → Lent → List ℕ → List ℕ
-writes row x a = over (bytesOf (set (countsOf (row x)) 1 (stopOf (x .request)))) a
+writes row x a = over (wordsBytes (set (countsOf (row x)) 1 (stopOf (x .request)))) a
 
 counting-by : (Lent → List Event) → Reporter
 counting-by row x a =

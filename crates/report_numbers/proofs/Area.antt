@@ -1,20 +1,12 @@
 -- The words that a report writes.
-use Prim.Native.Nat.{ℕ, _+_, _*_, _%_, _^_, _≤_, _<_}
-use mathlib.Core.List.{List}
-use mathlib.Core.Bool.{Bool, true, false}
-use mathlib.Core.Path.{_≡_, refl, sym, ap, _∙_}
-use mathlib.Core.Logic.{_⊎_, _≢_}
-use native.Mathlib.Omega.{arith}
-use native.Mathlib.Nat.{mod-lt, mod-eq-of-lt}
-use lib.ListN.{length, getD, take, drop, length-set}
-use lib.Seq.{getD-set-same, getD-set-other}
-use lib.Dec.{eqb, ltb}
-use borrow.Author.Tests.{ltb-true, ltb-false, eqb-true, eqb-false}
+use Rattle.octets.specs.Standard.{ℕ, _+_, _*_, _%_, _^_, _≤_, _<_, List, Bool, true, false, _≡_, refl, sym, ap, _∙_, _⊎_, _≢_, arith, mod-lt}
+use Rattle.octets.specs.Standard.{mod-eq-of-lt, length, getD, take, drop, length-set, getD-set-same, getD-set-other, eqb, ltb, ltb-true, ltb-false}
+use Rattle.octets.specs.Standard.{eqb-true, eqb-false}
 use Rattle.octets.specs.Run.{over}
 use Rattle.counting.specs.Counted.{howMany, largestIn, numberAt, wordAt, countsOf}
 use Rattle.counting.specs.Layout.{readWord, stopWord, alteredWord, largestWord, answeredWord, refusalWord, cellWord, sumFrom}
 use Rattle.counting.specs.Totals.{rowTotals}
-use Rattle.counting.specs.Words.{longBytes, bytesOf}
+use Rattle.counting.specs.Words.{longBytes, wordsBytes}
 use Rattle.counting.proofs.Counts.{counts-length, counts-at}
 use Rattle.counting.proofs.Numbers.{word-largest, word-other, exact}
 use Rattle.counting.proofs.Totals.{sum-alike, rows-answered, totals-read}
@@ -24,7 +16,7 @@ use Rattle.reporting.specs.Pieces.{stopOf}
 use Rattle.reporting.specs.Report.{Reported, requestsOf, wordsOf, ran, reported}
 use Rattle.reporting.proofs.Whole.{row-fits}
 use Rattle.report_numbers.specs.Area.{wordIn, rowsIn, refusalsIn}
-use Rattle.report_numbers.specs.Turns.{eventsOf, Place, callAt, refusedBy, answeredIn, answerLength, alteredOver}
+use Rattle.report_numbers.specs.Turns.{eventsOf, InTurn, callAt, refusedBy, answeredIn, callLength, alteredOver}
 use Rattle.report_numbers.proofs.Cut.{stop-within, few-pieces}
 use Rattle.report_numbers.proofs.Calls.{row-length, row-altered, over-most, largest-most, largest-least, largest-one}
 use Rattle.report_numbers.proofs.Cells.{refused-count, answered-count}
@@ -68,7 +60,7 @@ module _ (x : Lent) (area : List ℕ) (room : 1160 ≤ length area) where
   abbrev written : List ℕ
   written = reported x area .area
 
-  written-is : written ≡ over (bytesOf (wordsOf x)) area
+  written-is : written ≡ over (wordsBytes (wordsOf x)) area
   unfolding ran
   written-is = ap (λ (r : Reported). r .area) (area-long x area room)
 
@@ -158,9 +150,9 @@ module _ (x : Lent) (area : List ℕ) (room : 1160 ≤ length area) where
         ∙ answered-count (eventsOf x) (row-fits x (requestsOf x)) r c a
 
   -- the largest answer
-  pub largest-word : (p : Place (requestsOf x)) → answerLength (serve (callAt x p) .call) ≤ wordIn written largestWord
+  pub largest-word : (p : InTurn (requestsOf x)) → callLength (serve (callAt x p) .call) ≤ wordIn written largestWord
   largest-word p = rw report-largest (largest-least x (requestsOf x) p)
 
   pub largest-word-one : (wordIn written largestWord ≡ 0)
-      ⊎ ((p : Place (requestsOf x)) × (answerLength (serve (callAt x p) .call) ≡ wordIn written largestWord))
+      ⊎ ((p : InTurn (requestsOf x)) × (callLength (serve (callAt x p) .call) ≡ wordIn written largestWord))
   largest-word-one = rw report-largest (largest-one x (requestsOf x))

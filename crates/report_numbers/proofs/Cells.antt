@@ -1,17 +1,11 @@
 -- What a word from the sixth on counts: one refusal, or one result of one row of commands.
-use Prim.Native.Nat.{ℕ, suc, _≤_, _<_}
-use mathlib.Core.List.{List, [], _∷_}
-use mathlib.Core.Bool.{Bool, true, false, cond, _&&_, false≢true}
-use mathlib.Core.Path.{_≡_, refl, sym, ap, _∙_}
-use native.Mathlib.Omega.{arith}
-use lib.ListN.{length, getD}
-use lib.Dec.{eqb}
-use borrow.Author.Tests.{eqb-true, eq-eqb, ne-eqb, ltb-true}
+use Rattle.octets.specs.Standard.{ℕ, suc, _≤_, _<_, List, [], _∷_, Bool, true, false, cond, _&&_, false≢true, _≡_, refl, sym, ap, _∙_, arith, length}
+use Rattle.octets.specs.Standard.{getD, eqb, eqb-true, eq-eqb, ne-eqb, ltb-true}
 use Rattle.octets.proofs.All.{and-left, and-right}
 use Rattle.octets.proofs.Chains.{_also_}
 use Rattle.reading.specs.declared.Outcome.{Outcome}
 use Rattle.reading.specs.declared.Outcome.the-variants.{Base, Experimental}
-use Rattle.counting.specs.Results.{baseResults, experimentalResults, indexIn, rowOf, columnOf, listed, Listed}
+use Rattle.counting.specs.Results.{baseResults, experimentalResults, indexIn, commandRow, columnOf, listed, Listed}
 use Rattle.counting.specs.Counted.{cellOf, Fits, AllFit, standsIn, howMany, numberAt}
 use Rattle.counting.specs.Layout.{refusalWord, cellWord}
 use Rattle.counting.specs.declared.Event.{Event}
@@ -33,14 +27,14 @@ same-test a b false f g = ne-eqb a b (λ e. let z : false ≡ true = f e in fals
 refused-there : (n : ℕ) → n ≤ 15 → (e : Event) → Fits e → standsIn (refusalWord n) e ≡ refusedBy n e
 unfolding cellOf
 refused-there n h (Answered e) f =
-    let other : cellWord (rowOf (e .command)) (columnOf (e .result)) ≡ refusalWord n → ⊥ = λ q. omega (arith, q) in
-    ne-eqb (cellWord (rowOf (e .command)) (columnOf (e .result))) (refusalWord n) other
+    let other : cellWord (commandRow (e .command)) (columnOf (e .result)) ≡ refusalWord n → ⊥ = λ q. omega (arith, q) in
+    ne-eqb (cellWord (commandRow (e .command)) (columnOf (e .result))) (refusalWord n) other
 refused-there n h (Refused m) f = same-test (refusalWord m) (refusalWord n) (eqb m n) (λ q. eq-eqb m n (omega (arith, q))) (λ q. omega (arith, eqb-true m n q))
 
 answered-there : (r c : ℕ) → c < 25 → (e : Event) → Fits e → standsIn (cellWord r c) e ≡ answeredIn r c e
 unfolding cellOf
 answered-there r c h (Answered e) f =
-    let row = rowOf (e .command) in
+    let row = commandRow (e .command) in
     let column = columnOf (e .result) in
     let l : column < 25 = listed-column (e .result) f in
     same-test (cellWord row column) (cellWord r c) (eqb row r && eqb column c)

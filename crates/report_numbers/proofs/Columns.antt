@@ -1,16 +1,9 @@
 -- Every result of a call has a column, and one of its own; and in two rows the column of B5012 counts none.
-use Prim.Native.Nat.{ℕ, _+_, _*_, _%_, _^_, _≤_, _<_}
-use mathlib.Core.List.{List, [], _∷_}
-use mathlib.Core.Bool.{Bool, true, false, cond, _&&_}
-use mathlib.Core.Path.{_≡_, refl, ap, _∙_}
-use mathlib.Core.Logic.{_⊎_, inl, inr}
-use native.Mathlib.Omega.{arith}
-use lib.ListN.{length}
-use lib.Dec.{eqb}
-use borrow.Author.Tests.{eqb-true}
+use Rattle.octets.specs.Standard.{ℕ, _+_, _*_, _%_, _^_, _≤_, _<_, List, [], _∷_, Bool, true, false, cond, _&&_, _≡_, refl, ap, _∙_, _⊎_, inl, inr}
+use Rattle.octets.specs.Standard.{arith, length, eqb, eqb-true}
 use Rattle.diameter.specs.Message.{commandOf}
 use Rattle.reading.specs.declared.Outcome.the-variants.{Base}
-use Rattle.counting.specs.Results.{baseResults, indexIn, rowOf, columnOf, listed, Listed}
+use Rattle.counting.specs.Results.{baseResults, indexIn, commandRow, columnOf, listed, Listed}
 use Rattle.counting.specs.Counted.{howMany}
 use Rattle.counting.proofs.Columns.{listed-column}
 use Rattle.counting.proofs.Numbers.{word-other}
@@ -37,8 +30,8 @@ pub column-own : (x y : Lent) → columnOf (resultOf x) ≡ columnOf (resultOf y
 column-own x y = columns-apart (resultOf x) (resultOf y) (result-listed x) (result-listed y)
 
 -- the rows of a UAR and of a LIR
-row-command : (r c : ℕ) → (r ≡ 0) ⊎ (r ≡ 2) → rowOf c ≡ r → (c ≡ 300) ⊎ (c ≡ 302)
-unfolding rowOf
+row-command : (r c : ℕ) → (r ≡ 0) ⊎ (r ≡ 2) → commandRow c ≡ r → (c ≡ 300) ⊎ (c ≡ 302)
+unfolding commandRow
 row-command r c h e = go (eqb c 300) (eqb c 301) (eqb c 302) (eqb c 303) refl refl h e
   where
     go : (x y z w : Bool) → eqb c 300 ≡ x → eqb c 302 ≡ z → (r ≡ 0) ⊎ (r ≡ 2) → cond x 0 (cond y 1 (cond z 2 (cond w 3 4))) ≡ r → (c ≡ 300) ⊎ (c ≡ 302)
@@ -52,15 +45,15 @@ row-command r c h e = go (eqb c 300) (eqb c 301) (eqb c 302) (eqb c 303) refl re
     go false false false false a b (inr h) e = absurd (omega arith)
 
 module _ (r : ℕ) (two : (r ≡ 0) ⊎ (r ≡ 2)) where
-  result-other : (x : Lent) → rowOf (commandOf (x .request)) ≡ r → columnOf (resultOf x) ≡ 11 → ⊥
+  result-other : (x : Lent) → commandRow (commandOf (x .request)) ≡ r → columnOf (resultOf x) ≡ 11 → ⊥
   unfolding columnOf indexIn baseResults listed
   result-other x e f =
       taken-out x (row-command r (commandOf (x .request)) two e) (columns-apart (resultOf x) (Base 5012) (result-listed x) refl f)
 
   event-other : (x : Lent) (c : Call) → answeredIn r 11 (eventBy x c) ≡ false
-  event-other x (Answered a) = go (eqb (rowOf (commandOf (x .request))) r) (eqb (columnOf (resultOf x)) 11) refl refl
+  event-other x (Answered a) = go (eqb (commandRow (commandOf (x .request))) r) (eqb (columnOf (resultOf x)) 11) refl refl
     where
-      go : (u v : Bool) → eqb (rowOf (commandOf (x .request))) r ≡ u → eqb (columnOf (resultOf x)) 11 ≡ v → (u && v) ≡ false
+      go : (u v : Bool) → eqb (commandRow (commandOf (x .request))) r ≡ u → eqb (columnOf (resultOf x)) 11 ≡ v → (u && v) ≡ false
       go true true e f = absurd (result-other x (eqb-true _ _ e) (eqb-true _ _ f))
       go true false e f = refl
       go false v e f = refl

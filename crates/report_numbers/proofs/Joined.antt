@@ -1,14 +1,6 @@
 -- Reports over one request, and over two files, one behind the other.
-use Prim.Native.Nat.{ℕ, _+_, _%_, _^_, _≤_, _<_, max}
-use mathlib.Core.Bool.{Bool, cond}
-use mathlib.Core.List.{List, [], _∷_, _++_}
-use mathlib.Core.Path.{_≡_, refl, sym, ap, _∙_}
-use mathlib.Core.Logic.{_≢_}
-use native.Mathlib.Omega.{arith}
-use native.Mathlib.Nat.{add-mod}
-use lib.ListN.{length, length-append}
-use lib.Dec.{eqb}
-use borrow.Author.Tests.{eq-eqb, eqb-true}
+use Rattle.octets.specs.Standard.{ℕ, _+_, _%_, _^_, _≤_, _<_, max, Bool, cond, List, [], _∷_, _++_, _≡_, refl, sym, ap, _∙_, _≢_, arith, add-mod}
+use Rattle.octets.specs.Standard.{length, length-append, eqb, eq-eqb, eqb-true}
 use Rattle.counting.specs.Counted.{largestIn, numberAt}
 use Rattle.counting.specs.Layout.{stopWord, largestWord}
 use Rattle.counting.specs.declared.Event.{Event}

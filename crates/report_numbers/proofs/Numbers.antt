@@ -1,13 +1,8 @@
 -- The month's numbers, as theorems about `reported`: the number, the table, the vectors, the buffer and the area of a report, for anything lent. The file of
 -- requests is lent as the request. What the words below mean is in specs/File (a file of requests), specs/Turns (the calls) and specs/Area (the words
 -- read back).
-use Prim.Native.Nat.{ℕ, _+_, _*_, _%_, _^_, _≤_, _<_, max}
-use mathlib.Core.List.{List, [], _∷_, _++_}
-use mathlib.Core.Bool.{true, false}
-use mathlib.Core.Path.{_≡_, refl}
-use mathlib.Core.Logic.{_⊎_, inl, inr, _≢_}
-use lib.ListN.{length, getD, take, drop}
-use lib.Dec.{eqb, ltb}
+use Rattle.octets.specs.Standard.{ℕ, _+_, _*_, _%_, _^_, _≤_, _<_, max, List, [], _∷_, _++_, true, false, _≡_, refl, _⊎_, inl, inr, _≢_, length, getD}
+use Rattle.octets.specs.Standard.{take, drop, eqb, ltb}
 use Rattle.blocks.specs.Blocks.{blockOf}
 use Rattle.table.specs.Check.{checkTable}
 use Rattle.blocks.specs.declared.Checked.the-variants.{Sound, Bad}
@@ -28,8 +23,8 @@ use Rattle.reporting.specs.Pieces.{stopOf}
 use Rattle.reporting.specs.Row.{eventOf, row, left}
 use Rattle.reporting.specs.Report.{requestsOf, wordsOf, reported}
 use Rattle.report_numbers.specs.Area.{wordIn, rowsIn, refusalsIn}
-use Rattle.report_numbers.specs.File.{OneRequest, joined, Breaks}
-use Rattle.report_numbers.specs.Turns.{eventsOf, Place, callAt, refusedBy, answeredIn, answerLength, alteredOver, allIdle, goingOn}
+use Rattle.report_numbers.specs.File.{OneRequest, endToEnd, BrokenOff}
+use Rattle.report_numbers.specs.Turns.{eventsOf, InTurn, callAt, refusedBy, answeredIn, callLength, alteredOver, allIdle, goingOn}
 use Rattle.report_numbers.proofs.Area as area
 use Rattle.report_numbers.proofs.Calls as calls
 use Rattle.report_numbers.proofs.Cells as cells
@@ -53,7 +48,7 @@ report-meant x a p = (firm.report-is x a p, firm.report-besides x a p .0, firm.r
 -- "A REPORT OVER A FILE OF MANY REQUESTS LAID END TO END": the requests are the file up to the byte where reading stops, and each of them is one request by
 -- the length in its header. What is left there is no request.
 module _ (x : Lent) where
-  pub report-file : joined (requestsOf x) ≡ take (stopOf (x .request)) (x .request)
+  pub report-file : endToEnd (requestsOf x) ≡ take (stopOf (x .request)) (x .request)
   report-file = cut.pieces-end (x .request)
 
   pub report-each : All OneRequest (requestsOf x)
@@ -64,7 +59,7 @@ module _ (x : Lent) where
 
   -- "The numbers are those of the definitions run over the requests in turn, table and vectors carried along": a request in its place is counted as the call
   -- that `serve` makes of it over what those before it left.
-  pub report-event : (p : Place (requestsOf x))
+  pub report-event : (p : InTurn (requestsOf x))
       → eventsOf x ≡ row x (p .before) ++ (eventOf (callAt x p) ∷ row (left x (p .before ++ (p .request ∷ []))) (p .after))
   report-event = calls.row-at x (requestsOf x)
 
@@ -125,11 +120,11 @@ module _ (x : Lent) (a : List ℕ) (room : 1160 ≤ length a) where
   report-altered-exact = area.report-altered-exact x a room
 
   -- "AND THE LARGEST ANSWER": none is longer, and it is one of them, or 0.
-  pub report-largest : (p : Place (requestsOf x)) → answerLength (serve (callAt x p) .call) ≤ wordIn (reported x a .area) largestWord
+  pub report-largest : (p : InTurn (requestsOf x)) → callLength (serve (callAt x p) .call) ≤ wordIn (reported x a .area) largestWord
   report-largest = area.largest-word x a room
 
   pub report-largest-one : (wordIn (reported x a .area) largestWord ≡ 0)
-      ⊎ ((p : Place (requestsOf x)) × (answerLength (serve (callAt x p) .call) ≡ wordIn (reported x a .area) largestWord))
+      ⊎ ((p : InTurn (requestsOf x)) × (callLength (serve (callAt x p) .call) ≡ wordIn (reported x a .area) largestWord))
   report-largest-one = area.largest-word-one x a room
 
 -- "each result, B and X apart": the result of every call has a column, and two results have two.
@@ -156,10 +151,10 @@ module _ (x : Lent) (a : List ℕ) where
     pub report-0 : eqb (reported x a .number) 0 ≡ eqb (stopOf (x .request)) (length (x .request))
     report-0 = ends.zero-exactly x a room
 
-    pub report-0-file : reported x a .number ≡ 0 → joined (requestsOf x) ≡ x .request
+    pub report-0-file : reported x a .number ≡ 0 → endToEnd (requestsOf x) ≡ x .request
     report-0-file = ends.zero-file x a room
 
-    pub report-0-whole : (ps : List (List ℕ)) → All OneRequest ps → x .request ≡ joined ps → (requestsOf x ≡ ps) × (reported x a .number ≡ 0)
+    pub report-0-whole : (ps : List (List ℕ)) → All OneRequest ps → x .request ≡ endToEnd ps → (requestsOf x ≡ ps) × (reported x a .number ≡ 0)
     report-0-whole = ends.requests-zero x a room
 
     -- "1 to 3 bytes left, or a header length under 20 or past the file, end the report with the place": by 7 exactly if bytes are left where reading stops,
@@ -167,12 +162,12 @@ module _ (x : Lent) (a : List ℕ) where
     pub report-7 : eqb (reported x a .number) 7 ≡ ltb (stopOf (x .request)) (length (x .request))
     report-7 = ends.seven-exactly x a room
 
-    pub report-7-breaks : reported x a .number ≡ 7 → Breaks (drop (stopOf (x .request)) (x .request))
+    pub report-7-breaks : reported x a .number ≡ 7 → BrokenOff (drop (stopOf (x .request)) (x .request))
     report-7-breaks = ends.seven-breaks x a room
 
     -- .. and requests laid end to end with such bytes behind them are read up to these, and no further.
-    pub report-7-broken : (ps : List (List ℕ)) → All OneRequest ps → (rest : List ℕ) → x .request ≡ joined ps ++ rest → Breaks rest
-        → (requestsOf x ≡ ps) × (stopOf (x .request) ≡ length (joined ps)) × (reported x a .number ≡ 7)
+    pub report-7-broken : (ps : List (List ℕ)) → All OneRequest ps → (rest : List ℕ) → x .request ≡ endToEnd ps ++ rest → BrokenOff rest
+        → (requestsOf x ≡ ps) × (stopOf (x .request) ≡ length (endToEnd ps)) × (reported x a .number ≡ 7)
     report-7-broken = ends.breaks-seven x a room
 
 -- ONE REQUEST is counted as the one call that it is, and the table, the vectors and the buffer are as that call leaves them.

@@ -1,9 +1,5 @@
 -- A call as it is counted: the event of the definitions, which always has a word.
-use Prim.Native.Nat.{ℕ}
-use mathlib.Core.List.{List}
-use mathlib.Core.Path.{_≡_, ap, _∙_}
-use native.Mathlib.Omega.{arith}
-use lib.ListN.{length}
+use Rattle.octets.specs.Standard.{ℕ, List, _≡_, ap, _∙_, arith, length}
 use Rattle.table.specs.Check.{checkTable}
 use Rattle.blocks.specs.declared.Checked.{Checked}
 use Rattle.reading.specs.declared.Terms.{Terms}
@@ -14,10 +10,10 @@ use Rattle.calling.specs.Lent.{Lent, lent, dialectIn}
 use Rattle.calling.specs.Serve.{Served, checkOf, checkValue, refused, answered, serve}
 use Rattle.calling.specs.Leaves.{Leaves}
 use Rattle.calling.specs.declared.Came.{Came}
-use Rattle.calling.specs.declared.Came.the-variants as came
 use Rattle.calling.proofs.Kept.{serve-by}
 use Rattle.reporting.specs.Row.{eventBy, eventOf, eventFrom}
 use Rattle.reporting.specs.Counts.{Counts}
+use Rattle.calling.specs.declared.Came.the-variants as came
 
 -- refusals have numbers up to 6, and every result has a column
 pub event-fits : (x : Lent) → Fits (eventOf x)

@@ -1,16 +1,11 @@
 -- The turns of a report: what is behind and what is to come make the whole.
-use Prim.Native.Nat.{ℕ, zero, suc, _+_, _-_, _≤_, _<_}
-use mathlib.Core.List.{List, [], _∷_}
-use mathlib.Core.Path.{_≡_, refl, sym, ap, _∙_}
-use native.Mathlib.Nat.{add-sub-cancel-left}
-use native.Mathlib.Omega.{arith}
-use lib.ListN.{length, take, drop, length-take, length-drop}
-use lib.Seq.{drop-drop, take-all}
+use Rattle.octets.specs.Standard.{ℕ, _+_, _-_, _≤_, List, [], _∷_, _≡_, refl, sym, _∙_, add-sub-cancel-left, arith, length, take, drop, length-take}
+use Rattle.octets.specs.Standard.{length-drop, drop-drop, take-all}
 use Rattle.table.specs.Check.{checkTable}
 use Rattle.blocks.specs.declared.Checked.{Checked}
 use Rattle.vectors.specs.VectorFile.{checkVectors}
 use Rattle.reading.specs.declared.Terms.{Terms}
-use Rattle.counting.specs.Counted.{counted, countedAll}
+use Rattle.counting.specs.Counted.{countedAll}
 use Rattle.calling.specs.Lent.{Lent, lent}
 use Rattle.calling.proofs.Kept.{table-checked, vectors-checked}
 use Rattle.reporting.specs.Pieces.{firstLength, pieces, totalOf, stopOf}

@@ -7,7 +7,7 @@ use lib.Dec.{eqb, ltb}
 use Rattle.octets.specs.Run.{over}
 use Rattle.counting.specs.Counted.{countsOf}
 use Rattle.counting.specs.Layout.{stopWord}
-use Rattle.counting.specs.Words.{bytesOf}
+use Rattle.counting.specs.Words.{wordsBytes}
 use Rattle.calling.specs.Lent.{Lent}
 use Rattle.reporting.specs.Pieces.{pieces, stopOf}
 use Rattle.reporting.specs.Row.{row, left}
@@ -38,7 +38,7 @@ ran x area =
       table = left x (requestsOf x) .table;
       vectors = left x (requestsOf x) .vectors;
       buffer = left x (requestsOf x) .buffer;
-      area = over (bytesOf (wordsOf x)) area;
+      area = over (wordsBytes (wordsOf x)) area;
     }
 
 -- 15: the area has no room for the 145 words; nothing is run

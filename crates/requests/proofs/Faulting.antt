@@ -1,14 +1,8 @@
 -- Where an AVP at fault stands: within the message, behind its header.
-use Prim.Native.Nat.{ℕ, zero, suc, pred, _+_, _-_, _<_, _≤_}
-use mathlib.Core.List.{List, [], _∷_}
-use mathlib.Core.Bool.{Bool, true, false, cond}
-use mathlib.Core.Path.{_≡_, refl, sym, _∙_}
-use native.Mathlib.Omega.{arith}
-use lib.ListN.{length, take, drop, length-drop}
-use lib.Seq.{length-take-le}
-use lib.Dec.{eqb}
+use Rattle.octets.specs.Standard.{ℕ, zero, suc, pred, _+_, _-_, _<_, _≤_, List, [], _∷_, Bool, true, false, cond, _≡_, refl, arith, length, take}
+use Rattle.octets.specs.Standard.{drop, length-drop, length-take-le, eqb}
 use Rattle.diameter.specs.Avp.{avpLen, padded, sound}
-use Rattle.diameter.specs.Walk.{Walk, ended, faulty, avp, onSound, walkFrom, walk}
+use Rattle.diameter.specs.Walk.{Walk, onSound, walkFrom, walk}
 use Rattle.diameter.specs.Message.{bodyOf}
 use Rattle.diameter.proofs.Walks.{Sound, sound-says, padded-least}
 use Rattle.reading.specs.Kinds.{sessionId}

@@ -1,15 +1,7 @@
 -- What a request that was read holds: what the dialect needs came, and each AVP that was taken keeps rule (h).
-use Prim.Native.Nat.{ℕ, zero, suc, _+_, _≤_, _<_}
-use native.Mathlib.Nat.{add-zero, add-suc, suc-add}
-use mathlib.Core.Path.{_≡_, refl, sym, ap, _∙_}
-use mathlib.Core.List.{List, [], _∷_}
-use mathlib.Core.Option.{Option, none, some, Option·none-ne-some}
-use mathlib.Core.Bool.{Bool, true, false, not, cond, _&&_, true≢false}
-use mathlib.Core.Logic.{_⊎_, inl, inr}
-use native.Mathlib.Omega.{arith}
-use lib.ListN.{length, getD, set, replicate}
-use lib.Dec.{eqb, leb}
-use borrow.Author.Tests.{eqb-true, leb-true, ne-eqb}
+use Rattle.octets.specs.Standard.{ℕ, zero, suc, _+_, _≤_, _<_, add-zero, add-suc, suc-add, _≡_, refl, sym, ap, _∙_, List, [], _∷_, Option, none, some}
+use Rattle.octets.specs.Standard.{Option·none-ne-some, Bool, true, false, not, cond, _&&_, true≢false, _⊎_, inl, inr, arith, length, getD, set}
+use Rattle.octets.specs.Standard.{replicate, eqb, leb, eqb-true, leb-true, ne-eqb}
 use Rattle.octets.proofs.All.{and-left, and-right}
 use Rattle.diameter.specs.Avp.{padded, avpFlags, dataOf, reserved, marked}
 use Rattle.diameter.specs.Walk.{Walk, ended, faulty, avp}
@@ -28,8 +20,7 @@ use Rattle.reading.specs.Rules.{contentFault, ofContent, ofUse, ruleBy, rule, S
 use Rattle.requests.specs.Judged.{nothing, Judged, bad, fine, onRule, judge}
 use Rattle.diameter.specs.Message.{bodyOf}
 use Rattle.reading.specs.Verdicts.{lackOf, faultOf}
-use Rattle.requests.specs.Request.{headerFault, firstOther, missingFrom, missing, complete, readWalk, readIn}
-use Rattle.requests.specs.Request.{given, dataIf, dataSeen}
+use Rattle.requests.specs.Request.{headerFault, firstOther, missingFrom, missing, complete, readWalk, readIn, given, dataIf, dataSeen}
 
 -- every AVP that was taken holds what its kind must
 abbrev pub AllKept : Dialect → Seen → Type 0

@@ -1,26 +1,16 @@
 -- A request's header, its first AVP, what is missing, and the whole.
-use Prim.Native.Nat.{ℕ, _+_, _/_, _%_, _≤_, _<_}
-use native.Mathlib.Numerals.{add-one}
-use mathlib.Core.Path.{_≡_, refl, sym, _∙_}
-use mathlib.Core.List.{List, [], _∷_}
-use mathlib.Core.Bool.{Bool, true, false, not, _&&_}
-use native.Mathlib.Omega.{arith}
-use lib.ListN.{length, getD, drop, drop-of-length-le}
-use lib.Seq.{drop-cons}
-use lib.Dec.{eqb}
-use borrow.Author.Tests.{eq-eqb, ne-eqb}
+use Rattle.octets.specs.Standard.{ℕ, _+_, _/_, _%_, _≤_, _<_, add-one, _≡_, refl, sym, _∙_, List, [], _∷_, Bool, true, false, not, _&&_, arith}
+use Rattle.octets.specs.Standard.{length, getD, drop, drop-of-length-le, drop-cons, eqb, eq-eqb, ne-eqb}
 use Rattle.diameter.specs.Avp.{sound}
 use Rattle.diameter.specs.Walk.{Walk, ended, faulty, walk}
 use Rattle.diameter.specs.Reader.{readOf, partAt, present, ownOf}
 use Rattle.diameter.specs.declared.Avp.{Avp}
 use Rattle.diameter.specs.declared.Read.{Read}
-use Rattle.diameter.specs.declared.Read.the-variants as read
 use Rattle.diameter.proofs.Walks.{walk-nil, walk-faulty}
 use Rattle.diameter.proofs.Reading.{own-flags, read-says, read-unsound}
 use Rattle.reading.specs.declared.Dialect.{Dialect}
 use Rattle.reading.specs.declared.Verdict.{Verdict}
 use Rattle.requests.specs.declared.Walked.{Walked}
-use Rattle.requests.specs.declared.Walked.the-variants as walked
 use Rattle.reading.specs.Kinds.{kinds, known, unknown, sessionId, kindOf, rowOf, useIn, isNeeded}
 use Rattle.reading.specs.Rules.{Seen}
 use Rattle.requests.specs.Judged.{nothing, Judged, bad, fine, judge}
@@ -30,6 +20,8 @@ use Rattle.requests.specs.Request.{spoken, headerFault, firstOther, miss
 use Rattle.reading.specs.Places.{seenOf}
 use Rattle.requests.specs.Found.{judgedOf}
 use Rattle.reading.proofs.Judging.{seen-at}
+use Rattle.diameter.specs.declared.Read.the-variants as read
+use Rattle.requests.specs.declared.Walked.the-variants as walked
 
 -- "Header, in order"
 module _ (req : List ℕ) (dialect : Dialect) where

@@ -1,13 +1,8 @@
 -- The scheme that a MAR asks for: a 612 that was taken holds one AVP, a 608, and the scheme is its data.
-use Prim.Native.Nat.{ℕ, _<_}
-use mathlib.Core.Path.{_≡_, refl, sym, _∙_}
-use mathlib.Core.List.{List, [], _∷_}
-use mathlib.Core.Option.{Option, none, some}
-use mathlib.Core.Bool.{Bool, true, false, cond, true≢false}
-use native.Mathlib.Omega.{arith}
-use lib.ListN.{length, getD, take}
+use Rattle.octets.specs.Standard.{ℕ, _<_, _≡_, refl, sym, _∙_, List, [], _∷_, Option, none, some, Bool, true, false, cond, true≢false, arith, length}
+use Rattle.octets.specs.Standard.{getD, take}
 use Rattle.diameter.specs.Avp.{avpLen, dataOf, sound}
-use Rattle.diameter.specs.Walk.{Walk, ended, faulty, avp, onSound, walkFrom, walk}
+use Rattle.diameter.specs.Walk.{Walk, ended, avp, onSound, walkFrom, walk}
 use Rattle.diameter.specs.Reader.{between, present, avpOf, dataAt, Spans}
 use Rattle.diameter.specs.declared.Span.{Span}
 use Rattle.diameter.proofs.Parts.{data-there}

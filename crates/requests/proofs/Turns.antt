@@ -1,27 +1,23 @@
 -- One turn of the walk over a message: to judge the rest from what is found so far is to judge the whole from nothing.
-use Prim.Native.Nat.{ℕ, zero, suc, _≤_, _<_}
-use mathlib.Core.Path.{_≡_, refl, ap, _∙_}
-use mathlib.Core.List.{List, [], _∷_, map}
-use native.Mathlib.Omega.{arith}
-use lib.ListN.{length, drop, set, replicate}
+use Rattle.octets.specs.Standard.{ℕ, zero, suc, _≤_, _<_, _≡_, refl, ap, _∙_, List, [], _∷_, map, arith, length, drop, set, replicate}
 use Rattle.diameter.specs.Walk.{walk}
 use Rattle.diameter.specs.Reader.{readOf, beginsAt, partAt, ownOf}
 use Rattle.diameter.specs.declared.Avp.{Avp}
 use Rattle.diameter.specs.declared.Read.{Read}
-use Rattle.diameter.specs.declared.Read.the-variants as read
 use Rattle.diameter.proofs.Reading.{Says, read-begins, read-says, read-fault-says, walk-past, none-past}
 use Rattle.diameter.proofs.Parts.{says-next}
 use Rattle.reading.specs.declared.Ruled.{Ruled}
-use Rattle.reading.specs.declared.Ruled.the-variants as ruled
 use Rattle.reading.specs.declared.Dialect.{Dialect}
 use Rattle.requests.specs.declared.Walked.{Walked}
-use Rattle.requests.specs.declared.Walked.the-variants as walked
 use Rattle.reading.specs.Kinds.{kinds, kindOf}
 use Rattle.reading.specs.Rules.{rule}
 use Rattle.reading.specs.Verdicts.{faultAt}
 use Rattle.requests.specs.Judged.{nothing, Judged, onRule, judge}
 use Rattle.reading.specs.Places.{seenOf}
 use Rattle.requests.specs.Found.{judgedOf}
+use Rattle.diameter.specs.declared.Read.the-variants as read
+use Rattle.reading.specs.declared.Ruled.the-variants as ruled
+use Rattle.requests.specs.declared.Walked.the-variants as walked
 
 map-set : {X Y : Type 0} (f : X → Y) (l : List X) (i : ℕ) (x : X) → map f (set l i x) ≡ set (map f l) i (f x)
 map-set f [] i x = refl

@@ -1,12 +1,6 @@
 -- A challenge stores a name and sets pending: a change of a record's block that keeps what every effect keeps.
-use Prim.Native.Nat.{ℕ, _-_, _%_, _≤_}
-use mathlib.Core.Bool.{Bool, true, false, cond, not, _||_, or-true}
-use mathlib.Core.Path.{_≡_, refl, _∙_, ap}
-use mathlib.Core.List.{List}
-use native.Mathlib.Omega.{arith}
-use lib.Dec.{eqb, ltb}
-use borrow.Author.Tests.{eq-eqb, ne-eqb, lt-ltb}
-use lib.ListN.{length}
+use Rattle.octets.specs.Standard.{ℕ, _%_, _≤_, Bool, true, false, cond, not, _||_, or-true, _≡_, refl, _∙_, ap, List, arith, eqb, ltb, eq-eqb, ne-eqb}
+use Rattle.octets.specs.Standard.{lt-ltb, length}
 use Rattle.octets.specs.Name.{same}
 use Rattle.octets.proofs.Names.{same-yes}
 use Rattle.record.specs.Fields.{stateOf, bitsOf, serverOf, pendingSet}

@@ -1,12 +1,6 @@
 -- What rests on what every effect keeps: a table stays sound, and what is found in it is found again.
-use Prim.Native.Nat.{ℕ, _+_, _-_, _*_, _<_, _≤_}
-use mathlib.Core.Bool.{Bool, true, false}
-use mathlib.Core.Path.{_≡_, refl, sym, _∙_}
-use mathlib.Core.List.{List, []}
-use native.Mathlib.Omega.{arith}
-use lib.Dec.{eqb, leb}
-use borrow.Author.Tests.{eqb-true, eqb-false, leb-true, leb-false}
-use lib.ListN.{length, drop-of-length-le}
+use Rattle.octets.specs.Standard.{ℕ, _+_, _*_, _<_, _≤_, Bool, true, false, _≡_, refl, sym, _∙_, List, [], arith, eqb, leb, eqb-true, eqb-false}
+use Rattle.octets.specs.Standard.{leb-true, leb-false, length, drop-of-length-le}
 use Rattle.octets.proofs.Numbers.{be16-alike}
 use Rattle.octets.proofs.Parts.{part-alike}
 use Rattle.record.specs.Fields.{publicSize, privateSize, publicOf, privateOf, setOf}

@@ -1,12 +1,6 @@
 -- The table after an effect, by its blocks: for any change that keeps what every effect keeps.
-use Prim.Native.Nat.{ℕ, suc, _+_, _*_, _≤_}
-use mathlib.Core.Bool.{Bool, true, false, cond, _||_}
-use mathlib.Core.Path.{_≡_, refl, sym, _∙_, ap}
-use mathlib.Core.List.{List}
-use native.Mathlib.Omega.{arith}
-use lib.Dec.{eqb}
-use borrow.Author.Tests.{ne-eqb, eq-eqb}
-use lib.ListN.{length}
+use Rattle.octets.specs.Standard.{ℕ, suc, _+_, _*_, _≤_, Bool, true, false, cond, _||_, _≡_, refl, sym, _∙_, ap, List, arith, eqb, ne-eqb, eq-eqb}
+use Rattle.octets.specs.Standard.{length}
 use Rattle.blocks.specs.Blocks.{blockOf}
 use Rattle.blocks.proofs.Blocks.{block-length, table-same}
 use Rattle.record.specs.Sets.{sameSet, agreeing}

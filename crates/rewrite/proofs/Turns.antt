@@ -1,13 +1,6 @@
 -- The turns of a loop over all the records of a table that changes the chosen ones, each where it stands.
-use Prim.Native.Nat.{ℕ, zero, suc, _+_, _*_, _<_, _≤_}
-use mathlib.Core.Bool.{Bool, true, false, cond}
-use mathlib.Core.Path.{_≡_, refl, sym, ap, _∙_}
-use mathlib.Core.Logic.{_≢_}
-use mathlib.Core.List.{List, [], _∷_}
-use native.Mathlib.Omega.{arith}
-use native.Mathlib.Numerals.{add-one}
-use lib.ListN.{length}
-use borrow.Author.Tests.{le-ltb}
+use Rattle.octets.specs.Standard.{ℕ, zero, suc, _+_, _*_, _<_, _≤_, Bool, true, false, cond, _≡_, refl, sym, ap, _∙_, _≢_, List, [], _∷_, arith}
+use Rattle.octets.specs.Standard.{add-one, length, le-ltb}
 use Rattle.record.specs.Fields.{setOf}
 use Rattle.record.specs.Sets.{sameSet}
 use Rattle.record.proofs.OneSet.{set-alike}

@@ -1,13 +1,7 @@
 -- A block that is already as it would be renewed.
-use Prim.Native.Nat.{ℕ, zero, suc, _+_, _-_, _<_, _≤_}
-use mathlib.Core.Bool.{Bool, true, false, _&&_, true≢false}
-use mathlib.Core.Path.{_≡_, refl, sym, _∙_, ap}
-use mathlib.Core.List.{List, [], _∷_}
-use native.Mathlib.Omega.{arith}
-use lib.Dec.{eqb, ltb}
-use lib.ListN.{length, getD, take, drop, length-take, length-drop}
-use lib.Seq.{set-getD, getD-take, getD-drop}
-use borrow.Author.Tests.{eqb-true, eq-eqb, ltb-true, ltb-false}
+use Rattle.octets.specs.Standard.{ℕ, zero, suc, _+_, _-_, _<_, _≤_, Bool, true, false, _&&_, true≢false, _≡_, refl, sym, _∙_, ap, List, [], _∷_}
+use Rattle.octets.specs.Standard.{arith, eqb, ltb, length, getD, take, drop, length-take, length-drop, set-getD, getD-take, getD-drop, eqb-true}
+use Rattle.octets.specs.Standard.{eq-eqb, ltb-true, ltb-false}
 use Rattle.octets.specs.Name.{same}
 use Rattle.octets.specs.Run.{putName, zeroBetween}
 use Rattle.octets.specs.Sum.{sumWords}

@@ -1,11 +1,6 @@
 -- A call alters as many records of the one table as of the other: whether a block is already as it would be renewed, its own bytes 2 to 407 say.
-use Prim.Native.Nat.{ℕ, zero, suc, _+_, _≤_}
-use mathlib.Core.Bool.{Bool, true, false, _&&_, cond, not, _||_}
-use mathlib.Core.Path.{_≡_, refl, sym, _∙_}
-use mathlib.Core.List.{List, [], _∷_}
-use native.Mathlib.Omega.{arith}
-use lib.Dec.{eqb}
-use lib.ListN.{length, getD}
+use Rattle.octets.specs.Standard.{ℕ, zero, suc, _+_, _≤_, Bool, true, false, _&&_, cond, not, _||_, _≡_, refl, sym, _∙_, List, [], _∷_, arith, eqb}
+use Rattle.octets.specs.Standard.{length, getD}
 use Rattle.octets.specs.Name.{same}
 use Rattle.octets.specs.Run.{zeroBetween}
 use Rattle.octets.specs.Sum.{sumWords}

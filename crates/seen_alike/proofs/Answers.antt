@@ -1,11 +1,5 @@
 -- An answer takes the same of tables that show the same, if it names none but their records.
-use Prim.Native.Nat.{ℕ, _≤_}
-use mathlib.Core.Bool.{Bool, true, false, cond}
-use mathlib.Core.Path.{_≡_, refl, ap, _∙_}
-use mathlib.Core.List.{List, []}
-use native.Mathlib.Omega.{arith}
-use lib.Dec.{eqb}
-use borrow.Author.Tests.{eqb-false}
+use Rattle.octets.specs.Standard.{ℕ, _≤_, Bool, true, false, cond, _≡_, refl, ap, _∙_, List, [], arith, eqb, eqb-false}
 use Rattle.record.specs.Fields.{privateOf, publicOf, serverOf, mandatoryOf, optionalOf, profileOf}
 use Rattle.blocks.specs.Blocks.{blockOf, ofBlock}
 use Rattle.reading.specs.declared.Outcome.{Outcome}

@@ -1,12 +1,6 @@
 -- What a call writes, it writes into blocks that are alike alike: the tables afterwards are alike again.
-use Prim.Native.Nat.{ℕ, zero, suc, _+_, _-_, _<_, _≤_}
-use mathlib.Core.Bool.{Bool, true, false, cond, not, _||_, true≢false}
-use mathlib.Core.Path.{_≡_, refl, sym, _∙_}
-use mathlib.Core.List.{List, [], _∷_}
-use native.Mathlib.Omega.{arith}
-use lib.Dec.{eqb, leb, ltb}
-use lib.ListN.{getD}
-use borrow.Author.Tests.{eqb-true, ne-eqb, leb-true, ltb-true, lt-leb}
+use Rattle.octets.specs.Standard.{ℕ, zero, suc, _+_, _-_, _<_, _≤_, Bool, true, false, cond, not, _||_, true≢false, _≡_, refl, sym, _∙_, List, []}
+use Rattle.octets.specs.Standard.{_∷_, arith, eqb, leb, ltb, getD, eqb-true, ne-eqb, leb-true, ltb-true, lt-leb}
 use Rattle.octets.specs.Name.{same}
 use Rattle.record.specs.Fields.{stateOf, bitsOf, serverSize, serverOf, pendingSet}
 use Rattle.record.specs.RecordBlock.{recordOf}

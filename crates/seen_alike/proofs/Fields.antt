@@ -1,11 +1,6 @@
 -- What a request can see of a block is the same of one that is alike, as long as the names keep to their places; in a sound table they do.
-use Prim.Native.Nat.{ℕ, _<_, _≤_}
-use mathlib.Core.Path.{_≡_, refl, sym, _∙_}
-use mathlib.Core.List.{List}
-use native.Mathlib.Omega.{arith}
-use lib.ListN.{getD}
-use Rattle.record.specs.Fields.{hostSize, realmSize, networksOf}
-use Rattle.record.specs.Fields.{serverSize, serverOf}
+use Rattle.octets.specs.Standard.{ℕ, _<_, _≤_, _≡_, refl, sym, _∙_, List, arith, getD}
+use Rattle.record.specs.Fields.{hostSize, realmSize, networksOf, serverSize, serverOf}
 use Rattle.record.specs.HeaderBlock.{headerOf}
 use Rattle.record.specs.Networks.{placeAt}
 use Rattle.record.specs.RecordBlock.{recordOf}

@@ -1,7 +1,5 @@
 -- One plan, and but for the table one decision, over tables that show the same.
-use Prim.Native.Nat.{ℕ}
-use mathlib.Core.Path.{_≡_, refl, ap}
-use mathlib.Core.List.{List}
+use Rattle.octets.specs.Standard.{ℕ, _≡_, refl, ap, List}
 use Rattle.reading.specs.Kinds.{publicIdentity, authorizationType, numberAuthItems}
 use Rattle.reading.specs.Rules.{Seen}
 use Rattle.reading.specs.declared.Dialect.{Dialect}

@@ -1,11 +1,6 @@
 -- A family: lines of one private identity that share a set, computed. The definitions of 02 [6] are tried here, the theorems about sets have their instances,
 -- and three wrong servers fail the promise.
-use Prim.Native.Nat.{ℕ}
-use mathlib.Core.Path.{_≡_, refl, ap, _∙_}
-use mathlib.Core.Bool.{true, false}
-use mathlib.Core.List.{List, [], _∷_, _++_}
-use native.Mathlib.Omega.{arith}
-use lib.ListN.{getD, take, set}
+use Rattle.octets.specs.Standard.{ℕ, _≡_, refl, ap, _∙_, true, false, List, [], _∷_, _++_, arith, getD, take, set}
 use Rattle.octets.specs.Run.{over}
 use Rattle.record.specs.Fields.{editionOf}
 use Rattle.record.specs.Sets.{sameSet, agreeing}
@@ -23,8 +18,8 @@ use Rattle.older_rules.specs.WithoutSets.{beforeSets}
 use Rattle.older_rules.proofs.Sets.{without-sets, first-edition, members-agree}
 use Rattle.older_rules.proofs.Unreachable.{withBranch, same-for-every-input}
 use Rattle.worked_examples.proofs.Computed.{known, come, roomy, no-vectors, registered-sound}
-use Rattle.worked_examples.proofs.Sample.{checked, header, subscriber, request, reply, answer, common, assignment, authentication, vector, room, one, s, z}
-use Rattle.worked_examples.proofs.Sample.{opened}
+use Rattle.worked_examples.proofs.Sample.{checked, header, subscriber, request, reply, answer, common, assignment, authentication, vector, room, one}
+use Rattle.worked_examples.proofs.Sample.{s, z, opened}
 
 -- a header of the second edition; a line of the private identity `p`, or of another, with a set number
 unfoldable pub head : ℕ → List ℕ
@@ -167,17 +162,17 @@ met-every-input : serveBy withBranch admitted ≡ serve admitted
 met-every-input = same-for-every-input admitted
 
 -- WRONG SERVERS. Each is any function of what is lent; at an input above its outcome does not meet the promise.
-record Outcome : Type 0 where
+record CallLeft : Type 0 where
   word : ℕ
   table : List ℕ
   vectors : List ℕ
   buffer : List ℕ
 
-abbrev Meets : (Lent → Outcome) → Lent → Type 0
+abbrev Meets : (Lent → CallLeft) → Lent → Type 0
 Meets f x = DecidePromise x (f x .word) (f x .table) (f x .vectors) (f x .buffer)
 
 -- 1. "an effect on the named member only": whatever it does to the first record, the second stays as it came
-module _ (f : Lent → Outcome) (only : getD (f registration .table) 1032 0 ≡ getD (registration .table) 1032 0) where
+module _ (f : Lent → CallLeft) (only : getD (f registration .table) 1032 0 ≡ getD (registration .table) 1032 0) where
   named-only-fails : Meets f registration → ⊥
   unfolding opened head line family
   named-only-fails p =
@@ -185,7 +180,7 @@ module _ (f : Lent → Outcome) (only : getD (f registration .table) 1032 0 ≡ 
       omega (arith, after, only)
 
 -- 2. "an effect" on a line of the subscription that is in no set
-module _ (f : Lent → Outcome) (more : getD (f registration .table) 1544 0 ≡ 1) where
+module _ (f : Lent → CallLeft) (more : getD (f registration .table) 1544 0 ≡ 1) where
   all-lines-fails : Meets f registration → ⊥
   unfolding opened head line family
   all-lines-fails p =
@@ -193,7 +188,7 @@ module _ (f : Lent → Outcome) (more : getD (f registration .table) 1544 0 ≡ 
       omega (arith, after, more)
 
 -- 3. "barred though a member is free": the last byte of 5003 is 139, that of 2001 is 209
-module _ (f : Lent → Outcome) (rejects : getD (f admitted .buffer) 75 0 ≡ 139) where
+module _ (f : Lent → CallLeft) (rejects : getD (f admitted .buffer) 75 0 ≡ 139) where
   rejecting-fails : Meets f admitted → ⊥
   unfolding opened
   rejecting-fails p =

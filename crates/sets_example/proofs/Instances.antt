@@ -1,13 +1,6 @@
 -- The theorems of 02 [6] and [7] (demands/proofs/Sets and demands/proofs/Unreachable) have instances: their hypotheses are met by a family, computed.
-use Prim.Native.Nat.{ℕ, zero, suc, _<_, _≤_}
-use mathlib.Core.Path.{_≡_, refl, sym, ap, subst, _∙_}
-use mathlib.Core.Bool.{Bool, true, false, _&&_}
-use mathlib.Core.Logic.{_⊎_, inl, _≢_}
-use mathlib.Core.List.{List, [], _∷_, _++_}
-use native.Mathlib.Omega.{arith}
-use lib.ListN.{getD}
-use lib.Dec.{ltb, lit≤, lit<}
-use borrow.Author.Tests.{ltb-true}
+use Rattle.octets.specs.Standard.{ℕ, zero, suc, _<_, _≤_, _≡_, refl, sym, ap, subst, _∙_, Bool, true, false, _&&_, _⊎_, inl, _≢_, List, [], _∷_, _++_}
+use Rattle.octets.specs.Standard.{arith, getD, ltb, lit≤, lit<, ltb-true}
 use Rattle.octets.proofs.All.{and-left, and-right}
 use Rattle.record.specs.Fields.{serverSize}
 use Rattle.record.specs.HeaderBlock.{headerOf}
@@ -24,19 +17,19 @@ use Rattle.requests.specs.Judged.{Judged, bad, fine}
 use Rattle.requests.specs.Request.{readRequest}
 use Rattle.calling.specs.Call.{Refused}
 use Rattle.calling.specs.Lent.{Lent, lent}
-use Rattle.calling.specs.Lent as lending
 use Rattle.calling.specs.Serve.{Served, checkOf, checkValue, decision, resultOf, serve}
 use Rattle.ndushavire.specs.Word.{checkWord}
 use Rattle.ndushavire.specs.Reads.{ReadsCheck}
 use Rattle.demands.specs.Sets.{Shares, Agrees, Disagrees, Stands, Barred}
-use Rattle.demands.proofs.Sets as sets
-use Rattle.demands.proofs.Unreachable as unreachable
 use Rattle.older_rules.specs.Rules.{decideBy}
 use Rattle.older_rules.proofs.Unreachable.{withBranch}
 use Rattle.worked_examples.proofs.Computed.{known, come, roomy, no-vectors}
 use Rattle.worked_examples.proofs.Sample.{room, assignment, authentication, s, z, opened}
 use Rattle.sets_example.proofs.Family.{head, line, pair, family, asking, shut, registration, family-sound, registered, admitted, barred-sound}
 use Rattle.sets_example.proofs.Family.{shut-sound}
+use Rattle.calling.specs.Lent as lending
+use Rattle.demands.proofs.Sets as sets
+use Rattle.demands.proofs.Unreachable as unreachable
 
 -- what a request that is read holds; the result of a call over a sound table
 abbrev seenIn : Judged → Seen

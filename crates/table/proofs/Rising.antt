@@ -1,11 +1,5 @@
 -- The order of two records that follow one another.
-use Prim.Native.Nat.{ℕ, _-_, _<_, _≤_}
-use mathlib.Core.Bool.{Bool, true, false, cond}
-use mathlib.Core.Path.{_≡_, refl}
-use mathlib.Core.List.{List}
-use native.Mathlib.Omega.{arith}
-use lib.Dec.{leb}
-use borrow.Author.Tests.{le-leb, lt-leb, leb-false}
+use Rattle.octets.specs.Standard.{ℕ, _-_, _<_, _≤_, Bool, true, false, cond, _≡_, refl, List, arith, leb, le-leb, lt-leb, leb-false}
 use Rattle.octets.specs.Name.{orderOf}
 use Rattle.record.specs.Fields.{publicOf}
 use Rattle.blocks.specs.Blocks.{blockOf}

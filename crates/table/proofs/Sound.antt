@@ -1,12 +1,6 @@
 -- What a sound table says, and that a table that says so is sound.
-use Prim.Native.Nat.{ℕ, suc, _+_, _-_, _*_, _<_, _≤_}
-use mathlib.Core.Bool.{Bool, true, false, _&&_, _||_, not, cond, true≢false}
-use mathlib.Core.Path.{_≡_, refl, sym, _∙_, ap}
-use mathlib.Core.List.{List}
-use native.Mathlib.Omega.{arith}
-use lib.ListN.{length, getD}
-use lib.Dec.{leb, ltb, eqb}
-use borrow.Author.Tests.{eqb-true, leb-true, ltb-true, lt-leb, le-leb, eq-eqb, ne-eqb, lt-ltb}
+use Rattle.octets.specs.Standard.{ℕ, suc, _+_, _-_, _*_, _<_, _≤_, Bool, true, false, _&&_, _||_, not, cond, true≢false, _≡_, refl, sym, _∙_, ap}
+use Rattle.octets.specs.Standard.{List, arith, length, getD, leb, ltb, eqb, eqb-true, leb-true, ltb-true, lt-leb, le-leb, eq-eqb, ne-eqb, lt-ltb}
 use Rattle.octets.specs.Name.{orderOf}
 use Rattle.octets.specs.declared.name.Order.{Order}
 use Rattle.octets.specs.declared.name.Order.the-variants.{Less, Equal, Greater}

@@ -1,16 +1,7 @@
 -- Vectors marked: a block with its mark, and the file with those that are sent marked, one after the other.
-use Prim.Native.Nat.{ℕ, suc, _+_, _-_, _*_, _/_, _%_, _<_, _≤_}
-use mathlib.Core.Bool.{Bool, true, false, cond, _||_, or-true, or-false}
-use mathlib.Core.Path.{_≡_, refl, sym, _∙_, ap}
-use mathlib.Core.Logic.{_≢_}
-use mathlib.Core.List.{List, [], _∷_, _++_}
-use native.Mathlib.Omega.{arith}
-use native.Mathlib.Numerals.{add-one}
-use lib.ListN.{length, getD, set, take, length-set}
-use lib.Seq.{take-suc, getD-set-same, getD-set-other}
-use lib.Dec.{eqb}
-use borrow.Author.Tests.{eqb-true, eqb-false, eq-eqb, ne-eqb}
-use borrow.Rule.Slice.PartMut.{midOf, putMid}
+use Rattle.octets.specs.Standard.{ℕ, suc, _+_, _-_, _*_, _/_, _%_, _<_, _≤_, Bool, true, false, cond, _||_, or-true, or-false, _≡_, refl, sym, _∙_}
+use Rattle.octets.specs.Standard.{ap, _≢_, List, [], _∷_, _++_, arith, add-one, length, getD, set, take, length-set, take-suc, getD-set-same}
+use Rattle.octets.specs.Standard.{getD-set-other, eqb, eqb-true, eqb-false, eq-eqb, ne-eqb, midOf, putMid}
 use Rattle.blocks.specs.Blocks.{blockOf}
 use Rattle.blocks.proofs.Blocks.{block-length}
 use Rattle.blocks.specs.Sealed.{sealed}

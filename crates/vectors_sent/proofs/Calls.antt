@@ -1,18 +1,12 @@
 -- One call and the vector file: it sends nothing and leaves the file as it came, or it marks what it sends.
-use Prim.Native.Nat.{ℕ, _<_, min}
-use mathlib.Core.List.{List, []}
-use mathlib.Core.Bool.{Bool, true, false, true≢false}
-use mathlib.Core.Path.{_≡_, refl, sym, _∙_}
-use mathlib.Core.Logic.{_⊎_, inl, inr}
-use lib.ListN.{length}
+use Rattle.octets.specs.Standard.{ℕ, _<_, min, List, [], Bool, true, false, true≢false, _≡_, refl, sym, _∙_, _⊎_, inl, inr, length}
 use Rattle.vectors.specs.Chosen.{unusedOf, sentOf}
 use Rattle.vectors.specs.Marked.{spent}
-use Rattle.vectors.specs.VectorFile.{SoundVectors, checkVectors}
+use Rattle.vectors.specs.VectorFile.{SoundVectors}
 use Rattle.calling.specs.Lent.{Lent, dialectIn}
-use Rattle.calling.specs.Trial.{anyHolds, Trial, tried}
-use Rattle.calling.specs.Serve.{checkOf, trials, refused, answered, serve, checkValue, decided, smallBuffer, wrongSize, wrongLength, noRequest, isBad, serveFound, serveBy}
+use Rattle.calling.specs.Trial.{anyHolds, Trial}
+use Rattle.calling.specs.Serve.{checkOf, trials, refused, answered, serve, checkValue, decided}
 use Rattle.calling.proofs.Kept.{taken, serve-either, answered-is}
-use Rattle.deciding.proofs.Tests.{neither}
 use Rattle.vectors_sent.specs.Sent.{sentBy, Challenges, userOf, askedBy}
 use Rattle.vectors_sent.proofs.Cases.{Cases, other, success, decide-cases}
 

@@ -1,11 +1,5 @@
 -- What a decision does to the vector file: nothing, and it sends nothing; or it is a MAR's success, which marks what it sends.
-use Prim.Native.Nat.{ℕ, _-_, _<_, _≤_, min}
-use mathlib.Core.List.{List, []}
-use mathlib.Core.Path.{_≡_, refl, ap}
-use mathlib.Core.Logic.{_≢_}
-use native.Mathlib.Omega.{arith}
-use lib.ListN.{length, replicate}
-use lib.Seq.{take-append-seam}
+use Rattle.octets.specs.Standard.{ℕ, _-_, _<_, _≤_, min, List, [], _≡_, refl, ap, _≢_, arith, length, replicate, take-append-seam}
 use Rattle.vectors.specs.Chosen.{unusedOf, packed, sentOf}
 use Rattle.vectors.specs.Marked.{spent}
 use Rattle.vectors.specs.declared.choice.Sent.{Sent}
@@ -19,7 +13,7 @@ use Rattle.requests.specs.Judged.{fine}
 use Rattle.requests.specs.Request.{readIn, dataSeen, valueSeen}
 use Rattle.choices.specs.declared.Given.{Given}
 use Rattle.choices.specs.declared.plan.Plan.{Plan}
-use Rattle.decisions.specs.Authentication.{toSend}
+use Rattle.questions.specs.Authentication.{toSend}
 use Rattle.deciding.specs.Rules.{inForce}
 use Rattle.deciding.specs.Decide.{Decision, performedBy, decide}
 use Rattle.deciding.specs.Deeds.{spentBy}

@@ -1,12 +1,6 @@
 -- Rows of calls: what is used stays used, what is sent was unused, and so nothing is sent twice.
-use Prim.Native.Nat.{ℕ, suc, _<_}
-use mathlib.Core.List.{List, [], _∷_, _++_}
-use mathlib.Core.Bool.{Bool, true, false, _||_, true≢false}
-use mathlib.Core.Path.{_≡_, refl, sym, ap, _∙_}
-use native.Mathlib.Omega.{arith}
-use lib.ListN.{length, getD}
-use lib.Dec.{eqb}
-use borrow.Author.Tests.{eq-eqb, ne-eqb}
+use Rattle.octets.specs.Standard.{ℕ, suc, _<_, List, [], _∷_, _++_, Bool, true, false, _||_, true≢false, _≡_, refl, sym, ap, _∙_, arith, length, getD}
+use Rattle.octets.specs.Standard.{eqb, eq-eqb, ne-eqb}
 use Rattle.vectors.specs.Chosen.{Rising}
 use Rattle.blocks.specs.Changed.{isOne}
 use Rattle.vectors.specs.VectorFile.{checkVectors}

@@ -1,11 +1,6 @@
 -- What an answer says of the vectors that are sent: their number, and of each its item, in this order.
-use Prim.Native.Nat.{ℕ, zero, suc, _+_, _≤_}
-use mathlib.Core.List.{List, [], _∷_, _++_, append-nil, append-assoc}
-use mathlib.Core.Bool.{false}
-use mathlib.Core.Path.{_≡_, refl, sym, ap}
-use native.Mathlib.Omega.{arith}
-use lib.ListN.{length, getD, take}
-use lib.Seq.{take-suc, length-take-le}
+use Rattle.octets.specs.Standard.{ℕ, zero, suc, _+_, _≤_, List, [], _∷_, _++_, append-nil, append-assoc, false, _≡_, refl, sym, ap, arith, length}
+use Rattle.octets.specs.Standard.{getD, take, take-suc, length-take-le}
 use Rattle.octets.specs.Run.{over}
 use Rattle.blocks.specs.Blocks.{blockOf}
 use Rattle.vectors.specs.Chosen.{sentOf, Sendable}

@@ -1,12 +1,7 @@
 -- What becomes of the vector file, as theorems about `serve`, which is what the exported call is promised to leave (ndushavire/specs/Promise), for anything
 -- lent. What the words below mean is in specs/Sent (one call) and specs/Row (a row of calls).
-use Prim.Native.Nat.{ℕ, _/_, _<_, min}
-use mathlib.Core.List.{List, [], _∷_, _++_}
-use mathlib.Core.Bool.{true, false, true≢false}
-use mathlib.Core.Path.{_≡_, sym, ap, _∙_}
-use mathlib.Core.Logic.{_⊎_, inl, inr, _≢_}
-use lib.ListN.{length, getD}
-use borrow.Author.Tests.{lt-ltb}
+use Rattle.octets.specs.Standard.{ℕ, _/_, _<_, min, List, [], _∷_, _++_, true, false, true≢false, _≡_, sym, ap, _∙_, _⊎_, inl, inr, _≢_, length, getD}
+use Rattle.octets.specs.Standard.{lt-ltb}
 use Rattle.octets.specs.Run.{over}
 use Rattle.blocks.specs.Blocks.{blockOf}
 use Rattle.vectors.specs.Chosen.{unusedAt, Rising}
@@ -24,8 +19,8 @@ use Rattle.ndushavire.specs.Word.{callPlace}
 use Rattle.vectors_sent.specs.Sent.{sentBy, Challenges, userOf, askedBy, usedAt, remaining, itemsFrom, saidOf, answerWith}
 use Rattle.vectors_sent.specs.Row.{Turn, lending, leftBy, sentOver, Once}
 use Rattle.vectors_sent.proofs.Calls.{Quiet, Sending, call-cases}
-use Rattle.vectors_sent.proofs.Blocks as blocks
 use Rattle.vectors_sent.proofs.Said.{answer-says, success-nowhere}
+use Rattle.vectors_sent.proofs.Blocks as blocks
 use Rattle.vectors_sent.proofs.Rows as rows
 
 module _ (x : Lent) where

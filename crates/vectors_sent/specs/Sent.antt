@@ -6,7 +6,7 @@ use mathlib.Core.Path.{_≡_}
 use lib.ListN.{length, getD}
 use lib.Dec.{ltb}
 use Rattle.blocks.specs.Blocks.{blockOf}
-use Rattle.vectors.specs.Chosen.{sentOf, unusedAt, howMany}
+use Rattle.vectors.specs.Chosen.{sentOf, unusedAt, countFrom}
 use Rattle.reading.specs.Kinds.{userName, numberAuthItems}
 use Rattle.reading.specs.declared.Outcome.the-variants.{Base}
 use Rattle.diameter.specs.Message.{commandOf}
@@ -36,22 +36,22 @@ abbrev pub userIn : Judged → List ℕ
 userIn (bad v) = []
 userIn (fine seen) = dataSeen seen userName
 
-abbrev pub numberIn : Judged → ℕ
-numberIn (bad v) = 0
-numberIn (fine seen) = valueSeen seen numberAuthItems
+abbrev pub itemsAsked : Judged → ℕ
+itemsAsked (bad v) = 0
+itemsAsked (fine seen) = valueSeen seen numberAuthItems
 
 abbrev pub userOf : Lent → List ℕ
 userOf x = userIn (readIn (dialectIn x) (x .request))
 
 abbrev pub askedBy : Lent → ℕ
-askedBy x = numberIn (readIn (dialectIn x) (x .request))
+askedBy x = itemsAsked (readIn (dialectIn x) (x .request))
 
 -- byte 1 of block k, "used (0 or 1)"; how many unused vectors of a name there are
 abbrev pub usedAt : List ℕ → ℕ → ℕ
 usedAt v k = getD (blockOf v k) 1 0
 
 unfoldable pub remaining : List ℕ → List ℕ → ℕ
-remaining v name = howMany (unusedAt v name) (length v / 512) 0
+remaining v name = countFrom (unusedAt v name) (length v / 512) 0
 
 -- "the number sent, and the items", of these blocks of a file in this order; nothing of none
 unfoldable pub itemsFrom : List ℕ → ℕ → List ℕ → List ℕ

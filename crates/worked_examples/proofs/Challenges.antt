@@ -1,9 +1,5 @@
 -- Authentication requests, worked through: what each is answered, and the table and the vector file afterwards.
-use Prim.Native.Nat.{ℕ, zero, suc, _+_}
-use mathlib.Core.Path.{_≡_, refl, ap, _∙_}
-use mathlib.Core.List.{List, [], _∷_, _++_, map}
-use mathlib.Core.Bool.{Bool, true, false}
-use lib.ListN.{length, take, replicate, set}
+use Rattle.octets.specs.Standard.{ℕ, zero, suc, _+_, _≡_, refl, ap, _∙_, List, [], _∷_, _++_, map, Bool, true, false, length, take, replicate, set}
 use Rattle.octets.specs.Run.{over}
 use Rattle.blocks.specs.Blocks.{blockOf}
 use Rattle.table.specs.Check.{checkTable}
@@ -18,7 +14,7 @@ use Rattle.pen.specs.Bytes.{vendorHead, avpBytes, vendorBytes, vendorNumber, nu
 use Rattle.pen.specs.Groups.{experimental, failed}
 use Rattle.choices.specs.Given.{givenSent}
 use Rattle.choices.specs.declared.Given.{Given}
-use Rattle.decisions.specs.Authentication.{toSend}
+use Rattle.questions.specs.Authentication.{toSend}
 use Rattle.deciding.specs.Decide.{decide}
 use Rattle.answering.specs.Answer.{answerBytes}
 use Rattle.requests.specs.Request.{underCx}
@@ -27,7 +23,7 @@ use Rattle.calling.specs.Lent.{Lent, lent}
 use Rattle.calling.specs.Serve.{Served, serve}
 use Rattle.worked_examples.proofs.Computed.{known, come, roomy, registered-sound}
 use Rattle.worked_examples.proofs.Sample.{block, header, person, subscriber, vector, room, request, reply, assignment, digest}
-use Rattle.worked_examples.proofs.Sample.{authenticationOf, authentication, item, challenges, one, waiting, s, z, opened}
+use Rattle.worked_examples.proofs.Sample.{authenticationOf, authentication, item, challenges, one, s, z, opened}
 
 -- what is left where a call is answered: with the place of an AVP at fault, or with none
 abbrev leftAt : ℕ → List ℕ → List ℕ → List ℕ → Served

@@ -1,18 +1,13 @@
 -- How a call is computed. The buffer stays a variable, and what the checks of its files answer is computed once for all calls over them.
-use Prim.Native.Nat.{ℕ}
-use mathlib.Core.Path.{_≡_, refl, ap, _∙_}
-use mathlib.Core.List.{List, [], _∷_, _++_}
-use mathlib.Core.Bool.{Bool, false}
-use lib.ListN.{drop, replicate, length-replicate}
-use lib.Dec.{ltb}
+use Rattle.octets.specs.Standard.{ℕ, _≡_, refl, ap, _∙_, List, [], _∷_, _++_, Bool, false, drop, replicate, length-replicate, ltb}
 use Rattle.blocks.specs.declared.Checked.{Checked}
 use Rattle.blocks.specs.declared.Checked.the-variants.{Sound}
 use Rattle.table.specs.Check.{checkTable}
 use Rattle.vectors.specs.VectorFile.{checkVectors}
 use Rattle.calling.specs.Lent.{Lent}
 use Rattle.calling.specs.Trial.{Trial, tried, anyHolds}
-use Rattle.calling.specs.Serve.{Served, smallBuffer, earlyTrials, fileTrials, checkValue, checkOf, trials, refused, answered, decision}
-use Rattle.calling.specs.Serve.{serveFound, serveBy, serve}
+use Rattle.calling.specs.Serve.{Served, smallBuffer, earlyTrials, fileTrials, checkValue, checkOf, trials, refused, answered, decision, serveFound}
+use Rattle.calling.specs.Serve.{serveBy, serve}
 use Rattle.worked_examples.proofs.Sample.{room, one, s, opened}
 
 -- a call by what its buffer's length and its files' checks say: whether the buffer is too small, and the two answers

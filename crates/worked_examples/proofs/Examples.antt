@@ -1,10 +1,5 @@
 -- "Proved of the definitions, all in a single table under a single statement."
-use Prim.Native.Nat.{ℕ}
-use mathlib.Core.Path.{_≡_, refl}
-use mathlib.Core.List.{List, [], _∷_, _++_}
-use mathlib.Core.Bool.{Bool, true, false}
-use lib.ListN.{length, take, replicate, set}
-use lib.Dec.{ltb}
+use Rattle.octets.specs.Standard.{ℕ, _≡_, refl, List, [], _∷_, _++_, Bool, true, false, length, take, replicate, set, ltb}
 use Rattle.octets.specs.Run.{over}
 use Rattle.octets.specs.Sum.{sumWords}
 use Rattle.blocks.specs.declared.Checked.{Checked}
@@ -14,12 +9,11 @@ use Rattle.blocks.specs.Sealed.{sealed}
 use Rattle.pen.specs.Bytes.{vendorHead, avpBytes, numberBytes}
 use Rattle.pen.specs.Groups.{experimental, failed}
 use Rattle.requests.specs.Request.{underCx}
-use Rattle.calling.specs.Call.{Call}
-use Rattle.calling.specs.Call.{Answered, Refused}
+use Rattle.calling.specs.Call.{Call, Answered, Refused}
 use Rattle.calling.specs.Lent.{lent}
 use Rattle.calling.specs.Serve.{serve}
 use Rattle.worked_examples.proofs.Computed.{known, come, sized, no-vectors, unregistered-sound}
-use Rattle.worked_examples.proofs.Sample.{block, header, answer, assignment, one, two, s, z, opened}
+use Rattle.worked_examples.proofs.Sample.{block, header, answer, assignment, one, two, s, opened}
 
 -- A case: a call (a request, a table, no profile file and no vector, a buffer of zeros of so many bytes; what it comes to, the table afterwards, the answer),
 -- the check of a table with its answer, or a block with the sum of its words

@@ -1,8 +1,5 @@
 -- How a MAR is read, computed: what it says, or the verdict on it; and what 607 and 612 are in the other commands.
-use Prim.Native.Nat.{ℕ}
-use mathlib.Core.Path.{_≡_, refl}
-use mathlib.Core.List.{List, [], _∷_, _++_, map}
-use lib.ListN.{replicate}
+use Rattle.octets.specs.Standard.{ℕ, _≡_, refl, List, [], _∷_, _++_, map, replicate}
 use Rattle.pen.specs.Bytes.{headBytes, wordBytes, vendorHead, copied, avpBytes, vendorBytes, vendorNumber}
 use Rattle.reading.specs.declared.Verdict.{Verdict}
 use Rattle.reading.specs.Kinds.{userName, publicIdentity, authDataItem, numberAuthItems, serverName}

@@ -1,12 +1,6 @@
 -- "Try these against it": document 01's five wrong servers, four that break document 02 [1], and two that break [2]. Each is a function here, and at an input
 -- that is computed its outcome does not meet the promise.
-use Prim.Native.Nat.{ℕ, zero, suc, _≤_}
-use mathlib.Core.Path.{_≡_, refl, ap, _∙_}
-use mathlib.Core.Logic.{_≢_}
-use mathlib.Core.List.{List, [], _∷_, _++_}
-use mathlib.Core.Bool.{false}
-use native.Mathlib.Omega.{arith}
-use lib.ListN.{getD, take}
+use Rattle.octets.specs.Standard.{ℕ, zero, suc, _≤_, _≡_, refl, ap, _∙_, _≢_, List, [], _∷_, _++_, false, arith, getD, take}
 use Rattle.octets.specs.Run.{over}
 use Rattle.blocks.specs.declared.Checked.the-variants.{Sound}
 use Rattle.vectors.specs.VectorFile.{checkVectors}
@@ -19,10 +13,11 @@ use Rattle.calling.specs.Call.{Answered}
 use Rattle.ndushavire.specs.Word.{word, checkWord, callWord, placeIn}
 use Rattle.ndushavire.specs.Promise.{CheckPromise, CheckVectorsPromise, DecidePromise}
 use Rattle.worked_examples.proofs.Computed.{known, come, roomy, no-vectors, registered-sound, unregistered-sound}
-use Rattle.worked_examples.proofs.Sample.{room, request, reply, answer, common, assignment, authentication, vector, item, challenges, one, waiting, two, s, z, opened}
+use Rattle.worked_examples.proofs.Sample.{room, request, reply, answer, common, assignment, authentication, vector, item, challenges, one, waiting}
+use Rattle.worked_examples.proofs.Sample.{two, s, z, opened}
 
 -- what a call leaves
-record Outcome : Type 0 where
+record CallLeft : Type 0 where
   word : ℕ
   table : List ℕ
   vectors : List ℕ
@@ -30,7 +25,7 @@ record Outcome : Type 0 where
 
 -- A server may count its calls: it is a function of the number of the call in its run, 0 for the first, and of what is lent.
 abbrev Server : Type 0
-Server = ℕ → Lent → Outcome
+Server = ℕ → Lent → CallLeft
 
 -- Call n of a run meets the promise, given x.
 abbrev Meets : Server → ℕ → Lent → Type 0
@@ -130,10 +125,10 @@ unfolding once
 once-later later n x p = p
 
 -- .. which fails, be it one of the others or one that gives any outcome that it has seen or made up, by the number of the call and not by what is asked
-imitating : (ℕ → Outcome) → Server
+imitating : (ℕ → CallLeft) → Server
 imitating outcome n x = outcome n
 
-once-fails : (outcome : ℕ → Outcome) (n : ℕ) → Meets (once (imitating outcome)) (suc n) removal → Meets (once (imitating outcome)) (suc n) question → ⊥
+once-fails : (outcome : ℕ → CallLeft) (n : ℕ) → Meets (once (imitating outcome)) (suc n) removal → Meets (once (imitating outcome)) (suc n) question → ⊥
 unfolding imitating
 once-fails outcome n p q =
     alike-fails (imitating outcome) n refl (once-later (imitating outcome) n removal p) (once-later (imitating outcome) n question q)

@@ -1,5 +1,5 @@
 use Rattle.calling.proofs.Calls.{checked-sound, dialect-own, over-good, over-bad}
-use borrow.Author.Needs.{needs}
+use Rattle.octets.specs.Standard.{needs}
 use Rattle.calling.proofs.over_checked.Statement.{statement}
 use Rattle.calling.proofs.over_checked.Tie as tie
 

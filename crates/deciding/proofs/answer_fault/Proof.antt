@@ -1,5 +1,5 @@
 use Rattle.deciding.proofs.Answering.{fault-sendable, fault-room, fault-tells, fault-table, fault-vectors}
-use borrow.Author.Needs.{needs}
+use Rattle.octets.specs.Standard.{needs}
 use Rattle.deciding.proofs.answer_fault.Statement.{statement}
 use Rattle.deciding.proofs.answer_fault.Tie as tie
 

@@ -1,5 +1,5 @@
 use Rattle.deciding.proofs.Answering.{plan-room, plan-tells, plan-table, plan-vectors}
-use borrow.Author.Needs.{needs}
+use Rattle.octets.specs.Standard.{needs}
 use Rattle.deciding.proofs.answer_read.Statement.{statement}
 use Rattle.deciding.proofs.answer_read.Tie as tie
 

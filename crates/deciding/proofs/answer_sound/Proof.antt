@@ -1,6 +1,6 @@
 use Rattle.requests.proofs.Requests.{judged-fine, judged-bad}
 use Rattle.deciding.proofs.Answering.{fault-near}
-use borrow.Author.Needs.{needs}
+use Rattle.octets.specs.Standard.{needs}
 use Rattle.deciding.proofs.answer_sound.Statement.{statement}
 use Rattle.deciding.proofs.answer_sound.Tie as tie
 

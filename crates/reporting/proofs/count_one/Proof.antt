@@ -1,5 +1,5 @@
 use Rattle.reporting.proofs.Events.{counted-fits, counted-one}
-use borrow.Author.Needs.{needs}
+use Rattle.octets.specs.Standard.{needs}
 use Rattle.reporting.proofs.count_one.Statement.{statement}
 use Rattle.reporting.proofs.count_one.Tie as tie
 

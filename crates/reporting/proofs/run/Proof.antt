@@ -1,12 +1,8 @@
-use Prim.Native.Nat.{_≤_, _-_}
-use mathlib.Core.Path.{_≡_}
-use lib.ListN.{length}
+use Rattle.octets.specs.Standard.{_≤_, _-_, _≡_, length, needs}
 use Rattle.table.specs.Check.{checkTable}
 use Rattle.vectors.specs.VectorFile.{checkVectors}
 use Rattle.calling.specs.Lent.{lent}
-use Rattle.reporting.proofs.Turns.{Going, going-start, going-stops, going-ends, going-turns}
-use Rattle.reporting.proofs.Turns.{turn-least, turn-within, turn-table, turn-vectors}
-use borrow.Author.Needs.{needs}
+use Rattle.reporting.proofs.Turns.{Going, going-start, going-stops, going-ends, going-turns, turn-least, turn-within, turn-table, turn-vectors}
 use Rattle.reporting.proofs.run.Statement.{statement}
 use Rattle.reporting.proofs.run.Tie as tie
 

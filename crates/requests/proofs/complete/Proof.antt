@@ -1,5 +1,5 @@
 use Rattle.requests.proofs.Requests.{complete-lacking, complete-whole, complete-bad}
-use borrow.Author.Needs.{needs}
+use Rattle.octets.specs.Standard.{needs}
 use Rattle.requests.proofs.complete.Statement.{statement}
 use Rattle.requests.proofs.complete.Tie as tie
 

@@ -1,4 +1,4 @@
-use borrow.Author.Needs.{needs}
+use Rattle.octets.specs.Standard.{needs}
 use Rattle.requests.proofs.dialect.Statement.{statement}
 use Rattle.requests.proofs.dialect.Tie as tie
 

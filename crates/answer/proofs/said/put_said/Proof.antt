@@ -1,5 +1,5 @@
 use Rattle.answer.proofs.Saying.{answer-within, said-answer, said-refusal}
-use borrow.Author.Needs.{needs}
+use Rattle.octets.specs.Standard.{needs}
 use Rattle.answer.proofs.said.put_said.Statement.{statement}
 use Rattle.answer.proofs.said.put_said.Tie as tie
 

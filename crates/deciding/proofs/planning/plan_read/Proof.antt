@@ -1,5 +1,5 @@
 use Rattle.deciding.proofs.Answering.{planned-uar, planned-sar, planned-lir, planned-mar}
-use borrow.Author.Needs.{needs}
+use Rattle.octets.specs.Standard.{needs}
 use Rattle.deciding.proofs.planning.plan_read.Statement.{statement}
 use Rattle.deciding.proofs.planning.plan_read.Tie as tie
 

@@ -1,6 +1,4 @@
-use Prim.Native.Nat.{_-_, _≤_}
-use mathlib.Core.Path.{_≡_}
-use lib.ListN.{length, drop}
+use Rattle.octets.specs.Standard.{_-_, _≡_, length, drop, needs}
 use Rattle.diameter.specs.Walk.{walk}
 use Rattle.diameter.proofs.Reading.{read-here}
 use Rattle.reading.specs.Kinds.{kinds}
@@ -8,7 +6,6 @@ use Rattle.requests.specs.Judged.{nothing, judge}
 use Rattle.reading.specs.Places.{seenOf}
 use Rattle.reading.proofs.Walking.{read-less}
 use Rattle.requests.proofs.Turns.{nothing-seen, turn-end, turn-cut, turn-bad, turn-taken, turn-skipped}
-use borrow.Author.Needs.{needs}
 use Rattle.requests.proofs.walk.walk_message.Statement.{statement}
 use Rattle.requests.proofs.walk.walk_message.Tie as tie
 
