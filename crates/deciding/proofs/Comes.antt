@@ -152,7 +152,7 @@ row-result StoringRemoval false = (refl, refl)
 row-result Failure keep = (refl, refl)
 
 -- a test of all the records holds of each
-one-holds : (p : ℕ → Bool) (ks : List ℕ) (k : ℕ) → every p ks ≡ true → isOne ks k ≡ true → p k ≡ true
+pub one-holds : (p : ℕ → Bool) (ks : List ℕ) (k : ℕ) → every p ks ≡ true → isOne ks k ≡ true → p k ≡ true
 unfolding every isOne
 one-holds p [] k a e = absurd (true≢false (sym e))
 one-holds p (j ∷ ks) k a e = go (eqb k j) refl e (one-holds p ks k (and-right (p j) (every p ks) a))

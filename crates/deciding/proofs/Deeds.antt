@@ -13,8 +13,8 @@ use Rattle.questions.specs.Authentication.{toSend}
 use Rattle.deciding.specs.Plans.{planRead}
 use Rattle.deciding.specs.Decide.{performedBy, decide}
 use Rattle.deciding.specs.Deeds.{DeedFits}
-use Rattle.deciding.proofs.Comes.{Blameless, Comes, tells, settles, challenges, comes, decide-by}
-use Rattle.deciding.proofs.Cases.{Comes, tells, settles, challenges}
+use Rattle.deciding.proofs.Cases.{Blameless, Comes, tells, settles, challenges}
+use Rattle.deciding.proofs.Comes.{comes, decide-by}
 
 pub plan-fits : (dialect : Dialect) (req t : List ℕ) (count : ℕ) (v : List ℕ) (seen : Seen) → readIn dialect req ≡ fine seen
     → DeedFits count (dataSeen seen serverName) (planRead dialect req t count v seen .deed)

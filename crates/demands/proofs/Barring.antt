@@ -21,13 +21,14 @@ use Rattle.reading.specs.Rules.{Seen}
 use Rattle.reading.specs.declared.Outcome.{Outcome}
 use Rattle.reading.specs.declared.Outcome.the-variants.{Base, Experimental}
 use Rattle.requests.specs.Judged.{Judged, bad, fine}
-use Rattle.requests.specs.Request.{readRequest, dataSeen, valueSeen}
+use Rattle.requests.specs.Request.{readIn, dataSeen, valueSeen}
 use Rattle.choices.specs.Choices.{authorization}
 use Rattle.choices.specs.declared.choice.Asked.{Asked}
 use Rattle.questions.specs.Authorization.{askedAt, askedOf, authorizeFound, authorize}
 use Rattle.questions.specs.Carried.{carried}
-use Rattle.fitting.specs.Decide.{uarPlan, planRead, performed, decideJudged, decide}
-use Rattle.calling.specs.Lent.{Lent}
+use Rattle.deciding.specs.Plans.{uarPlan, planRead}
+use Rattle.deciding.specs.Decide.{performedBy, judgedBy, decideBy}
+use Rattle.calling.specs.Lent.{Lent, dialectIn}
 use Rattle.calling.specs.Serve.{checkOf, checkValue, decision, resultOf}
 use Rattle.older_rules.proofs.Sets.{AllBarred, barred-says, barred-holds}
 use Rattle.demands.specs.Sets.{Shares, BarredAlone, Stands, Belongs, Barred}
@@ -82,7 +83,7 @@ module _ (x : Lent) (count : ℕ) (sound : checkOf x ≡ Sound count) (uar : com
   counted : resultOf x ≡ decision x count .given .verdict .result
   counted = ap (λ (c : Checked). decision x (checkValue c) .given .verdict .result) sound
 
-  module _ (seen : Seen) (read : readRequest (x .request) ≡ fine seen) where
+  module _ (seen : Seen) (read : readIn (dialectIn x) (x .request) ≡ fine seen) where
     abbrev user : List ℕ
     user = dataSeen seen userName
 
@@ -96,7 +97,7 @@ module _ (x : Lent) (count : ℕ) (sound : checkOf x ≡ Sound count) (uar : com
     resultAt f = carried t count user (blockFound f) (authorization (asked f) (valueSeen seen authorizationType)) .verdict .result
 
     decided-is : decision x count .given .verdict .result ≡ resultAt (findPublic t count public)
-    unfolding decide decideJudged performed planRead uarPlan authorize authorizeFound
+    unfolding decideBy judgedBy performedBy planRead uarPlan authorize authorizeFound
     decided-is = rw (read, uar)
 
     result-is : resultOf x ≡ resultAt (findPublic t count public)
@@ -138,11 +139,11 @@ module _ (x : Lent) (count : ℕ) (sound : checkOf x ≡ Sound count) (uar : com
         ∙ asked-apart (asked (At k)) _ t count user k (belongs-known t count j user b) (same-no _ _ n)
 
   pub barred-only : resultOf x ≡ Base 5003 → Barred x count
-  unfolding decide decideJudged isOne
-  barred-only r = go (readRequest (x .request)) refl
+  unfolding decideBy judgedBy isOne
+  barred-only r = go (readIn (dialectIn x) (x .request)) refl
     where
-      go : (j : Judged) → readRequest (x .request) ≡ j → Barred x count
-      go (bad v) e = absurd (read-other (x .request) v (Base 5003) refl e (sym (counted ∙ rw e) ∙ r))
+      go : (j : Judged) → readIn (dialectIn x) (x .request) ≡ j → Barred x count
+      go (bad v) e = absurd (read-other (dialectIn x) (x .request) v (Base 5003) refl e (sym (counted ∙ rw e) ∙ r))
       go (fine seen) e = found-barred seen e (findPublic t count (dataSeen seen publicIdentity)) refl (sym (result-is seen e) ∙ r)
 
   pub barred-given : Barred x count → resultOf x ≡ Base 5003
@@ -154,17 +155,17 @@ module _ (x : Lent) (count : ℕ) (sound : checkOf x ≡ Sound count) (uar : com
       (belongs-known t count (b .block) _ (record { from = b .public .from; to = b .public .to; name = b .private }))
       (same-yes _ _ (b .private)) (alone-holds t count (b .block) (b .alone))
 
-  pub barred-unknown : (seen : Seen) → readRequest (x .request) ≡ fine seen
+  pub barred-unknown : (seen : Seen) → readIn (dialectIn x) (x .request) ≡ fine seen
       → ((k : ℕ) → Stands t count k (dataSeen seen publicIdentity) → ⊥) ⊎ ((k : ℕ) → Belongs t count k (dataSeen seen userName) → ⊥)
       → resultOf x ≡ Experimental 5001
   barred-unknown = unknown
 
-  pub barred-apart : (seen : Seen) → readRequest (x .request) ≡ fine seen → (k j : ℕ) → Stands t count k (dataSeen seen publicIdentity)
+  pub barred-apart : (seen : Seen) → readIn (dialectIn x) (x .request) ≡ fine seen → (k j : ℕ) → Stands t count k (dataSeen seen publicIdentity)
       → Belongs t count j (dataSeen seen userName) → privateAt t k ≢ dataSeen seen userName → resultOf x ≡ Experimental 5002
   barred-apart = apart
 
   -- every record of the set is barred then, whichever reading found the identity
-  pub free-goes : (b : Barred x count) (seen : Seen) → readRequest (x .request) ≡ fine seen → (k j : ℕ) → Stands t count k (dataSeen seen publicIdentity)
+  pub free-goes : (b : Barred x count) (seen : Seen) → readIn (dialectIn x) (x .request) ≡ fine seen → (k j : ℕ) → Stands t count k (dataSeen seen publicIdentity)
       → 1 ≤ j → j ≤ count → Shares t k j → barred (bitsOf (blockOf t j)) ≡ true
   free-goes b seen read k j s from to h =
       let e : fine seen ≡ fine (b .seen) = sym read ∙ b .read in

@@ -15,7 +15,7 @@ use Rattle.reading.specs.declared.Ruled.the-variants.{Taken, Skipped, Fault}
 use Rattle.reading.specs.declared.Use.the-variants.{Repeated}
 use Rattle.reading.specs.declared.Verdict.{Verdict}
 use Rattle.requests.specs.Judged.{Judged, bad, fine, nothing, onRule, judge}
-use Rattle.requests.specs.Request.{dialectOf, cx, headerFault, missingFrom, missing, complete, readWalk, identities}
+use Rattle.requests.specs.Request.{headerFault, missingFrom, missing, complete, readWalk, identities}
 use Rattle.reply.specs.Answer.{proxy, proxies}
 use Rattle.demands.proofs.Messages.{readBody}
 
@@ -127,12 +127,9 @@ module _ (d : Dialect) (sar : d .command ≡ 301) where
       go false m e = fine-bad u (lackOf (missing d s)) e
 
 -- The body of a request, and the same without one of its Public-Identities: the first is of another kind, by (b).
-module _ (head : List ℕ) (sar : commandOf head ≡ 301) (one : List ℕ) (identity : kindOf one ≡ publicIdentity) (w : Walk) where
-  abbrev d : Dialect
-  d = dialectOf cx head
-
-  pub read-left : (q : List ℕ) (qs : List (List ℕ)) (u : Seen) → readBody head (glue (q ∷ qs) (avp one w)) ≡ fine u
-      → Follows (readBody head (glue (q ∷ qs) w)) u
+module _ (d : Dialect) (sar : d .command ≡ 301) (head one : List ℕ) (identity : kindOf one ≡ publicIdentity) (w : Walk) where
+  pub read-left : (q : List ℕ) (qs : List (List ℕ)) (u : Seen) → readBody d head (glue (q ∷ qs) (avp one w)) ≡ fine u
+      → Follows (readBody d head (glue (q ∷ qs) w)) u
   unfolding readBody readWalk glue
   read-left q qs u = go (eqb (headerFault d head) 0) (not (eqb (kindOf q) sessionId))
     where
@@ -145,7 +142,7 @@ module _ (head : List ℕ) (sar : commandOf head ≡ 301) (one : List ℕ) (iden
       go true false e =
           complete-beside d sar _ _ u (λ v f. judge-left d sar one identity w (q ∷ qs) 20 20 nothing nothing v refl f) e
 
-  pub read-first : (u : Seen) → readBody head (avp one w) ≡ fine u → ⊥
+  pub read-first : (u : Seen) → readBody d head (avp one w) ≡ fine u → ⊥
   unfolding readBody readWalk
   read-first u e = go (eqb (headerFault d head) 0) (rw identity at e)
     where

@@ -31,10 +31,16 @@ use Rattle.choices.specs.declared.plan.Deed.the-variants.{Leave, Settle, Challe
 use Rattle.assignment.specs.Assignment.{Assignment, meantBy, every, isEmpty, findAll, numbersOf, firstOf, ownedUpTo, ownAt, storesAt, fitsAt, rightAt}
 use Rattle.assignment.specs.Assignment.{surveyOf, userKnown, ownerBy, namedSurvey, assignMeant, assign, storedName, plannedRecords}
 use Rattle.assignment.specs.declared.Meant.the-variants.{Listed}
-use Rattle.fitting.specs.Decide.{performed}
-use Rattle.fitting.specs.Deeds.{carriedOut}
+use Rattle.deciding.specs.Plans.{assignmentOf}
+use Rattle.deciding.specs.Rules.{inForce}
+use Rattle.deciding.specs.Decide.{performedBy}
+use Rattle.deciding.specs.Deeds.{settledBy, carriedOut}
+use Rattle.choices.specs.declared.plan.Settling.{Settling}
+use Rattle.reading.specs.Kinds.{serverName}
+use Rattle.reading.specs.Rules.{Seen}
+use Rattle.requests.specs.Request.{dataSeen}
+use Rattle.deciding.proofs.Comes.{one-holds}
 use Rattle.older_rules.proofs.Sets.{stores-same, fits-same, right-same}
-use Rattle.demands.proofs.Effects.{one-holds}
 
 -- Two lists, one behind the other.
 every-append : {X : Type 0} (p : X → Bool) (xs ys : List X) → every p (xs ++ ys) ≡ (every p xs && every p ys)
@@ -271,10 +277,9 @@ module _ (t : List ℕ) (count : ℕ) (sound : SoundTable t count) (k j : ℕ) (
       (removal-plain numbers _ removal _ _)
       ∙ sym (assign-is t count leaving removal still-some)
 
-  carried-same : (e : Deed) → carriedOut t count naming e ≡ carriedOut t count leaving e
-  unfolding carriedOut plannedRecords
-  carried-same Leave = refl
-  carried-same (Settle w) = rw (naming-found, leaving-found) (go (w .owned))
+  settled-same : (w : Settling) → settledBy t count naming w ≡ settledBy t count leaving w
+  unfolding plannedRecords
+  settled-same w = rw (naming-found, leaving-found) (go (w .owned))
     where
       change : List ℕ → List ℕ
       change = settled (w .state) (storedName (w .named) server)
@@ -283,8 +288,20 @@ module _ (t : List ℕ) (count : ℕ) (sound : SoundTable t count) (k j : ℕ) (
           ≡ afterOf t count (reaches t (cond x (ownedUpTo t user count) (numbersOf (fs ++ gs)))) change
       go true = refl
       go false = written-same t count sound k j a b c d one fs gs there change
-  carried-same (Challenge i) = refl
 
-  pub named-twice : (v : List ℕ) → performed t count v naming (assign t count naming) ≡ performed t count v leaving (assign t count leaving)
-  unfolding performed
-  named-twice v = rw (assigned-same, carried-same (assign t count leaving .deed))
+  -- of two requests that say so
+  module _ (long short : List ℕ) (more less : Seen) (says-naming : assignmentOf long t more ≡ naming) (says-leaving : assignmentOf short t less ≡ leaving) where
+    same-server : dataSeen more serverName ≡ dataSeen less serverName
+    unfolding assignmentOf
+    same-server = ap (λ (s : Assignment). s .server) says-naming ∙ sym (ap (λ (s : Assignment). s .server) says-leaving)
+
+    carried-same : (e : Deed) → carriedOut long t count more e ≡ carriedOut short t count less e
+    unfolding carriedOut
+    carried-same Leave = refl
+    carried-same (Settle w) = rw (says-naming, says-leaving) (settled-same w)
+    carried-same (Challenge i) = rw same-server
+
+    pub named-twice : (v : List ℕ)
+        → performedBy inForce long t count v more (assign t count naming) ≡ performedBy inForce short t count v less (assign t count leaving)
+    unfolding performedBy
+    named-twice v = rw (assigned-same, carried-same (assign t count leaving .deed))

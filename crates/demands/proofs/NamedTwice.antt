@@ -11,13 +11,17 @@ use Rattle.diameter.proofs.Pieces.{walk-pieces, row-even, glue-glue, avps-joine
 use Rattle.diameter.proofs.Walks.{walk-nil}
 use Rattle.reading.specs.Kinds.{kindOf, publicIdentity, userName, serverName, assignmentType, dataAvailable}
 use Rattle.requests.specs.Judged.{fine}
-use Rattle.requests.specs.Request.{readRequest, identities, sessionOf, dataSeen}
+use Rattle.requests.specs.Request.{dialectOf, readIn, identities, sessionOf, dataSeen}
 use Rattle.requests.specs.Identity.{placesFrom}
 use Rattle.requests.proofs.Naming.{identities-at}
 use Rattle.assignment.specs.Assignment.{Assignment, assign}
-use Rattle.fitting.specs.Decide.{Decision, numbersIn, assignmentOf, sarPlan, planRead, performed, decideJudged, decide}
-use Rattle.fitting.proofs.Blameless.{Blameless, plan-plain}
-use Rattle.calling.specs.Lent.{Lent, asking}
+use Rattle.deciding.specs.Plans.{numbersIn, assignmentOf, sarPlan, planRead}
+use Rattle.deciding.specs.Rules.{inForce}
+use Rattle.deciding.specs.Decide.{Decision, performedBy, judgedBy, decideBy, decide}
+use Rattle.reading.specs.declared.Dialect.{Dialect}
+use Rattle.deciding.proofs.Cases.{Blameless}
+use Rattle.deciding.proofs.Comes.{plan-blameless}
+use Rattle.calling.specs.Lent.{Lent, asking, dialectIn}
 use Rattle.calling.specs.Serve.{checkOf, checkValue, answered, decision, serve}
 use Rattle.demands.specs.Call.{turnedAway}
 use Rattle.demands.specs.Insertion.{message}
@@ -26,7 +30,7 @@ use Rattle.demands.proofs.Alike.{SameDecision, blameless-same}
 use Rattle.demands.proofs.Barring.{shares-holds, stands-found}
 use Rattle.demands.proofs.LeftOut.{beside-at, Follows, read-left, read-first, copies-left, identities-left, identities-glue}
 use Rattle.demands.proofs.Members.{assign-is, named-twice}
-use Rattle.demands.proofs.Messages.{readBody, message-length, message-command, message-body, message-read, Fit, turned-same, refused-same}
+use Rattle.demands.proofs.Messages.{readBody, message-length, message-dialect, message-body, message-read, Fit, turned-same, refused-same}
 use Rattle.demands.proofs.Messages.{Alike, answered-same}
 use Rattle.demands.proofs.Refusals.{refused-placed, answer-is}
 
@@ -96,32 +100,32 @@ module _ (head : List ℕ) (twenty : length head ≡ 20) (before : List Piece) (
       go [] n = absurd (n refl)
       go (q ∷ qs) n = refl
 
-  module _ (removes : Removes (message head long)) where
-    sar : commandOf head ≡ 301
-    sar = sym (message-command head twenty long) ∙ removes .sar
+  module _ (d : Dialect) (removes : Removes d (message head long)) where
+    sar : d .command ≡ 301
+    sar = removes .sar
 
-    read-long : readBody head (glue (avpsOf before) (avp (one .avp) rest)) ≡ fine (removes .seen)
-    read-long = ap (readBody head) (sym long-walk) ∙ sym (message-read head twenty long) ∙ removes .read
+    read-long : readBody d head (glue (avpsOf before) (avp (one .avp) rest)) ≡ fine (removes .seen)
+    read-long = ap (readBody d head) (sym long-walk) ∙ sym (message-read d head twenty long) ∙ removes .read
 
     begun : Begun
     unfolding avpsOf glue
     begun z = go before refl z read-long
       where
-        go : (qs : List Piece) → before ≡ qs → length qs ≡ 0 → readBody head (glue (avpsOf qs) (avp (one .avp) rest)) ≡ fine (removes .seen) → ⊥
-        go [] e z r = read-first head sar (one .avp) identity rest (removes .seen) r
+        go : (qs : List Piece) → before ≡ qs → length qs ≡ 0 → readBody d head (glue (avpsOf qs) (avp (one .avp) rest)) ≡ fine (removes .seen) → ⊥
+        go [] e z r = read-first d sar head (one .avp) identity rest (removes .seen) r
         go (q ∷ qs) e z r = omega arith
 
-    read-short : Follows (readBody head (glue (avpsOf before) rest)) (removes .seen)
+    read-short : Follows (readBody d head (glue (avpsOf before) rest)) (removes .seen)
     unfolding avpsOf
     read-short = go before begun read-long
       where
-        go : (qs : List Piece) → (length qs ≡ 0 → ⊥) → readBody head (glue (avpsOf qs) (avp (one .avp) rest)) ≡ fine (removes .seen)
-            → Follows (readBody head (glue (avpsOf qs) rest)) (removes .seen)
+        go : (qs : List Piece) → (length qs ≡ 0 → ⊥) → readBody d head (glue (avpsOf qs) (avp (one .avp) rest)) ≡ fine (removes .seen)
+            → Follows (readBody d head (glue (avpsOf qs) rest)) (removes .seen)
         go [] n r = absurd (n refl)
-        go (q ∷ qs) n r = read-left head sar (one .avp) identity rest (q .avp) (avpsOf qs) (removes .seen) r
+        go (q ∷ qs) n r = read-left d sar head (one .avp) identity rest (q .avp) (avpsOf qs) (removes .seen) r
 
-    read-fewer : readRequest (message head short) ≡ fine (read-short .seen)
-    read-fewer = message-read head twenty short ∙ ap (readBody head) short-walk ∙ read-short .is
+    read-fewer : readIn d (message head short) ≡ fine (read-short .seen)
+    read-fewer = message-read d head twenty short ∙ ap (readBody d head) short-walk ∙ read-short .is
 
     module _ (t : List ℕ) (count : ℕ) (sound : SoundTable t count) (m : Member t count (before ++ after) one) (v : List ℕ) where
       still : named before ++ named after ≡ named (m .front) ++ (m .other .avp ∷ named (m .back))
@@ -135,18 +139,18 @@ module _ (head : List ℕ) (twenty : length head ≡ 20) (before : List Piece) (
           ∙ identities-left (m .other .avp) (m .identity) (glue (avpsOf (m .back)) ended) (avpsOf (m .front))
 
       abbrev naming : Assignment
-      naming = assignmentOf t (removes .seen) (message head long)
+      naming = assignmentOf (message head long) t (removes .seen)
 
       abbrev leaving : Assignment
-      leaving = assignmentOf t (read-short .seen) (message head short)
+      leaving = assignmentOf (message head short) t (read-short .seen)
 
-      decide-long : decide (message head long) t count v ≡ performed t count v naming (assign t count naming)
-      unfolding decide decideJudged planRead sarPlan
+      decide-long : decide d (message head long) t count v ≡ performedBy inForce (message head long) t count v (removes .seen) (assign t count naming)
+      unfolding decideBy judgedBy planRead sarPlan
       decide-long = rw (removes .read, removes .sar)
 
-      decide-short : decide (message head short) t count v ≡ performed t count v leaving (assign t count leaving)
-      unfolding decide decideJudged planRead sarPlan
-      decide-short = rw (read-fewer, message-command head twenty short, sar)
+      decide-short : decide d (message head short) t count v ≡ performedBy inForce (message head short) t count v (read-short .seen) (assign t count leaving)
+      unfolding decideBy judgedBy planRead sarPlan
+      decide-short = rw (read-fewer, sar)
 
       kept : (k : ℕ) → (k ≡ publicIdentity → ⊥) → getD (read-short .seen) k none ≡ getD (removes .seen) k none
       kept k n = sym (beside-at (removes .seen) (read-short .seen) (read-short .beside) k n)
@@ -184,7 +188,7 @@ module _ (head : List ℕ) (twenty : length head ≡ 20) (before : List Piece) (
           places-some (message head short) (named (m .front)) (named (m .back)) (m .other .avp)
           (ap identities (message-body head twenty short) ∙ short-named ∙ still)
 
-      decided-same : decide (message head long) t count v ≡ decide (message head short) t count v
+      decided-same : decide d (message head long) t count v ≡ decide d (message head short) t count v
       decided-same =
           decide-long
           ∙ rw (naming-says, leaving-says)
@@ -192,18 +196,18 @@ module _ (head : List ℕ) (twenty : length head ≡ 20) (before : List Piece) (
           (shares-holds t (m .block) (m .member) (m .shares)) (numbersIn t (removes .seen)) (removes .removal) _ _
           (named before) (named after) (named (m .front)) (named (m .back)) (one .avp) (m .other .avp) still
           (stands-found t count sound (m .member) _ (m .member-is)) (stands-found t count sound (m .block) _ (m .block-is))
-          _ _ long-some short-some v)
+          _ _ long-some short-some (message head long) (message head short) (removes .seen) (read-short .seen) naming-says leaving-says v)
           ∙ sym decide-short
 
-      blameless : Blameless (decide (message head long) t count v .given)
-      unfolding performed assignmentOf
-      blameless = rw (decide-long, assign-is t count naming (removes .removal) long-some) (plan-plain _ _ _ _ .0)
+      blameless : Blameless (decide d (message head long) t count v .given)
+      unfolding performedBy assignmentOf
+      blameless = rw (decide-long, assign-is t count naming (removes .removal) long-some) (plan-blameless _ _ _ _)
 
-      same-decision : SameDecision (message head long) (message head short) (decide (message head long) t count v) (decide (message head short) t count v)
+      same-decision : SameDecision (message head long) (message head short) (decide d (message head long) t count v) (decide d (message head short) t count v)
       same-decision = rw (← decided-same) (record { given = blameless-same _ _ _ blameless; table = refl; vectors = refl })
 
     module _ (most : length (message head long) ≤ 16384) (x : Lent) (count : ℕ) (sound : checkOf x ≡ Sound count)
-        (m : Member (x .table) count (before ++ after) one) where
+        (m : Member (x .table) count (before ++ after) one) (is : dialectOf (x .terms) head ≡ d) where
       fit-long : Fit long
       fit-long = record { most = omega (arith, most, message-length head twenty long); fours = row-even (before ++ (one ∷ after)) whole }
 
@@ -219,7 +223,7 @@ module _ (head : List ℕ) (twenty : length head ≡ 20) (before : List Piece) (
       unfolding answered
       answers-at n e =
           let table : SoundTable (x .table) count = record { file = length (x .profile); checked = sound } in
-          rw e
+          rw (e, message-dialect head twenty long (x .terms), message-dialect head twenty short (x .terms), is)
           (answered-same head twenty long short (copied begun) x (λ (p : ℕ). p) _ _ (same-decision (x .table) count table m (x .vectors))
           (ap (λ (d : Decision). d .place) (decided-same (x .table) count table m (x .vectors))))
 
@@ -235,10 +239,11 @@ module _ (head : List ℕ) (twenty : length head ≡ 20) (before : List Piece) (
               ∙ sym (answer-is (asking x (message head short)) e)
 
 -- The same of any call and of the call with the request that names one fewer.
-pub twice-once : (x : Lent) (fewer : List ℕ) (count : ℕ) → checkOf x ≡ Sound count → length (x .request) ≤ 16384 → Removes (x .request)
+pub twice-once : (x : Lent) (fewer : List ℕ) (count : ℕ) → checkOf x ≡ Sound count → length (x .request) ≤ 16384 → Removes (dialectIn x) (x .request)
     → (f : OneFewer (x .request) fewer) → Member (x .table) count (f .before ++ f .after) (f .one) → serve x ≡ serve (asking x fewer)
 twice-once x fewer count sound most removes f m =
     ap (λ (req : List ℕ). serve (asking x req)) (f .bytes)
-    ∙ served-twice (f .head) (f .twenty) (f .before) (f .one) (f .after) (f .whole) (f .identity) (subst Removes (f .bytes) removes)
-    (rw (f .bytes) at most) x count sound m
+    ∙ served-twice (f .head) (f .twenty) (f .before) (f .one) (f .after) (f .whole) (f .identity) _
+    (subst (λ (req : List ℕ). Removes (dialectOf (x .terms) req) req) (f .bytes) removes)
+    (rw (f .bytes) at most) x count sound m (sym (message-dialect (f .head) (f .twenty) _ (x .terms)))
     ∙ ap (λ (req : List ℕ). serve (asking x req)) (sym (f .shorter))

@@ -21,7 +21,7 @@ use Rattle.reading.specs.declared.Use.{Use}
 use Rattle.reading.specs.declared.Use.the-variants.{Unknown, Unnamed, Needed, Optional, Repeated}
 use Rattle.reading.specs.declared.Verdict.{Verdict}
 use Rattle.requests.specs.Judged.{Judged, bad, fine, nothing, onRule, judge}
-use Rattle.requests.specs.Request.{dialectOf, cx, spoken, headerFault, firstOther, missing, complete, readWalk, readIn, readRequest}
+use Rattle.requests.specs.Request.{spoken, headerFault, firstOther, missing, complete, readWalk, readIn}
 use Rattle.lookup.specs.Find.{findServer}
 use Rattle.lookup.specs.declared.Found.{Found}
 use Rattle.lookup.specs.declared.Found.the-variants.{At, Nothing}
@@ -31,7 +31,7 @@ use Rattle.choices.specs.declared.choice.Choice.{Choice}
 use Rattle.choices.specs.declared.choice.Choice.the-variants.{Alone, Server, Capabilities, First}
 use Rattle.choices.specs.declared.choice.Sought.{Sought}
 use Rattle.questions.specs.Carried.{servedBy, carried}
-use Rattle.fitting.proofs.Tests.{either}
+use Rattle.deciding.proofs.Tests.{either}
 
 -- the header's four, (b) and what is missing, and those of (a) and (c) to (h)
 abbrev readingResults : List ℕ
@@ -115,7 +115,7 @@ header-blames d req =
     either Blames (not (eqb (versionOf req) 1)) (inr refl)
     (either Blames (eqb (messageFlags req / 32 % 2) 1) (inr refl)
     (either Blames (not (spoken d)) (inr refl)
-    (either Blames (not (eqb (applicationOf req) (d .application))) (inr refl)
+    (either Blames (not (eqb (applicationOf req) (d .terms .application))) (inr refl)
     (inl refl))))
 
 read-judging : (d : Dialect) (req : List ℕ) → Judging (readIn d req)
@@ -125,15 +125,15 @@ read-judging d req =
     (either Judging (firstOther (bodyOf req)) refl (complete-judging d (judge d 20 (bodyOf req) nothing) (judge-judging d 20 (bodyOf req) nothing)))
     (λ h. h)
 
-pub read-blames : (req : List ℕ) (v : Verdict) → readRequest req ≡ bad v → ofReading (v .result) ≡ true
-read-blames req v e = go (readRequest req) (read-judging (dialectOf cx req) req) e
+pub read-blames : (d : Dialect) (req : List ℕ) (v : Verdict) → readIn d req ≡ bad v → ofReading (v .result) ≡ true
+read-blames d req v e = go (readIn d req) (read-judging d req) e
   where
     go : (j : Judged) → Judging j → j ≡ bad v → ofReading (v .result) ≡ true
     go j l e = rw e at l
 
 -- no other result is
-pub read-other : (req : List ℕ) (v : Verdict) (r : Outcome) → ofReading r ≡ false → readRequest req ≡ bad v → v .result ≢ r
-read-other req v r n e f = true≢false (sym (rw f at (read-blames req v e)) ∙ n)
+pub read-other : (d : Dialect) (req : List ℕ) (v : Verdict) (r : Outcome) → ofReading r ≡ false → readIn d req ≡ bad v → v .result ≢ r
+read-other d req v r n e f = true≢false (sym (rw f at (read-blames d req v e)) ∙ n)
 
 -- a result of B, by its number
 abbrev pub isBase : ℕ → Outcome → Bool

@@ -13,9 +13,9 @@ use Rattle.reading.specs.Kinds.{userName, publicIdentity}
 use Rattle.reading.specs.Rules.{Seen}
 use Rattle.reading.specs.declared.Outcome.the-variants.{Base, Experimental}
 use Rattle.requests.specs.Judged.{fine}
-use Rattle.requests.specs.Request.{readRequest, dataSeen}
+use Rattle.requests.specs.Request.{readIn, dataSeen}
 use Rattle.calling.specs.Call.{Refused}
-use Rattle.calling.specs.Lent.{Lent, asking}
+use Rattle.calling.specs.Lent.{Lent, asking, dialectIn}
 use Rattle.calling.specs.Serve.{checkOf, resultOf, serve}
 use Rattle.calling.proofs.Kept.{table-checked}
 use Rattle.ndushavire.specs.Reads.{ReadsCheck}
@@ -32,7 +32,7 @@ use Rattle.demands.proofs.NamedTwice as named
 use Rattle.demands.proofs.Together as together
 
 -- "Document 01 rejects every barred identity in a UAR. The trade's rule is softer: one with a non-barred identity in its implicit set may go on."
-pub going-on : (x : Lent) (count : ℕ) → checkOf x ≡ Sound count → commandOf (x .request) ≡ 300 → (seen : Seen) → readRequest (x .request) ≡ fine seen
+pub going-on : (x : Lent) (count : ℕ) → checkOf x ≡ Sound count → commandOf (x .request) ≡ 300 → (seen : Seen) → readIn (dialectIn x) (x .request) ≡ fine seen
     → (k j : ℕ) → Stands (x .table) count k (dataSeen seen publicIdentity) → 1 ≤ j → j ≤ count → Shares (x .table) k j
     → barred (bitsOf (blockOf (x .table) j)) ≡ false → resultOf x ≢ Base 5003
 going-on x count sound uar seen read k j s from to h free e =
@@ -71,7 +71,7 @@ members-agree x count sound j k = sound-agree (serve x .table) (length (x .profi
 
 -- "and a removal naming two members of one set is like naming one.": without one of two it comes to the same call, and leaves the same table, vectors and
 -- buffer.
-pub like-naming-one : (x : Lent) (fewer : List ℕ) (count : ℕ) → checkOf x ≡ Sound count → length (x .request) ≤ 16384 → Removes (x .request)
+pub like-naming-one : (x : Lent) (fewer : List ℕ) (count : ℕ) → checkOf x ≡ Sound count → length (x .request) ≤ 16384 → Removes (dialectIn x) (x .request)
     → (f : OneFewer (x .request) fewer) → Member (x .table) count (f .before ++ f .after) (f .one) → serve x ≡ serve (asking x fewer)
 like-naming-one = named.twice-once
 
@@ -86,12 +86,12 @@ module _ (x : Lent) (count : ℕ) (sound : checkOf x ≡ Sound count) (uar : com
   barred-given = barring.barred-given x count sound uar
 
   -- "its place is the same.": after X5001 and X5002, and before X5004, whatever network is visited
-  pub barred-unknown : (seen : Seen) → readRequest (x .request) ≡ fine seen
+  pub barred-unknown : (seen : Seen) → readIn (dialectIn x) (x .request) ≡ fine seen
       → ((k : ℕ) → Stands (x .table) count k (dataSeen seen publicIdentity) → ⊥) ⊎ ((k : ℕ) → Belongs (x .table) count k (dataSeen seen userName) → ⊥)
       → resultOf x ≡ Experimental 5001
   barred-unknown = barring.barred-unknown x count sound uar
 
-  pub barred-apart : (seen : Seen) → readRequest (x .request) ≡ fine seen → (k j : ℕ) → Stands (x .table) count k (dataSeen seen publicIdentity)
+  pub barred-apart : (seen : Seen) → readIn (dialectIn x) (x .request) ≡ fine seen → (k j : ℕ) → Stands (x .table) count k (dataSeen seen publicIdentity)
       → Belongs (x .table) count j (dataSeen seen userName) → privateAt (x .table) k ≢ dataSeen seen userName → resultOf x ≡ Experimental 5002
   barred-apart = barring.barred-apart x count sound uar
 

@@ -11,13 +11,13 @@ use Rattle.table.specs.Named.{publicAt, privateAt}
 use Rattle.table.specs.Check.{soundAt}
 use Rattle.diameter.specs.Avp.{dataOf}
 use Rattle.diameter.specs.Put.{Piece, Whole, All, bytesOf}
-use Rattle.diameter.specs.Message.{commandOf}
 use Rattle.reading.specs.Kinds.{kindOf, userName, publicIdentity, assignmentType}
 use Rattle.reading.specs.Rules.{Seen}
 use Rattle.requests.specs.Judged.{fine}
-use Rattle.requests.specs.Request.{readRequest, dataSeen, valueSeen}
+use Rattle.requests.specs.Request.{readIn, dataSeen, valueSeen}
 use Rattle.choices.specs.Types.{typeOf, isRemoval}
-use Rattle.calling.specs.Lent.{Lent}
+use Rattle.calling.specs.Lent.{Lent, dialectIn}
+use Rattle.reading.specs.declared.Dialect.{Dialect}
 use Rattle.demands.specs.Insertion.{message}
 
 -- "A set is the records of one subscription with the same nonzero number": record j shares the set of record k
@@ -62,17 +62,17 @@ pub record Belongs (t : List ℕ) (count k : ℕ) (private : List ℕ) : Type 0 
 -- a request in which reading finds no fault, whose Public-Identity and User-Name stand together in a record that is barred alone
 pub record Barred (x : Lent) (count : ℕ) : Type 0 where
   pub seen : Seen
-  pub read : readRequest (x .request) ≡ fine seen
+  pub read : readIn (dialectIn x) (x .request) ≡ fine seen
   pub block : ℕ
   pub public : Stands (x .table) count block (dataSeen seen publicIdentity)
   pub private : privateAt (x .table) block ≡ dataSeen seen userName
   pub alone : BarredAlone (x .table) count block
 
 -- a SAR in which reading finds no fault, of one of the removal types
-pub record Removes (req : List ℕ) : Type 0 where
-  pub sar : commandOf req ≡ 301
+pub record Removes (d : Dialect) (req : List ℕ) : Type 0 where
+  pub sar : d .command ≡ 301
   pub seen : Seen
-  pub read : readRequest req ≡ fine seen
+  pub read : readIn d req ≡ fine seen
   pub removal : isRemoval (typeOf (valueSeen seen assignmentType)) ≡ true
 
 -- `fewer` is `req` without one of its Public-Identities, whose AVP may stand anywhere; the length field is right in both

@@ -6,7 +6,7 @@ use Rattle.diameter.specs.Put.{Piece, bytesOf}
 use Rattle.pen.specs.Bytes.{wordBytes, numberBytes}
 use Rattle.reading.specs.Rules.{Seen}
 use Rattle.requests.specs.Judged.{Judged, bad, fine}
-use Rattle.requests.specs.Request.{readRequest}
+use Rattle.requests.specs.Request.{dialectOf, underCx, readIn}
 use Rattle.calling.specs.Lent.{Lent, lent}
 use Rattle.calling.specs.Serve.{serve}
 use Rattle.demands.specs.Insertion.{message}
@@ -40,7 +40,7 @@ abbrev three : List Piece
 three = named 0x61 ∷ named 0x62 ∷ named 0x63 ∷ []
 
 abbrev asked : List ℕ → Lent
-asked req = lent req (lines 1 s) [] [] room
+asked req = lent req (lines 1 s) [] [] room underCx
 
 lines-sound : checkTable (lines 1 s) 0 ≡ Sound 3
 unfolding all family.head family.line lines
@@ -52,7 +52,7 @@ seenIn (fine seen) = seen
 
 removes : Removes (removing three)
 unfolding all named front own removing
-removes = record { sar = refl; seen = seenIn (readRequest (removing three)); read = refl; removal = refl }
+removes = record { sar = refl; seen = seenIn (readIn (dialectOf underCx (removing three)) (removing three)); read = refl; removal = refl }
 
 short : length (removing three) ≤ 16384
 unfolding all named front own removing

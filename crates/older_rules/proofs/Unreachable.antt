@@ -33,7 +33,7 @@ use Rattle.deciding.specs.Plans.{uarPlan, sarPlan, lirPlan, marPlan, planRead}
 use Rattle.deciding.specs.Rules.{inForce, Rules}
 use Rattle.deciding.specs.Deeds.{carriedOut}
 use Rattle.calling.specs.Lent.{Lent, dialectIn}
-use Rattle.calling.specs.Serve.{serveBy, serve}
+use Rattle.calling.specs.Serve.{decisionBy, decision, serveBy, serve}
 use Rattle.older_rules.proofs.Rules.{rules-same, decided-same}
 use Rattle.older_rules.specs.Rules.{Rules, inForce, serveBy}
 

@@ -103,13 +103,13 @@ met-columns = numbers.report-columns (Base 5012) (Base 5012) refl refl refl
 
 -- the LIR's result has a column; the removal's is in the same, and so is the same
 alone : Lent
-alone = lent lir here [] [] room
+alone = lent lir here [] [] room underCx
 
 met-column : columnOf (resultOf alone) < 25
 met-column = numbers.report-column alone
 
 taking : Lent
-taking = lent removal here [] [] room
+taking = lent removal here [] [] room underCx
 
 both-first : columnOf (resultOf alone) ≡ columnOf (resultOf taking)
 unfolding all alone taking counting

@@ -14,14 +14,13 @@ use Rattle.reading.specs.Rules.{Seen}
 use Rattle.reading.specs.declared.Outcome.{Outcome}
 use Rattle.reading.specs.declared.Outcome.the-variants.{Base, Experimental}
 use Rattle.requests.specs.Judged.{Judged, bad, fine}
-use Rattle.requests.specs.Request.{readRequest}
+use Rattle.requests.specs.Request.{dialectOf, underCx, readIn}
 use Rattle.calling.specs.Call.{Refused}
 use Rattle.calling.specs.Lent.{Lent, lent}
-use Rattle.calling.specs.Serve.{Served, checkOf, checkValue, decision, resultOf, serve}
+use Rattle.calling.specs.Serve.{Served, checkOf, checkValue, decisionBy, decision, resultOf, serve}
 use Rattle.ndushavire.specs.Word.{checkWord}
 use Rattle.ndushavire.specs.Reads.{ReadsCheck}
 use Rattle.demands.specs.Sets.{Shares, Agrees, Disagrees, Stands, Barred}
-use Rattle.older_rules.specs.Rules.{decideBy}
 use Rattle.older_rules.proofs.Unreachable.{withBranch}
 use Rattle.worked_examples.proofs.Computed.{known, come, roomy, no-vectors}
 use Rattle.worked_examples.proofs.Sample.{room, assignment, authentication, s, z, opened}
@@ -52,14 +51,14 @@ is-uar : commandOf asking ≡ 300
 unfolding opened asking
 is-uar = refl
 
-asks : readRequest asking ≡ fine (seenIn (readRequest asking))
+asks : readIn (dialectOf underCx asking) asking ≡ fine (seenIn (readIn (dialectOf underCx asking) asking))
 unfolding opened asking
 asks = refl
 
 -- "one with a non-barred identity in its implicit set may go on": `a` is barred, and `b` is not
 met-going-on : resultOf admitted ≢ Base 5003
 unfolding opened head line family asking
-met-going-on = sets.going-on admitted 3 barred-sound is-uar (seenIn (readRequest asking)) asks 1 2 a-stands (lit≤ tt) (lit≤ tt) shared refl
+met-going-on = sets.going-on admitted 3 barred-sound is-uar (seenIn (readIn (dialectOf underCx asking) asking)) asks 1 2 a-stands (lit≤ tt) (lit≤ tt) shared refl
 
 -- the set's records agree; of a pair that does not, block 2 is blamed
 met-agree : Agrees (family 2 1 s) 1 2
@@ -96,18 +95,18 @@ met-blamed = sets.later-blamed apart 0 1 2 disagreeing
 met-blamed-check : ReadsCheck 5 (Bad 2) (checkWord 5 (checkTable apart 0))
 met-blamed-check = sets.later-blamed-check apart [] 1 2 disagreeing (record { answer = refl })
 
-blamed-call : serve (lent asking apart [] [] room) .call ≡ Refused 5 2
+blamed-call : serve (lent asking apart [] [] room underCx) .call ≡ Refused 5 2
 unfolding opened asking
 blamed-call =
-    let x = lent asking apart [] [] room in
+    let x = lent asking apart [] [] room underCx in
     ap (λ (y : Served). y .call) (come x {y = known false (Bad 2) (Sound 0) x} roomy met-blamed no-vectors refl)
 
 met-blamed-call : _≡_ {A = ℕ} 2 2
-met-blamed-call = sets.later-blamed-call (lent asking apart [] [] room) 1 2 2 disagreeing blamed-call
+met-blamed-call = sets.later-blamed-call (lent asking apart [] [] room underCx) 1 2 2 disagreeing blamed-call
 
 -- B5003 where both are barred, before X5004: no network is named in the header
 abbrev turnedOut : Lent
-turnedOut = lent asking shut [] [] room
+turnedOut = lent asking shut [] [] room underCx
 
 both-barred : Barred turnedOut 3
 unfolding opened head line shut asking
@@ -122,20 +121,20 @@ met-before = sets.barred-before turnedOut 3 shut-sound is-uar both-barred
 
 -- .. after X5001, over a table of no record; and after X5002, where `a` is another's and `b` is of the User-Name
 abbrev unheard : Lent
-unheard = lent asking (head 0) [] [] room
+unheard = lent asking (head 0) [] [] room underCx
 
 unheard-sound : checkTable (head 0) 0 ≡ Sound 0
 unfolding opened head
 unheard-sound = refl
 
 met-unknown : resultOf unheard ≡ Experimental 5001
-met-unknown = sets.barred-unknown unheard 0 unheard-sound is-uar (seenIn (readRequest asking)) asks (inl (λ k p. omega (arith, p .from, p .to)))
+met-unknown = sets.barred-unknown unheard 0 unheard-sound is-uar (seenIn (readIn (dialectOf underCx asking) asking)) asks (inl (λ k p. omega (arith, p .from, p .to)))
 
 unfoldable strangers : List ℕ
 strangers = head 2 ++ (line 1 0x61 0x71 1 1 2 s ++ line 2 0x62 0x70 1 1 2 s)
 
 abbrev stranger : Lent
-stranger = lent asking strangers [] [] room
+stranger = lent asking strangers [] [] room underCx
 
 strangers-sound : checkTable strangers 0 ≡ Sound 2
 unfolding opened head line strangers
@@ -144,7 +143,7 @@ strangers-sound = refl
 met-apart : resultOf stranger ≡ Experimental 5002
 unfolding opened head line strangers asking
 met-apart =
-    sets.barred-apart stranger 2 strangers-sound is-uar (seenIn (readRequest asking)) asks 1 2 (record { from = lit≤ tt; to = lit≤ tt; name = refl })
+    sets.barred-apart stranger 2 strangers-sound is-uar (seenIn (readIn (dialectOf underCx asking) asking)) asks 1 2 (record { from = lit≤ tt; to = lit≤ tt; name = refl })
     (record { from = lit≤ tt; to = lit≤ tt; name = refl })
     (λ e. let n : _≡_ {A = ℕ} 0x71 0x70 = ap (λ (name : List ℕ). getD name 0 0) e in omega arith)
 
@@ -187,7 +186,7 @@ met-served : 0 < serverSize (blockOf (family 2 1 s) 1)
 unfolding opened head line family
 met-served = unreachable.registered-served (family 2 1 s) 0 3 1 barred-sound (lit≤ tt) (lit≤ tt) (lit< tt)
 
-met-never : decideBy withBranch asking (family 2 1 s) 3 [] .given .verdict .result ≢ Base 5012
+met-never : decisionBy withBranch admitted 3 .given .verdict .result ≢ Base 5012
 met-never = unreachable.never-given admitted 3 barred-sound (inl is-uar)
 
 met-taken-out : resultOf admitted ≢ Base 5012
@@ -195,10 +194,10 @@ met-taken-out = unreachable.taken-out admitted (inl is-uar)
 
 -- a SAR of type 0 for `a` with another server name, and a MAR for none
 abbrev question : Lent
-question = lent (assignment 0 z) (family 2 1 s) [] [] room
+question = lent (assignment 0 z) (family 2 1 s) [] [] room underCx
 
 abbrev none-asked : Lent
-none-asked = lent (authentication 0 s) (family 2 1 s) [] [] room
+none-asked = lent (authentication 0 s) (family 2 1 s) [] [] room underCx
 
 question-result : resultOf question ≡ Base 5012
 unfolding opened head line family
