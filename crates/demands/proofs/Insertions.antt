@@ -176,9 +176,6 @@ none-before q i = rw (lt-ltb 0 (20 + padded (length (q .avp))) (omega arith))
 -- A request, the row of its AVPs after the first, the longer row, and what is behind it.
 module _ (head : List ℕ) (twenty : length head ≡ 20) (q : Piece) (qs rs : List Piece) (whole : All Whole (q ∷ qs)) (tail : List ℕ) (fours : length tail % 4 ≡ 0)
     (most : length (requestOf head (q ∷ rs) tail) ≤ 16384) (x : Lent) where
-  abbrev dialect : Dialect
-  dialect = dialectOf (x .terms) head
-
   abbrev short : List ℕ
   short = bytesOf (q ∷ qs) ++ tail
 
@@ -192,7 +189,7 @@ module _ (head : List ℕ) (twenty : length head ≡ 20) (q : Piece) (qs rs : Li
   even : (ps : List Piece) → All Whole ps → length (bytesOf ps ++ tail) % 4 ≡ 0
   even ps w = rw (length-append (bytesOf ps) tail) (omega (arith, row-even ps w, fours))
 
-  module _ (i : Inserted (Foreign dialect) qs rs) where
+  module _ (i : Inserted (Foreign (dialectOf (x .terms) head)) qs rs) where
     long-whole : All Whole (q ∷ rs)
     long-whole = (whole .0, inserted-whole (λ u p. p .whole) i (whole .1))
 
@@ -219,7 +216,7 @@ module _ (head : List ℕ) (twenty : length head ≡ 20) (q : Piece) (qs rs : Li
     both-named = rw (long-walk, short-walk) (foreign-identities (keep q i) (walk tail))
 
     both-served : {from : ℕ} {more : ℕ → ℕ} → more 0 ≡ 0
-        → Moved (message head long) (message head short) from more (readBody dialect head (walk long)) (readBody dialect head (walk short))
+        → Moved (message head long) (message head short) from more (readBody (dialectOf (x .terms) head) head (walk long)) (readBody (dialectOf (x .terms) head) head (walk short))
         → serve (asking x (message head long)) ≡ placed (later more) (serve (asking x (message head short)))
     both-served z e = served-same x head twenty long short both-alike z e both-named long-fit short-fit
 
@@ -231,21 +228,21 @@ module _ (head : List ℕ) (twenty : length head ≡ 20) (q : Piece) (qs rs : Li
     both-refused f e = refused-same head twenty long short long-fit short-fit x f e
 
   -- the verdict of reading: the place of the AVP at fault moves by what was put in before it
-  pub unmarked-moved : (j : Inserted (Quiet dialect) qs rs)
-      → Moved (message head long) (message head short) 0 (putBefore (keep q j) 20) (readBody dialect head (walk long)) (readBody dialect head (walk short))
+  pub unmarked-moved : (j : Inserted (Quiet (dialectOf (x .terms) head)) qs rs)
+      → Moved (message head long) (message head short) 0 (putBefore (keep q j) 20) (readBody (dialectOf (x .terms) head) head (walk long)) (readBody (dialectOf (x .terms) head) head (walk short))
   unfolding Row-moved avpsOf glue
   unmarked-moved j =
       let s = message head short in
       let l = message head long in
       let w = walk tail in
-      let ends = ends-same dialect l s tail fours in
-      let m = row-moved dialect l s tail tail w w ends (keep q j) whole 20 0 (omega arith) (message-drop head twenty long)
+      let ends = ends-same (dialectOf (x .terms) head) l s tail fours in
+      let m = row-moved (dialectOf (x .terms) head) l s tail tail w w ends (keep q j) whole 20 0 (omega arith) (message-drop head twenty long)
       (message-drop head twenty short) nothing in
       rw (long-walk (quiet-foreign j), short-walk)
-      (walk-moved (none-before q j) dialect head (avp (q .avp) (glue (avpsOf rs) w)) (avp (q .avp) (glue (avpsOf qs) w)) refl
+      (walk-moved (none-before q j) (dialectOf (x .terms) head) head (avp (q .avp) (glue (avpsOf rs) w)) (avp (q .avp) (glue (avpsOf qs) w)) refl
       (moved-as (omega arith) (λ p h. zero-add (putBefore (keep q j) 20 p)) m))
 
-  pub unmarked-same : (j : Inserted (Quiet dialect) qs rs)
+  pub unmarked-same : (j : Inserted (Quiet (dialectOf (x .terms) head)) qs rs)
       → serve (asking x (message head long)) ≡ placed (placeNow (keep q j)) (serve (asking x (message head short)))
   unmarked-same j = both-served (quiet-foreign j) (none-before q j) (unmarked-moved j)
 

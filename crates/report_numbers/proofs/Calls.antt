@@ -52,6 +52,11 @@ unfolding left next
 left-other x q [] = refl
 left-other x q (p ∷ ps) = left-other (next x p) q ps
 
+pub left-terms : (x : Lent) (ps : List (List ℕ)) → left x ps .terms ≡ x .terms
+unfolding left next
+left-terms x [] = refl
+left-terms x (p ∷ ps) = left-terms (next x p) ps
+
 pub left-profile : (x : Lent) (ps : List (List ℕ)) → left x ps .profile ≡ x .profile
 unfolding left next
 left-profile x [] = refl

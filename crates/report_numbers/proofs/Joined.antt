@@ -15,7 +15,7 @@ use Rattle.report_numbers.specs.Area.{wordIn}
 use Rattle.report_numbers.specs.File.{OneRequest}
 use Rattle.report_numbers.specs.Turns.{eventsOf, goingOn}
 use Rattle.report_numbers.proofs.Area.{report-word, report-place, report-largest}
-use Rattle.report_numbers.proofs.Calls.{row-append, left-append, row-other, left-other, left-profile}
+use Rattle.report_numbers.proofs.Calls.{row-append, left-append, row-other, left-other, left-profile, left-terms}
 use Rattle.report_numbers.proofs.Cells.{same-test}
 use Rattle.report_numbers.proofs.Cut.{one-piece, one-stop, two-pieces, total-append}
 use Rattle.report_numbers.proofs.Ends.{area-long, stop-zero, zero-stop}
@@ -59,7 +59,7 @@ module _ (x : Lent) (more area : List ℕ) (room : 1160 ≤ length area) (whole 
 
   goes-on : asking (left x (requestsOf x)) more ≡ second
   unfolding ran
-  goes-on = rw (area-long x area room, left-profile x (requestsOf x))
+  goes-on = rw (area-long x area room, left-profile x (requestsOf x), left-terms x (requestsOf x))
 
   pub two-events : eventsOf both ≡ eventsOf x ++ eventsOf second
   two-events =

@@ -17,7 +17,7 @@ use Rattle.choices.specs.declared.Given.{Given}
 use Rattle.questions.specs.Authentication.{toSend}
 use Rattle.deciding.specs.Decide.{decide}
 use Rattle.answering.specs.Answer.{answerBytes}
-use Rattle.requests.specs.Request.{underCx}
+use Rattle.requests.specs.Request.{dialectOf, underCx}
 use Rattle.calling.specs.Call.{Answered, Refused}
 use Rattle.calling.specs.Lent.{Lent, lent}
 use Rattle.calling.specs.Serve.{Served, serve}
@@ -239,7 +239,7 @@ items : ℕ → List ℕ
 items zero = []
 items (suc k) = items k ++ item (suc k) k
 
-at-most : decide (authentication 17 s) (one 0 1 s) 1 seventeen .given ≡ sixteen
+at-most : decide (dialectOf underCx (authentication 17 s)) (authentication 17 s) (one 0 1 s) 1 seventeen .given ≡ sixteen
 unfolding opened cards sixteen
 at-most = refl
 
@@ -322,7 +322,8 @@ named state bits name server bits' = record { state = state; bits = bits; name =
 decided : Naming → List ℕ
 decided c =
     let t = header 1 0 ++ subscriber 1 0x61 0x70 (c .state) (c .bits) (c .name) in
-    take 508 (blockOf (decide (authentication 1 (c .server)) t 1 (vector 0 0x70 1) .table) 1)
+    let req = authentication 1 (c .server) in
+    take 508 (blockOf (decide (dialectOf underCx req) req t 1 (vector 0 0x70 1) .table) 1)
 
 expected : Naming → List ℕ
 expected c = take 508 (subscriber 1 0x61 0x70 (c .state) (c .bits') (c .server))
