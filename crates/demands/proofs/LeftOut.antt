@@ -4,7 +4,6 @@ use Rattle.octets.specs.Standard.{length, getD, set, getD-set-other, set-set, s
 use Rattle.diameter.specs.Avp.{padded}
 use Rattle.diameter.specs.Walk.{Walk, ended, faulty, avp}
 use Rattle.diameter.specs.Put.{glue}
-use Rattle.diameter.specs.Message.{commandOf}
 use Rattle.pen.specs.Bytes.{ifThere}
 use Rattle.reading.specs.Kinds.{known, rowOf, kindOf, useIn, useOf, sessionId, publicIdentity}
 use Rattle.reading.specs.Rules.{Seen, ruleBy, rule}

@@ -5,7 +5,7 @@ use Rattle.blocks.specs.declared.Checked.the-variants.{Sound}
 use Rattle.table.specs.SoundTable.{SoundTable}
 use Rattle.diameter.specs.Walk.{Walk, ended, avp, walk}
 use Rattle.diameter.specs.Put.{glue, Piece, Whole, All, bytesOf, avpsOf}
-use Rattle.diameter.specs.Message.{commandOf, bodyOf}
+use Rattle.diameter.specs.Message.{bodyOf}
 use Rattle.diameter.specs.Reader.{avpAt}
 use Rattle.diameter.proofs.Pieces.{walk-pieces, row-even, glue-glue, avps-joined}
 use Rattle.diameter.proofs.Walks.{walk-nil}
