@@ -21,7 +21,9 @@ STATEMENTS = {
     'demands/Demands': ANY,
     'demands/Firm': ANY,
     'demands/Place': '02 [2]',
+    'demands/Sets': '02 [6]',
     'demands/Together': '02 [6]',
+    'demands/Unreachable': '02 [7]',
     'moving/Moving': '02 [5]',
     'older_rules/Sets': '02 [6]',
     'older_rules/Unreachable': '02 [7]',
@@ -33,7 +35,7 @@ STATEMENTS = {
 }
 WITH_STEPS = {'rewrite/Reaching', 'seen_alike/Likeness'}
 # Modules of proofs/, in whatever crate, that docs/PROVED.md cites under "Proved" and that are no such pages: examples, instances, wrong servers, single laws.
-NO_STATEMENTS = {'Challenges', 'Examples', 'Family', 'Moves', 'Readings', 'Room', 'Servers', 'Sound', 'Worked'}
+NO_STATEMENTS = {'Challenges', 'Examples', 'Family', 'Members', 'Moves', 'Readings', 'Room', 'Servers', 'Sound', 'Worked'}
 # The crates that have wrong servers or wrong reporters, each with a theorem `.. -fails`.
 WRONG = ('report_example', 'sets_example', 'wrong_servers')
 # What a cell of the column Theorem says where there is no theorem: it is the contract of a function of that row; or there is none, and why.
