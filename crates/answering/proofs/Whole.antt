@@ -34,7 +34,8 @@ module _ (terms : Terms) (req t file v : List ℕ) (g : Given) where
       → length (bodyBytes terms req t file v g) ≤ length (lent 20 b)
   body-room b whole h room = simp (length-take, length-drop) (omega (arith, body-most whole h))
 
-  pub answer-bounded : {b ys : List ℕ} {r : ℕ} → 20 ≤ length req → length (answerBytes terms req t file v g) ≤ 36864 → Wrote (bodyBytes terms req t file v g) b ys r
+  pub answer-bounded : {b ys : List ℕ} {r : ℕ} → 20 ≤ length req → length (answerBytes terms req t file v g) ≤ 36864
+      → Wrote (bodyBytes terms req t file v g) b ys r
       → 20 + r ≤ 36864
   answer-bounded whole h p = omega (arith, p .count, body-most whole h)
 

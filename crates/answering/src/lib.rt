@@ -31,7 +31,8 @@ fn put_body(
     requires { ⌜ SoundTable (now t) (ground .count) × Sendable (now v) (g .sent)
         × (length (bodyBytes (ground .dialect .terms) (now req) (now t) (now file) (now v) g) ≤ length (now out)) ⌝ }
     ensures { λ r. ⌜ (r ≤ length (now (out .entry)))
-        × Wrote (bodyBytes (ground .dialect .terms) (now (req .entry)) (now (t .entry)) (now (file .entry)) (now (v .entry)) g) (now (out .entry)) (now (out .exit)) r ⌝ }
+        × Wrote (bodyBytes (ground .dialect .terms) (now (req .entry)) (now (t .entry)) (now (file .entry)) (now (v .entry)) g) (now (out .entry))
+        (now (out .exit)) r ⌝ }
 {
     let verdict = g.verdict;
     let result = verdict.result;
@@ -56,7 +57,8 @@ pub fn answer(
     requires { ⌜ (20 ≤ length (now req)) × SoundTable (now t) (ground .count) × Sendable (now v) (g .sent)
         × (length (answerBytes (ground .dialect .terms) (now req) (now t) (now file) (now v) g) ≤ 36864) × (36864 ≤ length (now out)) ⌝ }
     ensures { λ r. ⌜ (r ≤ 36864)
-        × Wrote (answerBytes (ground .dialect .terms) (now (req .entry)) (now (t .entry)) (now (file .entry)) (now (v .entry)) g) (now (out .entry)) (now (out .exit)) r ⌝ }
+        × Wrote (answerBytes (ground .dialect .terms) (now (req .entry)) (now (t .entry)) (now (file .entry)) (now (v .entry)) g) (now (out .entry))
+        (now (out .exit)) r ⌝ }
 {
     let verdict = g.verdict;
     let result = verdict.result;

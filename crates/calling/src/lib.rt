@@ -89,7 +89,8 @@ fn over_sound(
     requires { ⌜ Passed (now req) (now out) × SoundTable (now t) (ground .count) × (d ≡ checkVectors (now v))
         × (ground .dialect ≡ dialectOf (ground .dialect .terms) (now req)) ⌝ }
     ensures { λ r. ⌜ Leaves (lent (now (req .entry)) (now (t .entry)) (now (file .entry)) (now (v .entry)) (now (out .entry)) (ground .dialect .terms))
-        (serveChecked (lent (now (req .entry)) (now (t .entry)) (now (file .entry)) (now (v .entry)) (now (out .entry)) (ground .dialect .terms)) (Checked.Sound (ground .count)) d)
+        (serveChecked (lent (now (req .entry)) (now (t .entry)) (now (file .entry)) (now (v .entry)) (now (out .entry)) (ground .dialect .terms))
+        (Checked.Sound (ground .count)) d)
         (ground .count) r (now (t .exit)) (now (v .exit)) (now (out .exit)) ⌝ }
 {
     match d {

@@ -59,7 +59,12 @@ module _ (dialect : Dialect) (req t : List ℕ) (count : ℕ) (v : List ℕ) (f 
 -- its place lies in the request
 pub fault-near : (dialect : Dialect) (req places o : List ℕ) (w : Walked) (f : Verdict) → judgedOf req places w ≡ readIn dialect req → w ≡ walked.Fault f
     → Passed req o → f .place ≤ 16384
-fault-near dialect req places o w f e is p = omega (arith, p .most, read-placed dialect req f (p .least) (judged-bad req places w (readIn dialect req) e f is) .within)
+fault-near dialect req places o w f e is p = omega (
+  arith,
+  p .most,
+  read-placed dialect req f (p .least)
+      (judged-bad req places w (readIn dialect req) e f is) .within,
+)
 
 -- Its answer fits, and so does that of a plan.
 module _ (v : List ℕ) (f : Verdict) (g : Given) (e : g ≡ givenFault f) where

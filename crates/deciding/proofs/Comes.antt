@@ -105,7 +105,8 @@ location-listed a =
     (refl, refl)))
 
 module _ (dialect : Dialect) (req t : List ℕ) (count : ℕ) (v : List ℕ) (seen : Seen) where
-  carried-tells : (user : List ℕ) (k : ℕ) → k ≤ count → (c : Choice) → ChoiceListed c → (dialect .command ≡ 303 → ⊥) → Tells dialect req t count v seen (carried t count user k c)
+  carried-tells : (user : List ℕ) (k : ℕ) → k ≤ count → (c : Choice) → ChoiceListed c → (dialect .command ≡ 303 → ⊥)
+      → Tells dialect req t count v seen (carried t count user k c)
   unfolding carried findServer
   carried-tells user k h (Alone r) l n = alone dialect req t count v seen r l (λ e. absurd (n e))
   carried-tells user k h (Server r) l n = of-result dialect req t count v seen r 0 k 0 0 l (omega arith) h (omega arith) (omega arith) (λ e. absurd (n e))
@@ -114,7 +115,8 @@ module _ (dialect : Dialect) (req t : List ℕ) (count : ℕ) (v : List ℕ) (se
     where
       go : (f : Found) → findServer t count user ≡ f → Tells dialect req t count v seen (servedBy f r other k)
       go (At j) e =
-          of-result dialect req t count v seen r 0 j 0 0 (l .0) (omega arith) (omega (arith, first-stands (servesAt t user) count 1 j e .to)) (omega arith) (omega arith)
+          of-result dialect req t count v seen r 0 j 0 0 (l .0) (omega arith) (omega (arith, first-stands (servesAt t user) count 1 j e .to))
+          (omega arith) (omega arith)
           (λ z. absurd (n z))
       go Nothing e = of-result dialect req t count v seen other 0 0 k 0 (l .1) (omega arith) (omega arith) h (omega arith) (λ z. absurd (n z))
 
@@ -254,7 +256,8 @@ module _ (dialect : Dialect) (req t : List ℕ) (count : ℕ) (v : List ℕ) (se
         told = grant-tells first (row .result) h (says .0)
 
         fits : Fitting (row .state) (storedName (row .named) (dataSeen seen serverName))
-        fits = row-fits (dataSeen seen serverName) (server-least dialect req seen read (inl is)) (server-most dialect req seen read) (sar .numbers .kind) (sar .numbers .keep)
+        fits = row-fits (dataSeen seen serverName) (server-least dialect req seen read (inl is)) (server-most dialect req seen read)
+            (sar .numbers .kind) (sar .numbers .keep)
 
         go : (x : Bool) → Came (record {
           given = grant (sar .numbers) first (row .result);
@@ -342,7 +345,8 @@ module _ (dialect : Dialect) (req t : List ℕ) (count : ℕ) (v : List ℕ) (se
     user-given = read-needed dialect req seen userName read (omega arith) (rw is)
 
     challenge-comes : (k : ℕ) → 1 ≤ k → k ≤ count → (a : Claimed) → (a .together ≡ true → privateAt t k ≡ dataSeen seen userName)
-        → (a .some ≡ true → 0 < sending dialect req t count v seen .count) → (f : Finding) → Claim a f → Came (challengeOf f k (sending dialect req t count v seen))
+        → (a .some ≡ true → 0 < sending dialect req t count v seen .count) → (f : Finding) → Claim a f
+        → Came (challengeOf f k (sending dialect req t count v seen))
     unfolding challengeOf isOne listed indexIn baseResults
     challenge-comes k from to a owns left f (refused r l) = tells _ (alone dialect req t count v seen r (fails-listed r l) (λ e. l))
     challenge-comes k from to a owns left f (granted e l) =

@@ -16,7 +16,8 @@ use Rattle.deciding.proofs.Cases.{Writes, Comes, tells, settles, challe
 use Rattle.deciding.proofs.Comes.{decide-by}
 
 -- what is written keeps what every effect keeps
-writes-keeping : (dialect : Dialect) (req t : List ℕ) (count : ℕ) (v : List ℕ) (seen : Seen) → SoundTable t count → {y : List ℕ} → Writes dialect req t count v seen y → Keeping t y count
+writes-keeping : (dialect : Dialect) (req t : List ℕ) (count : ℕ) (v : List ℕ) (seen : Seen) → SoundTable t count → {y : List ℕ}
+    → Writes dialect req t count v seen y → Keeping t y count
 writes-keeping dialect req t count v seen sound w =
     rw (w .table)
     (after-keeping t count (w .change) (sound-size t count sound) (reaches t (w .records)) (w .keeps) (reaches-zero t count sound (w .records) ∙ w .later)
@@ -32,7 +33,8 @@ decide-keeping dialect req t count v sound =
     go seen p (settles g w x) = writes-keeping dialect req t count v seen sound (x .writes)
     go seen p (challenges k x) = writes-keeping dialect req t count v seen sound (x .writes)
 
-pub decide-vectors : (dialect : Dialect) (req t : List ℕ) (count : ℕ) (v : List ℕ) → SoundVectors v → checkVectors (decide dialect req t count v .vectors) ≡ checkVectors v
+pub decide-vectors : (dialect : Dialect) (req t : List ℕ) (count : ℕ) (v : List ℕ) → SoundVectors v
+    → checkVectors (decide dialect req t count v .vectors) ≡ checkVectors v
 unfolding performedBy spentBy
 decide-vectors dialect req t count v s =
     decide-by dialect req t count v (λ d. checkVectors (d .vectors) ≡ checkVectors v) (λ f e b. refl) (λ seen e p c. go seen p c)

@@ -58,4 +58,5 @@ module _ (t file : List ℕ) (count : ℕ) (s : SoundTable t count) (v : List �
 
   pub answer-most : (dialect : Dialect) → SoundVectors v → length (answerBytes (dialect .terms) req t file v (decide dialect req t count v .given)) ≤ 36864
   answer-most dialect vectors =
-      given-most (dialect .terms) (decide dialect req t count v .given) (decide-sendable dialect req t count v vectors) (decide-carries dialect req t count v .light)
+      given-most (dialect .terms) (decide dialect req t count v .given) (decide-sendable dialect req t count v vectors)
+      (decide-carries dialect req t count v .light)

@@ -1,4 +1,5 @@
--- What one request in a dialect, over a sound table of count records and a sound vector file, comes to under some rules; `decide` is that under the rules in force.
+-- What one request in a dialect comes to under some rules, over a sound table of count records and a sound vector file; `decide` is that under the rules in
+-- force.
 use Prim.Native.Nat.{ℕ}
 use mathlib.Core.List.{List}
 use Rattle.reading.specs.Rules.{Seen}

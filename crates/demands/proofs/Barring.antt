@@ -165,7 +165,8 @@ module _ (x : Lent) (count : ℕ) (sound : checkOf x ≡ Sound count) (uar : com
   barred-apart = apart
 
   -- every record of the set is barred then, whichever reading found the identity
-  pub free-goes : (b : Barred x count) (seen : Seen) → readIn (dialectIn x) (x .request) ≡ fine seen → (k j : ℕ) → Stands t count k (dataSeen seen publicIdentity)
+  pub free-goes : (b : Barred x count) (seen : Seen) → readIn (dialectIn x) (x .request) ≡ fine seen → (k j : ℕ)
+      → Stands t count k (dataSeen seen publicIdentity)
       → 1 ≤ j → j ≤ count → Shares t k j → barred (bitsOf (blockOf t j)) ≡ true
   free-goes b seen read k j s from to h =
       let e : fine seen ≡ fine (b .seen) = sym read ∙ b .read in

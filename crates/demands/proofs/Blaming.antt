@@ -76,7 +76,8 @@ module _ (x : Lent) where
   blames-answer p b =
       let n = b .result in
       let h : 0 < p = omega (arith, fault-least (dialectIn x) (x .request) n p (b .fault)) in
-      fault-answered x n p (failedOf n (drop p (x .request))) (failed-there (x .request) n p h) (fault-read (dialectIn x) (x .request) n p (b .fault)) (b .taken)
+      fault-answered x n p (failedOf n (drop p (x .request))) (failed-there (x .request) n p h) (fault-read (dialectIn x) (x .request) n p (b .fault))
+      (b .taken)
 
   pub place-blamed : place ≢ 0 → Blames x place
   place-blamed n = go (turnedAway x) refl

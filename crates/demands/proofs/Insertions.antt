@@ -146,7 +146,8 @@ module _ {long short : List ℕ} {more : ℕ → ℕ} (none : more 0 ≡ 0) wher
   fault-decides d head true false k l (faults x y m) e = moved-as (omega arith) (λ p h. refl) (faults x y m)
   fault-decides d head true false k l (same seen) e = absurd (true≢false (sym e))
 
-  fault-keeps : (d : Dialect) (head : List ℕ) (h f : Bool) {from : ℕ} {i j : Judged} (k : Seen → Judged) → Moved long short from more i j → (not h || f || isFault j) ≡ true
+  fault-keeps : (d : Dialect) (head : List ℕ) (h f : Bool) {from : ℕ} {i j : Judged} (k : Seen → Judged) → Moved long short from more i j
+      → (not h || f || isFault j) ≡ true
       → (req t : List ℕ) (count : ℕ) (v : List ℕ)
       → (judgedBy inForce d req t count v (readFrom d head h f i k) .table ≡ t) × (judgedBy inForce d req t count v (readFrom d head h f i k) .vectors ≡ v)
   unfolding readFrom andThen complete judgedBy
@@ -216,7 +217,8 @@ module _ (head : List ℕ) (twenty : length head ≡ 20) (q : Piece) (qs rs : Li
     both-named = rw (long-walk, short-walk) (foreign-identities (keep q i) (walk tail))
 
     both-served : {from : ℕ} {more : ℕ → ℕ} → more 0 ≡ 0
-        → Moved (message head long) (message head short) from more (readBody (dialectOf (x .terms) head) head (walk long)) (readBody (dialectOf (x .terms) head) head (walk short))
+        → Moved (message head long) (message head short) from more (readBody (dialectOf (x .terms) head) head (walk long))
+        (readBody (dialectOf (x .terms) head) head (walk short))
         → serve (asking x (message head long)) ≡ placed (later more) (serve (asking x (message head short)))
     both-served z e = served-same x head twenty long short both-alike z e both-named long-fit short-fit
 
@@ -229,7 +231,8 @@ module _ (head : List ℕ) (twenty : length head ≡ 20) (q : Piece) (qs rs : Li
 
   -- the verdict of reading: the place of the AVP at fault moves by what was put in before it
   pub unmarked-moved : (j : Inserted (Quiet (dialectOf (x .terms) head)) qs rs)
-      → Moved (message head long) (message head short) 0 (putBefore (keep q j) 20) (readBody (dialectOf (x .terms) head) head (walk long)) (readBody (dialectOf (x .terms) head) head (walk short))
+      → Moved (message head long) (message head short) 0 (putBefore (keep q j) 20) (readBody (dialectOf (x .terms) head) head (walk long))
+      (readBody (dialectOf (x .terms) head) head (walk short))
   unfolding Row-moved avpsOf glue
   unmarked-moved j =
       let s = message head short in
@@ -395,7 +398,8 @@ module _ (head : List ℕ) (twenty : length head ≡ 20) (q : Piece) (qs rs : Li
       fault-answered (asking x longer) 5001 markPlace (m .mark .avp) mark-failed (mark-read e) f
       ∙ ap (unsupported (asking x longer) (m .mark)) (past-bytes 20 (q ∷ m .before) before-whole)
 
-  long-decides : (t : List ℕ) (count : ℕ) (v : List ℕ) → decide (dialectOf (x .terms) longer) longer t count v ≡ judgedBy inForce dialect longer t count v longRead
+  long-decides : (t : List ℕ) (count : ℕ) (v : List ℕ) → decide (dialectOf (x .terms) longer) longer t count v
+      ≡ judgedBy inForce dialect longer t count v longRead
   unfolding decideBy
   long-decides t count v =
       rw (message-dialect head twenty (bytesOf (q ∷ rs) ++ tail) (x .terms), message-read dialect head twenty (bytesOf (q ∷ rs) ++ tail), long-read)
@@ -415,6 +419,7 @@ module _ (head : List ℕ) (twenty : length head ≡ 20) (q : Piece) (qs rs : Li
       go true e z f = let k = refused-kept (asking x longer) e in (k .0, k .1)
       go false e true f =
           rw (answers e, long-decides (x .table) count (x .vectors))
-          (fault-keeps (none-before q (m .quiet)) dialect head headed (frontOther q (m .front)) (behind markPlace (m .mark ∷ m .after)) front-moved f longer (x .table)
+          (fault-keeps (none-before q (m .quiet)) dialect head headed (frontOther q (m .front))
+          (behind markPlace (m .mark ∷ m .after)) front-moved f longer (x .table)
           count (x .vectors))
       go false e false f = rw (answers e, mark-decides f (x .table) count (x .vectors)) (refl, refl)

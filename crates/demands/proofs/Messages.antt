@@ -226,7 +226,13 @@ module _ (x : Lent) (head : List ℕ) (twenty : length head ≡ 20) (b c : List 
         × (decide (dialectOf (x .terms) long) long t count v .place ≡ later more (decide (dialectOf (x .terms) short) short t count v .place))
     unfolding decideBy
     decide-same t count v =
-        rw (message-dialect head twenty b (x .terms), message-dialect head twenty c (x .terms), message-read dialect head twenty b, message-read dialect head twenty c)
+        rw (
+          message-dialect head twenty b (x .terms),
+          message-dialect head twenty c
+              (x .terms),
+          message-read dialect head twenty b,
+          message-read dialect head twenty c,
+        )
         (judged-same t count v (message-read dialect head twenty c) read, judged-place t count v read)
 
     pub served-same : Fit b → Fit c → serve (asking x (message head b)) ≡ placed (later more) (serve (asking x (message head c)))

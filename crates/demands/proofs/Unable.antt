@@ -54,7 +54,8 @@ module _ (d : Dialect) (req t : List ℕ) (count : ℕ) (v : List ℕ) where
           by true y z a b c e = without (uarPlan t count seen) (uar-without t count seen) e
           by false true z a b c e = inl (eqb-true _ _ b)
           by false false true a b c e = without (lirPlan t count seen) (lir-without t count seen) e
-          by false false false a b c e = let n = read-command d req seen r in inr (omega (arith, eqb-false (d .command) 300 a, eqb-false (d .command) 301 b, eqb-false (d .command) 302 c, n .0, n .1))
+          by false false false a b c e = let n = read-command d req seen r in inr
+              (omega (arith, eqb-false (d .command) 300 a, eqb-false (d .command) 301 b, eqb-false (d .command) 302 c, n .0, n .1))
 
   pub unable-never : (d .command ≡ 300) ⊎ (d .command ≡ 302) → Comes → ⊥
   unable-never c e = go c (unable-whose e)

@@ -26,12 +26,14 @@ module _ (r s : Rules) (x : Lent) where
 
   -- of one request that was read, by its plan and by what is written
   pub decided-same : (count : ℕ)
-      → ((seen : Seen) → r .plan (dialectIn x) (x .request) (x .table) count (x .vectors) seen ≡ s .plan (dialectIn x) (x .request) (x .table) count (x .vectors) seen)
+      → ((seen : Seen) → r .plan (dialectIn x) (x .request) (x .table) count (x .vectors) seen
+      ≡ s .plan (dialectIn x) (x .request) (x .table) count (x .vectors) seen)
       → ((seen : Seen) (d : Deed) → r .carry (x .request) (x .table) count seen d ≡ s .carry (x .request) (x .table) count seen d)
       → decisionBy r x count ≡ decisionBy s x count
   unfolding decideBy judgedBy performedBy
   decided-same count plans carries = go (readIn (dialectIn x) (x .request))
     where
-      go : (j : Judged) → judgedBy r (dialectIn x) (x .request) (x .table) count (x .vectors) j ≡ judgedBy s (dialectIn x) (x .request) (x .table) count (x .vectors) j
+      go : (j : Judged) → judgedBy r (dialectIn x) (x .request) (x .table) count (x .vectors) j
+          ≡ judgedBy s (dialectIn x) (x .request) (x .table) count (x .vectors) j
       go (bad f) = refl
       go (fine seen) = rw (plans seen, carries _ _)

@@ -34,7 +34,8 @@ pub without-sets : (x : Lent) → NoSets (x .table) → serveBy beforeSets x ≡
 without-sets x none =
     rules-same beforeSets inForce x (check-is (x .table) none (length (x .profile)))
     (λ count e.
-    decided-same beforeSets inForce x count (plan-is (x .table) none count (dialectIn x) (x .request) (x .vectors)) (carried-is (x .table) none count (x .request)))
+    decided-same beforeSets inForce x count (plan-is (x .table) none count (dialectIn x) (x .request) (x .vectors))
+    (carried-is (x .table) none count (x .request)))
 
 -- A sound table of the first edition is one, so that it is untouched.
 module _ (t : List ℕ) (file count : ℕ) (checked : checkTable t file ≡ Sound count) where

@@ -162,7 +162,8 @@ module _ (t : List ℕ) (count : ℕ) (sound : SoundTable t count) where
 pub decided-alike : (x : Lent) (count : ℕ) → checkTable (x .table) (length (x .profile)) ≡ Sound count
     → decisionBy withBranch x count ≡ decision x count
 decided-alike x count e =
-    decided-same withBranch inForce x count (plan-same (x .table) count (record { file = length (x .profile); checked = e }) (dialectIn x) (x .request) (x .vectors))
+    decided-same withBranch inForce x count (plan-same (x .table) count (record { file = length (x .profile); checked = e }) (dialectIn x)
+    (x .request) (x .vectors))
     (λ s d. refl)
 
 -- "Answers are the same for every input."

@@ -39,7 +39,8 @@ fn put_start(out: &mut [u8], session: &[u8], terms: Terms, o: Outcome) -> usize
 // The same with the request's Session-Id.
 fn put_front(out: &mut [u8], req: &[u8], terms: Terms, o: Outcome) -> usize
     requires { ⌜ length (frontBytes terms (sessionOf (bodyOf (now req))) o) ≤ length (now out) ⌝ }
-    ensures { λ r. ⌜ (r ≤ length (now (out .entry))) × Wrote (frontBytes terms (sessionOf (bodyOf (now (req .entry)))) o) (now (out .entry)) (now (out .exit)) r ⌝ }
+    ensures { λ r. ⌜ (r ≤ length (now (out .entry))) × Wrote (frontBytes terms (sessionOf (bodyOf (now (req .entry)))) o) (now (out .entry))
+        (now (out .exit)) r ⌝ }
 {
     put_start(out, requests::session(req), terms, o)
 }

@@ -123,7 +123,8 @@ unwriting-fails f e p =
 -- nor one that does not carry the vectors along: each request is decided over the vector file as it came
 unspent : Lent → List (List ℕ) → List Event
 unspent x [] = []
-unspent x (p ∷ ps) = eventOf (asking x p) ∷ unspent (lent (x .request) (serve (asking x p) .table) (x .profile) (x .vectors) (serve (asking x p) .buffer) (x .terms)) ps
+unspent x (p ∷ ps) = eventOf (asking x p) ∷ unspent (lent (x .request) (serve (asking x p) .table) (x .profile) (x .vectors)
+    (serve (asking x p) .buffer) (x .terms)) ps
 
 sparing : Reporter
 sparing = counting-by (λ (x : Lent). unspent x (requestsOf x))

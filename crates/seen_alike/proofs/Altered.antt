@@ -147,7 +147,8 @@ module _ (t u : List ℕ) (count : ℕ) (sound : SoundTable t count) (other : So
       (reaches-same t u count sound other alike (k ∷ []) ((a, b), tt))
       (λ j l h. challenged-at j l h server most) count (omega arith)
 
-  pub altered-same : (dialect : Dialect) (req v : List ℕ) → alteredUpTo t (decide dialect req t count v .table) count ≡ alteredUpTo u (decide dialect req u count v .table) count
+  pub altered-same : (dialect : Dialect) (req v : List ℕ) → alteredUpTo t (decide dialect req t count v .table) count
+      ≡ alteredUpTo u (decide dialect req u count v .table) count
   unfolding decideBy judgedBy performedBy
   altered-same dialect req v = go (readIn dialect req) refl
     where
@@ -155,4 +156,5 @@ module _ (t u : List ℕ) (count : ℕ) (sound : SoundTable t count) (other : So
           → alteredUpTo t (judgedBy inForce dialect req t count v j .table) count ≡ alteredUpTo u (judgedBy inForce dialect req u count v j .table) count
       go (bad f) e = altered-none t count ∙ sym (altered-none u count)
       go (fine seen) e =
-          rw (← plan-same [] t u count like req v dialect seen) (deed-altered req v seen (planRead dialect req t count v seen .deed) (plan-fits dialect req t count v seen e))
+          rw (← plan-same [] t u count like req v dialect seen)
+          (deed-altered req v seen (planRead dialect req t count v seen .deed) (plan-fits dialect req t count v seen e))

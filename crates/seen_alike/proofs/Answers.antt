@@ -63,7 +63,8 @@ module _ (file t u : List ℕ) (count : ℕ) (like : SameTables file t u count) 
 
   -- the answer of the decision
   pub bytes-same : (dialect : Dialect) (req v : List ℕ)
-      → answerBytes (dialect .terms) req t file v (decide dialect req t count v .given) ≡ answerBytes (dialect .terms) req u file v (decide dialect req u count v .given)
+      → answerBytes (dialect .terms) req t file v (decide dialect req t count v .given)
+      ≡ answerBytes (dialect .terms) req u file v (decide dialect req u count v .given)
   bytes-same dialect req v =
       answer-same (decide dialect req t count v .given) (decide-carries dialect req t count v .within) (dialect .terms) req v
       ∙ ap (answerBytes (dialect .terms) req u file v) (given-same file t u count like req v dialect)

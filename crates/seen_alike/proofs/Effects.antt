@@ -158,7 +158,9 @@ module _ (t u : List ℕ) (count : ℕ) (sound : SoundTable t count) (other : So
   unfolding decideBy judgedBy performedBy
   tables-alike dialect req v = go (readIn dialect req) refl
     where
-      go : (j : Judged) → readIn dialect req ≡ j → AlikeTables (judgedBy inForce dialect req t count v j .table) (judgedBy inForce dialect req u count v j .table) count
+      go : (j : Judged) → readIn dialect req ≡ j → AlikeTables (judgedBy inForce dialect req t count v j .table)
+          (judgedBy inForce dialect req u count v j .table) count
       go (bad f) e = alike
       go (fine seen) e =
-          rw (← plan-same [] t u count like req v dialect seen) (deed-alike req v seen (planRead dialect req t count v seen .deed) (plan-fits dialect req t count v seen e))
+          rw (← plan-same [] t u count like req v dialect seen)
+          (deed-alike req v seen (planRead dialect req t count v seen .deed) (plan-fits dialect req t count v seen e))

@@ -47,11 +47,13 @@ module _ (t u : List ℕ) (count : ℕ) (sound : SoundTable t count) (alike : Al
   answer-alike terms req file v g within = answer-same file t u count (like file) g within terms req v
 
   pub decision-alike : (dialect : Dialect) (req file v : List ℕ)
-      → answerBytes (dialect .terms) req t file v (decide dialect req t count v .given) ≡ answerBytes (dialect .terms) req u file v (decide dialect req u count v .given)
+      → answerBytes (dialect .terms) req t file v (decide dialect req t count v .given)
+      ≡ answerBytes (dialect .terms) req u file v (decide dialect req u count v .given)
   decision-alike dialect req file v = bytes-same file t u count (like file) dialect req v
 
   -- the tables afterwards, if both are sound
-  pub table-alike : SoundTable u count → (dialect : Dialect) (req v : List ℕ) → AlikeTables (decide dialect req t count v .table) (decide dialect req u count v .table) count
+  pub table-alike : SoundTable u count → (dialect : Dialect) (req v : List ℕ)
+      → AlikeTables (decide dialect req t count v .table) (decide dialect req u count v .table) count
   table-alike other dialect req v = tables-alike t u count sound other alike dialect req v
 
   -- how many records it alters, if both are of bytes

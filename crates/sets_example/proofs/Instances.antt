@@ -58,7 +58,8 @@ asks = refl
 -- "one with a non-barred identity in its implicit set may go on": `a` is barred, and `b` is not
 met-going-on : resultOf admitted ≢ Base 5003
 unfolding opened head line family asking
-met-going-on = sets.going-on admitted 3 barred-sound is-uar (seenIn (readIn (dialectOf underCx asking) asking)) asks 1 2 a-stands (lit≤ tt) (lit≤ tt) shared refl
+met-going-on = sets.going-on admitted 3 barred-sound is-uar (seenIn (readIn (dialectOf underCx asking) asking)) asks 1 2 a-stands (lit≤ tt)
+    (lit≤ tt) shared refl
 
 -- the set's records agree; of a pair that does not, block 2 is blamed
 met-agree : Agrees (family 2 1 s) 1 2
@@ -128,7 +129,8 @@ unfolding opened head
 unheard-sound = refl
 
 met-unknown : resultOf unheard ≡ Experimental 5001
-met-unknown = sets.barred-unknown unheard 0 unheard-sound is-uar (seenIn (readIn (dialectOf underCx asking) asking)) asks (inl (λ k p. omega (arith, p .from, p .to)))
+met-unknown = sets.barred-unknown unheard 0 unheard-sound is-uar (seenIn (readIn (dialectOf underCx asking) asking)) asks
+    (inl (λ k p. omega (arith, p .from, p .to)))
 
 unfoldable strangers : List ℕ
 strangers = head 2 ++ (line 1 0x61 0x71 1 1 2 s ++ line 2 0x62 0x70 1 1 2 s)
@@ -143,7 +145,8 @@ strangers-sound = refl
 met-apart : resultOf stranger ≡ Experimental 5002
 unfolding opened head line strangers asking
 met-apart =
-    sets.barred-apart stranger 2 strangers-sound is-uar (seenIn (readIn (dialectOf underCx asking) asking)) asks 1 2 (record { from = lit≤ tt; to = lit≤ tt; name = refl })
+    sets.barred-apart stranger 2 strangers-sound is-uar (seenIn (readIn (dialectOf underCx asking) asking)) asks 1 2
+    (record { from = lit≤ tt; to = lit≤ tt; name = refl })
     (record { from = lit≤ tt; to = lit≤ tt; name = refl })
     (λ e. let n : _≡_ {A = ℕ} 0x71 0x70 = ap (λ (name : List ℕ). getD name 0 0) e in omega arith)
 

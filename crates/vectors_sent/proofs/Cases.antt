@@ -64,7 +64,8 @@ decide-cases dialect req t count v =
     decide-by dialect req t count v (Cases dialect req t count v)
     (λ f e b. other (record { still = record { none = refl; kept = refl }; apart = λ c. other-result (f .result) (fails-most (f .result) b) })) go
   where
-    go : (seen : Seen) → readIn dialect req ≡ fine seen → (p : Plan) → Comes dialect req t count v seen p → Cases dialect req t count v (performedBy inForce req t count v seen p)
+    go : (seen : Seen) → readIn dialect req ≡ fine seen → (p : Plan) → Comes dialect req t count v seen p
+        → Cases dialect req t count v (performedBy inForce req t count v seen p)
     go seen e p (tells g x) =
         other (record {
           still = record { none = rw (x .none); kept = refl };

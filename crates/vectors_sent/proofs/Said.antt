@@ -62,7 +62,8 @@ module _ (x : Lent) (taken : anyHolds (trials x) ≡ false) where
   )
 
 -- A success blames no AVP.
-pub success-nowhere : (dialect : Dialect) (req t : List ℕ) (count : ℕ) (v : List ℕ) → decide dialect req t count v .given .verdict .result ≡ Base 2001 → decide dialect req t count v .place ≡ 0
+pub success-nowhere : (dialect : Dialect) (req t : List ℕ) (count : ℕ) (v : List ℕ) → decide dialect req t count v .given .verdict .result ≡ Base 2001
+    → decide dialect req t count v .place ≡ 0
 unfolding performedBy numberOf
 success-nowhere dialect req t count v =
     decide-by dialect req t count v (λ d. d .given .verdict .result ≡ Base 2001 → d .place ≡ 0)

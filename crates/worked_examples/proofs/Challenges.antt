@@ -204,7 +204,8 @@ numbers-come = all-come numbers (refl, (refl, (refl, (refl, tt))))
 pub one-sent : serve (lent (authentication 1 s) (one 0 1 s) [] (vector 0 0x70 1) room underCx) ≡ left (one 0 1 s) (vector 1 0x70 1) (challenges 1 (item 1 1))
 one-sent = numbers-come .0
 
-pub two-left : serve (lent (authentication 3 s) (one 0 1 s) [] (mixed 0 0 0) room underCx) ≡ left (one 0 1 s) (mixed 0 1 1) (challenges 2 (item 1 5 ++ item 2 9))
+pub two-left : serve (lent (authentication 3 s) (one 0 1 s) [] (mixed 0 0 0) room underCx)
+    ≡ left (one 0 1 s) (mixed 0 1 1) (challenges 2 (item 1 5 ++ item 2 9))
 two-left = numbers-come .1 .0
 
 pub none-asked :
