@@ -165,9 +165,6 @@ module _ (long short : List ℕ) where
       blames d p (settles g w x) = inl (x .command)
       blames d p (challenges k x) = inr (refl, refl)
 
-      abbrev Same : Plan → Plan → Type 0
-      Same p q = SameDecision long short (performedBy inForce long t count v seen p) (performedBy inForce short t count v seen q)
-
       pub plan-same : (d : Dialect) → readIn d short ≡ fine seen → Same (planRead d long t count v seen) (planRead d short t count v seen)
       unfolding planRead
       plan-same d read = go (eqb (d .command) 301) refl (blames d _ (comes d short t count v seen read))

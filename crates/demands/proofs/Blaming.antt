@@ -115,8 +115,8 @@ module _ (x : Lent) where
   fault-bytes p b =
       omega (
         arith,
-        fault-within (x .request) (b .result) p (b .fault),
-        fault-fours (x .request) (b .result) p (b .fault),
+        fault-within (dialectIn x) (x .request) (b .result) p (b .fault),
+        fault-fours (dialectIn x) (x .request) (b .result) p (b .fault),
         length-even (x .request) (taken x (b .taken) .lengths),
       )
 

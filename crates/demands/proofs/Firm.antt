@@ -13,7 +13,7 @@ use Rattle.calling.specs.Call.{Answer, Answered, Refused}
 use Rattle.calling.specs.Lent.{Lent}
 use Rattle.calling.specs.Serve.{checkValue}
 use Rattle.ndushavire.specs.Word.{word, checkWord, callWord, numberIn, moveWord}
-use Rattle.ndushavire.specs.Reads.{Reads, ReadsCheck, numberIn, ReadsMove}
+use Rattle.ndushavire.specs.Reads.{Reads, ReadsCheck, ReadsMove}
 use Rattle.ndushavire.proofs.Parts.{parts}
 use Rattle.moving.specs.Outcomes.{forward, back, ForwardRefuses, BackRefuses}
 use Rattle.moving.specs.declared.Move.{Move}

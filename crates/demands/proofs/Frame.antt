@@ -116,7 +116,7 @@ module _ (x : Lent) (count : ℕ) (sound : checkOf x ≡ Sound count) where
   -- what every effect keeps is kept by every call
   call-keeping : Keeping t (serve x .table) count
   call-keeping =
-      after-call (λ y z. Keeping t y count) (keeping-same t count) (λ a. decide-keeping (x .request) t count v says)
+      after-call (λ y z. Keeping t y count) (keeping-same t count) (λ a. decide-keeping (dialectIn x) (x .request) t count v says)
 
   pub header-kept : blockOf (serve x .table) 0 ≡ blockOf t 0
   header-kept = call-keeping .header

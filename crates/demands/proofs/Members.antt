@@ -290,18 +290,18 @@ module _ (t : List ℕ) (count : ℕ) (sound : SoundTable t count) (k j : ℕ) (
       go false = written-same t count sound k j a b c d one fs gs there change
 
   -- of two requests that say so
-  module _ (long short : List ℕ) (more less : Seen) (says-naming : assignmentOf long t more ≡ naming) (says-leaving : assignmentOf short t less ≡ leaving) where
-    same-server : dataSeen more serverName ≡ dataSeen less serverName
+  module _ (long short : List ℕ) (fuller fewer : Seen) (says-naming : assignmentOf long t fuller ≡ naming) (says-leaving : assignmentOf short t fewer ≡ leaving) where
+    same-server : dataSeen fuller serverName ≡ dataSeen fewer serverName
     unfolding assignmentOf
     same-server = ap (λ (s : Assignment). s .server) says-naming ∙ sym (ap (λ (s : Assignment). s .server) says-leaving)
 
-    carried-same : (e : Deed) → carriedOut long t count more e ≡ carriedOut short t count less e
+    carried-same : (e : Deed) → carriedOut long t count fuller e ≡ carriedOut short t count fewer e
     unfolding carriedOut
     carried-same Leave = refl
     carried-same (Settle w) = rw (says-naming, says-leaving) (settled-same w)
     carried-same (Challenge i) = rw same-server
 
     pub named-twice : (v : List ℕ)
-        → performedBy inForce long t count v more (assign t count naming) ≡ performedBy inForce short t count v less (assign t count leaving)
+        → performedBy inForce long t count v fuller (assign t count naming) ≡ performedBy inForce short t count v fewer (assign t count leaving)
     unfolding performedBy
     named-twice v = rw (assigned-same, carried-same (assign t count leaving .deed))

@@ -10,6 +10,7 @@ use Rattle.diameter.specs.Reader.{avpAt}
 use Rattle.diameter.proofs.Pieces.{walk-pieces, row-even, glue-glue, avps-joined}
 use Rattle.diameter.proofs.Walks.{walk-nil}
 use Rattle.reading.specs.Kinds.{kindOf, publicIdentity, userName, serverName, assignmentType, dataAvailable}
+use Rattle.reading.specs.Rules.{Seen}
 use Rattle.requests.specs.Judged.{fine}
 use Rattle.requests.specs.Request.{dialectOf, readIn, identities, sessionOf, dataSeen}
 use Rattle.requests.specs.Identity.{placesFrom}
@@ -46,6 +47,12 @@ bytes-left (q ∷ qs) one ps = simp length-append (omega (arith, bytes-left qs o
 
 row-walk : (qs : List Piece) → All Whole qs → walk (bytesOf qs) ≡ glue (avpsOf qs) ended
 row-walk qs h = ap walk (sym (append-nil (bytesOf qs))) ∙ walk-pieces qs [] h ∙ rw walk-nil
+
+-- a SAR that was read
+decide-sar : (d : Dialect) (req t : List ℕ) (count : ℕ) (v : List ℕ) (seen : Seen) → readIn d req ≡ fine seen → d .command ≡ 301
+    → decide d req t count v ≡ performedBy inForce req t count v seen (assign t count (assignmentOf req t seen))
+unfolding decideBy judgedBy planRead sarPlan
+decide-sar d req t count v seen read sar = rw (read, sar)
 
 -- as many places as identities
 places-some : (req : List ℕ) (xs ys : List (List ℕ)) (y : List ℕ) → identities (bodyOf req) ≡ xs ++ (y ∷ ys) → length (placesFrom 20 (bodyOf req)) ≡ 0 → ⊥
@@ -145,12 +152,10 @@ module _ (head : List ℕ) (twenty : length head ≡ 20) (before : List Piece) (
       leaving = assignmentOf (message head short) t (read-short .seen)
 
       decide-long : decide d (message head long) t count v ≡ performedBy inForce (message head long) t count v (removes .seen) (assign t count naming)
-      unfolding decideBy judgedBy planRead sarPlan
-      decide-long = rw (removes .read, removes .sar)
+      decide-long = decide-sar d (message head long) t count v (removes .seen) (removes .read) (removes .sar)
 
       decide-short : decide d (message head short) t count v ≡ performedBy inForce (message head short) t count v (read-short .seen) (assign t count leaving)
-      unfolding decideBy judgedBy planRead sarPlan
-      decide-short = rw (read-fewer, sar)
+      decide-short = decide-sar d (message head short) t count v (read-short .seen) read-fewer sar
 
       kept : (k : ℕ) → (k ≡ publicIdentity → ⊥) → getD (read-short .seen) k none ≡ getD (removes .seen) k none
       kept k n = sym (beside-at (removes .seen) (read-short .seen) (read-short .beside) k n)
@@ -224,7 +229,7 @@ module _ (head : List ℕ) (twenty : length head ≡ 20) (before : List Piece) (
       answers-at n e =
           let table : SoundTable (x .table) count = record { file = length (x .profile); checked = sound } in
           rw (e, message-dialect head twenty long (x .terms), message-dialect head twenty short (x .terms), is)
-          (answered-same head twenty long short (copied begun) x (λ (p : ℕ). p) _ _ (same-decision (x .table) count table m (x .vectors))
+          (answered-same x head twenty long short (copied begun) (λ (p : ℕ). p) _ _ (same-decision (x .table) count table m (x .vectors))
           (ap (λ (d : Decision). d .place) (decided-same (x .table) count table m (x .vectors))))
 
       pub served-twice : serve (asking x (message head long)) ≡ serve (asking x (message head short))

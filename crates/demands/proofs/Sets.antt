@@ -16,11 +16,10 @@ use Rattle.requests.specs.Judged.{fine}
 use Rattle.requests.specs.Request.{readIn, dataSeen}
 use Rattle.calling.specs.Call.{Refused}
 use Rattle.calling.specs.Lent.{Lent, asking, dialectIn}
-use Rattle.calling.specs.Serve.{checkOf, resultOf, serve}
+use Rattle.calling.specs.Serve.{checkOf, resultOf, serveBy, serve}
 use Rattle.calling.proofs.Kept.{table-checked}
 use Rattle.ndushavire.specs.Reads.{ReadsCheck}
 use Rattle.ndushavire.specs.Promise.{CheckPromise}
-use Rattle.older_rules.specs.Rules.{serveBy}
 use Rattle.older_rules.specs.WithoutSets.{NoSets, beforeSets}
 use Rattle.demands.specs.Sets.{Shares, Agrees, Disagrees, Stands, Belongs, Barred, Removes, OneFewer, Member}
 use Rattle.demands.proofs.Blaming.{base-experimental}

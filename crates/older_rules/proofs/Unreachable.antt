@@ -32,10 +32,10 @@ use Rattle.lookup.proofs.Among.{public-among}
 use Rattle.deciding.specs.Plans.{uarPlan, sarPlan, lirPlan, marPlan, planRead}
 use Rattle.deciding.specs.Rules.{inForce, Rules}
 use Rattle.deciding.specs.Deeds.{carriedOut}
+use Rattle.blocks.specs.declared.Checked.the-variants.{Sound}
 use Rattle.calling.specs.Lent.{Lent, dialectIn}
 use Rattle.calling.specs.Serve.{decisionBy, decision, serveBy, serve}
 use Rattle.older_rules.proofs.Rules.{rules-same, decided-same}
-use Rattle.older_rules.specs.Rules.{Rules, inForce, serveBy}
 
 -- "the server name (none stored: B5012)"
 unfoldable pub serverIf : Bool → Outcome → Choice
