@@ -50,7 +50,7 @@ abbrev seenIn : Judged → Seen
 seenIn (bad v) = []
 seenIn (fine seen) = seen
 
-removes : Removes (removing three)
+removes : Removes (dialectOf underCx (removing three)) (removing three)
 unfolding all named front own removing
 removes = record { sar = refl; seen = seenIn (readIn (dialectOf underCx (removing three)) (removing three)); read = refl; removal = refl }
 

@@ -5,7 +5,7 @@ use Rattle.pen.specs.Bytes.{wordBytes, vendorHead, numberBytes}
 use Rattle.pen.specs.Groups.{failed}
 use Rattle.reading.specs.declared.Outcome.the-variants.{Base}
 use Rattle.requests.specs.Judged.{nothing}
-use Rattle.requests.specs.Request.{underCx}
+use Rattle.requests.specs.Request.{dialectOf, underCx}
 use Rattle.calling.specs.Lent.{Lent, lent}
 use Rattle.calling.specs.Serve.{Served, serve, resultOf}
 use Rattle.blocks.specs.declared.Checked.the-variants.{Sound}

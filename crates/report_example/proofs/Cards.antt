@@ -1,6 +1,7 @@
 -- A month of cards: two MARs of one private identity, each for one vector, over a file of one. The first is sent it and stores the server name, and for the
 -- second none is left: table and vectors are carried along.
 use Rattle.octets.specs.Standard.{ℕ, _≡_, refl, ap, _∙_, List, [], _∷_, false, arith, lit≤}
+use Rattle.requests.specs.Request.{underCx}
 use Rattle.octets.specs.Run.{over}
 use Rattle.blocks.specs.declared.Checked.the-variants.{Sound}
 use Rattle.table.specs.Check.{checkTable}

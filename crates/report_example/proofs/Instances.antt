@@ -13,7 +13,6 @@ use Rattle.requests.specs.Request.{underCx}
 use Rattle.calling.specs.Lent.{Lent, lent, asking}
 use Rattle.calling.specs.Serve.{serve, checkValue, decision, resultOf}
 use Rattle.ndushavire.specs.Word.{word, callWord, placeIn, valueIn}
-use Rattle.ndushavire.specs.Reads.{placeIn, valueIn}
 use Rattle.ndushavire.specs.Promise.{ReportPromise}
 use Rattle.reporting.specs.Pieces.{stopOf}
 use Rattle.reporting.specs.Row.{eventOf, row, left}

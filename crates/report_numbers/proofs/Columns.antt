@@ -8,12 +8,12 @@ use Rattle.counting.specs.Counted.{howMany}
 use Rattle.counting.proofs.Columns.{listed-column}
 use Rattle.counting.proofs.Numbers.{word-other}
 use Rattle.calling.specs.Call.{Call, Answered, Refused}
-use Rattle.calling.specs.Lent.{Lent, asking}
+use Rattle.calling.specs.Lent.{Lent, asking, dialectIn}
 use Rattle.calling.specs.Serve.{checkOf, checkValue, resultOf, serve}
 use Rattle.demands.proofs.Unreachable.{taken-out}
 use Rattle.reporting.specs.Row.{eventBy, eventOf, next, row}
 use Rattle.reporting.specs.Report.{requestsOf, reported}
-use Rattle.reporting.proofs.Listed.{decide-listed}
+use Rattle.deciding.proofs.Comes.{decide-carries}
 use Rattle.reporting.proofs.Whole.{row-fits}
 use Rattle.report_numbers.specs.Area.{wordIn}
 use Rattle.report_numbers.specs.Turns.{eventsOf, answeredIn}
@@ -21,7 +21,7 @@ use Rattle.report_numbers.proofs.Area.{report-word}
 use Rattle.report_numbers.proofs.Cells.{answered-count, columns-apart}
 
 result-listed : (x : Lent) → Listed (resultOf x)
-result-listed x = decide-listed (x .request) (x .table) (checkValue (checkOf x)) (x .vectors)
+result-listed x = decide-carries (dialectIn x) (x .request) (x .table) (checkValue (checkOf x)) (x .vectors) .result
 
 pub column-within : (x : Lent) → columnOf (resultOf x) < 25
 column-within x = listed-column (resultOf x) (result-listed x)

@@ -17,7 +17,6 @@ use Rattle.counting.specs.Words.{longBytes}
 use Rattle.calling.specs.Lent.{Lent, asking}
 use Rattle.calling.specs.Serve.{checkOf, serve, resultOf}
 use Rattle.ndushavire.specs.Word.{numberIn, placeIn, valueIn}
-use Rattle.ndushavire.specs.Reads.{numberIn, placeIn, valueIn}
 use Rattle.ndushavire.specs.Promise.{DecidePromise, ReportPromise}
 use Rattle.reporting.specs.Pieces.{stopOf}
 use Rattle.reporting.specs.Row.{eventOf, row, left}
