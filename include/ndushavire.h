@@ -1,10 +1,11 @@
 /* ndushavire.h: decides Diameter Cx requests over a subscriber table and a vector file.
  *
- * Who owns what. The caller owns every byte. All slices (request, table, profile, vectors, answer, requests, report) are lent
+ * Who owns what. The caller owns every byte. All slices (request, table, profile, vectors, answer, requests, report, area, fresh) are lent
  * for the length of the call and none is kept: the library has no state of its own, opens no file, takes no memory and
  * starts nothing. The slices of one call must not overlap. Every pointer is non-null, also where its length is 0.
  * Only ndushavire_decide and ndushavire_report write, to the answer, the table and the vectors, and the second to its report; and
- * ndushavire_forward and ndushavire_back, to their table. What must outlive the process is for the caller to store.
+ * ndushavire_forward and ndushavire_back, to their table, and ndushavire_take, to its area. What must outlive the process is for the
+ * caller to store.
  *
  * What a call can alter, of table and vectors; all of this is proved, so nobody has to compare files to see that nothing changed.
  * - ndushavire_decide alters the table only under a SAR (301) or a MAR (303) that is answered with a success, a result of 2xxx, B or X;
@@ -15,6 +16,7 @@
  * - ndushavire_report alters both as its requests do, one after the other, and nothing under 15.
  * - ndushavire_forward and ndushavire_back write to every block of a table that they move, the edition, the issue number and the check
  *   word, and nothing if they refuse.
+ * - ndushavire_take writes a whole new table over the front of its area, and nothing if it refuses.
  * - ndushavire_check and ndushavire_check_vectors alter nothing.
  *
  * Threads. A call is reentrant; it sets no errno and raises no signal. Calls on different tables and vectors may run at
@@ -27,6 +29,10 @@
  * Editions. A table is of edition 1, or of edition 2, which has an issue number in every block and in each record the number
  * of an implicit set, 0 for none. One that mixes editions or issue numbers is unsound. Every function reads both editions, and no
  * answer depends on edition or issue; ndushavire_forward and ndushavire_back move a table from one to the other.
+ *
+ * Working areas. The table that ndushavire_decide, ndushavire_check and ndushavire_report are lent may be longer than 512 x (its record
+ * count + 1) bytes: blocks past the count, and a last piece under a block, are not looked at, do not matter, and stay as they are. A
+ * shorter one has a bad block 0. The moves, and the new table of ndushavire_take, have the exact length.
  *
  * Sets. The records of one private identity with the same set number, other than 0, are an implicit set: what a request does to one
  * of them it does to all. A table is sound only if the records of each set agree in state, pending and server name; the later block
@@ -62,8 +68,8 @@
 extern "C" {
 #endif
 
-#define NDUSHAVIRE_VERSION "0.9.1"
-#define NDUSHAVIRE_VERSION_NUMBER 901 /* the same to compare: major x 10,000 + minor x 100 + patch */
+#define NDUSHAVIRE_VERSION "0.10.0"
+#define NDUSHAVIRE_VERSION_NUMBER 1000 /* the same to compare: major x 10,000 + minor x 100 + patch */
 
 #define NDUSHAVIRE_ANSWER_ROOM 36864       /* the least answer buffer, in bytes: no answer is longer */
 #define NDUSHAVIRE_REQUEST_MIN 20          /* the shortest request, a Diameter header alone */
@@ -78,7 +84,7 @@ extern "C" {
 /* Each function but ndushavire_version returns a word. Keep it in a uint64_t: an int loses the number, and a refusal then looks like a short
  * answer. Its number is 0, or why the call was refused; a refused call has written nothing, but for number 7, which comes
  * at a report's end. Later versions add numbers: every one but 0, known or not, is a refusal. */
-#define NDUSHAVIRE_DONE 0            /* answered; of a check, sound; of a report, the requests read to their end; of a move, moved */
+#define NDUSHAVIRE_DONE 0            /* answered; checked and sound; the requests reported to their end; moved; taken over */
 #define NDUSHAVIRE_ANSWER_SHORT 1    /* the answer buffer is under NDUSHAVIRE_ANSWER_ROOM */
 #define NDUSHAVIRE_REQUEST_SIZE 2    /* the request is under or over its limits */
 #define NDUSHAVIRE_REQUEST_LENGTH 3  /* its header's length is not its own, or no multiple of 4 */
@@ -87,6 +93,9 @@ extern "C" {
 #define NDUSHAVIRE_VECTORS_UNSOUND 6 /* the value is 0; of ndushavire_check_vectors it is the first bad block */
 #define NDUSHAVIRE_REQUESTS_BROKEN 7 /* of a report, which has the numbers so far: the next request is cut off or out of step */
 #define NDUSHAVIRE_TABLE_HAS_SETS 8  /* of the move back: the value is the first block whose set number is not 0 */
+#define NDUSHAVIRE_FRESH_UNSOUND 9   /* of a take-over: the new table is unsound, not of its exact length, or of edition 1; the value is 0 */
+#define NDUSHAVIRE_FRESH_ISSUE 10    /* its issue number is not greater than every one found in the area; the value is 0 */
+#define NDUSHAVIRE_AREA_SHORT 11     /* the area is shorter than it; the value is 0 */
 #define NDUSHAVIRE_OUTPUT_SHORT 15   /* the report area is under NDUSHAVIRE_REPORT_ROOM */
 
 /* Answers one request, rewrites the records that it changes, those of their sets with them, and marks the vectors that it sends. The
@@ -132,6 +141,17 @@ uint64_t ndushavire_forward(uint8_t *table, size_t table_len, const uint8_t *pro
  * 8 and the first block whose set number is not 0. Under 5 and 8 nothing was written. */
 uint64_t ndushavire_back(uint8_t *table, size_t table_len, const uint8_t *profile, size_t profile_len);
 
+/* Takes over a new table of edition 2, made for this profile file: its blocks are written over the front of the working area one by
+ * one, from block 0 up. Of the area nothing is asked: it may hold an older table, one whose take-over was cut, or anything.
+ * The word's number is 0 and its value the new table's record count, and every request then gets what it gets over the new table
+ * alone; blocks past its count, and a last piece, stay. Or it is 9, 10 or 11, in this order, and nothing was written. For 10 each
+ * whole block of the area that begins with the byte 1 or 2 counts, by its bytes 408 to 411, past any count too.
+ * Stored block by block in this order, a cut after any block leaves an area that reads as before (nothing stored), as the new table
+ * (all of it stored), or whose check answers the first block that was not stored: every request is refused by 5. A new table with a
+ * greater issue number mends it; so does the same one, once the area is zeroed from block 0 up. */
+uint64_t ndushavire_take(uint8_t *area, size_t area_len, const uint8_t *fresh, size_t fresh_len, const uint8_t *profile,
+                         size_t profile_len);
+
 /* The version of the library that was linked, as the number of NDUSHAVIRE_VERSION_NUMBER in the header that came with it. */
 uint32_t ndushavire_version(void);
 
@@ -162,7 +182,7 @@ static inline uint32_t ndushavire_number(uint64_t word) { return (uint32_t)(word
  * examples/fault.h prints them. Of a fault within a group it is the group's place. Under B5014 the AVP before it may be the one
  * whose length is wrong.
  * It is 0 where no AVP of the request is at fault: under header faults, B5005, X results, whatever a decision says (B5003,
- * B5012, the B5009 of a SAR's second identity), success; under every refusal; of both checks, of both moves, and of a report. */
+ * B5012, the B5009 of a SAR's second identity), success; under every refusal; of both checks, of both moves, of a take-over, and of a report. */
 static inline uint32_t ndushavire_place(uint64_t word) { return (uint32_t)(word >> 32) & 0xFFFFu; }
 
 /* The answer's length is this part alone: the word of an answer with a place is a far greater number. */
@@ -176,6 +196,9 @@ static inline int ndushavire_sound(uint64_t word) { return ndushavire_number(wor
 
 /* Of ndushavire_forward and ndushavire_back: whether the table was moved. */
 static inline int ndushavire_moved(uint64_t word) { return ndushavire_number(word) == NDUSHAVIRE_DONE; }
+
+/* Of ndushavire_take: whether the new table was taken. */
+static inline int ndushavire_taken(uint64_t word) { return ndushavire_number(word) == NDUSHAVIRE_DONE; }
 
 /* Of a sound table: its edition, 1 or 2, and its issue number, which is 0 in edition 1. */
 static inline uint32_t ndushavire_edition(const uint8_t *table) { return table[1]; }

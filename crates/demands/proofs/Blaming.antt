@@ -19,7 +19,7 @@ use Rattle.deciding.specs.Rules.{inForce}
 use Rattle.deciding.specs.Decide.{Decision, faulted, performedBy, judgedBy, decideBy, decide}
 use Rattle.calling.specs.Lent.{Lent, dialectIn}
 use Rattle.ndushavire.specs.Reads.{callPlace}
-use Rattle.calling.specs.Serve.{checkOf, answered, serve, checkValue, resultOf}
+use Rattle.calling.specs.Serve.{checkOf, answered, serveTable, checkValue, resultOf}
 use Rattle.calling.proofs.Calls.{size-most, length-even}
 use Rattle.demands.specs.Call.{turnedAway}
 use Rattle.demands.specs.Place.{Blames, faultBody, faultBytes, blaming}
@@ -43,7 +43,7 @@ unfolding decideBy judgedBy
 fault-decides d req n place e t count v = rw e
 
 pub fault-answered : (x : Lent) (n place : ℕ) (shown : List ℕ) → failedBy (x .request) (faultAt n place) ≡ some shown
-    → readIn (dialectIn x) (x .request) ≡ bad (faultAt n place) → turnedAway x ≡ false → serve x ≡ blaming x n shown place
+    → readIn (dialectIn x) (x .request) ≡ bad (faultAt n place) → turnedAway x ≡ false → serveTable x ≡ blaming x n shown place
 unfolding answered
 fault-answered x n place shown is e away =
     let count = checkValue (checkOf x) in
@@ -66,13 +66,13 @@ decide-place d req t count v = go (readIn d req)
 
 module _ (x : Lent) where
   abbrev place : ℕ
-  place = callPlace (serve x .call)
+  place = callPlace (serveTable x .call)
 
   place-read : turnedAway x ≡ false → place ≡ placeOf (readIn (dialectIn x) (x .request))
   unfolding answered
   place-read e = rw (answer-is x e) (decide-place (dialectIn x) (x .request) (x .table) (checkValue (checkOf x)) (x .vectors))
 
-  pub blames-answer : (p : ℕ) (b : Blames x p) → serve x ≡ blaming x (b .result) (failedOf (b .result) (drop p (x .request))) p
+  pub blames-answer : (p : ℕ) (b : Blames x p) → serveTable x ≡ blaming x (b .result) (failedOf (b .result) (drop p (x .request))) p
   blames-answer p b =
       let n = b .result in
       let h : 0 < p = omega (arith, fault-least (dialectIn x) (x .request) n p (b .fault)) in

@@ -1,9 +1,10 @@
--- The three demands, as theorems about `serve`: what a call comes to, the table, the vectors and the buffer afterwards, for anything lent.
+-- The three demands, as theorems about `serveTable`: what a call comes to, the table, the vectors and the buffer afterwards, for anything lent.
 -- What the words below mean is in specs/Call, specs/Frame and specs/Insertion.
-use Rattle.octets.specs.Standard.{ℕ, _/_, _%_, _<_, _≤_, List, _∷_, some, true, false, _≡_, _⊎_, _≢_, length, getD, drop}
+use Rattle.octets.specs.Standard.{ℕ, _/_, _%_, _<_, _≤_, List, _∷_, some, true, false, _≡_, sym, ap, _∙_, _⊎_, _≢_, arith, length, getD, take, drop}
 use Rattle.octets.specs.Run.{over}
 use Rattle.blocks.specs.Blocks.{blockOf}
 use Rattle.table.specs.Named.{privateAt}
+use Rattle.table.specs.Area.{sizeIn, tableIn, checkArea}
 use Rattle.table.specs.Check.{checkTable}
 use Rattle.blocks.specs.declared.Checked.the-variants.{Sound, Bad}
 use Rattle.vectors.specs.VectorFile.{checkVectors, SoundVectors}
@@ -12,13 +13,15 @@ use Rattle.diameter.specs.Put.{Piece, Whole, All}
 use Rattle.diameter.specs.Message.{commandOf}
 use Rattle.rewrite.specs.Keeps.{alterable}
 use Rattle.calling.specs.Call.{Answer, Answered, Refused}
-use Rattle.calling.specs.Lent.{Lent, asking, dialectIn}
-use Rattle.calling.specs.Serve.{wrongSize, wrongLength, checkOf, trials, answered, decision, serve}
+use Rattle.calling.specs.Lent.{Lent, asking, holding, tableOnly, dialectIn}
+use Rattle.calling.specs.Serve.{SameCall, wrongSize, wrongLength, checkOf, trials, answered, decision, serveTable, serve}
+use Rattle.calling.proofs.Areas.{served-in, served-length, served-rest, served-stays, serve-exact, alike-call, alike-table}
 use Rattle.ndushavire.specs.Word.{callWord}
-use Rattle.ndushavire.specs.Reads.{callNumber, callValue, callIn, Reads, ReadsCheck, ReadsMove}
-use Rattle.ndushavire.specs.Promise.{CheckPromise, CheckVectorsPromise, DecidePromise, ForwardPromise, BackPromise}
+use Rattle.ndushavire.specs.Reads.{callNumber, callValue, callIn, Reads, ReadsCheck, ReadsMove, ReadsTake}
+use Rattle.ndushavire.specs.Promise.{CheckPromise, CheckVectorsPromise, DecidePromise, ForwardPromise, BackPromise, TakePromise}
 use Rattle.moving.specs.Outcomes.{forward, back}
-use Rattle.demands.proofs.Firm.{check-said, check-vectors-said, forward-said, back-said}
+use Rattle.taking.specs.TakeOver.{takeOver}
+use Rattle.demands.proofs.Firm.{check-said, check-vectors-said, forward-said, back-said, take-said}
 use Rattle.reading.specs.declared.Dialect.{Dialect}
 use Rattle.requests.specs.Request.{dialectOf}
 use Rattle.demands.specs.Call.{turnedAway, answerTo, Exactly}
@@ -34,15 +37,35 @@ use Rattle.demands.proofs.Insertions.{unmarked-same, marked-kept, mark-
 use Rattle.demands.proofs.Longer.{marked-or-not, longer-newer}
 use Rattle.demands.proofs.Cuts.{every-request}
 
--- THE CALL. What the exported call is promised to return and to leave is `serve`: the call that its word says, the table, the vectors, the buffer. So each
--- theorem below is one about it.
+-- THE CALL. What the exported call is promised to return and to leave, of a table lent in a working area that may be longer (02 [8]), is `serveTable` over
+-- the table at the front of the area: the call that its word says, the table that is then at the front of the area, the vectors, the buffer. So each theorem
+-- below, of every x, is one about it, with `tableOnly x` for x.
 pub promised : (x : Lent) {r : ℕ} {t' v' o' : List ℕ} → DecidePromise x r t' v' o'
-    → serve x ≡ record { call = callIn r; table = t'; vectors = v'; buffer = o' }
-promised x p = rw (p .word-is, p .table-is, p .vectors-is, p .buffer-is, word-reads x (fits x) .call)
+    → serveTable (tableOnly x) ≡ record { call = callIn r; table = tableIn t'; vectors = v'; buffer = o' }
+promised x p =
+    rw (p .word-is, p .table-is, p .vectors-is, p .buffer-is, served-in x, word-reads (tableOnly x) (fits (tableOnly x)) .call)
+
+-- The area has as many bytes as it had, and those past the table stay: where the table stays, so does the whole area.
+pub promised-past : (x : Lent) {r : ℕ} {t' v' o' : List ℕ} → DecidePromise x r t' v' o'
+    → (length t' ≡ length (x .table)) × (drop (length (tableIn (x .table))) t' ≡ drop (length (tableIn (x .table))) (x .table))
+promised-past x p = rw (p .table-is) (served-length x, served-rest x)
+
+pub promised-stays : (x : Lent) {r : ℕ} {t' v' o' : List ℕ} → DecidePromise x r t' v' o' → tableIn t' ≡ tableIn (x .table) → t' ≡ x .table
+promised-stays x p e = rw (p .table-is) (served-stays x (sym (ap tableIn (p .table-is)) ∙ e))
+
+-- They do not matter: over two areas that agree up to the count the call is the same, it leaves the same vectors and buffer, and areas that agree up to it.
+pub promised-alike : (x : Lent) (area : List ℕ) → take (sizeIn (x .table)) area ≡ take (sizeIn (x .table)) (x .table)
+    → SameCall (serve (holding x area)) (serve x) × (tableIn (serve (holding x area) .table) ≡ tableIn (serve x .table))
+promised-alike x area same = (alike-call x area same, alike-table x area same)
+
+-- A table of its exact length, as every sound one has, is served as it is.
+pub promised-exact : (x : Lent) → length (x .table) ≡ sizeIn (x .table) → serve x ≡ serveTable x
+promised-exact x e = serve-exact x (omega (arith, e))
 
 -- THE CHECKS. Out of the word of the table's check the caller reads number 0 and the count of records, or 5 and the first bad block; out of that of the
--- vector file's number 0 and the count of blocks, or 6 and the first bad block. Bits 32 to 47 are 0.
-pub checked : (t file : List ℕ) {r : ℕ} → CheckPromise t file r → ReadsCheck 5 (checkTable t (length file)) r
+-- vector file's number 0 and the count of blocks, or 6 and the first bad block. Bits 32 to 47 are 0. The table is checked that is at the front of its area,
+-- as in a call.
+pub checked : (t file : List ℕ) {r : ℕ} → CheckPromise t file r → ReadsCheck 5 (checkArea t (length file)) r
 checked t file p = check-said t file p
 
 pub checked-vectors : (v : List ℕ) {r : ℕ} → CheckVectorsPromise v r → ReadsCheck 6 (checkVectors v) r
@@ -56,23 +79,29 @@ moved-forward t file issue p = forward-said t file issue p
 pub moved-back : (t file : List ℕ) {r : ℕ} {t' : List ℕ} → BackPromise t file r t' → ReadsMove (back t (length file) .move) r
 moved-back t file p = back-said t file p
 
+-- TAKING OVER. Out of the word of a take-over the caller reads number 0 and the count of records, or the refusal's number, 9, 10 or 11, and 0. Bits 32 to 47
+-- are 0. taking/proofs/Taking is about it, and proofs/TakingOver about the calls before, between and after.
+pub taken-over : (area fresh file : List ℕ) {r : ℕ} {area' : List ℕ} → TakePromise area fresh file r area'
+    → ReadsTake (takeOver area fresh (length file) .taken) r
+taken-over area fresh file p = take-said area fresh file p
+
 -- DEMAND 1. Every call ends in an answer or in exactly one of six refusals, each given exactly when the papers say, tried in their order.
 module _ (x : Lent) where
   -- The call's number is that of one of `trials x` exactly where this one holds and none earlier does, and 0 exactly where none holds.
-  pub demand-1 : Exactly (trials x) (callNumber (serve x .call))
+  pub demand-1 : Exactly (trials x) (callNumber (serveTable x .call))
   demand-1 = refusals x
 
-  pub demand-1-number : callNumber (serve x .call) ≤ 6
+  pub demand-1-number : callNumber (serveTable x .call) ≤ 6
   demand-1-number = number-most x
 
   -- Refusals 1 to 4 and 6 return 0 besides, refusal 5 the first bad block, and an answer returns its length.
-  pub demand-1-none : (n k : ℕ) → serve x .call ≡ Refused n k → n ≢ 5 → k ≡ 0
+  pub demand-1-none : (n k : ℕ) → serveTable x .call ≡ Refused n k → n ≢ 5 → k ≡ 0
   demand-1-none = besides-none x
 
-  pub demand-1-block : (k : ℕ) → serve x .call ≡ Refused 5 k → checkOf x ≡ Bad k
+  pub demand-1-block : (k : ℕ) → serveTable x .call ≡ Refused 5 k → checkOf x ≡ Bad k
   demand-1-block = besides-block x
 
-  pub demand-1-length : (a : Answer) → serve x .call ≡ Answered a → (count : ℕ) → checkOf x ≡ Sound count → a .length ≡ length (answerTo x count)
+  pub demand-1-length : (a : Answer) → serveTable x .call ≡ Answered a → (count : ℕ) → checkOf x ≡ Sound count → a .length ≡ length (answerTo x count)
   demand-1-length = answer-long x
 
   -- No answer is longer than the smallest buffer that is taken: it lies within the buffer.
@@ -80,15 +109,15 @@ module _ (x : Lent) where
       → SoundVectors (x .vectors) → length (answerTo x count) ≤ 36864
   demand-1-fits = fits x
 
-  pub demand-1-within : callNumber (serve x .call) ≡ 0 → callValue (serve x .call) ≤ length (x .buffer)
+  pub demand-1-within : callNumber (serveTable x .call) ≡ 0 → callValue (serveTable x .call) ≤ length (x .buffer)
   demand-1-within = answer-within x (fits x)
 
   -- Out of the word the caller reads the number (bits 48 to 63), the place of the AVP at fault (bits 32 to 47), and what is returned besides (bits 0 to 31).
-  pub demand-1-word : Reads (serve x .call) (callWord (serve x .call))
+  pub demand-1-word : Reads (serveTable x .call) (callWord (serveTable x .call))
   demand-1-word = word-reads x (fits x)
 
   -- A refusal leaves the table, the vectors and the buffer as they came.
-  pub demand-1-kept : turnedAway x ≡ true → (serve x .table ≡ x .table) × (serve x .vectors ≡ x .vectors) × (serve x .buffer ≡ x .buffer)
+  pub demand-1-kept : turnedAway x ≡ true → (serveTable x .table ≡ x .table) × (serveTable x .vectors ≡ x .vectors) × (serveTable x .buffer ≡ x .buffer)
   demand-1-kept = refused-kept x
 
 -- DEMAND 2. Over a sound table of `count` records a call that is not refused is the decision of documents 01 and 02: the call says the length of its answer
@@ -96,52 +125,52 @@ module _ (x : Lent) where
 -- it came.
 module _ (x : Lent) (count : ℕ) (sound : checkOf x ≡ Sound count) where
   pub demand-2 : turnedAway x ≡ false
-      → (serve x .call ≡ Answered (record { length = length (answerTo x count); place = decision x count .place }))
-      × (serve x .table ≡ decision x count .table)
-      × (serve x .vectors ≡ decision x count .vectors)
-      × (serve x .buffer ≡ over (answerTo x count) (x .buffer))
+      → (serveTable x .call ≡ Answered (record { length = length (answerTo x count); place = decision x count .place }))
+      × (serveTable x .table ≡ decision x count .table)
+      × (serveTable x .vectors ≡ decision x count .vectors)
+      × (serveTable x .buffer ≡ over (answerTo x count) (x .buffer))
   unfolding answered
   demand-2 e = let s = answered-is x count sound e in (rw s, rw s, rw s, rw s)
 
   -- A result that is no success leaves the table and the vectors as they were.
-  pub demand-2-failure : succeeds (decision x count .given .verdict .result) ≡ false → (serve x .table ≡ x .table) × (serve x .vectors ≡ x .vectors)
+  pub demand-2-failure : succeeds (decision x count .given .verdict .result) ≡ false → (serveTable x .table ≡ x .table) × (serveTable x .vectors ≡ x .vectors)
   demand-2-failure = failure-kept x count sound
 
   -- A block whose private identity is not that of the subscription asked about is as it was, and so is the header.
   pub demand-2-others : (k : ℕ) → k ≤ count → some (privateAt (x .table) k) ≢ subscriptionOf (dialectIn x) (x .request) (x .table) count
-      → blockOf (serve x .table) k ≡ blockOf (x .table) k
+      → blockOf (serveTable x .table) k ≡ blockOf (x .table) k
   demand-2-others = others-kept x count sound
 
-  pub demand-2-header : blockOf (serve x .table) 0 ≡ blockOf (x .table) 0
+  pub demand-2-header : blockOf (serveTable x .table) 0 ≡ blockOf (x .table) 0
   demand-2-header = header-kept x count sound
 
   -- In the other blocks only state, pending, server name and check word change: every other byte is as it was, and so are the bits above pending.
-  pub demand-2-bytes : (k i : ℕ) → k ≤ count → i < 512 → alterable i ≡ false → getD (blockOf (serve x .table) k) i 0 ≡ getD (blockOf (x .table) k) i 0
+  pub demand-2-bytes : (k i : ℕ) → k ≤ count → i < 512 → alterable i ≡ false → getD (blockOf (serveTable x .table) k) i 0 ≡ getD (blockOf (x .table) k) i 0
   demand-2-bytes = bytes-kept x count sound
 
-  pub demand-2-bits : (k : ℕ) → k ≤ count → getD (blockOf (serve x .table) k) 9 0 / 2 ≡ getD (blockOf (x .table) k) 9 0 / 2
+  pub demand-2-bits : (k : ℕ) → k ≤ count → getD (blockOf (serveTable x .table) k) 9 0 / 2 ≡ getD (blockOf (x .table) k) 9 0 / 2
   demand-2-bits = bits-kept x count sound
 
   -- The table has as many bytes as it had, and a sound table is sound after every call, with as many records.
-  pub demand-2-size : length (serve x .table) ≡ length (x .table)
+  pub demand-2-size : length (serveTable x .table) ≡ length (x .table)
   demand-2-size = size-kept x count sound
 
-  pub demand-2-sound : checkTable (serve x .table) (length (x .profile)) ≡ Sound count
+  pub demand-2-sound : checkTable (serveTable x .table) (length (x .profile)) ≡ Sound count
   demand-2-sound = sound-kept x count sound
 
 module _ (x : Lent) where
   -- A UAR or a LIR alters nothing: only a SAR or a MAR does, if any; and the vectors are altered by no other than a MAR.
-  pub demand-2-question : commandOf (x .request) ≢ 301 → commandOf (x .request) ≢ 303 → (serve x .table ≡ x .table) × (serve x .vectors ≡ x .vectors)
+  pub demand-2-question : commandOf (x .request) ≢ 301 → commandOf (x .request) ≢ 303 → (serveTable x .table ≡ x .table) × (serveTable x .vectors ≡ x .vectors)
   demand-2-question = question-kept x
 
-  pub demand-2-vectors : commandOf (x .request) ≢ 303 → serve x .vectors ≡ x .vectors
+  pub demand-2-vectors : commandOf (x .request) ≢ 303 → serveTable x .vectors ≡ x .vectors
   demand-2-vectors = vectors-kept x
 
   -- The buffer has as many bytes as it had, and past the answer they are as they came.
-  pub demand-2-room : length (serve x .buffer) ≡ length (x .buffer)
+  pub demand-2-room : length (serveTable x .buffer) ≡ length (x .buffer)
   demand-2-room = buffer-length x (fits x)
 
-  pub demand-2-past : drop (callValue (serve x .call)) (serve x .buffer) ≡ drop (callValue (serve x .call)) (x .buffer)
+  pub demand-2-past : drop (callValue (serveTable x .call)) (serveTable x .buffer) ≡ drop (callValue (serveTable x .call)) (x .buffer)
   demand-2-past = buffer-past x
 
 -- DEMAND 3. Let `longer` be a request with AVPs of unknown kinds put in after its first, at one place or at several, so that it stays within 16,384 bytes.
@@ -159,26 +188,26 @@ module _ (head : List ℕ) (twenty : length head ≡ 20) (q : Piece) (qs rs : Li
   -- If none of them is marked M, the call comes to the same but for the place, which moves with its AVP, and leaves the same table, the same vectors and the
   -- same buffer.
   pub demand-3-unmarked : (i : Inserted (Quiet (dialectOf (x .terms) head)) qs rs)
-      → serve (asking x (requestOf head (q ∷ rs) tail)) ≡ placed (placeNow (keep q i)) (serve (asking x (requestOf head (q ∷ qs) tail)))
+      → serveTable (asking x (requestOf head (q ∷ rs) tail)) ≡ placed (placeNow (keep q i)) (serveTable (asking x (requestOf head (q ∷ qs) tail)))
   demand-3-unmarked i = unmarked-same head twenty q qs rs whole tail fours most x i
 
   -- If one is, the table is as it was, and no vector is used ..
-  pub demand-3-table : FirstMarked (dialectOf (x .terms) head) qs rs → serve (asking x (requestOf head (q ∷ rs) tail)) .table ≡ x .table
+  pub demand-3-table : FirstMarked (dialectOf (x .terms) head) qs rs → serveTable (asking x (requestOf head (q ∷ rs) tail)) .table ≡ x .table
   demand-3-table m = marked-kept head twenty q qs rs whole tail fours most x m .0
 
-  pub demand-3-vectors : FirstMarked (dialectOf (x .terms) head) qs rs → serve (asking x (requestOf head (q ∷ rs) tail)) .vectors ≡ x .vectors
+  pub demand-3-vectors : FirstMarked (dialectOf (x .terms) head) qs rs → serveTable (asking x (requestOf head (q ∷ rs) tail)) .vectors ≡ x .vectors
   demand-3-vectors m = marked-kept head twenty q qs rs whole tail fours most x m .1
 
   -- .. and the answer is the one of B5001 with the first marked one in Failed-AVP (before a missing AVP, and before a SAR's own B5005 and B5009), its place
   -- that where the first marked one begins ..
   pub demand-3-marked : (m : FirstMarked (dialectOf (x .terms) head) qs rs) → faultIn (dialectOf (x .terms) head) head (q ∷ m .front) ≡ false
       → turnedAway (asking x (requestOf head (q ∷ qs) tail)) ≡ false
-      → serve (asking x (requestOf head (q ∷ rs) tail)) ≡ unsupported (asking x (requestOf head (q ∷ rs) tail)) (m .mark) (behindRow (q ∷ m .before))
+      → serveTable (asking x (requestOf head (q ∷ rs) tail)) ≡ unsupported (asking x (requestOf head (q ∷ rs) tail)) (m .mark) (behindRow (q ∷ m .before))
   demand-3-marked m e = mark-answered head twenty q qs rs whole tail fours most x m e
 
   -- .. unless the header or an AVP before it breaks a reading rule, (a) to (h): then the call gives what it gives without them, the place moved as above.
   pub demand-3-fault : (m : FirstMarked (dialectOf (x .terms) head) qs rs) → faultIn (dialectOf (x .terms) head) head (q ∷ m .front) ≡ true
-      → serve (asking x (requestOf head (q ∷ rs) tail)) ≡ placed (placeNow (keep q (m .quiet))) (serve (asking x (requestOf head (q ∷ qs) tail)))
+      → serveTable (asking x (requestOf head (q ∷ rs) tail)) ≡ placed (placeNow (keep q (m .quiet))) (serveTable (asking x (requestOf head (q ∷ qs) tail)))
   demand-3-fault m e = fault-first head twenty q qs rs whole tail fours most x m e
 
 -- These are all cases: of those put in none is marked, or one is the first that is.

@@ -20,6 +20,7 @@ pub mod Place
 pub mod Refusals
 pub mod Results
 pub mod Sets
+pub mod TakingOver
 pub mod Together
 pub mod Trials
 pub mod Unable

@@ -6,7 +6,7 @@ use Rattle.reading.specs.declared.Dialect.{Dialect}
 use Rattle.requests.specs.Request.{dialectOf}
 use Rattle.requests.proofs.Insert.{past}
 use Rattle.calling.specs.Lent.{Lent, asking}
-use Rattle.calling.specs.Serve.{serve}
+use Rattle.calling.specs.Serve.{serveTable}
 use Rattle.demands.specs.Call.{turnedAway}
 use Rattle.demands.specs.Insertion.{requestOf, Foreign, isMarked, Quiet, Inserted, ending, keep, put, FirstMarked, faultIn, unsupported, Longer}
 use Rattle.demands.specs.Insertion.{Mark, sizeOf, putBefore, placeNow, placed, behindRow, behind, firstMark, newer, Newer}
@@ -140,20 +140,20 @@ module _ (head : List ℕ) (twenty : length head ≡ 20) (q : Piece) (qs rs : Li
       go false e = f .before (20 + sizeOf q) p (ltb-false p (20 + sizeOf q) e) h
 
   marked-newer : (f : MarkFound i) (y z : Bool) → turnedAway short ≡ y → faultIn (dialectOf (x .terms) head) head (q ∷ f .first .front) ≡ z
-      → serve long ≡ cond (y || z) (placed now (serve short)) (unsupported long (f .first .mark) (behindRow (q ∷ f .first .before)))
+      → serveTable long ≡ cond (y || z) (placed now (serveTable short)) (unsupported long (f .first .mark) (behindRow (q ∷ f .first .before)))
   marked-newer f true z a b = both-refused head twenty q qs rs whole tail fours most x i now a
   marked-newer f false true a b =
       fault-more head twenty q qs rs whole tail fours most x (f .first) (putBefore (keep q i) 20) (none-before q i) (found-before f) b
   marked-newer f false false a b = mark-answered head twenty q qs rs whole tail fours most x (f .first) b a
 
-  row-newer : Split i → serve long ≡ newer short (long .request) head q now (firstMark i)
+  row-newer : Split i → serveTable long ≡ newer short (long .request) head q now (firstMark i)
   unfolding newer putBefore
   row-newer (inl n) =
       let same : (p : ℕ) → placeNow (keep q (n .quiet)) p ≡ now p = λ p. rw (n .before (20 + sizeOf q) p) in
-      rw (n .is) (unmarked-same head twenty q qs rs whole tail fours most x (n .quiet) ∙ ap (λ (f : ℕ → ℕ). placed f (serve short)) (fun-ext same))
+      rw (n .is) (unmarked-same head twenty q qs rs whole tail fours most x (n .quiet) ∙ ap (λ (f : ℕ → ℕ). placed f (serveTable short)) (fun-ext same))
   row-newer (inr f) = rw (f .is) (marked-newer f (turnedAway short) (faultIn (dialectOf (x .terms) head) head (q ∷ f .first .front)) refl refl)
 
-  row-kept : Split i → (m : Mark) → firstMark i ≡ some m → (serve long .table ≡ x .table) × (serve long .vectors ≡ x .vectors)
+  row-kept : Split i → (m : Mark) → firstMark i ≡ some m → (serveTable long .table ≡ x .table) × (serveTable long .vectors ≡ x .vectors)
   row-kept (inl n) m g = absurd (Option·none-ne-some m (sym (n .is) ∙ g))
   row-kept (inr f) m g = marked-kept head twenty q qs rs whole tail fours most x (f .first)
 
@@ -163,7 +163,7 @@ longer-newer x longer l =
     let c = l .cut in
     let long = requestOf (c .head) (c .first ∷ l .row) (c .tail) in
     let most : length long ≤ 16384 = omega (arith, l .most, ap length (l .bytes)) in
-    let same : serve (asking x longer) ≡ serve (asking x long) = ap (λ (y : List ℕ). serve (asking x y)) (l .bytes) in
+    let same : serveTable (asking x longer) ≡ serveTable (asking x long) = ap (λ (y : List ℕ). serveTable (asking x y)) (l .bytes) in
     let now = placeNow (keep (c .first) (l .inserted)) in
     let m = firstMark (l .inserted) in
     let kept =

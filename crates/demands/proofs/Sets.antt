@@ -1,11 +1,13 @@
 -- 02 [6], "Registering one registers the set, and the barring rule was wrong.", sentence by sentence: the statements alone, each by the law that has its
--- proof. What the words below mean is in specs/Sets; what the rules were before is in older_rules/specs/WithoutSets.
-use Rattle.octets.specs.Standard.{ℕ, _<_, _≤_, true, false, true≢false, _≡_, sym, _∙_, _⊎_, _≢_, _↔_, List, _++_, length, getD}
+-- proof. What the words below mean is in specs/Sets; what the rules were before is in older_rules/specs/WithoutSets. A call is over the table at the front of
+-- the area lent (`promised` in proofs/Demands).
+use Rattle.octets.specs.Standard.{ℕ, _<_, _≤_, true, false, true≢false, _≡_, sym, ap, _∙_, _⊎_, _≢_, _↔_, List, _++_, length, getD}
 use Rattle.record.specs.Fields.{editionOf, bitsOf, barred}
 use Rattle.record.specs.Sets.{sameSet}
 use Rattle.blocks.specs.Blocks.{blockOf}
 use Rattle.blocks.specs.declared.Checked.the-variants.{Sound, Bad}
 use Rattle.table.specs.Named.{privateAt}
+use Rattle.table.specs.Area.{tableIn, checkArea}
 use Rattle.table.specs.Check.{checkTable}
 use Rattle.rewrite.specs.Change.{differ}
 use Rattle.diameter.specs.Message.{commandOf}
@@ -15,8 +17,8 @@ use Rattle.reading.specs.declared.Outcome.the-variants.{Base, Experimental}
 use Rattle.requests.specs.Judged.{fine}
 use Rattle.requests.specs.Request.{readIn, dataSeen}
 use Rattle.calling.specs.Call.{Refused}
-use Rattle.calling.specs.Lent.{Lent, asking, dialectIn}
-use Rattle.calling.specs.Serve.{checkOf, resultOf, serveBy, serve}
+use Rattle.calling.specs.Lent.{Lent, asking, tableOnly, dialectIn}
+use Rattle.calling.specs.Serve.{checkOf, resultOf, serveTable, overArea, serveBy, serve}
 use Rattle.calling.proofs.Kept.{table-checked}
 use Rattle.ndushavire.specs.Reads.{ReadsCheck}
 use Rattle.ndushavire.specs.Promise.{CheckPromise}
@@ -49,10 +51,13 @@ sound-agree t file count j k = disagreeing.sound-agree t j k file count
 pub later-blamed : (t : List ℕ) (file j k : ℕ) → Disagrees t file j k → checkTable t file ≡ Bad k
 later-blamed t file j k = disagreeing.disagree-blamed t j k file
 
-pub later-blamed-check : (t profile : List ℕ) (j k : ℕ) {r : ℕ} → Disagrees t (length profile) j k → CheckPromise t profile r → ReadsCheck 5 (Bad k) r
-later-blamed-check t profile j k d p = rw (later-blamed t (length profile) j k d) at (checked t profile p)
+pub later-blamed-check : (area profile : List ℕ) (j k : ℕ) {r : ℕ} → Disagrees (tableIn area) (length profile) j k → CheckPromise area profile r
+    → ReadsCheck 5 (Bad k) r
+unfolding checkArea
+later-blamed-check area profile j k d p =
+    let q : checkArea area (length profile) ≡ Bad k = later-blamed (tableIn area) (length profile) j k d in rw q at (checked area profile p)
 
-pub later-blamed-call : (x : Lent) (j k block : ℕ) → Disagrees (x .table) (length (x .profile)) j k → serve x .call ≡ Refused 5 block → block ≡ k
+pub later-blamed-call : (x : Lent) (j k block : ℕ) → Disagrees (x .table) (length (x .profile)) j k → serveTable x .call ≡ Refused 5 block → block ≡ k
 later-blamed-call x j k block d e =
     let q : Bad block ≡ Bad k = sym (demand-1-block x block e) ∙ later-blamed (x .table) (length (x .profile)) j k d in cc
 
@@ -60,18 +65,18 @@ later-blamed-call x j k block d e =
 -- they agree after it.
 pub members-together : (x : Lent) (count : ℕ) → checkOf x ≡ Sound count → ((i : ℕ) → getD (x .table) i 0 < 256) → (j k : ℕ)
     → 1 ≤ j → j ≤ count → 1 ≤ k → k ≤ count → Shares (x .table) j k
-    → differ (blockOf (x .table) j) (blockOf (serve x .table) j) ≡ differ (blockOf (x .table) k) (blockOf (serve x .table) k)
+    → differ (blockOf (x .table) j) (blockOf (serveTable x .table) j) ≡ differ (blockOf (x .table) k) (blockOf (serveTable x .table) k)
 members-together x count sound bytes j k a b c d s =
     together.members-together x count sound (λ i. record { fits = bytes i }) j k a b c d (barring.shares-holds (x .table) j k s)
 
-pub members-agree : (x : Lent) (count : ℕ) → checkOf x ≡ Sound count → (j k : ℕ) → 1 ≤ j → j < k → k ≤ count → Shares (serve x .table) j k
-    → Agrees (serve x .table) j k
-members-agree x count sound j k = sound-agree (serve x .table) (length (x .profile)) count j k (table-checked x ∙ sound)
+pub members-agree : (x : Lent) (count : ℕ) → checkOf x ≡ Sound count → (j k : ℕ) → 1 ≤ j → j < k → k ≤ count → Shares (serveTable x .table) j k
+    → Agrees (serveTable x .table) j k
+members-agree x count sound j k = sound-agree (serveTable x .table) (length (x .profile)) count j k (table-checked x ∙ sound)
 
 -- "and a removal naming two members of one set is like naming one.": without one of two it comes to the same call, and leaves the same table, vectors and
 -- buffer.
 pub like-naming-one : (x : Lent) (fewer : List ℕ) (count : ℕ) → checkOf x ≡ Sound count → length (x .request) ≤ 16384 → Removes (dialectIn x) (x .request)
-    → (f : OneFewer (x .request) fewer) → Member (x .table) count (f .before ++ f .after) (f .one) → serve x ≡ serve (asking x fewer)
+    → (f : OneFewer (x .request) fewer) → Member (x .table) count (f .before ++ f .after) (f .one) → serveTable x ≡ serveTable (asking x fewer)
 like-naming-one = named.twice-once
 
 -- "Demand 2 stands.": proofs/Demands has it as it was.
@@ -98,8 +103,8 @@ module _ (x : Lent) (count : ℕ) (sound : checkOf x ≡ Sound count) (uar : com
   barred-before b e = base-experimental (sym (barred-given b) ∙ e)
 
 -- Over a table without sets every call comes to what it came to before; one of edition 1 has none.
-pub without-sets : (x : Lent) → NoSets (x .table) → serveBy beforeSets x ≡ serve x
-without-sets = older.without-sets
+pub without-sets : (x : Lent) → NoSets (tableIn (x .table)) → serveBy beforeSets x ≡ serve x
+without-sets x none = ap (overArea (x .table)) (older.without-sets (tableOnly x) none)
 
 pub first-edition : (t : List ℕ) (file count : ℕ) → checkTable t file ≡ Sound count → editionOf (blockOf t 0) ≡ 1 → NoSets t
 first-edition = older.first-edition

@@ -1,6 +1,6 @@
 -- 02 [7], "A branch nobody can reach.", sentence by sentence: the statements alone, each by the law that has its proof. The branch as it was stands in
 -- older_rules/proofs/Unreachable, and nowhere else.
-use Rattle.octets.specs.Standard.{ℕ, _<_, _≤_, _≡_, _⊎_, _≢_, List}
+use Rattle.octets.specs.Standard.{ℕ, _<_, _≤_, _≡_, ap, _⊎_, _≢_, List}
 use Rattle.record.specs.Fields.{stateOf, serverSize}
 use Rattle.blocks.specs.Blocks.{blockOf}
 use Rattle.blocks.specs.declared.Checked.the-variants.{Sound}
@@ -8,8 +8,8 @@ use Rattle.table.specs.Check.{checkTable}
 use Rattle.table.proofs.Sound.{sound-served}
 use Rattle.diameter.specs.Message.{commandOf}
 use Rattle.reading.specs.declared.Outcome.the-variants.{Base}
-use Rattle.calling.specs.Lent.{Lent, dialectIn}
-use Rattle.calling.specs.Serve.{checkOf, checkValue, decisionBy, resultOf, serveBy, serve}
+use Rattle.calling.specs.Lent.{Lent, tableOnly, dialectIn}
+use Rattle.calling.specs.Serve.{checkOf, checkValue, decisionBy, resultOf, overArea, serveBy, serve}
 use Rattle.older_rules.proofs.Unreachable as older
 use Rattle.demands.proofs.Unable as unable
 
@@ -34,4 +34,4 @@ whose-stays x = unable.unable-whose (dialectIn x) (x .request) (x .table) (check
 
 -- "Answers are the same for every input."
 pub same-for-every-input : (x : Lent) → serveBy older.withBranch x ≡ serve x
-same-for-every-input = older.same-for-every-input
+same-for-every-input x = ap (overArea (x .table)) (older.same-for-every-input (tableOnly x))

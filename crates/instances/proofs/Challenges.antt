@@ -6,7 +6,7 @@ use Rattle.table.specs.Check.{checkTable}
 use Rattle.diameter.specs.Put.{Piece}
 use Rattle.pen.specs.Bytes.{numberBytes}
 use Rattle.pen.specs.Groups.{failed}
-use Rattle.calling.specs.Serve.{decision, serve}
+use Rattle.calling.specs.Serve.{decision, serveTable}
 use Rattle.worked_examples.proofs.Computed.{come, held, roomy}
 use Rattle.worked_examples.proofs.Sample.{header, subscriber, person, vector, reply, item, challenges, s, z}
 use Rattle.requests.specs.Request.{dialectOf, underCx}
@@ -26,7 +26,7 @@ challengedTable = header 2 0 ++ (subscriber 1 0x61 0x70 1 1 z ++ person 2 0x62 0
 spentVectors : List ℕ
 spentVectors = vector 0 0x71 5 ++ vector 1 0x70 1
 
-challenge : serve (carded (mar z 2)) ≡ comesTo 0 challengedTable spentVectors (challenges 1 (item 1 1))
+challenge : serveTable (carded (mar z 2)) ≡ comesTo 0 challengedTable spentVectors (challenges 1 (item 1 1))
 unfolding all challengedTable spentVectors
 challenge = come (carded (mar z 2)) roomy sound-table sound-vectors refl
 
@@ -34,27 +34,27 @@ taken : turnedAway (carded (mar z 2)) ≡ false
 unfolding all
 taken = held (carded (mar z 2)) roomy sound-table sound-vectors refl
 
-met-2-spent : serve (carded (mar z 2)) .vectors ≡ decision (carded (mar z 2)) 2 .vectors
+met-2-spent : serveTable (carded (mar z 2)) .vectors ≡ decision (carded (mar z 2)) 2 .vectors
 met-2-spent = demand-2 (carded (mar z 2)) 2 sound-table taken .2
 
-met-2-neighbour : blockOf (serve (carded (mar z 2)) .table) 2 ≡ blockOf table 2
+met-2-neighbour : blockOf (serveTable (carded (mar z 2)) .table) 2 ≡ blockOf table 2
 unfolding all
 met-2-neighbour =
     demand-2-others (carded (mar z 2)) 2 sound-table 2 (lit≤ tt)
     (λ e. let d : 0x71 ∷ [] ≡ 0x70 ∷ [] = Option·some-injective _ _ e in let c : _≡_ {A = ℕ} 0x71 0x70 = ap (λ (l : List ℕ). getD l 0 0) d in omega arith)
 
-met-2-identity : getD (blockOf (serve (carded (mar z 2)) .table) 1) 144 0 ≡ getD (blockOf table 1) 144 0
+met-2-identity : getD (blockOf (serveTable (carded (mar z 2)) .table) 1) 144 0 ≡ getD (blockOf table 1) 144 0
 met-2-identity = demand-2-bytes (carded (mar z 2)) 2 sound-table 1 144 (lit≤ tt) (lit< tt) refl
 
-met-2-challenged : checkTable (serve (carded (mar z 2)) .table) 0 ≡ Sound 2
+met-2-challenged : checkTable (serveTable (carded (mar z 2)) .table) 0 ≡ Sound 2
 met-2-challenged = demand-2-sound (carded (mar z 2)) 2 sound-table
 
 -- none asked is B5012, which marks no vector; nor does the SAR
-met-2-unmarked : serve (carded (mar z 0)) .vectors ≡ vectors
+met-2-unmarked : serveTable (carded (mar z 0)) .vectors ≡ vectors
 unfolding all
 met-2-unmarked = demand-2-failure (carded (mar z 0)) 2 sound-table refl .1
 
-met-2-vectors : serve (carded (sar s 5)) .vectors ≡ vectors
+met-2-vectors : serveTable (carded (sar s 5)) .vectors ≡ vectors
 unfolding all
 met-2-vectors = demand-2-vectors (carded (sar s 5)) (λ e. let d : _≡_ {A = ℕ} 301 303 = e in omega arith)
 
@@ -79,7 +79,7 @@ put-quietly : Inserted (Quiet (dialectOf underCx marHead)) (marRest z 2) quietly
 unfolding all quietly
 put-quietly = keep _ (put plain quiet-plain-mar (kept (common ++ marOwn z 2)))
 
-met-3-spent : serve (carded (requestOf marHead (session ∷ quietly) [])) ≡ comesTo 0 challengedTable spentVectors (challenges 1 (item 1 1))
+met-3-spent : serveTable (carded (requestOf marHead (session ∷ quietly) [])) ≡ comesTo 0 challengedTable spentVectors (challenges 1 (item 1 1))
 unfolding all isWhole allWhole quietly
 met-3-spent =
     demand-3-unmarked marHead refl session (marRest z 2) quietly (all-whole (session ∷ marRest z 2) refl) [] refl (lit≤ tt) (carded []) put-quietly
@@ -105,12 +105,12 @@ marked-mar =
       rest = ending;
     }
 
-met-3-vectors : serve (carded (requestOf marHead (session ∷ loudly) [])) .vectors ≡ vectors
+met-3-vectors : serveTable (carded (requestOf marHead (session ∷ loudly) [])) .vectors ≡ vectors
 unfolding all isWhole allWhole loudly
 met-3-vectors =
     demand-3-vectors marHead refl session (marRest z 2) loudly (all-whole (session ∷ marRest z 2) refl) [] refl (lit≤ tt) (carded []) marked-mar
 
-met-3-unsent : serve (carded (requestOf marHead (session ∷ loudly) [])) ≡ comesTo 212 table vectors (reply 303 (numberBytes 268 5001) (failed (loud .avp)))
+met-3-unsent : serveTable (carded (requestOf marHead (session ∷ loudly) [])) ≡ comesTo 212 table vectors (reply 303 (numberBytes 268 5001) (failed (loud .avp)))
 unfolding all isWhole allWhole loudly marked-mar
 met-3-unsent =
     demand-3-marked marHead refl session (marRest z 2) loudly (all-whole (session ∷ marRest z 2) refl) [] refl (lit≤ tt) (carded []) marked-mar
@@ -138,6 +138,6 @@ longer-mar =
       most = lit≤ tt;
     }
 
-met-3-unused : serve (carded (requestOf marHead (session ∷ loudly) [])) .vectors ≡ vectors
+met-3-unused : serveTable (carded (requestOf marHead (session ∷ loudly) [])) .vectors ≡ vectors
 unfolding all loudly longer-mar firstMark kept
 met-3-unused = demand-3 (carded (mar z 2)) (requestOf marHead (session ∷ loudly) []) longer-mar .vectors _ refl

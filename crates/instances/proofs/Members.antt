@@ -8,7 +8,7 @@ use Rattle.reading.specs.Rules.{Seen}
 use Rattle.requests.specs.Judged.{Judged, bad, fine}
 use Rattle.requests.specs.Request.{dialectOf, underCx, readIn}
 use Rattle.calling.specs.Lent.{Lent, lent}
-use Rattle.calling.specs.Serve.{serve}
+use Rattle.calling.specs.Serve.{serveTable}
 use Rattle.demands.specs.Insertion.{message}
 use Rattle.demands.specs.Sets.{Removes, OneFewer, Member}
 use Rattle.demands.proofs.Sets.{like-naming-one}
@@ -90,11 +90,11 @@ c-member =
       shares = record { nonzero = lit< tt; number = refl; subscription = refl };
     }
 
-two-comes : serve (asked (removing (named 0x61 ∷ named 0x62 ∷ []))) ≡ comes (lines 0 []) (answer (numberBytes 268 2001) [])
+two-comes : serveTable (asked (removing (named 0x61 ∷ named 0x62 ∷ []))) ≡ comes (lines 0 []) (answer (numberBytes 268 2001) [])
 unfolding all family.head family.line lines named front own removing
 two-comes = come (asked (removing (named 0x61 ∷ named 0x62 ∷ []))) roomy lines-sound no-vectors refl
 
-met-last : serve (asked (removing three)) ≡ comes (lines 0 []) (answer (numberBytes 268 2001) [])
+met-last : serveTable (asked (removing three)) ≡ comes (lines 0 []) (answer (numberBytes 268 2001) [])
 met-last = like-naming-one (asked (removing three)) (removing (named 0x61 ∷ named 0x62 ∷ [])) 3 lines-sound short removes without-c c-member ∙ two-comes
 
 without-a : OneFewer (removing three) (removing (named 0x62 ∷ named 0x63 ∷ []))
@@ -128,5 +128,5 @@ a-member =
       shares = record { nonzero = lit< tt; number = refl; subscription = refl };
     }
 
-met-first : serve (asked (removing three)) ≡ serve (asked (removing (named 0x62 ∷ named 0x63 ∷ [])))
+met-first : serveTable (asked (removing three)) ≡ serveTable (asked (removing (named 0x62 ∷ named 0x63 ∷ [])))
 met-first = like-naming-one (asked (removing three)) (removing (named 0x62 ∷ named 0x63 ∷ [])) 3 lines-sound short removes without-a a-member

@@ -9,12 +9,11 @@ use Rattle.moving.specs.Outcomes.{AfterMove, came, refusing, forwardSound, back
 use Rattle.moving.specs.declared.Move.{Move}
 use Rattle.moving.specs.declared.Move.the-variants.{Moved, Refused}
 use Rattle.calling.specs.Call.{Answered}
-use Rattle.calling.specs.Lent.{Lent}
-use Rattle.calling.specs.Serve.{Served, serve}
+use Rattle.calling.specs.Lent.{Lent, holding}
+use Rattle.calling.specs.Serve.{Served, SameCall, serveTable}
 use Rattle.ndushavire.specs.Word.{word, moveWord}
 use Rattle.ndushavire.specs.Reads.{ReadsMove}
 use Rattle.demands.proofs.Demands.{moved-forward, moved-back}
-use Rattle.seen_alike.specs.Alike.{SameCall, holding}
 use Rattle.seen_alike.proofs.Moved.{forward-answers, back-answers}
 use Rattle.worked_examples.proofs.Computed.{come, roomy, no-vectors}
 use Rattle.worked_examples.proofs.Sample.{checked, header, person, room, answer, s}
@@ -72,26 +71,26 @@ x = asked (sar s 5)
 abbrev y : Lent
 y = holding x second
 
-computed : serve y ≡ comes remaining (answer (numberBytes 268 2001) [])
+computed : serveTable y ≡ comes remaining (answer (numberBytes 268 2001) [])
 unfolding all later second remaining
 computed = come y roomy sound-second no-vectors refl
 
 -- The theorems at them: over edition 2 it is answered as over edition 1, and over edition 1 as over edition 2.
-met-forward-answers : SameCall (serve x) (serve y)
+met-forward-answers : SameCall (serveTable x) (serveTable y)
 met-forward-answers = rw (← ap (λ (o : AfterMove). o .table) there) (forward-answers x 7 2 (lit< tt) (ap (λ (o : AfterMove). o .move) there))
 
-met-back-answers : SameCall (serve y) (serve x)
+met-back-answers : SameCall (serveTable y) (serveTable x)
 met-back-answers = rw (← ap (λ (o : AfterMove). o .table) again) (back-answers y 2 (ap (λ (o : AfterMove). o .move) again))
 
 -- and the one is read off the other: 116 bytes, and which
-forward-call : serve y .call ≡ Answered (record { length = 116; place = 0 })
+forward-call : serveTable y .call ≡ Answered (record { length = 116; place = 0 })
 unfolding all
 forward-call = sym (met-forward-answers .call) ∙ ap (λ (r : Served). r .call) removal
 
-forward-buffer : serve y .buffer ≡ over (answer (numberBytes 268 2001) []) room
+forward-buffer : serveTable y .buffer ≡ over (answer (numberBytes 268 2001) []) room
 unfolding all
 forward-buffer = sym (met-forward-answers .buffer) ∙ ap (λ (r : Served). r .buffer) removal
 
-back-call : serve x .call ≡ Answered (record { length = 116; place = 0 })
+back-call : serveTable x .call ≡ Answered (record { length = 116; place = 0 })
 unfolding all second remaining
 back-call = sym (met-back-answers .call) ∙ ap (λ (r : Served). r .call) computed

@@ -16,7 +16,7 @@ use Rattle.requests.specs.Request.{underCx}
 use Rattle.calling.specs.Call.{Answered}
 use Rattle.calling.specs.Lent.{Lent, lent}
 use Rattle.calling.specs.Trial.{anyHolds}
-use Rattle.calling.specs.Serve.{Served, smallBuffer, checkValue, checkOf, trials, decision, decided, resultOf, serve}
+use Rattle.calling.specs.Serve.{Served, smallBuffer, checkValue, checkOf, trials, decision, decided, resultOf, serveTable}
 use Rattle.ndushavire.specs.Reads.{callPlace}
 use Rattle.vectors_sent.specs.Sent.{sentBy, Challenges, usedAt, remaining, itemsFrom, saidOf, answerWith}
 use Rattle.vectors_sent.specs.Row.{Turn, lending, leftBy, sentOver, Once}
@@ -78,11 +78,11 @@ waiting-sound : checkTable (waiting 0 s) 0 ≡ Sound 1
 unfolding all
 waiting-sound = refl
 
-first-comes : serve first ≡ comes fewer (challenges 2 (item 1 1 ++ item 2 5))
+first-comes : serveTable first ≡ comes fewer (challenges 2 (item 1 1 ++ item 2 5))
 unfolding all
 first-comes = come first roomy unregistered-sound unused-sound refl
 
-second-comes : serve second ≡ comes used (challenges 1 (item 1 9))
+second-comes : serveTable second ≡ comes used (challenges 1 (item 1 9))
 unfolding all
 second-comes = come second roomy waiting-sound fewer-sound refl
 
@@ -101,11 +101,11 @@ unfolding all
 second-sends = sends second roomy waiting-sound fewer-sound refl
 
 -- the row: the blocks 0, 1 and 2, each once, and then all are used
-first-leaves : serve first .vectors ≡ fewer
+first-leaves : serveTable first .vectors ≡ fewer
 unfolding comes
 first-leaves = ap (λ (x : Served). x .vectors) first-comes
 
-second-leaves : serve second .vectors ≡ used
+second-leaves : serveTable second .vectors ≡ used
 unfolding comes
 second-leaves = ap (λ (x : Served). x .vectors) second-comes
 
@@ -115,7 +115,7 @@ row-sends = rw (first-leaves, first-sends, second-sends)
 
 row-leaves : leftBy unused row ≡ used
 unfolding leftBy
-row-leaves = ap (λ (v : List ℕ). serve (lending v (turn (waiting 0 s))) .vectors) first-leaves ∙ second-leaves
+row-leaves = ap (λ (v : List ℕ). serveTable (lending v (turn (waiting 0 s))) .vectors) first-leaves ∙ second-leaves
 
 met-once : Once (0 ∷ 1 ∷ 2 ∷ [])
 met-once = rw row-sends at (sent-once unused row)
@@ -152,11 +152,11 @@ unfolding all
 met-first = sent-first first met-success 1 2 (lit< tt) refl unsent-2 sent-1
 
 -- block 1 was unused, and is used after the first call and after both; the second does not send it
-met-mark : (usedAt unused 1 ≡ 0) × (usedAt (serve first .vectors) 1 ≡ 1)
+met-mark : (usedAt unused 1 ≡ 0) × (usedAt (serveTable first .vectors) 1 ≡ 1)
 unfolding turn
 met-mark = let m = sent-mark first 1 sent-1 in (m .2, m .3)
 
-met-bytes : getD (blockOf (serve first .vectors) 1) 4 0 ≡ getD (blockOf unused 1) 4 0
+met-bytes : getD (blockOf (serveTable first .vectors) 1) 4 0 ≡ getD (blockOf unused 1) 4 0
 unfolding turn
 met-bytes = sent-bytes first 1 sent-1 4 (omega arith) (omega arith)
 
@@ -168,28 +168,28 @@ met-after : usedAt (leftBy unused row) 1 ≡ 1
 unfolding leftBy
 met-after = sent-after unused [] (turn (one 0 0 [])) (turn (waiting 0 s) ∷ []) 1 sent-1
 
-met-never : isOne (sentOver (serve first .vectors) (turn (waiting 0 s) ∷ [])) 1 ≡ false
+met-never : isOne (sentOver (serveTable first .vectors) (turn (waiting 0 s) ∷ [])) 1 ≡ false
 unfolding leftBy
 met-never = sent-never unused [] (turn (one 0 0 [])) (turn (waiting 0 s) ∷ []) 1 sent-1
 
 -- block 2 stays in the first call; so does a vector of another name
-met-unsent : blockOf (serve first .vectors) 2 ≡ blockOf unused 2
+met-unsent : blockOf (serveTable first .vectors) 2 ≡ blockOf unused 2
 unfolding turn
 met-unsent = unsent-stay first 2 unsent-2
 
-met-others : blockOf (serve (lending (vector 0 0x71 1) (turn (one 0 0 []))) .vectors) 0 ≡ blockOf (vector 0 0x71 1) 0
+met-others : blockOf (serveTable (lending (vector 0 0x71 1) (turn (one 0 0 []))) .vectors) 0 ≡ blockOf (vector 0 0x71 1) 0
 unfolding all
 met-others =
     others-stay (lending (vector 0 0x71 1) (turn (one 0 0 []))) 0
     (λ e. let n : _≡_ {A = ℕ} 0x71 0x70 = ap (λ (name : List ℕ). getD name 0 0) e in omega arith)
 
 -- the answer says 2 in 607, and the items of the two blocks
-met-answer : serve first .buffer ≡ over (answerWith first (decided first .given) (saidOf unused (sentBy first))) room
+met-answer : serveTable first .buffer ≡ over (answerWith first (decided first .given) (saidOf unused (sentBy first))) room
 unfolding turn
 met-answer = answer-sends first (met-success .taken) .1
 
 -- a success blames no AVP
-met-place : callPlace (serve first .call) ≡ 0
+met-place : callPlace (serveTable first .call) ≡ 0
 met-place = success-place first met-success
 
 met-says : saidOf unused (sentBy first) ≡ vendorNumber 607 2 ++ itemsFrom unused 1 (sentBy first)
@@ -197,7 +197,7 @@ unfolding all
 met-says = success-says first met-success
 
 -- a call that is refused, for its buffer: the vectors stay
-met-refused : (serve refused .vectors ≡ unused) × (sentBy refused ≡ [])
+met-refused : (serveTable refused .vectors ≡ unused) × (sentBy refused ≡ [])
 unfolding anyHolds
 met-refused = refusal-leaves refused refl
 
@@ -206,7 +206,7 @@ command-answered : anyHolds (trials (other 301)) ≡ false
 unfolding all
 command-answered = held (other 301) roomy unregistered-sound unused-sound refl
 
-met-command : (serve (other 301) .vectors ≡ unused) × (sentBy (other 301) ≡ [])
+met-command : (serveTable (other 301) .vectors ≡ unused) × (sentBy (other 301) ≡ [])
 unfolding all
 met-command = command-leaves (other 301) (λ e. let n : _≡_ {A = ℕ} 301 303 = e in omega arith)
 
@@ -218,6 +218,6 @@ failure-result : resultOf (other 303) ≡ Base 5005
 unfolding all
 failure-result = ap (λ (c : Checked). decision (other 303) (checkValue c) .given .verdict .result) unregistered-sound
 
-met-failure : (serve (other 303) .vectors ≡ unused) × (sentBy (other 303) ≡ [])
+met-failure : (serveTable (other 303) .vectors ≡ unused) × (sentBy (other 303) ≡ [])
 unfolding all
 met-failure = failure-leaves (other 303) (λ e. let n : _≡_ {A = ℕ} 5005 2001 = ap numberOf (sym failure-result ∙ e) in omega arith)

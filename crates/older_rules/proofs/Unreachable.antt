@@ -34,7 +34,7 @@ use Rattle.deciding.specs.Rules.{inForce, Rules}
 use Rattle.deciding.specs.Deeds.{carriedOut}
 use Rattle.blocks.specs.declared.Checked.the-variants.{Sound}
 use Rattle.calling.specs.Lent.{Lent, dialectIn}
-use Rattle.calling.specs.Serve.{decisionBy, decision, serveBy, serve}
+use Rattle.calling.specs.Serve.{decisionBy, decision, serveTableBy, serveTable}
 use Rattle.older_rules.proofs.Rules.{rules-same, decided-same}
 
 -- "the server name (none stored: B5012)"
@@ -167,5 +167,5 @@ decided-alike x count e =
     (λ s d. refl)
 
 -- "Answers are the same for every input."
-pub same-for-every-input : (x : Lent) → serveBy withBranch x ≡ serve x
+pub same-for-every-input : (x : Lent) → serveTableBy withBranch x ≡ serveTable x
 same-for-every-input x = rules-same withBranch inForce x refl (decided-alike x)

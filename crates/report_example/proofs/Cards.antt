@@ -11,9 +11,9 @@ use Rattle.pen.specs.Bytes.{numberBytes}
 use Rattle.reading.specs.declared.Outcome.the-variants.{Base}
 use Rattle.counting.specs.declared.Event.{Event}
 use Rattle.calling.specs.Lent.{Lent, lent}
-use Rattle.calling.specs.Serve.{smallBuffer, serve}
+use Rattle.calling.specs.Serve.{smallBuffer, serveTable}
 use Rattle.reporting.specs.Row.{eventOf, next, row, left}
-use Rattle.reporting.specs.Report.{Reported, requestsOf, ran, reported}
+use Rattle.reporting.specs.Report.{Reported, requestsOf, ran, reportedTable}
 use Rattle.report_numbers.specs.Area.{wordIn}
 use Rattle.report_numbers.specs.File.{OneRequest, endToEnd}
 use Rattle.report_numbers.specs.Turns.{eventsOf}
@@ -56,7 +56,7 @@ unfoldable cardsAll : ℕ
 unfolding all mar fresh used idle named sent denied
 cardsAll = 0
 
-idle-sound : checkTable idle 0 ≡ Sound 1
+pub idle-sound : checkTable idle 0 ≡ Sound 1
 unfolding idle
 idle-sound = unregistered-sound
 
@@ -73,14 +73,14 @@ unfolding cardsAll
 used-sound = refl
 
 -- what each call comes to, and how it is counted
-pub sent-comes : serve (lent mar idle [] fresh room underCx) ≡ leaves 336 named used sent
+pub sent-comes : serveTable (lent mar idle [] fresh room underCx) ≡ leaves 336 named used sent
 unfolding cardsAll
 sent-comes = come (lent mar idle [] fresh room underCx) roomy idle-sound fresh-sound refl
 
 sent-roomy : smallBuffer sent ≡ false
 sent-roomy = stays (lent mar idle [] fresh room underCx) 336 named used sent sent-comes roomy
 
-denied-comes : serve (lent mar named [] used sent underCx) ≡ leaves 116 named used denied
+denied-comes : serveTable (lent mar named [] used sent underCx) ≡ leaves 116 named used denied
 unfolding cardsAll
 denied-comes = come (lent mar named [] used sent underCx) sent-roomy named-sound used-sound refl
 
@@ -93,7 +93,7 @@ unfolding cardsAll
 denied-counts = counted-from (lent mar named [] used sent underCx) 116 named used denied denied-comes named-sound
 
 -- the second MAR over the vectors as they came would be sent the same vector again
-again-comes : serve (lent mar named [] fresh sent underCx) ≡ leaves 336 named used (over (challenges 1 (item 1 1)) sent)
+again-comes : serveTable (lent mar named [] fresh sent underCx) ≡ leaves 336 named used (over (challenges 1 (item 1 1)) sent)
 unfolding cardsAll
 again-comes = come (lent mar named [] fresh sent underCx) sent-roomy named-sound fresh-sound refl
 
@@ -106,7 +106,7 @@ each-mar : All OneRequest marks
 unfolding cardsAll
 each-mar = (record { own = refl; least = lit≤ tt }, (record { own = refl; least = lit≤ tt }, tt))
 
-cards-read : (requestsOf cards ≡ marks) × (reported cards area .number ≡ 0)
+cards-read : (requestsOf cards ≡ marks) × (reportedTable cards area .number ≡ 0)
 unfolding cards
 cards-read = report-0-whole cards area enough marks each-mar refl
 
@@ -132,21 +132,21 @@ cards-left : left cards (requestsOf cards) ≡ lent (endToEnd marks) named [] us
 unfolding left
 cards-left = ap (left cards) cards-requests ∙ rw (after-sent, after-denied)
 
-pub cards-vectors : reported cards area .vectors ≡ used
+pub cards-vectors : reportedTable cards area .vectors ≡ used
 unfolding ran
 cards-vectors = ap (λ (r : Reported). r .vectors) (area-long cards area enough) ∙ ap (λ (y : Lent). y .vectors) cards-left
 
 -- one statement: 2 requests, 1 record altered, the largest answer of 336 bytes, a B2001 and a B5012 of the row 303; the table and the vectors afterwards
 record Cards : Type 0 where
-  number : reported cards area .number ≡ 0
-  table : reported cards area .table ≡ named
-  vectors : reported cards area .vectors ≡ used
-  buffer : reported cards area .buffer ≡ denied
-  requests : wordIn (reported cards area .area) 0 ≡ 2
-  altered : wordIn (reported cards area .area) 2 ≡ 1
-  largest : wordIn (reported cards area .area) 3 ≡ 336
-  sends : wordIn (reported cards area .area) 95 ≡ 1
-  denies : wordIn (reported cards area .area) 106 ≡ 1
+  number : reportedTable cards area .number ≡ 0
+  table : reportedTable cards area .table ≡ named
+  vectors : reportedTable cards area .vectors ≡ used
+  buffer : reportedTable cards area .buffer ≡ denied
+  requests : wordIn (reportedTable cards area .area) 0 ≡ 2
+  altered : wordIn (reportedTable cards area .area) 2 ≡ 1
+  largest : wordIn (reportedTable cards area .area) 3 ≡ 336
+  sends : wordIn (reportedTable cards area .area) 95 ≡ 1
+  denies : wordIn (reportedTable cards area .area) 106 ≡ 1
 
 reported-cards : Cards
 unfolding ran counting

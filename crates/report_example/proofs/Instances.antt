@@ -11,14 +11,15 @@ use Rattle.counting.specs.Results.{columnOf}
 use Rattle.counting.specs.Counting.{listed}
 use Rattle.counting.specs.Words.{longBytes}
 use Rattle.requests.specs.Request.{underCx}
-use Rattle.calling.specs.Lent.{Lent, lent, asking}
-use Rattle.calling.specs.Serve.{serve, checkValue, decision, resultOf}
+use Rattle.calling.specs.Lent.{Lent, lent, asking, tableOnly}
+use Rattle.calling.specs.Serve.{serveTable, serve, checkValue, decision, resultOf}
 use Rattle.ndushavire.specs.Word.{word, callWord}
 use Rattle.ndushavire.specs.Reads.{placeIn, valueIn}
 use Rattle.ndushavire.specs.Promise.{ReportPromise}
 use Rattle.reporting.specs.Pieces.{stopOf}
 use Rattle.reporting.specs.Row.{eventOf, row, left}
-use Rattle.reporting.specs.Report.{Reported, requestsOf, wordsOf, reported}
+use Rattle.reporting.specs.Report.{Reported, requestsOf, wordsOf, reportedTable, reported}
+use Rattle.reporting.proofs.Areas.{reported-sound}
 use Rattle.report_numbers.specs.Area.{wordIn, rowsIn, refusalsIn}
 use Rattle.report_numbers.specs.File.{endToEnd, BrokenOff}
 use Rattle.report_numbers.specs.Turns.{eventsOf, InTurn, callAt, callLength, alteredOver, allIdle, goingOn}
@@ -38,16 +39,26 @@ short = omega (arith, size)
 
 -- THE REPORT
 abbrev outcome : Reported
-outcome = reported month area
+outcome = reportedTable month area
+
+month-over : reported month area ≡ reportedTable month area
+unfolding month
+month-over = reported-sound month area 1 sound-here
 
 promised : ReportPromise month area (word 7 0 0) (outcome .table) (outcome .vectors) (outcome .buffer) (outcome .area)
 promised =
-    record { word-is = ap (λ (n : ℕ). word n 0 0) (sym month-number); table-is = refl; vectors-is = refl; buffer-is = refl; area-is = refl }
+    record {
+      word-is = ap (λ (n : ℕ). word n 0 0) (sym (ap (λ (r : Reported). r .number) month-over ∙ month-number));
+      table-is = ap (λ (r : Reported). r .table) (sym month-over);
+      vectors-is = ap (λ (r : Reported). r .vectors) (sym month-over);
+      buffer-is = ap (λ (r : Reported). r .buffer) (sym month-over);
+      area-is = ap (λ (r : Reported). r .area) (sym month-over);
+    }
 
 met-unique : word 7 0 0 ≡ word 7 0 0
 met-unique = numbers.report-unique month area (word 7 0 0) (word 7 0 0) _ _ _ _ _ _ _ _ promised promised .0
 
-met-meant : (reported month area .number ≡ 7) × (placeIn (word 7 0 0) ≡ 0) × (valueIn (word 7 0 0) ≡ 0)
+met-meant : (reportedTable (tableOnly month) area .number ≡ 7) × (placeIn (word 7 0 0) ≡ 0) × (valueIn (word 7 0 0) ≡ 0)
 met-meant = let m = numbers.report-meant month area promised in (ap (λ (r : Reported). r .number) (m .0), m .1, m .2)
 
 -- THE FILE: the removal is the second of four requests
@@ -59,43 +70,43 @@ unfolding second
 met-event = numbers.report-event month second
 
 -- THE WORDS
-met-bytes : take 8 (drop 8 (reported month area .area)) ≡ longBytes (getD (wordsOf month) 1 0)
+met-bytes : take 8 (drop 8 (reportedTable month area .area)) ≡ longBytes (getD (wordsOf month) 1 0)
 met-bytes = numbers.report-bytes month area enough 1 (omega arith)
 
-met-place : wordIn (reported month area .area) 1 ≡ 452
+met-place : wordIn (reportedTable month area .area) 1 ≡ 452
 unfolding month
 met-place = numbers.report-place month area enough short ∙ month-stop
 
-met-word : wordIn (reported month area .area) 3 ≡ 136
+met-word : wordIn (reportedTable month area .area) 3 ≡ 136
 unfolding counting
 met-word = numbers.report-word month area enough 3 (omega arith) (omega arith) ∙ rw month-events
 
-met-count : wordIn (reported month area .area) 70 ≡ 1
+met-count : wordIn (reportedTable month area .area) 70 ≡ 1
 unfolding counting
 met-count = numbers.report-count month area enough short 70 (omega arith) (omega arith) (omega arith) (omega arith) ∙ rw month-events
 
-met-read : wordIn (reported month area .area) 0 ≡ 4
+met-read : wordIn (reportedTable month area .area) 0 ≡ 4
 met-read = numbers.report-read month area enough short ∙ ap length month-requests
 
-met-refused : wordIn (reported month area .area) 8 ≡ 1
+met-refused : wordIn (reportedTable month area .area) 8 ≡ 1
 unfolding counting
 met-refused = numbers.report-refused month area enough short 4 (omega arith) (omega arith) ∙ rw month-events
 
-met-answered : wordIn (reported month area .area) 89 ≡ 1
+met-answered : wordIn (reportedTable month area .area) 89 ≡ 1
 unfolding counting
 met-answered = numbers.report-answered month area enough short 2 19 (omega arith) (omega arith) ∙ rw month-events
 
-met-totals : rowsIn (reported month area .area) + refusalsIn (reported month area .area) ≡ 4
+met-totals : rowsIn (reportedTable month area .area) + refusalsIn (reportedTable month area .area) ≡ 4
 met-totals = numbers.report-totals month area enough short ∙ met-read
 
-met-rows : rowsIn (reported month area .area) ≡ wordIn (reported month area .area) 4
+met-rows : rowsIn (reportedTable month area .area) ≡ wordIn (reportedTable month area .area) 4
 met-rows = numbers.report-rows month area enough short
 
-met-altered : wordIn (reported month area .area) 2 ≡ alteredOver month (requestsOf month)
+met-altered : wordIn (reportedTable month area .area) 2 ≡ alteredOver month (requestsOf month)
 unfolding month
 met-altered = numbers.report-altered-exact month area enough size
 
-met-largest : callLength (serve (callAt month second) .call) ≤ 136
+met-largest : callLength (serveTable (callAt month second) .call) ≤ 136
 met-largest = rw met-word at (numbers.report-largest month area enough second)
 
 met-columns : Base 5012 ≡ Base 5012
@@ -120,11 +131,11 @@ both-first = ap (λ (c : Checked). columnOf (decision alone (checkValue c) .give
 met-own-column : resultOf alone ≡ resultOf taking
 met-own-column = numbers.report-own-column alone taking both-first
 
-met-unable : (wordIn (reported month area .area) 31 ≡ 0) × (wordIn (reported month area .area) 81 ≡ 0)
+met-unable : (wordIn (reportedTable month area .area) 31 ≡ 0) × (wordIn (reportedTable month area .area) 81 ≡ 0)
 met-unable = numbers.report-unable month area enough
 
 -- THE ENDS: no room for the words; two requests that are a whole file; and the 3 bytes
-met-15 : reported month [] .number ≡ 15
+met-15 : reportedTable month [] .number ≡ 15
 met-15 = ap (λ (r : Reported). r .number) (numbers.report-15-kept month [] (lit< tt))
 
 firstTwo : List ℕ
@@ -133,7 +144,7 @@ firstTwo = endToEnd (lir ∷ removal ∷ [])
 begun : Lent
 begun = lent firstTwo here [] [] room underCx
 
-met-0 : reported begun area .number ≡ 0
+met-0 : reportedTable begun area .number ≡ 0
 unfolding begun firstTwo
 met-0 = numbers.report-0-whole begun area enough (lir ∷ removal ∷ []) (each .0, (each .1 .0, tt)) refl .1
 
@@ -160,7 +171,7 @@ met-one : eventsOf alone ≡ counts 302 (Base 2001) 132 0 ∷ []
 unfolding alone
 met-one = numbers.report-one alone (each .0) ∙ rw located-counts
 
-met-one-ends : reported alone area .number ≡ 0
+met-one-ends : reportedTable alone area .number ≡ 0
 unfolding alone
 met-one-ends = numbers.report-one-ends alone (each .0) area enough
 
@@ -182,31 +193,31 @@ met-both = numbers.report-both begun rest area enough met-0
 met-both-events : eventsOf (asking begun (begun .request ++ rest)) ≡ eventsOf begun ++ eventsOf (goingOn begun area rest)
 met-both-events = numbers.report-both-events begun rest area enough met-0
 
-met-both-leaves : reported (asking begun (begun .request ++ rest)) area .table ≡ reported (goingOn begun area rest) area .table
+met-both-leaves : reportedTable (asking begun (begun .request ++ rest)) area .table ≡ reportedTable (goingOn begun area rest) area .table
 met-both-leaves = numbers.report-both-leaves begun rest area enough met-0 area enough .1
 
-met-both-words : wordIn (reported (asking begun (begun .request ++ rest)) area .area) 0
-    ≡ (wordIn (reported begun area .area) 0 + wordIn (reported (goingOn begun area rest) area .area) 0) % 2 ^ 64
+met-both-words : wordIn (reportedTable (asking begun (begun .request ++ rest)) area .area) 0
+    ≡ (wordIn (reportedTable begun area .area) 0 + wordIn (reportedTable (goingOn begun area rest) area .area) 0) % 2 ^ 64
 met-both-words = numbers.report-both-words begun rest area enough met-0 area enough 0 (omega arith) (omega arith) (omega arith)
 
 both-short : length (begun .request ++ rest) < 2 ^ 64
 unfolding all begun firstTwo rest endToEnd
 both-short = lit< tt
 
-met-both-place : wordIn (reported (asking begun (begun .request ++ rest)) area .area) 1
-    ≡ wordIn (reported begun area .area) 1 + wordIn (reported (goingOn begun area rest) area .area) 1
+met-both-place : wordIn (reportedTable (asking begun (begun .request ++ rest)) area .area) 1
+    ≡ wordIn (reportedTable begun area .area) 1 + wordIn (reportedTable (goingOn begun area rest) area .area) 1
 met-both-place = numbers.report-both-place begun rest area enough met-0 area enough both-short
 
-met-both-largest : wordIn (reported (asking begun (begun .request ++ rest)) area .area) 3
-    ≡ max (wordIn (reported begun area .area) 3) (wordIn (reported (goingOn begun area rest) area .area) 3)
+met-both-largest : wordIn (reportedTable (asking begun (begun .request ++ rest)) area .area) 3
+    ≡ max (wordIn (reportedTable begun area .area) 3) (wordIn (reportedTable (goingOn begun area rest) area .area) 3)
 met-both-largest = numbers.report-both-largest begun rest area enough met-0 area enough
 
 -- WHAT STAYS
-met-sound : checkTable (reported month area .table) 0 ≡ Sound 1
+met-sound : checkTable (reportedTable month area .table) 0 ≡ Sound 1
 unfolding month
 met-sound = numbers.report-sound month area ∙ sound-here
 
-met-kept : getD (blockOf (reported month area .table) 1) 16 0 ≡ getD (blockOf here 1) 16 0
+met-kept : getD (blockOf (reportedTable month area .table) 1) 16 0 ≡ getD (blockOf here 1) 16 0
 unfolding month
 met-kept = numbers.report-kept month area 1 sound-here 1 16 (lit≤ tt) (lit< tt) refl
 
@@ -214,25 +225,25 @@ met-kept = numbers.report-kept month area 1 sound-here 1 16 (lit≤ tt) (lit< tt
 unsound : Lent
 unsound = lent file block [] [] room underCx
 
-met-unsound : reported unsound area .table ≡ block
+met-unsound : reportedTable unsound area .table ≡ block
 unfolding all unsound
 met-unsound = numbers.report-unsound unsound area 0 refl .0
 
 spoilt : Lent
 spoilt = lent file here [] (3 ∷ []) room underCx
 
-met-spoilt : reported spoilt area .vectors ≡ 3 ∷ []
+met-spoilt : reportedTable spoilt area .vectors ≡ 3 ∷ []
 unfolding all spoilt
 met-spoilt = numbers.report-unsound-vectors spoilt area 0 refl .1
 
 cramped : Lent
 cramped = lent file here [] [] [] underCx
 
-met-small : reported cramped area .buffer ≡ []
+met-small : reportedTable cramped area .buffer ≡ []
 unfolding cramped
 met-small = numbers.report-small cramped area (lit< tt) .2
 
 -- a question alone
-met-idle : (reported alone area .table ≡ here) × (alteredOver alone (requestsOf alone) ≡ 0)
+met-idle : (reportedTable alone area .table ≡ here) × (alteredOver alone (requestsOf alone) ≡ 0)
 unfolding alone allIdle numberOf
 met-idle = let i = numbers.report-idle alone area (rw met-one) in (i .0, i .2)

@@ -10,7 +10,7 @@ use Rattle.requests.specs.Request.{underCx}
 use Rattle.calling.specs.Lent.{Lent, lent}
 use Rattle.reporting.specs.Pieces.{stopOf}
 use Rattle.reporting.specs.Row.{next, row, left}
-use Rattle.reporting.specs.Report.{Reported, requestsOf, wordsOf, ran, reported}
+use Rattle.reporting.specs.Report.{Reported, requestsOf, wordsOf, ran, reportedTable}
 use Rattle.report_numbers.specs.File.{endToEnd, BrokenOff}
 use Rattle.report_numbers.specs.Turns.{eventsOf}
 use Rattle.report_numbers.proofs.Ends.{area-long}
@@ -32,14 +32,14 @@ pub breaks : BrokenOff scrap
 breaks = record { some = lit≤ tt; by = inl (lit≤ tt) }
 
 -- the file is read up to the 3 bytes
-month-read : (requestsOf month ≡ messages) × (stopOf file ≡ length (endToEnd messages)) × (reported month area .number ≡ 7)
+month-read : (requestsOf month ≡ messages) × (stopOf file ≡ length (endToEnd messages)) × (reportedTable month area .number ≡ 7)
 unfolding month file
 month-read = report-7-broken month area enough messages each scrap refl breaks
 
 pub month-requests : requestsOf month ≡ messages
 month-requests = month-read .0
 
-pub month-number : reported month area .number ≡ 7
+pub month-number : reportedTable month area .number ≡ 7
 month-number = month-read .2
 
 pub month-stop : stopOf file ≡ 452
@@ -90,17 +90,17 @@ month-words : wordsOf month ≡ words
 unfolding wordsOf counting month
 month-words = rw (month-events, month-stop)
 
-pub month-table : reported month area .table ≡ gone
+pub month-table : reportedTable month area .table ≡ gone
 unfolding ran
 month-table = ap (λ (r : Reported). r .table) (area-long month area enough) ∙ ap (λ (y : Lent). y .table) month-left
 
 -- one statement
 record Month : Type 0 where
-  number : reported month area .number ≡ 7
-  table : reported month area .table ≡ gone
-  vectors : reported month area .vectors ≡ []
-  buffer : reported month area .buffer ≡ sought
-  area : reported month area .area ≡ wordsBytes words ++ (9 ∷ [])
+  number : reportedTable month area .number ≡ 7
+  table : reportedTable month area .table ≡ gone
+  vectors : reportedTable month area .vectors ≡ []
+  buffer : reportedTable month area .buffer ≡ sought
+  area : reportedTable month area .area ≡ wordsBytes words ++ (9 ∷ [])
 
 reported-month : Month
 unfolding ran over wordsBytes longBytes area

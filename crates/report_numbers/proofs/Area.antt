@@ -11,9 +11,9 @@ use Rattle.counting.proofs.Counts.{counts-length, counts-at}
 use Rattle.counting.proofs.Numbers.{word-largest, word-other, exact}
 use Rattle.counting.proofs.Totals.{sum-alike, rows-answered, totals-read}
 use Rattle.calling.specs.Lent.{Lent}
-use Rattle.calling.specs.Serve.{serve}
+use Rattle.calling.specs.Serve.{serveTable}
 use Rattle.reporting.specs.Pieces.{stopOf}
-use Rattle.reporting.specs.Report.{Reported, requestsOf, wordsOf, ran, reported}
+use Rattle.reporting.specs.Report.{Reported, requestsOf, wordsOf, ran, reportedTable}
 use Rattle.reporting.proofs.Whole.{row-fits}
 use Rattle.report_numbers.specs.Area.{wordIn, rowsIn, refusalsIn}
 use Rattle.report_numbers.specs.Turns.{eventsOf, InTurn, callAt, refusedBy, answeredIn, callLength, alteredOver}
@@ -46,11 +46,11 @@ module _ (x : Lent) where
   pub few-requests : 20 * length (eventsOf x) ≤ length (x .request)
   few-requests = omega (arith, row-length x (requestsOf x), few-pieces (x .request))
 
-  pub report-length : (area : List ℕ) → length (reported x area .area) ≡ length area
+  pub report-length : (area : List ℕ) → length (reportedTable x area .area) ≡ length area
   unfolding ran
   report-length area = go (ltb (length area) 1160) refl
     where
-      go : (b : Bool) → ltb (length area) 1160 ≡ b → length (reported x area .area) ≡ length area
+      go : (b : Bool) → ltb (length area) 1160 ≡ b → length (reportedTable x area .area) ≡ length area
       go true e = rw (area-short x area (ltb-true (length area) 1160 e))
       go false e =
           let h = ltb-false (length area) 1160 e in
@@ -58,7 +58,7 @@ module _ (x : Lent) where
 
 module _ (x : Lent) (area : List ℕ) (room : 1160 ≤ length area) where
   abbrev written : List ℕ
-  written = reported x area .area
+  written = reportedTable x area .area
 
   written-is : written ≡ over (wordsBytes (wordsOf x)) area
   unfolding ran
@@ -150,9 +150,9 @@ module _ (x : Lent) (area : List ℕ) (room : 1160 ≤ length area) where
         ∙ answered-count (eventsOf x) (row-fits x (requestsOf x)) r c a
 
   -- the largest answer
-  pub largest-word : (p : InTurn (requestsOf x)) → callLength (serve (callAt x p) .call) ≤ wordIn written largestWord
+  pub largest-word : (p : InTurn (requestsOf x)) → callLength (serveTable (callAt x p) .call) ≤ wordIn written largestWord
   largest-word p = rw report-largest (largest-least x (requestsOf x) p)
 
   pub largest-word-one : (wordIn written largestWord ≡ 0)
-      ⊎ ((p : InTurn (requestsOf x)) × (callLength (serve (callAt x p) .call) ≡ wordIn written largestWord))
+      ⊎ ((p : InTurn (requestsOf x)) × (callLength (serveTable (callAt x p) .call) ≡ wordIn written largestWord))
   largest-word-one = rw report-largest (largest-one x (requestsOf x))

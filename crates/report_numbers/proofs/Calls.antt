@@ -9,7 +9,7 @@ use Rattle.counting.proofs.Numbers.{largest-append}
 use Rattle.rewrite.proofs.Counts.{altered-none, altered-most}
 use Rattle.calling.specs.Call.{Call, Answered, Refused}
 use Rattle.calling.specs.Lent.{Lent, asking, dialectIn}
-use Rattle.calling.specs.Serve.{Served, checkOf, checkValue, refused, answered, serve}
+use Rattle.calling.specs.Serve.{Served, checkOf, checkValue, refused, answered, serveTable}
 use Rattle.calling.proofs.Calls.{size-least, size-most, length-even}
 use Rattle.calling.proofs.Kept.{serve-by}
 use Rattle.demands.proofs.Firm.{check-most}
@@ -63,13 +63,13 @@ left-profile x [] = refl
 left-profile x (p ∷ ps) = left-profile (next x p) ps
 
 -- Records altered: a refusal alters none.
-pub same-altered : (x : Lent) → serve x .table ≡ x .table → recordsAltered x ≡ 0
+pub same-altered : (x : Lent) → serveTable x .table ≡ x .table → recordsAltered x ≡ 0
 same-altered x e = ap (λ (t : List ℕ). alteredUpTo (x .table) t (checkValue (checkOf x))) e ∙ altered-none (x .table) (checkValue (checkOf x))
 
 event-altered : (x : Lent) → counted.alteredBy (eventOf x) ≡ recordsAltered x
 unfolding eventOf refused answered
 event-altered x =
-    serve-by x (λ (s : Served). serve x ≡ s → counted.alteredBy (eventBy x (s .call)) ≡ recordsAltered x)
+    serve-by x (λ (s : Served). serveTable x ≡ s → counted.alteredBy (eventBy x (s .call)) ≡ recordsAltered x)
     (λ r a b e. sym (same-altered x (ap (λ (s : Served). s .table) e)))
     (λ k e. refl)
     refl
@@ -87,21 +87,21 @@ over-most x (p ∷ ps) =
     let y = asking x p in
     omega (
       arith,
-      altered-most (x .table) (serve y .table) (checkValue (checkOf y)),
+      altered-most (x .table) (serveTable y .table) (checkValue (checkOf y)),
       check-most (x .table) (length (x .profile)),
       over-most (next x p) ps,
     )
 
 -- The largest answer.
-event-length : (x : Lent) → counted.answerLength (eventOf x) ≡ callLength (serve x .call)
+event-length : (x : Lent) → counted.answerLength (eventOf x) ≡ callLength (serveTable x .call)
 unfolding eventOf
-event-length x = go (serve x .call)
+event-length x = go (serveTable x .call)
   where
     go : (c : Call) → counted.answerLength (eventBy x c) ≡ callLength c
     go (Answered a) = refl
     go (Refused number besides) = refl
 
-call-most : (x : Lent) → callLength (serve x .call) ≤ 36864
+call-most : (x : Lent) → callLength (serveTable x .call) ≤ 36864
 unfolding refused answered
 call-most x =
     let req = x .request in
@@ -115,7 +115,7 @@ unfolding row largestIn
 largest-most x [] = omega arith
 largest-most x (p ∷ ps) = omega (arith, event-length (asking x p), call-most (asking x p), largest-most (next x p) ps)
 
-pub largest-least : (x : Lent) (ps : List (List ℕ)) (p : InTurn ps) → callLength (serve (callAt x p) .call) ≤ largestIn (row x ps)
+pub largest-least : (x : Lent) (ps : List (List ℕ)) (p : InTurn ps) → callLength (serveTable (callAt x p) .call) ≤ largestIn (row x ps)
 unfolding row largestIn
 largest-least x ps p =
     let there : row x ps ≡ row x (p .before) ++ row (left x (p .before)) (p .request ∷ p .after) =
@@ -128,7 +128,7 @@ largest-least x ps p =
     )
 
 pub largest-one : (x : Lent) (ps : List (List ℕ))
-    → (largestIn (row x ps) ≡ 0) ⊎ ((p : InTurn ps) × (callLength (serve (callAt x p) .call) ≡ largestIn (row x ps)))
+    → (largestIn (row x ps) ≡ 0) ⊎ ((p : InTurn ps) × (callLength (serveTable (callAt x p) .call) ≡ largestIn (row x ps)))
 unfolding row left largestIn
 largest-one x [] = inl refl
 largest-one x (p ∷ ps) = go (leb rest first) refl (largest-one (next x p) ps)
@@ -140,8 +140,8 @@ largest-one x (p ∷ ps) = go (leb rest first) refl (largest-one (next x p) ps)
     rest = largestIn (row (next x p) ps)
 
     go : (b : Bool) → leb rest first ≡ b
-        → (rest ≡ 0) ⊎ ((q : InTurn ps) × (callLength (serve (callAt (next x p) q) .call) ≡ rest))
-        → (max first rest ≡ 0) ⊎ ((q : InTurn (p ∷ ps)) × (callLength (serve (callAt x q) .call) ≡ max first rest))
+        → (rest ≡ 0) ⊎ ((q : InTurn ps) × (callLength (serveTable (callAt (next x p) q) .call) ≡ rest))
+        → (max first rest ≡ 0) ⊎ ((q : InTurn (p ∷ ps)) × (callLength (serveTable (callAt x q) .call) ≡ max first rest))
     go true e more =
         inr (
           record { before = []; request = p; after = ps; is = refl },

@@ -10,10 +10,10 @@ use Rattle.counting.proofs.Columns.{listed-column}
 use Rattle.counting.proofs.Numbers.{word-other}
 use Rattle.calling.specs.Call.{Call, Answered, Refused}
 use Rattle.calling.specs.Lent.{Lent, asking, dialectIn}
-use Rattle.calling.specs.Serve.{checkOf, checkValue, resultOf, serve}
+use Rattle.calling.specs.Serve.{checkOf, checkValue, resultOf, serveTable}
 use Rattle.demands.proofs.Unreachable.{taken-out}
 use Rattle.reporting.specs.Row.{eventBy, eventOf, next, row}
-use Rattle.reporting.specs.Report.{requestsOf, reported}
+use Rattle.reporting.specs.Report.{requestsOf, reportedTable}
 use Rattle.deciding.proofs.Comes.{decide-carries}
 use Rattle.reporting.proofs.Whole.{row-fits}
 use Rattle.report_numbers.specs.Area.{wordIn}
@@ -63,16 +63,16 @@ module _ (r : ℕ) (two : (r ≡ 0) ⊎ (r ≡ 2)) where
   row-other : (x : Lent) (ps : List (List ℕ)) → howMany (answeredIn r 11) (row x ps) ≡ 0
   unfolding howMany row eventOf
   row-other x [] = refl
-  row-other x (p ∷ ps) = rw (event-other (asking x p) (serve (asking x p) .call), row-other (next x p) ps)
+  row-other x (p ∷ ps) = rw (event-other (asking x p) (serveTable (asking x p) .call), row-other (next x p) ps)
 
-  pub unable-word : (x : Lent) (a : List ℕ) → 1160 ≤ length a → wordIn (reported x a .area) (20 + (25 * r + 11)) ≡ 0
+  pub unable-word : (x : Lent) (a : List ℕ) → 1160 ≤ length a → wordIn (reportedTable x a .area) (20 + (25 * r + 11)) ≡ 0
   unable-word x a room = go two
     where
       few : (r ≡ 0) ⊎ (r ≡ 2) → r ≤ 2
       few (inl h) = omega arith
       few (inr h) = omega arith
 
-      go : (r ≡ 0) ⊎ (r ≡ 2) → wordIn (reported x a .area) (20 + (25 * r + 11)) ≡ 0
+      go : (r ≡ 0) ⊎ (r ≡ 2) → wordIn (reportedTable x a .area) (20 + (25 * r + 11)) ≡ 0
       go h =
           let l = few h in
           report-word x a room (20 + (25 * r + 11)) (omega arith) (omega arith)

@@ -11,7 +11,7 @@ use Rattle.calling.specs.Call.{Call, Answered, Refused}
 use Rattle.calling.specs.Lent.{Lent, lent, asking}
 use Rattle.demands.specs.Frame.{succeeds}
 use Rattle.reporting.specs.Row.{recordsAltered, next, row, left}
-use Rattle.reporting.specs.Report.{requestsOf, reported}
+use Rattle.reporting.specs.Report.{requestsOf, reportedTable}
 
 -- the requests of a file as they are counted
 abbrev pub eventsOf : Lent → List Event
@@ -57,4 +57,4 @@ allIdle (e ∷ es) = idle e && allIdle es
 
 -- what a report left, lent to a report over another file
 abbrev pub goingOn : Lent → List ℕ → List ℕ → Lent
-goingOn x area more = lent more (reported x area .table) (x .profile) (reported x area .vectors) (reported x area .buffer) (x .terms)
+goingOn x area more = lent more (reportedTable x area .table) (x .profile) (reportedTable x area .vectors) (reportedTable x area .buffer) (x .terms)

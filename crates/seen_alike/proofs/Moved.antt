@@ -11,9 +11,9 @@ use Rattle.moving.specs.Outcomes.{forward, back}
 use Rattle.moving.specs.Conditions.{TableMoved}
 use Rattle.moving.specs.declared.Move.the-variants.{Moved}
 use Rattle.moving.proofs.Moving.{forward-sound, forward-keeps, forward-moved, back-sound, back-keeps, back-moved}
-use Rattle.calling.specs.Lent.{Lent}
-use Rattle.calling.specs.Serve.{checkOf, serve}
-use Rattle.seen_alike.specs.Alike.{AlikeTables, SameCall, holding}
+use Rattle.calling.specs.Lent.{Lent, holding}
+use Rattle.calling.specs.Serve.{SameCall, checkOf, serveTable}
+use Rattle.seen_alike.specs.Alike.{AlikeTables}
 use Rattle.seen_alike.proofs.Likeness.{serve-alike}
 
 -- the bytes that a request can see are none that a move may write
@@ -43,12 +43,12 @@ module _ (x : Lent) (y : List ℕ) (count edition issue : ℕ) (first : checkOf 
         };
   }
 
-  answers-same : SameCall (serve x) (serve (holding x y))
+  answers-same : SameCall (serveTable x) (serveTable (holding x y))
   answers-same = serve-alike x y count first second alike
 
 -- "no answer depends on edition or issue": a request gets the same answer before and after a move
 pub forward-answers : (x : Lent) (issue count : ℕ) → issue < 2 ^ 32 → forward (x .table) (length (x .profile)) issue .move ≡ Moved count
-    → SameCall (serve x) (serve (holding x (forward (x .table) (length (x .profile)) issue .table)))
+    → SameCall (serveTable x) (serveTable (holding x (forward (x .table) (length (x .profile)) issue .table)))
 forward-answers x issue count small e =
     answers-same x (forward (x .table) (length (x .profile)) issue .table) count 2 issue
     (forward-moved (x .table) (length (x .profile)) issue count e .checked)
@@ -56,7 +56,7 @@ forward-answers x issue count small e =
     (forward-keeps (x .table) (length (x .profile)) issue count small e)
 
 pub back-answers : (x : Lent) (count : ℕ) → back (x .table) (length (x .profile)) .move ≡ Moved count
-    → SameCall (serve x) (serve (holding x (back (x .table) (length (x .profile)) .table)))
+    → SameCall (serveTable x) (serveTable (holding x (back (x .table) (length (x .profile)) .table)))
 back-answers x count e =
     answers-same x (back (x .table) (length (x .profile)) .table) count 1 0 (back-moved (x .table) (length (x .profile)) count e .checked)
     (back-sound (x .table) (length (x .profile)) count e) (back-keeps (x .table) (length (x .profile)) count e)

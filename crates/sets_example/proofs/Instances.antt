@@ -7,6 +7,7 @@ use Rattle.record.specs.HeaderBlock.{headerOf}
 use Rattle.blocks.specs.Blocks.{blockOf}
 use Rattle.blocks.specs.declared.Checked.{Checked}
 use Rattle.blocks.specs.declared.Checked.the-variants.{Sound, Bad}
+use Rattle.table.specs.Area.{sizeIn, tableIn, checkArea}
 use Rattle.table.specs.Check.{soundAt, checkTable}
 use Rattle.rewrite.specs.Change.{differ}
 use Rattle.diameter.specs.Message.{commandOf}
@@ -17,7 +18,7 @@ use Rattle.requests.specs.Judged.{Judged, bad, fine}
 use Rattle.requests.specs.Request.{dialectOf, underCx, readIn}
 use Rattle.calling.specs.Call.{Refused}
 use Rattle.calling.specs.Lent.{Lent, lent}
-use Rattle.calling.specs.Serve.{Served, checkOf, checkValue, decisionBy, decision, resultOf, serve}
+use Rattle.calling.specs.Serve.{Served, checkOf, checkValue, decisionBy, decision, resultOf, serveTable}
 use Rattle.ndushavire.specs.Word.{checkWord}
 use Rattle.ndushavire.specs.Reads.{ReadsCheck}
 use Rattle.demands.specs.Sets.{Shares, Agrees, Disagrees, Stands, Barred}
@@ -93,10 +94,14 @@ disagreeing =
 met-blamed : checkTable apart 0 ≡ Bad 2
 met-blamed = sets.later-blamed apart 0 1 2 disagreeing
 
-met-blamed-check : ReadsCheck 5 (Bad 2) (checkWord 5 (checkTable apart 0))
-met-blamed-check = sets.later-blamed-check apart [] 1 2 disagreeing (record { answer = refl })
+apart-all : tableIn apart ≡ apart
+unfolding opened head line pair tableIn sizeIn
+apart-all = refl
 
-blamed-call : serve (lent asking apart [] [] room underCx) .call ≡ Refused 5 2
+met-blamed-check : ReadsCheck 5 (Bad 2) (checkWord 5 (checkArea apart 0))
+met-blamed-check = sets.later-blamed-check apart [] 1 2 (rw apart-all disagreeing) (record { answer = refl })
+
+blamed-call : serveTable (lent asking apart [] [] room underCx) .call ≡ Refused 5 2
 unfolding opened asking
 blamed-call =
     let x = lent asking apart [] [] room underCx in
@@ -169,16 +174,16 @@ idle-shared : Shares (family 0 0 []) 1 2
 unfolding opened head line family
 idle-shared = record { nonzero = lit< tt; number = refl; subscription = refl }
 
-met-together : differ (blockOf (family 0 0 []) 1) (blockOf (serve registration .table) 1)
-    ≡ differ (blockOf (family 0 0 []) 2) (blockOf (serve registration .table) 2)
+met-together : differ (blockOf (family 0 0 []) 1) (blockOf (serveTable registration .table) 1)
+    ≡ differ (blockOf (family 0 0 []) 2) (blockOf (serveTable registration .table) 2)
 met-together =
     sets.members-together registration 3 family-sound family-bytes 1 2 (lit≤ tt) (lit≤ tt) (lit≤ tt) (lit≤ tt) idle-shared
 
-first-altered : differ (blockOf (family 0 0 []) 1) (blockOf (serve registration .table) 1) ≡ 1
+first-altered : differ (blockOf (family 0 0 []) 1) (blockOf (serveTable registration .table) 1) ≡ 1
 unfolding opened head line family differ
 first-altered = ap (λ (y : Served). differ (blockOf (family 0 0 []) 1) (blockOf (y .table) 1)) registered
 
-met-agreeing : Agrees (serve registration .table) 1 2
+met-agreeing : Agrees (serveTable registration .table) 1 2
 unfolding opened head line family
 met-agreeing =
     sets.members-agree registration 3 family-sound 1 2 (lit≤ tt) (lit< tt) (lit≤ tt)

@@ -1,7 +1,7 @@
--- What becomes of the vector file, as theorems about `serve`, which is what the exported call is promised to leave (ndushavire/specs/Promise), for anything
--- lent. What the words below mean is in specs/Sent (one call) and specs/Row (a row of calls).
+-- What becomes of the vector file, as theorems about `serveTable`, which over the table at the front of the area lent, `tableOnly x`, is what the exported call
+-- is promised to leave (`vectors-promised`), for anything lent. What the words below mean is in specs/Sent (one call) and specs/Row (a row of calls).
 use Rattle.octets.specs.Standard.{ℕ, _/_, _<_, min, List, [], _∷_, _++_, true, false, true≢false, _≡_, sym, ap, _∙_, _⊎_, inl, inr, _≢_, length, getD}
-use Rattle.octets.specs.Standard.{lt-ltb}
+use Rattle.octets.specs.Standard.{map, lt-ltb}
 use Rattle.octets.specs.Run.{over}
 use Rattle.blocks.specs.Blocks.{blockOf}
 use Rattle.vectors.specs.Chosen.{unusedAt}
@@ -13,21 +13,25 @@ use Rattle.pen.specs.Bytes.{vendorNumber, ifThere}
 use Rattle.reading.specs.declared.Outcome.the-variants.{Base}
 use Rattle.diameter.specs.Message.{commandOf}
 use Rattle.calling.specs.Call.{Answered}
-use Rattle.calling.specs.Lent.{Lent, dialectIn}
+use Rattle.calling.specs.Lent.{Lent, tableOnly, dialectIn}
 use Rattle.calling.specs.Trial.{anyHolds}
-use Rattle.calling.specs.Serve.{checkOf, trials, serve, checkValue, decided, resultOf}
+use Rattle.calling.specs.Serve.{checkOf, trials, serveTable, checkValue, decided, resultOf}
 use Rattle.ndushavire.specs.Reads.{callPlace}
+use Rattle.ndushavire.specs.Promise.{DecidePromise}
 use Rattle.vectors_sent.specs.Sent.{sentBy, Challenges, userOf, askedBy, usedAt, remaining, itemsFrom, saidOf, answerWith}
-use Rattle.vectors_sent.specs.Row.{Turn, lending, leftBy, sentOver, Once}
+use Rattle.vectors_sent.specs.Row.{Turn, lending, leftBy, leftByAreas, inTable, sentOver, Once}
 use Rattle.vectors_sent.proofs.Calls.{Quiet, Sending, call-cases}
 use Rattle.vectors_sent.proofs.Said.{answer-says, success-nowhere}
 use Rattle.vectors_sent.proofs.Blocks as blocks
 use Rattle.vectors_sent.proofs.Rows as rows
 
+pub vectors-promised : (x : Lent) {r : ℕ} {t' v' o' : List ℕ} → DecidePromise x r t' v' o' → v' ≡ serveTable (tableOnly x) .vectors
+vectors-promised x p = p .vectors-is
+
 module _ (x : Lent) where
   -- ONLY A MAR THAT SUCCEEDS alters the vector file, or sends a vector: what else is called leaves it as it came, and sends none.
   abbrev Leaves : Type 0
-  Leaves = (serve x .vectors ≡ x .vectors) × (sentBy x ≡ [])
+  Leaves = (serveTable x .vectors ≡ x .vectors) × (sentBy x ≡ [])
 
   unless-success : (Challenges x → ⊥) → Leaves
   unless-success n = go (call-cases x)
@@ -37,19 +41,19 @@ module _ (x : Lent) where
       go (inr s) = absurd (n (s .challenges))
 
   -- A call that is refused, by any of the six.
-  pub refusal-leaves : anyHolds (trials x) ≡ true → (serve x .vectors ≡ x .vectors) × (sentBy x ≡ [])
+  pub refusal-leaves : anyHolds (trials x) ≡ true → (serveTable x .vectors ≡ x .vectors) × (sentBy x ≡ [])
   refusal-leaves e = unless-success (λ c. true≢false (sym e ∙ c .taken))
 
   -- A request of another command.
-  pub command-leaves : commandOf (x .request) ≢ 303 → (serve x .vectors ≡ x .vectors) × (sentBy x ≡ [])
+  pub command-leaves : commandOf (x .request) ≢ 303 → (serveTable x .vectors ≡ x .vectors) × (sentBy x ≡ [])
   command-leaves n = unless-success (λ c. n (c .command))
 
   -- An error: no vector is marked.
-  pub failure-leaves : resultOf x ≢ Base 2001 → (serve x .vectors ≡ x .vectors) × (sentBy x ≡ [])
+  pub failure-leaves : resultOf x ≢ Base 2001 → (serveTable x .vectors ≡ x .vectors) × (sentBy x ≡ [])
   failure-leaves n = unless-success (λ c. n (c .success))
 
   -- So where the file is another afterwards, it was a MAR that succeeded.
-  pub only-success : serve x .vectors ≢ x .vectors → Challenges x
+  pub only-success : serveTable x .vectors ≢ x .vectors → Challenges x
   only-success n = go (call-cases x)
     where
       go : Quiet x ⊎ Sending x → Challenges x
@@ -57,28 +61,28 @@ module _ (x : Lent) where
       go (inr s) = s .challenges
 
   -- WHAT IS ALTERED. A vector of another private identity than the User-Name stays as it was.
-  pub others-stay : (k : ℕ) → cardOf (blockOf (x .vectors) k) ≢ userOf x → blockOf (serve x .vectors) k ≡ blockOf (x .vectors) k
+  pub others-stay : (k : ℕ) → cardOf (blockOf (x .vectors) k) ≢ userOf x → blockOf (serveTable x .vectors) k ≡ blockOf (x .vectors) k
   others-stay = blocks.other-kept x
 
   -- So does every one that is not sent.
-  pub unsent-stay : (k : ℕ) → isOne (sentBy x) k ≡ false → blockOf (serve x .vectors) k ≡ blockOf (x .vectors) k
+  pub unsent-stay : (k : ℕ) → isOne (sentBy x) k ≡ false → blockOf (serveTable x .vectors) k ≡ blockOf (x .vectors) k
   unsent-stay = blocks.unsent-kept x
 
   -- One that is sent is one of the file's, is of the User-Name, was unused, and is used afterwards ..
   pub sent-mark : (k : ℕ) → isOne (sentBy x) k ≡ true
-      → (k < length (x .vectors) / 512) × (cardOf (blockOf (x .vectors) k) ≡ userOf x) × (usedAt (x .vectors) k ≡ 0) × (usedAt (serve x .vectors) k ≡ 1)
+      → (k < length (x .vectors) / 512) × (cardOf (blockOf (x .vectors) k) ≡ userOf x) × (usedAt (x .vectors) k ≡ 0) × (usedAt (serveTable x .vectors) k ≡ 1)
   sent-mark k e = (blocks.sent-within x k e, blocks.sent-name x k e, blocks.sent-unused x k e, blocks.sent-used x k e)
 
   -- .. and of its bytes only byte 1 and the check word, 508 to 511, are others.
   pub sent-bytes : (k : ℕ) → isOne (sentBy x) k ≡ true → (i : ℕ) → i ≢ 1 → i < 508
-      → getD (blockOf (serve x .vectors) k) i 0 ≡ getD (blockOf (x .vectors) k) i 0
+      → getD (blockOf (serveTable x .vectors) k) i 0 ≡ getD (blockOf (x .vectors) k) i 0
   sent-bytes = blocks.sent-byte x
 
   -- The file has as many bytes as it had, and its check says what it said: a sound file stays sound, with as many blocks.
-  pub length-stays : length (serve x .vectors) ≡ length (x .vectors)
+  pub length-stays : length (serveTable x .vectors) ≡ length (x .vectors)
   length-stays = blocks.length-kept x
 
-  pub check-stays : checkVectors (serve x .vectors) ≡ checkVectors (x .vectors)
+  pub check-stays : checkVectors (serveTable x .vectors) ≡ checkVectors (x .vectors)
   check-stays = blocks.check-kept x
 
   -- WHAT IS SENT. The blocks are in file order, each once.
@@ -99,13 +103,13 @@ module _ (x : Lent) where
 
   -- THE ANSWER of a call that is not refused says these vectors, from the file as it came, and no others.
   pub answer-sends : anyHolds (trials x) ≡ false
-      → (serve x .call
+      → (serveTable x .call
       ≡ Answered (record { length = length (answerWith x (decided x .given) (saidOf (x .vectors) (sentBy x))); place = decided x .place }))
-      × (serve x .buffer ≡ over (answerWith x (decided x .given) (saidOf (x .vectors) (sentBy x))) (x .buffer))
+      × (serveTable x .buffer ≡ over (answerWith x (decided x .given) (saidOf (x .vectors) (sentBy x))) (x .buffer))
   answer-sends = answer-says x
 
   -- Of a success the place is 0, for no AVP is at fault ..
-  pub success-place : Challenges x → callPlace (serve x .call) ≡ 0
+  pub success-place : Challenges x → callPlace (serveTable x .call) ≡ 0
   success-place c =
       ap callPlace (answer-sends (c .taken) .0) ∙ success-nowhere (dialectIn x) (x .request) (x .table) (checkValue (checkOf x)) (x .vectors) (c .success)
 
@@ -118,6 +122,10 @@ module _ (x : Lent) where
 
 -- A ROW OF CALLS, of any requests over any tables, the vector file carried along: no block is sent twice.
 module _ (v : List ℕ) where
+  -- The file is carried so by the exported call over areas, too: its calls are those over the tables at their fronts.
+  pub row-areas : (cs : List Turn) → leftByAreas v cs ≡ leftBy v (map inTable cs)
+  row-areas = rows.row-areas v
+
   pub sent-once : (cs : List Turn) → Once (sentOver v cs)
   sent-once = rows.row-once v
 

@@ -3,6 +3,8 @@
 use Rattle.octets.specs.Standard.{ℕ, zero, suc, _≤_, _≡_, refl, ap, _∙_, _≢_, List, [], _∷_, _++_, false, arith, getD, take}
 use Rattle.octets.specs.Run.{over}
 use Rattle.blocks.specs.declared.Checked.the-variants.{Sound}
+use Rattle.table.specs.Area.{sizeIn, tableIn, checkArea}
+use Rattle.table.proofs.Areas.{check-exact, sound-size-in}
 use Rattle.vectors.specs.VectorFile.{checkVectors}
 use Rattle.pen.specs.Bytes.{vendorHead, vendorBytes, numberBytes, vendorNumber}
 use Rattle.pen.specs.Groups.{failed}
@@ -10,6 +12,7 @@ use Rattle.requests.specs.Request.{underCx}
 use Rattle.calling.specs.Lent.{Lent, lent}
 use Rattle.calling.specs.Serve.{Served, serve}
 use Rattle.calling.specs.Call.{Answered}
+use Rattle.calling.proofs.Areas.{serve-sound}
 use Rattle.ndushavire.specs.Word.{word, checkWord, callWord}
 use Rattle.ndushavire.specs.Reads.{placeIn}
 use Rattle.ndushavire.specs.Promise.{CheckPromise, CheckVectorsPromise, DecidePromise}
@@ -52,11 +55,11 @@ comes after bytes = record { call = Answered (record { length = 116; place = 0 }
 
 removal-served : serve removal ≡ comes (one 0 0 []) (answer (numberBytes 268 2001) [])
 unfolding opened removal
-removal-served = come removal roomy registered-sound no-vectors refl
+removal-served = serve-sound removal 1 registered-sound ∙ come removal roomy registered-sound no-vectors refl
 
 question-served : serve question ≡ comes (one 0 1 s) (answer (numberBytes 268 5012) [])
 unfolding opened question
-question-served = come question roomy registered-sound no-vectors refl
+question-served = serve-sound question 1 registered-sound ∙ come question roomy registered-sound no-vectors refl
 
 -- What the promise leaves of the removal: the word 116, state 0 in the record, and 2001, whose last byte is 209, in the answer; of the other 5012, whose last
 -- byte is 148.
@@ -150,10 +153,11 @@ abbrev Checker : Type 0
 Checker = List ℕ → List ℕ → ℕ
 
 count-fails : (f : Checker) → f (one 0 1 s) [] ≢ word 0 0 1 → CheckPromise (one 0 1 s) [] (f (one 0 1 s) []) → ⊥
-count-fails f h p = h (p .answer ∙ ap (checkWord 5) registered-sound)
+count-fails f h p =
+    h (p .answer ∙ ap (checkWord 5) (check-exact (one 0 1 s) 0 (sound-size-in (one 0 1 s) 0 1 registered-sound) ∙ registered-sound))
 
 block-fails : (f : Checker) → f two [] ≢ word 5 0 2 → CheckPromise two [] (f two []) → ⊥
-unfolding opened
+unfolding opened checkArea tableIn sizeIn
 block-fails f h p = h (p .answer)
 
 -- .. and of the check of vectors, any word but the number of blocks of a sound file, and any but the first bad block of another
@@ -183,7 +187,7 @@ challenge-served : serve challenge ≡ record {
   buffer = over (challenges 1 (item 1 1)) room;
 }
 unfolding opened challenge
-challenge-served = come challenge roomy unregistered-sound card-sound refl
+challenge-served = serve-sound challenge 1 unregistered-sound ∙ come challenge roomy unregistered-sound card-sound refl
 
 nought-served : serve nought ≡ record {
   call = Answered (record { length = 116; place = 0 });
@@ -192,7 +196,7 @@ nought-served : serve nought ≡ record {
   buffer = over (reply 303 (numberBytes 268 5012) []) room;
 }
 unfolding opened nought
-nought-served = come nought roomy unregistered-sound card-sound refl
+nought-served = serve-sound nought 1 unregistered-sound ∙ come nought roomy unregistered-sound card-sound refl
 
 -- Whether the vector is used, whether the record is pending, and the number that the answer says is sent.
 used : List ℕ → ℕ
@@ -252,7 +256,9 @@ second =
 
 faulty-call : serve faulty .call ≡ Answered (record { length = 140; place = 144 })
 unfolding opened faulty
-faulty-call = ap (λ (y : Served). y .call) (come faulty {y = known false (Sound 1) (Sound 0) faulty} roomy registered-sound no-vectors refl)
+faulty-call =
+    ap (λ (y : Served). y .call)
+    (serve-sound faulty 1 registered-sound ∙ come faulty {y = known false (Sound 1) (Sound 0) faulty} roomy registered-sound no-vectors refl)
 
 second-served : serve second ≡ record {
   call = Answered (record { length = 140; place = 0 });
@@ -261,7 +267,7 @@ second-served : serve second ≡ record {
   buffer = over (answer (numberBytes 268 5009) (failed (vendorHead 601 13 ++ (0x62 ∷ [])))) room;
 }
 unfolding opened second
-second-served = come second roomy registered-sound no-vectors refl
+second-served = serve-sound second 1 registered-sound ∙ come second roomy registered-sound no-vectors refl
 
 module _ (f : Server) (n : ℕ) where
   faulty-place : Meets f n faulty → placeIn (f n faulty .word) ≡ 144
