@@ -159,6 +159,9 @@ unfolding checkArea
 bad-refused x k e f = ap (overArea (x .table)) (bad-table (tableOnly x) k e f) ∙ rw (put-same (x .table))
 
 -- What the function that cuts the area leaves.
+pub area-front : (n : ℕ) (area : List ℕ) → n ≤ length area → n ≡ length (take n area)
+area-front n area h = sym (length-take-le n area h)
+
 module _ (req area file v o : List ℕ) (terms : Terms) where
   abbrev x : Lent
   x = lent req area file v o terms

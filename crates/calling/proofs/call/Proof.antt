@@ -1,4 +1,4 @@
-use Rattle.calling.proofs.Areas.{area-serves}
+use Rattle.calling.proofs.Areas.{area-front, area-serves}
 use Rattle.octets.specs.Standard.{needs}
 use Rattle.calling.proofs.call.Statement.{statement}
 use Rattle.calling.proofs.call.Tie as tie
@@ -9,6 +9,7 @@ call-spec =
     (tie.spec
     (λ c κs. search needs)
     (λ c. search needs)
+    (λ c. search (needs, area-front))
     (λ c κs. search needs)
     (λ c. search needs)
     (λ c. search needs)
