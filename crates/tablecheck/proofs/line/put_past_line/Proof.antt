@@ -6,6 +6,8 @@ pub put-past-line-spec : {M : Type 1} → statement M
 put-past-line-spec =
     tie.close
     (tie.spec
+    (λ c. search needs)
+    (λ c. search needs)
     (λ c κs. search needs)
     (λ c. search needs)
     (λ c. search needs))
