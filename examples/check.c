@@ -33,7 +33,10 @@ int main(int argc, char **argv) {
     uint8_t *profile = load(argv[2], &profile_len);
     uint8_t *vectors = argc == 4 ? load(argv[3], &vectors_len) : NULL;
 
-    int sound = say(ndushavire_check(table, table_len, profile, profile_len), "sound", "records", "block");
+    const uint64_t word = ndushavire_check(table, table_len, profile, profile_len);
+    int sound = say(word, "sound", "records", "block");
+    const size_t past = sound ? table_len - NDUSHAVIRE_BLOCK * ((size_t)ndushavire_value(word) + 1) : 0;
+    if (past > 0) printf("%zu bytes past the table were not looked at\n", past);
     if (vectors != NULL)
         sound &= say(ndushavire_check_vectors(vectors, vectors_len), "vectors sound", "blocks", "vector block");
 

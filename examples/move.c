@@ -93,7 +93,9 @@ int main(int argc, char **argv) {
     const char *name;
     const int folder = folder_of(names[2], &name);
 
-    const int sound = ndushavire_sound(ndushavire_check(table, table_len, profile, profile_len));
+    /* The check lets bytes behind the table be; a move wants its exact length. */
+    const uint64_t checked = ndushavire_check(table, table_len, profile, profile_len);
+    const int sound = ndushavire_sound(checked) && table_len == NDUSHAVIRE_BLOCK * ((size_t)ndushavire_value(checked) + 1);
     const uint64_t word = forward ? ndushavire_forward(table, table_len, profile, profile_len, issue)
                                   : ndushavire_back(table, table_len, profile, profile_len);
     if (ndushavire_moved(word)) {

@@ -6,6 +6,7 @@ use Rattle.blocks.specs.Blocks.{blockOf}
 use Rattle.table.specs.Named.{privateAt}
 use Rattle.table.specs.Area.{sizeIn, tableIn, checkArea}
 use Rattle.table.specs.Check.{checkTable}
+use Rattle.table.proofs.Areas.{read-alike}
 use Rattle.blocks.specs.declared.Checked.the-variants.{Sound, Bad}
 use Rattle.vectors.specs.VectorFile.{checkVectors, SoundVectors}
 use Rattle.diameter.specs.Avp.{sound}
@@ -67,6 +68,11 @@ promised-exact x e = serve-exact x (omega (arith, e))
 -- as in a call.
 pub checked : (t file : List ℕ) {r : ℕ} → CheckPromise t file r → ReadsCheck 5 (checkArea t (length file)) r
 checked t file p = check-said t file p
+
+-- Areas that agree up to the count check alike.
+pub checked-alike : (area other : List ℕ) (file : ℕ) → take (sizeIn area) other ≡ take (sizeIn area) area → checkArea other file ≡ checkArea area file
+unfolding checkArea
+checked-alike area other file same = ap (λ (t : List ℕ). checkTable t file) (read-alike area other same)
 
 pub checked-vectors : (v : List ℕ) {r : ℕ} → CheckVectorsPromise v r → ReadsCheck 6 (checkVectors v) r
 checked-vectors v p = check-vectors-said v p

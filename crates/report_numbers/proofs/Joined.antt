@@ -43,8 +43,7 @@ module _ (x : Lent) (one : OneRequest (x .request)) where
 pub one-decides : (x : Lent) → OneRequest (x .request) → (area : List ℕ) → 1160 ≤ length area → {r s : ℕ} {t u v w o q b : List ℕ}
     → DecidePromise x r t v o → ReportPromise x area s u w q b → (u ≡ t) × (w ≡ v) × (q ≡ o)
 one-decides x one area room d p =
-    let l = one-leaves (tableOnly x) one area room in
-    (
+    let l = one-leaves (tableOnly x) one area room in (
       p .table-is ∙ ap (putBack (x .table)) (l .0) ∙ sym (d .table-is),
       p .vectors-is ∙ l .1 ∙ sym (d .vectors-is),
       p .buffer-is ∙ l .2 ∙ sym (d .buffer-is),

@@ -16,7 +16,7 @@ use Rattle.counting.specs.Counting.{Listed}
 use Rattle.counting.specs.Counted.{howMany, numberAt, wordAt}
 use Rattle.counting.specs.Layout.{readWord, stopWord, alteredWord, largestWord, answeredWord, refusalWord, cellWord}
 use Rattle.counting.specs.Words.{longBytes}
-use Rattle.calling.specs.Lent.{Lent, asking, tableOnly}
+use Rattle.calling.specs.Lent.{Lent, asking, holding, tableOnly}
 use Rattle.calling.specs.Serve.{checkOf, serveTable, resultOf}
 use Rattle.ndushavire.specs.Reads.{numberIn, placeIn, valueIn}
 use Rattle.ndushavire.specs.Promise.{DecidePromise, ReportPromise}
@@ -51,10 +51,17 @@ pub report-meant : (x : Lent) (a : List ℕ) {r : ℕ} {t' v' o' a' : List ℕ} 
 report-meant x a p =
     (firm.report-table x a p, firm.report-besides x a p .0, firm.report-besides x a p .1)
 
--- Bytes past the table stay, and do not matter: the report's calls are those of `serve` over the area, each over what the one before left of it.
+-- Bytes past the table stay, and do not matter: two areas with the same table at the front get the same report (taking/proofs/Taking says which have, among them
+-- the area after a take-over and the new table alone). The report's calls are those of `serve` over the area, each over what the one before left of it.
 pub report-behind : (x : Lent) (a : List ℕ) → (length (reported x a .table) ≡ length (x .table))
     × (drop (length (tableIn (x .table))) (reported x a .table) ≡ drop (length (tableIn (x .table))) (x .table))
 report-behind x a = (over.reported-length x a, over.reported-rest x a)
+
+pub report-alike : (x : Lent) (other a : List ℕ) → tableIn other ≡ tableIn (x .table)
+    → (reported (holding x other) a .number ≡ reported x a .number) × (tableIn (reported (holding x other) a .table) ≡ tableIn (reported x a .table))
+    × (reported (holding x other) a .vectors ≡ reported x a .vectors) × (reported (holding x other) a .buffer ≡ reported x a .buffer)
+    × (reported (holding x other) a .area ≡ reported x a .area)
+report-alike = over.reported-alike
 
 pub report-over : (x : Lent) (ps : List (List ℕ)) → rowOver x ps ≡ row (tableOnly x) ps
 report-over = over.row-over

@@ -5,7 +5,7 @@ use Rattle.blocks.specs.declared.Checked.the-variants.{Sound}
 use Rattle.table.specs.Area.{tableIn}
 use Rattle.counting.specs.declared.Event.{Event}
 use Rattle.reading.specs.declared.Terms.{Terms}
-use Rattle.calling.specs.Lent.{Lent, lent, asking, tableOnly, putBack}
+use Rattle.calling.specs.Lent.{Lent, lent, asking, holding, tableOnly, putBack}
 use Rattle.calling.specs.Serve.{checkOf, serve}
 use Rattle.calling.proofs.Areas.{AsLarge, put-same, put-exact, put-in, put-length, put-rest, served-large, served-in, served-again, sound-long, only-sound}
 use Rattle.reporting.specs.Row.{next, row, left, eventOf, nextOver, rowOver, leftOver}
@@ -80,6 +80,21 @@ module _ (x : Lent) (area : List ℕ) where
       ap (λ (y : Lent). reportBack (x .table) (reportedTable y area)) (only-sound x count e)
       ∙ ap (λ (t : List ℕ). record { number = r .number; table = t; vectors = r .vectors; buffer = r .buffer; area = r .area })
       (put-exact (x .table) (r .table) (sound-long x count e))
+
+-- Two areas with the same table at the front.
+pub reported-alike : (x : Lent) (other area : List ℕ) → tableIn other ≡ tableIn (x .table)
+    → (reported (holding x other) area .number ≡ reported x area .number)
+    × (tableIn (reported (holding x other) area .table) ≡ tableIn (reported x area .table))
+    × (reported (holding x other) area .vectors ≡ reported x area .vectors) × (reported (holding x other) area .buffer ≡ reported x area .buffer)
+    × (reported (holding x other) area .area ≡ reported x area .area)
+reported-alike x other area e =
+    let q : tableOnly (holding x other) ≡ tableOnly x = ap (holding x) e in (
+      ap (λ (y : Lent). reportedTable y area .number) q,
+      reported-in (holding x other) area ∙ ap (λ (y : Lent). reportedTable y area .table) q ∙ sym (reported-in x area),
+      ap (λ (y : Lent). reportedTable y area .vectors) q,
+      ap (λ (y : Lent). reportedTable y area .buffer) q,
+      ap (λ (y : Lent). reportedTable y area .area) q,
+    )
 
 -- What the function that cuts the area leaves.
 module _ (req working file v o : List ℕ) (terms : Terms) (area : List ℕ) where

@@ -211,12 +211,12 @@ two-left = numbers-come .1 .0
 
 pub none-asked :
     serveTable (lent (authentication 0 s) (one 0 1 s) [] (vector 0 0x70 1) room underCx)
-        ≡ left (one 0 1 s) (vector 0 0x70 1) (reply 303 (numberBytes 268 5012) [])
+    ≡ left (one 0 1 s) (vector 0 0x70 1) (reply 303 (numberBytes 268 5012) [])
 none-asked = numbers-come .1 .1 .0
 
 pub none-unused :
     serveTable (lent (authentication 1 s) (one 0 1 s) [] (vector 1 0x70 1) room underCx)
-        ≡ left (one 0 1 s) (vector 1 0x70 1) (reply 303 (numberBytes 268 5012) [])
+    ≡ left (one 0 1 s) (vector 1 0x70 1) (reply 303 (numberBytes 268 5012) [])
 none-unused = numbers-come .1 .1 .1 .0
 
 -- "No vector is ever sent twice": the same MAR again, over what the first call left
