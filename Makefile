@@ -91,10 +91,12 @@ fmt:
 kit:
 	tests/kit.sh target/test/kit
 
-#: pages              the worked table of docs/TABLE.md, and what README.md and the other pages say of commands and versions
+#: pages              the worked table of docs/TABLE.md; what the pages say of commands and versions, quote of the sources and name in them; whether a stale one is noticed
 pages: target/c/maketable target/c/showtable
 	tests/worked-table.sh target/test/worked-table target/c/maketable target/c/showtable
 	tests/pages.sh
+	tests/pages.py
+	tests/stale-pages.py target/test/pages
 
 #: header             the C header by itself, in C and in C++; the version that library, header, programs, pkg-config and README say
 header: target/c/header target/c++/header target/c99/version

@@ -142,6 +142,7 @@ def opened():
 CASES = '''%s
 use mathlib.Core.Path.{_≡_}
 use lib.Seq.{sets}
+use Rattle.requests.specs.Request.{underCx}
 use Rattle.calling.specs.Lent.{lent}
 use Rattle.ndushavire.specs.Reads.{callIn}
 
@@ -166,7 +167,7 @@ pub record Case : Type 0 where
 
 abbrev pub Agrees : Case → Type 0
 Agrees c =
-    serve (lent (c .request) (c .table) (c .profile) (c .vectors) (replicate (c .room) 0))
+    serve (lent (c .request) (c .table) (c .profile) (c .vectors) (replicate (c .room) 0) underCx)
     ≡ record { call = callIn (c .word); table = sets (c .table) (c .at) (c .changed);
                vectors = sets (c .vectors) (c .vectorsAt) (c .vectorsChanged); buffer = over (c .answer) (replicate (c .room) 0) }
 

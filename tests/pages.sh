@@ -1,7 +1,7 @@
 #!/usr/bin/env bash
 # pages.sh: make help has a line for each target and no other; every `make X` that a page names is a target; README.md names the kit that
 # KIT-ID pins and the Rust that reference/Cargo.toml asks for; the map in docs/ARCHITECTURE.md has every crate, and no arrow that crates.txt has not;
-# a file of crates/ that a page names is there; no line of a page has 200 characters.
+# no line of a page has 200 characters. What the pages quote and name is pages.py's.
 set -euo pipefail
 cd "$(dirname "$0")/.."
 
@@ -29,9 +29,6 @@ while read -r crate _ below; do
 done < <(grep -o -E '[a-z_]+ → [a-z_]+(, [a-z_]+)*' <<<"$map")
 for crate in $(sed -n 's/^\([a-z_]*\):.*/\1/p' crates.txt); do
     grep -q -E "(^|  )$crate( →|$|  )" <<<"$map" || fail "the map has no crate $crate"
-done
-for path in $(grep -h -o -E '`[a-z_]+/(src|specs|proofs|must-fail)/[A-Za-z_/]+(\.[a-z]+)?`' README.md docs/*.md | tr -d '`' | sort -u); do
-    [ -e "crates/$path" ] || [ -e "crates/$path.antt" ] || fail "a page names crates/$path, which is not there"
 done
 pages=(README.md packaging/README.md docs/*.md)
 ! LC_ALL=C.UTF-8 grep -n -E '^.{200}' "${pages[@]}" /dev/null >&2 || fail 'a line has 200 characters'

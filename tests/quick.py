@@ -141,7 +141,8 @@ def touched(parts, files, crates, commit):
         to.write(said('git', 'show', commit + ':Makefile'))
     for part in parts:
         linked = ARCHIVE in recipe(part)
-        if tree.files_of(part) & set(files) or 'Makefile' in files and recipe(part) != recipe(part, before) or linked and crates:
+        quoted = part == 'pages' and any(file.startswith('crates/') for file in files)
+        if tree.files_of(part) & set(files) or 'Makefile' in files and recipe(part) != recipe(part, before) or linked and crates or quoted:
             yield part, linked
 
 

@@ -1,13 +1,8 @@
 -- What is said of a word fits the buffer, and is the answer or the refusal.
-use Prim.Native.Nat.{ℕ, _≤_}
-use mathlib.Core.List.{List, [], _∷_}
-use mathlib.Core.Path.{_≡_, refl, sym, _∙_}
-use native.Mathlib.Omega.{arith}
-use lib.ListN.{length}
-use borrow.Author.Tests.{eq-eqb, ne-eqb}
+use Rattle.octets.specs.Standard.{ℕ, _≤_, List, [], _∷_, _≡_, refl, sym, _∙_, arith, length, eq-eqb, ne-eqb}
 use Rattle.lines.specs.Words.{Words}
 use Rattle.calling.specs.Lent.{Lent}
-use Rattle.ndushavire.specs.Reads.{numberIn, valueIn}
+use Rattle.ndushavire.specs.Word.{numberIn, valueIn}
 use Rattle.ndushavire.specs.Promise.{DecidePromise}
 use Rattle.demands.proofs.Demands.{demand-1-word, demand-1-within}
 use Rattle.answer.specs.Said.{SaidFits, Said, SaidTo}
@@ -19,15 +14,16 @@ promise-fits x w p l =
     record { within = λ e. (let h = demand-1-within x (sym (r .number) ∙ e) in omega (arith, h, r .value, l)) }
 
 -- Of number 0 the answer stands; of any other the refusal is written.
-pub answer-within : (w n r : ℕ) → SaidFits w n → numberIn w ≡ 0 → r ≡ valueIn w → r ≤ n
-answer-within w n r f e q = rw q (f .within e)
+module _ (w : ℕ) {number : ℕ} (is : number ≡ numberIn w) where
+  pub answer-within : (n r : ℕ) → SaidFits w n → number ≡ 0 → r ≡ valueIn w → r ≤ n
+  answer-within n r f e q = rw q (f .within (sym is ∙ e))
 
-pub said-answer : (w : ℕ) (o : List ℕ) {r : ℕ} → numberIn w ≡ 0 → r ≡ valueIn w → Said w o o r
-said-answer w o e f = record { said = rw (eq-eqb (numberIn w) 0 e) (record { count = f; bytes = refl }) }
+  pub said-answer : (o : List ℕ) {r : ℕ} → number ≡ 0 → r ≡ valueIn w → Said w o o r
+  said-answer o e f = record { said = rw (eq-eqb (numberIn w) 0 (sym is ∙ e)) (record { count = f; bytes = refl }) }
 
-pub said-refusal : (w : ℕ) {r : ℕ} {o o' : List ℕ} → (numberIn w ≡ 0 → ⊥)
-    → Words (114 ∷ 101 ∷ 102 ∷ 117 ∷ 115 ∷ 101 ∷ 100 ∷ 32 ∷ []) (numberIn w) (10 ∷ []) o o' r → Said w o o' r
-said-refusal w f h = record { said = rw (ne-eqb (numberIn w) 0 f) h }
+  pub said-refusal : {r : ℕ} {o o' : List ℕ} → (number ≡ 0 → ⊥) → Words (114 ∷ 101 ∷ 102 ∷ 117 ∷ 115 ∷ 101 ∷ 100 ∷ 32 ∷ []) number (10 ∷ []) o o' r
+      → Said w o o' r
+  said-refusal f h = record { said = rw (ne-eqb (numberIn w) 0 (λ e. f (is ∙ e))) (rw is at h) }
 
 pub said-served : (x : Lent) (w : ℕ) {t' v' o' p : List ℕ} {r : ℕ} → DecidePromise x w t' v' o' → Said w o' p r → SaidTo x p r
 said-served x w d s = rw (← d .word-is, ← d .buffer-is) s

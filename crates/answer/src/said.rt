@@ -1,22 +1,19 @@
 // What is written of a call: the answer alone, or the refusal.
+use ndushavire::word;
 ghost use Prim.Native.Nat.{_≤_};
 ghost use lib.ListN.{length};
+ghost use Rattle.requests.specs.Request.{underCx};
 ghost use Rattle.calling.specs.Lent.{lent};
 ghost use Rattle.answer.specs.Said.{SaidFits, Said, SaidTo};
-
-// What the number of a returned word counts, 2^48, and what its value stays below, 2^32.
-const NUMBER: u64 = 281474976710656;
-
-const VALUE: u64 = 4294967296;
 
 // An answer stands at the front of out already; a refusal is written there.
 fn put_said(out: &mut [u8], w: u64) -> usize
     requires { ⌜ (30 ≤ length (now out)) × SaidFits w (length (now out)) ⌝ }
     ensures { λ r. ⌜ (r ≤ length (now (out .exit))) × Said w (now (out .entry)) (now (out .exit)) r ⌝ }
 {
-    let number = (w / NUMBER) as u32;
+    let number = word::number_in(w);
     if number == 0 {
-        return (w % VALUE) as usize;
+        return word::value_in(w) as usize;
     }
     lines::put_words(out, b"refused ", number, b"\n")
 }
@@ -25,7 +22,7 @@ fn put_said(out: &mut [u8], w: u64) -> usize
 pub fn answer_to(out: &mut [u8], req: &[u8], t: &mut [u8], file: &[u8], v: &mut [u8]) -> usize
     requires { ⌜ 30 ≤ length (now out) ⌝ }
     ensures { λ r. ⌜ (r ≤ length (now (out .exit)))
-        × SaidTo (lent (now (req .entry)) (now (t .entry)) (now (file .entry)) (now (v .entry)) (now (out .entry))) (now (out .exit)) r ⌝ }
+        × SaidTo (lent (now (req .entry)) (now (t .entry)) (now (file .entry)) (now (v .entry)) (now (out .entry)) underCx) (now (out .exit)) r ⌝ }
 {
     let w = ndushavire::ndushavire_decide(req, t, file, v, out);
     put_said(out, w)

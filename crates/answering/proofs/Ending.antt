@@ -1,9 +1,5 @@
 -- How an answer ends: Failed-AVP, then every Proxy-Info, after what a decision gives.
-use Prim.Native.Nat.{ℕ, _+_, _≤_, _<_}
-use mathlib.Core.Path.{_≡_, refl, sym}
-use mathlib.Core.List.{List}
-use lib.ListN.{length, drop, length-append}
-use borrow.Author.Tests.{lt-ltb, le-ltb}
+use Rattle.octets.specs.Standard.{ℕ, _+_, _≤_, _<_, _≡_, refl, sym, List, length, drop, length-append, lt-ltb, le-ltb}
 use Rattle.octets.specs.Run.{over, Wrote}
 use Rattle.octets.proofs.Writes.{lent, back, then, named}
 use Rattle.pen.specs.Groups.{failed}
@@ -12,7 +8,8 @@ use Rattle.diameter.specs.Message.{bodyOf}
 use Rattle.failed.specs.Failing.{failedOf, example, failedBy}
 use Rattle.reading.specs.declared.Verdict.{Verdict}
 use Rattle.choices.specs.declared.Given.{Given}
-use Rattle.reply.specs.Answer.{failedPart, proxies, givenBytes, endBytes, restBytes}
+use Rattle.reply.specs.Pieces.{givenBytes}
+use Rattle.answering.specs.Answer.{failedPart, proxies, endBytes, restBytes}
 use Rattle.reply.proofs.Rooms.{room-left, room-right}
 
 -- Failed-AVP: of a kind that is missing, of the AVP at a place, or none.

@@ -1,3 +1,5 @@
+pub mod Copies
 pub mod Ending
+pub mod Lengths
 pub mod Proxies
 pub mod Whole

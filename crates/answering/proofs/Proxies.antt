@@ -1,23 +1,18 @@
 -- Every Proxy-Info, copied: one AVP, and the turns of the loop over the walk.
-use Prim.Native.Nat.{ℕ, _+_, _-_, _≤_, _<_}
-use mathlib.Core.Path.{_≡_, refl, ap}
-use mathlib.Core.List.{List, _++_}
-use native.Mathlib.Omega.{arith}
-use lib.ListN.{length, drop, length-append, length-take, length-drop}
-use borrow.Author.Tests.{eq-eqb, ne-eqb}
-use borrow.Rule.Slice.PartMut.{midOf, putMid}
+use Rattle.octets.specs.Standard.{ℕ, _+_, _-_, _≤_, _<_, _≡_, refl, ap, List, _++_, arith, length, drop, length-append, length-take, length-drop}
+use Rattle.octets.specs.Standard.{eq-eqb, ne-eqb, midOf, putMid}
 use Rattle.octets.specs.Run.{over, Wrote}
 use Rattle.octets.proofs.Writes.{Going, going-more, going-end}
 use Rattle.diameter.specs.Walk.{walk}
 use Rattle.diameter.specs.Reader.{readOf, ownOf}
 use Rattle.diameter.specs.declared.Avp.{Avp}
 use Rattle.diameter.specs.declared.Read.{Read}
-use Rattle.diameter.specs.declared.Read.the-variants as read
 use Rattle.diameter.proofs.Reading.{read-says, read-fault-says, walk-past}
 use Rattle.pen.specs.Bytes.{copied, copiedSize, ifThere}
 use Rattle.pen.proofs.Sizes.{copied-length}
 use Rattle.reading.specs.Kinds.{kindOf, proxyInfo}
-use Rattle.reply.specs.Answer.{proxy, proxies}
+use Rattle.answering.specs.Answer.{proxy, proxies}
+use Rattle.diameter.specs.declared.Read.the-variants as read
 
 -- what was written fits where it stands
 pub wrote-fits : {w b xs : List ℕ} {n : ℕ} → Wrote w b xs n → length xs ≡ length b → n ≤ length b

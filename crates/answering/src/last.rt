@@ -14,7 +14,7 @@ ghost use Rattle.vectors.specs.Chosen.{Sendable};
 ghost use Rattle.diameter.specs.Reader.{ownOf, Here};
 ghost use Rattle.diameter.specs.Message.{bodyOf};
 ghost use Rattle.failed.specs.Failing.{failedBy};
-ghost use Rattle.reply.specs.Answer.{failedPart, proxy, proxies, endBytes, restBytes};
+ghost use Rattle.answering.specs.Answer.{failedPart, proxy, proxies, endBytes, restBytes};
 
 // Failed-AVP, where there is one.
 fn put_failed(out: &mut [u8], req: &[u8], v: Verdict) -> usize

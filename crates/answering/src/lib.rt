@@ -2,6 +2,7 @@
 pub mod last;
 
 use choices::Given;
+use reading::Dialect;
 use reply::front;
 use reply::header;
 ghost use Prim.Native.Nat.{_+_, _≤_};
@@ -9,7 +10,13 @@ ghost use lib.ListN.{length};
 ghost use Rattle.octets.specs.Run.{Wrote};
 ghost use Rattle.table.specs.SoundTable.{SoundTable};
 ghost use Rattle.vectors.specs.Chosen.{Sendable};
-ghost use Rattle.reply.specs.Answer.{bodyBytes, answerBytes};
+ghost use Rattle.answering.specs.Answer.{bodyBytes, answerBytes};
+
+// What a decision stands on: the dialect of the request, and how many records the table has.
+pub struct Ground {
+    pub dialect: Dialect,
+    pub count: usize,
+}
 
 // All after the header.
 fn put_body(
@@ -18,21 +25,25 @@ fn put_body(
     t: &[u8],
     file: &[u8],
     v: &[u8],
-    count: usize,
+    ground: Ground,
     g: Given,
 ) -> usize
-    requires { ⌜ SoundTable (now t) count × Sendable (now v) (g .sent)
-        × (length (bodyBytes (now req) (now t) (now file) (now v) g) ≤ length (now out)) ⌝ }
+    requires { ⌜ SoundTable (now t) (ground .count) × Sendable (now v) (g .sent)
+        × (length (bodyBytes (ground .dialect .terms) (now req) (now t) (now file) (now v) g) ≤ length (now out)) ⌝ }
     ensures { λ r. ⌜ (r ≤ length (now (out .entry)))
-        × Wrote (bodyBytes (now (req .entry)) (now (t .entry)) (now (file .entry)) (now (v .entry)) g) (now (out .entry)) (now (out .exit)) r ⌝ }
+        × Wrote (bodyBytes (ground .dialect .terms) (now (req .entry)) (now (t .entry)) (now (file .entry)) (now (v .entry)) g) (now (out .entry))
+        (now (out .exit)) r ⌝ }
 {
     let verdict = g.verdict;
     let result = verdict.result;
-    let a = front::put_top(out, req, t, count, result);
+    let count = ground.count;
+    let dialect = ground.dialect;
+    let terms = dialect.terms;
+    let a = front::put_top(out, req, t, count, terms, result);
     a + last::put_rest(&mut out[a..], req, t, file, v, count, g)
 }
 
-// The answer to a request, over a sound table of so many records, with what a decision gives it to carry. It is written where it stays, the body first,
+// The answer to a request, over a sound table, with what a decision gives it to carry. It is written where it stays, the body first,
 // since its length stands in the header.
 pub fn answer(
     out: &mut [u8],
@@ -40,17 +51,18 @@ pub fn answer(
     t: &[u8],
     file: &[u8],
     v: &[u8],
-    count: usize,
+    ground: Ground,
     g: Given,
 ) -> usize
-    requires { ⌜ (20 ≤ length (now req)) × SoundTable (now t) count × Sendable (now v) (g .sent)
-        × (length (answerBytes (now req) (now t) (now file) (now v) g) ≤ 36864) × (36864 ≤ length (now out)) ⌝ }
+    requires { ⌜ (20 ≤ length (now req)) × SoundTable (now t) (ground .count) × Sendable (now v) (g .sent)
+        × (length (answerBytes (ground .dialect .terms) (now req) (now t) (now file) (now v) g) ≤ 36864) × (36864 ≤ length (now out)) ⌝ }
     ensures { λ r. ⌜ (r ≤ 36864)
-        × Wrote (answerBytes (now (req .entry)) (now (t .entry)) (now (file .entry)) (now (v .entry)) g) (now (out .entry)) (now (out .exit)) r ⌝ }
+        × Wrote (answerBytes (ground .dialect .terms) (now (req .entry)) (now (t .entry)) (now (file .entry)) (now (v .entry)) g) (now (out .entry))
+        (now (out .exit)) r ⌝ }
 {
     let verdict = g.verdict;
     let result = verdict.result;
-    let n = 20 + put_body(&mut out[20..], req, t, file, v, count, g);
+    let n = 20 + put_body(&mut out[20..], req, t, file, v, ground, g);
     header::put_header(out, req, result, n);
     n
 }

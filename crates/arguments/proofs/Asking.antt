@@ -1,8 +1,5 @@
 -- A word is compared with both known ones, and what it asks for is chosen by the two answers.
-use Prim.Native.Nat.{ℕ}
-use mathlib.Core.Bool.{Bool}
-use mathlib.Core.Path.{_≡_}
-use mathlib.Core.List.{List}
+use Rattle.octets.specs.Standard.{ℕ, Bool, _≡_, List}
 use Rattle.octets.specs.Name.{same}
 use Rattle.arguments.specs.Asked.{askedIf}
 use Rattle.arguments.specs.declared.Asked.{Asked}

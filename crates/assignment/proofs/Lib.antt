@@ -1,4 +1,5 @@
 pub mod Looks
+pub mod Members
 pub mod NameTurns
 pub mod OwnTurns
 pub mod Plans

@@ -1,12 +1,5 @@
 -- What each function that looks at records says of what its callees said.
-use Prim.Native.Nat.{ℕ, _+_, _*_, _≤_}
-use mathlib.Core.List.{List}
-use mathlib.Core.Bool.{Bool, true, false, _&&_, _||_}
-use mathlib.Core.Path.{_≡_, _∙_}
-use native.Mathlib.Numerals.{add-one}
-use native.Mathlib.Omega.{arith}
-use lib.ListN.{getD}
-use lib.Dec.{eqb, ltb}
+use Rattle.octets.specs.Standard.{ℕ, _+_, _*_, _≤_, List, Bool, true, false, _&&_, _||_, _≡_, _∙_, add-one, arith, getD, eqb, ltb}
 use Rattle.octets.specs.Name.{same}
 use Rattle.record.specs.Fields.{privateOf, serverOf}
 use Rattle.blocks.specs.Blocks.{blockOf}

@@ -1,11 +1,6 @@
 -- The turns of the loops over a SAR's identities, and what there are of them.
-use Prim.Native.Nat.{ℕ, _+_, _*_, _≤_}
-use mathlib.Core.List.{List, [], _∷_, _++_}
-use mathlib.Core.Bool.{Bool, true, false, _&&_, _||_}
-use mathlib.Core.Path.{_≡_, refl, sym, ap, _∙_}
-use native.Mathlib.Omega.{arith}
-use lib.ListN.{length, drop}
-use borrow.Author.Tests.{ne-eqb}
+use Rattle.octets.specs.Standard.{ℕ, _+_, _*_, _≤_, List, [], _∷_, _++_, Bool, true, false, _&&_, _||_, _≡_, refl, sym, ap, _∙_, arith, length, drop}
+use Rattle.octets.specs.Standard.{ne-eqb}
 use Rattle.table.specs.SoundTable.{SoundTable}
 use Rattle.table.proofs.Sound.{sound-size, sound-few}
 use Rattle.lookup.specs.Find.{firstFrom, publicIs, findPublic}
@@ -28,14 +23,11 @@ use Rattle.diameter.specs.Walk.{walk}
 use Rattle.diameter.specs.Reader.{dataAt}
 use Rattle.diameter.proofs.Reading.{walk-past}
 use Rattle.reading.specs.Kinds.{publicIdentity}
-use Rattle.reading.specs.Verdicts.{faultAt}
-use Rattle.reading.specs.Verdicts.{lackOf}
+use Rattle.reading.specs.Verdicts.{faultAt, lackOf}
 use Rattle.diameter.specs.Message.{bodyOf}
 use Rattle.requests.specs.Request.{identities}
 use Rattle.requests.specs.Identity.{placesFrom}
-use Rattle.requests.specs.Identity as identity
 use Rattle.requests.specs.declared.identities.Next.{Next}
-use Rattle.requests.specs.declared.identities.Next.the-variants as next
 use Rattle.requests.proofs.Naming.{no-place, first-place, named-none, named-first}
 use Rattle.choices.specs.declared.types.AssignmentType.{AssignmentType}
 use Rattle.choices.specs.declared.plan.Survey.{Survey}
@@ -43,6 +35,8 @@ use Rattle.assignment.specs.Assignment.{meantBy, findAll, numbersOf}
 use Rattle.assignment.specs.Survey.{clean, both, lookFound, foundSurvey}
 use Rattle.assignment.specs.declared.Meant.the-variants.{Fault, Owned, Listed}
 use Rattle.assignment.proofs.Surveys.{survey-cons, both-assoc, both-clean}
+use Rattle.requests.specs.Identity as identity
+use Rattle.requests.specs.declared.identities.Next.the-variants as next
 
 -- the identities from a place on
 unfoldable pub restOf : List ℕ → ℕ → List (List ℕ)

@@ -1,13 +1,7 @@
 -- The turns of the loop that settles a subscription's records: those not in state 0, which are whole sets.
-use Prim.Native.Nat.{ℕ, zero, suc, _+_, _*_, _<_, _≤_}
-use mathlib.Core.List.{List, [], _∷_, _++_}
-use mathlib.Core.Bool.{Bool, true, false, cond, _&&_, _||_, and-true, or-false, or-assoc, true≢false}
-use mathlib.Core.Path.{_≡_, refl, sym, ap, _∙_}
-use mathlib.Core.Logic.{_≢_}
-use native.Mathlib.Omega.{arith}
-use lib.ListN.{length}
-use lib.Dec.{eqb, leb, ltb}
-use borrow.Author.Tests.{eqb-true, eqb-false, ltb-true, ltb-false, le-leb, lt-leb, ne-eqb}
+use Rattle.octets.specs.Standard.{ℕ, zero, suc, _+_, _*_, _<_, _≤_, List, [], _∷_, Bool, true, false, cond, _&&_, _||_, and-true, or-false}
+use Rattle.octets.specs.Standard.{true≢false, _≡_, refl, sym, ap, _∙_, _≢_, arith, length, eqb, leb, ltb, eqb-true, eqb-false, ltb-true, ltb-false}
+use Rattle.octets.specs.Standard.{le-leb, lt-leb, ne-eqb}
 use Rattle.record.specs.Sets.{sameSet}
 use Rattle.record.proofs.OneSet.{OneSet, set-says, Agree, agree-says}
 use Rattle.blocks.specs.Blocks.{blockOf}
@@ -22,12 +16,8 @@ use Rattle.rewrite.proofs.Reaching.{both-ways, reaches-named-one, reaches-one, 
 use Rattle.rewrite.proofs.Settled.{settled-keeps}
 use Rattle.rewrite.proofs.Together.{members-agree}
 use Rattle.rewrite.proofs.Turns.{Going, going-start, going-next, going-turn, going-end, going-sum}
+use Rattle.blocks.proofs.Changed.{one-append}
 use Rattle.assignment.specs.Assignment.{ownedHere, ownedUpTo}
-
-pub one-append : (xs ys : List ℕ) (j : ℕ) → isOne (xs ++ ys) j ≡ (isOne xs j || isOne ys j)
-unfolding isOne
-one-append [] ys j = refl
-one-append (x ∷ xs) ys j = rw (one-append xs ys j) (sym (or-assoc (eqb j x) (isOne xs j) (isOne ys j)))
 
 -- Such a record is one of the list that document 01 means.
 owned-one : (t user : List ℕ) (n j : ℕ) → 1 ≤ j → isOne (ownedUpTo t user n) j ≡ (leb j n && ownedHere (blockOf t j) user)

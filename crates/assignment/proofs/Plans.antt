@@ -1,22 +1,16 @@
 -- What the plan of a SAR is, by whom it means.
-use Prim.Native.Nat.{ℕ, _+_, _*_, _≤_}
-use mathlib.Core.List.{List, [], _∷_, map}
-use mathlib.Core.Bool.{Bool, true, false, cond, not, _&&_}
-use mathlib.Core.Path.{_≡_, refl, sym, ap, _∙_}
-use native.Mathlib.Omega.{arith}
-use lib.ListN.{length}
+use Rattle.octets.specs.Standard.{ℕ, _+_, _*_, _≤_, List, [], _∷_, map, Bool, true, false, cond, not, _&&_, _≡_, refl, sym, ap, _∙_, arith, length}
 use Rattle.record.specs.Fields.{privateOf}
 use Rattle.blocks.specs.Blocks.{blockOf}
 use Rattle.table.specs.Named.{privateAt}
 use Rattle.table.specs.SoundTable.{SoundTable}
 use Rattle.table.proofs.Sound.{sound-block}
-use Rattle.lookup.specs.Find.{isAt, findPublic, findPrivate}
+use Rattle.lookup.specs.Find.{isAt, findPublic, findPrivate, blockFound}
 use Rattle.lookup.specs.declared.Found.{Found}
 use Rattle.lookup.specs.declared.Found.the-variants.{At, Nothing}
 use Rattle.diameter.specs.Reader.{avpAt, dataAt}
 use Rattle.reading.specs.Kinds.{publicIdentity}
-use Rattle.reading.specs.Verdicts.{faultAt}
-use Rattle.reading.specs.Verdicts.{lackOf}
+use Rattle.reading.specs.Verdicts.{faultAt, lackOf}
 use Rattle.diameter.specs.Message.{bodyOf}
 use Rattle.requests.specs.Request.{identities}
 use Rattle.reading.specs.declared.Verdict.{Verdict}
@@ -31,10 +25,10 @@ use Rattle.choices.specs.declared.plan.Sar.{Sar}
 use Rattle.choices.specs.declared.plan.Survey.{Survey}
 use Rattle.choices.specs.declared.plan.Finding.{Finding}
 use Rattle.choices.specs.declared.plan.Plan.{Plan}
-use Rattle.lookup.specs.Find.{blockFound}
 use Rattle.lookup.specs.Among.{Among}
 use Rattle.lookup.proofs.Among.{public-among}
-use Rattle.assignment.specs.Assignment.{meantBy, findAll, firstOf, ownedUpTo, surveyOf, userKnown, ownerBy, namedSurvey, ownedSurvey, assignMeant, assign}
+use Rattle.assignment.specs.Assignment.{meantBy, findAll, firstOf, ownedUpTo, surveyOf, userKnown, ownerBy, namedSurvey, ownedSurvey}
+use Rattle.assignment.specs.Assignment.{assignMeant, assign}
 use Rattle.assignment.specs.Survey.{sarOf, alsoKnown, foundSurvey}
 use Rattle.assignment.specs.declared.Meant.{Meant}
 use Rattle.assignment.specs.declared.Meant.the-variants.{Fault, Owned, Listed}

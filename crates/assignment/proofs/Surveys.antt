@@ -1,8 +1,6 @@
 -- Laws of what is seen of a SAR's records: one identity more, one block more.
-use Prim.Native.Nat.{ℕ, suc}
-use mathlib.Core.List.{List, [], _∷_, _++_, append-nil}
-use mathlib.Core.Bool.{Bool, true, false, not, _&&_, _||_, and-assoc, and-true, or-assoc, or-false}
-use mathlib.Core.Path.{_≡_, refl, sym}
+use Rattle.octets.specs.Standard.{ℕ, suc, List, [], _∷_, _++_, append-nil, Bool, true, false, not, _&&_, _||_, and-assoc, and-true, or-assoc}
+use Rattle.octets.specs.Standard.{or-false, _≡_, refl, sym}
 use Rattle.blocks.specs.Blocks.{blockOf}
 use Rattle.table.specs.Named.{privateAt}
 use Rattle.lookup.specs.declared.Found.{Found}

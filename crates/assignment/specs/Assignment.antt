@@ -25,8 +25,7 @@ use Rattle.lookup.specs.Find.{blockFound}
 use Rattle.assignment.specs.declared.Meant.{Meant}
 use Rattle.assignment.specs.declared.Meant.the-variants.{Fault, Owned, Listed}
 
--- What a SAR says (a MAR has its server name there too): its numbers, its server name, the User-Name (empty where none is given), the identities (the
--- AVPs themselves) and their places
+-- What a SAR says: its numbers, its server name, the User-Name (empty where none is given), the identities (the AVPs themselves) and their places
 pub record Assignment : Type 0 where
   pub numbers : Sar
   pub server : List ℕ

@@ -1,16 +1,9 @@
 -- The blocks of a file, and that a file is its blocks.
-use Prim.Native.Nat.{ℕ, zero, suc, _+_, _-_, _*_, _<_, _≤_}
-use mathlib.Core.Bool.{Bool, true, false}
-use mathlib.Core.Path.{_≡_, refl, sym, _∙_}
-use mathlib.Core.List.{List, _++_}
-use native.Mathlib.Omega.{arith}
-use native.Mathlib.Nat.{add-sub-cancel-left}
+use Rattle.octets.specs.Standard.{ℕ, zero, suc, _+_, _-_, _*_, _<_, _≤_, Bool, true, false, _≡_, refl, sym, _∙_, List, _++_, arith}
+use Rattle.octets.specs.Standard.{add-sub-cancel-left, ltb, length, getD, take, drop, length-append, length-take, length-drop, getD-take, getD-drop}
+use Rattle.octets.specs.Standard.{take-add, take-all, take-append-le, drop-append-le, drop-at, ltb-true, ltb-false}
 use mir.Syntax.{w8}
 use mir.Val.{Fits}
-use lib.Dec.{ltb}
-use lib.ListN.{length, getD, take, drop, length-append, length-take, length-drop}
-use lib.Seq.{getD-take, getD-drop, take-add, take-all, take-append-le, drop-append-le, drop-at}
-use borrow.Author.Tests.{ltb-true, ltb-false}
 use Rattle.octets.proofs.Numbers.{Bytes}
 use Rattle.octets.proofs.Runs.{past-zero}
 use Rattle.blocks.specs.Blocks.{blockOf, tableOf}

@@ -1,11 +1,6 @@
 -- The first number that is not good: the turns of the loop over the records, and what the answer says.
-use Prim.Native.Nat.{ℕ, zero, suc, _+_, _-_, _<_, _≤_}
-use mathlib.Core.Bool.{Bool, true, false, cond}
-use mathlib.Core.Path.{_≡_, refl, sym}
-use native.Mathlib.Omega.{arith}
-use native.Mathlib.Numerals.{add-one}
-use lib.Dec.{eqb, ltb}
-use borrow.Author.Tests.{eqb-true, eqb-false, ltb-true, ltb-false}
+use Rattle.octets.specs.Standard.{ℕ, zero, suc, _+_, _-_, _<_, _≤_, Bool, true, false, cond, _≡_, refl, sym, arith, add-one, eqb, ltb, eqb-true}
+use Rattle.octets.specs.Standard.{eqb-false, ltb-true, ltb-false}
 use Rattle.blocks.specs.Blocks.{firstBad}
 use Rattle.blocks.specs.declared.Checked.{Checked}
 use Rattle.blocks.specs.declared.Checked.the-variants.{Sound, Bad}

@@ -1,16 +1,9 @@
 -- A block that is given a new check word: it sums to zero, and is as it was before that word.
-use Prim.Native.Nat.{ℕ, suc, _+_, _*_, _%_, _^_, _<_, _≤_}
-use mathlib.Core.Path.{_≡_, sym, _∙_}
-use mathlib.Core.Logic.{_≢_}
-use mathlib.Core.List.{List, [], _∷_, _++_, append-nil}
-use native.Mathlib.Omega.{arith}
-use native.Mathlib.Nat.{mod-lt}
-use lib.Dec.{lit<}
-use lib.ListN.{length, getD, set, take, length-set, drop-of-length-le}
-use lib.Seq.{getD-set-other, sets-eq}
+use Rattle.octets.specs.Standard.{ℕ, suc, _+_, _*_, _%_, _^_, _<_, _≤_, _≡_, sym, _∙_, _≢_, List, [], _∷_, _++_, append-nil, arith, mod-lt, lit<}
+use Rattle.octets.specs.Standard.{length, getD, set, take, length-set, drop-of-length-le, getD-set-other, sets-eq}
 use Rattle.octets.specs.Number.{be32At, putBe32}
 use Rattle.octets.specs.Sum.{sumWords}
-use Rattle.octets.proofs.Numbers.{word-put}
+use Rattle.octets.proofs.Numbers.{Bytes, word-put, word-held, word-lt}
 use Rattle.octets.proofs.Parts.{part-alike}
 use Rattle.octets.proofs.Sums.{sum-lt, sum-put, sum-alike}
 use Rattle.blocks.specs.Sealed.{negated, sealed}
@@ -68,3 +61,12 @@ pub seal-put : (b : List ℕ) {c s w : ℕ} {y : List ℕ} → c ≡ be32At b 50
     → y ≡ sealed b
 unfolding sealed sumWords
 seal-put b {c} {s} {w} e f h g k = rw (← negated-from (sumWords b 127) (be32At b 508) s w (sum-lt b 127) h f (g ∙ e)) k
+
+-- A block of bytes that sums to zero has its check word.
+negated-is : (x c : ℕ) → x < 2 ^ 32 → c < 2 ^ 32 → (x + c) % 2 ^ 32 ≡ 0 → negated x ≡ c
+unfolding negated
+negated-is x c h k e = omega arith
+
+pub sealed-held : (b : List ℕ) → Bytes b → sumWords b 128 ≡ 0 → sealed b ≡ b
+unfolding sealed sumWords
+sealed-held b bytes e = rw (negated-is (sumWords b 127) (be32At b 508) (sum-lt b 127) (word-lt b 508 bytes) e) (word-held b 508 bytes)

@@ -1,29 +1,27 @@
 -- What each way through a call leaves.
-use Prim.Native.Nat.{ℕ, _≤_, _<_, _%_}
-use mathlib.Core.List.{List}
-use mathlib.Core.Bool.{Bool, true, false, cond, not, _||_, true≢false}
-use mathlib.Core.Path.{_≡_, refl, sym, ap, _∙_}
-use native.Mathlib.Omega.{arith}
-use lib.ListN.{length, getD}
-use lib.Dec.{eqb, ltb}
-use borrow.Author.Tests.{lt-ltb, le-ltb, eqb-true, ltb-false}
+use Rattle.octets.specs.Standard.{ℕ, _≤_, _<_, _%_, List, Bool, true, false, cond, not, _||_, true≢false, _≡_, refl, sym, _∙_, arith, length, getD}
+use Rattle.octets.specs.Standard.{eqb, ltb, lt-ltb, le-ltb, eqb-true, ltb-false}
 use Rattle.octets.specs.Number.{be24At}
 use Rattle.table.specs.Check.{checkTable}
 use Rattle.blocks.specs.declared.Checked.{Checked}
 use Rattle.blocks.specs.declared.Checked.the-variants.{Sound, Bad}
 use Rattle.table.specs.SoundTable.{SoundTable}
 use Rattle.vectors.specs.VectorFile.{checkVectors, SoundVectors}
-use Rattle.fitting.specs.Decide.{decide}
-use Rattle.fitting.proofs.Tests.{neither}
+use Rattle.reading.specs.declared.Dialect.{Dialect}
+use Rattle.reading.specs.declared.Terms.{Terms}
+use Rattle.requests.specs.Request.{dialectOf}
+use Rattle.deciding.specs.Decide.{decide}
+use Rattle.deciding.proofs.Tests.{neither}
 use Rattle.deciding.specs.Passed.{Passed}
 use Rattle.deciding.specs.Answers.{Tells}
 use Rattle.deciding.specs.declared.Told.{Told}
 use Rattle.calling.specs.declared.Came.{Came}
-use Rattle.calling.specs.declared.Came.the-variants as came
 use Rattle.calling.specs.Lent.{Lent, lent}
 use Rattle.calling.specs.Trial.{tried}
-use Rattle.calling.specs.Serve.{refused, answered, smallBuffer, wrongSize, wrongLength, noRequest, checkOf, checkValue, serve}
+use Rattle.calling.specs.Serve.{refused, answered, smallBuffer, wrongSize, wrongLength, noRequest, checkOf, checkValue, serveFound, serveBy}
+use Rattle.calling.specs.Serve.{serve}
 use Rattle.calling.specs.Leaves.{Leaves, early, serveChecked}
+use Rattle.calling.specs.declared.Came.the-variants as came
 
 pub length-all : (req : List ℕ) {n : ℕ} → n ≡ be24At req 1 → (not (eqb n (length req)) || not (eqb (length req % 4) 0)) ≡ wrongLength req
 unfolding wrongLength
@@ -45,6 +43,9 @@ checked-sound t n count e f = record { file = n; checked = sym e ∙ f }
 pub vectors-sound : (v : List ℕ) (n : ℕ) {d : Checked} → d ≡ checkVectors v → d ≡ Sound n → SoundVectors v
 vectors-sound v n e f = record { count = n; checked = sym e ∙ f }
 
+pub dialect-own : (req : List ℕ) (terms : Terms) (d : Dialect) → d ≡ dialectOf terms req → d ≡ dialectOf (d .terms) req
+dialect-own req terms d e = rw e
+
 -- a size that is not wrong
 size-within : (req : List ℕ) → wrongSize req ≡ false → (20 ≤ length req) × (length req ≤ 16384)
 size-within req e =
@@ -63,25 +64,25 @@ size-flags req e = omega (arith, size-least req e)
 -- The first four, in their order.
 module _ (req o : List ℕ) where
   pub early-buffer : length o < 36864 → 1 ≡ early req o
-  unfolding early
+  unfolding early tried
   early-buffer a = rw (lt-ltb (length o) 36864 a)
 
   module _ (room : 36864 ≤ length o) where
     pub early-size : wrongSize req ≡ true → 2 ≡ early req o
-    unfolding early
+    unfolding early tried
     early-size a = rw (le-ltb (length o) 36864 room, a)
 
     module _ (fits : wrongSize req ≡ false) {w : Bool} (is : w ≡ wrongLength req) where
       pub early-length : w ≡ true → 3 ≡ early req o
-      unfolding early
+      unfolding early tried
       early-length a = rw (le-ltb (length o) 36864 room, fits, sym is ∙ a)
 
       pub early-answer : w ≡ false → getD req 4 0 < 128 → 4 ≡ early req o
-      unfolding early
+      unfolding early tried
       early-answer a b = rw (le-ltb (length o) 36864 room, fits, sym is ∙ a, lt-ltb (getD req 4 0) 128 b)
 
       pub early-none : w ≡ false → 128 ≤ getD req 4 0 → 0 ≡ early req o
-      unfolding early
+      unfolding early tried
       early-none a b = rw (le-ltb (length o) 36864 room, fits, sym is ∙ a, le-ltb (getD req 4 0) 128 b)
 
 -- what it says where none holds
@@ -92,7 +93,7 @@ record Lets (req o : List ℕ) : Type 0 where
   asks : noRequest req ≡ false
 
 lets : (req o : List ℕ) → early req o ≡ 0 → Lets req o
-unfolding early
+unfolding early tried
 lets req o e = go (smallBuffer o) (wrongSize req) (wrongLength req) (noRequest req) refl refl refl refl e
   where
     go : (a b c d : Bool) → smallBuffer o ≡ a → wrongSize req ≡ b → wrongLength req ≡ c → noRequest req ≡ d
@@ -112,12 +113,12 @@ passes req o e h =
     let s = size-within req (l .size) in
     record { least = s .0; most = s .1; fours = length-even req (l .long); room = ltb-false (length o) 36864 (l .room) }
 
-module _ (req t file v o : List ℕ) where
+module _ (req t file v o : List ℕ) (terms : Terms) where
   abbrev x : Lent
-  x = lent req t file v o
+  x = lent req t file v o terms
 
   early-refuses : (count : ℕ) → 0 < early req o → Leaves x (serve x) count (came.Refused (early req o) 0) t v o
-  unfolding early serve tried refused
+  unfolding early serveBy serveFound tried refused
   early-refuses count h = go (smallBuffer o) (wrongSize req) (wrongLength req) (noRequest req) refl refl refl refl h
     where
       go : (a b c d : Bool) → smallBuffer o ≡ a → wrongSize req ≡ b → wrongLength req ≡ c → noRequest req ≡ d
@@ -139,31 +140,34 @@ module _ (req t file v o : List ℕ) where
   unfolding serveChecked tried refused
   over-bad c d k e = record { call-is = rw e; table-is = rw e; vectors-is = rw e; buffer-is = rw e; noted = tt }
 
-  pub over-good : (c d : Checked) (count : ℕ) {r : Came} {t' v' o' : List ℕ} → c ≡ Sound count
-      → Leaves x (serveChecked x (Sound count) d) count r t' v' o' → Leaves x (serveChecked x c d) (checkValue c) r t' v' o'
-  over-good c d count e s = rw e s
+  pub over-good : (c d : Checked) (count : ℕ) (dialect : Dialect) {r : Came} {t' v' o' : List ℕ} → dialect ≡ dialectOf terms req → c ≡ Sound count
+      → Leaves (lent req t file v o (dialect .terms)) (serveChecked (lent req t file v o (dialect .terms)) (Sound count) d) count r t' v' o'
+      → Leaves x (serveChecked x c d) (checkValue c) r t' v' o'
+  over-good c d count dialect is e s = rw e (rw is at s)
 
   module _ (count : ℕ) (d : Checked) where
     pub over-spoilt : (k : ℕ) → d ≡ Bad k → Leaves x (serveChecked x (Sound count) d) count (came.Refused 6 0) t v o
     unfolding serveChecked tried refused
     over-spoilt k e = record { call-is = rw e; table-is = rw e; vectors-is = rw e; buffer-is = rw e; noted = tt }
 
-    pub over-answered : (m : ℕ) (told : Told) {t' v' o' : List ℕ} → d ≡ Sound m → Tells req t count file v o o' told
-        → t' ≡ decide req t count v .table → v' ≡ decide req t count v .vectors
+    pub over-answered : (m : ℕ) (dialect : Dialect) (told : Told) {t' v' o' : List ℕ} → dialect ≡ dialectOf terms req → d ≡ Sound m
+        → Tells dialect req t count file v o o' told → t' ≡ decide dialect req t count v .table → v' ≡ decide dialect req t count v .vectors
         → Leaves x (serveChecked x (Sound count) d) count (came.Answered told) t' v' o'
     unfolding serveChecked tried answered
-    over-answered m told e a f g =
+    over-answered m dialect told is e a f g =
+        let b = rw is at a in
+        let t-is = rw is at f in
         record {
-          call-is = rw (e, a .answers .count, a .place-is);
-          table-is = f ∙ rw e;
-          vectors-is = g ∙ rw e;
-          buffer-is = a .answers .bytes ∙ rw e;
-          noted = (a .result-is, rw f (a .altered-is));
+          call-is = rw (e, b .answers .count, b .place-is);
+          table-is = t-is ∙ rw e;
+          vectors-is = (rw is at g) ∙ rw e;
+          buffer-is = b .answers .bytes ∙ rw e;
+          noted = (b .command-is, b .result-is, rw t-is (b .altered-is));
         }
 
   pub rest-serves : (c d : Checked) {n count : ℕ} {r : Came} {t' v' o' : List ℕ} → n ≡ early req o → n ≤ 0 → c ≡ checkTable t (length file) → d ≡ checkVectors v
       → Leaves x (serveChecked x c d) count r t' v' o' → Leaves x (serve x) count r t' v' o'
-  unfolding serve tried serveChecked
+  unfolding serveBy serveFound tried serveChecked
   rest-serves c d e z f g s =
       let l = lets req o (none e z) in
       rw (l .room, l .size, l .long, l .asks, ← f, ← g) s

@@ -1,22 +1,17 @@
 -- Whatever a call comes to, a table is sound after it with so many records if it was before, and so is the vector file; an unsound one stays as it is.
-use Prim.Native.Nat.{_≤_}
-use mathlib.Core.Bool.{Bool, false, true≢false}
-use mathlib.Core.Path.{_≡_, refl, sym, _∙_}
-use lib.ListN.{length}
-use native.Mathlib.Omega.{arith}
-use borrow.Author.Tests.{ltb-false}
+use Rattle.octets.specs.Standard.{_≤_, Bool, true, false, true≢false, _≡_, refl, sym, _∙_, length, arith, ltb-false}
 use Rattle.table.specs.Check.{checkTable}
 use Rattle.blocks.specs.declared.Checked.{Checked}
 use Rattle.blocks.specs.declared.Checked.the-variants.{Sound, Bad}
 use Rattle.table.specs.SoundTable.{SoundTable}
 use Rattle.vectors.specs.VectorFile.{checkVectors, SoundVectors}
 use Rattle.rewrite.proofs.Sound.{keeping-sound}
-use Rattle.fitting.proofs.Kept.{decide-keeping, decide-vectors}
-use Rattle.fitting.proofs.Tests.{neither}
-use Rattle.calling.specs.Lent.{Lent}
+use Rattle.deciding.proofs.Kept.{decide-keeping, decide-vectors}
+use Rattle.deciding.proofs.Tests.{neither}
+use Rattle.calling.specs.Lent.{Lent, dialectIn}
 use Rattle.calling.specs.Trial.{Trial, anyHolds}
-use Rattle.calling.specs.Serve.{Served, smallBuffer, wrongSize, wrongLength, noRequest, isBad, checkOf, checkValue, trials, refused, answered, decided}
-use Rattle.calling.specs.Serve.{serve}
+use Rattle.calling.specs.Serve.{Served, smallBuffer, wrongSize, wrongLength, noRequest, isBad, checkOf, checkValue, trials, refused, answered}
+use Rattle.calling.specs.Serve.{decided, serveFound, serveBy, serve}
 use Rattle.calling.proofs.Trials.{tried-by}
 
 -- a file that is not bad is sound
@@ -50,9 +45,18 @@ module _ (x : Lent) where
         vectors = record { count = checkValue (checkVectors (x .vectors)); checked = sound-count (checkVectors (x .vectors)) (g .0) };
       }
 
+  -- what holds of any refusal, and of the answer where none is given, holds of the call
+  pub serve-either : (P : Bool → Served → Type 0) → ((r : Trial) → P true (refused x r)) → P false (answered x (decided x)) → P (anyHolds (trials x)) (serve x)
+  unfolding serveBy serveFound
+  serve-either P f o =
+      tried-by P (λ r. Unit) (refused x) (answered x (decided x)) (λ r q h. f r) o (trials x) (tt, (tt, (tt, (tt, (tt, (tt, tt))))))
+
+  pub answered-is : anyHolds (trials x) ≡ false → serve x ≡ answered x (decided x)
+  answered-is = serve-either (λ b s. b ≡ false → s ≡ answered x (decided x)) (λ r e. absurd (true≢false e)) (λ e. refl)
+
   -- what holds of refusals by 1 to 6, and of the answer over sound files, holds of the call
   pub serve-by : (P : Served → Type 0) → ((r : Trial) → 1 ≤ r .number → r .number ≤ 6 → P (refused x r)) → (Taken → P (answered x (decided x))) → P (serve x)
-  unfolding serve
+  unfolding serveBy serveFound
   serve-by P f o =
       tried-by (λ (b : Bool) (s : Served). anyHolds (trials x) ≡ b → P s) (λ r. (1 ≤ r .number) × (r .number ≤ 6)) (refused x) (answered x (decided x))
       (λ r q h e. f r (q .0) (q .1)) (λ e. o (taken e)) (trials x) (
@@ -71,11 +75,11 @@ module _ (x : Lent) where
       (λ k.
       let sound : SoundTable (x .table) (checkValue (checkOf x)) = record { file = length (x .profile); checked = k .table } in
       keeping-sound (x .table) (decided x .table) (checkValue (checkOf x))
-      (decide-keeping (x .request) (x .table) (checkValue (checkOf x)) (x .vectors) sound) sound
+      (decide-keeping (dialectIn x) (x .request) (x .table) (checkValue (checkOf x)) (x .vectors) sound) sound
       ∙ sym (k .table))
 
   pub vectors-checked : checkVectors (serve x .vectors) ≡ checkVectors (x .vectors)
   unfolding refused answered
   vectors-checked =
       serve-by (λ s. checkVectors (s .vectors) ≡ checkVectors (x .vectors)) (λ r a b. refl)
-      (λ k. decide-vectors (x .request) (x .table) (checkValue (checkOf x)) (x .vectors) (k .vectors))
+      (λ k. decide-vectors (dialectIn x) (x .request) (x .table) (checkValue (checkOf x)) (x .vectors) (k .vectors))

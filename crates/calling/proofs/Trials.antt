@@ -1,7 +1,5 @@
 -- Laws of trials in order, by induction: what holds of each and of what is otherwise.
-use mathlib.Core.List.{List, [], _∷_}
-use mathlib.Core.Bool.{Bool, true, false, cond, _||_, true≢false}
-use mathlib.Core.Path.{_≡_, refl, sym}
+use Rattle.octets.specs.Standard.{List, [], _∷_, Bool, true, false, cond, _||_, true≢false, _≡_, refl, sym}
 use Rattle.diameter.specs.Put.{All}
 use Rattle.calling.specs.Trial.{Trial, tried, anyHolds}
 

@@ -1,20 +1,21 @@
 -- What a call that is not yet a word leaves; its first four trials, which look at no table, and its last two, over files that were checked.
 use Prim.Native.Nat.{ℕ}
-use mathlib.Core.Bool.{cond}
 use mathlib.Core.Path.{_≡_}
-use mathlib.Core.List.{List, [], _∷_}
+use mathlib.Core.List.{List}
 use Rattle.blocks.specs.declared.Checked.{Checked}
 use Rattle.rewrite.specs.Change.{alteredUpTo}
+use Rattle.diameter.specs.Message.{commandOf}
 use Rattle.calling.specs.Call.{callOf}
 use Rattle.calling.specs.Lent.{Lent}
 use Rattle.calling.specs.Trial.{tried}
-use Rattle.calling.specs.Serve.{Served, smallBuffer, wrongSize, wrongLength, noRequest, unsound, unsoundVectors, refused, answered, decision, checkValue}
+use Rattle.calling.specs.Serve.{Served, earlyTrials, fileTrials, refused, answered, decision, checkValue}
 use Rattle.calling.specs.declared.Came.{Came}
 use Rattle.calling.specs.declared.Came.the-variants as came
 
--- of an answer over a table of count records: its result, and how many records have other bytes in the table afterwards
+-- of an answer over a table of count records: the request's command, the result, and how many records have other bytes in the table afterwards
 abbrev pub Noted : Lent → ℕ → List ℕ → Came → Type 0
-Noted x count table' (came.Answered told) = (told .result ≡ decision x count .given .verdict .result) × (told .altered ≡ alteredUpTo (x .table) table' count)
+Noted x count table' (came.Answered told) =
+    (told .command ≡ commandOf (x .request)) × (told .result ≡ decision x count .given .verdict .result) × (told .altered ≡ alteredUpTo (x .table) table' count)
 Noted x count table' (came.Refused number besides) = Unit
 
 pub record Leaves (x : Lent) (s : Served) (count : ℕ) (r : Came) (table' vectors' buffer' : List ℕ) : Type 0 where
@@ -26,7 +27,7 @@ pub record Leaves (x : Lent) (s : Served) (count : ℕ) (r : Came) (table' vecto
 
 -- the number of the first of four refusals that holds, 0 if none does
 unfoldable pub early : List ℕ → List ℕ → ℕ
-early req o = cond (smallBuffer o) 1 (cond (wrongSize req) 2 (cond (wrongLength req) 3 (cond (noRequest req) 4 0)))
+early req o = tried (λ r. r .number) 0 (earlyTrials req o)
 
 unfoldable pub serveChecked : Lent → Checked → Checked → Served
-serveChecked x c d = tried (refused x) (answered x (decision x (checkValue c))) (unsound c ∷ unsoundVectors d ∷ [])
+serveChecked x c d = tried (refused x) (answered x (decision x (checkValue c))) (fileTrials c d)

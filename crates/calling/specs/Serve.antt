@@ -1,20 +1,20 @@
 -- One call: what it comes to, the table, the vectors and the buffer afterwards, for any bytes.
 use Prim.Native.Nat.{ℕ, _%_}
-use mathlib.Core.List.{List, [], _∷_}
+use mathlib.Core.List.{List, [], _∷_, _++_}
 use mathlib.Core.Bool.{Bool, true, false, not, _||_}
 use lib.ListN.{length, getD}
 use lib.Dec.{eqb, ltb}
 use Rattle.octets.specs.Number.{be24At}
 use Rattle.octets.specs.Run.{over}
-use Rattle.table.specs.Check.{checkTable}
 use Rattle.blocks.specs.declared.Checked.{Checked}
 use Rattle.blocks.specs.declared.Checked.the-variants.{Sound, Bad}
 use Rattle.vectors.specs.VectorFile.{checkVectors}
-use Rattle.fitting.specs.Decide.{Decision, decide}
-use Rattle.reply.specs.Answer.{answerBytes}
+use Rattle.deciding.specs.Rules.{Rules, inForce}
+use Rattle.deciding.specs.Decide.{Decision, decideBy}
+use Rattle.answering.specs.Answer.{answerBytes}
 use Rattle.reading.specs.declared.Outcome.{Outcome}
 use Rattle.calling.specs.Call.{Call, Answered, Refused}
-use Rattle.calling.specs.Lent.{Lent}
+use Rattle.calling.specs.Lent.{Lent, dialectIn}
 use Rattle.calling.specs.Trial.{Trial, tried}
 
 -- what comes of a call
@@ -52,26 +52,25 @@ checkValue (Bad block) = block
 abbrev pub unsound : Checked → Trial
 unsound c = record { holds = isBad c; number = 5; besides = checkValue c }
 
-abbrev pub checkOf : Lent → Checked
-checkOf x = checkTable (x .table) (length (x .profile))
-
 -- "6, vector file unsound, at every call, after 5"
 abbrev pub unsoundVectors : Checked → Trial
 unsoundVectors d = record { holds = isBad d; number = 6; besides = 0 }
 
--- "Five refusals of the call", and the sixth, in their order, with what each returns besides, where the check of the table answers so
-abbrev pub trialsOf : Lent → Checked → List Trial
-trialsOf x c =
-    record { holds = smallBuffer (x .buffer); number = 1; besides = 0 }
-    ∷ record { holds = wrongSize (x .request); number = 2; besides = 0 }
-    ∷ record { holds = wrongLength (x .request); number = 3; besides = 0 }
-    ∷ record { holds = noRequest (x .request); number = 4; besides = 0 }
-    ∷ unsound c
-    ∷ unsoundVectors (checkVectors (x .vectors))
+-- "Five refusals of the call", and the sixth, in their order, with what each returns besides: those that look at no file, and those of a table and a vector
+-- file that are checked so
+abbrev pub earlyTrials : List ℕ → List ℕ → List Trial
+earlyTrials req o =
+    record { holds = smallBuffer o; number = 1; besides = 0 }
+    ∷ record { holds = wrongSize req; number = 2; besides = 0 }
+    ∷ record { holds = wrongLength req; number = 3; besides = 0 }
+    ∷ record { holds = noRequest req; number = 4; besides = 0 }
     ∷ []
 
-abbrev pub trials : Lent → List Trial
-trials x = trialsOf x (checkOf x)
+abbrev pub fileTrials : Checked → Checked → List Trial
+fileTrials c d = unsound c ∷ unsoundVectors d ∷ []
+
+abbrev pub trialsOf : Lent → Checked → List Trial
+trialsOf x c = earlyTrials (x .request) (x .buffer) ++ fileTrials c (checkVectors (x .vectors))
 
 -- "All leave table and buffer as they came", and the vectors
 unfoldable pub refused : Lent → Trial → Served
@@ -80,7 +79,7 @@ refused x r = record { call = Refused (r .number) (r .besides); table = x .table
 -- the answer of a decision; "the call returns the answer's length; buffer bytes past it stay"; "and the entry shall return, beside the answer's length,
 -- the place of the AVP at fault"
 abbrev pub answerOf : Lent → Decision → List ℕ
-answerOf x d = answerBytes (x .request) (x .table) (x .profile) (x .vectors) (d .given)
+answerOf x d = answerBytes (x .terms) (x .request) (x .table) (x .profile) (x .vectors) (d .given)
 
 unfoldable pub answered : Lent → Decision → Served
 answered x d =
@@ -91,9 +90,29 @@ answered x d =
       buffer = over (answerOf x d) (x .buffer);
     }
 
--- the decision over a table that is sound, of so many records
+-- A call under some rules, where the check of the table answers so: "Tried in this order. .. Otherwise the call returns the answer's length"
+abbrev pub decisionBy : Rules → Lent → ℕ → Decision
+decisionBy r x count = decideBy r (dialectIn x) (x .request) (x .table) count (x .vectors)
+
+unfoldable pub serveFound : Rules → Lent → Checked → Served
+serveFound r x c = tried (refused x) (answered x (decisionBy r x (checkValue c))) (trialsOf x c)
+
+unfoldable pub serveBy : Rules → Lent → Served
+serveBy r x = serveFound r x (r .check (x .table) (length (x .profile)))
+
+-- under the rules in force
+abbrev pub serve : Lent → Served
+serve = serveBy inForce
+
+-- what the check of its table answers, its trials, the decision over a table that is sound, of so many records
+abbrev pub checkOf : Lent → Checked
+checkOf x = inForce .check (x .table) (length (x .profile))
+
+abbrev pub trials : Lent → List Trial
+trials x = trialsOf x (checkOf x)
+
 abbrev pub decision : Lent → ℕ → Decision
-decision x count = decide (x .request) (x .table) count (x .vectors)
+decision = decisionBy inForce
 
 -- the one that is answered with, where no refusal is given, and its result
 abbrev pub decided : Lent → Decision
@@ -101,7 +120,3 @@ decided x = decision x (checkValue (checkOf x))
 
 abbrev pub resultOf : Lent → Outcome
 resultOf x = decided x .given .verdict .result
-
--- "Tried in this order. .. Otherwise the call returns the answer's length"
-unfoldable pub serve : Lent → Served
-serve x = tried (refused x) (answered x (decided x)) (trials x)

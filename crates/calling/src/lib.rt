@@ -1,13 +1,16 @@
 // One call: the refusals, tried in order, and the answer.
+use answering::Ground;
 use blocks::Checked;
 use deciding::Told;
 use diameter::message;
+use reading::Terms;
 ghost use mathlib.Core.Path.{_≡_};
 ghost use Prim.Native.Nat.{_≤_};
 ghost use lib.ListN.{length};
 ghost use Rattle.table.specs.Check.{checkTable};
 ghost use Rattle.table.specs.SoundTable.{SoundTable};
 ghost use Rattle.vectors.specs.VectorFile.{checkVectors};
+ghost use Rattle.requests.specs.Request.{dialectOf};
 ghost use Rattle.deciding.specs.Passed.{Passed};
 ghost use Rattle.calling.specs.Lent.{lent};
 ghost use Rattle.calling.specs.Serve.{wrongLength, checkOf, checkValue, serve};
@@ -66,30 +69,34 @@ fn early(req: &[u8], out: &[u8]) -> u16
     0
 }
 
+// What calls over the same files share: what the checks of the table and of the vector file say, which a call keeps, and the terms.
+pub struct Shared {
+    pub table: Checked,
+    pub vectors: Checked,
+    pub terms: Terms,
+}
+
 // A request that the first five refusals let pass, over a vector file that was checked.
 fn over_sound(
     d: Checked,
-    count: u32,
+    ground: Ground,
     req: &[u8],
     t: &mut [u8],
     file: &[u8],
     v: &mut [u8],
     out: &mut [u8],
 ) -> Came
-    requires { ⌜ Passed (now req) (now out) × SoundTable (now t) count × (d ≡ checkVectors (now v)) ⌝ }
-    ensures { λ r. ⌜ Leaves (lent (now (req .entry)) (now (t .entry)) (now (file .entry)) (now (v .entry)) (now (out .entry)))
-        (serveChecked (lent (now (req .entry)) (now (t .entry)) (now (file .entry)) (now (v .entry)) (now (out .entry))) (Checked.Sound count) d)
-        count r (now (t .exit)) (now (v .exit)) (now (out .exit)) ⌝ }
+    requires { ⌜ Passed (now req) (now out) × SoundTable (now t) (ground .count) × (d ≡ checkVectors (now v))
+        × (ground .dialect ≡ dialectOf (ground .dialect .terms) (now req)) ⌝ }
+    ensures { λ r. ⌜ Leaves (lent (now (req .entry)) (now (t .entry)) (now (file .entry)) (now (v .entry)) (now (out .entry)) (ground .dialect .terms))
+        (serveChecked (lent (now (req .entry)) (now (t .entry)) (now (file .entry)) (now (v .entry)) (now (out .entry)) (ground .dialect .terms))
+        (Checked.Sound (ground .count)) d)
+        (ground .count) r (now (t .exit)) (now (v .exit)) (now (out .exit)) ⌝ }
 {
     match d {
-        Checked::Sound(_) => Came::Answered(deciding::answer_sound(
-            out,
-            req,
-            t,
-            file,
-            v,
-            count as usize,
-        )),
+        Checked::Sound(_) => {
+            Came::Answered(deciding::answer_sound(out, req, t, file, v, ground))
+        }
         Checked::Bad(_) => Came::Refused {
             number: UNSOUND_VECTORS,
             besides: 0,
@@ -99,21 +106,29 @@ fn over_sound(
 
 // A request that the first four let pass, over a table and a vector file that were checked.
 fn over_checked(
-    c: Checked,
-    d: Checked,
+    k: Shared,
     req: &[u8],
     t: &mut [u8],
     file: &[u8],
     v: &mut [u8],
     out: &mut [u8],
 ) -> Came
-    requires { ⌜ Passed (now req) (now out) × (c ≡ checkTable (now t) (length (now file))) × (d ≡ checkVectors (now v)) ⌝ }
-    ensures { λ r. ⌜ Leaves (lent (now (req .entry)) (now (t .entry)) (now (file .entry)) (now (v .entry)) (now (out .entry)))
-        (serveChecked (lent (now (req .entry)) (now (t .entry)) (now (file .entry)) (now (v .entry)) (now (out .entry))) c d)
-        (checkValue c) r (now (t .exit)) (now (v .exit)) (now (out .exit)) ⌝ }
+    requires { ⌜ Passed (now req) (now out) × (k .table ≡ checkTable (now t) (length (now file))) × (k .vectors ≡ checkVectors (now v)) ⌝ }
+    ensures { λ r. ⌜ Leaves (lent (now (req .entry)) (now (t .entry)) (now (file .entry)) (now (v .entry)) (now (out .entry)) (k .terms))
+        (serveChecked (lent (now (req .entry)) (now (t .entry)) (now (file .entry)) (now (v .entry)) (now (out .entry)) (k .terms)) (k .table) (k .vectors))
+        (checkValue (k .table)) r (now (t .exit)) (now (v .exit)) (now (out .exit)) ⌝ }
 {
+    let c = k.table;
+    let d = k.vectors;
+    let dialect = requests::dialect(req, k.terms);
     match c {
-        Checked::Sound(count) => over_sound(d, count, req, t, file, v, out),
+        Checked::Sound(count) => {
+            let ground = Ground {
+                dialect,
+                count: count as usize,
+            };
+            over_sound(d, ground, req, t, file, v, out)
+        }
         Checked::Bad(block) => Came::Refused {
             number: UNSOUND,
             besides: block,
@@ -123,38 +138,47 @@ fn over_checked(
 
 // One call over a table and a vector file that were checked: whoever makes many calls checks once.
 pub fn call_over(
-    c: Checked,
-    d: Checked,
+    k: Shared,
     req: &[u8],
     t: &mut [u8],
     file: &[u8],
     v: &mut [u8],
     out: &mut [u8],
 ) -> Came
-    requires { ⌜ (c ≡ checkTable (now t) (length (now file))) × (d ≡ checkVectors (now v)) ⌝ }
-    ensures { λ r. ⌜ Leaves (lent (now (req .entry)) (now (t .entry)) (now (file .entry)) (now (v .entry)) (now (out .entry)))
-        (serve (lent (now (req .entry)) (now (t .entry)) (now (file .entry)) (now (v .entry)) (now (out .entry))))
-        (checkValue c) r (now (t .exit)) (now (v .exit)) (now (out .exit)) ⌝ }
+    requires { ⌜ (k .table ≡ checkTable (now t) (length (now file))) × (k .vectors ≡ checkVectors (now v)) ⌝ }
+    ensures { λ r. ⌜ Leaves (lent (now (req .entry)) (now (t .entry)) (now (file .entry)) (now (v .entry)) (now (out .entry)) (k .terms))
+        (serve (lent (now (req .entry)) (now (t .entry)) (now (file .entry)) (now (v .entry)) (now (out .entry)) (k .terms)))
+        (checkValue (k .table)) r (now (t .exit)) (now (v .exit)) (now (out .exit)) ⌝ }
 {
     let number = early(req, out);
     if 0 < number {
         return Came::Refused { number, besides: 0 };
     }
-    over_checked(c, d, req, t, file, v, out)
+    over_checked(k, req, t, file, v, out)
 }
 
 // "Five refusals of the call"; "Tried in this order."; "6 .. after 5"
-pub fn call(req: &[u8], t: &mut [u8], file: &[u8], v: &mut [u8], out: &mut [u8]) -> Came
-    ensures { λ r. ⌜ Leaves (lent (now (req .entry)) (now (t .entry)) (now (file .entry)) (now (v .entry)) (now (out .entry)))
-        (serve (lent (now (req .entry)) (now (t .entry)) (now (file .entry)) (now (v .entry)) (now (out .entry))))
-        (checkValue (checkOf (lent (now (req .entry)) (now (t .entry)) (now (file .entry)) (now (v .entry)) (now (out .entry)))))
+pub fn call(
+    req: &[u8],
+    t: &mut [u8],
+    file: &[u8],
+    v: &mut [u8],
+    out: &mut [u8],
+    terms: Terms,
+) -> Came
+    ensures { λ r. ⌜ Leaves (lent (now (req .entry)) (now (t .entry)) (now (file .entry)) (now (v .entry)) (now (out .entry)) terms)
+        (serve (lent (now (req .entry)) (now (t .entry)) (now (file .entry)) (now (v .entry)) (now (out .entry)) terms))
+        (checkValue (checkOf (lent (now (req .entry)) (now (t .entry)) (now (file .entry)) (now (v .entry)) (now (out .entry)) terms)))
         r (now (t .exit)) (now (v .exit)) (now (out .exit)) ⌝ }
 {
     let number = early(req, out);
     if 0 < number {
         return Came::Refused { number, besides: 0 };
     }
-    let c = table::check(t, file.len());
-    let d = vectors::file::check(v);
-    over_checked(c, d, req, t, file, v, out)
+    let k = Shared {
+        table: table::check(t, file.len()),
+        vectors: vectors::file::check(v),
+        terms,
+    };
+    over_checked(k, req, t, file, v, out)
 }

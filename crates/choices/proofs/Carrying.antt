@@ -1,6 +1,5 @@
 -- What is given where no vector is sent.
-use Prim.Native.Nat.{ℕ}
-use mathlib.Core.Path.{_≡_}
+use Rattle.octets.specs.Standard.{ℕ, _≡_}
 use Rattle.vectors.specs.Chosen.{noneSent}
 use Rattle.vectors.specs.declared.choice.Sent.{Sent}
 use Rattle.reading.specs.declared.Verdict.{Verdict}

@@ -1,7 +1,5 @@
 -- The ways through the decision on a MAR and through its plan.
-use Prim.Native.Nat.{ℕ}
-use mathlib.Core.Bool.{true, false, not}
-use mathlib.Core.Path.{_≡_, ap, _∙_}
+use Rattle.octets.specs.Standard.{ℕ, true, false, not, _≡_, ap, _∙_}
 use Rattle.vectors.specs.declared.choice.Sent.{Sent}
 use Rattle.reading.specs.declared.Outcome.{Outcome}
 use Rattle.reading.specs.declared.Outcome.the-variants.{Base, Experimental}

@@ -1,9 +1,5 @@
 -- The ways through the decision on a UAR and on a LIR.
-use Prim.Native.Nat.{ℕ}
-use mathlib.Core.Bool.{true, false, not, _&&_}
-use mathlib.Core.Path.{_≡_}
-use lib.Dec.{eqb}
-use borrow.Author.Tests.{eq-eqb, ne-eqb}
+use Rattle.octets.specs.Standard.{ℕ, true, false, not, _&&_, _≡_, eqb, eq-eqb, ne-eqb}
 use Rattle.reading.specs.declared.Outcome.the-variants.{Base, Experimental}
 use Rattle.choices.specs.Choices.{authorization, location}
 use Rattle.choices.specs.declared.choice.Asked.{Asked}

@@ -1,8 +1,5 @@
 -- The ways through the decision on a SAR and through its plan.
-use Prim.Native.Nat.{ℕ}
-use mathlib.Core.Bool.{Bool, true, false, not, _&&_, true≢false}
-use mathlib.Core.Path.{_≡_, ap, sym, _∙_}
-use borrow.Author.Tests.{eq-eqb, ne-eqb}
+use Rattle.octets.specs.Standard.{ℕ, Bool, true, false, not, _&&_, true≢false, _≡_, ap, sym, _∙_, eq-eqb, ne-eqb}
 use Rattle.reading.specs.declared.Outcome.{Outcome}
 use Rattle.reading.specs.declared.Outcome.the-variants.{Base, Experimental}
 use Rattle.choices.specs.Types.{asksOnly, carriesUser, effectOf}

@@ -1,11 +1,5 @@
 -- An assignment type by its number, a law for each way through the code.
-use Prim.Native.Nat.{ℕ, _<_, _≤_}
-use mathlib.Core.Bool.{Bool, true, false, cond, _||_}
-use mathlib.Core.Path.{_≡_}
-use mathlib.Core.Logic.{_⊎_, inl, inr}
-use native.Mathlib.Omega.{arith}
-use lib.Dec.{eqb, ltb}
-use borrow.Author.Tests.{le-leb, lt-leb, ne-eqb}
+use Rattle.octets.specs.Standard.{ℕ, _<_, _≤_, Bool, true, false, cond, _||_, _≡_, _⊎_, inl, inr, arith, eqb, ltb, le-leb, lt-leb, ne-eqb}
 use Rattle.reading.specs.declared.Outcome.the-variants.{Experimental}
 use Rattle.choices.specs.Types.{between, typeOf, allowed, keeping, leaving, effectOf}
 use Rattle.choices.specs.declared.types.AssignmentType.{AssignmentType}

@@ -1,16 +1,13 @@
 -- The word of a request that can be counted is its own: none of the first five, and below 145.
-use Prim.Native.Nat.{ℕ, _≤_, _<_}
-use native.Mathlib.Omega.{arith}
-use mathlib.Core.Bool.{Bool, true, false, cond}
-use lib.Dec.{eqb}
-use Rattle.counting.specs.Results.{rowOf}
+use Rattle.octets.specs.Standard.{ℕ, _≤_, _<_, arith, Bool, true, false, cond, eqb}
+use Rattle.counting.specs.Results.{commandRow}
 use Rattle.counting.specs.Counted.{cellOf, Fits}
 use Rattle.counting.specs.declared.Event.{Event}
 use Rattle.counting.specs.declared.Event.the-variants.{Answered, Refused}
 use Rattle.counting.proofs.Columns.{listed-column}
 
-pub row-few : (c : ℕ) → rowOf c ≤ 4
-unfolding rowOf
+pub row-few : (c : ℕ) → commandRow c ≤ 4
+unfolding commandRow
 row-few c = go (eqb c 300) (eqb c 301) (eqb c 302) (eqb c 303)
   where
     go : (p q r s : Bool) → cond p 0 (cond q 1 (cond r 2 (cond s 3 4))) ≤ 4

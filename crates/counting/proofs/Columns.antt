@@ -1,17 +1,14 @@
 -- The row and the column of a command and a result, as the code looks them up.
-use Prim.Native.Nat.{ℕ, _+_, _*_, _<_}
-use native.Mathlib.Omega.{arith}
-use mathlib.Core.Path.{_≡_, _∙_}
-use borrow.Author.Tests.{ne-eqb, ltb-true}
+use Rattle.octets.specs.Standard.{ℕ, _+_, _*_, _<_, arith, _≡_, _∙_, ne-eqb, ltb-true}
 use Rattle.reading.specs.declared.Outcome.{Outcome}
 use Rattle.reading.specs.declared.Outcome.the-variants.{Base, Experimental}
-use Rattle.counting.specs.Results.{baseResults, experimentalResults, indexIn, rowOf, columnOf, listed, Listed}
+use Rattle.counting.specs.Results.{baseResults, experimentalResults, indexIn, commandRow, columnOf, listed, Listed}
 use Rattle.counting.specs.Counted.{cellOf}
 use Rattle.counting.specs.declared.Entry.{Entry}
 use Rattle.counting.specs.declared.Event.the-variants.{Answered}
 
-pub row-other : (c : ℕ) → (c ≡ 300 → ⊥) → (c ≡ 301 → ⊥) → (c ≡ 302 → ⊥) → (c ≡ 303 → ⊥) → 4 ≡ rowOf c
-unfolding rowOf
+pub row-other : (c : ℕ) → (c ≡ 300 → ⊥) → (c ≡ 301 → ⊥) → (c ≡ 302 → ⊥) → (c ≡ 303 → ⊥) → 4 ≡ commandRow c
+unfolding commandRow
 row-other c h i j k = simp ne-eqb
 
 -- a number that is none of them
@@ -46,7 +43,7 @@ module _ (o : Outcome) (n : ℕ) {r : ℕ} where
   pub experimental-few : Listed o → o ≡ Experimental n → r ≡ indexIn n experimentalResults → 13 + r < 25
   experimental-few l e f = omega (arith, experimental-column e f, listed-column o l)
 
-module _ (e : Entry) {r k : ℕ} (f : r ≡ rowOf (e .command)) (g : k ≡ columnOf (e .result)) where
+module _ (e : Entry) {r k : ℕ} (f : r ≡ commandRow (e .command)) (g : k ≡ columnOf (e .result)) where
   pub cell-there : 20 + (25 * r + k) ≡ cellOf (Answered e)
   unfolding cellOf
   cell-there = rw (f, g)

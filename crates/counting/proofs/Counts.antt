@@ -1,18 +1,12 @@
 -- Requests counted one by one come to the numbers of the definitions.
-use Prim.Native.Nat.{ℕ, zero, suc, _+_, _%_, _^_, _<_, max}
-use native.Mathlib.Omega.{arith}
-use native.Mathlib.Nat.{mod-eq-of-lt, zero-max, max-zero, zero-add, add-zero}
-use mathlib.Core.Path.{_≡_, refl, sym, ap, _∙_}
-use mathlib.Core.List.{List, [], _∷_, _++_}
-use lib.ListN.{length, getD, length-replicate, getD-replicate}
-use lib.Seq.{ext-getD}
-use mathlib.Core.Bool.{Bool, true, false}
-use lib.Dec.{eqb}
-use borrow.Author.Tests.{eqb-true, eqb-false}
-use Rattle.counting.specs.Counted.{AllFit, alteredIn, largestIn, howMany, numberAt, wordAt, valuesBelow, countsOf, noCounts, counted, countedAll}
+use Rattle.octets.specs.Standard.{ℕ, zero, suc, _+_, _%_, _^_, _<_, max, arith, mod-eq-of-lt, zero-max, max-zero, zero-add, add-zero, _≡_, refl, sym}
+use Rattle.octets.specs.Standard.{ap, _∙_, List, [], _∷_, _++_, length, getD, length-replicate, getD-replicate, ext-getD, Bool, true, false, eqb}
+use Rattle.octets.specs.Standard.{eqb-true, eqb-false}
+use Rattle.counting.specs.Counted.{AllFit, alteredIn, largestIn, howMany, numberAt, wordAt, valuesBelow, countsOf, noCounts, counted}
+use Rattle.counting.specs.Counted.{countedAll}
 use Rattle.counting.specs.declared.Event.{Event}
 use Rattle.counting.proofs.Word.{counted-length, counted-at, counted-small, counted-largest}
-use Rattle.counting.proofs.Numbers.{number-more, word-largest, word-other}
+use Rattle.counting.proofs.Numbers.{each-word, number-cell, number-more, word-largest, word-other}
 
 pub all-length : (c : List ℕ) (es : List Event) → length (countedAll c es) ≡ length c
 unfolding countedAll
@@ -27,12 +21,9 @@ all-append c (e ∷ es) fs = all-append (counted c e) es fs
 
 number-none : (j : ℕ) → (j ≡ 3 → ⊥) → numberAt [] j ≡ 0
 unfolding numberAt alteredIn howMany
-number-none zero n = refl
-number-none (suc zero) n = refl
-number-none (suc (suc zero)) n = refl
-number-none (suc (suc (suc zero))) n = absurd (n refl)
-number-none (suc (suc (suc (suc zero)))) n = refl
-number-none (suc (suc (suc (suc (suc j))))) n = refl
+number-none =
+    each-word (λ (j : ℕ). (j ≡ 3 → ⊥) → numberAt [] j ≡ 0) (λ n. refl) (λ n. refl) (λ n. refl) (λ n. absurd (n refl)) (λ n. refl)
+    (λ j h n. number-cell [] j h)
 
 module _ (j : ℕ) (n : j ≡ 3 → ⊥) where
   all-at : (c : List ℕ) (es : List Event) → length c ≡ 145 → AllFit es → getD (countedAll c es) j 0 % 2 ^ 64 ≡ (getD c j 0 + numberAt es j) % 2 ^ 64

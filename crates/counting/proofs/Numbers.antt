@@ -1,28 +1,33 @@
 -- The numbers of a report, word by word: of one request more, of two rows of requests, and at most as many as were read.
-use Prim.Native.Nat.{ℕ, zero, suc, _+_, _%_, _^_, _≤_, _<_, max}
-use native.Mathlib.Omega.{arith}
-use native.Mathlib.Nat.{mod-eq-of-lt, zero-max}
-use native.Mathlib.Numerals.{add-five}
-use mathlib.Core.Bool.{Bool, true, false, cond}
-use mathlib.Core.Path.{_≡_, refl, sym, _∙_}
-use mathlib.Core.List.{List, [], _∷_, _++_}
-use lib.ListN.{length, length-append}
-use borrow.Author.Tests.{ne-eqb}
+use Rattle.octets.specs.Standard.{ℕ, zero, suc, _+_, _%_, _^_, _≤_, _<_, max, arith, mod-eq-of-lt, zero-max, Bool, true, false, cond, _≡_, refl, sym}
+use Rattle.octets.specs.Standard.{_∙_, List, [], _∷_, _++_, length, length-append, ne-eqb}
 use Rattle.counting.specs.Counted.{cellOf, Fits, isAnswered, standsIn, howMany, alteredIn, largestIn, numberAt, wordAt}
+use Rattle.counting.specs.Layout.{readWord, stopWord, alteredWord, largestWord, answeredWord}
 use Rattle.counting.specs.declared.Event.{Event}
 use Rattle.counting.specs.declared.Event.the-variants.{Answered, Refused}
 use Rattle.counting.proofs.Cells.{cell-above}
 use Rattle.counting.proofs.Word.{inWord, in-other, addedBy}
 
--- from word 5 on, a cell each
+-- What holds of each of the first five words and of every later one holds of every word.
+pub each-word : (P : ℕ → Type 0) → P readWord → P stopWord → P alteredWord → P largestWord → P answeredWord → ((i : ℕ) → 5 ≤ i → P i) → (i : ℕ) → P i
+each-word P read stop altered largest answered later zero = read
+each-word P read stop altered largest answered later (suc zero) = stop
+each-word P read stop altered largest answered later (suc (suc zero)) = altered
+each-word P read stop altered largest answered later (suc (suc (suc zero))) = largest
+each-word P read stop altered largest answered later (suc (suc (suc (suc zero)))) = answered
+each-word P read stop altered largest answered later (suc (suc (suc (suc (suc i))))) = later (suc (suc (suc (suc (suc i))))) (omega arith)
+
+-- from word 5 on, refusals and cells
 pub number-cell : (es : List Event) (i : ℕ) → 5 ≤ i → numberAt es i ≡ howMany (standsIn i) es
 unfolding numberAt
-number-cell es zero h = absurd (omega arith)
-number-cell es (suc zero) h = absurd (omega arith)
-number-cell es (suc (suc zero)) h = absurd (omega arith)
-number-cell es (suc (suc (suc zero))) h = absurd (omega arith)
-number-cell es (suc (suc (suc (suc zero)))) h = absurd (omega arith)
-number-cell es (suc (suc (suc (suc (suc i))))) h = rw (add-five i)
+number-cell es i h =
+    rw (
+      ne-eqb i readWord (omega arith),
+      ne-eqb i stopWord (omega arith),
+      ne-eqb i alteredWord (omega arith),
+      ne-eqb i largestWord (omega arith),
+      ne-eqb i answeredWord (omega arith),
+    )
 
 -- one request more
 cell-past : (e : Event) → Fits e → (j : ℕ) → j < 5 → inWord (cellOf e) 1 j ≡ 0
@@ -30,21 +35,24 @@ cell-past e f j h = in-other (cellOf e) 1 j (omega (arith, cell-above e f))
 
 pub number-more : (e : Event) (es : List Event) → Fits e → (j : ℕ) → (j ≡ 3 → ⊥) → numberAt (e ∷ es) j ≡ addedBy e j + numberAt es j
 unfolding numberAt addedBy howMany alteredIn
-number-more (Answered e) es f zero n = omega (arith, cell-past (Answered e) f 0 (omega arith))
-number-more (Answered e) es f (suc zero) n = omega (arith, cell-past (Answered e) f 1 (omega arith))
-number-more (Answered e) es f (suc (suc zero)) n = omega (arith, cell-past (Answered e) f 2 (omega arith))
-number-more (Answered e) es f (suc (suc (suc zero))) n = absurd (n refl)
-number-more (Answered e) es f (suc (suc (suc (suc zero)))) n = omega (arith, cell-past (Answered e) f 4 (omega arith))
-number-more (Answered e) es f (suc (suc (suc (suc (suc i))))) n =
-    let j : ℕ = suc (suc (suc (suc (suc i)))) in
-    rw (add-five i) (omega (arith, in-other 0 1 j (omega arith), in-other 2 (e .altered) j (omega arith), in-other 4 1 j (omega arith)))
-number-more (Refused k) es f zero n = omega (arith, cell-past (Refused k) f 0 (omega arith))
-number-more (Refused k) es f (suc zero) n = omega (arith, cell-past (Refused k) f 1 (omega arith))
-number-more (Refused k) es f (suc (suc zero)) n = omega (arith, cell-past (Refused k) f 2 (omega arith))
-number-more (Refused k) es f (suc (suc (suc zero))) n = absurd (n refl)
-number-more (Refused k) es f (suc (suc (suc (suc zero)))) n = omega (arith, cell-past (Refused k) f 4 (omega arith))
-number-more (Refused k) es f (suc (suc (suc (suc (suc i))))) n =
-    rw (add-five i) (omega (arith, in-other 0 1 (suc (suc (suc (suc (suc i))))) (omega arith)))
+number-more (Answered e) es f =
+    each-word (λ (j : ℕ). (j ≡ 3 → ⊥) → numberAt (Answered e ∷ es) j ≡ addedBy (Answered e) j + numberAt es j)
+    (λ n. omega (arith, cell-past (Answered e) f 0 (omega arith)))
+    (λ n. omega (arith, cell-past (Answered e) f 1 (omega arith)))
+    (λ n. omega (arith, cell-past (Answered e) f 2 (omega arith)))
+    (λ n. absurd (n refl))
+    (λ n. omega (arith, cell-past (Answered e) f 4 (omega arith)))
+    (λ j h n.
+    rw (number-cell (Answered e ∷ es) j h, number-cell es j h)
+    (omega (arith, in-other 0 1 j (omega arith), in-other 2 (e .altered) j (omega arith), in-other 4 1 j (omega arith))))
+number-more (Refused k) es f =
+    each-word (λ (j : ℕ). (j ≡ 3 → ⊥) → numberAt (Refused k ∷ es) j ≡ addedBy (Refused k) j + numberAt es j)
+    (λ n. omega (arith, cell-past (Refused k) f 0 (omega arith)))
+    (λ n. omega (arith, cell-past (Refused k) f 1 (omega arith)))
+    (λ n. omega (arith, cell-past (Refused k) f 2 (omega arith)))
+    (λ n. absurd (n refl))
+    (λ n. omega (arith, cell-past (Refused k) f 4 (omega arith)))
+    (λ j h n. rw (number-cell (Refused k ∷ es) j h, number-cell es j h) (omega (arith, in-other 0 1 j (omega arith))))
 
 -- two rows of requests
 many-append : (p : Event → Bool) (es fs : List Event) → howMany p (es ++ fs) ≡ howMany p es + howMany p fs
@@ -59,12 +67,14 @@ altered-append (e ∷ es) fs = omega (arith, altered-append es fs)
 
 pub number-append : (es fs : List Event) (j : ℕ) → (j ≡ 3 → ⊥) → numberAt (es ++ fs) j ≡ numberAt es j + numberAt fs j
 unfolding numberAt
-number-append es fs zero n = length-append es fs
-number-append es fs (suc zero) n = refl
-number-append es fs (suc (suc zero)) n = altered-append es fs
-number-append es fs (suc (suc (suc zero))) n = absurd (n refl)
-number-append es fs (suc (suc (suc (suc zero)))) n = many-append isAnswered es fs
-number-append es fs (suc (suc (suc (suc (suc i))))) n = many-append (standsIn (i + 5)) es fs
+number-append es fs =
+    each-word (λ (j : ℕ). (j ≡ 3 → ⊥) → numberAt (es ++ fs) j ≡ numberAt es j + numberAt fs j)
+    (λ n. length-append es fs)
+    (λ n. refl)
+    (λ n. altered-append es fs)
+    (λ n. absurd (n refl))
+    (λ n. many-append isAnswered es fs)
+    (λ j h n. rw (number-cell (es ++ fs) j h, number-cell es j h, number-cell fs j h) (many-append (standsIn j) es fs))
 
 pub largest-append : (es fs : List Event) → largestIn (es ++ fs) ≡ max (largestIn es) (largestIn fs)
 unfolding largestIn
@@ -83,12 +93,14 @@ many-few p (e ∷ es) = go (p e) (many-few p es)
 
 number-few : (es : List Event) (j : ℕ) → (j ≡ 2 → ⊥) → (j ≡ 3 → ⊥) → numberAt es j ≤ length es
 unfolding numberAt
-number-few es zero m n = omega arith
-number-few es (suc zero) m n = omega arith
-number-few es (suc (suc zero)) m n = absurd (m refl)
-number-few es (suc (suc (suc zero))) m n = absurd (n refl)
-number-few es (suc (suc (suc (suc zero)))) m n = many-few isAnswered es
-number-few es (suc (suc (suc (suc (suc i))))) m n = many-few (standsIn (i + 5)) es
+number-few es =
+    each-word (λ (j : ℕ). (j ≡ 2 → ⊥) → (j ≡ 3 → ⊥) → numberAt es j ≤ length es)
+    (λ m n. omega arith)
+    (λ m n. omega arith)
+    (λ m n. absurd (m refl))
+    (λ m n. absurd (n refl))
+    (λ m n. many-few isAnswered es)
+    (λ j h m n. rw (number-cell es j h) (many-few (standsIn j) es))
 
 pub word-largest : (es : List Event) → wordAt es 3 ≡ largestIn es
 unfolding wordAt

@@ -1,13 +1,11 @@
 -- Where requests are counted, computed from the definitions.
-use Prim.Native.Nat.{ℕ}
-use mathlib.Core.Bool.{false}
-use mathlib.Core.Path.{_≡_, refl}
-use mathlib.Core.List.{List, [], _∷_}
+use Rattle.octets.specs.Standard.{ℕ, false, _≡_, refl, List, [], _∷_}
 use Rattle.reading.specs.declared.Outcome.{Outcome}
 use Rattle.reading.specs.declared.Outcome.the-variants.{Base, Experimental}
-use Rattle.counting.specs.Results.{baseResults, experimentalResults, indexIn, rowOf, columnOf, listed}
+use Rattle.counting.specs.Results.{baseResults, experimentalResults, indexIn, commandRow, columnOf, listed}
 use Rattle.counting.specs.Counted.{cellOf, howMany, alteredIn, largestIn, numberAt}
-use Rattle.counting.specs.Totals.{sumFrom, rowTotals, refusalTotal}
+use Rattle.counting.specs.Layout.{readWord, alteredWord, largestWord, answeredWord, refusalWord, cellWord, sumFrom}
+use Rattle.counting.specs.Totals.{rowTotals, refusalTotal}
 use Rattle.counting.specs.declared.Event.{Event}
 use Rattle.counting.specs.declared.Event.the-variants.{Answered, Refused}
 
@@ -28,7 +26,7 @@ record Places : Type 0 where
   no-column : listed (Experimental 5012) ≡ false
 
 places : Places
-unfolding cellOf rowOf columnOf listed indexIn baseResults experimentalResults answer
+unfolding cellOf commandRow columnOf listed indexIn baseResults experimentalResults answer
 places =
     record {
       unable = refl;
@@ -52,18 +50,18 @@ four =
     ∷ []
 
 record Numbers : Type 0 where
-  read : numberAt four 0 ≡ 4
-  altered : numberAt four 2 ≡ 3
-  largest : numberAt four 3 ≡ 620
-  answered : numberAt four 4 ≡ 3
-  refused : numberAt four 6 ≡ 1
-  assigned : numberAt four 45 ≡ 1
-  located : numberAt four 70 ≡ 2
+  read : numberAt four readWord ≡ 4
+  altered : numberAt four alteredWord ≡ 3
+  largest : numberAt four largestWord ≡ 620
+  answered : numberAt four answeredWord ≡ 3
+  refused : numberAt four (refusalWord 2) ≡ 1
+  assigned : numberAt four (cellWord 1 0) ≡ 1
+  located : numberAt four (cellWord 2 0) ≡ 2
   rows : rowTotals four ≡ 3
   refusals : refusalTotal four ≡ 1
 
 numbers : Numbers
-unfolding numberAt howMany alteredIn largestIn sumFrom cellOf rowOf columnOf indexIn baseResults experimentalResults answer four
+unfolding numberAt howMany alteredIn largestIn sumFrom cellOf commandRow columnOf indexIn baseResults experimentalResults answer four
 numbers =
     record {
       read = refl;

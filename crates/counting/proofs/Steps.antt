@@ -1,8 +1,5 @@
 -- One request counted: the steps of the code.
-use Prim.Native.Nat.{ℕ, _+_, _%_, _^_, _≤_, max}
-use mathlib.Core.Path.{_≡_, ap, _∙_}
-use mathlib.Core.List.{List}
-use lib.ListN.{getD, set}
+use Rattle.octets.specs.Standard.{ℕ, _+_, _%_, _^_, _≤_, max, _≡_, ap, _∙_, List, getD, set}
 use Rattle.counting.specs.Results.{Listed}
 use Rattle.counting.specs.Counted.{cellOf, Fits, plus, larger, counted}
 use Rattle.counting.specs.declared.Entry.{Entry}

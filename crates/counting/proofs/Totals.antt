@@ -1,15 +1,9 @@
 -- "the row totals add up to the requests read".
-use Prim.Native.Nat.{ℕ, zero, suc, _+_, _≤_, _<_}
-use native.Mathlib.Omega.{arith}
-use native.Mathlib.Nat.{zero-add, suc-add, add-zero}
-use mathlib.Core.Bool.{Bool, true, false, cond}
-use mathlib.Core.Path.{_≡_, refl, _∙_}
-use mathlib.Core.List.{List, [], _∷_}
-use lib.ListN.{length}
-use lib.Dec.{eqb}
-use borrow.Author.Tests.{eqb-true, eqb-false, ne-eqb}
+use Rattle.octets.specs.Standard.{ℕ, zero, suc, _+_, _≤_, _<_, arith, zero-add, suc-add, add-zero, Bool, true, false, cond, _≡_, refl, _∙_, List, []}
+use Rattle.octets.specs.Standard.{_∷_, length, eqb, eqb-true, eqb-false, ne-eqb}
 use Rattle.counting.specs.Counted.{cellOf, Fits, AllFit, isAnswered, standsIn, howMany, numberAt}
-use Rattle.counting.specs.Totals.{sumFrom, rowTotals, refusalTotal}
+use Rattle.counting.specs.Layout.{sumFrom}
+use Rattle.counting.specs.Totals.{rowTotals, refusalTotal}
 use Rattle.counting.specs.declared.Event.{Event}
 use Rattle.counting.specs.declared.Event.the-variants.{Answered, Refused}
 use Rattle.counting.proofs.Cells.{cell-above, cell-below}
@@ -21,10 +15,10 @@ module _ (f g : ℕ → ℕ) where
   sum-add i zero = refl
   sum-add i (suc n) = omega (arith, sum-add (suc i) n)
 
-  sum-same : (i n : ℕ) → ((k : ℕ) → i ≤ k → f k ≡ g k) → sumFrom f i n ≡ sumFrom g i n
+  pub sum-alike : (i n : ℕ) → ((k : ℕ) → i ≤ k → k < i + n → f k ≡ g k) → sumFrom f i n ≡ sumFrom g i n
   unfolding sumFrom
-  sum-same i zero h = refl
-  sum-same i (suc n) h = omega (arith, h i (omega arith), sum-same (suc i) n (λ k l. h k (omega (arith, l))))
+  sum-alike i zero h = refl
+  sum-alike i (suc n) h = omega (arith, h i (omega arith) (omega arith), sum-alike (suc i) n (λ k l m. h k (omega arith) (omega arith)))
 
 sum-split : (f : ℕ → ℕ) (i m n : ℕ) → sumFrom f i (m + n) ≡ sumFrom f i m + sumFrom f (i + m) n
 unfolding sumFrom
@@ -105,7 +99,7 @@ module _ (es : List Event) (f : AllFit es) where
   -- the rows alone are the requests that were answered
   pub rows-answered : rowTotals es ≡ numberAt es 4
   unfolding numberAt
-  rows-answered = rows-cells ∙ sum-same (numberAt es) (cells es) 20 125 (λ k h. number-cell es k (omega (arith, h))) ∙ cells-answered es f
+  rows-answered = rows-cells ∙ sum-alike (numberAt es) (cells es) 20 125 (λ k h l. number-cell es k (omega arith)) ∙ cells-answered es f
 
   pub totals-read : rowTotals es + refusalTotal es ≡ length es
   totals-read =
@@ -113,6 +107,6 @@ module _ (es : List Event) (f : AllFit es) where
         arith,
         rows-cells,
         sum-split (numberAt es) 5 15 125,
-        sum-same (numberAt es) (cells es) 5 140 (number-cell es),
+        sum-alike (numberAt es) (cells es) 5 140 (λ k h l. number-cell es k h),
         cells-read es f,
       )

@@ -1,15 +1,8 @@
 -- One word where one request more is counted.
-use Prim.Native.Nat.{ℕ, _+_, _%_, _^_, _<_, max}
-use native.Mathlib.Omega.{arith}
-use native.Mathlib.Nat.{mod-lt, mod-mod, mod-add-mod, add-assoc, max-zero}
-use mathlib.Core.Bool.{Bool, true, false, cond}
-use mathlib.Core.Path.{_≡_, refl, sym, ap, _∙_}
-use mathlib.Core.List.{List}
-use lib.ListN.{length, getD, length-set}
-use lib.Seq.{getD-set-same, getD-set-other}
-use lib.Dec.{eqb}
-use borrow.Author.Tests.{eqb-true, eqb-false, ne-eqb}
+use Rattle.octets.specs.Standard.{ℕ, _+_, _%_, _^_, _<_, max, arith, mod-lt, mod-mod, mod-add-mod, add-assoc, max-zero, Bool, true, false, cond, _≡_}
+use Rattle.octets.specs.Standard.{refl, sym, ap, _∙_, List, length, getD, length-set, getD-set-same, getD-set-other, eqb, eqb-true, eqb-false, ne-eqb}
 use Rattle.counting.specs.Counted.{cellOf, Fits, answerLength, plus, larger, counted}
+use Rattle.counting.specs.declared.Entry.{Entry}
 use Rattle.counting.specs.declared.Event.{Event}
 use Rattle.counting.specs.declared.Event.the-variants.{Answered, Refused}
 use Rattle.counting.proofs.Cells.{cell-above, cell-below}
@@ -76,31 +69,47 @@ counted-length c (Answered e) = simp (plus-length, larger-length)
 counted-length c (Refused n) = simp plus-length
 
 module _ (c : List ℕ) (l : length c ≡ 145) where
+  -- the words after each step
+  abbrev c₁ : List ℕ
+  c₁ = plus 1 0 c
+
+  l₁ : length c₁ ≡ 145
+  l₁ = plus-length 1 0 c ∙ l
+
+  module _ (e : Entry) where
+    abbrev c₂ : List ℕ
+    c₂ = plus (e .altered) 2 c₁
+
+    abbrev c₃ : List ℕ
+    c₃ = larger (e .length) c₂
+
+    abbrev c₄ : List ℕ
+    c₄ = plus 1 4 c₃
+
+    l₂ : length c₂ ≡ 145
+    l₂ = plus-length (e .altered) 2 c₁ ∙ l₁
+
+    l₃ : length c₃ ≡ 145
+    l₃ = larger-length (e .length) c₂ ∙ l₂
+
+    l₄ : length c₄ ≡ 145
+    l₄ = plus-length 1 4 c₃ ∙ l₃
+
   pub counted-at : (e : Event) → Fits e → (j : ℕ) → (j ≡ 3 → ⊥) → getD (counted c e) j 0 % 2 ^ 64 ≡ (getD c j 0 + addedBy e j) % 2 ^ 64
   unfolding counted addedBy
   counted-at (Answered e) f j n =
-      let c₁ : List ℕ = plus 1 0 c in
-      let c₂ : List ℕ = plus (e .altered) 2 c₁ in
-      let c₃ : List ℕ = larger (e .length) c₂ in
-      let c₄ : List ℕ = plus 1 4 c₃ in
-      let l₁ : length c₁ ≡ 145 = plus-length 1 0 c ∙ l in
-      let l₂ : length c₂ ≡ 145 = plus-length (e .altered) 2 c₁ ∙ l₁ in
-      let l₃ : length c₃ ≡ 145 = larger-length (e .length) c₂ ∙ l₂ in
-      let l₄ : length c₄ ≡ 145 = plus-length 1 4 c₃ ∙ l₃ in
       let k₂ : ℕ = inWord 0 1 j + inWord 2 (e .altered) j in
-      let p₂ : getD c₂ j 0 % 2 ^ 64 ≡ (getD c j 0 + k₂) % 2 ^ 64 =
-      sum-then (getD c j 0) (inWord 0 1 j) (getD c₁ j 0) (inWord 2 (e .altered) j) (getD c₂ j 0)
+      let p₂ : getD (c₂ e) j 0 % 2 ^ 64 ≡ (getD c j 0 + k₂) % 2 ^ 64 =
+      sum-then (getD c j 0) (inWord 0 1 j) (getD c₁ j 0) (inWord 2 (e .altered) j) (getD (c₂ e) j 0)
       (plus-at 1 0 c j (omega (arith, l)))
       (plus-at (e .altered) 2 c₁ j (omega (arith, l₁))) in
-      let p₃ : getD c₃ j 0 % 2 ^ 64 ≡ (getD c j 0 + k₂) % 2 ^ 64 = rw (larger-other (e .length) c₂ j n) p₂ in
-      let p₄ : getD c₄ j 0 % 2 ^ 64 ≡ (getD c j 0 + (k₂ + inWord 4 1 j)) % 2 ^ 64 =
-      sum-then (getD c j 0) k₂ (getD c₃ j 0) (inWord 4 1 j) (getD c₄ j 0) p₃ (plus-at 1 4 c₃ j (omega (arith, l₃))) in
-      sum-then (getD c j 0) (k₂ + inWord 4 1 j) (getD c₄ j 0) (inWord (cellOf (Answered e)) 1 j) (getD (plus 1 (cellOf (Answered e)) c₄) j 0)
+      let p₃ : getD (c₃ e) j 0 % 2 ^ 64 ≡ (getD c j 0 + k₂) % 2 ^ 64 = rw (larger-other (e .length) (c₂ e) j n) p₂ in
+      let p₄ : getD (c₄ e) j 0 % 2 ^ 64 ≡ (getD c j 0 + (k₂ + inWord 4 1 j)) % 2 ^ 64 =
+      sum-then (getD c j 0) k₂ (getD (c₃ e) j 0) (inWord 4 1 j) (getD (c₄ e) j 0) p₃ (plus-at 1 4 (c₃ e) j (omega (arith, l₃ e))) in
+      sum-then (getD c j 0) (k₂ + inWord 4 1 j) (getD (c₄ e) j 0) (inWord (cellOf (Answered e)) 1 j) (getD (plus 1 (cellOf (Answered e)) (c₄ e)) j 0)
       p₄
-      (plus-at 1 (cellOf (Answered e)) c₄ j (omega (arith, l₄, cell-below (Answered e) f)))
+      (plus-at 1 (cellOf (Answered e)) (c₄ e) j (omega (arith, l₄ e, cell-below (Answered e) f)))
   counted-at (Refused k) f j n =
-      let c₁ : List ℕ = plus 1 0 c in
-      let l₁ : length c₁ ≡ 145 = plus-length 1 0 c ∙ l in
       sum-then (getD c j 0) (inWord 0 1 j) (getD c₁ j 0) (inWord (cellOf (Refused k)) 1 j) (getD (plus 1 (cellOf (Refused k)) c₁) j 0)
       (plus-at 1 0 c j (omega (arith, l)))
       (plus-at 1 (cellOf (Refused k)) c₁ j (omega (arith, l₁, cell-below (Refused k) f)))
@@ -108,34 +117,23 @@ module _ (c : List ℕ) (l : length c ≡ 145) where
   pub counted-small : (e : Event) → Fits e → (j : ℕ) → (j ≡ 3 → ⊥) → getD c j 0 < 2 ^ 64 → getD (counted c e) j 0 < 2 ^ 64
   unfolding counted
   counted-small (Answered e) f j n s =
-      let c₁ : List ℕ = plus 1 0 c in
-      let c₂ : List ℕ = plus (e .altered) 2 c₁ in
-      let c₃ : List ℕ = larger (e .length) c₂ in
-      let c₄ : List ℕ = plus 1 4 c₃ in
-      let l₁ : length c₁ ≡ 145 = plus-length 1 0 c ∙ l in
-      let l₂ : length c₂ ≡ 145 = plus-length (e .altered) 2 c₁ ∙ l₁ in
-      let l₃ : length c₃ ≡ 145 = larger-length (e .length) c₂ ∙ l₂ in
-      let l₄ : length c₄ ≡ 145 = plus-length 1 4 c₃ ∙ l₃ in
       let s₁ : getD c₁ j 0 < 2 ^ 64 = plus-small 1 0 c j (omega (arith, l)) s in
-      let s₂ : getD c₂ j 0 < 2 ^ 64 = plus-small (e .altered) 2 c₁ j (omega (arith, l₁)) s₁ in
-      let s₃ : getD c₃ j 0 < 2 ^ 64 = rw (larger-other (e .length) c₂ j n) s₂ in
-      let s₄ : getD c₄ j 0 < 2 ^ 64 = plus-small 1 4 c₃ j (omega (arith, l₃)) s₃ in
-      plus-small 1 (cellOf (Answered e)) c₄ j (omega (arith, l₄, cell-below (Answered e) f)) s₄
+      let s₂ : getD (c₂ e) j 0 < 2 ^ 64 = plus-small (e .altered) 2 c₁ j (omega (arith, l₁)) s₁ in
+      let s₃ : getD (c₃ e) j 0 < 2 ^ 64 = rw (larger-other (e .length) (c₂ e) j n) s₂ in
+      let s₄ : getD (c₄ e) j 0 < 2 ^ 64 = plus-small 1 4 (c₃ e) j (omega (arith, l₃ e)) s₃ in
+      plus-small 1 (cellOf (Answered e)) (c₄ e) j (omega (arith, l₄ e, cell-below (Answered e) f)) s₄
   counted-small (Refused k) f j n s =
-      let l₁ : length (plus 1 0 c) ≡ 145 = plus-length 1 0 c ∙ l in
-      plus-small 1 (cellOf (Refused k)) (plus 1 0 c) j (omega (arith, l₁, cell-below (Refused k) f)) (plus-small 1 0 c j (omega (arith, l)) s)
+      plus-small 1 (cellOf (Refused k)) c₁ j (omega (arith, l₁, cell-below (Refused k) f)) (plus-small 1 0 c j (omega (arith, l)) s)
 
   -- the largest answer
   pub counted-largest : (e : Event) → Fits e → getD (counted c e) 3 0 ≡ max (getD c 3 0) (answerLength e)
   unfolding counted larger
   counted-largest (Answered e) f =
-      let c₂ : List ℕ = plus (e .altered) 2 (plus 1 0 c) in
-      let l₂ : length c₂ ≡ 145 = plus-length (e .altered) 2 (plus 1 0 c) ∙ plus-length 1 0 c ∙ l in
-      plus-other 1 (cellOf (Answered e)) (plus 1 4 (larger (e .length) c₂)) 3 (omega (arith, cell-above (Answered e) f))
-      ∙ plus-other 1 4 (larger (e .length) c₂) 3 (omega arith)
-      ∙ getD-set-same c₂ 3 (max (getD c₂ 3 0) (e .length)) 0 (omega (arith, l₂))
-      ∙ rw (plus-other (e .altered) 2 (plus 1 0 c) 3 (omega arith), plus-other 1 0 c 3 (omega arith))
+      plus-other 1 (cellOf (Answered e)) (c₄ e) 3 (omega (arith, cell-above (Answered e) f))
+      ∙ plus-other 1 4 (c₃ e) 3 (omega arith)
+      ∙ getD-set-same (c₂ e) 3 (max (getD (c₂ e) 3 0) (e .length)) 0 (omega (arith, l₂ e))
+      ∙ rw (plus-other (e .altered) 2 c₁ 3 (omega arith), plus-other 1 0 c 3 (omega arith))
   counted-largest (Refused k) f =
-      plus-other 1 (cellOf (Refused k)) (plus 1 0 c) 3 (omega (arith, cell-above (Refused k) f))
+      plus-other 1 (cellOf (Refused k)) c₁ 3 (omega (arith, cell-above (Refused k) f))
       ∙ plus-other 1 0 c 3 (omega arith)
       ∙ sym (max-zero (getD c 3 0))

@@ -1,17 +1,18 @@
 -- "how many; for each refusal, how many; records altered, once per request; and the largest answer": the words of a report over requests that were read.
-use Prim.Native.Nat.{ℕ, zero, suc, _+_, _*_, _%_, _^_, _≤_, max}
+use Prim.Native.Nat.{ℕ, zero, suc, _+_, _%_, _^_, _≤_, max}
 use mathlib.Core.Bool.{Bool, true, false, cond}
 use mathlib.Core.List.{List, [], _∷_}
 use lib.ListN.{length, getD, set, replicate}
 use lib.Dec.{eqb}
-use Rattle.counting.specs.Results.{rowOf, columnOf, Listed}
+use Rattle.counting.specs.Layout.{readWord, stopWord, alteredWord, largestWord, answeredWord, refusalWord, cellWord}
+use Rattle.counting.specs.Results.{commandRow, columnOf, Listed}
 use Rattle.counting.specs.declared.Event.{Event}
 use Rattle.counting.specs.declared.Event.the-variants.{Answered, Refused}
 
--- the word that a request is counted in: 5 to 19 by its refusal, from 20 on by its command and result
+-- the word that a request is counted in: by its command and result, or by its refusal
 unfoldable pub cellOf : Event → ℕ
-cellOf (Answered e) = 20 + (25 * rowOf (e .command) + columnOf (e .result))
-cellOf (Refused n) = 4 + n
+cellOf (Answered e) = cellWord (commandRow (e .command)) (columnOf (e .result))
+cellOf (Refused n) = refusalWord n
 
 -- what can be counted: a result that has a column, a refusal that has a word
 abbrev pub Fits : Event → Type 0
@@ -51,18 +52,18 @@ unfoldable pub largestIn : List Event → ℕ
 largestIn [] = 0
 largestIn (e ∷ es) = max (answerLength e) (largestIn es)
 
--- the numbers of a report: requests read, the place (put in at the end), records altered, the largest answer, answered, and then a cell each
+-- the number of each word: what it counts, and of a refusal or a cell how many requests stand in it; where reading stopped is put in at the end
 unfoldable pub numberAt : List Event → ℕ → ℕ
-numberAt es zero = length es
-numberAt es (suc zero) = 0
-numberAt es (suc (suc zero)) = alteredIn es
-numberAt es (suc (suc (suc zero))) = largestIn es
-numberAt es (suc (suc (suc (suc zero)))) = howMany isAnswered es
-numberAt es (suc (suc (suc (suc (suc i))))) = howMany (standsIn (i + 5)) es
+numberAt es i =
+    cond (eqb i readWord) (length es)
+    (cond (eqb i stopWord) 0
+    (cond (eqb i alteredWord) (alteredIn es)
+    (cond (eqb i largestWord) (largestIn es)
+    (cond (eqb i answeredWord) (howMany isAnswered es) (howMany (standsIn i) es)))))
 
 -- "Counts of 64 bits": a sum has its remainder there, and the largest answer is no sum
 unfoldable pub wordAt : List Event → ℕ → ℕ
-wordAt es i = cond (eqb i 3) (largestIn es) (numberAt es i % 2 ^ 64)
+wordAt es i = cond (eqb i largestWord) (largestIn es) (numberAt es i % 2 ^ 64)
 
 -- the first n values of a function
 unfoldable pub valuesBelow : (ℕ → ℕ) → ℕ → ℕ → List ℕ
@@ -76,17 +77,17 @@ countsOf es = valuesBelow (wordAt es) 0 145
 abbrev pub noCounts : List ℕ
 noCounts = replicate 145 0
 
--- so many more in word i; the larger in word 3
+-- so many more in word i; the larger of two answers
 unfoldable pub plus : ℕ → ℕ → List ℕ → List ℕ
 plus a i c = set c i ((getD c i 0 + a) % 2 ^ 64)
 
 unfoldable pub larger : ℕ → List ℕ → List ℕ
-larger n c = set c 3 (max (getD c 3 0) n)
+larger n c = set c largestWord (max (getD c largestWord 0) n)
 
 -- one request more
 unfoldable pub counted : List ℕ → Event → List ℕ
-counted c (Answered e) = plus 1 (cellOf (Answered e)) (plus 1 4 (larger (e .length) (plus (e .altered) 2 (plus 1 0 c))))
-counted c (Refused n) = plus 1 (cellOf (Refused n)) (plus 1 0 c)
+counted c (Answered e) = plus 1 (cellOf (Answered e)) (plus 1 answeredWord (larger (e .length) (plus (e .altered) alteredWord (plus 1 readWord c))))
+counted c (Refused n) = plus 1 (cellOf (Refused n)) (plus 1 readWord c)
 
 unfoldable pub countedAll : List ℕ → List Event → List ℕ
 countedAll c [] = c

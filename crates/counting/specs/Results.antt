@@ -20,8 +20,8 @@ unfoldable pub indexIn : ℕ → List ℕ → ℕ
 indexIn n [] = 0
 indexIn n (x ∷ xs) = cond (eqb n x) 0 (suc (indexIn n xs))
 
-unfoldable pub rowOf : ℕ → ℕ
-rowOf c = cond (eqb c 300) 0 (cond (eqb c 301) 1 (cond (eqb c 302) 2 (cond (eqb c 303) 3 4)))
+unfoldable pub commandRow : ℕ → ℕ
+commandRow c = cond (eqb c 300) 0 (cond (eqb c 301) 1 (cond (eqb c 302) 2 (cond (eqb c 303) 3 4)))
 
 -- the columns of B come first
 unfoldable pub columnOf : Outcome → ℕ

@@ -14,6 +14,6 @@ longBytes n =
     ∷ (n % 256)
     ∷ []
 
-unfoldable pub bytesOf : List ℕ → List ℕ
-bytesOf [] = []
-bytesOf (w ∷ ws) = longBytes w ++ bytesOf ws
+unfoldable pub wordsBytes : List ℕ → List ℕ
+wordsBytes [] = []
+wordsBytes (w ∷ ws) = longBytes w ++ wordsBytes ws

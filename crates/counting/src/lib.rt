@@ -82,7 +82,7 @@ fn cell_of(e: Entry) -> usize
     ensures { λ r. ⌜ (r ≡ cellOf (Answered e)) × (r < 145) ⌝ }
 {
     let result = e.result;
-    CELLS_AT + (COLUMNS * results::row_of(e.command) + results::column_of(result))
+    CELLS_AT + (COLUMNS * results::command_row(e.command) + results::column_of(result))
 }
 
 fn count_answered(counts: &mut [u64; WORDS], e: Entry)

@@ -4,14 +4,14 @@ use reading::base;
 use reading::experimental;
 ghost use mathlib.Core.Path.{_≡_};
 ghost use Prim.Native.Nat.{_≤_, _<_};
-ghost use Rattle.counting.specs.Results.{baseResults, experimentalResults, indexIn, rowOf, columnOf, Listed};
+ghost use Rattle.counting.specs.Results.{baseResults, experimentalResults, indexIn, commandRow, columnOf, Listed};
 
 // The columns of X come after those of B.
 const EXPERIMENTAL_AT: usize = 13;
 
 // The row of a command, and of every other the last.
-pub fn row_of(command: usize) -> usize
-    ensures { λ r. ⌜ (r ≡ rowOf command) × (r ≤ 4) ⌝ }
+pub fn command_row(command: usize) -> usize
+    ensures { λ r. ⌜ (r ≡ commandRow command) × (r ≤ 4) ⌝ }
 {
     match command {
         reading::UAR => 0,

@@ -4,7 +4,7 @@ ghost use mathlib.Core.Path.{_≡_};
 ghost use Prim.Native.Nat.{_≤_};
 ghost use lib.ListN.{length};
 ghost use Rattle.octets.specs.Run.{Wrote};
-ghost use Rattle.counting.specs.Words.{longBytes, bytesOf};
+ghost use Rattle.counting.specs.Words.{longBytes, wordsBytes};
 
 // One word, the highest byte first.
 fn put_long(out: &mut [u8], n: u64)
@@ -24,7 +24,7 @@ fn put_long(out: &mut [u8], n: u64)
 // All words, to the front of a report area; what is past them stays.
 pub fn put_words(area: &mut [u8], counts: &[u64; WORDS])
     requires { ⌜ (length (now counts) ≡ 145) × (1160 ≤ length (now area)) ⌝ }
-    ensures { λ _. ⌜ Wrote (bytesOf (now (counts .entry))) (now (area .entry)) (now (area .exit)) 1160 ⌝ }
+    ensures { λ _. ⌜ Wrote (wordsBytes (now (counts .entry))) (now (area .entry)) (now (area .exit)) 1160 ⌝ }
 {
     for i in 0..WORDS {
         put_long(&mut area[8 * i..], counts[i]);

@@ -1,12 +1,5 @@
 -- The plan of each command, and what carrying it out leaves.
-use Prim.Native.Nat.{ℕ, _+_, _*_, _≤_}
-use mathlib.Core.List.{List, [], _∷_}
-use mathlib.Core.Bool.{Bool, true, false}
-use mathlib.Core.Path.{_≡_, refl, sym, _∙_}
-use native.Mathlib.Omega.{arith}
-use lib.ListN.{length}
-use lib.Dec.{eqb}
-use borrow.Author.Tests.{ne-eqb}
+use Rattle.octets.specs.Standard.{ℕ, _≤_, List, [], _∷_, Bool, true, false, _≡_, sym, _∙_, arith, length, eqb}
 use Rattle.record.specs.Fields.{keepOf}
 use Rattle.blocks.specs.Blocks.{blockOf}
 use Rattle.table.specs.SoundTable.{SoundTable}
@@ -15,13 +8,14 @@ use Rattle.vectors.specs.Chosen.{sentOf}
 use Rattle.vectors.specs.Marked.{spent}
 use Rattle.vectors.specs.declared.choice.Sent.{Sent}
 use Rattle.rewrite.specs.Change.{afterOf, reaches, alteredUpTo}
-use Rattle.rewrite.specs.Renew.{settled, challenged, Fitting, changeOf, ChangeFits}
+use Rattle.rewrite.specs.Renew.{settled, Fitting, changeOf, ChangeFits}
 use Rattle.rewrite.specs.declared.Change.{Change}
 use Rattle.rewrite.specs.declared.Change.the-variants.{Challenged}
 use Rattle.rewrite.proofs.Counts.{altered-none}
-use Rattle.reading.specs.Kinds.{userName, publicIdentity, visitedNetwork, serverName, assignmentType, dataAvailable, authorizationType, numberAuthItems}
+use Rattle.reading.specs.Kinds.{userName, publicIdentity, visitedNetwork, serverName, assignmentType, dataAvailable, authorizationType}
+use Rattle.reading.specs.Kinds.{numberAuthItems}
 use Rattle.reading.specs.Rules.{Seen}
-use Rattle.diameter.specs.Message.{commandOf, bodyOf}
+use Rattle.diameter.specs.Message.{bodyOf}
 use Rattle.requests.specs.Request.{given, dataSeen, valueSeen, schemeOf, identities}
 use Rattle.choices.specs.Types.{typeOf}
 use Rattle.choices.specs.Plans.{only}
@@ -32,13 +26,13 @@ use Rattle.choices.specs.declared.plan.Settling.{Settling}
 use Rattle.choices.specs.declared.plan.Deed.{Deed}
 use Rattle.choices.specs.declared.plan.Deed.the-variants.{Leave, Settle, Challenge}
 use Rattle.choices.specs.declared.plan.Plan.{Plan}
-use Rattle.decisions.specs.Authentication.{authenticate}
-use Rattle.decisions.specs.Authorization.{authorize}
-use Rattle.decisions.specs.Location.{locate}
+use Rattle.questions.specs.Authentication.{authenticate}
+use Rattle.questions.specs.Authorization.{authorize}
+use Rattle.questions.specs.Location.{locate}
 use Rattle.assignment.specs.Assignment.{findAll, numbersOf, ownedUpTo, assign, storedName, plannedRecords}
 use Rattle.assignment.specs.Survey.{sarOf}
-use Rattle.fitting.specs.Decide.{numbersIn, assignmentOf, uarPlan, sarPlan, lirPlan, marPlan, planRead}
-use Rattle.fitting.specs.Deeds.{carriedOut, spentBy, DeedFits}
+use Rattle.deciding.specs.Plans.{numbersIn, assignmentOf, uarPlan, sarPlan, lirPlan, marPlan}
+use Rattle.deciding.specs.Deeds.{carriedOut, spentBy, DeedFits}
 
 pub numbers-read : (t : List ℕ) (seen : Seen) {n already : ℕ} {kind : AssignmentType} {named keep : Bool} → n ≡ valueSeen seen assignmentType → kind ≡ typeOf n
     → already ≡ valueSeen seen dataAvailable → named ≡ given seen userName → keep ≡ eqb (keepOf (blockOf t 0)) 1
@@ -71,56 +65,38 @@ module _ (req t : List ℕ) (count : ℕ) (v : List ℕ) (seen : Seen) {p : Plan
   unfolding marPlan
   mar-planned a b d e q = q ∙ rw (a, b, d, e)
 
-  -- by the command
-  module _ {c : ℕ} (command : c ≡ commandOf req) where
-    pub plan-uar : c ≡ 300 → p ≡ uarPlan t count seen → p ≡ planRead req t count v seen
-    unfolding planRead
-    plan-uar a q = rw (← command, a) q
-
-    pub plan-sar : c ≡ 301 → p ≡ sarPlan req t count seen → p ≡ planRead req t count v seen
-    unfolding planRead
-    plan-sar a q = rw (← command, a) q
-
-    pub plan-lir : c ≡ 302 → p ≡ lirPlan t count seen → p ≡ planRead req t count v seen
-    unfolding planRead
-    plan-lir a q = rw (← command, a) q
-
-    pub plan-mar : (c ≡ 300 → ⊥) → (c ≡ 301 → ⊥) → (c ≡ 302 → ⊥) → p ≡ marPlan t count v seen → p ≡ planRead req t count v seen
-    unfolding planRead
-    plan-mar a b d q = rw (← command, ne-eqb c 300 a, ne-eqb c 301 b, ne-eqb c 302 d) q
-
 -- What is left of the table.
 module _ (t : List ℕ) (count : ℕ) (req : List ℕ) (seen : Seen) where
   module _ (w : Settling) where
     pub settled-owned : {name server user y : List ℕ} → name ≡ dataSeen seen serverName → server ≡ storedName (w .named) name → user ≡ dataSeen seen userName
         → w .owned ≡ true → y ≡ afterOf t count (reaches t (ownedUpTo t user count)) (settled (w .state) server)
-        → y ≡ carriedOut t count (assignmentOf t seen req) (Settle w)
+        → y ≡ carriedOut req t count seen (Settle w)
     unfolding carriedOut plannedRecords assignmentOf
     settled-owned a b c e f = rw e (f ∙ rw (b, a, c))
 
     pub settled-named : {name server y : List ℕ} → name ≡ dataSeen seen serverName → server ≡ storedName (w .named) name → w .owned ≡ false
         → y ≡ afterOf t count (reaches t (numbersOf (findAll t count (identities (bodyOf req))))) (settled (w .state) server)
-        → y ≡ carriedOut t count (assignmentOf t seen req) (Settle w)
+        → y ≡ carriedOut req t count seen (Settle w)
     unfolding carriedOut plannedRecords assignmentOf
     settled-named a b e f = rw e (f ∙ rw (b, a))
 
   pub challenged-set : (k : ℕ) {c : Change} {name y : List ℕ} → c ≡ Challenged → name ≡ dataSeen seen serverName
-      → y ≡ afterOf t count (reaches t (k ∷ [])) (changeOf c name) → y ≡ carriedOut t count (assignmentOf t seen req) (Challenge k)
+      → y ≡ afterOf t count (reaches t (k ∷ [])) (changeOf c name) → y ≡ carriedOut req t count seen (Challenge k)
   unfolding carriedOut assignmentOf changeOf
   challenged-set k b e f = f ∙ rw (b, e)
 
   -- by the deed
   module _ (d : Deed) where
-    pub done-leave : d ≡ Leave → t ≡ carriedOut t count (assignmentOf t seen req) d
+    pub done-leave : d ≡ Leave → t ≡ carriedOut req t count seen d
     unfolding carriedOut
     done-leave e = rw e
 
-    pub done-settle : (w : Settling) {y : List ℕ} → d ≡ Settle w → y ≡ carriedOut t count (assignmentOf t seen req) (Settle w)
-        → y ≡ carriedOut t count (assignmentOf t seen req) d
+    pub done-settle : (w : Settling) {y : List ℕ} → d ≡ Settle w → y ≡ carriedOut req t count seen (Settle w)
+        → y ≡ carriedOut req t count seen d
     done-settle w e f = rw e f
 
-    pub done-challenge : (k : ℕ) {y : List ℕ} → d ≡ Challenge k → y ≡ carriedOut t count (assignmentOf t seen req) (Challenge k)
-        → y ≡ carriedOut t count (assignmentOf t seen req) d
+    pub done-challenge : (k : ℕ) {y : List ℕ} → d ≡ Challenge k → y ≡ carriedOut req t count seen (Challenge k)
+        → y ≡ carriedOut req t count seen d
     done-challenge k e f = rw e f
 
 pub left-counts : (t : List ℕ) (count : ℕ) → 0 ≡ alteredUpTo t t count

@@ -1,2 +1,6 @@
 pub mod Answers
+pub mod Decide
+pub mod Deeds
 pub mod Passed
+pub mod Plans
+pub mod Rules

@@ -19,8 +19,7 @@ ghost use Rattle.reading.specs.Kinds.{serverName};
 ghost use Rattle.reading.specs.Places.{seenOf};
 ghost use Rattle.requests.specs.Request.{dataSeen};
 ghost use Rattle.assignment.specs.Assignment.{storedName};
-ghost use Rattle.fitting.specs.Decide.{assignmentOf};
-ghost use Rattle.fitting.specs.Deeds.{carriedOut, spentBy, DeedFits};
+ghost use Rattle.deciding.specs.Deeds.{carriedOut, spentBy, DeedFits};
 
 // The server name that a record gets.
 fn stored(named: bool, server: &[u8]) -> &[u8]
@@ -32,8 +31,7 @@ fn stored(named: bool, server: &[u8]) -> &[u8]
 // A row of the table of effects. Answers how many records have other bytes then.
 fn settle(t: &mut [u8], count: usize, req: &[u8], found: [usize; kinds::KINDS], w: Settling) -> u32
     requires { ⌜ SoundTable (now t) count × Fitting (w .state) (storedName (w .named) (dataSeen (seenOf (now req) found) serverName)) ⌝ }
-    ensures { λ r. ⌜ (now (t .exit) ≡ carriedOut (now (t .entry)) count
-        (assignmentOf (now (t .entry)) (seenOf (now (req .entry)) found) (now (req .entry))) (Deed.Settle w))
+    ensures { λ r. ⌜ (now (t .exit) ≡ carriedOut (now (req .entry)) (now (t .entry)) count (seenOf (now (req .entry)) found) (Deed.Settle w))
         × (r ≡ alteredUpTo (now (t .entry)) (now (t .exit)) count) ⌝ }
 {
     let server = stored(w.named, places::data_of(req, found, kinds::SERVER_NAME));
@@ -47,8 +45,7 @@ fn settle(t: &mut [u8], count: usize, req: &[u8], found: [usize; kinds::KINDS], 
 // The name that goes with a challenge, in the record and in those of its set. Answers the same.
 fn challenge(t: &mut [u8], count: usize, req: &[u8], found: [usize; kinds::KINDS], k: u32) -> u32
     requires { ⌜ SoundTable (now t) count × DeedFits count (dataSeen (seenOf (now req) found) serverName) (Deed.Challenge k) ⌝ }
-    ensures { λ r. ⌜ (now (t .exit) ≡ carriedOut (now (t .entry)) count
-        (assignmentOf (now (t .entry)) (seenOf (now (req .entry)) found) (now (req .entry))) (Deed.Challenge k))
+    ensures { λ r. ⌜ (now (t .exit) ≡ carriedOut (now (req .entry)) (now (t .entry)) count (seenOf (now (req .entry)) found) (Deed.Challenge k))
         × (r ≡ alteredUpTo (now (t .entry)) (now (t .exit)) count) ⌝ }
 {
     let server = places::data_of(req, found, kinds::SERVER_NAME);
@@ -58,8 +55,7 @@ fn challenge(t: &mut [u8], count: usize, req: &[u8], found: [usize; kinds::KINDS
 // The records. Answers the same.
 fn carry_out(t: &mut [u8], count: usize, req: &[u8], found: [usize; kinds::KINDS], d: Deed) -> u32
     requires { ⌜ SoundTable (now t) count × DeedFits count (dataSeen (seenOf (now req) found) serverName) d ⌝ }
-    ensures { λ r. ⌜ (now (t .exit) ≡ carriedOut (now (t .entry)) count
-        (assignmentOf (now (t .entry)) (seenOf (now (req .entry)) found) (now (req .entry))) d)
+    ensures { λ r. ⌜ (now (t .exit) ≡ carriedOut (now (req .entry)) (now (t .entry)) count (seenOf (now (req .entry)) found) d)
         × (r ≡ alteredUpTo (now (t .entry)) (now (t .exit)) count) ⌝ }
 {
     match d {
@@ -92,8 +88,7 @@ pub fn carry(
 ) -> u32
     requires { ⌜ SoundTable (now t) count × SoundVectors (now v) × DeedFits count (dataSeen (seenOf (now req) found) serverName) (p .deed)
         × Sendable (now v) (p .given .sent) ⌝ }
-    ensures { λ r. ⌜ (now (t .exit) ≡ carriedOut (now (t .entry)) count
-        (assignmentOf (now (t .entry)) (seenOf (now (req .entry)) found) (now (req .entry))) (p .deed))
+    ensures { λ r. ⌜ (now (t .exit) ≡ carriedOut (now (req .entry)) (now (t .entry)) count (seenOf (now (req .entry)) found) (p .deed))
         × (now (v .exit) ≡ spentBy (now (v .entry)) (p .given .sent) (p .deed))
         × (r ≡ alteredUpTo (now (t .entry)) (now (t .exit)) count) ⌝ }
 {

@@ -2,25 +2,29 @@
 pub mod doing;
 pub mod planning;
 
+use answering::Ground;
 use choices::giving;
 use reading::Outcome;
 use reading::Verdict;
 use reading::kinds;
+use requests::Walked;
 ghost use mathlib.Core.Path.{_≡_};
 ghost use Prim.Native.Nat.{_≤_};
 ghost use Rattle.table.specs.SoundTable.{SoundTable};
 ghost use Rattle.vectors.specs.VectorFile.{SoundVectors};
 ghost use Rattle.reading.specs.Places.{seenOf};
 ghost use Rattle.requests.specs.Judged.{bad, fine};
-ghost use Rattle.requests.specs.Request.{readRequest};
-ghost use Rattle.fitting.specs.Decide.{decide};
+ghost use Rattle.requests.specs.Request.{readIn};
+ghost use Rattle.deciding.specs.Decide.{decide};
 ghost use Rattle.deciding.specs.Passed.{Passed};
 ghost use Rattle.deciding.specs.Answers.{Tells};
 
-// What is said of an answer: its length, and the place of the AVP at fault, 0 where none is; its result, and how many records have other bytes then.
+// What is said of an answer: its length, and the place of the AVP at fault, 0 where none is; the request's command, the answer's result, and how many
+// records have other bytes then.
 pub struct Told {
     pub length: u32,
     pub place: u16,
+    pub command: usize,
     pub result: Outcome,
     pub altered: u32,
 }
@@ -32,20 +36,24 @@ fn answer_fault(
     t: &[u8],
     file: &[u8],
     v: &[u8],
-    count: usize,
+    ground: Ground,
     f: Verdict,
 ) -> Told
-    requires { ⌜ Passed (now req) (now out) × SoundTable (now t) count × SoundVectors (now v) × (readRequest (now req) ≡ bad f) × (f .place ≤ 16384) ⌝ }
-    ensures { λ r. ⌜ Tells (now (req .entry)) (now (t .entry)) count (now (file .entry)) (now (v .entry)) (now (out .entry)) (now (out .exit)) r
-        × (now (t .entry) ≡ decide (now (req .entry)) (now (t .entry)) count (now (v .entry)) .table)
-        × (now (v .entry) ≡ decide (now (req .entry)) (now (t .entry)) count (now (v .entry)) .vectors) ⌝ }
+    requires { ⌜ Passed (now req) (now out) × SoundTable (now t) (ground .count) × SoundVectors (now v)
+        × (readIn (ground .dialect) (now req) ≡ bad f) × (f .place ≤ 16384) ⌝ }
+    ensures { λ r. ⌜ Tells (ground .dialect) (now (req .entry)) (now (t .entry)) (ground .count) (now (file .entry)) (now (v .entry))
+        (now (out .entry)) (now (out .exit)) r
+        × (now (t .entry) ≡ decide (ground .dialect) (now (req .entry)) (now (t .entry)) (ground .count) (now (v .entry)) .table)
+        × (now (v .entry) ≡ decide (ground .dialect) (now (req .entry)) (now (t .entry)) (ground .count) (now (v .entry)) .vectors) ⌝ }
 {
+    let dialect = ground.dialect;
     let place = f.place;
     let result = f.result;
-    let length = answering::answer(out, req, t, file, v, count, giving::faulty(f));
+    let length = answering::answer(out, req, t, file, v, ground, giving::faulty(f));
     Told {
         length: length as u32,
         place: place as u16,
+        command: dialect.command,
         result,
         altered: 0,
     }
@@ -58,47 +66,52 @@ fn answer_read(
     t: &mut [u8],
     file: &[u8],
     v: &mut [u8],
-    count: usize,
+    ground: Ground,
     found: [usize; kinds::KINDS],
 ) -> Told
-    requires { ⌜ Passed (now req) (now out) × SoundTable (now t) count × SoundVectors (now v) × (readRequest (now req) ≡ fine (seenOf (now req) found)) ⌝ }
-    ensures { λ r. ⌜ Tells (now (req .entry)) (now (t .entry)) count (now (file .entry)) (now (v .entry)) (now (out .entry)) (now (out .exit)) r
-        × (now (t .exit) ≡ decide (now (req .entry)) (now (t .entry)) count (now (v .entry)) .table)
-        × (now (v .exit) ≡ decide (now (req .entry)) (now (t .entry)) count (now (v .entry)) .vectors) ⌝ }
+    requires { ⌜ Passed (now req) (now out) × SoundTable (now t) (ground .count) × SoundVectors (now v)
+        × (readIn (ground .dialect) (now req) ≡ fine (seenOf (now req) found)) ⌝ }
+    ensures { λ r. ⌜ Tells (ground .dialect) (now (req .entry)) (now (t .entry)) (ground .count) (now (file .entry)) (now (v .entry))
+        (now (out .entry)) (now (out .exit)) r
+        × (now (t .exit) ≡ decide (ground .dialect) (now (req .entry)) (now (t .entry)) (ground .count) (now (v .entry)) .table)
+        × (now (v .exit) ≡ decide (ground .dialect) (now (req .entry)) (now (t .entry)) (ground .count) (now (v .entry)) .vectors) ⌝ }
 {
-    let p = planning::plan_fitting(req, t, count, v, found);
+    let p = planning::plan_read(req, t, v, ground, found);
     let g = p.given;
+    let length = answering::answer(out, req, t, file, v, ground, g);
+    let altered = doing::carry(t, ground.count, v, req, found, p);
+    let dialect = ground.dialect;
     let verdict = g.verdict;
     let result = verdict.result;
-    let length = answering::answer(out, req, t, file, v, count, g);
-    let altered = doing::carry(t, count, v, req, found, p);
     Told {
         length: length as u32,
         place: 0,
+        command: dialect.command,
         result,
         altered,
     }
 }
 
-// One request over a sound table of so many records and a sound vector file.
+// One request over a sound table and a sound vector file.
 pub fn answer_sound(
     out: &mut [u8],
     req: &[u8],
     t: &mut [u8],
     file: &[u8],
     v: &mut [u8],
-    count: usize,
+    ground: Ground,
 ) -> Told
-    requires { ⌜ Passed (now req) (now out) × SoundTable (now t) count × SoundVectors (now v) ⌝ }
-    ensures { λ r. ⌜ Tells (now (req .entry)) (now (t .entry)) count (now (file .entry)) (now (v .entry)) (now (out .entry)) (now (out .exit)) r
-        × (now (t .exit) ≡ decide (now (req .entry)) (now (t .entry)) count (now (v .entry)) .table)
-        × (now (v .exit) ≡ decide (now (req .entry)) (now (t .entry)) count (now (v .entry)) .vectors) ⌝ }
+    requires { ⌜ Passed (now req) (now out) × SoundTable (now t) (ground .count) × SoundVectors (now v) ⌝ }
+    ensures { λ r. ⌜ Tells (ground .dialect) (now (req .entry)) (now (t .entry)) (ground .count) (now (file .entry)) (now (v .entry))
+        (now (out .entry)) (now (out .exit)) r
+        × (now (t .exit) ≡ decide (ground .dialect) (now (req .entry)) (now (t .entry)) (ground .count) (now (v .entry)) .table)
+        × (now (v .exit) ≡ decide (ground .dialect) (now (req .entry)) (now (t .entry)) (ground .count) (now (v .entry)) .vectors) ⌝ }
 {
-    let w = requests::read_request(req);
-    if w.ok {
-        let found = w.places;
-        return answer_read(out, req, t, file, v, count, found);
+    let dialect = ground.dialect;
+    let mut found = [0; kinds::KINDS];
+    let w = requests::read_in(req, dialect, &mut found);
+    match w {
+        Walked::Read => answer_read(out, req, t, file, v, ground, found),
+        Walked::Fault(f) => answer_fault(out, req, t, file, v, ground, f),
     }
-    let f = w.verdict;
-    answer_fault(out, req, t, file, v, count, f)
 }

@@ -1,12 +1,13 @@
-// The plan of a request that was read, by its command: nothing is written yet.
+// The plan of a request that was read, by its dialect's command: nothing is written yet.
+use answering::Ground;
 use assignment::assigning;
 use choices::plan;
 use choices::plan::Plan;
 use choices::plan::Sar;
 use choices::types;
-use decisions::authentication;
-use decisions::authorization;
-use decisions::location;
+use questions::authentication;
+use questions::authorization;
+use questions::location;
 use reading::kinds;
 use record::header::Header;
 use requests::places;
@@ -17,15 +18,12 @@ ghost use lib.Dec.{eqb};
 ghost use Rattle.record.specs.Fields.{keepOf};
 ghost use Rattle.blocks.specs.Blocks.{blockOf};
 ghost use Rattle.table.specs.SoundTable.{SoundTable};
-ghost use Rattle.vectors.specs.Chosen.{Sendable};
 ghost use Rattle.vectors.specs.VectorFile.{SoundVectors};
-ghost use Rattle.diameter.specs.Message.{commandOf};
-ghost use Rattle.reading.specs.Kinds.{serverName};
 ghost use Rattle.reading.specs.Places.{seenOf};
 ghost use Rattle.requests.specs.Judged.{fine};
-ghost use Rattle.requests.specs.Request.{readRequest, dataSeen};
-ghost use Rattle.fitting.specs.Decide.{numbersIn, uarPlan, sarPlan, lirPlan, marPlan, planRead};
-ghost use Rattle.fitting.specs.Deeds.{DeedFits};
+ghost use Rattle.requests.specs.Request.{readIn};
+ghost use Rattle.deciding.specs.Plans.{numbersIn, uarPlan, sarPlan, lirPlan, marPlan};
+ghost use Rattle.deciding.specs.Answers.{Planned};
 
 // Whether the header says that names are kept.
 fn keep(t: &[u8]) -> bool
@@ -104,34 +102,26 @@ fn plan_mar(req: &[u8], t: &[u8], count: usize, v: &[u8], found: [usize; kinds::
 }
 
 // No other command is read than these four.
-fn plan_read(req: &[u8], t: &[u8], count: usize, v: &[u8], found: [usize; kinds::KINDS]) -> Plan
-    requires { ⌜ SoundTable (now t) count × SoundVectors (now v) × (20 ≤ length (now req)) ⌝ }
-    ensures { λ r. ⌜ r ≡ planRead (now (req .entry)) (now (t .entry)) count (now (v .entry)) (seenOf (now (req .entry)) found) ⌝ }
+pub fn plan_read(
+    req: &[u8],
+    t: &[u8],
+    v: &[u8],
+    ground: Ground,
+    found: [usize; kinds::KINDS],
+) -> Plan
+    requires { ⌜ SoundTable (now t) (ground .count) × SoundVectors (now v) × (readIn (ground .dialect) (now req) ≡ fine (seenOf (now req) found)) ⌝ }
+    ensures { λ r. ⌜ Planned (ground .dialect) (now (req .entry)) (now (t .entry)) (ground .count) (now (v .entry)) (seenOf (now (req .entry)) found) r ⌝ }
 {
-    let command = requests::command(req);
-    if command == reading::UAR {
+    let count = ground.count;
+    let dialect = ground.dialect;
+    if dialect.command == reading::UAR {
         return plan_uar(req, t, count, found);
     }
-    if command == reading::SAR {
+    if dialect.command == reading::SAR {
         return plan_sar(req, t, count, found);
     }
-    if command == reading::LIR {
+    if dialect.command == reading::LIR {
         return plan_lir(req, t, count, found);
     }
     plan_mar(req, t, count, v, found)
-}
-
-// The same, of a request that reading let pass: what is planned fits the table, and what is to be sent is there.
-pub fn plan_fitting(
-    req: &[u8],
-    t: &[u8],
-    count: usize,
-    v: &[u8],
-    found: [usize; kinds::KINDS],
-) -> Plan
-    requires { ⌜ SoundTable (now t) count × SoundVectors (now v) × (20 ≤ length (now req)) × (readRequest (now req) ≡ fine (seenOf (now req) found)) ⌝ }
-    ensures { λ r. ⌜ (r ≡ planRead (now (req .entry)) (now (t .entry)) count (now (v .entry)) (seenOf (now (req .entry)) found))
-        × DeedFits count (dataSeen (seenOf (now (req .entry)) found) serverName) (r .deed) × Sendable (now (v .entry)) (r .given .sent) ⌝ }
-{
-    plan_read(req, t, count, v, found)
 }

@@ -1,19 +1,15 @@
 -- Demand 3: two requests that say the same are decided alike. The places of their AVPs may differ, and Failed-AVP holds the same all the same.
-use Prim.Native.Nat.{ℕ}
-use mathlib.Core.List.{List, [], _∷_, map}
-use mathlib.Core.Bool.{Bool, true, false, cond, _&&_}
-use mathlib.Core.Path.{_≡_, refl, sym, ap, _∙_}
-use native.Mathlib.Omega.{arith}
-use lib.ListN.{length, getD}
-use lib.Dec.{eqb}
+use Rattle.octets.specs.Standard.{ℕ, List, [], _∷_, map, Bool, true, false, cond, _&&_, _≡_, refl, sym, ap, _∙_, _⊎_, inl, inr, arith, length, getD}
+use Rattle.octets.specs.Standard.{eqb, eqb-true, eqb-false}
 use Rattle.diameter.specs.Put.{All}
 use Rattle.diameter.specs.Reader.{avpAt}
 use Rattle.reading.specs.Kinds.{publicIdentity}
 use Rattle.reading.specs.Rules.{Seen}
-use Rattle.reading.specs.Verdicts.{faultAt}
-use Rattle.diameter.specs.Message.{commandOf, bodyOf}
-use Rattle.reading.specs.Verdicts.{lackOf}
-use Rattle.requests.specs.Request.{identities}
+use Rattle.reading.specs.declared.Dialect.{Dialect}
+use Rattle.reading.specs.Verdicts.{faultAt, lackOf}
+use Rattle.diameter.specs.Message.{bodyOf}
+use Rattle.requests.specs.Judged.{fine}
+use Rattle.requests.specs.Request.{readIn, identities}
 use Rattle.reading.specs.declared.Verdict.{Verdict}
 use Rattle.requests.specs.Identity.{placesFrom}
 use Rattle.requests.proofs.Naming.{Stood, identities-at, places-stand}
@@ -22,23 +18,19 @@ use Rattle.failed.proofs.Fronts.{failed-at}
 use Rattle.choices.specs.Types.{isRemoval}
 use Rattle.choices.specs.Given.{givenFault}
 use Rattle.choices.specs.Plans.{findingOf}
-use Rattle.choices.specs.Challenges.{challengeOf}
 use Rattle.choices.specs.declared.Given.{Given}
-use Rattle.choices.specs.declared.plan.Finding.{Finding}
-use Rattle.choices.specs.declared.plan.Finding.the-variants.{Denied, Fine}
 use Rattle.choices.specs.declared.plan.Deed.{Deed}
 use Rattle.choices.specs.declared.plan.Deed.the-variants.{Leave, Settle, Challenge}
 use Rattle.choices.specs.declared.plan.Plan.{Plan}
-use Rattle.vectors.specs.declared.choice.Sent.{Sent}
-use Rattle.decisions.specs.Authentication.{authenticateFound, authenticate}
-use Rattle.decisions.specs.Authorization.{authorizeFound, authorize}
-use Rattle.decisions.specs.Location.{locateFound, locate}
 use Rattle.assignment.specs.Assignment.{Assignment, meantBy, found, firstOf, namedSurvey, ownedSurvey, assignMeant, assign, plannedRecords}
 use Rattle.assignment.specs.declared.Meant.{Meant}
 use Rattle.assignment.specs.declared.Meant.the-variants.{Fault, Owned, Listed}
-use Rattle.fitting.specs.Decide.{Decision, assignmentOf, uarPlan, sarPlan, lirPlan, marPlan, planRead, performed}
-use Rattle.fitting.specs.Deeds.{carriedOut, spentBy}
-use Rattle.fitting.proofs.Blameless.{Blameless, carried-plain, plan-plain}
+use Rattle.deciding.specs.Plans.{assignmentOf, sarPlan, planRead}
+use Rattle.deciding.specs.Rules.{inForce}
+use Rattle.deciding.specs.Decide.{Decision, performedBy}
+use Rattle.deciding.specs.Deeds.{carriedOut, spentBy}
+use Rattle.deciding.proofs.Cases.{Blameless, Comes, tells, settles, challenges}
+use Rattle.deciding.proofs.Comes.{plan-blameless, comes}
 use Rattle.demands.proofs.Moved.{failed-there}
 
 -- of what is given the same is answered
@@ -59,7 +51,7 @@ pub record SameDecision (long short : List ℕ) (d e : Decision) : Type 0 where
 
 module _ (long short : List ℕ) where
   -- no AVP is at fault
-  blameless-same : (g : Given) → Blameless g → SameGiven long short g g
+  pub blameless-same : (g : Given) → Blameless g → SameGiven long short g g
   unfolding failedBy
   blameless-same g b =
       record { result = refl; failed = rw (b .0, b .1); user = refl; public = refl; server = refl; capable = refl; profile = refl; sent = refl }
@@ -105,43 +97,47 @@ module _ (long short : List ℕ) where
       go false = second-same o r (a .1 .0) (b .1 .0) (ap (λ (l : List (List ℕ)). getD l 1 []) e)
 
   module _ (t : List ℕ) (count : ℕ) (v : List ℕ) where
-    meant-same : (s : Assignment) (m n : Meant) → SameMeant m n
-        → SameDecision long short (performed t count v s (assignMeant t count s m)) (performed t count v s (assignMeant t count s n))
-    unfolding assignMeant performed carriedOut spentBy
-    meant-same s m n (fault x y e f) = record { given = fault-same x y e f; table = refl; vectors = refl }
-    meant-same s m n owned =
+    meant-same : (req : List ℕ) (seen : Seen) (s : Assignment) (m n : Meant) → SameMeant m n
+        → SameDecision long short (performedBy inForce req t count v seen (assignMeant t count s m))
+        (performedBy inForce req t count v seen (assignMeant t count s n))
+    unfolding assignMeant performedBy carriedOut spentBy
+    meant-same req seen s m n (fault x y e f) = record { given = fault-same x y e f; table = refl; vectors = refl }
+    meant-same req seen s m n owned =
         record {
-          given = blameless-same _ (plan-plain (findingOf (ownedSurvey t count s) (s .numbers .kind)) (s .numbers) 0 true .0);
+          given = blameless-same _ (plan-blameless (findingOf (ownedSurvey t count s) (s .numbers .kind)) (s .numbers) 0 true);
           table = refl;
           vectors = refl;
         }
-    meant-same s m n (named p q) =
+    meant-same req seen s m n (named p q) =
         record {
-          given = blameless-same _ (plan-plain (findingOf (namedSurvey t count s) (s .numbers .kind)) (s .numbers) (firstOf (found t count s)) false .0);
+          given = blameless-same _ (plan-blameless (findingOf (namedSurvey t count s) (s .numbers .kind)) (s .numbers) (firstOf (found t count s)) false);
           table = refl;
           vectors = refl;
         }
 
     module _ (seen : Seen) (named-same : identities (bodyOf long) ≡ identities (bodyOf short)) where
       abbrev longer : Assignment
-      longer = assignmentOf t seen long
+      longer = assignmentOf long t seen
 
       abbrev shorter : Assignment
-      shorter = assignmentOf t seen short
+      shorter = assignmentOf short t seen
+
+      abbrev Same : Plan → Plan → Type 0
+      Same p q = SameDecision long short (performedBy inForce long t count v seen p) (performedBy inForce short t count v seen q)
 
       -- a plan is carried out alike
-      carried-alike : (d : Deed) → carriedOut t count longer d ≡ carriedOut t count shorter d
+      carried-alike : (d : Deed) → carriedOut long t count seen d ≡ carriedOut short t count seen d
       unfolding carriedOut plannedRecords assignmentOf
       carried-alike Leave = refl
       carried-alike (Settle w) = rw named-same
       carried-alike (Challenge k) = refl
 
-      performed-alike : (p : Plan) → performed t count v longer p ≡ performed t count v shorter p
-      unfolding performed
+      performed-alike : (p : Plan) → performedBy inForce long t count v seen p ≡ performedBy inForce short t count v seen p
+      unfolding performedBy
       performed-alike p = rw (carried-alike (p .deed))
 
-      plan-alike : (p : Plan) → Blameless (p .given) → SameDecision long short (performed t count v longer p) (performed t count v shorter p)
-      unfolding performed
+      plan-alike : (p : Plan) → Blameless (p .given) → Same p p
+      unfolding performedBy
       plan-alike p b = rw (← performed-alike p) (record { given = blameless-same (p .given) b; table = refl; vectors = refl })
 
       -- the same SAR but for the places
@@ -159,40 +155,24 @@ module _ (long short : List ℕ) where
           (places-stand long 20)
           (places-stand short 20)
 
-      sar-same : SameDecision long short (performed t count v longer (sarPlan long t count seen)) (performed t count v shorter (sarPlan short t count seen))
+      sar-same : Same (sarPlan long t count seen) (sarPlan short t count seen)
       unfolding sarPlan assign
-      sar-same = rw (performed-alike _, meant-alike _) (meant-same shorter _ _ places-alike)
+      sar-same = rw (performed-alike _, meant-alike _) (meant-same short seen shorter _ _ places-alike)
 
-      challenge-blameless : (f : Finding) (k : ℕ) (sent : Sent) → Blameless (challengeOf f k sent .given)
-      unfolding challengeOf
-      challenge-blameless (Denied r) k sent = (refl, refl)
-      challenge-blameless Fine k sent = (refl, refl)
+      -- but for a SAR's identities a decision blames no AVP, and but for a SAR the plans are one
+      blames : (d : Dialect) (p : Plan) → Comes d short t count v seen p → (d .command ≡ 301) ⊎ Blameless (p .given)
+      blames d p (tells g x) = x .blames
+      blames d p (settles g w x) = inl (x .command)
+      blames d p (challenges k x) = inr (refl, refl)
 
-      uar-blameless : Blameless (uarPlan t count seen .given)
-      unfolding uarPlan authorize authorizeFound
-      uar-blameless = carried-plain t count _ _ _ .0
-
-      lir-blameless : Blameless (lirPlan t count seen .given)
-      unfolding lirPlan locate locateFound
-      lir-blameless = carried-plain t count _ _ _ .0
-
-      mar-blameless : Blameless (marPlan t count v seen .given)
-      unfolding marPlan authenticate authenticateFound
-      mar-blameless = challenge-blameless _ _ _
-
-      pub plan-same : commandOf long ≡ commandOf short
-          → SameDecision long short (performed t count v longer (planRead long t count v seen)) (performed t count v shorter (planRead short t count v seen))
+      pub plan-same : (d : Dialect) → readIn d short ≡ fine seen → Same (planRead d long t count v seen) (planRead d short t count v seen)
       unfolding planRead
-      plan-same e =
-          rw e (go (eqb (commandOf short) 300) (eqb (commandOf short) 301) (eqb (commandOf short) 302))
+      plan-same d read = go (eqb (d .command) 301) refl (blames d _ (comes d short t count v seen read))
         where
-          go : (x y z : Bool)
-              → SameDecision long short
-              (performed t count v longer
-              (cond x (uarPlan t count seen) (cond y (sarPlan long t count seen) (cond z (lirPlan t count seen) (marPlan t count v seen)))))
-              (performed t count v shorter
-              (cond x (uarPlan t count seen) (cond y (sarPlan short t count seen) (cond z (lirPlan t count seen) (marPlan t count v seen)))))
-          go true y z = plan-alike (uarPlan t count seen) uar-blameless
-          go false true z = sar-same
-          go false false true = plan-alike (lirPlan t count seen) lir-blameless
-          go false false false = plan-alike (marPlan t count v seen) mar-blameless
+          go : (x : Bool) → eqb (d .command) 301 ≡ x → (d .command ≡ 301) ⊎ Blameless (planRead d short t count v seen .given)
+              → Same (planRead d long t count v seen) (planRead d short t count v seen)
+          go true f b = rw (eqb-true (d .command) 301 f) sar-same
+          go false f (inl n) = absurd (eqb-false (d .command) 301 f n)
+          go false f (inr b) =
+              let one : planRead d long t count v seen ≡ planRead d short t count v seen = rw f in
+              rw one (plan-alike (planRead d short t count v seen) b)

@@ -1,14 +1,8 @@
 -- Every request whose length is right and whose first AVP passes (a) is a header, a row of whole AVPs and what is behind them: so demand 3 speaks of any such
 -- request.
-use Prim.Native.Nat.{ℕ, zero, suc, _+_, _-_, _/_, _%_, _<_, _≤_}
-use mathlib.Core.List.{List, [], _∷_, _++_, append-assoc}
-use mathlib.Core.Bool.{Bool, true, false, not, _||_, true≢false}
-use mathlib.Core.Path.{_≡_, refl, sym, ap, _∙_}
-use native.Mathlib.Omega.{arith}
-use lib.ListN.{length, getD, take, drop, length-drop, take-append-drop}
-use lib.Seq.{set-getD, getD-take, take-add, length-take-le}
-use lib.Dec.{eqb}
-use borrow.Author.Tests.{eqb-true}
+use Rattle.octets.specs.Standard.{ℕ, zero, suc, _+_, _-_, _/_, _%_, _<_, _≤_, List, [], _∷_, _++_, append-assoc, Bool, true, false, not, _||_}
+use Rattle.octets.specs.Standard.{true≢false, _≡_, refl, sym, ap, _∙_, arith, length, getD, take, drop, length-drop, take-append-drop, set-getD}
+use Rattle.octets.specs.Standard.{getD-take, take-add, length-take-le, eqb, eqb-true}
 use Rattle.octets.specs.Number.{be24At, putBe24}
 use Rattle.octets.proofs.Numbers.{be24-take}
 use Rattle.diameter.specs.Avp.{padded, avpHead, avpLen, sound}

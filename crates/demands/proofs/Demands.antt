@@ -1,12 +1,6 @@
 -- The three demands, as theorems about `serve`: what a call comes to, the table, the vectors and the buffer afterwards, for anything lent.
 -- What the words below mean is in specs/Call, specs/Frame and specs/Insertion.
-use Prim.Native.Nat.{ℕ, _/_, _%_, _<_, _≤_}
-use mathlib.Core.List.{List, _∷_}
-use mathlib.Core.Option.{some}
-use mathlib.Core.Bool.{true, false}
-use mathlib.Core.Path.{_≡_}
-use mathlib.Core.Logic.{_⊎_, _≢_}
-use lib.ListN.{length, getD, drop}
+use Rattle.octets.specs.Standard.{ℕ, _/_, _%_, _<_, _≤_, List, _∷_, some, true, false, _≡_, _⊎_, _≢_, length, getD, drop}
 use Rattle.octets.specs.Run.{over}
 use Rattle.blocks.specs.Blocks.{blockOf}
 use Rattle.table.specs.Named.{privateAt}
@@ -17,16 +11,16 @@ use Rattle.diameter.specs.Avp.{sound}
 use Rattle.diameter.specs.Put.{Piece, Whole, All}
 use Rattle.diameter.specs.Message.{commandOf}
 use Rattle.rewrite.specs.Change.{alterable}
-use Rattle.calling.specs.Call.{Answer}
-use Rattle.calling.specs.Call.{Answered, Refused}
-use Rattle.calling.specs.Lent.{Lent, asking}
+use Rattle.calling.specs.Call.{Answer, Answered, Refused}
+use Rattle.calling.specs.Lent.{Lent, asking, dialectIn}
 use Rattle.calling.specs.Serve.{wrongSize, wrongLength, checkOf, trials, answered, decision, serve}
 use Rattle.ndushavire.specs.Word.{callNumber, callValue, callWord}
-use Rattle.ndushavire.specs.Reads.{callIn, Reads, ReadsCheck}
-use Rattle.ndushavire.specs.Promise.{CheckPromise, CheckVectorsPromise, DecidePromise}
-use Rattle.demands.proofs.Firm.{check-said, check-vectors-said}
+use Rattle.ndushavire.specs.Reads.{callIn, Reads, ReadsCheck, ReadsMove}
+use Rattle.ndushavire.specs.Promise.{CheckPromise, CheckVectorsPromise, DecidePromise, ForwardPromise, BackPromise}
+use Rattle.moving.specs.Outcomes.{forward, back}
+use Rattle.demands.proofs.Firm.{check-said, check-vectors-said, forward-said, back-said}
 use Rattle.reading.specs.declared.Dialect.{Dialect}
-use Rattle.requests.specs.Request.{dialectOf, cx}
+use Rattle.requests.specs.Request.{dialectOf}
 use Rattle.demands.specs.Call.{turnedAway, answerTo, Exactly}
 use Rattle.demands.specs.Frame.{succeeds, subscriptionOf}
 use Rattle.demands.specs.Insertion.{requestOf, Foreign, Quiet, Inserted, keep, placeNow, placed, FirstMarked, faultIn, behindRow, unsupported}
@@ -34,7 +28,8 @@ use Rattle.demands.specs.Insertion.{Cut, Longer, Newer}
 use Rattle.demands.proofs.Refusals.{refusals, number-most, besides-none, besides-block, answer-long, answer-within, word-reads, refused-kept}
 use Rattle.demands.proofs.Refusals.{answered-is, buffer-length, buffer-past}
 use Rattle.demands.proofs.Fitting.{fits}
-use Rattle.demands.proofs.Frame.{failure-kept, others-kept, header-kept, bytes-kept, bits-kept, size-kept, sound-kept, question-kept, vectors-kept}
+use Rattle.demands.proofs.Frame.{failure-kept, others-kept, header-kept, bytes-kept, bits-kept, size-kept, sound-kept, question-kept}
+use Rattle.demands.proofs.Frame.{vectors-kept}
 use Rattle.demands.proofs.Insertions.{unmarked-same, marked-kept, mark-answered, fault-first}
 use Rattle.demands.proofs.Longer.{marked-or-not, longer-newer}
 use Rattle.demands.proofs.Cuts.{every-request}
@@ -52,6 +47,14 @@ checked t file p = check-said t file p
 
 pub checked-vectors : (v : List ℕ) {r : ℕ} → CheckVectorsPromise v r → ReadsCheck 6 (checkVectors v) r
 checked-vectors v p = check-vectors-said v p
+
+-- THE MOVES. Out of the word of a move between editions the caller reads number 0 and the count of records, or the refusal's number, 5 or 8, and its block.
+-- Bits 32 to 47 are 0.
+pub moved-forward : (t file : List ℕ) (issue : ℕ) {r : ℕ} {t' : List ℕ} → ForwardPromise t file issue r t' → ReadsMove (forward t (length file) issue .move) r
+moved-forward t file issue p = forward-said t file issue p
+
+pub moved-back : (t file : List ℕ) {r : ℕ} {t' : List ℕ} → BackPromise t file r t' → ReadsMove (back t (length file) .move) r
+moved-back t file p = back-said t file p
 
 -- DEMAND 1. Every call ends in an answer or in exactly one of six refusals, each given exactly when the papers say, tried in their order.
 module _ (x : Lent) where
@@ -105,7 +108,7 @@ module _ (x : Lent) (count : ℕ) (sound : checkOf x ≡ Sound count) where
   demand-2-failure = failure-kept x count sound
 
   -- A block whose private identity is not that of the subscription asked about is as it was, and so is the header.
-  pub demand-2-others : (k : ℕ) → k ≤ count → some (privateAt (x .table) k) ≢ subscriptionOf (x .request) (x .table) count
+  pub demand-2-others : (k : ℕ) → k ≤ count → some (privateAt (x .table) k) ≢ subscriptionOf (dialectIn x) (x .request) (x .table) count
       → blockOf (serve x .table) k ≡ blockOf (x .table) k
   demand-2-others = others-kept x count sound
 
@@ -147,7 +150,7 @@ module _ (x : Lent) where
 -- answer is the one of B5001 with the first such in Failed-AVP, and its place, unless the call is refused or the header or an AVP before that one breaks a
 -- reading rule. Before the first AVP there is no place, for (b) wants a Session-Id there; nor does this speak of AVPs with reserved flags, which (c) calls
 -- B3009.
-pub demand-3 : (x : Lent) (longer : List ℕ) (l : Longer (x .request) longer) → Newer x longer l
+pub demand-3 : (x : Lent) (longer : List ℕ) (l : Longer (x .terms) (x .request) longer) → Newer x longer l
 demand-3 = longer-newer
 
 -- Case by case: a request is a header, a row of AVPs that pass (a), `q` and then `qs`, and any bytes behind them; the longer one has the row `q` and then `rs`.
@@ -155,28 +158,28 @@ module _ (head : List ℕ) (twenty : length head ≡ 20) (q : Piece) (qs rs : Li
     (most : length (requestOf head (q ∷ rs) tail) ≤ 16384) (x : Lent) where
   -- If none of them is marked M, the call comes to the same but for the place, which moves with its AVP, and leaves the same table, the same vectors and the
   -- same buffer.
-  pub demand-3-unmarked : (i : Inserted (Quiet (dialectOf cx head)) qs rs)
+  pub demand-3-unmarked : (i : Inserted (Quiet (dialectOf (x .terms) head)) qs rs)
       → serve (asking x (requestOf head (q ∷ rs) tail)) ≡ placed (placeNow (keep q i)) (serve (asking x (requestOf head (q ∷ qs) tail)))
-  demand-3-unmarked i = unmarked-same head twenty q qs rs whole tail fours most i x
+  demand-3-unmarked i = unmarked-same head twenty q qs rs whole tail fours most x i
 
   -- If one is, the table is as it was, and no vector is used ..
-  pub demand-3-table : FirstMarked (dialectOf cx head) qs rs → serve (asking x (requestOf head (q ∷ rs) tail)) .table ≡ x .table
-  demand-3-table m = marked-kept head twenty q qs rs whole tail fours most m x .0
+  pub demand-3-table : FirstMarked (dialectOf (x .terms) head) qs rs → serve (asking x (requestOf head (q ∷ rs) tail)) .table ≡ x .table
+  demand-3-table m = marked-kept head twenty q qs rs whole tail fours most x m .0
 
-  pub demand-3-vectors : FirstMarked (dialectOf cx head) qs rs → serve (asking x (requestOf head (q ∷ rs) tail)) .vectors ≡ x .vectors
-  demand-3-vectors m = marked-kept head twenty q qs rs whole tail fours most m x .1
+  pub demand-3-vectors : FirstMarked (dialectOf (x .terms) head) qs rs → serve (asking x (requestOf head (q ∷ rs) tail)) .vectors ≡ x .vectors
+  demand-3-vectors m = marked-kept head twenty q qs rs whole tail fours most x m .1
 
   -- .. and the answer is the one of B5001 with the first marked one in Failed-AVP (before a missing AVP, and before a SAR's own B5005 and B5009), its place
   -- that where the first marked one begins ..
-  pub demand-3-marked : (m : FirstMarked (dialectOf cx head) qs rs) → faultIn head (q ∷ m .front) ≡ false
+  pub demand-3-marked : (m : FirstMarked (dialectOf (x .terms) head) qs rs) → faultIn (dialectOf (x .terms) head) head (q ∷ m .front) ≡ false
       → turnedAway (asking x (requestOf head (q ∷ qs) tail)) ≡ false
       → serve (asking x (requestOf head (q ∷ rs) tail)) ≡ unsupported (asking x (requestOf head (q ∷ rs) tail)) (m .mark) (behindRow (q ∷ m .before))
-  demand-3-marked m e = mark-answered head twenty q qs rs whole tail fours most m e x
+  demand-3-marked m e = mark-answered head twenty q qs rs whole tail fours most x m e
 
   -- .. unless the header or an AVP before it breaks a reading rule, (a) to (h): then the call gives what it gives without them, the place moved as above.
-  pub demand-3-fault : (m : FirstMarked (dialectOf cx head) qs rs) → faultIn head (q ∷ m .front) ≡ true
+  pub demand-3-fault : (m : FirstMarked (dialectOf (x .terms) head) qs rs) → faultIn (dialectOf (x .terms) head) head (q ∷ m .front) ≡ true
       → serve (asking x (requestOf head (q ∷ rs) tail)) ≡ placed (placeNow (keep q (m .quiet))) (serve (asking x (requestOf head (q ∷ qs) tail)))
-  demand-3-fault m e = fault-first head twenty q qs rs whole tail fours most m e x
+  demand-3-fault m e = fault-first head twenty q qs rs whole tail fours most x m e
 
 -- These are all cases: of those put in none is marked, or one is the first that is.
 pub demand-3-cases : (d : Dialect) (qs rs : List Piece) → Inserted (Foreign d) qs rs → Inserted (Quiet d) qs rs ⊎ FirstMarked d qs rs

@@ -1,15 +1,7 @@
 -- The AVP at fault: what reading comes to is what specs/Place tells, and what a decision makes of it.
-use Prim.Native.Nat.{ℕ, zero, suc, _+_, _-_, _%_, _≤_, _<_}
-use mathlib.Core.List.{List, [], _∷_}
-use mathlib.Core.Option.{none, some}
-use mathlib.Core.Bool.{Bool, true, false, not, cond, _&&_, true≢false}
-use mathlib.Core.Path.{_≡_, refl, sym, ap, _∙_}
-use mathlib.Core.Logic.{_⊎_, inl, inr, _≢_}
-use native.Mathlib.Omega.{arith}
-use lib.ListN.{length, getD, take, drop, set, length-drop}
-use lib.Seq.{drop-drop, length-take-le}
-use lib.Dec.{eqb, leb}
-use borrow.Author.Tests.{eqb-true, eqb-false}
+use Rattle.octets.specs.Standard.{ℕ, zero, suc, _+_, _%_, _≤_, _<_, List, [], _∷_, none, some, Bool, true, false, not, cond, _&&_, true≢false, _≡_}
+use Rattle.octets.specs.Standard.{refl, sym, ap, _∙_, _⊎_, inl, inr, _≢_, arith, length, getD, take, drop, set, length-drop, drop-drop}
+use Rattle.octets.specs.Standard.{length-take-le, eqb, leb, eqb-true, eqb-false}
 use Rattle.diameter.specs.Avp.{padded, avpHead, avpFlags, avpLen, dataOf, valueOf, reserved, marked, sound}
 use Rattle.diameter.specs.Walk.{Walk, avp, walk}
 use Rattle.diameter.specs.Reader.{present, avpOf, avpAt}
@@ -30,11 +22,12 @@ use Rattle.reading.specs.declared.Use.{Use}
 use Rattle.reading.specs.declared.Use.the-variants.{Unknown, Unnamed, Needed, Optional, Repeated}
 use Rattle.reading.specs.declared.Verdict.{Verdict}
 use Rattle.requests.specs.Judged.{Judged, bad, fine, nothing, judge}
-use Rattle.requests.specs.Request.{dialectOf, cx, headerFault, firstOther, missing, complete, readWalk, readIn, readRequest}
+use Rattle.requests.specs.Request.{headerFault, firstOther, missing, complete, readWalk, readIn}
 use Rattle.requests.proofs.Faulting.{read-placed}
-use Rattle.fitting.specs.Decide.{performed, decideJudged, decide}
+use Rattle.deciding.specs.Rules.{inForce}
+use Rattle.deciding.specs.Decide.{performedBy, judgedBy, decideBy, decide}
 use Rattle.demands.specs.Frame.{succeeds}
-use Rattle.demands.specs.Place.{behindAt, Reaches, first, pastTaken, pastSkipped, Breaks, lengthFault, ruleFault, OfRules, AtFault}
+use Rattle.demands.specs.Place.{behindAt, ReadingReaches, first, pastTaken, pastSkipped, Breaks, lengthFault, ruleFault, OfRules, AtFault}
 
 pub fine-bad : {A : Type 0} (seen : Seen) (v : Verdict) → fine seen ≡ bad v → A
 fine-bad seen v e = let z : _≡_ {A = ℕ} 0 1 = cc in absurd (omega arith)
@@ -82,7 +75,7 @@ module _ (d : Dialect) (req : List ℕ) where
   judge-breaks at seen n (lengthFault h s) = rw (walk-faulty (drop at req) s (rw length-drop (omega arith)))
   judge-breaks at seen n (ruleFault m s e) = rw (avp-walked req at s, e)
 
-  judge-reaches : {at : ℕ} {seen : Seen} → Reaches d req at seen → judgeAt 20 nothing ≡ judgeAt at seen
+  judge-reaches : {at : ℕ} {seen : Seen} → ReadingReaches d req at seen → judgeAt 20 nothing ≡ judgeAt at seen
   judge-reaches first = refl
   judge-reaches (pastTaken at seen r s e) = judge-reaches r ∙ judge-taken at seen s e
   judge-reaches (pastSkipped at seen r s e) = judge-reaches r ∙ judge-skipped at seen s e
@@ -92,17 +85,17 @@ module _ (d : Dialect) (req : List ℕ) where
     pub number : ℕ
     pub place : ℕ
     pub seen : Seen
-    pub reached : Reaches d req place seen
+    pub reached : ReadingReaches d req place seen
     pub breaks : Breaks d req seen place number
     pub is : v ≡ faultAt number place
 
-  found-here : (at : ℕ) (seen : Seen) → Reaches d req at seen → (n : ℕ) → Breaks d req seen at n → (v : Verdict) → judgeAt at seen ≡ bad v → Finds v
+  found-here : (at : ℕ) (seen : Seen) → ReadingReaches d req at seen → (n : ℕ) → Breaks d req seen at n → (v : Verdict) → judgeAt at seen ≡ bad v → Finds v
   found-here at seen r n b v e =
       let q : bad (faultAt n at) ≡ bad v = sym (judge-breaks at seen n b) ∙ e in
       record { number = n; place = at; seen = seen; reached = r; breaks = b; is = cc }
 
   abbrev FindsWithin : ℕ → Type 0
-  FindsWithin k = (at : ℕ) (seen : Seen) → length (drop at req) ≤ k → Reaches d req at seen → (v : Verdict) → judgeAt at seen ≡ bad v → Finds v
+  FindsWithin k = (at : ℕ) (seen : Seen) → length (drop at req) ≤ k → ReadingReaches d req at seen → (v : Verdict) → judgeAt at seen ≡ bad v → Finds v
 
   found-none : (at : ℕ) (seen : Seen) → length (drop at req) ≡ 0 → (v : Verdict) → judgeAt at seen ≡ bad v → Finds v
   unfolding judge
@@ -139,60 +132,56 @@ module _ (d : Dialect) (req : List ℕ) where
   judge-finds v e = found-within (length (drop 20 req)) 20 nothing (omega arith) first v e
 
 -- A request: the AVP at fault is what reading it comes to, and a verdict with a place is such an AVP's.
-pub fault-read : (req : List ℕ) (n place : ℕ) → AtFault req n place → readRequest req ≡ bad (faultAt n place)
+pub fault-read : (d : Dialect) (req : List ℕ) (n place : ℕ) → AtFault d req n place → readIn d req ≡ bad (faultAt n place)
 unfolding readIn readWalk complete
-fault-read req n place f =
-    let d = dialectOf cx req in
+fault-read d req n place f =
     let j : judge d 20 (bodyOf req) nothing ≡ bad (faultAt n place) = judge-reaches d req (f .reached) ∙ judge-breaks d req place (f .seen) n (f .breaks) in
     rw (f .header, f .session, j)
 
-pub record Faulty (req : List ℕ) (v : Verdict) : Type 0 where
+pub record Faulty (d : Dialect) (req : List ℕ) (v : Verdict) : Type 0 where
   pub number : ℕ
-  pub fault : AtFault req number (v .place)
+  pub fault : AtFault d req number (v .place)
   pub is : v ≡ faultAt number (v .place)
 
-pub same-place : (req : List ℕ) (n : ℕ) {p q : ℕ} → p ≡ q → AtFault req n p → AtFault req n q
-same-place req n e f = rw (← e) f
+pub same-place : (d : Dialect) (req : List ℕ) (n : ℕ) {p q : ℕ} → p ≡ q → AtFault d req n p → AtFault d req n q
+same-place d req n e f = rw (← e) f
 
-nowhere : (req : List ℕ) (v w : Verdict) → w .place ≡ 0 → v .place ≢ 0 → bad w ≡ bad v → Faulty req v
-nowhere req v w z n e = let q : v .place ≡ w .place = cc in absurd (n (q ∙ z))
+nowhere : (d : Dialect) (req : List ℕ) (v w : Verdict) → w .place ≡ 0 → v .place ≢ 0 → bad w ≡ bad v → Faulty d req v
+nowhere d req v w z n e = let q : v .place ≡ w .place = cc in absurd (n (q ∙ z))
 
-complete-found : (d : Dialect) (req : List ℕ) (v : Verdict) (j : Judged) → v .place ≢ 0 → (j ≡ bad v → Faulty req v) → complete d j ≡ bad v → Faulty req v
+complete-found : (d : Dialect) (req : List ℕ) (v : Verdict) (j : Judged) → v .place ≢ 0 → (j ≡ bad v → Faulty d req v) → complete d j ≡ bad v → Faulty d req v
 unfolding complete
 complete-found d req v (bad w) n h e = h e
 complete-found d req v (fine seen) n h e = go (eqb (missing d seen) 0) e
   where
-    go : (x : Bool) → cond x (fine seen) (bad (lackOf (missing d seen))) ≡ bad v → Faulty req v
+    go : (x : Bool) → cond x (fine seen) (bad (lackOf (missing d seen))) ≡ bad v → Faulty d req v
     go true f = fine-bad seen v f
-    go false f = nowhere req v (lackOf (missing d seen)) refl n f
+    go false f = nowhere d req v (lackOf (missing d seen)) refl n f
 
-pub read-fault : (req : List ℕ) (v : Verdict) → v .place ≢ 0 → readRequest req ≡ bad v → Faulty req v
+pub read-fault : (d : Dialect) (req : List ℕ) (v : Verdict) → v .place ≢ 0 → readIn d req ≡ bad v → Faulty d req v
 unfolding readIn readWalk
-read-fault req v n e = go (eqb (headerFault d req) 0) refl e
+read-fault d req v n e = go (eqb (headerFault d req) 0) refl e
   where
-    d : Dialect
-    d = dialectOf cx req
-
-    walked : headerFault d req ≡ 0 → firstOther (bodyOf req) ≡ false → judge d 20 (bodyOf req) nothing ≡ bad v → Faulty req v
+    walked : headerFault d req ≡ 0 → firstOther (bodyOf req) ≡ false → judge d 20 (bodyOf req) nothing ≡ bad v → Faulty d req v
     walked h b f =
         let w = judge-finds d req v f in
         let p : w .place ≡ v .place = sym (ap (λ (u : Verdict). u .place) (w .is)) in
-        let a : AtFault req (w .number) (w .place) = record { header = h; session = b; seen = w .seen; reached = w .reached; breaks = w .breaks } in
-        record { number = w .number; fault = same-place req (w .number) p a; is = w .is ∙ ap (faultAt (w .number)) p }
+        let a : AtFault d req (w .number) (w .place) = record { header = h; session = b; seen = w .seen; reached = w .reached; breaks = w .breaks } in
+        record { number = w .number; fault = same-place d req (w .number) p a; is = w .is ∙ ap (faultAt (w .number)) p }
 
     begun : headerFault d req ≡ 0 → (x : Bool) → firstOther (bodyOf req) ≡ x
-        → cond x (bad (lackOf sessionId)) (complete d (judge d 20 (bodyOf req) nothing)) ≡ bad v → Faulty req v
-    begun h true b f = nowhere req v (lackOf sessionId) refl n f
+        → cond x (bad (lackOf sessionId)) (complete d (judge d 20 (bodyOf req) nothing)) ≡ bad v → Faulty d req v
+    begun h true b f = nowhere d req v (lackOf sessionId) refl n f
     begun h false b f = complete-found d req v (judge d 20 (bodyOf req) nothing) n (walked h b) f
 
     go : (x : Bool) → eqb (headerFault d req) 0 ≡ x
         → cond x (cond (firstOther (bodyOf req)) (bad (lackOf sessionId)) (complete d (judge d 20 (bodyOf req) nothing))) (bad (faultOf (headerFault d req)))
-        ≡ bad v → Faulty req v
+        ≡ bad v → Faulty d req v
     go true h f = begun (eqb-true _ _ h) (firstOther (bodyOf req)) refl f
-    go false h f = nowhere req v (faultOf (headerFault d req)) refl n f
+    go false h f = nowhere d req v (faultOf (headerFault d req)) refl n f
 
 -- Where it stands: behind the header, within the request, at a multiple of 4.
-reaches-least : (d : Dialect) (req : List ℕ) {at : ℕ} {seen : Seen} → Reaches d req at seen → (20 ≤ at) × (at % 4 ≡ 0)
+reaches-least : (d : Dialect) (req : List ℕ) {at : ℕ} {seen : Seen} → ReadingReaches d req at seen → (20 ≤ at) × (at % 4 ≡ 0)
 unfolding padded
 reaches-least d req first = (omega arith, refl)
 reaches-least d req (pastTaken at seen r s e) = let h = reaches-least d req r in (omega (arith, h .0), omega (arith, h .1))
@@ -202,15 +191,15 @@ breaks-within : (d : Dialect) (req : List ℕ) (seen : Seen) (at n : ℕ) → Br
 breaks-within d req seen at n (lengthFault h s) = h
 breaks-within d req seen at n (ruleFault m s e) = omega (arith, avp-within req at s)
 
-module _ (req : List ℕ) (n place : ℕ) (f : AtFault req n place) where
+module _ (d : Dialect) (req : List ℕ) (n place : ℕ) (f : AtFault d req n place) where
   pub fault-least : 20 ≤ place
-  fault-least = reaches-least (dialectOf cx req) req (f .reached) .0
+  fault-least = reaches-least d req (f .reached) .0
 
   pub fault-fours : place % 4 ≡ 0
-  fault-fours = reaches-least (dialectOf cx req) req (f .reached) .1
+  fault-fours = reaches-least d req (f .reached) .1
 
   pub fault-within : place < length req
-  fault-within = breaks-within (dialectOf cx req) req (f .seen) place n (f .breaks)
+  fault-within = breaks-within d req (f .seen) place n (f .breaks)
 
 -- Its result.
 abbrev OfContent : ℕ → Type 0
@@ -275,8 +264,8 @@ breaks-number : (d : Dialect) (req : List ℕ) (seen : Seen) (at n : ℕ) → Br
 breaks-number d req seen at n (lengthFault h s) = inl refl
 breaks-number d req seen at n (ruleFault m s e) = rule-number d seen (avpAt req at) n e
 
-pub fault-number : (req : List ℕ) (n place : ℕ) → AtFault req n place → OfRules n
-fault-number req n place f = breaks-number (dialectOf cx req) req (f .seen) place n (f .breaks)
+pub fault-number : (d : Dialect) (req : List ℕ) (n place : ℕ) → AtFault d req n place → OfRules n
+fault-number d req n place f = breaks-number d req (f .seen) place n (f .breaks)
 
 -- none of them is B5005, nor a success
 pub rules-lack : (n : ℕ) → OfRules n → n ≡ 5005 → ⊥
@@ -295,10 +284,10 @@ rules-fail n (inr (inr (inr (inl h)))) e = true≢false (sym e ∙ rw h)
 rules-fail n (inr (inr (inr (inr h)))) e = true≢false (sym e ∙ rw h)
 
 -- a decision's place is within the request
-pub decide-within : (req t : List ℕ) (count : ℕ) (v : List ℕ) → 20 ≤ length req → decide req t count v .place ≤ length req
-unfolding decide decideJudged performed
-decide-within req t count v h = go (readRequest req) refl
+pub decide-within : (dialect : Dialect) (req t : List ℕ) (count : ℕ) (v : List ℕ) → 20 ≤ length req → decide dialect req t count v .place ≤ length req
+unfolding decideBy judgedBy performedBy
+decide-within dialect req t count v h = go (readIn dialect req) refl
   where
-    go : (j : Judged) → readRequest req ≡ j → decideJudged req t count v j .place ≤ length req
-    go (bad f) e = read-placed req f h e .within
+    go : (j : Judged) → readIn dialect req ≡ j → judgedBy inForce dialect req t count v j .place ≤ length req
+    go (bad f) e = read-placed dialect req f h e .within
     go (fine seen) e = omega arith

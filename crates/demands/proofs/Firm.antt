@@ -1,29 +1,26 @@
 -- How firm the promise is: it leaves one return for each input, and the word returned decides the answer.
-use Prim.Native.Nat.{ℕ, zero, suc, _+_, _*_, _/_, _≤_, _<_}
-use mathlib.Core.Bool.{Bool, true, false, _&&_, cond}
-use mathlib.Core.Path.{_≡_, refl, sym, _∙_}
-use mathlib.Core.Logic.{_≢_}
-use mathlib.Core.List.{List}
-use native.Mathlib.Omega.{arith}
-use lib.ListN.{length}
-use lib.Dec.{leb, eqb}
-use borrow.Author.Tests.{eq-eqb, ne-eqb}
+use Rattle.octets.specs.Standard.{ℕ, zero, suc, _+_, _*_, _≤_, _<_, Bool, true, false, _&&_, cond, _≡_, refl, sym, _∙_, inl, inr, _≢_, List, arith}
+use Rattle.octets.specs.Standard.{length, leb, eqb, eq-eqb, ne-eqb}
 use Rattle.record.specs.HeaderBlock.{headerOf, soundHeader}
 use Rattle.record.proofs.Sound.{header-count}
-use Rattle.blocks.specs.Blocks.{blockOf}
-use Rattle.blocks.specs.Blocks.{firstBad}
+use Rattle.blocks.specs.Blocks.{blockOf, firstBad}
 use Rattle.table.specs.Check.{soundAt, checkRecords, checkTable}
 use Rattle.blocks.specs.declared.Checked.{Checked}
 use Rattle.blocks.specs.declared.Checked.the-variants.{Sound, Bad}
 use Rattle.vectors.specs.VectorFile.{piecesOf, soundPiece, checkVectors}
 use Rattle.vectors.proofs.Pieces.{piece-near}
-use Rattle.calling.specs.Call.{Answer}
-use Rattle.calling.specs.Call.{Answered, Refused}
+use Rattle.calling.specs.Call.{Answer, Answered, Refused}
 use Rattle.calling.specs.Lent.{Lent}
 use Rattle.calling.specs.Serve.{checkValue}
-use Rattle.ndushavire.specs.Word.{word, checkWord, callWord}
-use Rattle.ndushavire.specs.Reads.{numberIn, placeIn, valueIn, Reads, ReadsCheck}
+use Rattle.ndushavire.specs.Word.{word, checkWord, callWord, numberIn, moveWord}
+use Rattle.ndushavire.specs.Reads.{Reads, ReadsCheck, ReadsMove}
+use Rattle.ndushavire.proofs.Parts.{parts}
+use Rattle.moving.specs.Outcomes.{forward, back, ForwardRefuses, BackRefuses}
+use Rattle.moving.specs.declared.Move.{Move}
+use Rattle.moving.specs.declared.Move.the-variants.{Moved}
+use Rattle.moving.proofs.Moving.{forward-moved, forward-refuses, back-moved, back-refuses}
 use Rattle.ndushavire.specs.Promise.{CheckPromise, CheckVectorsPromise, DecidePromise, ForwardPromise, BackPromise, VersionPromise}
+use Rattle.moving.specs.declared.Move.the-variants as move
 
 -- Any two returns that meet the promise are equal.
 pub check-unique : (table profile : List ℕ) (r s : ℕ) → CheckPromise table profile r → CheckPromise table profile s → r ≡ s
@@ -38,18 +35,7 @@ pub decide-unique : (x : Lent) (r s : ℕ) (t u v w o q : List ℕ) → DecidePr
 decide-unique x r s t u v w o q a b =
     (a .word-is ∙ sym (b .word-is), a .table-is ∙ sym (b .table-is), a .vectors-is ∙ sym (b .vectors-is), a .buffer-is ∙ sym (b .buffer-is))
 
--- What is put into a word is read out of it: the number, the place, the value.
-record Parts (number place value : ℕ) : Type 0 where
-  number-is : numberIn (word number place value) ≡ number
-  place-is : placeIn (word number place value) ≡ place
-  value-is : valueIn (word number place value) ≡ value
-
-parts : (number place value : ℕ) → place < 65536 → value < 4294967296 → Parts number place value
-parts number place value l h =
-    let q : word number place value / 4294967296 ≡ number * 65536 + place = omega arith in
-    record { number-is = omega arith; place-is = rw q (omega arith); value-is = omega arith }
-
--- So is a call read back out of its word.
+-- What is put into a word is read out of it; so is a call.
 pub answer-reads : (a : Answer) → a .place < 65536 → a .length < 4294967296 → Reads (Answered a) (callWord (Answered a))
 answer-reads a l h =
     let p = parts 0 (a .place) (a .length) l h in
@@ -140,6 +126,60 @@ pub check-vectors-decides : (v w : List ℕ) → checkWord 6 (checkVectors v) �
 check-vectors-decides v w = word-decides 6 (omega arith) (checkVectors v) (checkVectors w) (vectors-most v) (vectors-most w)
 
 -- The moves between editions.
+moved-reads : (count : ℕ) → count ≤ 4096 → ReadsMove (Moved count) (moveWord (Moved count))
+moved-reads count h =
+    let p = parts 0 0 count (omega arith) (omega arith) in
+    record { number = p .number-is; place = p .place-is; value = p .value-is; move = rw (eq-eqb (numberIn (word 0 0 count)) 0 (p .number-is), p .value-is) }
+
+unmoved-reads : (number block : ℕ) → 1 ≤ number → block ≤ 4096 → ReadsMove (move.Refused number block) (moveWord (move.Refused number block))
+unmoved-reads number block l h =
+    let p = parts number 0 block (omega arith) (omega arith) in
+    let other : numberIn (word number 0 block) ≢ 0 = λ q. omega (arith, p .number-is, q) in
+    record {
+      number = p .number-is;
+      place = p .place-is;
+      value = p .value-is;
+      move = rw (ne-eqb (numberIn (word number 0 block)) 0 other, p .number-is, p .value-is);
+    }
+
+-- a count and a block that the check told
+count-most : (t : List ℕ) (file count : ℕ) → checkTable t file ≡ Sound count → count ≤ 4096
+count-most t file count e = rw e at (check-most t file)
+
+block-most : (t : List ℕ) (file block : ℕ) → checkTable t file ≡ Bad block → block ≤ 4096
+block-most t file block e = rw e at (check-most t file)
+
+pub forward-said : (table profile : List ℕ) (issue : ℕ) {r : ℕ} {t : List ℕ} → ForwardPromise table profile issue r t
+    → ReadsMove (forward table (length profile) issue .move) r
+forward-said table profile issue p = rw (p .word-is) (go (forward table file issue .move) refl)
+  where
+    file : ℕ
+    file = length profile
+
+    refuses : (number block : ℕ) → ForwardRefuses table file number block → ReadsMove (move.Refused number block) (moveWord (move.Refused number block))
+    refuses number block (n, inl e) = unmoved-reads number block (omega arith) (block-most table file block e)
+    refuses number block (n, inr (o, z)) = unmoved-reads number block (omega arith) (omega arith)
+
+    go : (m : Move) → forward table file issue .move ≡ m → ReadsMove m (moveWord m)
+    go (Moved count) e = moved-reads count (count-most table file count (forward-moved table file issue count e .checked))
+    go (move.Refused number block) e = refuses number block (forward-refuses table file issue number block e)
+
+pub back-said : (table profile : List ℕ) {r : ℕ} {t : List ℕ} → BackPromise table profile r t → ReadsMove (back table (length profile) .move) r
+back-said table profile p = rw (p .word-is) (go (back table file .move) refl)
+  where
+    file : ℕ
+    file = length profile
+
+    refuses : (number block : ℕ) → BackRefuses table file number block → ReadsMove (move.Refused number block) (moveWord (move.Refused number block))
+    refuses number block (inl (n, inl e)) = unmoved-reads number block (omega arith) (block-most table file block e)
+    refuses number block (inl (n, inr (o, z))) = unmoved-reads number block (omega arith) (omega arith)
+    refuses number block (inr (n, h)) =
+        unmoved-reads number block (omega arith) (omega (arith, h .first .to, count-most table file (h .count) (h .checked)))
+
+    go : (m : Move) → back table file .move ≡ m → ReadsMove m (moveWord m)
+    go (Moved count) e = moved-reads count (count-most table file count (back-moved table file count e .checked))
+    go (move.Refused number block) e = refuses number block (back-refuses table file number block e)
+
 pub forward-unique : (table profile : List ℕ) (issue r s : ℕ) (t u : List ℕ) → ForwardPromise table profile issue r t → ForwardPromise table profile issue s u
     → (r ≡ s) × (t ≡ u)
 forward-unique table profile issue r s t u p q = (p .word-is ∙ sym (q .word-is), p .table-is ∙ sym (q .table-is))

@@ -1,14 +1,6 @@
 -- Demand 2: what a call leaves alone, and that a sound table stays sound.
-use Prim.Native.Nat.{ℕ, zero, suc, _+_, _*_, _/_, _≤_, _<_}
-use mathlib.Core.List.{List, [], _∷_}
-use mathlib.Core.Option.{Option, some}
-use mathlib.Core.Bool.{Bool, true, false, _||_, true≢false}
-use mathlib.Core.Path.{_≡_, refl, sym, _∙_}
-use mathlib.Core.Logic.{_⊎_, inl, inr, _≢_}
-use native.Mathlib.Omega.{arith}
-use lib.Dec.{eqb}
-use lib.ListN.{length, getD}
-use borrow.Author.Tests.{eqb-true, eq-eqb}
+use Rattle.octets.specs.Standard.{ℕ, zero, suc, _+_, _*_, _/_, _≤_, _<_, List, [], _∷_, Option, some, Bool, true, false, _||_, true≢false, or-true}
+use Rattle.octets.specs.Standard.{_≡_, refl, sym, _∙_, _⊎_, inl, inr, _≢_, arith, eqb, length, getD, eqb-true, eq-eqb}
 use Rattle.record.specs.Sets.{sameSet}
 use Rattle.record.proofs.OneSet.{OneSet, set-says}
 use Rattle.blocks.specs.Blocks.{blockOf}
@@ -18,17 +10,17 @@ use Rattle.blocks.specs.declared.Checked.the-variants.{Sound}
 use Rattle.table.specs.SoundTable.{SoundTable}
 use Rattle.table.proofs.Sound.{sound-size}
 use Rattle.rewrite.specs.Change.{alterable, reaches, Kept}
-use Rattle.rewrite.proofs.Reaching.{reaches-zero, reaches-closed}
-use Rattle.rewrite.proofs.Tables.{Keeping, keeping-same, kept-same, after-frame, after-keeping}
+use Rattle.rewrite.proofs.Tables.{Keeping, keeping-same, kept-same, after-frame}
 use Rattle.diameter.specs.Message.{commandOf}
 use Rattle.blocks.specs.Changed.{isOne}
-use Rattle.fitting.specs.Decide.{Decision}
-use Rattle.calling.specs.Lent.{Lent}
+use Rattle.deciding.specs.Decide.{Decision}
+use Rattle.calling.specs.Lent.{Lent, dialectIn}
 use Rattle.calling.specs.Serve.{checkOf, answered, decision, serve, checkValue}
 use Rattle.demands.specs.Call.{turnedAway}
 use Rattle.demands.specs.Frame.{succeeds, subscriptionOf}
 use Rattle.calling.proofs.Kept.{taken, table-checked}
 use Rattle.demands.proofs.Refusals.{refused-kept, answered-is}
+use Rattle.deciding.proofs.Kept.{decide-keeping}
 use Rattle.demands.proofs.Effects.{Altered, Does, decide-does}
 
 -- The records of a set are of one subscription, so that an effect on records of a subscription reaches no record of another.
@@ -39,10 +31,6 @@ reached-owned t subscription [] own j e = absurd (true≢false (sym e))
 reached-owned t subscription (k ∷ ks) own j e =
     go (eqb j k) (sameSet (blockOf t k) (blockOf t j)) refl refl e (reached-owned t subscription ks (λ i f. own i (rw f (or-true (eqb i k)))) j)
   where
-    or-true : (x : Bool) → (x || true) ≡ true
-    or-true true = refl
-    or-true false = refl
-
     first : isOne (k ∷ ks) k ≡ true
     first = rw (eq-eqb k k refl)
 
@@ -54,17 +42,11 @@ reached-owned t subscription (k ∷ ks) own j e =
         rw (← s .private) (own k first)
     go false false f g i next = next i
 
--- What an effect leaves: of the table what every effect keeps, and the blocks of another subscription.
+-- What an effect leaves: the blocks of another subscription.
 module _ (command : ℕ) (t : List ℕ) (count : ℕ) (v : List ℕ) (subscription : Option (List ℕ)) (d : Decision) (sound : SoundTable t count)
     (a : Altered command t count v subscription d) where
   size : length t ≡ 512 * (count + 1)
   size = sound-size t count sound
-
-  altered-keeping : Keeping t (d .table) count
-  altered-keeping =
-      rw (a .table)
-      (after-keeping t count (a .change) size (reaches t (a .records)) (a .keeps) (reaches-zero t count sound (a .records) ∙ a .later)
-      (reaches-closed t (a .records)))
 
   altered-others : (k : ℕ) → k ≤ count → some (privateAt t k) ≢ subscription → blockOf (d .table) k ≡ blockOf t k
   altered-others k h n = go (reaches t (a .records) k) refl
@@ -82,7 +64,7 @@ module _ (x : Lent) (count : ℕ) (sound : checkOf x ≡ Sound count) where
   v = x .vectors
 
   abbrev asked : Option (List ℕ)
-  asked = subscriptionOf (x .request) t count
+  asked = subscriptionOf (dialectIn x) (x .request) t count
 
   abbrev Wrote : Type 0
   Wrote = Altered (commandOf (x .request)) t count v asked (decision x count)
@@ -92,13 +74,13 @@ module _ (x : Lent) (count : ℕ) (sound : checkOf x ≡ Sound count) where
   unfolding answered
   after-call P p q = go (turnedAway x) refl
     where
-      decided : Does (x .request) t count v (decision x count) → P (decision x count .table) (decision x count .vectors)
+      decided : Does (dialectIn x) (x .request) t count v (decision x count) → P (decision x count .table) (decision x count .vectors)
       decided (inl (e, f)) = rw (e, f) p
       decided (inr a) = q a
 
       go : (y : Bool) → turnedAway x ≡ y → P (serve x .table) (serve x .vectors)
       go true e = rw (refused-kept x e .0, refused-kept x e .1) p
-      go false e = rw (answered-is x count sound e) (decided (decide-does (x .request) t count v))
+      go false e = rw (answered-is x count sound e) (decided (decide-does (dialectIn x) (x .request) t count v))
 
   -- where none is made, both are as they came
   abbrev Left : Type 0
@@ -134,8 +116,7 @@ module _ (x : Lent) (count : ℕ) (sound : checkOf x ≡ Sound count) where
   -- what every effect keeps is kept by every call
   call-keeping : Keeping t (serve x .table) count
   call-keeping =
-      after-call (λ y z. Keeping t y count) (keeping-same t count)
-      (λ a. altered-keeping (commandOf (x .request)) t count v asked (decision x count) says a)
+      after-call (λ y z. Keeping t y count) (keeping-same t count) (λ a. decide-keeping (dialectIn x) (x .request) t count v says)
 
   pub header-kept : blockOf (serve x .table) 0 ≡ blockOf t 0
   header-kept = call-keeping .header

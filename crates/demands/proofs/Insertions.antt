@@ -1,15 +1,7 @@
 -- Demand 3: AVPs of unknown kinds put into a request after its first AVP. Without M nothing changes; the first with M is B5001, unless a fault before it
 -- decides.
-use Prim.Native.Nat.{ℕ, _+_, _%_, _≤_, _<_}
-use mathlib.Core.List.{List, [], _∷_, _++_, append-assoc}
-use mathlib.Core.Option.{some}
-use mathlib.Core.Bool.{Bool, true, false, not, cond, _||_, true≢false}
-use mathlib.Core.Path.{_≡_, refl, sym, ap, _∙_}
-use native.Mathlib.Omega.{arith}
-use native.Mathlib.Nat.{zero-add}
-use lib.ListN.{length, drop, length-append}
-use lib.Dec.{eqb}
-use borrow.Author.Tests.{lt-ltb}
+use Rattle.octets.specs.Standard.{ℕ, _+_, _%_, _≤_, _<_, List, [], _∷_, _++_, append-assoc, some, Bool, true, false, not, cond, _||_, true≢false, _≡_}
+use Rattle.octets.specs.Standard.{refl, sym, ap, _∙_, arith, zero-add, length, drop, length-append, eqb, lt-ltb}
 use Rattle.pen.specs.Bytes.{ifThere}
 use Rattle.diameter.specs.Avp.{padded}
 use Rattle.diameter.specs.Walk.{Walk, ended, avp, walk}
@@ -21,12 +13,13 @@ use Rattle.reading.specs.Kinds.{sessionId, publicIdentity, proxyInfo}
 use Rattle.reading.specs.Rules.{Seen}
 use Rattle.reading.specs.Verdicts.{faultAt, lackOf, faultOf}
 use Rattle.requests.specs.Judged.{Judged, bad, fine, nothing, judge}
-use Rattle.requests.specs.Request.{dialectOf, cx, headerFault, firstOther, missing, complete, readWalk, readRequest, identities}
+use Rattle.requests.specs.Request.{dialectOf, headerFault, firstOther, missing, complete, readWalk, readIn, identities}
 use Rattle.requests.proofs.Insert.{stranger-kind, identity-known, proxy-known, judge-marked, andThen, judge-glue, past}
 use Rattle.failed.specs.Failing.{failedBy}
 use Rattle.failed.proofs.Fronts.{failed-piece, failed-whole}
-use Rattle.fitting.specs.Decide.{faulted, decideJudged, decide}
-use Rattle.reply.specs.Answer.{proxy, proxies}
+use Rattle.deciding.specs.Rules.{inForce}
+use Rattle.deciding.specs.Decide.{faulted, judgedBy, decideBy, decide}
+use Rattle.answering.specs.Answer.{proxy, proxies}
 use Rattle.calling.specs.Lent.{Lent, asking}
 use Rattle.calling.specs.Serve.{checkOf, answered, decision, serve, checkValue}
 use Rattle.demands.specs.Call.{turnedAway}
@@ -37,8 +30,8 @@ use Rattle.demands.proofs.Refusals.{refused-kept, answered-is}
 use Rattle.demands.proofs.Blaming.{fault-answered}
 use Rattle.demands.proofs.Moved.{Moved, faults, same, moved-as, moved-by, judge-amid, past-later, past-bytes, past-drop, failed-there}
 use Rattle.demands.proofs.Moved.{Row-moved, row-moved, ends-none, ends-same}
-use Rattle.demands.proofs.Messages.{message-length, message-drop, message-read}
-use Rattle.demands.proofs.Messages.{readBody, Fit, turned-same, refused-same, Alike, served-same}
+use Rattle.demands.proofs.Messages.{message-dialect, message-length, message-drop, message-read, readBody, Fit, turned-same, refused-same}
+use Rattle.demands.proofs.Messages.{Alike, served-same}
 
 -- what a fold that passes over those put in makes of the longer row
 inserted-same : {X : Type 0} {P : Piece → Type 0} (f : Walk → X) → ((a : List ℕ) (v w : Walk) → f v ≡ f w → f (avp a v) ≡ f (avp a w))
@@ -86,24 +79,24 @@ pub quiet-foreign : {dialect : Dialect} {qs rs : List Piece} → Inserted (Quiet
 quiet-foreign = inserted-as (λ u p. p .foreign)
 
 -- What reading a request comes to, by the header's fault, by rule (b), by what the AVPs in front come to, and by those behind.
-readFrom : List ℕ → Bool → Bool → Judged → (Seen → Judged) → Judged
-readFrom head h f j next =
-    cond h (cond f (bad (lackOf sessionId)) (complete (dialectOf cx head) (andThen j next))) (bad (faultOf (headerFault (dialectOf cx head) head)))
+readFrom : Dialect → List ℕ → Bool → Bool → Judged → (Seen → Judged) → Judged
+readFrom d head h f j next =
+    cond h (cond f (bad (lackOf sessionId)) (complete d (andThen j next))) (bad (faultOf (headerFault d head)))
 
 abbrev frontOther : Piece → List Piece → Bool
 frontOther q ps = firstOther (glue (avpsOf (q ∷ ps)) ended)
 
-abbrev frontJudged : List ℕ → Piece → List Piece → Judged
-frontJudged head q ps = judge (dialectOf cx head) 20 (glue (avpsOf (q ∷ ps)) ended) nothing
+abbrev frontJudged : Dialect → Piece → List Piece → Judged
+frontJudged d q ps = judge d 20 (glue (avpsOf (q ∷ ps)) ended) nothing
 
 abbrev placeBehind : Piece → List Piece → ℕ
 placeBehind q ps = past 20 (avpsOf (q ∷ ps))
 
-read-behind : (head : List ℕ) (q : Piece) (ps : List Piece) (w : Walk)
-    → readBody head (glue (avpsOf (q ∷ ps)) w)
-    ≡ readFrom head (eqb (headerFault (dialectOf cx head) head) 0) (frontOther q ps) (frontJudged head q ps) (judge (dialectOf cx head) (placeBehind q ps) w)
+read-behind : (d : Dialect) (head : List ℕ) (q : Piece) (ps : List Piece) (w : Walk)
+    → readBody d head (glue (avpsOf (q ∷ ps)) w)
+    ≡ readFrom d head (eqb (headerFault d head) 0) (frontOther q ps) (frontJudged d q ps) (judge d (placeBehind q ps) w)
 unfolding readFrom readBody readWalk avpsOf glue
-read-behind head q ps w = rw (judge-glue (dialectOf cx head) 20 (avpsOf (q ∷ ps)) w nothing)
+read-behind d head q ps w = rw (judge-glue d 20 (avpsOf (q ∷ ps)) w nothing)
 
 -- no place is blamed, and no AVP of the request is in Failed-AVP
 module _ {long short : List ℕ} {more : ℕ → ℕ} (none : more 0 ≡ 0) where
@@ -127,49 +120,50 @@ module _ {long short : List ℕ} {more : ℕ → ℕ} (none : more 0 ≡ 0) wher
       go false = lacking-of (missing dialect seen)
 
   -- the AVPs and what is behind them
-  walk-moved : (head : List ℕ) (v w : Walk) → firstOther v ≡ firstOther w
-      → Moved long short 20 more (judge (dialectOf cx head) 20 v nothing) (judge (dialectOf cx head) 20 w nothing)
-      → Moved long short 0 more (readBody head v) (readBody head w)
+  walk-moved : (d : Dialect) (head : List ℕ) (v w : Walk) → firstOther v ≡ firstOther w
+      → Moved long short 20 more (judge d 20 v nothing) (judge d 20 w nothing)
+      → Moved long short 0 more (readBody d head v) (readBody d head w)
   unfolding readBody readWalk
-  walk-moved head v w o m = rw o (go (eqb (headerFault (dialectOf cx head) head) 0) (firstOther w))
+  walk-moved d head v w o m = rw o (go (eqb (headerFault d head) 0) (firstOther w))
     where
       go : (h f : Bool)
           → Moved long short 0 more
-          (cond h (cond f (bad (lackOf sessionId)) (complete (dialectOf cx head) (judge (dialectOf cx head) 20 v nothing)))
-          (bad (faultOf (headerFault (dialectOf cx head) head))))
-          (cond h (cond f (bad (lackOf sessionId)) (complete (dialectOf cx head) (judge (dialectOf cx head) 20 w nothing)))
-          (bad (faultOf (headerFault (dialectOf cx head) head))))
-      go false f = fault-of (headerFault (dialectOf cx head) head)
+          (cond h (cond f (bad (lackOf sessionId)) (complete d (judge d 20 v nothing)))
+          (bad (faultOf (headerFault d head))))
+          (cond h (cond f (bad (lackOf sessionId)) (complete d (judge d 20 w nothing)))
+          (bad (faultOf (headerFault d head))))
+      go false f = fault-of (headerFault d head)
       go true true = lacking-of sessionId
-      go true false = complete-moved (dialectOf cx head) m
+      go true false = complete-moved d m
 
   -- a fault in front decides, whatever is behind
-  fault-decides : (head : List ℕ) (h f : Bool) {from : ℕ} {i j : Judged} (k l : Seen → Judged) → Moved long short from more i j
+  fault-decides : (d : Dialect) (head : List ℕ) (h f : Bool) {from : ℕ} {i j : Judged} (k l : Seen → Judged) → Moved long short from more i j
       → (not h || f || isFault j) ≡ true
-      → Moved long short 0 more (readFrom head h f i k) (readFrom head h f j l)
+      → Moved long short 0 more (readFrom d head h f i k) (readFrom d head h f j l)
   unfolding readFrom andThen complete
-  fault-decides head false f k l m e = fault-of (headerFault (dialectOf cx head) head)
-  fault-decides head true true k l m e = lacking-of sessionId
-  fault-decides head true false k l (faults x y m) e = moved-as (omega arith) (λ p h. refl) (faults x y m)
-  fault-decides head true false k l (same seen) e = absurd (true≢false (sym e))
+  fault-decides d head false f k l m e = fault-of (headerFault d head)
+  fault-decides d head true true k l m e = lacking-of sessionId
+  fault-decides d head true false k l (faults x y m) e = moved-as (omega arith) (λ p h. refl) (faults x y m)
+  fault-decides d head true false k l (same seen) e = absurd (true≢false (sym e))
 
-  fault-keeps : (head : List ℕ) (h f : Bool) {from : ℕ} {i j : Judged} (k : Seen → Judged) → Moved long short from more i j → (not h || f || isFault j) ≡ true
+  fault-keeps : (d : Dialect) (head : List ℕ) (h f : Bool) {from : ℕ} {i j : Judged} (k : Seen → Judged) → Moved long short from more i j
+      → (not h || f || isFault j) ≡ true
       → (req t : List ℕ) (count : ℕ) (v : List ℕ)
-      → (decideJudged req t count v (readFrom head h f i k) .table ≡ t) × (decideJudged req t count v (readFrom head h f i k) .vectors ≡ v)
-  unfolding readFrom andThen complete decideJudged
-  fault-keeps head false f k m e req t count v = (refl, refl)
-  fault-keeps head true true k m e req t count v = (refl, refl)
-  fault-keeps head true false k (faults x y m) e req t count v = (refl, refl)
-  fault-keeps head true false k (same seen) e req t count v = absurd (true≢false (sym e))
+      → (judgedBy inForce d req t count v (readFrom d head h f i k) .table ≡ t) × (judgedBy inForce d req t count v (readFrom d head h f i k) .vectors ≡ v)
+  unfolding readFrom andThen complete judgedBy
+  fault-keeps d head false f k m e req t count v = (refl, refl)
+  fault-keeps d head true true k m e req t count v = (refl, refl)
+  fault-keeps d head true false k (faults x y m) e req t count v = (refl, refl)
+  fault-keeps d head true false k (same seen) e req t count v = absurd (true≢false (sym e))
 
-  none-decides : (head : List ℕ) (h f : Bool) {from : ℕ} {i j : Judged} (k : Seen → Judged) (v : Verdict) → Moved long short from more i j
+  none-decides : (d : Dialect) (head : List ℕ) (h f : Bool) {from : ℕ} {i j : Judged} (k : Seen → Judged) (v : Verdict) → Moved long short from more i j
       → (not h || f || isFault j) ≡ false
-      → ((seen : Seen) → k seen ≡ bad v) → readFrom head h f i k ≡ bad v
+      → ((seen : Seen) → k seen ≡ bad v) → readFrom d head h f i k ≡ bad v
   unfolding readFrom andThen complete
-  none-decides head false f k v m e g = absurd (true≢false e)
-  none-decides head true true k v m e g = absurd (true≢false e)
-  none-decides head true false k v (faults x y m) e g = absurd (true≢false e)
-  none-decides head true false k v (same seen) e g = rw (g seen)
+  none-decides d head false f k v m e g = absurd (true≢false e)
+  none-decides d head true true k v m e g = absurd (true≢false e)
+  none-decides d head true false k v (faults x y m) e g = absurd (true≢false e)
+  none-decides d head true false k v (same seen) e g = rw (g seen)
 
 mark-judged : (dialect : Dialect) (at : ℕ) (m : Piece) (w : Walk) (seen : Seen) → Foreign dialect m → isMarked m ≡ true
     → judge dialect at (avp (m .avp) w) seen ≡ bad (faultAt 5001 at)
@@ -182,7 +176,7 @@ none-before q i = rw (lt-ltb 0 (20 + padded (length (q .avp))) (omega arith))
 
 -- A request, the row of its AVPs after the first, the longer row, and what is behind it.
 module _ (head : List ℕ) (twenty : length head ≡ 20) (q : Piece) (qs rs : List Piece) (whole : All Whole (q ∷ qs)) (tail : List ℕ) (fours : length tail % 4 ≡ 0)
-    (most : length (requestOf head (q ∷ rs) tail) ≤ 16384) where
+    (most : length (requestOf head (q ∷ rs) tail) ≤ 16384) (x : Lent) where
   abbrev short : List ℕ
   short = bytesOf (q ∷ qs) ++ tail
 
@@ -196,7 +190,7 @@ module _ (head : List ℕ) (twenty : length head ≡ 20) (q : Piece) (qs rs : Li
   even : (ps : List Piece) → All Whole ps → length (bytesOf ps ++ tail) % 4 ≡ 0
   even ps w = rw (length-append (bytesOf ps) tail) (omega (arith, row-even ps w, fours))
 
-  module _ (i : Inserted (Foreign (dialectOf cx head)) qs rs) where
+  module _ (i : Inserted (Foreign (dialectOf (x .terms) head)) qs rs) where
     long-whole : All Whole (q ∷ rs)
     long-whole = (whole .0, inserted-whole (λ u p. p .whole) i (whole .1))
 
@@ -223,33 +217,35 @@ module _ (head : List ℕ) (twenty : length head ≡ 20) (q : Piece) (qs rs : Li
     both-named = rw (long-walk, short-walk) (foreign-identities (keep q i) (walk tail))
 
     both-served : {from : ℕ} {more : ℕ → ℕ} → more 0 ≡ 0
-        → Moved (message head long) (message head short) from more (readBody head (walk long)) (readBody head (walk short))
-        → (x : Lent) → serve (asking x (message head long)) ≡ placed (later more) (serve (asking x (message head short)))
-    both-served z e x = served-same head twenty long short both-alike z e both-named x long-fit short-fit
+        → Moved (message head long) (message head short) from more (readBody (dialectOf (x .terms) head) head (walk long))
+        (readBody (dialectOf (x .terms) head) head (walk short))
+        → serve (asking x (message head long)) ≡ placed (later more) (serve (asking x (message head short)))
+    both-served z e = served-same x head twenty long short both-alike z e both-named long-fit short-fit
 
-    turned : (x : Lent) → turnedAway (asking x (message head long)) ≡ turnedAway (asking x (message head short))
-    turned x = turned-same head twenty long short long-fit short-fit x
+    turned : turnedAway (asking x (message head long)) ≡ turnedAway (asking x (message head short))
+    turned = turned-same head twenty long short long-fit short-fit x
 
-    pub both-refused : (x : Lent) (f : ℕ → ℕ) → turnedAway (asking x (message head short)) ≡ true
+    pub both-refused : (f : ℕ → ℕ) → turnedAway (asking x (message head short)) ≡ true
         → serve (asking x (message head long)) ≡ placed f (serve (asking x (message head short)))
-    both-refused x f e = refused-same head twenty long short long-fit short-fit x f e
+    both-refused f e = refused-same head twenty long short long-fit short-fit x f e
 
   -- the verdict of reading: the place of the AVP at fault moves by what was put in before it
-  pub unmarked-moved : (j : Inserted (Quiet (dialectOf cx head)) qs rs)
-      → Moved (message head long) (message head short) 0 (putBefore (keep q j) 20) (readBody head (walk long)) (readBody head (walk short))
+  pub unmarked-moved : (j : Inserted (Quiet (dialectOf (x .terms) head)) qs rs)
+      → Moved (message head long) (message head short) 0 (putBefore (keep q j) 20) (readBody (dialectOf (x .terms) head) head (walk long))
+      (readBody (dialectOf (x .terms) head) head (walk short))
   unfolding Row-moved avpsOf glue
   unmarked-moved j =
       let s = message head short in
       let l = message head long in
       let w = walk tail in
-      let ends = ends-same (dialectOf cx head) l s tail fours in
-      let m = row-moved (dialectOf cx head) l s tail tail w w ends (keep q j) whole 20 0 (omega arith) (message-drop head twenty long)
+      let ends = ends-same (dialectOf (x .terms) head) l s tail fours in
+      let m = row-moved (dialectOf (x .terms) head) l s tail tail w w ends (keep q j) whole 20 0 (omega arith) (message-drop head twenty long)
       (message-drop head twenty short) nothing in
       rw (long-walk (quiet-foreign j), short-walk)
-      (walk-moved (none-before q j) head (avp (q .avp) (glue (avpsOf rs) w)) (avp (q .avp) (glue (avpsOf qs) w)) refl
+      (walk-moved (none-before q j) (dialectOf (x .terms) head) head (avp (q .avp) (glue (avpsOf rs) w)) (avp (q .avp) (glue (avpsOf qs) w)) refl
       (moved-as (omega arith) (λ p h. zero-add (putBefore (keep q j) 20 p)) m))
 
-  pub unmarked-same : (j : Inserted (Quiet (dialectOf cx head)) qs rs) (x : Lent)
+  pub unmarked-same : (j : Inserted (Quiet (dialectOf (x .terms) head)) qs rs)
       → serve (asking x (message head long)) ≡ placed (placeNow (keep q j)) (serve (asking x (message head short)))
   unmarked-same j = both-served (quiet-foreign j) (none-before q j) (unmarked-moved j)
 
@@ -271,8 +267,11 @@ row-joined : (q : Piece) (ps ss : List Piece) (w : Walk) → glue (avpsOf (q ∷
 row-joined q ps ss w = rw (avps-joined (q ∷ ps) ss) (glue-glue (avpsOf (q ∷ ps)) (avpsOf ss) w)
 
 module _ (head : List ℕ) (twenty : length head ≡ 20) (q : Piece) (qs rs : List Piece) (whole : All Whole (q ∷ qs)) (tail : List ℕ) (fours : length tail % 4 ≡ 0)
-    (most : length (requestOf head (q ∷ rs) tail) ≤ 16384) (m : FirstMarked (dialectOf cx head) qs rs) where
-  abbrev i : Inserted (Foreign (dialectOf cx head)) qs rs
+    (most : length (requestOf head (q ∷ rs) tail) ≤ 16384) (x : Lent) (m : FirstMarked (dialectOf (x .terms) head) qs rs) where
+  abbrev dialect : Dialect
+  dialect = dialectOf (x .terms) head
+
+  abbrev i : Inserted (Foreign dialect) qs rs
   i = marked-inserted m
 
   abbrev longer : List ℕ
@@ -282,7 +281,7 @@ module _ (head : List ℕ) (twenty : length head ≡ 20) (q : Piece) (qs rs : Li
   shorter = requestOf head (q ∷ qs) tail
 
   abbrev headed : Bool
-  headed = eqb (headerFault (dialectOf cx head) head) 0
+  headed = eqb (headerFault dialect head) 0
 
   -- the bytes of both, with the row in front apart
   long-bytes : bytesOf (q ∷ rs) ++ tail ≡ bytesOf (q ∷ m .before) ++ (bytesOf (m .mark ∷ m .after) ++ tail)
@@ -301,16 +300,16 @@ module _ (head : List ℕ) (twenty : length head ≡ 20) (q : Piece) (qs rs : Li
   abbrev rest : List ℕ
   rest = bytesOf (m .mark ∷ m .after) ++ tail
 
-  abbrev frontal : Inserted (Quiet (dialectOf cx head)) (q ∷ m .front) (q ∷ m .before)
+  abbrev frontal : Inserted (Quiet dialect) (q ∷ m .front) (q ∷ m .before)
   frontal = keep q (m .quiet)
 
   -- those in front, in both messages
-  front-moved : Moved longer shorter 20 (putBefore frontal 20) (frontJudged head q (m .before)) (frontJudged head q (m .front))
+  front-moved : Moved longer shorter 20 (putBefore frontal 20) (frontJudged dialect q (m .before)) (frontJudged dialect q (m .front))
   unfolding Row-moved
   front-moved =
       moved-as (omega arith) (λ p h. zero-add (putBefore frontal 20 p))
-      (row-moved (dialectOf cx head) longer shorter rest (bytesOf (m .back) ++ tail) ended ended
-      (ends-none (dialectOf cx head) longer shorter rest (bytesOf (m .back) ++ tail)) frontal
+      (row-moved dialect longer shorter rest (bytesOf (m .back) ++ tail) ended ended
+      (ends-none dialect longer shorter rest (bytesOf (m .back) ++ tail)) frontal
       front-whole 20 0 (omega arith) (message-drop head twenty (bytesOf (q ∷ rs) ++ tail) ∙ long-bytes)
       (message-drop head twenty (bytesOf (q ∷ qs) ++ tail) ∙ short-bytes) nothing)
 
@@ -323,53 +322,54 @@ module _ (head : List ℕ) (twenty : length head ≡ 20) (q : Piece) (qs rs : Li
   markPlace = placeBehind q (m .before)
 
   abbrev behind : ℕ → List Piece → Seen → Judged
-  behind at ps = judge (dialectOf cx head) at (glue (avpsOf ps) (walk tail))
+  behind at ps = judge dialect at (glue (avpsOf ps) (walk tail))
 
   abbrev longRead : Judged
-  longRead = readFrom head headed (frontOther q (m .front)) (frontJudged head q (m .before)) (behind markPlace (m .mark ∷ m .after))
+  longRead = readFrom dialect head headed (frontOther q (m .front)) (frontJudged dialect q (m .before)) (behind markPlace (m .mark ∷ m .after))
 
-  long-read : readBody head (walk (bytesOf (q ∷ rs) ++ tail)) ≡ longRead
+  long-read : readBody dialect head (walk (bytesOf (q ∷ rs) ++ tail)) ≡ longRead
   long-read =
-      ap (readBody head)
-      (walk-pieces (q ∷ rs) tail (long-whole head twenty q qs rs whole tail fours most i)
+      ap (readBody dialect head)
+      (walk-pieces (q ∷ rs) tail (long-whole head twenty q qs rs whole tail fours most x i)
       ∙ ap (λ (l : List Piece). glue (avpsOf (q ∷ l)) (walk tail)) (m .longer)
       ∙ row-joined q (m .before) (m .mark ∷ m .after) (walk tail))
-      ∙ read-behind head q (m .before) (glue (avpsOf (m .mark ∷ m .after)) (walk tail))
+      ∙ read-behind dialect head q (m .before) (glue (avpsOf (m .mark ∷ m .after)) (walk tail))
       ∙ rw other-same
 
-  short-read : readBody head (walk (bytesOf (q ∷ qs) ++ tail))
-      ≡ readFrom head headed (frontOther q (m .front)) (frontJudged head q (m .front)) (behind (placeBehind q (m .front)) (m .back))
+  short-read : readBody dialect head (walk (bytesOf (q ∷ qs) ++ tail))
+      ≡ readFrom dialect head headed (frontOther q (m .front)) (frontJudged dialect q (m .front)) (behind (placeBehind q (m .front)) (m .back))
   short-read =
-      ap (readBody head)
+      ap (readBody dialect head)
       (walk-pieces (q ∷ qs) tail whole ∙ ap (λ (l : List Piece). glue (avpsOf (q ∷ l)) (walk tail)) (m .row) ∙ row-joined q (m .front) (m .back) (walk tail))
-      ∙ read-behind head q (m .front) (glue (avpsOf (m .back)) (walk tail))
+      ∙ read-behind dialect head q (m .front) (glue (avpsOf (m .back)) (walk tail))
 
   -- a fault before the first marked one decides: the same verdict, its place moved by what was put in before it
   module _ (more : ℕ → ℕ) (none : more 0 ≡ 0) (so : (p : ℕ) → 20 ≤ p → p < placeBehind q (m .front) → putBefore frontal 20 p ≡ more p) where
-    front-more : Moved longer shorter 20 more (frontJudged head q (m .before)) (frontJudged head q (m .front))
+    front-more : Moved longer shorter 20 more (frontJudged dialect q (m .before)) (frontJudged dialect q (m .front))
     front-more =
-        moved-by (λ w e. let a = judge-amid (dialectOf cx head) 20 (q ∷ m .front) front-whole nothing w e in so (w .place) (a .least) (a .most)) front-moved
+        moved-by (λ w e. let a = judge-amid dialect 20 (q ∷ m .front) front-whole nothing w e in so (w .place) (a .least) (a .most)) front-moved
 
-    fault-moved : faultIn head (q ∷ m .front) ≡ true
-        → Moved longer shorter 0 more (readBody head (walk (bytesOf (q ∷ rs) ++ tail))) (readBody head (walk (bytesOf (q ∷ qs) ++ tail)))
+    fault-moved : faultIn dialect head (q ∷ m .front) ≡ true
+        → Moved longer shorter 0 more (readBody dialect head (walk (bytesOf (q ∷ rs) ++ tail))) (readBody dialect head (walk (bytesOf (q ∷ qs) ++ tail)))
     unfolding faultIn
-    fault-moved e = rw (long-read, short-read) (fault-decides none head headed (frontOther q (m .front)) _ _ front-more e)
+    fault-moved e = rw (long-read, short-read) (fault-decides none dialect head headed (frontOther q (m .front)) _ _ front-more e)
 
-    pub fault-more : faultIn head (q ∷ m .front) ≡ true → (x : Lent) → serve (asking x longer) ≡ placed (later more) (serve (asking x shorter))
-    fault-more e = both-served head twenty q qs rs whole tail fours most i none (fault-moved e)
+    pub fault-more : faultIn dialect head (q ∷ m .front) ≡ true → serve (asking x longer) ≡ placed (later more) (serve (asking x shorter))
+    fault-more e = both-served head twenty q qs rs whole tail fours most x i none (fault-moved e)
 
-  pub fault-first : faultIn head (q ∷ m .front) ≡ true → (x : Lent) → serve (asking x longer) ≡ placed (placeNow frontal) (serve (asking x shorter))
+  pub fault-first : faultIn dialect head (q ∷ m .front) ≡ true → serve (asking x longer) ≡ placed (placeNow frontal) (serve (asking x shorter))
   fault-first = fault-more (putBefore frontal 20) (none-before q (m .quiet)) (λ p l h. refl)
 
   -- else the marked one does: its place is where it stands
-  pub mark-read : faultIn head (q ∷ m .front) ≡ false → readRequest longer ≡ bad (faultAt 5001 markPlace)
+  pub mark-read : faultIn dialect head (q ∷ m .front) ≡ false → readIn (dialectOf (x .terms) longer) longer ≡ bad (faultAt 5001 markPlace)
   unfolding faultIn avpsOf glue
   mark-read e =
-      message-read head twenty (bytesOf (q ∷ rs) ++ tail)
+      ap (λ (d : Dialect). readIn d longer) (message-dialect head twenty (bytesOf (q ∷ rs) ++ tail) (x .terms))
+      ∙ message-read dialect head twenty (bytesOf (q ∷ rs) ++ tail)
       ∙ long-read
-      ∙ none-decides (none-before q (m .quiet)) head headed (frontOther q (m .front)) (behind markPlace (m .mark ∷ m .after))
+      ∙ none-decides (none-before q (m .quiet)) dialect head headed (frontOther q (m .front)) (behind markPlace (m .mark ∷ m .after))
       (faultAt 5001 markPlace) front-moved e
-      (λ seen. mark-judged (dialectOf cx head) markPlace (m .mark) (glue (avpsOf (m .after)) (walk tail)) seen (m .foreign) (m .marking))
+      (λ seen. mark-judged dialect markPlace (m .mark) (glue (avpsOf (m .after)) (walk tail)) seen (m .foreign) (m .marking))
 
   pub mark-there : drop markPlace longer ≡ rest
   mark-there = past-drop longer 20 (q ∷ m .before) rest before-whole (message-drop head twenty (bytesOf (q ∷ rs) ++ tail) ∙ long-bytes)
@@ -386,25 +386,27 @@ module _ (head : List ℕ) (twenty : length head ≡ 20) (q : Piece) (qs rs : Li
       )
       (ap some (failed-whole (m .mark) 5001 (m .foreign .whole) refl))
 
-  mark-decides : faultIn head (q ∷ m .front) ≡ false → (t : List ℕ) (count : ℕ) (v : List ℕ)
-      → decide longer t count v ≡ faulted t v (faultAt 5001 markPlace)
-  unfolding decide decideJudged
+  mark-decides : faultIn dialect head (q ∷ m .front) ≡ false → (t : List ℕ) (count : ℕ) (v : List ℕ)
+      → decide (dialectOf (x .terms) longer) longer t count v ≡ faulted t v (faultAt 5001 markPlace)
+  unfolding decideBy judgedBy
   mark-decides e t count v = rw (mark-read e)
 
-  pub mark-answered : faultIn head (q ∷ m .front) ≡ false → (x : Lent) → turnedAway (asking x shorter) ≡ false
+  pub mark-answered : faultIn dialect head (q ∷ m .front) ≡ false → turnedAway (asking x shorter) ≡ false
       → serve (asking x longer) ≡ unsupported (asking x longer) (m .mark) (behindRow (q ∷ m .before))
-  mark-answered e x away =
-      let f : turnedAway (asking x longer) ≡ false = turned head twenty q qs rs whole tail fours most i x ∙ away in
+  mark-answered e away =
+      let f : turnedAway (asking x longer) ≡ false = turned head twenty q qs rs whole tail fours most x i ∙ away in
       fault-answered (asking x longer) 5001 markPlace (m .mark .avp) mark-failed (mark-read e) f
       ∙ ap (unsupported (asking x longer) (m .mark)) (past-bytes 20 (q ∷ m .before) before-whole)
 
-  long-decides : (t : List ℕ) (count : ℕ) (v : List ℕ) → decide longer t count v ≡ decideJudged longer t count v longRead
-  unfolding decide
-  long-decides t count v = rw (message-read head twenty (bytesOf (q ∷ rs) ++ tail), long-read)
+  long-decides : (t : List ℕ) (count : ℕ) (v : List ℕ) → decide (dialectOf (x .terms) longer) longer t count v
+      ≡ judgedBy inForce dialect longer t count v longRead
+  unfolding decideBy
+  long-decides t count v =
+      rw (message-dialect head twenty (bytesOf (q ∷ rs) ++ tail) (x .terms), message-read dialect head twenty (bytesOf (q ∷ rs) ++ tail), long-read)
 
-  pub marked-kept : (x : Lent) → (serve (asking x longer) .table ≡ x .table) × (serve (asking x longer) .vectors ≡ x .vectors)
+  pub marked-kept : (serve (asking x longer) .table ≡ x .table) × (serve (asking x longer) .vectors ≡ x .vectors)
   unfolding answered faultIn
-  marked-kept x = go (turnedAway (asking x longer)) refl (faultIn head (q ∷ m .front)) refl
+  marked-kept = go (turnedAway (asking x longer)) refl (faultIn dialect head (q ∷ m .front)) refl
     where
       count : ℕ
       count = checkValue (checkOf x)
@@ -412,11 +414,12 @@ module _ (head : List ℕ) (twenty : length head ≡ 20) (q : Piece) (qs rs : Li
       answers : turnedAway (asking x longer) ≡ false → serve (asking x longer) ≡ answered (asking x longer) (decision (asking x longer) count)
       answers e = answered-is (asking x longer) count (taken (asking x longer) e .table) e
 
-      go : (y : Bool) → turnedAway (asking x longer) ≡ y → (z : Bool) → faultIn head (q ∷ m .front) ≡ z
+      go : (y : Bool) → turnedAway (asking x longer) ≡ y → (z : Bool) → faultIn dialect head (q ∷ m .front) ≡ z
           → (serve (asking x longer) .table ≡ x .table) × (serve (asking x longer) .vectors ≡ x .vectors)
       go true e z f = let k = refused-kept (asking x longer) e in (k .0, k .1)
       go false e true f =
           rw (answers e, long-decides (x .table) count (x .vectors))
-          (fault-keeps (none-before q (m .quiet)) head headed (frontOther q (m .front)) (behind markPlace (m .mark ∷ m .after)) front-moved f longer (x .table)
+          (fault-keeps (none-before q (m .quiet)) dialect head headed (frontOther q (m .front))
+          (behind markPlace (m .mark ∷ m .after)) front-moved f longer (x .table)
           count (x .vectors))
       go false e false f = rw (answers e, mark-decides f (x .table) count (x .vectors)) (refl, refl)

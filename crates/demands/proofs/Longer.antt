@@ -1,23 +1,15 @@
 -- Demand 3 about two requests as bytes: those put in are unmarked, or one of them is the first that is marked, and each case is a law.
-use Prim.Native.Nat.{ℕ, _+_, _%_, _≤_, _<_}
-use mathlib.Core.List.{List, [], _∷_}
-use mathlib.Core.Option.{none, some, Option·none-ne-some}
-use mathlib.Core.Bool.{Bool, true, false, cond, _||_}
-use mathlib.Core.Path.{_≡_, refl, sym, ap, _∙_, fun-ext}
-use mathlib.Core.Logic.{_⊎_, inl, inr}
-use native.Mathlib.Omega.{arith}
-use lib.ListN.{length}
-use lib.Dec.{ltb}
-use borrow.Author.Tests.{ltb-false}
+use Rattle.octets.specs.Standard.{ℕ, _+_, _%_, _≤_, _<_, List, [], _∷_, none, some, Option·none-ne-some, Bool, true, false, cond, _||_, _≡_, refl}
+use Rattle.octets.specs.Standard.{sym, ap, _∙_, fun-ext, _⊎_, inl, inr, arith, length, ltb, ltb-false}
 use Rattle.diameter.specs.Put.{Piece, avpsOf, Whole, All}
 use Rattle.reading.specs.declared.Dialect.{Dialect}
-use Rattle.requests.specs.Request.{dialectOf, cx}
+use Rattle.requests.specs.Request.{dialectOf}
 use Rattle.requests.proofs.Insert.{past}
 use Rattle.calling.specs.Lent.{Lent, asking}
 use Rattle.calling.specs.Serve.{serve}
 use Rattle.demands.specs.Call.{turnedAway}
-use Rattle.demands.specs.Insertion.{requestOf, Foreign, isMarked, Quiet, Inserted, ending, keep, put, FirstMarked, faultIn, unsupported, Longer, Mark}
-use Rattle.demands.specs.Insertion.{sizeOf, putBefore, placeNow, placed, behindRow, behind, firstMark, newer, Newer}
+use Rattle.demands.specs.Insertion.{requestOf, Foreign, isMarked, Quiet, Inserted, ending, keep, put, FirstMarked, faultIn, unsupported, Longer}
+use Rattle.demands.specs.Insertion.{Mark, sizeOf, putBefore, placeNow, placed, behindRow, behind, firstMark, newer, Newer}
 use Rattle.demands.proofs.Insertions.{none-before, unmarked-same, both-refused, marked-kept, mark-answered, fault-more}
 
 -- none is marked
@@ -27,13 +19,13 @@ record None {dialect : Dialect} {qs rs : List Piece} (i : Inserted (Foreign dial
   before : (at p : ℕ) → putBefore quiet at p ≡ putBefore i at p
 
 -- the mark that is found, with the rows around it; before an AVP in front of it stand unmarked ones alone
-record Found {dialect : Dialect} {qs rs : List Piece} (i : Inserted (Foreign dialect) qs rs) : Type 0 where
+record MarkFound {dialect : Dialect} {qs rs : List Piece} (i : Inserted (Foreign dialect) qs rs) : Type 0 where
   first : FirstMarked dialect qs rs
   is : firstMark i ≡ some (record { front = first .front; before = first .before; mark = first .mark })
   before : (at p : ℕ) → at ≤ p → p < past at (avpsOf (first .front)) → putBefore (first .quiet) at p ≡ putBefore i at p
 
 abbrev Split : {dialect : Dialect} {qs rs : List Piece} → Inserted (Foreign dialect) qs rs → Type 0
-Split {dialect} {qs} {rs} i = None i ⊎ Found i
+Split {dialect} {qs} {rs} i = None i ⊎ MarkFound i
 
 split-keep : (q : Piece) {dialect : Dialect} {qs rs : List Piece} (i : Inserted (Foreign dialect) qs rs) → Split i → Split (keep q i)
 unfolding firstMark putBefore avpsOf past
@@ -126,7 +118,7 @@ marked-or-not {dialect} {qs} {rs} i = go (split i)
 
 -- A request, its AVPs after the first, the longer row, and what is behind it.
 module _ (head : List ℕ) (twenty : length head ≡ 20) (q : Piece) (qs rs : List Piece) (whole : All Whole (q ∷ qs)) (tail : List ℕ) (fours : length tail % 4 ≡ 0)
-    (most : length (requestOf head (q ∷ rs) tail) ≤ 16384) (x : Lent) (i : Inserted (Foreign (dialectOf cx head)) qs rs) where
+    (most : length (requestOf head (q ∷ rs) tail) ≤ 16384) (x : Lent) (i : Inserted (Foreign (dialectOf (x .terms) head)) qs rs) where
   abbrev short : Lent
   short = asking x (requestOf head (q ∷ qs) tail)
 
@@ -137,7 +129,7 @@ module _ (head : List ℕ) (twenty : length head ≡ 20) (q : Piece) (qs rs : Li
   now = placeNow (keep q i)
 
   -- what was put in before a place, by the row in front alone
-  found-before : (f : Found i) (p : ℕ) → 20 ≤ p → p < past 20 (avpsOf (q ∷ f .first .front))
+  found-before : (f : MarkFound i) (p : ℕ) → 20 ≤ p → p < past 20 (avpsOf (q ∷ f .first .front))
       → putBefore (keep q (f .first .quiet)) 20 p ≡ putBefore (keep q i) 20 p
   unfolding putBefore avpsOf past
   found-before f p l h = go (ltb p (20 + sizeOf q)) refl
@@ -147,26 +139,26 @@ module _ (head : List ℕ) (twenty : length head ≡ 20) (q : Piece) (qs rs : Li
       go true e = refl
       go false e = f .before (20 + sizeOf q) p (ltb-false p (20 + sizeOf q) e) h
 
-  marked-newer : (f : Found i) (y z : Bool) → turnedAway short ≡ y → faultIn head (q ∷ f .first .front) ≡ z
+  marked-newer : (f : MarkFound i) (y z : Bool) → turnedAway short ≡ y → faultIn (dialectOf (x .terms) head) head (q ∷ f .first .front) ≡ z
       → serve long ≡ cond (y || z) (placed now (serve short)) (unsupported long (f .first .mark) (behindRow (q ∷ f .first .before)))
-  marked-newer f true z a b = both-refused head twenty q qs rs whole tail fours most i x now a
+  marked-newer f true z a b = both-refused head twenty q qs rs whole tail fours most x i now a
   marked-newer f false true a b =
-      fault-more head twenty q qs rs whole tail fours most (f .first) (putBefore (keep q i) 20) (none-before q i) (found-before f) b x
-  marked-newer f false false a b = mark-answered head twenty q qs rs whole tail fours most (f .first) b x a
+      fault-more head twenty q qs rs whole tail fours most x (f .first) (putBefore (keep q i) 20) (none-before q i) (found-before f) b
+  marked-newer f false false a b = mark-answered head twenty q qs rs whole tail fours most x (f .first) b a
 
   row-newer : Split i → serve long ≡ newer short (long .request) head q now (firstMark i)
   unfolding newer putBefore
   row-newer (inl n) =
       let same : (p : ℕ) → placeNow (keep q (n .quiet)) p ≡ now p = λ p. rw (n .before (20 + sizeOf q) p) in
-      rw (n .is) (unmarked-same head twenty q qs rs whole tail fours most (n .quiet) x ∙ ap (λ (f : ℕ → ℕ). placed f (serve short)) (fun-ext same))
-  row-newer (inr f) = rw (f .is) (marked-newer f (turnedAway short) (faultIn head (q ∷ f .first .front)) refl refl)
+      rw (n .is) (unmarked-same head twenty q qs rs whole tail fours most x (n .quiet) ∙ ap (λ (f : ℕ → ℕ). placed f (serve short)) (fun-ext same))
+  row-newer (inr f) = rw (f .is) (marked-newer f (turnedAway short) (faultIn (dialectOf (x .terms) head) head (q ∷ f .first .front)) refl refl)
 
   row-kept : Split i → (m : Mark) → firstMark i ≡ some m → (serve long .table ≡ x .table) × (serve long .vectors ≡ x .vectors)
   row-kept (inl n) m g = absurd (Option·none-ne-some m (sym (n .is) ∙ g))
-  row-kept (inr f) m g = marked-kept head twenty q qs rs whole tail fours most (f .first) x
+  row-kept (inr f) m g = marked-kept head twenty q qs rs whole tail fours most x (f .first)
 
 -- The same of the bytes.
-pub longer-newer : (x : Lent) (longer : List ℕ) (l : Longer (x .request) longer) → Newer x longer l
+pub longer-newer : (x : Lent) (longer : List ℕ) (l : Longer (x .terms) (x .request) longer) → Newer x longer l
 longer-newer x longer l =
     let c = l .cut in
     let long = requestOf (c .head) (c .first ∷ l .row) (c .tail) in

@@ -1,26 +1,21 @@
 -- A request of a header and a body: what is read out of it, and that a call looks at the header and the walk over the body alone.
-use Prim.Native.Nat.{ℕ, zero, suc, _+_, _/_, _%_, _<_, _≤_}
-use mathlib.Core.List.{List}
-use mathlib.Core.Bool.{Bool, true, false, cond}
-use mathlib.Core.Path.{_≡_, refl, sym, ap, _∙_}
-use mathlib.Core.Logic.{_≢_}
-use native.Mathlib.Omega.{arith}
-use native.Mathlib.Nat.{zero-add}
-use lib.ListN.{length, getD, set, take, drop, length-set, length-append, length-drop, List·getD-append}
-use lib.Seq.{drop-at, take-append-le, drop-append-le, drop-set-lt, getD-set-other}
-use lib.Dec.{eqb}
-use borrow.Author.Tests.{eq-eqb, ne-eqb, le-ltb}
+use Rattle.octets.specs.Standard.{ℕ, zero, suc, _+_, _/_, _%_, _<_, _≤_, List, Bool, true, false, cond, _≡_, refl, sym, ap, _∙_, _≢_, arith, zero-add}
+use Rattle.octets.specs.Standard.{length, getD, set, take, drop, length-set, length-append, length-drop, List·getD-append, drop-at, take-append-le}
+use Rattle.octets.specs.Standard.{drop-append-le, drop-set-lt, getD-set-other, eqb, eq-eqb, ne-eqb, le-ltb}
 use Rattle.octets.specs.Number.{be24At, putBe24}
 use Rattle.octets.proofs.Numbers.{be24-alike, be32-alike, field-put}
 use Rattle.diameter.specs.Walk.{Walk, walk}
 use Rattle.reading.specs.declared.Dialect.{Dialect}
+use Rattle.reading.specs.declared.Terms.{Terms}
 use Rattle.requests.specs.Judged.{Judged, bad}
 use Rattle.diameter.specs.Message.{commandOf, bodyOf}
 use Rattle.reading.specs.Verdicts.{faultOf}
-use Rattle.requests.specs.Request.{dialectOf, cx, headerFault, readWalk, readIn, readRequest, identities, sessionOf}
+use Rattle.requests.specs.Request.{dialectOf, headerFault, readWalk, readIn, identities, sessionOf}
 use Rattle.choices.specs.declared.Given.{Given}
-use Rattle.fitting.specs.Decide.{Decision, performed, decideJudged, decide}
-use Rattle.reply.specs.Answer.{topBytes, identityBytes, nameBytes, dataBytes, givenBytes, proxies, endBytes, restBytes, bodyBytes, headerBytes, answerBytes}
+use Rattle.deciding.specs.Rules.{inForce}
+use Rattle.deciding.specs.Decide.{Decision, performedBy, judgedBy, decideBy, decide}
+use Rattle.reply.specs.Pieces.{topBytes, identityBytes, nameBytes, dataBytes, givenBytes, headerBytes}
+use Rattle.answering.specs.Answer.{proxies, endBytes, restBytes, bodyBytes, answerBytes}
 use Rattle.calling.specs.Lent.{Lent, asking}
 use Rattle.calling.specs.Serve.{wrongSize, wrongLength, noRequest, checkOf, answered, decision, serve, checkValue}
 use Rattle.demands.specs.Call.{turnedAway}
@@ -77,8 +72,8 @@ module _ (head : List ℕ) (twenty : length head ≡ 20) (body : List ℕ) where
   pub message-command : commandOf (message head body) ≡ commandOf head
   message-command = be24-alike (message head body) head 5 5 (λ j l. message-at (5 + j) (omega arith) (omega arith) (omega arith) (omega arith))
 
-  pub message-dialect : dialectOf cx (message head body) ≡ dialectOf cx head
-  message-dialect = rw message-command
+  pub message-dialect : (terms : Terms) → dialectOf terms (message head body) ≡ dialectOf terms head
+  message-dialect terms = rw message-command
 
   pub message-fault : (dialect : Dialect) → headerFault dialect (message head body) ≡ headerFault dialect head
   unfolding headerFault
@@ -106,12 +101,12 @@ module _ (head : List ℕ) (twenty : length head ≡ 20) (body : List ℕ) where
   message-field h = be24-alike (message head body) (putBe24 head 1 n) 1 1 (λ j l. message-put (1 + j) (omega arith)) ∙ field-put head 1 n (omega arith) h
 
 -- reading a message: its header's fault, else its walk
-unfoldable pub readBody : List ℕ → Walk → Judged
-readBody head w = cond (eqb (headerFault (dialectOf cx head) head) 0) (readWalk (dialectOf cx head) w) (bad (faultOf (headerFault (dialectOf cx head) head)))
+unfoldable pub readBody : Dialect → List ℕ → Walk → Judged
+readBody d head w = cond (eqb (headerFault d head) 0) (readWalk d w) (bad (faultOf (headerFault d head)))
 
-pub message-read : (head : List ℕ) → length head ≡ 20 → (body : List ℕ) → readRequest (message head body) ≡ readBody head (walk body)
+pub message-read : (d : Dialect) (head : List ℕ) → length head ≡ 20 → (body : List ℕ) → readIn d (message head body) ≡ readBody d head (walk body)
 unfolding readIn readBody
-message-read head twenty body = rw (message-dialect head twenty body, message-fault head twenty body (dialectOf cx head), message-body head twenty body)
+message-read d head twenty body = rw (message-fault head twenty body d, message-body head twenty body)
 
 -- a body within the limits; no message of such a body is refused by its length
 pub record Fit (body : List ℕ) : Type 0 where
@@ -162,14 +157,17 @@ pub record Alike (v w : Walk) : Type 0 where
   pub session : sessionOf v ≡ sessionOf w
   pub copies : proxies v ≡ proxies w
 
-module _ (head : List ℕ) (twenty : length head ≡ 20) (b c : List ℕ) (alike : Alike (walk b) (walk c)) where
+module _ (x : Lent) (head : List ℕ) (twenty : length head ≡ 20) (b c : List ℕ) (alike : Alike (walk b) (walk c)) where
+  abbrev dialect : Dialect
+  dialect = dialectOf (x .terms) head
+
   abbrev long : List ℕ
   long = message head b
 
   abbrev short : List ℕ
   short = message head c
 
-  body-same : (t file v : List ℕ) (g h : Given) → SameGiven long short g h → bodyBytes long t file v g ≡ bodyBytes short t file v h
+  body-same : (t file v : List ℕ) (g h : Given) → SameGiven long short g h → bodyBytes (x .terms) long t file v g ≡ bodyBytes (x .terms) short t file v h
   unfolding bodyBytes topBytes restBytes givenBytes nameBytes identityBytes dataBytes endBytes
   body-same t file v g h s =
       rw (
@@ -187,7 +185,7 @@ module _ (head : List ℕ) (twenty : length head ≡ 20) (b c : List ℕ) (alike
         s .sent,
       )
 
-  answer-same : (t file v : List ℕ) (g h : Given) → SameGiven long short g h → answerBytes long t file v g ≡ answerBytes short t file v h
+  answer-same : (t file v : List ℕ) (g h : Given) → SameGiven long short g h → answerBytes (x .terms) long t file v g ≡ answerBytes (x .terms) short t file v h
   unfolding answerBytes headerBytes
   answer-same t file v g h s =
       rw (
@@ -199,38 +197,46 @@ module _ (head : List ℕ) (twenty : length head ≡ 20) (b c : List ℕ) (alike
         message-rest head twenty c,
       )
 
-  answered-same : (x : Lent) (h : ℕ → ℕ) (d e : Decision) → SameDecision long short d e → d .place ≡ h (e .place)
+  pub answered-same : (h : ℕ → ℕ) (d e : Decision) → SameDecision long short d e → d .place ≡ h (e .place)
       → answered (asking x long) d ≡ placed h (answered (asking x short) e)
   unfolding answered
-  answered-same x h d e s p = rw (answer-same (x .table) (x .profile) (x .vectors) (d .given) (e .given) (s .given), s .table, s .vectors, p)
+  answered-same h d e s p = rw (answer-same (x .table) (x .profile) (x .vectors) (d .given) (e .given) (s .given), s .table, s .vectors, p)
 
-  module _ {from : ℕ} {more : ℕ → ℕ} (none : more 0 ≡ 0) (read : Moved long short from more (readBody head (walk b)) (readBody head (walk c)))
+  module _ {from : ℕ} {more : ℕ → ℕ} (none : more 0 ≡ 0) (read : Moved long short from more (readBody dialect head (walk b)) (readBody dialect head (walk c)))
       (named : identities (walk b) ≡ identities (walk c)) where
     both-named : identities (bodyOf long) ≡ identities (bodyOf short)
     both-named = rw (message-body head twenty b, message-body head twenty c) named
 
-    judged-same : (t : List ℕ) (count : ℕ) (v : List ℕ) {j k : Judged} → Moved long short from more j k
-        → SameDecision long short (decideJudged long t count v j) (decideJudged short t count v k)
-    unfolding decideJudged
-    judged-same t count v (faults f g l) = record { given = fault-same long short f g (l .result) (l .failed); table = refl; vectors = refl }
-    judged-same t count v (same seen) =
-        plan-same long short t count v seen both-named (message-command head twenty b ∙ sym (message-command head twenty c))
+    judged-same : (t : List ℕ) (count : ℕ) (v : List ℕ) {j k : Judged} → readIn dialect short ≡ k → Moved long short from more j k
+        → SameDecision long short (judgedBy inForce dialect long t count v j) (judgedBy inForce dialect short t count v k)
+    unfolding judgedBy
+    judged-same t count v is (faults f g l) = record { given = fault-same long short f g (l .result) (l .failed); table = refl; vectors = refl }
+    judged-same t count v is (same seen) =
+        plan-same long short t count v seen both-named dialect is
 
     -- the place is the verdict's, or both have none
     judged-place : (t : List ℕ) (count : ℕ) (v : List ℕ) {j k : Judged} → Moved long short from more j k
-        → decideJudged long t count v j .place ≡ later more (decideJudged short t count v k .place)
-    unfolding decideJudged performed
+        → judgedBy inForce dialect long t count v j .place ≡ later more (judgedBy inForce dialect short t count v k .place)
+    unfolding judgedBy performedBy
     judged-place t count v (faults f g l) = l .place ∙ later-is more none (g .place)
     judged-place t count v (same seen) = refl
 
     decide-same : (t : List ℕ) (count : ℕ) (v : List ℕ)
-        → SameDecision long short (decide long t count v) (decide short t count v)
-        × (decide long t count v .place ≡ later more (decide short t count v .place))
-    unfolding decide
-    decide-same t count v = rw (message-read head twenty b, message-read head twenty c) (judged-same t count v read, judged-place t count v read)
+        → SameDecision long short (decide (dialectOf (x .terms) long) long t count v) (decide (dialectOf (x .terms) short) short t count v)
+        × (decide (dialectOf (x .terms) long) long t count v .place ≡ later more (decide (dialectOf (x .terms) short) short t count v .place))
+    unfolding decideBy
+    decide-same t count v =
+        rw (
+          message-dialect head twenty b (x .terms),
+          message-dialect head twenty c
+              (x .terms),
+          message-read dialect head twenty b,
+          message-read dialect head twenty c,
+        )
+        (judged-same t count v (message-read dialect head twenty c) read, judged-place t count v read)
 
-    pub served-same : (x : Lent) → Fit b → Fit c → serve (asking x (message head b)) ≡ placed (later more) (serve (asking x (message head c)))
-    served-same x f g = go (turnedAway (asking x short)) refl
+    pub served-same : Fit b → Fit c → serve (asking x (message head b)) ≡ placed (later more) (serve (asking x (message head c)))
+    served-same f g = go (turnedAway (asking x short)) refl
       where
         k : ℕ
         k = checkValue (checkOf x)
@@ -238,7 +244,7 @@ module _ (head : List ℕ) (twenty : length head ≡ 20) (b c : List ℕ) (alike
         answers : answered (asking x long) (decision (asking x long) k) ≡ placed (later more) (answered (asking x short) (decision (asking x short) k))
         answers =
             let d = decide-same (x .table) k (x .vectors) in
-            answered-same x (later more) (decision (asking x long) k) (decision (asking x short) k) (d .0) (d .1)
+            answered-same (later more) (decision (asking x long) k) (decision (asking x short) k) (d .0) (d .1)
 
         go : (y : Bool) → turnedAway (asking x short) ≡ y → serve (asking x long) ≡ placed (later more) (serve (asking x short))
         go true e = refused-same head twenty b c f g x (later more) e

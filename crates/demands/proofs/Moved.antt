@@ -1,15 +1,6 @@
 -- Demand 3, of the AVP at fault: where AVPs are put in before it, it stands later by their length, and Failed-AVP holds the same.
-use Prim.Native.Nat.{ℕ, _+_, _%_, _≤_, _<_}
-use native.Mathlib.Nat.{add-zero}
-use mathlib.Core.List.{List, [], _∷_, _++_, append-assoc}
-use mathlib.Core.Option.{some}
-use mathlib.Core.Bool.{Bool, true, false, cond}
-use mathlib.Core.Path.{_≡_, refl, sym, ap, _∙_}
-use native.Mathlib.Omega.{arith}
-use lib.ListN.{length, drop, set, length-append}
-use lib.Seq.{drop-drop, drop-at}
-use lib.Dec.{ltb}
-use borrow.Author.Tests.{lt-ltb, le-ltb}
+use Rattle.octets.specs.Standard.{ℕ, _+_, _%_, _≤_, _<_, add-zero, List, [], _∷_, _++_, append-assoc, some, Bool, true, false, cond, _≡_, refl, sym}
+use Rattle.octets.specs.Standard.{ap, _∙_, arith, length, drop, set, length-append, drop-drop, drop-at, ltb, lt-ltb, le-ltb}
 use Rattle.diameter.specs.Avp.{padded, sound}
 use Rattle.diameter.specs.Walk.{Walk, ended, avp, walk}
 use Rattle.diameter.specs.Put.{glue, Piece, bytesOf, avpsOf, Whole, All}

@@ -1,21 +1,15 @@
 -- The place that a call returns beside the answer's length, as theorems about `serve`, which is what the exported call is promised to return and to leave
 -- (`promised` in proofs/Demands), for anything lent. What the words below mean is in specs/Place.
-use Prim.Native.Nat.{ℕ, _≤_, _<_}
-use mathlib.Core.List.{List}
-use mathlib.Core.Bool.{true, true≢false}
-use mathlib.Core.Path.{_≡_, sym, ap, _∙_}
-use mathlib.Core.Logic.{_≢_}
-use lib.ListN.{length, drop}
+use Rattle.octets.specs.Standard.{ℕ, _+_, _≤_, _<_, List, true, true≢false, _≡_, sym, ap, _∙_, _≢_, length, drop}
 use Rattle.diameter.specs.Message.{bodyOf}
 use Rattle.reading.specs.Rules.{Seen}
 use Rattle.reading.specs.declared.Outcome.the-variants.{Base, Experimental}
 use Rattle.requests.specs.Judged.{fine}
-use Rattle.requests.specs.Request.{dialectOf, cx, headerFault, firstOther, readRequest}
+use Rattle.requests.specs.Request.{headerFault, firstOther, readIn}
 use Rattle.failed.specs.Failing.{failedOf}
-use Rattle.calling.specs.Lent.{Lent}
+use Rattle.calling.specs.Lent.{Lent, dialectIn}
 use Rattle.calling.specs.Serve.{Served, serve, resultOf}
-use Rattle.ndushavire.specs.Word.{callPlace}
-use Rattle.ndushavire.specs.Reads.{placeIn}
+use Rattle.ndushavire.specs.Word.{callPlace, placeIn}
 use Rattle.ndushavire.specs.Promise.{DecidePromise}
 use Rattle.demands.specs.Call.{turnedAway}
 use Rattle.demands.specs.Frame.{succeeds}
@@ -23,7 +17,8 @@ use Rattle.demands.specs.Place.{OfRules, Blames, blaming}
 use Rattle.demands.proofs.Refusals.{word-reads, refused-nowhere}
 use Rattle.demands.proofs.Fitting.{fits}
 use Rattle.demands.proofs.Faults.{fault-least, fault-within, fault-number, rules-lack, rules-fail}
-use Rattle.demands.proofs.Blaming.{blames-answer, place-blamed, unblamed, blames-result, read-unblamed, place-limit, base-experimental, base-number}
+use Rattle.demands.proofs.Blaming.{blames-answer, place-blamed, unblamed, blames-result, read-unblamed, fault-bytes, place-limit}
+use Rattle.demands.proofs.Blaming.{base-experimental, base-number}
 
 module _ (x : Lent) where
   -- Out of the word that the exported call returns, bits 32 to 47, the caller reads the place.
@@ -44,14 +39,25 @@ module _ (x : Lent) where
 
   -- It is at least 20, and lies within the request.
   pub place-least : (place : ℕ) → Blames x place → 20 ≤ place
-  place-least place b = fault-least (x .request) (b .result) place (b .fault)
+  place-least place b = fault-least (dialectIn x) (x .request) (b .result) place (b .fault)
 
   pub place-within : (place : ℕ) → Blames x place → place < length (x .request)
-  place-within place b = fault-within (x .request) (b .result) place (b .fault)
+  place-within place b = fault-within (dialectIn x) (x .request) (b .result) place (b .fault)
+
+  -- At least 4 bytes of the request stand there, the AVP's code.
+  pub place-bytes : (place : ℕ) → Blames x place → place + 4 ≤ length (x .request)
+  place-bytes = fault-bytes x
+
+  -- So of every place but 0 that the caller reads out of the word.
+  pub place-there : {r : ℕ} {t' v' o' : List ℕ} → DecidePromise x r t' v' o' → placeIn r ≢ 0 → (20 ≤ placeIn r) × (placeIn r + 4 ≤ length (x .request))
+  place-there p n =
+      let e = place-word p in
+      let b = place-blames (λ z. n (e ∙ z)) in
+      (rw e (place-least (callPlace (serve x .call)) b), rw e (place-bytes (callPlace (serve x .call)) b))
 
   -- The result is one of (a), (c), (d), (f), (g) and (h).
   pub place-result : (place : ℕ) (b : Blames x place) → (resultOf x ≡ Base (b .result)) × OfRules (b .result)
-  place-result place b = (blames-result x place b, fault-number (x .request) (b .result) place (b .fault))
+  place-result place b = (blames-result x place b, fault-number (dialectIn x) (x .request) (b .result) place (b .fault))
 
   -- WHERE NONE IS, the place is 0 ..
   pub place-none : ((place : ℕ) → Blames x place → ⊥) → callPlace (serve x .call) ≡ 0
@@ -62,7 +68,7 @@ module _ (x : Lent) where
   place-refused = refused-nowhere x
 
   -- .. for a header fault, ..
-  pub place-header : headerFault (dialectOf cx (x .request)) (x .request) ≢ 0 → callPlace (serve x .call) ≡ 0
+  pub place-header : headerFault (dialectIn x) (x .request) ≢ 0 → callPlace (serve x .call) ≡ 0
   place-header n = place-none (λ p b. n (b .fault .header))
 
   -- .. for a first AVP that is no Session-Id, (b), though an AVP stands there, ..
@@ -70,7 +76,7 @@ module _ (x : Lent) where
   place-first e = place-none (λ p b. true≢false (sym e ∙ b .fault .session))
 
   -- .. for whatever is decided of a request in which reading found no fault, a SAR's B5009 for its second identity too, ..
-  pub place-decided : (seen : Seen) → readRequest (x .request) ≡ fine seen → callPlace (serve x .call) ≡ 0
+  pub place-decided : (seen : Seen) → readIn (dialectIn x) (x .request) ≡ fine seen → callPlace (serve x .call) ≡ 0
   place-decided seen e = place-none (read-unblamed x seen e)
 
   -- .. for each B5005, reading's and a SAR's, ..

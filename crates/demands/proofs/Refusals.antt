@@ -1,35 +1,23 @@
 -- Demand 1: an answer, or exactly one of six refusals. What a refused call leaves, and what an answered one writes.
-use Prim.Native.Nat.{ℕ, _≤_, _<_}
-use mathlib.Core.List.{List}
-use mathlib.Core.Bool.{Bool, true, false, true≢false}
-use mathlib.Core.Path.{_≡_, refl, sym, ap, _∙_}
-use mathlib.Core.Logic.{_≢_}
-use native.Mathlib.Omega.{arith}
-use lib.ListN.{length, drop}
-use lib.Seq.{drop-at}
-use borrow.Author.Tests.{ltb-false}
+use Rattle.octets.specs.Standard.{ℕ, _≤_, _<_, List, Bool, true, false, true≢false, _≡_, refl, sym, ap, _∙_, _≢_, arith, length, drop, drop-at}
 use Rattle.octets.specs.Run.{over}
 use Rattle.octets.proofs.Writes.{over-length}
 use Rattle.blocks.specs.declared.Checked.{Checked}
 use Rattle.blocks.specs.declared.Checked.the-variants.{Sound, Bad}
-use Rattle.vectors.specs.VectorFile.{checkVectors, SoundVectors}
 use Rattle.diameter.specs.Put.{All}
-use Rattle.calling.specs.Call.{Answer}
-use Rattle.calling.specs.Call.{Call}
-use Rattle.calling.specs.Call.{Answered, Refused}
-use Rattle.calling.specs.Lent.{Lent, asking}
-use Rattle.calling.specs.Trial.{Trial, anyHolds}
-use Rattle.calling.specs.Serve.{Served, smallBuffer, wrongSize, wrongLength, noRequest, isBad, unsound, checkOf, trials, refused}
-use Rattle.calling.specs.Serve.{answered, decision, checkValue, serve}
+use Rattle.calling.specs.Call.{Answer, Call, Answered, Refused}
+use Rattle.calling.specs.Lent.{Lent, asking, dialectIn}
+use Rattle.calling.specs.Trial.{Trial}
+use Rattle.calling.specs.Serve.{Served, wrongSize, wrongLength, noRequest, isBad, unsound, checkOf, trials, refused, answered, decision, checkValue}
+use Rattle.calling.specs.Serve.{serveFound, serveBy, serve}
 use Rattle.ndushavire.specs.Word.{callNumber, callPlace, callValue, callWord}
 use Rattle.ndushavire.specs.Reads.{Reads}
 use Rattle.calling.proofs.Calls.{size-least, size-most}
-use Rattle.fitting.proofs.Tests.{neither}
 use Rattle.demands.specs.Call.{turnedAway, answerTo, Fits, Exactly}
 use Rattle.demands.specs.Insertion.{placed}
 use Rattle.demands.proofs.Faults.{decide-within}
 use Rattle.demands.proofs.Firm.{check-most, answer-reads, refusal-reads}
-use Rattle.calling.proofs.Kept.{taken}
+use Rattle.calling.proofs.Kept.{taken, serve-either}
 use Rattle.calling.proofs.Trials.{tried-by, tried-alike}
 use Rattle.demands.proofs.Trials.{exactly}
 
@@ -64,15 +52,15 @@ module _ (x : Lent) where
   -- What holds of every refusal and of the answer holds of the call.
   call-by : (P : Bool → Served → Type 0) (Q : Trial → Type 0) → All Q (trials x) → ((r : Trial) → Q r → r .holds ≡ true → P true (refused x r))
       → P false answer → P (turnedAway x) (serve x)
-  unfolding serve
+  unfolding serveBy serveFound
   call-by P Q h f o = tried-by P Q (refused x) answer f o (trials x) h
 
   -- What holds of any refusal at all, and of the answer, does.
   any-call : (P : Bool → Served → Type 0) → ((r : Trial) → P true (refused x r)) → P false answer → P (turnedAway x) (serve x)
-  any-call P f o = call-by P (λ r. Unit) (six (λ r. Unit) (λ h n a b c. tt) tt) (λ r q h. f r) o
+  any-call = serve-either x
 
   pub refusals : Exactly (trials x) (callNumber (serve x .call))
-  unfolding serve refused answered
+  unfolding serveBy serveFound refused answered
   refusals =
       exactly (refused x) answer (λ (s : Served). callNumber (s .call)) (λ r. refl) refl (trials x) (
         refl,
@@ -171,7 +159,7 @@ module _ (x : Lent) where
         near : turnedAway x ≡ false → decision x count .place < 65536
         near e =
             let s = taken x e .size in
-            omega (arith, size-most (x .request) s, decide-within (x .request) (x .table) count (x .vectors) (size-least (x .request) s))
+            omega (arith, size-most (x .request) s, decide-within (dialectIn x) (x .request) (x .table) count (x .vectors) (size-least (x .request) s))
 
     pub answer-within : callNumber (serve x .call) ≡ 0 → callValue (serve x .call) ≤ length (x .buffer)
     unfolding refused answered
@@ -197,6 +185,6 @@ module _ (x : Lent) where
 -- Two requests of which the trials say the same are refused alike.
 pub refused-alike : (x : Lent) (req other : List ℕ) → wrongSize req ≡ wrongSize other → wrongLength req ≡ wrongLength other → noRequest req ≡ noRequest other
     → turnedAway (asking x other) ≡ true → serve (asking x req) ≡ serve (asking x other)
-unfolding serve refused
+unfolding serveBy serveFound refused
 refused-alike x req other a b c e =
     rw (a, b, c) (tried-alike (refused (asking x other)) (answer (asking x req)) (answer (asking x other)) (trials (asking x other)) e)

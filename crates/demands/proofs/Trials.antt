@@ -1,11 +1,6 @@
 -- Laws of trials in order, by induction: "exactly when, and none earlier".
-use Prim.Native.Nat.{ℕ}
-use mathlib.Core.List.{List, [], _∷_, _++_}
-use mathlib.Core.Bool.{Bool, true, false, cond, not, _||_, _&&_, true≢false}
-use mathlib.Core.Path.{_≡_, refl, sym, _∙_}
-use mathlib.Core.Logic.{_≢_}
-use lib.Dec.{eqb}
-use borrow.Author.Tests.{eqb-false, eq-eqb, ne-eqb}
+use Rattle.octets.specs.Standard.{ℕ, List, [], _∷_, _++_, Bool, true, false, cond, not, _||_, _&&_, _≡_, sym, _∙_, _≢_, eqb, eqb-false, eq-eqb}
+use Rattle.octets.specs.Standard.{ne-eqb}
 use Rattle.diameter.specs.Put.{All}
 use Rattle.calling.specs.Trial.{Trial, tried, anyHolds}
 use Rattle.demands.specs.Call.{Exactly}

@@ -12,8 +12,9 @@ use Rattle.diameter.specs.Avp.{dataOf}
 use Rattle.reading.specs.Kinds.{userName}
 use Rattle.requests.specs.Judged.{Judged, bad, fine}
 use Rattle.diameter.specs.Message.{bodyOf}
-use Rattle.requests.specs.Request.{readRequest, given, dataSeen, identities}
+use Rattle.requests.specs.Request.{readIn, given, dataSeen, identities}
 use Rattle.reading.specs.Verdicts.{numberOf}
+use Rattle.reading.specs.declared.Dialect.{Dialect}
 use Rattle.reading.specs.declared.Outcome.{Outcome}
 
 -- a result 2xxx, B or X
@@ -35,5 +36,5 @@ unfoldable pub askedIn : List ℕ → List ℕ → ℕ → Judged → Option (Li
 askedIn req t count (bad v) = none
 askedIn req t count (fine seen) = cond (given seen userName) (some (dataSeen seen userName)) (firstOwner t count (identities (bodyOf req)))
 
-unfoldable pub subscriptionOf : List ℕ → List ℕ → ℕ → Option (List ℕ)
-subscriptionOf req t count = askedIn req t count (readRequest req)
+unfoldable pub subscriptionOf : Dialect → List ℕ → List ℕ → ℕ → Option (List ℕ)
+subscriptionOf d req t count = askedIn req t count (readIn d req)

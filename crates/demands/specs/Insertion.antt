@@ -11,10 +11,11 @@ use Rattle.diameter.specs.Avp.{padded, avpFlags, reserved, marked, sound}
 use Rattle.diameter.specs.Walk.{ended}
 use Rattle.diameter.specs.Put.{Piece, Whole, All, bytesOf, avpsOf, glue}
 use Rattle.reading.specs.declared.Dialect.{Dialect}
+use Rattle.reading.specs.declared.Terms.{Terms}
 use Rattle.reading.specs.declared.Use.the-variants.{Unknown}
 use Rattle.reading.specs.Kinds.{useOf}
 use Rattle.requests.specs.Judged.{Judged, bad, fine, nothing, judge}
-use Rattle.requests.specs.Request.{dialectOf, cx, headerFault, firstOther}
+use Rattle.requests.specs.Request.{dialectOf, headerFault, firstOther}
 use Rattle.calling.specs.Lent.{Lent, asking}
 use Rattle.calling.specs.Serve.{Served, serve}
 use Rattle.calling.specs.Call.{Call}
@@ -93,10 +94,9 @@ abbrev pub isFault : Judged → Bool
 isFault (bad v) = true
 isFault (fine seen) = false
 
-unfoldable pub faultIn : List ℕ → List Piece → Bool
-faultIn head qs =
-    not (eqb (headerFault (dialectOf cx head) head) 0) || firstOther (glue (avpsOf qs) ended) || isFault
-    (judge (dialectOf cx head) 20 (glue (avpsOf qs) ended) nothing)
+unfoldable pub faultIn : Dialect → List ℕ → List Piece → Bool
+faultIn d head qs =
+    not (eqb (headerFault d head) 0) || firstOther (glue (avpsOf qs) ended) || isFault (judge d 20 (glue (avpsOf qs) ended) nothing)
 
 -- the place behind the header and a row of AVPs
 abbrev pub behindRow : List Piece → ℕ
@@ -119,11 +119,11 @@ pub record Cut (req : List ℕ) : Type 0 where
   pub joined : req ≡ requestOf head (first ∷ rest) tail
 
 -- `longer` is `req` with AVPs of unknown kinds put in after its first AVP, at any places before its first length fault; its length field is right, and it
--- stays within the limit.
-pub record Longer (req longer : List ℕ) : Type 0 where
+-- stays within the limit. Which kinds are unknown is by the terms of the call.
+pub record Longer (terms : Terms) (req longer : List ℕ) : Type 0 where
   pub cut : Cut req
   pub row : List Piece
-  pub inserted : Inserted (Foreign (dialectOf cx (cut .head))) (cut .rest) row
+  pub inserted : Inserted (Foreign (dialectOf terms (cut .head))) (cut .rest) row
   pub bytes : longer ≡ requestOf (cut .head) (cut .first ∷ row) (cut .tail)
   pub most : length longer ≤ 16384
 
@@ -151,11 +151,11 @@ firstMark (put u f i) = cond (isMarked u) (some (record { front = []; before = [
 unfoldable pub newer : (x : Lent) → List ℕ → List ℕ → Piece → (ℕ → ℕ) → Option Mark → Served
 newer x longer head q now none = placed now (serve x)
 newer x longer head q now (some m) =
-    cond (turnedAway x || faultIn head (q ∷ m .front)) (placed now (serve x))
+    cond (turnedAway x || faultIn (dialectOf (x .terms) head) head (q ∷ m .front)) (placed now (serve x))
     (unsupported (asking x longer) (m .mark) (behindRow (q ∷ m .before)))
 
 -- and if one is marked, the table is as it was, and no vector is used
-pub record Newer (x : Lent) (longer : List ℕ) (l : Longer (x .request) longer) : Type 0 where
+pub record Newer (x : Lent) (longer : List ℕ) (l : Longer (x .terms) (x .request) longer) : Type 0 where
   pub comes : serve (asking x longer)
       ≡ newer x longer (l .cut .head) (l .cut .first) (placeNow (keep (l .cut .first) (l .inserted))) (firstMark (l .inserted))
   pub table : (m : Mark) → firstMark (l .inserted) ≡ some m → serve (asking x longer) .table ≡ x .table

@@ -2,3 +2,4 @@ pub mod Call
 pub mod Frame
 pub mod Insertion
 pub mod Place
+pub mod Sets

@@ -16,11 +16,13 @@ use Rattle.reading.specs.Rules.{Seen, rule}
 use Rattle.reading.specs.declared.Dialect.{Dialect}
 use Rattle.reading.specs.declared.Outcome.{Outcome}
 use Rattle.reading.specs.declared.Outcome.the-variants.{Base}
+use Rattle.reading.specs.declared.Terms.{Terms}
 use Rattle.reading.specs.declared.Ruled.the-variants.{Taken, Skipped, Fault}
 use Rattle.requests.specs.Judged.{nothing}
-use Rattle.requests.specs.Request.{dialectOf, cx, headerFault, firstOther}
-use Rattle.reply.specs.Answer.{topBytes, proxies, headerBytes}
-use Rattle.calling.specs.Lent.{Lent}
+use Rattle.requests.specs.Request.{headerFault, firstOther}
+use Rattle.reply.specs.Pieces.{topBytes, headerBytes}
+use Rattle.answering.specs.Answer.{proxies}
+use Rattle.calling.specs.Lent.{Lent, dialectIn}
 use Rattle.calling.specs.Serve.{Served, checkOf, decision, checkValue}
 use Rattle.calling.specs.Call.{Answered}
 use Rattle.demands.specs.Call.{turnedAway}
@@ -31,12 +33,12 @@ behindAt req at = at + padded (length (avpAt req at))
 
 -- Reading comes to a place of the request with no fault before it: to the first AVP's, behind the header's 20 bytes; and behind each AVP that passes (a) and
 -- that (c) to (h) take or skip. `seen` are those that were taken.
-pub data Reaches (d : Dialect) (req : List ℕ) : ℕ → Seen → Type 0 where
-  first : Reaches d req 20 nothing
-  pastTaken : (at : ℕ) (seen : Seen) → Reaches d req at seen → sound (drop at req) ≡ true → rule d seen (avpAt req at) ≡ Taken
-      → Reaches d req (behindAt req at) (set seen (kindOf (avpAt req at)) (some (avpAt req at)))
-  pastSkipped : (at : ℕ) (seen : Seen) → Reaches d req at seen → sound (drop at req) ≡ true → rule d seen (avpAt req at) ≡ Skipped
-      → Reaches d req (behindAt req at) seen
+pub data ReadingReaches (d : Dialect) (req : List ℕ) : ℕ → Seen → Type 0 where
+  first : ReadingReaches d req 20 nothing
+  pastTaken : (at : ℕ) (seen : Seen) → ReadingReaches d req at seen → sound (drop at req) ≡ true → rule d seen (avpAt req at) ≡ Taken
+      → ReadingReaches d req (behindAt req at) (set seen (kindOf (avpAt req at)) (some (avpAt req at)))
+  pastSkipped : (at : ℕ) (seen : Seen) → ReadingReaches d req at seen → sound (drop at req) ≡ true → rule d seen (avpAt req at) ≡ Skipped
+      → ReadingReaches d req (behindAt req at) seen
 
 -- The AVP at a place is at fault, with a result: by (a), also "too few bytes left for the header"; or else by (c), (d), (f), (g) or (h).
 pub data Breaks (d : Dialect) (req : List ℕ) (seen : Seen) (at : ℕ) : ℕ → Type 0 where
@@ -48,31 +50,31 @@ abbrev pub OfRules : ℕ → Type 0
 OfRules n = (n ≡ 5014) ⊎ (n ≡ 3009) ⊎ (n ≡ 5001) ⊎ (n ≡ 5009) ⊎ (n ≡ 5004)
 
 -- An AVP of a request is at fault, with a result n, at a place: the header has no fault, (b) none either, and this AVP is the first that has one.
-pub record AtFault (req : List ℕ) (n place : ℕ) : Type 0 where
-  pub header : headerFault (dialectOf cx req) req ≡ 0
+pub record AtFault (d : Dialect) (req : List ℕ) (n place : ℕ) : Type 0 where
+  pub header : headerFault d req ≡ 0
   pub session : firstOther (bodyOf req) ≡ false
   pub seen : Seen
-  pub reached : Reaches (dialectOf cx req) req place seen
-  pub breaks : Breaks (dialectOf cx req) req seen place n
+  pub reached : ReadingReaches d req place seen
+  pub breaks : Breaks d req seen place n
 
 -- a call that is not refused, of a request in which the AVP at a place is at fault
 pub record Blames (x : Lent) (place : ℕ) : Type 0 where
   pub taken : turnedAway x ≡ false
   pub result : ℕ
-  pub fault : AtFault (x .request) result place
+  pub fault : AtFault (dialectIn x) (x .request) result place
 
 -- the answer of such a call, byte by byte: its result, and in Failed-AVP what is shown of the AVP; the table and the vectors are as they were
-abbrev pub faultBody : List ℕ → List ℕ → ℕ → List ℕ → List ℕ
-faultBody req t n shown = topBytes req t (Base n) ++ (failed shown ++ proxies (bodyOf req))
+abbrev pub faultBody : Terms → List ℕ → List ℕ → ℕ → List ℕ → List ℕ
+faultBody terms req t n shown = topBytes terms req t (Base n) ++ (failed shown ++ proxies (bodyOf req))
 
-abbrev pub faultBytes : List ℕ → List ℕ → ℕ → List ℕ → List ℕ
-faultBytes req t n shown = headerBytes req (Base n) (20 + length (faultBody req t n shown)) ++ faultBody req t n shown
+abbrev pub faultBytes : Terms → List ℕ → List ℕ → ℕ → List ℕ → List ℕ
+faultBytes terms req t n shown = headerBytes req (Base n) (20 + length (faultBody terms req t n shown)) ++ faultBody terms req t n shown
 
 abbrev pub blaming : Lent → ℕ → List ℕ → ℕ → Served
 blaming x n shown place =
     record {
-      call = Answered (record { length = length (faultBytes (x .request) (x .table) n shown); place = place });
+      call = Answered (record { length = length (faultBytes (x .terms) (x .request) (x .table) n shown); place = place });
       table = x .table;
       vectors = x .vectors;
-      buffer = over (faultBytes (x .request) (x .table) n shown) (x .buffer);
+      buffer = over (faultBytes (x .terms) (x .request) (x .table) n shown) (x .buffer);
     }

@@ -1,14 +1,7 @@
 -- What is read out of an AVP at a place: its code, vendor and number, its own bytes, its data, and the members of a group.
-use Prim.Native.Nat.{ℕ, zero, suc, _+_, _-_, _≤_, _<_, min}
-use native.Mathlib.Nat.{add-zero, zero-add, suc-add, add-sub-cancel-left}
-use mathlib.Core.Path.{_≡_, refl, sym, ap, _∙_}
-use mathlib.Core.List.{List, [], _∷_}
-use mathlib.Core.Bool.{Bool, true, false, cond}
-use native.Mathlib.Omega.{arith}
-use lib.ListN.{length, take, drop, length-take, length-drop}
-use lib.Seq.{drop-drop, drop-nil, take-nil, take-take, take-length, getD-drop, getD-take, length-take-le}
-use lib.Dec.{leb}
-use borrow.Author.Tests.{eq-eqb, ne-eqb}
+use Rattle.octets.specs.Standard.{ℕ, zero, suc, _+_, _-_, _≤_, _<_, min, add-zero, zero-add, suc-add, add-sub-cancel-left, _≡_, refl, sym, ap, _∙_}
+use Rattle.octets.specs.Standard.{List, [], _∷_, Bool, true, false, cond, arith, length, take, drop, length-take, length-drop, drop-drop, drop-nil}
+use Rattle.octets.specs.Standard.{take-nil, take-take, take-length, getD-drop, getD-take, length-take-le, leb, eq-eqb, ne-eqb}
 use Rattle.octets.specs.Number.{be32At}
 use Rattle.octets.proofs.Numbers.{be32-drop, be32-take}
 use Rattle.diameter.specs.Avp.{padded, headOf, avpCode, avpFlags, vendorOf, dataOf, valueOf}
@@ -17,8 +10,8 @@ use Rattle.diameter.specs.Walk.{ended, faulty, avp, walk}
 use Rattle.diameter.specs.declared.Avp.{Avp}
 use Rattle.diameter.specs.declared.Read.{Read}
 use Rattle.diameter.specs.declared.Span.{Span}
-use Rattle.diameter.specs.declared.Read.the-variants as read
 use Rattle.diameter.proofs.Reading.{Says, own-avpHead, own-code, own-vendor, read-says, read-fault-says, read-none, walk-past}
+use Rattle.diameter.specs.declared.Read.the-variants as read
 
 drop-take : (k m : ℕ) (l : List ℕ) → drop k (take (k + m) l) ≡ take m (drop k l)
 drop-take zero m l = simp zero-add

@@ -1,11 +1,6 @@
 -- Demand 3 over bytes: a row of whole padded AVPs in front of any bytes is that row in front of their walk.
-use Prim.Native.Nat.{ℕ, _+_, _%_, _≤_, _<_}
-use mathlib.Core.Path.{_≡_, refl, ap, _∙_}
-use mathlib.Core.List.{List, [], _∷_, _++_, append-assoc}
-use mathlib.Core.Bool.{true}
-use native.Mathlib.Omega.{arith}
-use lib.ListN.{length, drop, getD, length-append, List·getD-append}
-use lib.Seq.{take-at, drop-at}
+use Rattle.octets.specs.Standard.{ℕ, _%_, _≤_, _<_, _≡_, refl, ap, _∙_, List, [], _∷_, _++_, append-assoc, true, arith, length, drop, getD}
+use Rattle.octets.specs.Standard.{length-append, List·getD-append, take-at, drop-at}
 use Rattle.octets.specs.Number.{be24At}
 use Rattle.diameter.specs.Avp.{padded, avpHead, avpLen, sound}
 use Rattle.diameter.specs.Walk.{Walk, avp, walk}

@@ -1,13 +1,7 @@
 -- The reader's answer: from the numbers that the code has, and what it says of the bytes to a caller.
-use Prim.Native.Nat.{ℕ, _+_, _-_, _≤_, _<_}
-use mathlib.Core.Path.{_≡_, refl, sym, _∙_, subst}
-use mathlib.Core.List.{List}
-use mathlib.Core.Option.{none, some}
-use mathlib.Core.Bool.{Bool, true, false, cond}
-use native.Mathlib.Omega.{arith}
-use lib.ListN.{length, take, drop, getD, length-take, length-drop, drop-of-length-le}
-use lib.Seq.{getD-drop, getD-take, drop-drop, length-take-le, take-length}
-use lib.Dec.{leb}
+use Rattle.octets.specs.Standard.{ℕ, _+_, _-_, _≤_, _<_, _≡_, refl, sym, _∙_, subst, List, none, some, Bool, true, false, cond, arith, length, take}
+use Rattle.octets.specs.Standard.{drop, getD, length-take, length-drop, drop-of-length-le, getD-drop, getD-take, drop-drop, length-take-le}
+use Rattle.octets.specs.Standard.{take-length, leb}
 use Rattle.octets.specs.Number.{be24At, be32At}
 use Rattle.octets.proofs.Numbers.{be24-drop, be24-take, be32-take}
 use Rattle.diameter.specs.Avp.{padded, headOf, avpCode, avpFlags, avpHead, avpLen, vendorOf, sound}
@@ -15,8 +9,9 @@ use Rattle.diameter.specs.Walk.{ended, faulty, avp, walk}
 use Rattle.diameter.specs.Reader.{between, avpHere, readOf, beginsAt, avpOf, partAt, ownOf, Here}
 use Rattle.diameter.specs.declared.Avp.{Avp}
 use Rattle.diameter.specs.declared.Read.{Read}
+use Rattle.diameter.proofs.Walks.{Sound, sound-says, sound-of, not-sound, walk-sound, walk-faulty, walk-nil, padded-least, head-least}
+use Rattle.diameter.proofs.Walks.{head-most}
 use Rattle.diameter.specs.declared.Read.the-variants as read
-use Rattle.diameter.proofs.Walks.{Sound, sound-says, sound-of, not-sound, walk-sound, walk-faulty, walk-nil, padded-least, head-least, head-most}
 
 -- the header at a place, by places of the message, of which only what stands before an end is looked at
 pub record SoundAt (s : List ℕ) (at end : ℕ) : Type 0 where

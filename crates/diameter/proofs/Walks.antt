@@ -1,12 +1,6 @@
 -- The walk's laws: at the end, at a sound AVP, at a faulty one.
-use Prim.Native.Nat.{ℕ, zero, suc, pred, _≤_, _<_}
-use mathlib.Core.Path.{_≡_, refl}
-use mathlib.Core.List.{List, [], _∷_}
-use mathlib.Core.Bool.{Bool, true, false, cond}
-use native.Mathlib.Omega.{arith}
-use lib.ListN.{length, take, drop}
-use lib.Dec.{leb}
-use borrow.Author.Tests.{leb-true, le-leb}
+use Rattle.octets.specs.Standard.{ℕ, zero, suc, pred, _≤_, _<_, _≡_, refl, List, [], _∷_, Bool, true, false, cond, arith, length, take, drop, leb}
+use Rattle.octets.specs.Standard.{leb-true, le-leb}
 use Rattle.octets.proofs.All.{and-left, and-right}
 use Rattle.diameter.specs.Avp.{padded, headOf, avpHead, avpLen, sound}
 use Rattle.diameter.specs.Walk.{ended, faulty, avp, onSound, walkFrom, walk}

@@ -1,12 +1,6 @@
 -- An example of a missing kind: zero data, of four bytes or of none.
-use Prim.Native.Nat.{ℕ, zero, suc, _+_, _≤_}
-use mathlib.Core.Path.{_≡_, refl, sym, ap, _∙_}
-use mathlib.Core.Bool.{Bool, true, false, cond}
-use mathlib.Core.List.{List, [], _∷_}
-use native.Mathlib.Omega.{arith}
-use lib.Dec.{eqb}
-use lib.ListN.{length, take, replicate, length-replicate, length-take, length-drop, length-append}
-use borrow.Author.Tests.{eq-eqb, ne-eqb}
+use Rattle.octets.specs.Standard.{ℕ, zero, suc, _+_, _≤_, _≡_, refl, sym, ap, _∙_, Bool, true, false, cond, List, [], _∷_, arith, eqb, length, take}
+use Rattle.octets.specs.Standard.{replicate, length-replicate, length-take, length-drop, length-append, eq-eqb, ne-eqb}
 use Rattle.octets.specs.Run.{Wrote}
 use Rattle.octets.proofs.Writes.{lent, back, named, then-front}
 use Rattle.pen.specs.Bytes.{padding, headBytes, vendorHead, copied, avpBytes, avpSize, vendorBytes, vendorSize, group}

@@ -1,18 +1,11 @@
 -- The faulty AVP of a request: its own bytes, or its header alone.
-use Prim.Native.Nat.{ℕ, _+_, _-_, _*_, _/_, _%_, _≤_, _<_, min}
-use mathlib.Core.Path.{_≡_, refl, sym, ap, _∙_}
-use mathlib.Core.Bool.{Bool, true, false, cond}
-use mathlib.Core.List.{List, [], _∷_}
-use native.Mathlib.Omega.{arith}
-use native.Mathlib.Nat.{add-sub-cancel-left}
-use lib.Dec.{leb}
-use lib.ListN.{length, getD, take, drop, set, length-take, length-drop, length-set, drop-of-length-le}
-use lib.Seq.{take-nil, getD-drop}
-use borrow.Author.Tests.{leb-true, le-leb, lt-leb, eq-eqb, ne-eqb}
+use Rattle.octets.specs.Standard.{ℕ, _+_, _-_, _*_, _/_, _%_, _≤_, _<_, min, _≡_, refl, sym, ap, _∙_, Bool, true, false, cond, List, [], _∷_, arith}
+use Rattle.octets.specs.Standard.{add-sub-cancel-left, leb, length, getD, take, drop, set, length-take, length-drop, length-set, drop-of-length-le}
+use Rattle.octets.specs.Standard.{take-nil, getD-drop, leb-true, le-leb, lt-leb, eq-eqb, ne-eqb}
 use Rattle.octets.specs.Number.{be24At, putBe24}
 use Rattle.octets.specs.Run.{over, Wrote}
 use Rattle.octets.proofs.Writes.{named, over-length}
-use Rattle.octets.proofs.Parts.{part-cut}
+use Rattle.octets.proofs.Parts.{part-cut, nothing}
 use Rattle.diameter.specs.Avp.{headOf, avpFlags, avpHead, avpLen}
 use Rattle.pen.specs.Bytes.{copied, group}
 use Rattle.pen.specs.Groups.{failed, failedSize}
@@ -66,10 +59,6 @@ head-long t h = go (leb 128 (avpFlags t)) (leb (avpHead t) (length t)) refl h
 alone-length : (h : List ℕ) → length (alone h) ≡ length h
 unfolding alone
 alone-length h = simp length-set
-
-nothing : (h : List ℕ) → length h ≤ 0 → h ≡ []
-nothing [] k = refl
-nothing (x ∷ h) k = absurd (omega arith)
 
 -- The length in a header that was copied into Failed-AVP.
 stored : (h b : List ℕ) → 8 ≤ length h → set (set (set (over (failed h) b) 13 0) 14 0) 15 (length h) ≡ over (failed (alone h)) b

@@ -1,13 +1,6 @@
 -- What Failed-AVP holds of an AVP does not depend on what is behind it.
-use Prim.Native.Nat.{ℕ, _≤_}
-use mathlib.Core.Path.{_≡_, refl, sym, _∙_}
-use mathlib.Core.List.{List, _++_, append-assoc}
-use mathlib.Core.Bool.{true, false}
-use native.Mathlib.Omega.{arith}
-use lib.ListN.{length, take, drop, length-append}
-use lib.Seq.{take-all, take-at, take-append-le}
-use lib.Dec.{eqb}
-use borrow.Author.Tests.{le-leb, ne-eqb}
+use Rattle.octets.specs.Standard.{ℕ, _≤_, _≡_, refl, sym, _∙_, List, _++_, append-assoc, true, false, arith, length, take, drop, length-append}
+use Rattle.octets.specs.Standard.{take-all, take-at, take-append-le, eqb, le-leb, ne-eqb}
 use Rattle.diameter.specs.Avp.{avpHead, avpLen, sound}
 use Rattle.diameter.specs.Reader.{avpOf, avpAt}
 use Rattle.diameter.specs.Put.{Piece, Whole}

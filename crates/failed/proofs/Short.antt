@@ -1,10 +1,5 @@
 -- What Failed-AVP holds is short: no more than the request itself, or an example.
-use Prim.Native.Nat.{ℕ, _≤_}
-use mathlib.Core.List.{List, []}
-use mathlib.Core.Bool.{Bool, true, false, cond}
-use native.Mathlib.Omega.{arith}
-use lib.ListN.{length, take, replicate, length-set, length-take}
-use lib.Dec.{eqb, leb}
+use Rattle.octets.specs.Standard.{ℕ, _≤_, List, [], Bool, true, false, cond, arith, length, take, replicate, length-set, length-take, eqb, leb}
 use Rattle.diameter.specs.Avp.{avpHead, avpLen}
 use Rattle.pen.specs.Bytes.{avpBytes, vendorBytes}
 use Rattle.pen.proofs.Sizes.{avp-length, vendor-length}

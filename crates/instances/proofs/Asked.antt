@@ -1,16 +1,11 @@
 -- What the instances are of: a table of two subscriptions, a file of two vectors, a SAR and a MAR as rows of AVPs, and what is put into them.
-use Prim.Native.Nat.{ℕ, _+_}
-use mathlib.Core.Path.{_≡_}
-use mathlib.Core.List.{List, [], _∷_, _++_}
-use mathlib.Core.Bool.{Bool, true, _&&_}
-use lib.ListN.{length}
-use lib.Dec.{eqb}
-use borrow.Author.Tests.{eqb-true}
+use Rattle.octets.specs.Standard.{ℕ, _+_, _≡_, List, [], _∷_, _++_, Bool, true, _&&_, length, eqb, eqb-true}
 use Rattle.octets.proofs.All.{and-left, and-right}
 use Rattle.octets.specs.Run.{over}
 use Rattle.diameter.specs.Avp.{padded, avpLen, sound}
 use Rattle.diameter.specs.Put.{Piece, Whole, All, glue, bytesOf, avpsOf}
 use Rattle.pen.specs.Bytes.{wordBytes, headBytes, padding, vendorHead, numberBytes}
+use Rattle.requests.specs.Request.{underCx}
 use Rattle.calling.specs.Call.{Answered}
 use Rattle.calling.specs.Lent.{Lent, lent}
 use Rattle.calling.specs.Trial.{anyHolds}
@@ -89,10 +84,10 @@ mar server number = requestOf marHead (session ∷ marRest server number) []
 
 -- what is lent with a request: the table, no profile file, no vectors or those above, the buffer
 abbrev pub asked : List ℕ → Lent
-asked req = lent req table [] [] room
+asked req = lent req table [] [] room underCx
 
 abbrev pub carded : List ℕ → Lent
-carded req = lent req table [] vectors room
+carded req = lent req table [] vectors room underCx
 
 -- a call that is answered by these bytes, with the place of the AVP at fault (0: none is), and leaves a table and vectors; one that blames no AVP, over no
 -- vectors; one that blames the AVP at a place, and leaves the table as it came

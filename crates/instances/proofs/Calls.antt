@@ -1,12 +1,6 @@
 -- The promise, the checks, demands 1 and 2: their hypotheses can be met by a SAR, computed.
-use Prim.Native.Nat.{ℕ, _/_, _≤_}
-use mathlib.Core.Path.{_≡_, refl, ap}
-use mathlib.Core.List.{List, [], _∷_, _++_}
-use mathlib.Core.Option.{Option·some-injective}
-use mathlib.Core.Bool.{true, false}
-use native.Mathlib.Omega.{arith}
-use lib.ListN.{length, getD, take, drop}
-use lib.Dec.{eqb, lit≤, lit<}
+use Rattle.octets.specs.Standard.{ℕ, _/_, _≤_, _≡_, refl, ap, List, [], _∷_, _++_, Option·some-injective, true, false, arith, length, getD, take}
+use Rattle.octets.specs.Standard.{drop, eqb, lit≤, lit<}
 use Rattle.blocks.specs.Blocks.{blockOf}
 use Rattle.blocks.specs.declared.Checked.{Checked}
 use Rattle.blocks.specs.declared.Checked.the-variants.{Sound, Bad}
@@ -14,6 +8,7 @@ use Rattle.table.specs.Check.{checkTable}
 use Rattle.vectors.specs.VectorFile.{checkVectors}
 use Rattle.diameter.specs.Put.{bytesOf}
 use Rattle.pen.specs.Bytes.{numberBytes}
+use Rattle.requests.specs.Request.{underCx}
 use Rattle.calling.specs.Call.{Answered, Refused}
 use Rattle.calling.specs.Lent.{Lent, lent}
 use Rattle.calling.specs.Serve.{Served, trials, decision, serve}
@@ -22,9 +17,10 @@ use Rattle.ndushavire.specs.Reads.{Reads, ReadsCheck}
 use Rattle.worked_examples.proofs.Computed.{known, come, held, roomy, no-vectors}
 use Rattle.worked_examples.proofs.Sample.{header, room, request, answer, s, z}
 use Rattle.demands.specs.Call.{turnedAway, answerTo}
-use Rattle.demands.proofs.Demands.{promised, checked, checked-vectors, demand-1, demand-1-number, demand-1-none, demand-1-block, demand-1-length, demand-1-fits}
-use Rattle.demands.proofs.Demands.{demand-1-within, demand-1-word, demand-1-kept, demand-2, demand-2-failure, demand-2-others, demand-2-header, demand-2-bytes}
-use Rattle.demands.proofs.Demands.{demand-2-bits, demand-2-size, demand-2-sound, demand-2-question, demand-2-room, demand-2-past}
+use Rattle.demands.proofs.Demands.{promised, checked, checked-vectors, demand-1, demand-1-number, demand-1-none, demand-1-block, demand-1-length}
+use Rattle.demands.proofs.Demands.{demand-1-fits, demand-1-within, demand-1-word, demand-1-kept, demand-2, demand-2-failure, demand-2-others}
+use Rattle.demands.proofs.Demands.{demand-2-header, demand-2-bytes, demand-2-bits, demand-2-size, demand-2-sound, demand-2-question, demand-2-room}
+use Rattle.demands.proofs.Demands.{demand-2-past}
 use Rattle.instances.proofs.Asked.{table, twice, removed, vectors, cutOff, short, vendor, session, application, common, sar, asked, comes, all}
 
 -- the table is sound; the SAR is a success, which rewrites record 1 alone
@@ -122,7 +118,7 @@ unfolding all room
 met-1-kept = demand-1-kept (asked (take 19 (sar s 5))) refl .0
 
 doubled : Lent
-doubled = lent (sar s 5) twice [] [] room
+doubled = lent (sar s 5) twice [] [] room underCx
 
 doubled-refused : serve doubled .call ≡ Refused 5 2
 unfolding all doubled
@@ -134,7 +130,7 @@ met-1-block = demand-1-block doubled 2 doubled-refused
 
 -- a SAR that reads no vector, over these and over a table of no record
 spoilt : Lent
-spoilt = lent (sar s 5) (header 0 0) [] short room
+spoilt = lent (sar s 5) (header 0 0) [] short room underCx
 
 short-bad : checkVectors short ≡ Bad 0
 unfolding all short
@@ -155,7 +151,7 @@ met-1-sixth-kept : serve spoilt .vectors ≡ short
 unfolding all spoilt
 met-1-sixth-kept = demand-1-kept spoilt (held spoilt roomy sound-empty short-bad refl) .1
 
-met-1-fifth-first : serve (lent (sar s 5) [] [] short room) .call ≡ Refused 5 0
+met-1-fifth-first : serve (lent (sar s 5) [] [] short room underCx) .call ≡ Refused 5 0
 unfolding all room short
 met-1-fifth-first = refl
 

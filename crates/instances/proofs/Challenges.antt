@@ -1,12 +1,5 @@
 -- Demands 2 and 3 over the vectors: their hypotheses can be met by a MAR, computed.
-use Prim.Native.Nat.{ℕ}
-use mathlib.Core.Path.{_≡_, refl, ap, _∙_}
-use mathlib.Core.List.{List, [], _∷_, _++_}
-use mathlib.Core.Bool.{false}
-use mathlib.Core.Option.{Option·some-injective}
-use native.Mathlib.Omega.{arith}
-use lib.ListN.{getD}
-use lib.Dec.{lit≤, lit<}
+use Rattle.octets.specs.Standard.{ℕ, _≡_, refl, ap, _∙_, List, [], _∷_, _++_, false, Option·some-injective, arith, getD, lit≤, lit<}
 use Rattle.blocks.specs.Blocks.{blockOf}
 use Rattle.blocks.specs.declared.Checked.the-variants.{Sound}
 use Rattle.table.specs.Check.{checkTable}
@@ -16,11 +9,11 @@ use Rattle.pen.specs.Groups.{failed}
 use Rattle.calling.specs.Serve.{decision, serve}
 use Rattle.worked_examples.proofs.Computed.{come, held, roomy}
 use Rattle.worked_examples.proofs.Sample.{header, subscriber, person, vector, reply, item, challenges, s, z}
-use Rattle.requests.specs.Request.{dialectOf, cx}
+use Rattle.requests.specs.Request.{dialectOf, underCx}
 use Rattle.demands.specs.Call.{turnedAway}
 use Rattle.demands.specs.Insertion.{requestOf, Foreign, Quiet, Inserted, ending, keep, put, placeNow, placed, FirstMarked, Longer, firstMark}
-use Rattle.demands.proofs.Demands.{demand-2, demand-2-failure, demand-2-others, demand-2-bytes, demand-2-sound, demand-2-vectors, demand-3, demand-3-unmarked}
-use Rattle.demands.proofs.Demands.{demand-3-vectors, demand-3-marked}
+use Rattle.demands.proofs.Demands.{demand-2, demand-2-failure, demand-2-others, demand-2-bytes, demand-2-sound, demand-2-vectors, demand-3}
+use Rattle.demands.proofs.Demands.{demand-3-unmarked, demand-3-vectors, demand-3-marked}
 use Rattle.instances.proofs.Asked.{table, vectors, marHead, session, application, common, sar, marOwn, marRest, mar, carded, comesTo, plain}
 use Rattle.instances.proofs.Asked.{loud, all, isWhole, allWhole, all-whole, kept}
 use Rattle.instances.proofs.Calls.{sound-table, sound-vectors}
@@ -66,15 +59,15 @@ unfolding all
 met-2-vectors = demand-2-vectors (carded (sar s 5)) (λ e. let d : _≡_ {A = ℕ} 301 303 = e in omega arith)
 
 -- What is put into a SAR is of unknown kinds in a MAR too.
-foreign-plain-mar : Foreign (dialectOf cx marHead) plain
+foreign-plain-mar : Foreign (dialectOf underCx marHead) plain
 unfolding all
 foreign-plain-mar = record { whole = record { right = refl; exact = refl; filled = refl }; plain = refl; stranger = refl }
 
-foreign-loud-mar : Foreign (dialectOf cx marHead) loud
+foreign-loud-mar : Foreign (dialectOf underCx marHead) loud
 unfolding all
 foreign-loud-mar = record { whole = record { right = refl; exact = refl; filled = refl }; plain = refl; stranger = refl }
 
-quiet-plain-mar : Quiet (dialectOf cx marHead) plain
+quiet-plain-mar : Quiet (dialectOf underCx marHead) plain
 unfolding all
 quiet-plain-mar = record { foreign = foreign-plain-mar; unmarked = refl }
 
@@ -82,7 +75,7 @@ quiet-plain-mar = record { foreign = foreign-plain-mar; unmarked = refl }
 quietly : List Piece
 quietly = application ∷ plain ∷ common ++ marOwn z 2
 
-put-quietly : Inserted (Quiet (dialectOf cx marHead)) (marRest z 2) quietly
+put-quietly : Inserted (Quiet (dialectOf underCx marHead)) (marRest z 2) quietly
 unfolding all quietly
 put-quietly = keep _ (put plain quiet-plain-mar (kept (common ++ marOwn z 2)))
 
@@ -95,7 +88,7 @@ met-3-spent =
 loudly : List Piece
 loudly = marRest z 2 ++ (loud ∷ [])
 
-marked-mar : FirstMarked (dialectOf cx marHead) (marRest z 2) loudly
+marked-mar : FirstMarked (dialectOf underCx marHead) (marRest z 2) loudly
 unfolding all loudly
 marked-mar =
     record {
@@ -123,7 +116,7 @@ met-3-unsent =
     demand-3-marked marHead refl session (marRest z 2) loudly (all-whole (session ∷ marRest z 2) refl) [] refl (lit≤ tt) (carded []) marked-mar
     refl taken
 
-longer-mar : Longer (mar z 2) (requestOf marHead (session ∷ loudly) [])
+longer-mar : Longer underCx (mar z 2) (requestOf marHead (session ∷ loudly) [])
 unfolding all isWhole allWhole loudly
 longer-mar =
     record {

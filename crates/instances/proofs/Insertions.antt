@@ -1,14 +1,6 @@
 -- Demand 3: its hypotheses can be met by a SAR and what is put into it, computed.
-use Prim.Native.Nat.{ℕ, zero, suc, _<_}
-use mathlib.Core.Path.{_≡_, refl, ap, _∙_}
-use mathlib.Core.List.{List, [], _∷_, _++_}
-use mathlib.Core.Option.{Option, none}
-use mathlib.Core.Logic.{_⊎_}
-use mathlib.Core.Bool.{Bool, true, _&&_}
-use lib.ListN.{getD}
-use lib.Dec.{ltb, lit≤, lit<}
-use borrow.Author.Tests.{ltb-true}
-use Rattle.octets.proofs.All.{and-left, and-right}
+use Rattle.octets.specs.Standard.{ℕ, _≡_, refl, ap, _∙_, List, [], _∷_, _++_, Option, none, _⊎_, lit≤}
+use Rattle.octets.proofs.Numbers.{allBytes, are-bytes}
 use Rattle.diameter.specs.Put.{Piece}
 use Rattle.pen.specs.Bytes.{wordBytes, headBytes, vendorHead, numberBytes}
 use Rattle.pen.specs.Groups.{failed}
@@ -16,31 +8,31 @@ use Rattle.calling.specs.Lent.{Lent}
 use Rattle.calling.specs.Serve.{Served, serve}
 use Rattle.worked_examples.proofs.Computed.{come, held, roomy, no-vectors}
 use Rattle.worked_examples.proofs.Sample.{room, answer, s}
-use Rattle.requests.specs.Request.{dialectOf, cx}
-use Rattle.demands.specs.Insertion.{requestOf, Foreign, Quiet, Inserted, ending, keep, put, putBefore, placeNow, placed, FirstMarked, Cut, Longer, Mark}
-use Rattle.demands.specs.Insertion.{firstMark, newer}
+use Rattle.requests.specs.Request.{dialectOf, underCx}
+use Rattle.demands.specs.Insertion.{requestOf, Foreign, Quiet, Inserted, ending, keep, put, putBefore, placeNow, placed, FirstMarked, Cut, Longer}
+use Rattle.demands.specs.Insertion.{Mark, firstMark, newer}
 use Rattle.demands.proofs.Demands.{demand-3, demand-3-unmarked, demand-3-table, demand-3-marked, demand-3-fault, demand-3-cases, demand-3-any}
-use Rattle.instances.proofs.Asked.{table, removed, vendor, head, session, application, common, own, rest, sar, asked, comesTo, comes, blamed, plain}
-use Rattle.instances.proofs.Asked.{zeroVendor, loud, all, isWhole, allWhole, all-whole, kept}
+use Rattle.instances.proofs.Asked.{table, removed, vendor, head, session, application, common, own, rest, sar, asked, comesTo, comes, blamed}
+use Rattle.instances.proofs.Asked.{plain, zeroVendor, loud, all, isWhole, allWhole, all-whole, kept}
 use Rattle.instances.proofs.Calls.{sound-table, removal}
 
-foreign-plain : Foreign (dialectOf cx head) plain
+foreign-plain : Foreign (dialectOf underCx head) plain
 unfolding all
 foreign-plain = record { whole = record { right = refl; exact = refl; filled = refl }; plain = refl; stranger = refl }
 
-foreign-zero : Foreign (dialectOf cx head) zeroVendor
+foreign-zero : Foreign (dialectOf underCx head) zeroVendor
 unfolding all
 foreign-zero = record { whole = record { right = refl; exact = refl; filled = refl }; plain = refl; stranger = refl }
 
-foreign-loud : Foreign (dialectOf cx head) loud
+foreign-loud : Foreign (dialectOf underCx head) loud
 unfolding all
 foreign-loud = record { whole = record { right = refl; exact = refl; filled = refl }; plain = refl; stranger = refl }
 
-quiet-plain : Quiet (dialectOf cx head) plain
+quiet-plain : Quiet (dialectOf underCx head) plain
 unfolding all
 quiet-plain = record { foreign = foreign-plain; unmarked = refl }
 
-quiet-zero : Quiet (dialectOf cx head) zeroVendor
+quiet-zero : Quiet (dialectOf underCx head) zeroVendor
 unfolding all
 quiet-zero = record { foreign = foreign-zero; unmarked = refl }
 
@@ -48,7 +40,7 @@ quiet-zero = record { foreign = foreign-zero; unmarked = refl }
 thrice : List Piece
 thrice = application ∷ plain ∷ zeroVendor ∷ common ++ (own s 5 ++ (plain ∷ []))
 
-put-thrice : Inserted (Quiet (dialectOf cx head)) (rest s 5) thrice
+put-thrice : Inserted (Quiet (dialectOf underCx head)) (rest s 5) thrice
 unfolding all thrice
 put-thrice =
     keep _ (put plain quiet-plain (put zeroVendor quiet-zero
@@ -71,7 +63,7 @@ cut-answered = come (asked (requestOf head (session ∷ rest s 5) cut)) roomy so
 once : List Piece
 once = application ∷ plain ∷ common ++ own s 5
 
-put-once : Inserted (Quiet (dialectOf cx head)) (rest s 5) once
+put-once : Inserted (Quiet (dialectOf underCx head)) (rest s 5) once
 unfolding all once
 put-once = keep _ (put plain quiet-plain (kept (common ++ own s 5)))
 
@@ -82,7 +74,7 @@ met-3-tail =
     ∙ ap (placed (placeNow (keep session put-once))) cut-answered
 
 -- one marked M between a front and a back
-markedAt : (front back : List Piece) → FirstMarked (dialectOf cx head) (front ++ back) (front ++ (loud ∷ back))
+markedAt : (front back : List Piece) → FirstMarked (dialectOf underCx head) (front ++ back) (front ++ (loud ∷ back))
 unfolding all
 markedAt front back =
     record {
@@ -100,8 +92,8 @@ markedAt front back =
     }
 
 -- these are all cases
-met-3-cases : Inserted (Quiet (dialectOf cx head)) common (plain ∷ common) ⊎ FirstMarked (dialectOf cx head) common (plain ∷ common)
-met-3-cases = demand-3-cases (dialectOf cx head) common (plain ∷ common) (put plain foreign-plain (kept common))
+met-3-cases : Inserted (Quiet (dialectOf underCx head)) common (plain ∷ common) ⊎ FirstMarked (dialectOf underCx head) common (plain ∷ common)
+met-3-cases = demand-3-cases (dialectOf underCx head) common (plain ∷ common) (put plain foreign-plain (kept common))
 
 unsupported-answer : ℕ → Served
 unsupported-answer place = blamed place (answer (numberBytes 268 5001) (failed (loud .avp)))
@@ -118,7 +110,7 @@ met-3-marked =
 behindIt : List Piece
 behindIt = application ∷ plain ∷ common ++ own s 12
 
-markedBehind : FirstMarked (dialectOf cx head) (rest s 12) (behindIt ++ (loud ∷ []))
+markedBehind : FirstMarked (dialectOf underCx head) (rest s 12) (behindIt ++ (loud ∷ []))
 unfolding all behindIt
 markedBehind =
     record {
@@ -171,19 +163,9 @@ unfolding all isWhole allWhole many
 met-3-table = demand-3-table head refl session many (many ++ (loud ∷ [])) (all-whole (session ∷ many) refl) [] refl (lit≤ tt) (asked []) (markedAt many [])
 
 -- the SAR as bytes is such a header and row
-allBytes : List ℕ → Bool
-allBytes [] = true
-allBytes (x ∷ l) = ltb x 256 && allBytes l
-
-are-bytes : (l : List ℕ) → allBytes l ≡ true → (i : ℕ) → getD l i 0 < 256
-unfolding allBytes
-are-bytes [] e i = lit< tt
-are-bytes (x ∷ l) e zero = ltb-true x 256 (and-left (ltb x 256) _ e)
-are-bytes (x ∷ l) e (suc i) = are-bytes l (and-right (ltb x 256) _ e) i
-
 met-3-any : Cut (sar s 5)
 unfolding all allBytes
-met-3-any = demand-3-any (sar s 5) (are-bytes (sar s 5) refl) refl refl
+met-3-any = demand-3-any (sar s 5) (λ i. are-bytes (sar s 5) refl i .fits) refl refl
 
 -- In one sentence: the SAR of type 5 with two unmarked ones put in, and with a marked one behind them.
 cut-sar : Cut (sar s 5)
@@ -207,7 +189,7 @@ quietly = application ∷ plain ∷ zeroVendor ∷ common ++ own s 5
 loudly : List Piece
 loudly = application ∷ plain ∷ loud ∷ common ++ own s 5
 
-longer-quietly : Longer (sar s 5) (requestOf head (session ∷ quietly) [])
+longer-quietly : Longer underCx (sar s 5) (requestOf head (session ∷ quietly) [])
 unfolding all quietly cut-sar
 longer-quietly =
     record {
@@ -218,7 +200,7 @@ longer-quietly =
       most = lit≤ tt;
     }
 
-longer-loudly : Longer (sar s 5) (requestOf head (session ∷ loudly) [])
+longer-loudly : Longer underCx (sar s 5) (requestOf head (session ∷ loudly) [])
 unfolding all loudly cut-sar
 longer-loudly =
     record {

@@ -1,38 +1,34 @@
 -- The place: the hypotheses of its theorems can be met, by SARs over a table of no record, computed.
-use Prim.Native.Nat.{ℕ, _≤_, _<_}
-use mathlib.Core.Path.{_≡_, refl, sym, ap}
-use mathlib.Core.Bool.{false}
-use mathlib.Core.List.{List, [], _∷_, _++_, map}
-use native.Mathlib.Omega.{arith}
-use lib.ListN.{length, take, set}
+use Rattle.octets.specs.Standard.{ℕ, _≤_, _<_, _≡_, refl, sym, ap, false, List, [], _∷_, _++_, map, arith, length, take, set}
 use Rattle.diameter.specs.Put.{Piece}
 use Rattle.pen.specs.Bytes.{wordBytes, vendorHead, numberBytes}
 use Rattle.pen.specs.Groups.{failed}
 use Rattle.reading.specs.declared.Outcome.the-variants.{Base}
 use Rattle.requests.specs.Judged.{nothing}
+use Rattle.requests.specs.Request.{dialectOf, underCx}
 use Rattle.calling.specs.Lent.{Lent, lent}
 use Rattle.calling.specs.Serve.{Served, serve, resultOf}
 use Rattle.blocks.specs.declared.Checked.the-variants.{Sound}
-use Rattle.ndushavire.specs.Word.{word, callPlace, callWord}
-use Rattle.ndushavire.specs.Reads.{placeIn}
+use Rattle.ndushavire.specs.Word.{word, callPlace, callWord, placeIn}
 use Rattle.worked_examples.proofs.Computed.{known, come, held, roomy, no-vectors}
 use Rattle.worked_examples.proofs.Sample.{header, room, answer, s}
 use Rattle.demands.specs.Insertion.{requestOf}
 use Rattle.demands.specs.Place.{first, pastTaken, ruleFault, OfRules, AtFault, Blames}
-use Rattle.demands.proofs.Place.{place-word, place-answer, place-is, place-blames, place-least, place-within, place-result, place-none, place-refused}
-use Rattle.demands.proofs.Place.{place-header, place-first, place-decided, place-missing, place-experimental, place-success, place-most}
+use Rattle.demands.proofs.Place.{place-word, place-answer, place-is, place-blames, place-least, place-within, place-bytes, place-there, place-result}
+use Rattle.demands.proofs.Place.{place-none, place-refused, place-header, place-first, place-decided, place-missing, place-experimental}
+use Rattle.demands.proofs.Place.{place-success, place-most}
 use Rattle.instances.proofs.Calls.{sound-empty}
 use Rattle.instances.proofs.Asked.{base, vendor, head, session, application, common, own, rest, sar, asked, comesTo, loud, all}
 
 abbrev bare : List ℕ → Lent
-bare req = lent req (header 0 0) [] [] room
+bare req = lent req (header 0 0) [] [] room underCx
 
 -- a SAR of Session-Id and a row of AVPs
 abbrev row : List Piece → List ℕ
 row qs = requestOf head (session ∷ qs) []
 
 -- Type 12 is bad content, (h). Reading takes eight AVPs, the first at 20, and comes to the 614 at 144.
-wrongType : AtFault (sar s 12) 5004 144
+wrongType : AtFault (dialectOf underCx (sar s 12)) (sar s 12) 5004 144
 unfolding all
 wrongType =
     record {
@@ -65,6 +61,9 @@ met-least = place-least (bare (sar s 12)) 144 blames
 met-within : 144 < length (sar s 12)
 met-within = place-within (bare (sar s 12)) 144 blames
 
+met-bytes : 148 ≤ length (sar s 12)
+met-bytes = place-bytes (bare (sar s 12)) 144 blames
+
 met-result : (resultOf (bare (sar s 12)) ≡ Base 5004) × OfRules 5004
 unfolding blames
 met-result = place-result (bare (sar s 12)) 144 blames
@@ -75,6 +74,13 @@ unfolding all
 met-word =
     place-word (bare (sar s 12))
     (record { word-is = ap (λ (y : Served). callWord (y .call)) (sym met-answer); table-is = refl; vectors-is = refl; buffer-is = refl })
+
+met-there : (20 ≤ 144) × (148 ≤ length (sar s 12))
+unfolding all
+met-there =
+    place-there (bare (sar s 12)) {r = word 0 144 140}
+    (record { word-is = ap (λ (y : Served). callWord (y .call)) (sym met-answer); table-is = refl; vectors-is = refl; buffer-is = refl })
+    (λ e. let n : _≡_ {A = ℕ} 144 0 = e in omega arith)
 
 met-most : callPlace (serve (bare (sar s 12)) .call) ≤ 16380
 met-most = place-most (bare (sar s 12))

@@ -1,33 +1,28 @@
 -- The laws of the vector file can be met: two MARs in a row, each for two vectors, over a file of three of their name, computed. They send two and one.
-use Prim.Native.Nat.{ℕ, _<_}
-use mathlib.Core.Path.{_≡_, refl, sym, ap, _∙_}
-use mathlib.Core.List.{List, [], _∷_, _++_}
-use mathlib.Core.Bool.{true, false, cond}
-use mathlib.Core.Logic.{_≢_}
-use native.Mathlib.Omega.{arith}
-use lib.ListN.{length, getD}
-use lib.Dec.{lit<}
+use Rattle.octets.specs.Standard.{ℕ, _<_, _≡_, refl, sym, ap, _∙_, List, [], _∷_, _++_, true, false, cond, _≢_, arith, length, getD, lit<}
 use Rattle.octets.specs.Run.{over}
 use Rattle.blocks.specs.Blocks.{blockOf}
 use Rattle.blocks.specs.declared.Checked.{Checked}
 use Rattle.blocks.specs.declared.Checked.the-variants.{Sound}
 use Rattle.table.specs.Check.{checkTable}
-use Rattle.vectors.specs.Chosen.{howMany, sentOf}
+use Rattle.vectors.specs.Chosen.{countFrom, sentOf}
 use Rattle.vectors.specs.VectorFile.{checkVectors}
 use Rattle.blocks.specs.Changed.{isOne}
 use Rattle.pen.specs.Bytes.{vendorNumber}
 use Rattle.reading.specs.Verdicts.{numberOf}
+use Rattle.reading.specs.declared.Outcome.the-variants.{Base}
+use Rattle.requests.specs.Request.{underCx}
 use Rattle.calling.specs.Call.{Answered}
 use Rattle.calling.specs.Lent.{Lent, lent}
 use Rattle.calling.specs.Trial.{anyHolds}
-use Rattle.calling.specs.Serve.{Served, smallBuffer, checkValue, checkOf, decision, decided, serve}
+use Rattle.calling.specs.Serve.{Served, smallBuffer, checkValue, checkOf, trials, decision, decided, resultOf, serve}
 use Rattle.ndushavire.specs.Word.{callPlace}
 use Rattle.vectors_sent.specs.Sent.{sentBy, Challenges, usedAt, remaining, itemsFrom, saidOf, answerWith}
 use Rattle.vectors_sent.specs.Row.{Turn, lending, leftBy, sentOver, Once}
 use Rattle.vectors_sent.proofs.Sending.{refusal-leaves, command-leaves, failure-leaves, only-success, others-stay, unsent-stay, sent-mark, sent-bytes}
-use Rattle.vectors_sent.proofs.Sending.{sent-number, sent-some, sent-first, answer-sends, success-place, success-says, sent-once, sent-over, sent-before}
-use Rattle.vectors_sent.proofs.Sending.{sent-after, sent-never}
-use Rattle.worked_examples.proofs.Computed.{knownTrials, come, roomy, unregistered-sound}
+use Rattle.vectors_sent.proofs.Sending.{sent-number, sent-some, sent-first, answer-sends, success-place, success-says, sent-once, sent-over}
+use Rattle.vectors_sent.proofs.Sending.{sent-before, sent-after, sent-never}
+use Rattle.worked_examples.proofs.Computed.{knownTrials, come, held, roomy, unregistered-sound}
 use Rattle.worked_examples.proofs.Sample.{vector, room, request, authentication, item, challenges, one, waiting, s, opened}
 
 -- three vectors of one private identity; with the first two used; with all used
@@ -42,7 +37,7 @@ used = vector 1 0x70 1 ++ (vector 1 0x70 5 ++ vector 1 0x70 9)
 
 -- a MAR for two vectors over a table, and the row of two: the first stores the server name and sets pending, and the second is over the table that it left
 turn : List ℕ → Turn
-turn table = record { request = authentication 2 s; table = table; profile = []; buffer = room }
+turn table = record { request = authentication 2 s; table = table; profile = []; buffer = room; terms = underCx }
 
 abbrev row : List Turn
 row = turn (one 0 0 []) ∷ turn (waiting 0 s) ∷ []
@@ -53,12 +48,12 @@ first = lending unused (turn (one 0 0 []))
 abbrev second : Lent
 second = lending fewer (turn (waiting 0 s))
 
--- a call without room for an answer; one of a request without AVPs
+-- a call without room for an answer; one of a request without AVPs, over a sound table and with room
 abbrev refused : Lent
-refused = lent [] [] [] unused []
+refused = lent [] [] [] unused [] underCx
 
 abbrev other : ℕ → Lent
-other command = lent (request command []) [] [] unused []
+other command = lent (request command []) (one 0 0 []) [] unused room underCx
 
 -- a call that is answered by these bytes
 comes : List ℕ → List ℕ → Served
@@ -66,7 +61,7 @@ comes vectors bytes = record { call = Answered (record { length = length bytes; 
 
 -- all that the instances open
 all : ℕ
-unfolding opened unused fewer used turn comes anyHolds sentBy remaining howMany
+unfolding opened unused fewer used turn comes anyHolds sentBy remaining countFrom
 all = 0
 
 -- the answers, with the number sent in 607, the table and the vectors afterwards; and the blocks that are sent
@@ -200,15 +195,28 @@ met-says : saidOf unused (sentBy first) ≡ vendorNumber 607 2 ++ itemsFrom unus
 unfolding all
 met-says = success-says first met-success
 
--- a call that is refused, for its buffer; a request of another command; a MAR without AVPs, which is B5005: the vectors stay
+-- a call that is refused, for its buffer: the vectors stay
 met-refused : (serve refused .vectors ≡ unused) × (sentBy refused ≡ [])
 unfolding anyHolds
 met-refused = refusal-leaves refused refl
+
+-- a SAR and a MAR without AVPs are answered, with B5005: the vectors stay, since the one is of another command, and the other an error
+command-answered : anyHolds (trials (other 301)) ≡ false
+unfolding all
+command-answered = held (other 301) roomy unregistered-sound unused-sound refl
 
 met-command : (serve (other 301) .vectors ≡ unused) × (sentBy (other 301) ≡ [])
 unfolding all
 met-command = command-leaves (other 301) (λ e. let n : _≡_ {A = ℕ} 301 303 = e in omega arith)
 
+failure-answered : anyHolds (trials (other 303)) ≡ false
+unfolding all
+failure-answered = held (other 303) roomy unregistered-sound unused-sound refl
+
+failure-result : resultOf (other 303) ≡ Base 5005
+unfolding all
+failure-result = ap (λ (c : Checked). decision (other 303) (checkValue c) .given .verdict .result) unregistered-sound
+
 met-failure : (serve (other 303) .vectors ≡ unused) × (sentBy (other 303) ≡ [])
 unfolding all
-met-failure = failure-leaves (other 303) (λ e. let n : _≡_ {A = ℕ} 5005 2001 = ap numberOf e in omega arith)
+met-failure = failure-leaves (other 303) (λ e. let n : _≡_ {A = ℕ} 5005 2001 = ap numberOf (sym failure-result ∙ e) in omega arith)

@@ -1,14 +1,6 @@
 -- An item is written by the writers of its parts.
-use Prim.Native.Nat.{ℕ, zero, suc, _+_, _-_, _*_, _≤_, _<_}
-use mathlib.Core.Bool.{Bool, true, false}
-use mathlib.Core.Path.{_≡_, refl, sym, _∙_}
-use mathlib.Core.List.{List, _++_, append-assoc}
-use native.Mathlib.Omega.{arith}
-use native.Mathlib.Numerals.{add-one}
-use lib.ListN.{length, getD, take, drop, length-take, length-drop, length-append}
-use lib.Seq.{length-take-le}
-use lib.Dec.{lit≤, ltb}
-use borrow.Author.Tests.{ltb-true, ltb-false}
+use Rattle.octets.specs.Standard.{ℕ, zero, suc, _+_, _*_, _≤_, _<_, Bool, true, false, _≡_, refl, List, _++_, arith, add-one, length, getD, take}
+use Rattle.octets.specs.Standard.{drop, length-take, length-drop, length-append, length-take-le, lit≤, ltb, ltb-true, ltb-false}
 use Rattle.octets.specs.Run.{over, Wrote}
 use Rattle.octets.proofs.Writes.{lent, back, then, named, then-front}
 use Rattle.pen.specs.Bytes.{vendorHead, vendorBytes, vendorNumber, vendorGroup}

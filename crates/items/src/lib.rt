@@ -11,7 +11,7 @@ ghost use Rattle.vectors.specs.Chosen.{Sendable};
 ghost use Rattle.vectors.specs.VectorBlock.{vectorOf};
 ghost use Rattle.items.specs.Items.{challengeBytes, keyBytes, keySize, itemBytes, itemSize, itemsBytes, numberedBytes, sentBytes};
 
-// 613, 608 and 609 of item i; the only scheme that is served is `Digest-AKAv1-MD5`.
+// 613, 608 and 609 of item i; the scheme is the one that is served.
 fn put_challenge(out: &mut [u8], b: &[u8], i: u32) -> usize
     requires { ⌜ (length (now b) ≡ 512) × (88 ≤ length (now out)) ⌝ }
     ensures { λ r. ⌜ (r ≡ 88) × Wrote (challengeBytes i (now (b .entry))) (now (out .entry)) (now (out .exit)) r ⌝ }
@@ -21,7 +21,7 @@ fn put_challenge(out: &mut [u8], b: &[u8], i: u32) -> usize
         + pen::put_vendor_avp(
             &mut out[a..],
             codes::SIP_AUTHENTICATION_SCHEME,
-            b"Digest-AKAv1-MD5",
+            &vectors::SCHEME,
         );
     c + pen::put_vendor_avp(&mut out[c..], codes::SIP_AUTHENTICATE, vector::rand_autn(b))
 }

@@ -1,13 +1,6 @@
 -- Words and digits, written one after the other.
-use Prim.Native.Nat.{ℕ, _+_, _-_, _^_, _≤_, _<_}
-use mathlib.Core.Bool.{Bool, true, false}
-use mathlib.Core.Path.{_≡_, refl, sym}
-use mathlib.Core.List.{List, append-assoc}
-use native.Mathlib.Omega.{arith}
-use native.Mathlib.Nat.{pow-le-pow-right}
-use lib.Dec.{leb, lit<}
-use lib.ListN.{length, take}
-use borrow.Author.Tests.{leb-true, leb-false}
+use Rattle.octets.specs.Standard.{ℕ, _+_, _-_, _^_, _≤_, _<_, Bool, true, false, _≡_, refl, sym, List, append-assoc, arith, pow-le-pow-right, leb}
+use Rattle.octets.specs.Standard.{lit<, length, take, leb-true, leb-false}
 use Rattle.io.specs.Digits.{digits, Fewest}
 use Rattle.octets.specs.Run.{Wrote}
 use Rattle.octets.proofs.Writes.{lent, back, then, named}

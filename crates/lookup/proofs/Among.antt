@@ -1,9 +1,5 @@
 -- Where a record that was found stands.
-use Prim.Native.Nat.{ℕ, _+_, _*_, _≤_}
-use mathlib.Core.Path.{_≡_, sym, _∙_}
-use mathlib.Core.List.{List}
-use native.Mathlib.Omega.{arith}
-use lib.ListN.{length}
+use Rattle.octets.specs.Standard.{ℕ, _+_, _*_, _≤_, _≡_, sym, _∙_, List, arith, length}
 use Rattle.table.specs.SoundTable.{SoundTable}
 use Rattle.table.proofs.Sound.{sound-block}
 use Rattle.lookup.specs.Find.{publicIs, findPublic}

@@ -1,11 +1,6 @@
 -- The first number that a test holds of: the turns of a scan, and what its answer says.
-use Prim.Native.Nat.{ℕ, zero, suc, _+_, _-_, _<_, _≤_}
-use mathlib.Core.Bool.{Bool, true, false, cond, true≢false}
-use mathlib.Core.Path.{_≡_, refl, sym, _∙_, ap}
-use native.Mathlib.Omega.{arith}
-use native.Mathlib.Numerals.{add-one}
-use lib.Dec.{ltb}
-use borrow.Author.Tests.{ltb-true, ltb-false}
+use Rattle.octets.specs.Standard.{ℕ, zero, suc, _+_, _-_, _<_, _≤_, Bool, true, false, cond, true≢false, _≡_, refl, sym, _∙_, ap, arith, add-one, ltb}
+use Rattle.octets.specs.Standard.{ltb-true, ltb-false}
 use Rattle.lookup.specs.Find.{firstFrom, isAt}
 use Rattle.lookup.specs.declared.Found.{Found}
 use Rattle.lookup.specs.declared.Found.the-variants.{At, Nothing}

@@ -1,12 +1,6 @@
 -- Halving in public identities that rise: what is left out holds no such name, so it finds what a scan finds.
-use Prim.Native.Nat.{ℕ, zero, suc, _+_, _-_, _<_, _≤_}
-use mathlib.Core.Bool.{Bool, true, false}
-use mathlib.Core.Path.{_≡_, refl, sym, _∙_, ap}
-use mathlib.Core.Logic.{_↔_}
-use mathlib.Core.List.{List}
-use native.Mathlib.Omega.{arith}
-use lib.Dec.{ltb}
-use borrow.Author.Tests.{ltb-true, ltb-false}
+use Rattle.octets.specs.Standard.{ℕ, zero, suc, _+_, _-_, _<_, _≤_, Bool, true, false, _≡_, refl, sym, _∙_, ap, _↔_, List, arith, ltb, ltb-true}
+use Rattle.octets.specs.Standard.{ltb-false}
 use Rattle.octets.specs.Name.{orderOf, same}
 use Rattle.octets.specs.declared.name.Order.{Order}
 use Rattle.octets.specs.declared.name.Order.the-variants.{Less, Equal, Greater}

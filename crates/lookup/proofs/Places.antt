@@ -1,16 +1,7 @@
 -- The scan of the places of visited networks, and the bits of a roaming byte.
-use Prim.Native.Nat.{ℕ, suc, _+_, _-_, _/_, _%_, _^_, _<_, _≤_}
-use mathlib.Core.Bool.{Bool, true, false, _&&_, cond, true≢false}
-use mathlib.Core.Path.{_≡_, refl, sym, _∙_, ap}
-use mathlib.Core.List.{List}
-use native.Mathlib.Omega.{arith}
-use native.Mathlib.Nat.{div-eq-of-lt, lt-of-lt-of-le}
-use native.Mathlib.Numerals.{add-one}
-use lib.Dec.{eqb, ltb}
-use lib.Pow.{pow-mono}
-use lib.ListN.{length, getD, take, drop, length-take, length-drop}
-use lib.Seq.{getD-take, getD-drop, ext-getD}
-use borrow.Author.Tests.{ltb-true, ltb-false, eq-eqb, ne-eqb, eqb-true, eqb-false}
+use Rattle.octets.specs.Standard.{ℕ, suc, _+_, _-_, _/_, _%_, _^_, _<_, _≤_, Bool, true, false, _&&_, cond, true≢false, _≡_, refl, sym, _∙_, ap, List}
+use Rattle.octets.specs.Standard.{arith, div-eq-of-lt, lt-of-lt-of-le, add-one, eqb, ltb, pow-mono, length, getD, take, drop, length-take}
+use Rattle.octets.specs.Standard.{length-drop, getD-take, getD-drop, ext-getD, ltb-true, ltb-false, eq-eqb, ne-eqb, eqb-true, eqb-false}
 use Rattle.octets.specs.All.{allBelow}
 use Rattle.octets.proofs.All.{all-more, all-at}
 use Rattle.octets.proofs.Names.{same-yes, same-no}

@@ -1,11 +1,5 @@
 -- Scans by the subscription, and where a record that was found ends.
-use Prim.Native.Nat.{ℕ, _<_, _≤_}
-use mathlib.Core.Bool.{Bool, true, false, not}
-use mathlib.Core.Path.{_≡_, sym, _∙_}
-use mathlib.Core.List.{List}
-use native.Mathlib.Omega.{arith}
-use lib.ListN.{length}
-use borrow.Author.Tests.{lt-ltb}
+use Rattle.octets.specs.Standard.{ℕ, _<_, _≤_, Bool, true, false, not, _≡_, sym, _∙_, List, arith, length, lt-ltb}
 use Rattle.octets.specs.Name.{same}
 use Rattle.record.specs.Fields.{privateOf, serverSize, setOf, bitsOf, barred}
 use Rattle.record.specs.Sets.{sameSet}
@@ -13,7 +7,8 @@ use Rattle.blocks.specs.Blocks.{blockOf}
 use Rattle.table.specs.Named.{privateAt}
 use Rattle.table.specs.SoundTable.{SoundTable}
 use Rattle.table.proofs.Sound.{sound-block}
-use Rattle.lookup.specs.Find.{firstFrom, isAt, endOf, findPublic, publicIs, privateIs, findPrivate, serverHere, servesAt, freeHere, freeAt, findFree, barredAlone}
+use Rattle.lookup.specs.Find.{firstFrom, isAt, endOf, findPublic, publicIs, privateIs, findPrivate, serverHere, servesAt, freeHere, freeAt}
+use Rattle.lookup.specs.Find.{findFree, barredAlone}
 use Rattle.lookup.specs.declared.Found.{Found}
 use Rattle.lookup.specs.declared.Found.the-variants.{At, Nothing}
 use Rattle.lookup.proofs.First.{first-none, first-some, first-stands}

@@ -1,14 +1,7 @@
 -- The bytes of a moved block: what is written anew, and what stays.
-use Prim.Native.Nat.{ℕ, _+_, _-_, _<_, _≤_, _^_}
-use mathlib.Core.Bool.{Bool, true, false, _&&_, _||_, true≢false}
-use mathlib.Core.Path.{_≡_, refl, sym, _∙_, ap}
-use mathlib.Core.Logic.{_≢_, _⊎_, inl, inr}
-use mathlib.Core.List.{List}
-use native.Mathlib.Omega.{arith}
-use lib.Dec.{ltb, leb, eqb}
-use lib.ListN.{length, getD, set, length-set}
-use lib.Seq.{getD-set-same, getD-set-other}
-use borrow.Author.Tests.{ltb-true, ltb-false, leb-false, lt-leb, le-leb, le-ltb, eqb-true, eqb-false, ne-eqb}
+use Rattle.octets.specs.Standard.{ℕ, _+_, _-_, _<_, _≤_, _^_, Bool, true, false, _&&_, _||_, true≢false, _≡_, refl, sym, _∙_, ap, _≢_, _⊎_, inl, inr}
+use Rattle.octets.specs.Standard.{List, arith, ltb, leb, eqb, length, getD, set, length-set, getD-set-same, getD-set-other, ltb-true, ltb-false}
+use Rattle.octets.specs.Standard.{leb-false, lt-leb, le-leb, le-ltb, eqb-true, eqb-false, ne-eqb}
 use Rattle.octets.specs.Number.{putBe32}
 use Rattle.octets.specs.Sum.{sumWords}
 use Rattle.octets.proofs.Runs.{name-apart, name-here}

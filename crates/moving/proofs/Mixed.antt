@@ -1,16 +1,9 @@
 -- A sound table is of one edition and one issue number throughout; of one that mixes them the later block is blamed.
-use Prim.Native.Nat.{ℕ, _+_, _*_, _<_, _≤_}
-use mathlib.Core.Bool.{Bool, true, false, true≢false}
-use mathlib.Core.Logic.{_≢_, _⊎_, inl, inr}
-use mathlib.Core.Path.{_≡_, refl, sym}
-use mathlib.Core.List.{List, [], _∷_}
-use native.Mathlib.Omega.{arith}
-use lib.Dec.{eqb}
-use lib.ListN.{length}
-use borrow.Author.Tests.{eq-eqb, le-leb, eqb-true}
+use Rattle.octets.specs.Standard.{ℕ, _+_, _*_, _≤_, Bool, true, false, _≢_, _⊎_, inl, inr, _≡_, refl, List, [], _∷_, arith, eqb, length, eq-eqb}
+use Rattle.octets.specs.Standard.{le-leb, eqb-true}
 use Rattle.octets.proofs.Chains.{chain-says}
 use Rattle.record.specs.Fields.{editionOf, issueOf}
-use Rattle.record.specs.HeaderBlock.{headerOf, soundHeader}
+use Rattle.record.specs.HeaderBlock.{headerOf}
 use Rattle.record.specs.RecordBlock.{recordOf, soundRecord}
 use Rattle.record.specs.declared.header.Header.{Header}
 use Rattle.record.proofs.Tests.{record-says}

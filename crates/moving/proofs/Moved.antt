@@ -1,66 +1,46 @@
 -- A table that was moved, by its blocks: what it keeps, that it is as sound as it was, and there and back.
-use Prim.Native.Nat.{ℕ, suc, _+_, _-_, _*_, _^_, _<_, _≤_}
-use mathlib.Core.Bool.{Bool, true, false, cond, _&&_, _||_}
-use mathlib.Core.Path.{_≡_, refl, sym, _∙_, ap}
-use mathlib.Core.List.{List, [], _∷_}
-use native.Mathlib.Omega.{arith}
-use lib.Dec.{eqb, leb}
-use lib.ListN.{length}
-use borrow.Author.Tests.{eqb-true, leb-true, leb-false}
-use Rattle.octets.specs.Name.{orderOf}
+use Rattle.octets.specs.Standard.{ℕ, suc, _+_, _*_, _^_, _<_, _≤_, Bool, true, false, _&&_, _||_, _≡_, refl, sym, _∙_, ap, List, [], _∷_, arith, eqb}
+use Rattle.octets.specs.Standard.{leb, length, eqb-true, leb-true, leb-false}
 use Rattle.octets.specs.Sum.{sumWords}
-use Rattle.octets.proofs.All.{and-left, and-right}
 use Rattle.octets.proofs.Chains.{chain-says}
+use Rattle.octets.proofs.Numbers.{Bytes}
 use Rattle.record.specs.Fields.{editionOf, issueOf, setOf}
-use Rattle.record.specs.HeaderBlock.{headerOf, soundCounts, soundEdition, isHeader, soundNumbers, soundHeaderRest, soundHeader}
-use Rattle.record.specs.Networks.{soundNetworks}
+use Rattle.record.specs.HeaderBlock.{headerOf, soundEdition, soundHeader}
 use Rattle.record.specs.RecordBlock.{recordOf, soundRecord}
 use Rattle.record.specs.declared.header.Header.{Header}
+use Rattle.record.proofs.Alike.{SameFields, fields-same, member-same}
 use Rattle.record.proofs.OneSet.{SameMember}
-use Rattle.record.proofs.Tests.{RecordTests, record-says, record-holds, Limits, limits-say, header-says}
+use Rattle.record.proofs.Tests.{record-holds, HeaderTests, header-says}
 use Rattle.blocks.specs.Blocks.{blockOf}
 use Rattle.table.specs.Named.{publicAt}
-use Rattle.table.specs.Check.{isLess, risesAt, standsAt, agreesAt, soundAt, checkTable}
+use Rattle.table.specs.Check.{risesAt, standsAt, agreesAt, soundAt, checkTable}
 use Rattle.blocks.specs.declared.Checked.the-variants.{Sound}
 use Rattle.table.proofs.Agreement.{agrees-alike}
-use Rattle.blocks.proofs.Blocks.{block-length, table-is, table-same}
-use Rattle.table.proofs.Sound.{TableTests, table-holds}
+use Rattle.table.proofs.Rising.{rises-alike}
+use Rattle.blocks.proofs.Blocks.{block-length, block-bytes, table-is, table-same}
+use Rattle.table.proofs.Sound.{TableTests, table-holds, tests-record, tests-limits, tests-rises, tests-agrees}
 use Rattle.blocks.specs.Changed.{changedAt}
 use Rattle.blocks.proofs.Changed.{all-length, all-block}
 use Rattle.moving.specs.Moves.{moved, movedAll, Carried, headerWith}
 use Rattle.moving.proofs.Bytes.{moved-whole, moved-edition, moved-issue, moved-sum, moved-twice}
-use Rattle.moving.proofs.Carried.{moved-carried, first-same, set-same, header-same, public-same, private-same, server-same, record-kept}
-use Rattle.moving.proofs.Carried.{header-kept}
-use Rattle.moving.proofs.Same.{Bytes, block-bytes, moved-same}
+use Rattle.moving.proofs.Carried.{moved-carried, fields-run, set-same, header-same, record-kept, header-kept}
+use Rattle.moving.proofs.Same.{moved-same}
 
 -- What a sound table says of each block: its sum, and the header's edition and issue number.
 module _ (t : List ℕ) (file count : ℕ) (was : TableTests t file count) where
   abbrev first : List ℕ
   first = blockOf t 0
 
-  pub tests-record : (k : ℕ) → 1 ≤ k → k ≤ count → RecordTests (blockOf t k) k (headerOf first) file
-  unfolding soundAt standsAt
-  tests-record k a b =
-      record-says (blockOf t k) k (headerOf first) file
-      (and-left (soundRecord (blockOf t k) k (headerOf first) file) (risesAt t k) (and-left (standsAt t (headerOf first) file k) _ (was .each k a b)))
-
-  pub tests-limits : (k : ℕ) → 1 ≤ k → k ≤ count → Limits (recordOf (blockOf t k))
-  tests-limits k a b = limits-say (recordOf (blockOf t k)) (tests-record k a b .limits)
-
-  header-sum : sumWords first 128 ≡ 0
-  unfolding soundHeader
-  header-sum =
-      let tests : List Bool = isHeader (headerOf first) ∷ soundNumbers (headerOf first) ∷ soundHeaderRest first (headerOf first)
-      ∷ soundNetworks first (headerOf first .networks) ∷ [] in
-      eqb-true _ _ (chain-says (eqb (sumWords first 128) 0) tests (chain-says (soundCounts (headerOf first)) (_ ∷ []) (was .header) 1) 0)
+  pub header-tests : HeaderTests first
+  header-tests = header-says first (was .header)
 
   record-edition : (k : ℕ) → 1 ≤ k → k ≤ count → editionOf (blockOf t k) ≡ editionOf first
   unfolding recordOf headerOf
-  record-edition k a b = eqb-true _ _ (chain-says (eqb (recordOf (blockOf t k) .kind) 2) (_ ∷ _ ∷ _ ∷ []) (tests-record k a b .head) 1)
+  record-edition k a b = eqb-true _ _ (chain-says (eqb (recordOf (blockOf t k) .kind) 2) (_ ∷ _ ∷ _ ∷ []) (tests-record t file count was k a b .head) 1)
 
   record-issue : (k : ℕ) → 1 ≤ k → k ≤ count → issueOf (blockOf t k) ≡ issueOf first
   unfolding recordOf headerOf
-  record-issue k a b = eqb-true _ _ (chain-says (eqb (recordOf (blockOf t k) .kind) 2) (_ ∷ _ ∷ _ ∷ []) (tests-record k a b .head) 3)
+  record-issue k a b = eqb-true _ _ (chain-says (eqb (recordOf (blockOf t k) .kind) 2) (_ ∷ _ ∷ _ ∷ []) (tests-record t file count was k a b .head) 3)
 
   -- of every block, the header too
   each-block : {A : Type 0} (of : List ℕ → A) (k : ℕ) → k ≤ count → ((j : ℕ) → 1 ≤ j → j ≤ count → of (blockOf t j) ≡ of first) → of (blockOf t k) ≡ of first
@@ -77,11 +57,13 @@ module _ (t : List ℕ) (file count : ℕ) (was : TableTests t file count) where
   each-issue k h = each-block issueOf k h record-issue
 
   each-sum : (k : ℕ) → k ≤ count → sumWords (blockOf t k) 128 ≡ 0
-  each-sum k h = each-block (λ (b : List ℕ). sumWords b 128) k h (λ j a b. tests-record j a b .sum ∙ sym header-sum) ∙ header-sum
+  each-sum k h =
+      each-block (λ (b : List ℕ). sumWords b 128) k h (λ j a b. tests-record t file count was j a b .sum ∙ sym (header-tests .sum))
+      ∙ header-tests .sum
 
   -- edition 1 or 2; edition 1 names no issue number
   pub header-edition : soundEdition (headerOf first) ≡ true
-  header-edition = header-says first (was .header) .edition
+  header-edition = header-tests .edition
 
 -- The blocks of a moved table.
 module _ (t : List ℕ) (count edition issue : ℕ) (size : length t ≡ 512 * (count + 1)) where
@@ -142,20 +124,18 @@ module _ (t : List ℕ) (file count edition issue : ℕ) (was : TableTests t fil
   header-sound : soundHeader (blockOf y 0) ≡ true
   header-sound =
       header-kept (blockOf t 0) (blockOf y 0) (carried 0 none) (rw (edition-is 0 none, issue-is 0 none) right)
-      (sum-new t count edition issue (was .size) 0 none) (was .header)
+      (sum-new t count edition issue (was .size) 0 none) (header-tests t file count was)
+
+  fields-is : (k : ℕ) → 1 ≤ k → k ≤ count → SameFields (blockOf t k) (blockOf y k)
+  fields-is k a b =
+      fields-same (blockOf t k) (blockOf y k) (fields-run (blockOf t k) (blockOf y k) (carried k b)) (tests-limits t file count was k a b)
 
   public-is : (k : ℕ) → 1 ≤ k → k ≤ count → publicAt y k ≡ publicAt t k
   unfolding publicAt
-  public-is k a b = public-same (blockOf t k) (blockOf y k) (carried k b) (tests-limits t file count was k a b)
+  public-is k a b = fields-is k a b .public
 
   rises-is : (k : ℕ) → 1 ≤ k → k ≤ count → risesAt y k ≡ risesAt t k
-  unfolding risesAt
-  rises-is k a b = go (leb k 1) refl
-    where
-      go : (z : Bool) → leb k 1 ≡ z
-          → cond z true (isLess (orderOf (publicAt y (k - 1)) (publicAt y k))) ≡ cond z true (isLess (orderOf (publicAt t (k - 1)) (publicAt t k)))
-      go true e = refl
-      go false e = let l : 1 < k = leb-false k 1 e in rw (public-is (k - 1) (omega arith) (omega arith), public-is k a b)
+  rises-is k a b = rises-alike t y k a (λ j u v. public-is j u (omega arith))
 
   record-sound : (k : ℕ) → 1 ≤ k → k ≤ count → soundRecord (blockOf y k) k (headerWith h edition issue) file ≡ true
   record-sound k a b =
@@ -164,15 +144,7 @@ module _ (t : List ℕ) (file count edition issue : ℕ) (was : TableTests t fil
       (sum-new t count edition issue (was .size) k b) (rw (edition-is k b) (sets k a b)) (tests-record t file count was k a b))
 
   member-is : (k : ℕ) → 1 ≤ k → k ≤ count → SameMember (blockOf t k) (blockOf y k)
-  member-is k a b =
-      let limits : Limits (recordOf (blockOf t k)) = tests-limits t file count was k a b in
-      record {
-        set = set-same (blockOf t k) (blockOf y k) (carried k b);
-        private = private-same (blockOf t k) (blockOf y k) (carried k b) limits;
-        state = first-same (blockOf t k) (blockOf y k) (carried k b) 8 (omega arith) (omega arith);
-        bits = first-same (blockOf t k) (blockOf y k) (carried k b) 9 (omega arith) (omega arith);
-        server = server-same (blockOf t k) (blockOf y k) (carried k b) limits;
-      }
+  member-is k a b = member-same (blockOf t k) (blockOf y k) (fields-is k a b) (set-same (blockOf t k) (blockOf y k) (carried k b))
 
   agrees-is : (k : ℕ) → 1 ≤ k → k ≤ count → agreesAt y k ≡ agreesAt t k
   agrees-is k a b = agrees-alike t y k (λ j u v. member-is j u (omega arith)) a
@@ -180,15 +152,14 @@ module _ (t : List ℕ) (file count edition issue : ℕ) (was : TableTests t fil
   at-sound : (k : ℕ) → 1 ≤ k → k ≤ count → soundAt y (headerOf (blockOf y 0)) file k ≡ true
   unfolding soundAt standsAt
   at-sound k a b =
-      let both : soundAt t h file k ≡ true = was .each k a b in
       rw (
         head-is,
         record-sound k a b,
         rises-is k a b,
-        and-right (soundRecord (blockOf t k) k h file) (risesAt t k) (and-left (standsAt t h file k) _ both),
+        tests-rises t file count was k a b,
         agrees-is k a b,
       )
-      (and-right (standsAt t h file k) _ both)
+      (tests-agrees t file count was k a b)
 
   pub moved-tests : TableTests y file count
   moved-tests =
@@ -217,7 +188,7 @@ module _ (t : List ℕ) (file count edition issue : ℕ) (was : TableTests t fil
       ∙ ap (moved (editionOf (blockOf t 0)) (issueOf (blockOf t 0))) (moved-block t count edition issue (was .size) k h)
       ∙ moved-twice (editionOf (blockOf t 0)) (issueOf (blockOf t 0)) edition issue (blockOf t k) (whole t count edition issue (was .size) k h)
       ∙ rw (← each-edition t file count was k h, ← each-issue t file count was k h)
-      (moved-same (blockOf t k) (block-bytes t k bytes) (each-sum t file count was k h))
+      (moved-same (blockOf t k) (block-bytes t bytes k) (each-sum t file count was k h))
 
   pub there-again : again ≡ t
   there-again =

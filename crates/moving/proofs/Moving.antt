@@ -1,16 +1,14 @@
 -- What is proved of the moves, on one page: the statements alone, each by the law that has its proof.
-use Prim.Native.Nat.{ℕ, _^_, _<_, _≤_}
-use mathlib.Core.Path.{_≡_, sym, _∙_}
-use mathlib.Core.List.{List}
+use Rattle.octets.specs.Standard.{ℕ, _^_, _<_, _≤_, _≡_, sym, _∙_, List}
+use Rattle.octets.proofs.Numbers.{Bytes}
 use Rattle.record.specs.Fields.{editionOf, issueOf}
 use Rattle.blocks.specs.Blocks.{blockOf}
 use Rattle.table.specs.Check.{checkTable}
 use Rattle.blocks.specs.declared.Checked.the-variants.{Sound, Bad}
-use Rattle.moving.specs.Outcomes.{Outcome, came, refusing, moving, forward, back, OtherEdition, HasSets, WithoutSets}
-use Rattle.moving.specs.Outcomes.{Mixes, ForwardMoves, BackMoves, ForwardRefuses, BackRefuses, SameTable}
+use Rattle.moving.specs.Outcomes.{AfterMove, came, refusing, moving, forward, back, OtherEdition, HasSets, WithoutSets, Mixes, ForwardMoves}
+use Rattle.moving.specs.Outcomes.{BackMoves, ForwardRefuses, BackRefuses, TableMoved}
 use Rattle.moving.specs.declared.Move.{Move}
 use Rattle.moving.specs.declared.Move.the-variants.{Moved, Refused}
-use Rattle.moving.proofs.Same.{Bytes}
 use Rattle.moving.proofs.Outcomes as outcomes
 use Rattle.moving.proofs.Mixed as mixed
 
@@ -51,12 +49,12 @@ back-sound t file count e =
 
 -- A move leaves every record field by field as it was, and every byte but the edition, the issue number and the check word.
 pub forward-keeps : (t : List ℕ) (file issue count : ℕ) → issue < 2 ^ 32 → forward t file issue .move ≡ Moved count
-    → SameTable t (forward t file issue .table) count 2 issue
+    → TableMoved t (forward t file issue .table) count 2 issue
 forward-keeps t file issue count small e =
     let m : ForwardMoves t file issue count (forward t file issue) = outcomes.forward-ways t file issue .0 count e in
     rw (m .is) (outcomes.moved-keeps t file count (m .checked) 2 issue small)
 
-pub back-keeps : (t : List ℕ) (file count : ℕ) → back t file .move ≡ Moved count → SameTable t (back t file .table) count 1 0
+pub back-keeps : (t : List ℕ) (file count : ℕ) → back t file .move ≡ Moved count → TableMoved t (back t file .table) count 1 0
 back-keeps t file count e =
     let m : BackMoves t file count (back t file) = outcomes.back-ways t file .0 count e in
     rw (m .is) (outcomes.moved-keeps t file count (m .checked) 1 0 (outcomes.small))
@@ -107,5 +105,5 @@ pub back-moved : (t : List ℕ) (file count : ℕ) → back t file .move ≡ Mov
 back-moved t file count e = outcomes.back-ways t file .0 count e
 
 -- One outcome for each input: whatever the functions leave, as their contracts say, they leave nothing else.
-pub unique : (o : Outcome) {r s : Move} {x y : List ℕ} → came r x ≡ o → came s y ≡ o → (r ≡ s) × (x ≡ y)
+pub unique : (o : AfterMove) {r s : Move} {x y : List ℕ} → came r x ≡ o → came s y ≡ o → (r ≡ s) × (x ≡ y)
 unique o e f = outcomes.came-same (e ∙ sym f)

@@ -1,38 +1,32 @@
 -- What comes of a move, by its conditions, and the other way round.
-use Prim.Native.Nat.{ℕ, _^_, _<_, _≤_}
-use mathlib.Core.Bool.{Bool, true, false, _&&_, _||_, true≢false}
-use mathlib.Core.Path.{_≡_, refl, sym, _∙_, ap}
-use mathlib.Core.List.{List}
-use mathlib.Core.Logic.{_≢_, inl, inr}
-use native.Mathlib.Omega.{arith}
-use lib.Dec.{eqb}
-use borrow.Author.Tests.{eq-eqb, ne-eqb, eqb-true, eqb-false}
+use Rattle.octets.specs.Standard.{ℕ, _^_, _<_, _≤_, Bool, true, false, _&&_, _||_, true≢false, or-true, _≡_, refl, sym, _∙_, ap, List, _≢_, inl, inr}
+use Rattle.octets.specs.Standard.{arith, eqb, eq-eqb, ne-eqb, eqb-true, eqb-false}
+use Rattle.octets.proofs.Numbers.{Bytes}
 use Rattle.record.specs.Fields.{editionOf, issueOf, setOf}
 use Rattle.record.specs.HeaderBlock.{headerOf}
 use Rattle.record.specs.RecordBlock.{recordOf}
-use Rattle.record.proofs.Tests.{HeaderTests, header-says}
+use Rattle.record.proofs.Alike.{SameRun, SameFields, fields-same, profile-same, host-same, realm-same, network-same, run-within}
+use Rattle.record.proofs.Tests.{HeaderTests}
 use Rattle.blocks.specs.Blocks.{blockOf}
 use Rattle.table.specs.Check.{checkTable}
 use Rattle.table.specs.SoundTable.{SoundTable}
 use Rattle.blocks.specs.declared.Checked.{Checked}
 use Rattle.blocks.specs.declared.Checked.the-variants.{Sound, Bad}
-use Rattle.blocks.proofs.First.{good-each, all-good}
-use Rattle.table.proofs.Sound.{TableTests, table-says, sound-networks, sound-place}
+use Rattle.blocks.proofs.First.{good-each, all-good, FirstNot, bad-says, bad-holds}
+use Rattle.table.proofs.Sound.{TableTests, table-says, sound-networks, sound-place, tests-record, tests-limits}
 use Rattle.moving.specs.Moves.{movedAll, noSet, firstSet, Carried}
-use Rattle.moving.specs.Outcomes.{Outcome, came, refusing, moving, forwardSound, backPast, backSound, forwardChecked, backChecked, forward, back}
-use Rattle.moving.specs.Outcomes.{ForwardMoves, BackMoves, ForwardRefuses, BackRefuses, FirstWithSet, WithoutSets, SameRecord, SameHeader, SameTable}
+use Rattle.moving.specs.Outcomes.{AfterMove, came, refusing, moving, forwardSound, backPast, backSound, forwardChecked, backChecked, forward}
+use Rattle.moving.specs.Outcomes.{back, ForwardMoves, BackMoves, ForwardRefuses, BackRefuses, FirstWithSet, WithoutSets, RecordMoved}
+use Rattle.moving.specs.Outcomes.{HeaderMoved, TableMoved}
 use Rattle.moving.specs.declared.Move.{Move}
 use Rattle.moving.specs.declared.Move.the-variants.{Moved, Refused}
-use Rattle.blocks.proofs.First.{FirstNot, bad-says, bad-holds}
-use Rattle.moving.proofs.Same.{Bytes}
-use Rattle.moving.proofs.Carried.{record-same, header-same, set-same, public-same, private-same, server-same, mandatory-same, optional-same}
-use Rattle.moving.proofs.Carried.{profile-same, host-same, realm-same, network-same}
-use Rattle.moving.proofs.Moved.{tests-record, tests-limits, header-edition, each-edition, moved-size, each-carried, edition-new, issue-new}
-use Rattle.moving.proofs.Moved.{moved-sound, there-again}
+use Rattle.moving.proofs.Carried.{first-run, fields-run, record-same, header-same, set-same}
+use Rattle.moving.proofs.Moved.{header-tests, header-edition, each-edition, moved-size, each-carried, edition-new, issue-new, moved-sound}
+use Rattle.moving.proofs.Moved.{there-again}
 
 -- Two outcomes of one input are one.
 pub came-same : {r s : Move} {x y : List ℕ} → came r x ≡ came s y → (r ≡ s) × (x ≡ y)
-came-same e = (ap (λ (o : Outcome). o .move) e, ap (λ (o : Outcome). o .table) e)
+came-same e = (ap (λ (o : AfterMove). o .move) e, ap (λ (o : AfterMove). o .table) e)
 
 never : {A : Type 0} (n number block : ℕ) → Moved n ≡ Refused number block → A
 never n number block e = let z : _≡_ {A = ℕ} 0 1 = cc in absurd (omega arith)
@@ -110,12 +104,12 @@ module _ (t : List ℕ) (file : ℕ) where
     back-is f s = rw (e, f, sets-none t count s)
 
 -- The only ways there are: what is so of an outcome if a count is told, and if a refusal is.
-abbrev Forwards : List ℕ → ℕ → ℕ → Outcome → Type 0
+abbrev Forwards : List ℕ → ℕ → ℕ → AfterMove → Type 0
 Forwards t file issue o =
     ((n : ℕ) → o .move ≡ Moved n → ForwardMoves t file issue n o)
     × ((number block : ℕ) → o .move ≡ Refused number block → ForwardRefuses t file number block × (o .table ≡ t))
 
-abbrev Backs : List ℕ → ℕ → Outcome → Type 0
+abbrev Backs : List ℕ → ℕ → AfterMove → Type 0
 Backs t file o =
     ((n : ℕ) → o .move ≡ Moved n → BackMoves t file n o)
     × ((number block : ℕ) → o .move ≡ Refused number block → BackRefuses t file number block × (o .table ≡ t))
@@ -196,10 +190,6 @@ first-edition e n d f = go (eqb n 0) refl (rw d at f)
 pub small : 0 < 2 ^ 32
 small = omega arith
 
-second : (x : Bool) → (x || true) ≡ true
-second true = refl
-second false = refl
-
 module _ (t : List ℕ) (file count : ℕ) (e : checkTable t file ≡ Sound count) where
   was : TableTests t file count
   was = table-says t file count e
@@ -228,45 +218,50 @@ module _ (t : List ℕ) (file count : ℕ) (e : checkTable t file ≡ Sound coun
     carried : (k : ℕ) → k ≤ count → Carried (blockOf t k) (blockOf y k)
     carried = each-carried t count edition issue (was .size)
 
-    record-is : (k : ℕ) → 1 ≤ k → k ≤ count → SameRecord (blockOf t k) (blockOf y k) edition issue
+    record-is : (k : ℕ) → 1 ≤ k → k ≤ count → RecordMoved (blockOf t k) (blockOf y k) edition issue
     record-is k a b =
         let p : Carried (blockOf t k) (blockOf y k) = carried k b in
-        let l = tests-limits t file count was k a b in
+        let f : SameFields (blockOf t k) (blockOf y k) =
+        fields-same (blockOf t k) (blockOf y k) (fields-run (blockOf t k) (blockOf y k) p) (tests-limits t file count was k a b) in
         record {
           bytes = p;
           numbers =
               record-same (blockOf t k) (blockOf y k) p
               ∙ rw (edition-new t count edition issue (was .size) k b, issue-new t count edition issue (was .size) small k b);
-          public = public-same (blockOf t k) (blockOf y k) p l;
-          private = private-same (blockOf t k) (blockOf y k) p l;
-          server = server-same (blockOf t k) (blockOf y k) p l;
-          mandatory = mandatory-same (blockOf t k) (blockOf y k) p l;
-          optional = optional-same (blockOf t k) (blockOf y k) p l;
-          profile = profile-same (blockOf t k) (blockOf y k) p;
+          public = f .public;
+          private = f .private;
+          server = f .server;
+          mandatory = f .mandatory;
+          optional = f .optional;
+          profile =
+              profile-same (blockOf t k) (blockOf y k)
+              (run-within (blockOf t k) (blockOf y k) (first-run (blockOf t k) (blockOf y k) p) 400 406 (omega arith) (omega arith));
         }
 
-    header-is : SameHeader (blockOf t 0) (blockOf y 0) edition issue
+    header-is : HeaderMoved (blockOf t 0) (blockOf y 0) edition issue
+    unfolding headerOf
     header-is =
         let p : Carried (blockOf t 0) (blockOf y 0) = carried 0 (omega arith) in
-        let l : HeaderTests (blockOf t 0) = header-says (blockOf t 0) (was .header) in
+        let r : SameRun (blockOf t 0) (blockOf y 0) 8 400 = fields-run (blockOf t 0) (blockOf y 0) p in
+        let l : HeaderTests (blockOf t 0) = header-tests t file count was in
         let s : SoundTable t count = record { file = file; checked = e } in
         record {
           bytes = p;
           numbers =
               header-same (blockOf t 0) (blockOf y 0) p
               ∙ rw (edition-new t count edition issue (was .size) 0 (omega arith), issue-new t count edition issue (was .size) small 0 (omega arith));
-          host = host-same (blockOf t 0) (blockOf y 0) p (l .host);
-          realm = realm-same (blockOf t 0) (blockOf y 0) p (l .realm);
-          networks = λ i h. network-same (blockOf t 0) (blockOf y 0) p i (omega (arith, sound-networks t count s refl)) (sound-place t count s refl i h);
+          host = host-same (blockOf t 0) (blockOf y 0) r (l .host);
+          realm = realm-same (blockOf t 0) (blockOf y 0) r (l .realm);
+          networks = λ i h. network-same (blockOf t 0) (blockOf y 0) r i (omega (arith, sound-networks t count s refl)) (sound-place t count s refl i h);
         }
 
-    pub moved-keeps : SameTable t y count edition issue
+    pub moved-keeps : TableMoved t y count edition issue
     moved-keeps = record { size = moved-size t count edition issue (was .size); header = header-is; records = record-is }
 
   -- forward
   module _ (issue : ℕ) (small : issue < 2 ^ 32) where
     pub forward-sound : checkTable (movedAll t count 2 issue) file ≡ Sound count
-    forward-sound = moved-sound t file count 2 issue was small (second (eqb 2 1 && eqb issue 0)) (λ k a b. second (eqb (setOf (blockOf t k)) 0))
+    forward-sound = moved-sound t file count 2 issue was small (or-true (eqb 2 1 && eqb issue 0)) (λ k a b. or-true (eqb (setOf (blockOf t k)) 0))
 
     forward-edition : editionOf (blockOf (movedAll t count 2 issue) 0) ≡ 2
     forward-edition = edition-new t count 2 issue (was .size) 0 (omega arith)

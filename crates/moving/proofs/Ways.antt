@@ -1,12 +1,5 @@
 -- What each way through a move leaves.
-use Prim.Native.Nat.{ℕ, _+_, _*_, _≤_}
-use mathlib.Core.Path.{_≡_, sym, _∙_}
-use mathlib.Core.List.{List}
-use mathlib.Core.Logic.{_≢_}
-use lib.ListN.{length, getD}
-use lib.Seq.{getD-take}
-use native.Mathlib.Omega.{arith}
-use borrow.Author.Tests.{eq-eqb, ne-eqb}
+use Rattle.octets.specs.Standard.{ℕ, _+_, _*_, _≤_, _≡_, sym, _∙_, List, _≢_, length, getD, getD-take, arith, eq-eqb, ne-eqb}
 use Rattle.record.specs.Fields.{editionOf}
 use Rattle.blocks.specs.Blocks.{blockOf}
 use Rattle.table.specs.Check.{checkTable}

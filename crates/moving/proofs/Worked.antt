@@ -1,37 +1,27 @@
 -- Moves of a small table, computed by the definitions, and each theorem of the page at it.
-use Prim.Native.Nat.{ℕ, zero, suc, _+_, _*_, _≤_}
-use mathlib.Core.Bool.{Bool, true, _&&_}
-use mathlib.Core.List.{List, [], _∷_, _++_}
-use mathlib.Core.Path.{_≡_, refl, sym, ap, _∙_}
-use mathlib.Core.Logic.{inl}
-use native.Mathlib.Omega.{arith}
-use lib.Dec.{ltb, lit<, lit≤}
-use lib.ListN.{length, replicate, set}
-use lib.Seq.{sets}
-use borrow.Author.Tests.{ltb-true}
+use Rattle.octets.specs.Standard.{ℕ, _+_, _*_, _≤_, true, List, [], _∷_, _++_, _≡_, refl, sym, ap, _∙_, inl, arith, lit<, lit≤, length, replicate}
+use Rattle.octets.specs.Standard.{set, sets}
 use Rattle.octets.specs.All.{allBelow}
 use Rattle.octets.specs.Name.{orderOf}
 use Rattle.octets.specs.Number.{be16At, be32At, putBe32}
 use Rattle.octets.specs.Run.{zeros, zeroBetween}
 use Rattle.octets.specs.Sum.{sumWords}
-use Rattle.octets.proofs.All.{and-left, and-right}
+use Rattle.octets.proofs.Numbers.{Bytes, allBytes, are-bytes}
 use Rattle.record.specs.Fields.{editionOf, issueOf, setOf, publicOf, serverOf}
 use Rattle.record.specs.HeaderBlock.{headerOf, soundHeader}
 use Rattle.record.specs.Networks.{usedPlace, soundPlace, sameByte, otherPlace, newPlace, soundNetworks}
 use Rattle.record.specs.RecordBlock.{recordOf, soundRecord}
-use Rattle.blocks.specs.Blocks.{blockOf, tableOf}
+use Rattle.blocks.specs.Blocks.{blockOf, tableOf, firstBad}
 use Rattle.table.specs.Named.{publicAt}
-use Rattle.blocks.specs.Blocks.{firstBad}
 use Rattle.table.specs.Check.{risesAt, standsAt, agreesWith, agreesAt, soundAt, checkRecords, checkTable}
 use Rattle.blocks.specs.declared.Checked.the-variants.{Sound, Bad}
 use Rattle.blocks.specs.Sealed.{negated, sealed}
 use Rattle.blocks.specs.Changed.{changedAt, changedAll}
 use Rattle.moving.specs.Moves.{moved, movedAll, noSet, firstSet}
 use Rattle.moving.specs.Outcomes.{came, refusing, moving, forwardSound, backPast, backSound, forwardChecked, backChecked, forward, back}
-use Rattle.moving.specs.Outcomes.{OtherEdition, HasSets, WithoutSets, Mixes, ForwardMoves, BackMoves, ForwardRefuses, BackRefuses, SameTable}
+use Rattle.moving.specs.Outcomes.{OtherEdition, HasSets, WithoutSets, Mixes, ForwardMoves, BackMoves, ForwardRefuses, BackRefuses, TableMoved}
 use Rattle.moving.specs.declared.Move.the-variants.{Moved}
 use Rattle.moving.proofs.Moving as page
-use Rattle.moving.proofs.Same.{Bytes}
 
 -- A header of one record with host `h` and realm `r`; record 1, public identity `a`, private identity `p`, in state 1 at `s`; of an edition and an issue
 -- number, and the record of a set.
@@ -99,16 +89,6 @@ unfolding opened
 second-moved = refl
 
 -- What the theorems ask of them.
-allBytes : List ℕ → Bool
-allBytes [] = true
-allBytes (x ∷ l) = ltb x 256 && allBytes l
-
-are-bytes : (l : List ℕ) → allBytes l ≡ true → Bytes l
-unfolding allBytes
-are-bytes [] e i = lit< tt
-are-bytes (x ∷ l) e zero = ltb-true x 256 (and-left (ltb x 256) _ e)
-are-bytes (x ∷ l) e (suc i) = are-bytes l (and-right (ltb x 256) _ e) i
-
 first-bytes : Bytes first
 unfolding opened allBytes
 first-bytes = are-bytes first refl
@@ -239,7 +219,7 @@ met-forward-sound = page.forward-sound first 0 7 1 (lit< tt) (rw met-forward-mov
 met-back-sound : checkTable (back second 0 .table) 0 ≡ Sound 1
 met-back-sound = page.back-sound second 0 1 (rw met-back-moves refl)
 
-met-forward-keeps : SameTable first (forward first 0 7 .table) 1 2 7
+met-forward-keeps : TableMoved first (forward first 0 7 .table) 1 2 7
 met-forward-keeps = page.forward-keeps first 0 7 1 (lit< tt) (rw met-forward-moves refl)
 
 first-server : serverOf (blockOf first 1) ≡ 0x73 ∷ []
@@ -249,7 +229,7 @@ first-server = refl
 met-server : serverOf (blockOf (forward first 0 7 .table) 1) ≡ 0x73 ∷ []
 met-server = met-forward-keeps .records 1 (lit≤ tt) (lit≤ tt) .server ∙ first-server
 
-met-back-keeps : SameTable second (back second 0 .table) 1 1 0
+met-back-keeps : TableMoved second (back second 0 .table) 1 1 0
 met-back-keeps = page.back-keeps second 0 1 (rw met-back-moves refl)
 
 met-forward-unsound : forward mixed 0 7 ≡ refusing mixed 5 1

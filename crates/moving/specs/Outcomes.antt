@@ -18,47 +18,47 @@ use Rattle.moving.specs.Moves.{movedAll, firstSet, Carried, recordWith, 
 use Rattle.moving.specs.declared.Move.{Move}
 use Rattle.moving.specs.declared.Move.the-variants.{Moved, Refused}
 
-pub record Outcome : Type 0 where
+pub record AfterMove : Type 0 where
   pub move : Move
   pub table : List ℕ
 
-abbrev pub came : Move → List ℕ → Outcome
+abbrev pub came : Move → List ℕ → AfterMove
 came m t = record { move = m; table = t }
 
 -- a refusal leaves the table as it came
-abbrev pub refusing : List ℕ → ℕ → ℕ → Outcome
+abbrev pub refusing : List ℕ → ℕ → ℕ → AfterMove
 refusing t number block = came (Refused number block) t
 
 -- all blocks are of the edition and of the issue number
-abbrev pub moving : List ℕ → ℕ → ℕ → ℕ → Outcome
+abbrev pub moving : List ℕ → ℕ → ℕ → ℕ → AfterMove
 moving t count edition issue = came (Moved count) (movedAll t count edition issue)
 
 -- a sound table: "5 also for a sound table not of the edition moved from, block 0"
-unfoldable pub forwardSound : List ℕ → ℕ → ℕ → Outcome
+unfoldable pub forwardSound : List ℕ → ℕ → ℕ → AfterMove
 forwardSound t count issue = cond (eqb (editionOf (blockOf t 0)) 1) (moving t count 2 issue) (refusing t 5 0)
 
 -- over the first record with a set
-unfoldable pub backPast : List ℕ → ℕ → Checked → Outcome
+unfoldable pub backPast : List ℕ → ℕ → Checked → AfterMove
 backPast t count (Sound _) = moving t count 1 0
 backPast t count (Bad k) = refusing t 8 k
 
-unfoldable pub backSound : List ℕ → ℕ → Outcome
+unfoldable pub backSound : List ℕ → ℕ → AfterMove
 backSound t count = cond (eqb (editionOf (blockOf t 0)) 2) (backPast t count (firstSet t count)) (refusing t 5 0)
 
 -- over what the check said
-unfoldable pub forwardChecked : List ℕ → ℕ → Checked → Outcome
+unfoldable pub forwardChecked : List ℕ → ℕ → Checked → AfterMove
 forwardChecked t issue (Sound count) = forwardSound t count issue
 forwardChecked t issue (Bad k) = refusing t 5 k
 
-unfoldable pub backChecked : List ℕ → Checked → Outcome
+unfoldable pub backChecked : List ℕ → Checked → AfterMove
 backChecked t (Sound count) = backSound t count
 backChecked t (Bad k) = refusing t 5 k
 
 -- edition 1 to 2, given an issue number; edition 2 to 1
-unfoldable pub forward : List ℕ → ℕ → ℕ → Outcome
+unfoldable pub forward : List ℕ → ℕ → ℕ → AfterMove
 forward t file issue = forwardChecked t issue (checkTable t file)
 
-unfoldable pub back : List ℕ → ℕ → Outcome
+unfoldable pub back : List ℕ → ℕ → AfterMove
 back t file = backChecked t (checkTable t file)
 
 -- the conditions of the refusals: a sound table of another edition; the first record with a set; a sound table of edition 2 that has one
@@ -93,12 +93,12 @@ pub record Mixes (t : List ℕ) (file k : ℕ) : Type 0 where
   pub other : (editionOf (blockOf t k) ≢ editionOf (blockOf t 0)) ⊎ (issueOf (blockOf t k) ≢ issueOf (blockOf t 0))
 
 -- a move that was made, and one that was refused, with their conditions
-pub record ForwardMoves (t : List ℕ) (file issue count : ℕ) (o : Outcome) : Type 0 where
+pub record ForwardMoves (t : List ℕ) (file issue count : ℕ) (o : AfterMove) : Type 0 where
   pub checked : checkTable t file ≡ Sound count
   pub edition : editionOf (blockOf t 0) ≡ 1
   pub is : o ≡ moving t count 2 issue
 
-pub record BackMoves (t : List ℕ) (file count : ℕ) (o : Outcome) : Type 0 where
+pub record BackMoves (t : List ℕ) (file count : ℕ) (o : AfterMove) : Type 0 where
   pub checked : checkTable t file ≡ Sound count
   pub edition : editionOf (blockOf t 0) ≡ 2
   pub sets : WithoutSets t count
@@ -112,7 +112,7 @@ BackRefuses t file number block =
     ((number ≡ 5) × ((checkTable t file ≡ Bad block) ⊎ (OtherEdition t file 2 × (block ≡ 0)))) ⊎ ((number ≡ 8) × HasSets t file block)
 
 -- what a record and a header are after a move: all fields as they were but the edition and the issue number
-pub record SameRecord (b c : List ℕ) (edition issue : ℕ) : Type 0 where
+pub record RecordMoved (b c : List ℕ) (edition issue : ℕ) : Type 0 where
   pub bytes : Carried b c
   pub numbers : recordOf c ≡ recordWith (recordOf b) edition issue
   pub public : publicOf c ≡ publicOf b
@@ -122,14 +122,14 @@ pub record SameRecord (b c : List ℕ) (edition issue : ℕ) : Type 0 where
   pub optional : optionalOf c ≡ optionalOf b
   pub profile : (file : List ℕ) → profileOf c file ≡ profileOf b file
 
-pub record SameHeader (b c : List ℕ) (edition issue : ℕ) : Type 0 where
+pub record HeaderMoved (b c : List ℕ) (edition issue : ℕ) : Type 0 where
   pub bytes : Carried b c
   pub numbers : headerOf c ≡ headerWith (headerOf b) edition issue
   pub host : hostOf c ≡ hostOf b
   pub realm : realmOf c ≡ realmOf b
   pub networks : (i : ℕ) → i < networksOf b → networkOf c i ≡ networkOf b i
 
-pub record SameTable (t y : List ℕ) (count edition issue : ℕ) : Type 0 where
+pub record TableMoved (t y : List ℕ) (count edition issue : ℕ) : Type 0 where
   pub size : length y ≡ length t
-  pub header : SameHeader (blockOf t 0) (blockOf y 0) edition issue
-  pub records : (k : ℕ) → 1 ≤ k → k ≤ count → SameRecord (blockOf t k) (blockOf y k) edition issue
+  pub header : HeaderMoved (blockOf t 0) (blockOf y 0) edition issue
+  pub records : (k : ℕ) → 1 ≤ k → k ≤ count → RecordMoved (blockOf t k) (blockOf y k) edition issue

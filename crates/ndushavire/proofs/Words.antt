@@ -1,8 +1,5 @@
 -- The word of each answer, and the promise from its parts.
-use Prim.Native.Nat.{ℕ}
-use mathlib.Core.Path.{_≡_, _∙_, ap}
-use mathlib.Core.List.{List}
-use lib.ListN.{length}
+use Rattle.octets.specs.Standard.{ℕ, _≡_, _∙_, ap, List, length}
 use Rattle.table.specs.Check.{checkTable}
 use Rattle.blocks.specs.declared.Checked.{Checked}
 use Rattle.vectors.specs.VectorFile.{checkVectors}
@@ -11,7 +8,7 @@ use Rattle.calling.specs.Lent.{Lent}
 use Rattle.calling.specs.Serve.{serve}
 use Rattle.calling.specs.Leaves.{Leaves}
 use Rattle.calling.specs.declared.Came.{Came}
-use Rattle.moving.specs.Outcomes.{Outcome, came, forward, back}
+use Rattle.moving.specs.Outcomes.{AfterMove, came, forward, back}
 use Rattle.moving.specs.declared.Move.{Move}
 use Rattle.reporting.specs.Counts.{Reports}
 use Rattle.ndushavire.specs.Word.{word, checkWord, callWord, moveWord}
@@ -45,8 +42,8 @@ report-promised x area s e =
 pub forward-promised : (table profile : List ℕ) (issue : ℕ) {m : Move} {w : ℕ} {table' : List ℕ} → came m table' ≡ forward table (length profile) issue
     → w ≡ moveWord m → ForwardPromise table profile issue w table'
 forward-promised table profile issue e f =
-    record { word-is = f ∙ ap (λ (o : Outcome). moveWord (o .move)) e; table-is = ap (λ (o : Outcome). o .table) e }
+    record { word-is = f ∙ ap (λ (o : AfterMove). moveWord (o .move)) e; table-is = ap (λ (o : AfterMove). o .table) e }
 
 pub back-promised : (table profile : List ℕ) {m : Move} {w : ℕ} {table' : List ℕ} → came m table' ≡ back table (length profile) → w ≡ moveWord m
     → BackPromise table profile w table'
-back-promised table profile e f = record { word-is = f ∙ ap (λ (o : Outcome). moveWord (o .move)) e; table-is = ap (λ (o : Outcome). o .table) e }
+back-promised table profile e f = record { word-is = f ∙ ap (λ (o : AfterMove). moveWord (o .move)) e; table-is = ap (λ (o : AfterMove). o .table) e }

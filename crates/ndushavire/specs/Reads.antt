@@ -1,5 +1,5 @@
--- The word that a call returned, read back: bits 48 to 63, 32 to 47 and 0 to 31, and what they say.
-use Prim.Native.Nat.{ℕ, _/_, _%_}
+-- The word that a call returned, read back, and what it says.
+use Prim.Native.Nat.{ℕ}
 use mathlib.Core.Bool.{Bool, true, false}
 use mathlib.Core.Path.{_≡_}
 use lib.Dec.{eqb}
@@ -8,16 +8,9 @@ use Rattle.blocks.specs.declared.Checked.the-variants.{Sound, Bad}
 use Rattle.calling.specs.Call.{Call}
 use Rattle.calling.specs.Call.{Answered, Refused}
 use Rattle.calling.specs.Serve.{checkValue}
-use Rattle.ndushavire.specs.Word.{checkNumber, callNumber, callPlace, callValue}
-
-abbrev pub numberIn : ℕ → ℕ
-numberIn w = w / 281474976710656
-
-abbrev pub placeIn : ℕ → ℕ
-placeIn w = w / 4294967296 % 65536
-
-abbrev pub valueIn : ℕ → ℕ
-valueIn w = w % 4294967296
+use Rattle.moving.specs.declared.Move.{Move}
+use Rattle.moving.specs.declared.Move.the-variants as move
+use Rattle.ndushavire.specs.Word.{numberIn, placeIn, valueIn, checkNumber, callNumber, callPlace, callValue, moveNumber, moveValue}
 
 abbrev pub callBy : Bool → ℕ → ℕ → ℕ → Call
 callBy true number place value = Answered (record { length = value; place = place })
@@ -33,7 +26,14 @@ checkBy false value = Bad value
 abbrev pub checkIn : ℕ → Checked
 checkIn w = checkBy (eqb (numberIn w) 0) (valueIn w)
 
--- so is a call read back, and so is the check's answer
+abbrev pub moveBy : Bool → ℕ → ℕ → Move
+moveBy true number value = move.Moved value
+moveBy false number value = move.Refused number value
+
+abbrev pub moveIn : ℕ → Move
+moveIn w = moveBy (eqb (numberIn w) 0) (numberIn w) (valueIn w)
+
+-- so is a call read back, and so are the check's answer and what a move comes to
 pub record Reads (c : Call) (w : ℕ) : Type 0 where
   pub number : numberIn w ≡ callNumber c
   pub place : placeIn w ≡ callPlace c
@@ -45,3 +45,9 @@ pub record ReadsCheck (n : ℕ) (c : Checked) (w : ℕ) : Type 0 where
   pub place : placeIn w ≡ 0
   pub value : valueIn w ≡ checkValue c
   pub answer : checkIn w ≡ c
+
+pub record ReadsMove (m : Move) (w : ℕ) : Type 0 where
+  pub number : numberIn w ≡ moveNumber m
+  pub place : placeIn w ≡ 0
+  pub value : valueIn w ≡ moveValue m
+  pub move : moveIn w ≡ m

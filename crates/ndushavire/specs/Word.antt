@@ -1,5 +1,5 @@
 -- The word that a call returns: its number times 2^48, the place of the AVP at fault times 2^32, and what it returns besides below that.
-use Prim.Native.Nat.{ℕ, _+_, _*_}
+use Prim.Native.Nat.{ℕ, _+_, _*_, _/_, _%_}
 use Rattle.calling.specs.Call.{Call}
 use Rattle.calling.specs.Call.{Answered, Refused}
 use Rattle.moving.specs.declared.Move.{Move}
@@ -8,8 +8,24 @@ use Rattle.moving.specs.declared.Move.the-variants.{Moved}
 use Rattle.blocks.specs.declared.Checked.{Checked}
 use Rattle.blocks.specs.declared.Checked.the-variants.{Sound, Bad}
 
+abbrev pub numberUnit : ℕ
+numberUnit = 281474976710656
+
+abbrev pub placeUnit : ℕ
+placeUnit = 4294967296
+
 abbrev pub word : ℕ → ℕ → ℕ → ℕ
-word number place value = number * 281474976710656 + place * 4294967296 + value
+word number place value = number * numberUnit + place * placeUnit + value
+
+-- read back: bits 48 to 63, 32 to 47 and 0 to 31
+abbrev pub numberIn : ℕ → ℕ
+numberIn w = w / numberUnit
+
+abbrev pub placeIn : ℕ → ℕ
+placeIn w = w / placeUnit % 65536
+
+abbrev pub valueIn : ℕ → ℕ
+valueIn w = w % placeUnit
 
 -- a sound file: number 0 with the count; an unsound one: its refusal's number (the table's is 5, the vector file's 6), with the first bad block
 abbrev pub checkWord : ℕ → Checked → ℕ
@@ -38,6 +54,14 @@ callWord (Answered a) = word 0 (a .place) (a .length)
 callWord (Refused number besides) = word number 0 besides
 
 -- a move: number 0 with the count of records; a refusal's number with the block
+abbrev pub moveNumber : Move → ℕ
+moveNumber (Moved count) = 0
+moveNumber (move.Refused number block) = number
+
+abbrev pub moveValue : Move → ℕ
+moveValue (Moved count) = count
+moveValue (move.Refused number block) = block
+
 abbrev pub moveWord : Move → ℕ
 moveWord (Moved count) = word 0 0 count
 moveWord (move.Refused number block) = word number 0 block

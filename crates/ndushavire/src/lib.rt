@@ -1,33 +1,26 @@
 // What the daemon calls.
+pub mod word;
+
 use blocks::Checked;
 use calling::Came;
+use diameter::codes;
 use moving::Move;
+use reading::Terms;
 ghost use mathlib.Core.Path.{_≡_};
+ghost use Rattle.requests.specs.Request.{underCx};
 ghost use Rattle.calling.specs.Call.{callOf};
 ghost use Rattle.calling.specs.Lent.{lent};
-ghost use Rattle.ndushavire.specs.Word.{word, checkWord, callWord, moveWord};
+ghost use Rattle.ndushavire.specs.Word.{checkWord, callWord, moveWord};
 ghost use Rattle.ndushavire.specs.Promise.{CheckPromise, CheckVectorsPromise, DecidePromise, ReportPromise};
 ghost use Rattle.ndushavire.specs.Promise.{ForwardPromise, BackPromise, VersionPromise};
-
-// What the number of a returned word counts, 2^48, and what the place counts, 2^32.
-const NUMBER: u64 = 281474976710656;
-
-const PLACE: u64 = 4294967296;
-
-// A number, a place and what is returned besides, as one word.
-fn word(number: u16, place: u16, value: u32) -> u64
-    ensures { λ r. ⌜ r ≡ word number place value ⌝ }
-{
-    (number as u64) * NUMBER + (place as u64) * PLACE + (value as u64)
-}
 
 // The word of a check's answer: a bad block has the refusal's number.
 fn check_word(number: u16, c: Checked) -> u64
     ensures { λ r. ⌜ r ≡ checkWord number c ⌝ }
 {
     match c {
-        Checked::Sound(count) => word(0, 0, count),
-        Checked::Bad(block) => word(number, 0, block),
+        Checked::Sound(count) => word::of(0, 0, count),
+        Checked::Bad(block) => word::of(number, 0, block),
     }
 }
 
@@ -52,8 +45,8 @@ fn call_word(c: Came) -> u64
     ensures { λ r. ⌜ r ≡ callWord (callOf c) ⌝ }
 {
     match c {
-        Came::Answered(told) => word(0, told.place, told.length),
-        Came::Refused { number, besides } => word(number, 0, besides),
+        Came::Answered(told) => word::of(0, told.place, told.length),
+        Came::Refused { number, besides } => word::of(number, 0, besides),
     }
 }
 
@@ -68,10 +61,13 @@ pub extern "C" fn ndushavire_decide(
     answer: &mut [u8],
 ) -> u64
     ensures { λ r. ⌜ DecidePromise
-        (lent (now (request .entry)) (now (table .entry)) (now (profile .entry)) (now (vectors .entry)) (now (answer .entry)))
+        (lent (now (request .entry)) (now (table .entry)) (now (profile .entry)) (now (vectors .entry)) (now (answer .entry)) underCx)
         r (now (table .exit)) (now (vectors .exit)) (now (answer .exit)) ⌝ }
 {
-    call_word(calling::call(request, table, profile, vectors, answer))
+    let terms = Terms {
+        application: codes::CX,
+    };
+    call_word(calling::call(request, table, profile, vectors, answer, terms))
 }
 
 // "A report over a file of many requests laid end to end": it is written to an area of its own, as 145 numbers of 64 bits.
@@ -85,14 +81,14 @@ pub extern "C" fn ndushavire_report(
     report: &mut [u8],
 ) -> u64
     ensures { λ r. ⌜ ReportPromise
-        (lent (now (requests .entry)) (now (table .entry)) (now (profile .entry)) (now (vectors .entry)) (now (answer .entry))) (now (report .entry))
+        (lent (now (requests .entry)) (now (table .entry)) (now (profile .entry)) (now (vectors .entry)) (now (answer .entry)) underCx) (now (report .entry))
         r (now (table .exit)) (now (vectors .exit)) (now (answer .exit)) (now (report .exit)) ⌝ }
 {
-    word(
-        reporting::report(requests, table, profile, vectors, answer, report),
-        0,
-        0,
-    )
+    let terms = Terms {
+        application: codes::CX,
+    };
+    let number = reporting::report(requests, table, profile, vectors, answer, report, terms);
+    word::of(number, 0, 0)
 }
 
 // The word of a move.
@@ -100,8 +96,8 @@ fn move_word(m: Move) -> u64
     ensures { λ r. ⌜ r ≡ moveWord m ⌝ }
 {
     match m {
-        Move::Moved(count) => word(0, 0, count),
-        Move::Refused { number, block } => word(number, 0, block),
+        Move::Moved(count) => word::of(0, 0, count),
+        Move::Refused { number, block } => word::of(number, 0, block),
     }
 }
 

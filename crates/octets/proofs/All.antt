@@ -1,11 +1,6 @@
 -- Laws of conjunctions, and of a test of every number below a bound.
-use Prim.Native.Nat.{ℕ, zero, suc, _+_, _<_, _≤_}
-use mathlib.Core.Bool.{Bool, true, false, _&&_, and-assoc, and-true, true≢false}
-use mathlib.Core.Path.{_≡_, refl, sym}
-use native.Mathlib.Omega.{arith}
-use native.Mathlib.Numerals.{add-one}
-use lib.Dec.{ltb}
-use borrow.Author.Tests.{ltb-true, ltb-false}
+use Rattle.octets.specs.Standard.{ℕ, zero, suc, _+_, _<_, _≤_, Bool, true, false, _&&_, and-assoc, and-true, true≢false, _≡_, refl, sym, arith}
+use Rattle.octets.specs.Standard.{add-one, ltb, ltb-true, ltb-false}
 use Rattle.octets.specs.All.{allBelow}
 
 pub and-left : (a b : Bool) → (a && b) ≡ true → a ≡ true

@@ -1,8 +1,5 @@
 -- A chain of tests joined by `&&` holds exactly if each test holds.
-use Prim.Native.Nat.{ℕ, zero, suc}
-use mathlib.Core.Bool.{Bool, true, _&&_}
-use mathlib.Core.Path.{_≡_, refl}
-use mathlib.Core.List.{List, [], _∷_}
+use Rattle.octets.specs.Standard.{ℕ, zero, suc, Bool, true, _&&_, _≡_, refl, List, [], _∷_}
 use Rattle.octets.proofs.All.{and-left, and-right}
 
 abbrev pub chain : Bool → List Bool → Bool

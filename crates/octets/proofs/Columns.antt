@@ -1,11 +1,5 @@
 -- The sum of words by the sums of their columns: column k has the bytes that stand at place k of every word.
-use Prim.Native.Nat.{ℕ, zero, suc, _+_, _*_, _/_, _%_, _^_, _<_, _≤_}
-use mathlib.Core.Path.{_≡_, refl, ap, _∙_}
-use mathlib.Core.List.{List}
-use native.Mathlib.Omega.{arith}
-use native.Mathlib.Nat.{mod-add-mod}
-use native.Mathlib.Numerals.{add-one}
-use lib.ListN.{getD}
+use Rattle.octets.specs.Standard.{ℕ, zero, suc, _+_, _*_, _/_, _%_, _^_, _<_, _≤_, _≡_, refl, ap, _∙_, List, arith, mod-add-mod, add-one, getD}
 use mir.Syntax.{w8}
 use mir.Val.{Fits}
 use Rattle.octets.specs.Number.{four, be32At, le32At}

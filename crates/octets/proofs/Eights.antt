@@ -1,12 +1,6 @@
 -- Two names of one length compared eight bytes at a time: the turns of the loop.
-use Prim.Native.Nat.{ℕ, _+_, _-_, _<_, _≤_}
-use mathlib.Core.Bool.{Bool, true, false}
-use mathlib.Core.Path.{_≡_, refl, sym, ap, _∙_}
-use mathlib.Core.List.{List}
-use native.Mathlib.Omega.{arith}
-use lib.Dec.{eqb}
-use lib.ListN.{length}
-use borrow.Author.Tests.{eqb-true, eqb-false}
+use Rattle.octets.specs.Standard.{ℕ, _+_, _-_, _<_, _≤_, Bool, true, false, _≡_, refl, sym, ap, _∙_, List, arith, eqb, length, eqb-true}
+use Rattle.octets.specs.Standard.{eqb-false}
 use Rattle.octets.specs.All.{allBelow}
 use Rattle.octets.specs.Name.{alikeAt}
 use Rattle.octets.specs.Number.{be64At}

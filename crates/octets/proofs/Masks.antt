@@ -1,15 +1,8 @@
 -- Laws of the mask: what a field holds past its first bytes, eight bytes at a time.
-use Prim.Native.Nat.{ℕ, zero, suc, _+_, _-_, _*_, _<_, _≤_}
-use mathlib.Core.Bool.{Bool, true, false, _&&_, and-true, and-assoc}
-use mathlib.Core.Path.{_≡_, refl, _∙_}
-use mathlib.Core.Logic.{_≢_}
-use mathlib.Core.List.{List}
-use native.Mathlib.Omega.{arith}
-use lib.Bits.{bitAnd, bitOr, and-block, and-mask, and-zero-r}
-use lib.Dec.{eqb, ltb}
-use lib.ListN.{length, getD, set, length-set, replicate, length-replicate, getD-replicate}
-use lib.Seq.{getD-set-same, getD-set-other}
-use borrow.Author.Tests.{eqb-true, eqb-false, ltb-true, ltb-false}
+use Rattle.octets.specs.Standard.{ℕ, zero, suc, _+_, _-_, _*_, _<_, _≤_, Bool, true, false, _&&_, and-true, and-assoc, _≡_, refl, _∙_, _≢_}
+use Rattle.octets.specs.Standard.{List, arith, bitAnd, bitOr, and-block, and-mask, and-zero-r, eqb, ltb, length, getD, set, length-set}
+use Rattle.octets.specs.Standard.{replicate, length-replicate, getD-replicate, getD-set-same, getD-set-other, eqb-true, eqb-false, ltb-true}
+use Rattle.octets.specs.Standard.{ltb-false}
 use Rattle.octets.specs.All.{allBelow}
 use Rattle.octets.specs.Number.{eight, le64At}
 use Rattle.octets.specs.Run.{zeros, zeroBetween, Mask}

@@ -1,15 +1,7 @@
 -- Laws of names: alike is equal, and the order is strict and passes on.
-use Prim.Native.Nat.{ℕ, zero, suc, _+_, _-_, _*_, _<_, _≤_}
-use mathlib.Core.Bool.{Bool, true, false, cond}
-use mathlib.Core.Path.{_≡_, refl, sym, _∙_}
-use mathlib.Core.Logic.{_⊎_, inl, inr}
-use mathlib.Core.List.{List, [], _∷_}
-use native.Mathlib.Omega.{arith}
-use lib.Bits.{bitOr, bitXor, xor-self, xor-add-and, and-le-l, and-le-r}
-use lib.Dec.{eqb, ltb}
-use lib.ListN.{length, getD}
-use lib.Seq.{ext-getD}
-use borrow.Author.Tests.{lt-ltb, le-ltb, ltb-true, ltb-false, eqb-true, eqb-false, eq-eqb, ne-eqb}
+use Rattle.octets.specs.Standard.{ℕ, zero, suc, _+_, _*_, _<_, _≤_, Bool, true, false, cond, _≡_, refl, sym, _∙_, _⊎_, inl, inr, List, [], _∷_}
+use Rattle.octets.specs.Standard.{arith, bitOr, bitXor, xor-self, xor-add-and, and-le-l, and-le-r, eqb, ltb, length, getD, ext-getD, lt-ltb}
+use Rattle.octets.specs.Standard.{le-ltb, ltb-true, ltb-false, eqb-true, eqb-false, eq-eqb, ne-eqb}
 use Rattle.octets.specs.All.{allBelow}
 use Rattle.octets.specs.Name.{orderOf, alikeAt, alikeFrom, same}
 use Rattle.octets.specs.Number.{le32At}
@@ -112,7 +104,7 @@ less-tail x y s t e h =
     let b : x ≤ y = omega arith in
     rw (le-ltb _ _ a, le-ltb _ _ b) h
 
-never : {A : Type 0} → _≡_ {A = ℕ} 0 1 → A
+pub never : {A : Type 0} → _≡_ {A = ℕ} 0 1 → A
 never e = absurd (omega arith)
 
 less-cases : (x y : ℕ) (s t : List ℕ) → orderOf (x ∷ s) (y ∷ t) ≡ Less → (x < y) ⊎ ((x ≡ y) × (orderOf s t ≡ Less))

@@ -1,21 +1,28 @@
 -- Laws of numbers in bytes: in a part of a list, past a store, and read back.
-use Prim.Native.Nat.{ℕ, zero, suc, _+_, _*_, _/_, _%_, _^_, _<_, _≤_}
-use mathlib.Core.Path.{_≡_, refl, sym, ap, _∙_}
-use mathlib.Core.List.{List, [], _∷_}
-use native.Mathlib.Omega.{arith}
-use native.Mathlib.Nat.{mod-eq-of-lt, add-assoc, add-zero, zero-add}
+use Rattle.octets.specs.Standard.{ℕ, zero, suc, _+_, _*_, _/_, _%_, _^_, _<_, _≤_, Bool, true, _&&_, _≡_, refl, sym, ap, _∙_, List, [], _∷_}
+use Rattle.octets.specs.Standard.{arith, mod-eq-of-lt, add-assoc, add-zero, zero-add, ltb, shr-shr, length, getD, set, take, drop}
+use Rattle.octets.specs.Standard.{getD-set-other, getD-drop, getD-take, set-getD, ltb-true}
 use mir.Syntax.{w8}
 use mir.Val.{Fits}
-use lib.Pow.{shr-shr}
-use lib.ListN.{length, getD, set, take, drop}
-use lib.Seq.{getD-set-other, getD-drop, getD-take}
-use Rattle.octets.specs.Number.{be16At, be24At, be32At, be64At, putBe24, putBe32}
+use Rattle.octets.specs.Number.{four, be16At, be24At, be32At, be64At, putBe24, putBe32}
 use Rattle.octets.specs.Run.{putName}
+use Rattle.octets.proofs.All.{and-left, and-right}
 use Rattle.octets.proofs.Runs.{name-here}
 
 -- What a list of bytes has at every place.
 abbrev pub Bytes : List ℕ → Type 0
 Bytes s = (i : ℕ) → Fits w8 (getD s i 0)
+
+-- as a test, for a list that is written out
+unfoldable pub allBytes : List ℕ → Bool
+allBytes [] = true
+allBytes (x ∷ l) = ltb x 256 && allBytes l
+
+pub are-bytes : (l : List ℕ) → allBytes l ≡ true → Bytes l
+unfolding allBytes
+are-bytes [] e i = omega arith
+are-bytes (x ∷ l) e zero = omega (arith, ltb-true x 256 (and-left (ltb x 256) _ e))
+are-bytes (x ∷ l) e (suc i) = are-bytes l (and-right (ltb x 256) _ e) i
 
 -- The number that n bytes make, the first the highest: what holds of every width is proved of it.
 abbrev pub beAt : ℕ → List ℕ → ℕ → ℕ
@@ -110,3 +117,19 @@ field-put s at w h k =
 pub word-put : (s : List ℕ) (at w : ℕ) → at + 4 ≤ length s → w < 2 ^ 32 → be32At (putBe32 s at w) at ≡ w
 word-put s at w h k =
     ap (λ (l : List ℕ). be32At l at) (put32-name s at w) ∙ be32-alike (putName s at (bytes32 w) 4) (bytes32 w) at 0 (put-at s at (bytes32 w) 4 h) ∙ made32 w k
+
+-- A word of bytes, put where it stands, leaves the list as it was.
+digits : (a b c d : ℕ) {w : ℕ} → Fits w8 a → Fits w8 b → Fits w8 c → Fits w8 d → w ≡ four a b c d
+    → (w / 16777216 % 256 ≡ a) × (w / 65536 % 256 ≡ b) × (w / 256 % 256 ≡ c) × (w % 256 ≡ d)
+digits a b c d h i j k e = (omega arith, omega arith, omega arith, omega arith)
+
+module _ (s : List ℕ) (at : ℕ) (bytes : Bytes s) where
+  pub word-held : putBe32 s at (be32At s at) ≡ s
+  unfolding putBe32 be32At
+  word-held =
+      let d = digits _ _ _ _ (bytes at) (bytes (at + 1)) (bytes (at + 2)) (bytes (at + 3)) refl in
+      rw (d .0, set-getD s at 0, d .1, set-getD s (at + 1) 0, d .2, set-getD s (at + 2) 0, d .3) (set-getD s (at + 3) 0)
+
+  pub word-lt : be32At s at < 2 ^ 32
+  unfolding be32At
+  word-lt = omega (arith, bytes at, bytes (at + 1), bytes (at + 2), bytes (at + 3))

@@ -1,14 +1,7 @@
 -- The order of two names that are alike before a place, by what stands there: the turns of the loop that compares.
-use Prim.Native.Nat.{ℕ, zero, suc, _+_, _-_, _%_, _<_, _≤_, min}
-use mathlib.Core.Bool.{Bool, true, false, cond}
-use mathlib.Core.Path.{_≡_, refl, sym, _∙_}
-use mathlib.Core.List.{List}
-use native.Mathlib.Omega.{arith}
-use native.Mathlib.Numerals.{add-one}
-use lib.Dec.{ltb}
-use lib.ListN.{length, getD, drop, drop-of-length-le}
-use lib.Seq.{drop-cons}
-use borrow.Author.Tests.{lt-ltb, le-ltb, ltb-true, ltb-false, eqb-true, eq-eqb}
+use Rattle.octets.specs.Standard.{ℕ, zero, suc, _+_, _-_, _%_, _<_, _≤_, min, Bool, true, false, cond, _≡_, refl, sym, _∙_, List, arith}
+use Rattle.octets.specs.Standard.{add-one, ltb, length, getD, drop, drop-of-length-le, drop-cons, lt-ltb, le-ltb, ltb-true, ltb-false, eqb-true}
+use Rattle.octets.specs.Standard.{eq-eqb}
 use Rattle.octets.specs.All.{allBelow}
 use Rattle.octets.specs.Name.{orderOf, alikeAt, byNumber, byLength}
 use Rattle.octets.specs.declared.name.Order.{Order}

@@ -1,12 +1,7 @@
 -- Two names that stand in fields of one length, with zeros past them: the fields' order tells theirs, and where the fields are the same their lengths do.
-use Prim.Native.Nat.{ℕ, zero, suc, _≤_}
-use mathlib.Core.Bool.{Bool, true, false, cond}
-use mathlib.Core.Path.{_≡_, refl}
-use mathlib.Core.List.{List, [], _∷_}
-use native.Mathlib.Omega.{arith}
-use lib.Dec.{ltb}
-use lib.ListN.{length, getD, take}
-use borrow.Author.Tests.{lt-ltb, le-ltb, ltb-true, ltb-false}
+use Rattle.octets.specs.Standard.{ℕ, zero, suc, _≤_, Bool, true, false, cond, _≡_, refl, List, [], _∷_, arith, ltb, length, getD, take, lt-ltb}
+use Rattle.octets.specs.Standard.{le-ltb, ltb-true, ltb-false}
+use Rattle.octets.proofs.Names.{never}
 use Rattle.octets.specs.Name.{orderOf, byLength}
 use Rattle.octets.specs.declared.name.Order.{Order}
 use Rattle.octets.specs.declared.name.Order.the-variants.{Less, Equal, Greater}
@@ -15,9 +10,6 @@ abbrev pub byField : Order → Order → Order
 byField Less o = Less
 byField Equal o = o
 byField Greater o = Greater
-
-never : {A : Type 0} → _≡_ {A = ℕ} 0 1 → A
-never e = absurd (omega arith)
 
 -- No name comes before none, and none after another.
 empty-first : {A : Type 0} (u : List ℕ) → orderOf [] u ≡ Greater → A

@@ -1,13 +1,11 @@
--- Parts of a list: one that is cut at the list's end, parts that are alike, and one that others take the place of.
-use Prim.Native.Nat.{ℕ, _+_, _-_, _<_, _≤_, min}
-use mathlib.Core.Path.{_≡_, refl, sym, _∙_, ap}
-use mathlib.Core.Bool.{Bool, true, false}
-use mathlib.Core.List.{List, _++_}
-use native.Mathlib.Omega.{arith}
-use lib.Dec.{leb}
-use lib.ListN.{length, getD, take, drop, length-take, length-drop, length-append, List·getD-append}
-use lib.Seq.{take-all, take-at, drop-at, length-take-le, getD-take, getD-drop, getD-append-add, ext-getD}
-use borrow.Author.Tests.{leb-true, leb-false}
+-- Parts of a list: none, one that is cut at the list's end, parts that are alike, and one that others take the place of.
+use Rattle.octets.specs.Standard.{ℕ, _+_, _-_, _<_, _≤_, min, _≡_, refl, sym, _∙_, ap, Bool, true, false, List, [], _∷_, _++_, arith, leb}
+use Rattle.octets.specs.Standard.{length, getD, take, drop, length-take, length-drop, length-append, List·getD-append, take-all, take-at}
+use Rattle.octets.specs.Standard.{drop-at, length-take-le, getD-take, getD-drop, getD-append-add, ext-getD, leb-true, leb-false}
+
+pub nothing : (s : List ℕ) → length s ≤ 0 → s ≡ []
+nothing [] h = refl
+nothing (x ∷ s) h = absurd (omega arith)
 
 pub part-cut : (s : List ℕ) (at n to size : ℕ) → length s ≡ size → at ≤ size → to ≡ min (at + n) (length s) → take (to - at) (drop at s) ≡ take n (drop at s)
 part-cut s at n to size whole h e = go (leb (at + n) (length s)) refl

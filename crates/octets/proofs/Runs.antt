@@ -1,16 +1,7 @@
 -- Laws of zero runs, of the tail of a field, and of a name put into its field.
-use Prim.Native.Nat.{ℕ, zero, suc, _+_, _-_, _*_, _<_, _≤_, min, max}
-use mathlib.Core.Bool.{Bool, true, false, _&&_, and-true}
-use mathlib.Core.Path.{_≡_, refl, sym, _∙_, ap}
-use mathlib.Core.Logic.{_≢_}
-use mathlib.Core.List.{List, []}
-use native.Mathlib.Omega.{arith}
-use native.Mathlib.Numerals.{add-one}
-use lib.Bits.{bitOr, or-add-and, and-le-l, and-le-r, or-zero-l}
-use lib.Dec.{eqb, ltb}
-use lib.ListN.{length, getD, set, length-set, List·getD-eq-default}
-use lib.Seq.{getD-set-same, getD-set-other}
-use borrow.Author.Tests.{eq-eqb, ne-eqb, eqb-true, eqb-false, ltb-true, ltb-false}
+use Rattle.octets.specs.Standard.{ℕ, zero, suc, _+_, _-_, _*_, _<_, _≤_, max, Bool, true, false, _&&_, _≡_, refl, sym, _∙_, ap, _≢_, List, []}
+use Rattle.octets.specs.Standard.{arith, add-one, bitOr, or-add-and, and-le-l, and-le-r, or-zero-l, eqb, length, getD, set, length-set}
+use Rattle.octets.specs.Standard.{List·getD-eq-default, getD-set-same, getD-set-other, eq-eqb, ne-eqb, eqb-true, eqb-false}
 use Rattle.octets.specs.All.{allBelow}
 use Rattle.octets.specs.Number.{two, eight, be16At, le64At}
 use Rattle.octets.specs.Run.{zeros, zeroBetween, putName}

@@ -1,11 +1,5 @@
 -- Laws of sums of words: past a store, and where the bytes are alike.
-use Prim.Native.Nat.{ℕ, zero, suc, _+_, _*_, _^_, _<_, _≤_}
-use mathlib.Core.Path.{_≡_, refl}
-use mathlib.Core.List.{List}
-use native.Mathlib.Omega.{arith}
-use native.Mathlib.Nat.{mod-lt}
-use lib.Dec.{lit<}
-use lib.ListN.{getD, set}
+use Rattle.octets.specs.Standard.{ℕ, zero, suc, _+_, _*_, _^_, _<_, _≤_, _≡_, refl, List, arith, mod-lt, lit<, getD, set}
 use Rattle.octets.specs.Number.{putBe32}
 use Rattle.octets.specs.Sum.{sumWords}
 use Rattle.octets.proofs.Numbers.{be32-alike, word-set}

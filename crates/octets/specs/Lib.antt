@@ -3,4 +3,5 @@ pub mod Columns
 pub mod Name
 pub mod Number
 pub mod Run
+pub mod Standard
 pub mod Sum

@@ -1,47 +1,41 @@
 -- Sets (02 [6]), as theorems about `serve`, the check and the decisions. What the rules were before them is in specs/WithoutSets.
-use Prim.Native.Nat.{ℕ, _+_, _*_, _<_, _≤_}
-use mathlib.Core.Bool.{Bool, true, false, not, _&&_, _||_, true≢false}
-use mathlib.Core.Path.{_≡_, refl, sym, _∙_, ap}
-use mathlib.Core.List.{List, [], _∷_}
-use native.Mathlib.Omega.{arith}
-use lib.Dec.{eqb, leb}
-use lib.ListN.{length, getD, take, drop, drop-of-length-le, length-take, length-drop}
-use borrow.Author.Tests.{eqb-true, leb-true, leb-false}
+use Rattle.octets.specs.Standard.{ℕ, _*_, _<_, _≤_, Bool, true, false, not, _&&_, _||_, true≢false, _≡_, refl, sym, _∙_, List, arith, eqb, leb}
+use Rattle.octets.specs.Standard.{length, drop-of-length-le, eqb-true, leb-true, leb-false}
 use Rattle.octets.specs.Number.{be16At}
 use Rattle.octets.proofs.All.{and-left, and-right}
-use Rattle.record.specs.Fields.{editionOf, setOf, bitsOf, barred, serverSize, serverOf}
+use Rattle.record.specs.Fields.{editionOf, setOf, bitsOf, barred}
 use Rattle.record.specs.RecordBlock.{recordOf}
 use Rattle.record.specs.Sets.{sameSet, agreeing}
-use Rattle.record.proofs.OneSet.{Agree, agree-says}
 use Rattle.blocks.specs.Blocks.{blockOf}
 use Rattle.table.specs.Check.{checkTable}
 use Rattle.table.specs.SoundTable.{SoundTable}
 use Rattle.blocks.specs.declared.Checked.the-variants.{Sound}
-use Rattle.blocks.proofs.Blocks.{block-length}
-use Rattle.table.proofs.Sound.{TableTests, table-says, sound-agrees, sound-block, sound-limits}
+use Rattle.table.proofs.Sound.{TableTests, table-says, sound-agrees, tests-record}
 use Rattle.lookup.specs.Find.{isAt, freeHere, freeAt, findFree, barredAlone}
 use Rattle.lookup.specs.declared.Found.{Found}
 use Rattle.lookup.specs.declared.Found.the-variants.{At, Nothing}
 use Rattle.lookup.proofs.First.{first-none, first-fails}
 use Rattle.rewrite.proofs.Reaching.{header-set}
-use Rattle.rewrite.proofs.Together as members
-use Rattle.moving.proofs.Moved.{tests-record, each-edition}
+use Rattle.moving.proofs.Moved.{each-edition}
 use Rattle.choices.specs.declared.types.AssignmentType.{AssignmentType}
 use Rattle.assignment.specs.Assignment.{storesAt, fitsAt, rightAt}
-use Rattle.calling.specs.Lent.{Lent}
-use Rattle.calling.specs.Serve.{checkOf, serve}
+use Rattle.deciding.specs.Rules.{inForce}
+use Rattle.calling.specs.Lent.{Lent, dialectIn}
+use Rattle.calling.specs.Serve.{checkOf, serveBy, serve}
 use Rattle.calling.proofs.Kept.{table-checked}
-use Rattle.older_rules.specs.Rules.{inForce, serveBy}
 use Rattle.older_rules.specs.WithoutSets.{NoSets, beforeSets}
-use Rattle.older_rules.proofs.Rules.{serve-now, rules-same, decided-same}
+use Rattle.older_rules.proofs.Rules.{rules-same, decided-same}
 use Rattle.older_rules.proofs.WithoutSets.{check-is, plan-is, carried-is}
+use Rattle.rewrite.proofs.Together as members
+use Rattle.assignment.proofs.Members as asked
 
 -- WITHOUT SETS. Over a table without sets every call comes to what it came to before, with the same table, vectors and buffer afterwards.
 pub without-sets : (x : Lent) → NoSets (x .table) → serveBy beforeSets x ≡ serve x
 without-sets x none =
     rules-same beforeSets inForce x (check-is (x .table) none (length (x .profile)))
-    (λ count e. decided-same beforeSets inForce x count (plan-is (x .table) none count (x .request) (x .vectors)) (carried-is (x .table) none count))
-    ∙ serve-now x
+    (λ count e.
+    decided-same beforeSets inForce x count (plan-is (x .table) none count (dialectIn x) (x .request) (x .vectors))
+    (carried-is (x .table) none count (x .request)))
 
 -- A sound table of the first edition is one, so that it is untouched.
 module _ (t : List ℕ) (file count : ℕ) (checked : checkTable t file ≡ Sound count) where
@@ -120,26 +114,11 @@ module _ (t : List ℕ) (count k : ℕ) where
 -- records under sets before them would change nothing.
 module _ (t : List ℕ) (count : ℕ) (table : SoundTable t count) (j k : ℕ) (a : 1 ≤ j) (b : j ≤ count) (c : 1 ≤ k) (d : k ≤ count)
     (one : sameSet (blockOf t j) (blockOf t k) ≡ true) where
-  agree : Agree (blockOf t j) (blockOf t k)
-  agree = agree-says (blockOf t j) (blockOf t k) (members.members-agree t count table j k a b c d one)
-
-  size-is : (i : ℕ) → 1 ≤ i → i ≤ count → length (serverOf (blockOf t i)) ≡ serverSize (blockOf t i)
-  unfolding serverOf recordOf
-  size-is i u v =
-      let w : length (blockOf t i) ≡ 512 = block-length t i (sound-block t count table i v) in
-      simp (length-take, length-drop) (omega (arith, w, sound-limits t count table i u v .server))
-
-  sizes : serverSize (blockOf t j) ≡ serverSize (blockOf t k)
-  sizes = sym (size-is j a b) ∙ ap length (agree .server) ∙ size-is k c d
-
   pub stores-same : (server : List ℕ) → storesAt t server j ≡ storesAt t server k
-  unfolding storesAt
-  stores-same server = rw (agree .server)
+  stores-same = asked.stores-same t count table j k a b c d one
 
   pub fits-same : (server : List ℕ) → fitsAt t server j ≡ fitsAt t server k
-  unfolding fitsAt
-  fits-same server = rw (agree .server, sizes)
+  fits-same = asked.fits-same t count table j k a b c d one
 
   pub right-same : (kind : AssignmentType) → rightAt t kind j ≡ rightAt t kind k
-  unfolding rightAt
-  right-same kind = rw (agree .state)
+  right-same = asked.right-same t count table j k a b c d one

@@ -1,28 +1,20 @@
 -- 02 [7], "A branch nobody can reach.": the B5012 of UAR and LIR, as it stood in the two decisions, and that it is never given over a sound table. The old
 -- decisions stand here and nowhere else.
-use Prim.Native.Nat.{ℕ, _<_, _≤_}
-use mathlib.Core.Bool.{Bool, true, false, cond, not, _&&_, true≢false}
-use mathlib.Core.Path.{_≡_, refl, sym, _∙_, ap}
-use mathlib.Core.List.{List}
-use native.Mathlib.Omega.{arith}
-use lib.Dec.{eqb, ltb}
-use lib.ListN.{length}
-use borrow.Author.Tests.{ltb-true, lt-ltb}
+use Rattle.octets.specs.Standard.{ℕ, Bool, true, false, cond, not, _&&_, _≡_, refl, List, eqb, ltb, length, ltb-true, lt-ltb}
 use Rattle.record.specs.Fields.{stateOf, serverSize}
 use Rattle.blocks.specs.Blocks.{blockOf}
 use Rattle.table.specs.Named.{privateAt}
 use Rattle.table.specs.Check.{checkTable}
 use Rattle.table.specs.SoundTable.{SoundTable}
-use Rattle.blocks.specs.declared.Checked.the-variants.{Sound}
 use Rattle.table.proofs.Sound.{sound-served}
-use Rattle.lookup.specs.Find.{findPublic}
+use Rattle.lookup.specs.Find.{findPublic, blockFound}
 use Rattle.lookup.specs.declared.Found.{Found}
 use Rattle.lookup.specs.declared.Found.the-variants.{At, Nothing}
 use Rattle.reading.specs.Kinds.{userName, publicIdentity, visitedNetwork, authorizationType}
 use Rattle.reading.specs.Rules.{Seen}
 use Rattle.reading.specs.declared.Outcome.{Outcome}
 use Rattle.reading.specs.declared.Outcome.the-variants.{Base, Experimental}
-use Rattle.diameter.specs.Message.{commandOf}
+use Rattle.reading.specs.declared.Dialect.{Dialect}
 use Rattle.requests.specs.Request.{dataSeen, valueSeen}
 use Rattle.choices.specs.Choices.{authorization, location}
 use Rattle.choices.specs.Plans.{only}
@@ -33,17 +25,17 @@ use Rattle.choices.specs.declared.choice.Choice.{Choice}
 use Rattle.choices.specs.declared.choice.Choice.the-variants.{Alone, Server, Capabilities, First}
 use Rattle.choices.specs.declared.plan.Plan.{Plan}
 use Rattle.lookup.specs.Among.{Among}
-use Rattle.decisions.specs.Authorization.{askedAt, askedOf, authorizeFound, authorize}
-use Rattle.lookup.specs.Find.{blockFound}
-use Rattle.decisions.specs.Carried.{carried}
-use Rattle.decisions.specs.Location.{soughtAt, soughtOf, locateFound, locate}
+use Rattle.questions.specs.Authorization.{askedAt, askedOf, authorizeFound, authorize}
+use Rattle.questions.specs.Carried.{carried}
+use Rattle.questions.specs.Location.{soughtAt, soughtOf, locateFound, locate}
 use Rattle.lookup.proofs.Among.{public-among}
-use Rattle.fitting.specs.Decide.{uarPlan, sarPlan, lirPlan, marPlan, planRead}
-use Rattle.fitting.specs.Deeds.{carriedOut}
-use Rattle.calling.specs.Lent.{Lent}
-use Rattle.calling.specs.Serve.{serve}
-use Rattle.older_rules.specs.Rules.{Rules, inForce, serveBy}
-use Rattle.older_rules.proofs.Rules.{serve-now, rules-same, decided-same}
+use Rattle.deciding.specs.Plans.{uarPlan, sarPlan, lirPlan, marPlan, planRead}
+use Rattle.deciding.specs.Rules.{inForce, Rules}
+use Rattle.deciding.specs.Deeds.{carriedOut}
+use Rattle.blocks.specs.declared.Checked.the-variants.{Sound}
+use Rattle.calling.specs.Lent.{Lent, dialectIn}
+use Rattle.calling.specs.Serve.{decisionBy, decision, serveBy, serve}
+use Rattle.older_rules.proofs.Rules.{rules-same, decided-same}
 
 -- "the server name (none stored: B5012)"
 unfoldable pub serverIf : Bool → Outcome → Choice
@@ -79,14 +71,14 @@ oldAuthorize t count user network kind f =
 unfoldable pub oldLocate : List ℕ → ℕ → Found → Given
 oldLocate t count f = carried t count (privateAt t (blockFound f)) (blockFound f) (oldLocation (storedIn t f) (soughtOf t f))
 
-unfoldable pub oldPlan : List ℕ → List ℕ → ℕ → List ℕ → Seen → Plan
-oldPlan req t count v seen =
-    cond (eqb (commandOf req) 300)
+unfoldable pub oldPlan : Dialect → List ℕ → List ℕ → ℕ → List ℕ → Seen → Plan
+oldPlan d req t count v seen =
+    cond (eqb (d .command) 300)
     (only
     (oldAuthorize t count (dataSeen seen userName) (dataSeen seen visitedNetwork) (valueSeen seen authorizationType)
     (findPublic t count (dataSeen seen publicIdentity))))
-    (cond (eqb (commandOf req) 301) (sarPlan req t count seen)
-    (cond (eqb (commandOf req) 302) (only (oldLocate t count (findPublic t count (dataSeen seen publicIdentity))))
+    (cond (eqb (d .command) 301) (sarPlan req t count seen)
+    (cond (eqb (d .command) 302) (only (oldLocate t count (findPublic t count (dataSeen seen publicIdentity))))
     (marPlan t count v seen)))
 
 abbrev pub withBranch : Rules
@@ -158,20 +150,22 @@ module _ (t : List ℕ) (count : ℕ) (sound : SoundTable t count) where
   unfolding oldLocate locateFound
   locate-same f among = rw (location-same (storedIn t f) (soughtOf t f) (sought-served f among))
 
-  plan-same : (req v : List ℕ) (seen : Seen) → oldPlan req t count v seen ≡ planRead req t count v seen
+  plan-same : (d : Dialect) (req v : List ℕ) (seen : Seen) → oldPlan d req t count v seen ≡ planRead d req t count v seen
   unfolding oldPlan planRead uarPlan lirPlan authorize locate
-  plan-same req v seen =
+  plan-same d req v seen =
       rw (
         authorize-same (dataSeen seen userName) (dataSeen seen visitedNetwork) (valueSeen seen authorizationType)
             (findPublic t count (dataSeen seen publicIdentity)) (public-among t count (dataSeen seen publicIdentity) refl),
         locate-same (findPublic t count (dataSeen seen publicIdentity)) (public-among t count (dataSeen seen publicIdentity) refl),
       )
 
+pub decided-alike : (x : Lent) (count : ℕ) → checkTable (x .table) (length (x .profile)) ≡ Sound count
+    → decisionBy withBranch x count ≡ decision x count
+decided-alike x count e =
+    decided-same withBranch inForce x count (plan-same (x .table) count (record { file = length (x .profile); checked = e }) (dialectIn x)
+    (x .request) (x .vectors))
+    (λ s d. refl)
+
 -- "Answers are the same for every input."
 pub same-for-every-input : (x : Lent) → serveBy withBranch x ≡ serve x
-same-for-every-input x =
-    rules-same withBranch inForce x refl
-    (λ count e.
-    decided-same withBranch inForce x count (plan-same (x .table) count (record { file = length (x .profile); checked = e }) (x .request) (x .vectors))
-    (λ s d. refl))
-    ∙ serve-now x
+same-for-every-input x = rules-same withBranch inForce x refl (decided-alike x)

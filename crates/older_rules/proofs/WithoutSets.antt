@@ -1,22 +1,13 @@
 -- Without sets each rule is what it was: the check, the barring rule, the effects.
-use Prim.Native.Nat.{ℕ, suc, zero, _+_, _-_, _*_, _<_, _≤_}
-use mathlib.Core.Bool.{Bool, true, false, not, _&&_, _||_, cond, true≢false}
-use mathlib.Core.Path.{_≡_, refl, sym, _∙_, ap}
-use mathlib.Core.List.{List, [], _∷_}
-use native.Mathlib.Omega.{arith}
-use lib.Dec.{eqb}
-use lib.ListN.{length}
+use Rattle.octets.specs.Standard.{ℕ, suc, zero, _+_, _<_, _≤_, Bool, true, false, true≢false, and-true, _≡_, refl, sym, _∙_, List, [], _∷_, arith}
 use Rattle.record.specs.Fields.{setOf, bitsOf, barred}
 use Rattle.record.specs.HeaderBlock.{headerOf}
 use Rattle.record.specs.Sets.{sameSet}
 use Rattle.record.specs.declared.header.Header.{Header}
-use Rattle.blocks.specs.Blocks.{blockOf}
-use Rattle.blocks.specs.Blocks.{firstBad}
+use Rattle.blocks.specs.Blocks.{blockOf, firstBad}
 use Rattle.table.specs.Check.{standsAt, agreesAt, soundAt, checkRecords, checkTable}
-use Rattle.blocks.specs.declared.Checked.{Checked}
-use Rattle.blocks.specs.declared.Checked.the-variants.{Bad}
 use Rattle.table.proofs.Agreement.{agrees-holds}
-use Rattle.lookup.specs.Find.{isAt, findFree, barredAlone, findPublic}
+use Rattle.lookup.specs.Find.{barredAlone, findPublic}
 use Rattle.lookup.specs.declared.Found.{Found}
 use Rattle.lookup.specs.declared.Found.the-variants.{At, Nothing}
 use Rattle.lookup.proofs.Scans.{free-none}
@@ -25,12 +16,13 @@ use Rattle.rewrite.specs.Change.{afterOf, reaches}
 use Rattle.rewrite.proofs.Reaching.{reaches-named}
 use Rattle.rewrite.proofs.Tables.{after-choice}
 use Rattle.reading.specs.Rules.{Seen}
+use Rattle.reading.specs.declared.Dialect.{Dialect}
 use Rattle.choices.specs.declared.plan.Deed.{Deed}
 use Rattle.choices.specs.declared.plan.Deed.the-variants.{Leave, Settle, Challenge}
-use Rattle.decisions.specs.Authorization.{askedAt, askedOf, authorizeFound, authorize}
-use Rattle.assignment.specs.Assignment.{Assignment, plannedRecords}
-use Rattle.fitting.specs.Decide.{uarPlan, planRead}
-use Rattle.fitting.specs.Deeds.{carriedOut}
+use Rattle.questions.specs.Authorization.{askedOf, authorizeFound, authorize}
+use Rattle.assignment.specs.Assignment.{plannedRecords}
+use Rattle.deciding.specs.Plans.{assignmentOf, uarPlan, planRead}
+use Rattle.deciding.specs.Deeds.{carriedOut}
 use Rattle.older_rules.specs.WithoutSets.{NoSets, checkBefore, askedBefore, authorizeBefore, carriedOutBefore, planBefore}
 
 -- Where the test is the same of each number, the first bad one is.
@@ -53,11 +45,7 @@ module _ (t : List ℕ) (none : NoSets t) where
 
   sound-is : (h : Header) (file k : ℕ) → standsAt t h file k ≡ soundAt t h file k
   unfolding soundAt
-  sound-is h file k = rw (agrees k) (go (standsAt t h file k))
-    where
-      go : (x : Bool) → x ≡ (x && true)
-      go true = refl
-      go false = refl
+  sound-is h file k = rw (agrees k) (sym (and-true (standsAt t h file k)))
 
   pub check-is : (file : ℕ) → checkBefore t file ≡ checkTable t file
   unfolding checkBefore checkTable checkRecords
@@ -68,11 +56,7 @@ module _ (t : List ℕ) (none : NoSets t) where
   module _ (count : ℕ) where
     alone-is : (k : ℕ) → barred (bitsOf (blockOf t k)) ≡ barredAlone t count (blockOf t k)
     unfolding barredAlone
-    alone-is k = rw (← free-none t count (blockOf t k) refl (none k)) (go (barred (bitsOf (blockOf t k))))
-      where
-        go : (x : Bool) → x ≡ (x && true)
-        go true = refl
-        go false = refl
+    alone-is k = rw (← free-none t count (blockOf t k) refl (none k)) (sym (and-true (barred (bitsOf (blockOf t k)))))
 
     asked-is : (user network : List ℕ) (f : Found) → askedBefore t count user network f ≡ askedOf t count user network f
     unfolding askedBefore askedOf
@@ -86,12 +70,12 @@ module _ (t : List ℕ) (none : NoSets t) where
     reached : (ks : List ℕ) (change : List ℕ → List ℕ) → afterOf t count (isOne ks) change ≡ afterOf t count (reaches t ks) change
     reached ks change = sym (after-choice t count (reaches t ks) (isOne ks) change (λ k h. reaches-named t none ks k))
 
-    pub carried-is : (s : Assignment) (d : Deed) → carriedOutBefore t count s d ≡ carriedOut t count s d
+    pub carried-is : (req : List ℕ) (seen : Seen) (d : Deed) → carriedOutBefore req t count seen d ≡ carriedOut req t count seen d
     unfolding carriedOutBefore carriedOut
-    carried-is s Leave = refl
-    carried-is s (Settle w) = reached (plannedRecords t count s (w .owned)) _
-    carried-is s (Challenge k) = reached (k ∷ []) _
+    carried-is req seen Leave = refl
+    carried-is req seen (Settle w) = reached (plannedRecords t count (assignmentOf req t seen) (w .owned)) _
+    carried-is req seen (Challenge k) = reached (k ∷ []) _
 
-    pub plan-is : (req v : List ℕ) (seen : Seen) → planBefore req t count v seen ≡ planRead req t count v seen
+    pub plan-is : (d : Dialect) (req v : List ℕ) (seen : Seen) → planBefore d req t count v seen ≡ planRead d req t count v seen
     unfolding planBefore planRead uarPlan
-    plan-is req v seen = rw (authorize-is _ _ _ _)
+    plan-is d req v seen = rw (authorize-is _ _ _ _)

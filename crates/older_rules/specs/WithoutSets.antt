@@ -3,7 +3,7 @@
 use Prim.Native.Nat.{ℕ, _+_, _*_}
 use mathlib.Core.Path.{_≡_}
 use mathlib.Core.List.{List, [], _∷_}
-use mathlib.Core.Bool.{Bool, false, _&&_, cond}
+use mathlib.Core.Bool.{false, _&&_, cond}
 use lib.ListN.{length}
 use lib.Dec.{eqb, leb}
 use Rattle.record.specs.Fields.{setOf, bitsOf, barred}
@@ -19,9 +19,9 @@ use Rattle.lookup.specs.declared.Found.the-variants.{At, Nothing}
 use Rattle.blocks.specs.Changed.{isOne}
 use Rattle.rewrite.specs.Change.{afterOf}
 use Rattle.rewrite.specs.Renew.{settled, challenged}
-use Rattle.reading.specs.Kinds.{userName, publicIdentity, visitedNetwork, authorizationType}
+use Rattle.reading.specs.Kinds.{userName, publicIdentity, visitedNetwork, serverName, authorizationType}
 use Rattle.reading.specs.Rules.{Seen}
-use Rattle.diameter.specs.Message.{commandOf}
+use Rattle.reading.specs.declared.Dialect.{Dialect}
 use Rattle.requests.specs.Request.{dataSeen, valueSeen}
 use Rattle.choices.specs.Choices.{authorization}
 use Rattle.choices.specs.Plans.{only}
@@ -30,12 +30,12 @@ use Rattle.choices.specs.declared.choice.Asked.{Asked}
 use Rattle.choices.specs.declared.plan.Deed.{Deed}
 use Rattle.choices.specs.declared.plan.Deed.the-variants.{Leave, Settle, Challenge}
 use Rattle.choices.specs.declared.plan.Plan.{Plan}
-use Rattle.decisions.specs.Authorization.{askedAt}
+use Rattle.questions.specs.Authorization.{askedAt}
 use Rattle.lookup.specs.Find.{blockFound}
-use Rattle.decisions.specs.Carried.{carried}
-use Rattle.assignment.specs.Assignment.{Assignment, storedName, plannedRecords}
-use Rattle.fitting.specs.Decide.{sarPlan, lirPlan, marPlan}
-use Rattle.older_rules.specs.Rules.{Rules}
+use Rattle.questions.specs.Carried.{carried}
+use Rattle.assignment.specs.Assignment.{storedName, plannedRecords}
+use Rattle.deciding.specs.Plans.{assignmentOf, sarPlan, lirPlan, marPlan}
+use Rattle.deciding.specs.Rules.{Rules}
 
 -- a table in which no block has a set number
 abbrev pub NoSets : List ℕ → Type 0
@@ -60,19 +60,20 @@ authorizeBefore t count user public network kind =
     carried t count user (blockFound (findPublic t count public)) (authorization (askedBefore t count user network (findPublic t count public)) kind)
 
 -- effects on the records meant
-unfoldable pub carriedOutBefore : List ℕ → ℕ → Assignment → Deed → List ℕ
-carriedOutBefore t count s Leave = t
-carriedOutBefore t count s (Settle w) =
-    afterOf t count (isOne (plannedRecords t count s (w .owned))) (settled (w .state) (storedName (w .named) (s .server)))
-carriedOutBefore t count s (Challenge k) = afterOf t count (isOne (k ∷ [])) (challenged (s .server))
+unfoldable pub carriedOutBefore : List ℕ → List ℕ → ℕ → Seen → Deed → List ℕ
+carriedOutBefore req t count seen Leave = t
+carriedOutBefore req t count seen (Settle w) =
+    afterOf t count (isOne (plannedRecords t count (assignmentOf req t seen) (w .owned)))
+    (settled (w .state) (storedName (w .named) (assignmentOf req t seen .server)))
+carriedOutBefore req t count seen (Challenge k) = afterOf t count (isOne (k ∷ [])) (challenged (dataSeen seen serverName))
 
 -- the rest is what it is
-unfoldable pub planBefore : List ℕ → List ℕ → ℕ → List ℕ → Seen → Plan
-planBefore req t count v seen =
-    cond (eqb (commandOf req) 300)
+unfoldable pub planBefore : Dialect → List ℕ → List ℕ → ℕ → List ℕ → Seen → Plan
+planBefore d req t count v seen =
+    cond (eqb (d .command) 300)
     (only (authorizeBefore t count (dataSeen seen userName) (dataSeen seen publicIdentity) (dataSeen seen visitedNetwork) (valueSeen seen authorizationType)))
-    (cond (eqb (commandOf req) 301) (sarPlan req t count seen)
-    (cond (eqb (commandOf req) 302) (lirPlan t count seen)
+    (cond (eqb (d .command) 301) (sarPlan req t count seen)
+    (cond (eqb (d .command) 302) (lirPlan t count seen)
     (marPlan t count v seen)))
 
 abbrev pub beforeSets : Rules

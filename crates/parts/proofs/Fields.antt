@@ -1,14 +1,7 @@
 -- How long the parts of a sound table are, and what stands at the number of no record.
-use Prim.Native.Nat.{ℕ, zero, suc, _+_, _-_, _*_, _≤_, _<_, min}
-use mathlib.Core.Path.{_≡_, refl, sym, _∙_}
-use mathlib.Core.Bool.{Bool, true, false, _&&_}
-use mathlib.Core.List.{List, []}
-use native.Mathlib.Omega.{arith}
-use native.Mathlib.Nat.{add-sub-cancel-left}
-use lib.Dec.{leb, ltb}
-use lib.ListN.{length, getD, take, drop, length-take, drop-of-length-le}
-use lib.Seq.{take-nil}
-use borrow.Author.Tests.{ltb-true, leb-true, leb-false, ne-eqb, lt-ltb}
+use Rattle.octets.specs.Standard.{ℕ, zero, suc, _+_, _-_, _*_, _≤_, _<_, min, _≡_, refl, sym, _∙_, Bool, true, false, _&&_, List, [], arith}
+use Rattle.octets.specs.Standard.{add-sub-cancel-left, leb, ltb, length, take, drop, length-take, drop-of-length-le, take-nil, ltb-true, leb-true}
+use Rattle.octets.specs.Standard.{leb-false, ne-eqb, lt-ltb}
 use Rattle.octets.specs.Number.{be16At, be32At}
 use Rattle.octets.proofs.All.{and-left, and-right}
 use Rattle.octets.proofs.Parts.{part-cut}

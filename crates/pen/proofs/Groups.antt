@@ -1,12 +1,6 @@
 -- Groups: how long they are, and how their members are written.
-use Prim.Native.Nat.{ℕ, zero, suc, _+_, _-_, _*_, _≤_, _<_}
-use native.Mathlib.Nat.{add-sub-cancel-left}
-use native.Mathlib.Numerals.{add-one}
-use native.Mathlib.Omega.{arith}
-use mathlib.Core.Path.{_≡_, refl, _∙_}
-use mathlib.Core.List.{List, _++_, append-assoc, append-nil}
-use lib.Dec.{ltb}
-use lib.ListN.{length, take, drop, length-append, length-take, length-drop}
+use Rattle.octets.specs.Standard.{ℕ, zero, suc, _+_, _-_, _*_, _≤_, _<_, add-sub-cancel-left, add-one, arith, _≡_, refl, _∙_, List, _++_}
+use Rattle.octets.specs.Standard.{append-assoc, append-nil, ltb, length, take, drop, length-append, length-take, length-drop}
 use Rattle.octets.specs.Run.{over, Wrote}
 use Rattle.octets.proofs.Writes.{lent, back, then, named}
 use Rattle.pen.specs.Bytes.{padding, headBytes, vendorHead, copied, vendorBytes, numberBytes, group, vendorGroup}
@@ -14,9 +8,9 @@ use Rattle.pen.specs.Groups.{vendorApplication, experimental, failed, fa
 use Rattle.pen.proofs.Sizes.{there-length, there-room, copied-length, vendorHead-length, group-length, vendorGroup-length}
 use Rattle.pen.proofs.Writers.{wrote-there, wrote-none}
 
-pub application-length : length vendorApplication ≡ 32
+pub application-length : (application : ℕ) → length (vendorApplication application) ≡ 32
 unfolding vendorApplication group numberBytes
-application-length = refl
+application-length application = refl
 
 pub experimental-length : (n : ℕ) → length (experimental n) ≡ 32
 unfolding experimental group numberBytes

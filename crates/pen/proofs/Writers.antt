@@ -1,10 +1,5 @@
 -- Each AVP is written by the writers of its parts, one after the other.
-use Prim.Native.Nat.{ℕ, _+_, _-_, _≤_, _<_}
-use mathlib.Core.Path.{refl}
-use mathlib.Core.List.{List}
-use borrow.Author.Tests.{lt-ltb, le-ltb}
-use lib.ListN.{length, replicate}
-use lib.Dec.{ltb}
+use Rattle.octets.specs.Standard.{ℕ, _+_, _-_, _≤_, _<_, refl, List, lt-ltb, le-ltb, length, replicate, ltb}
 use Rattle.octets.specs.Number.{inFours}
 use Rattle.octets.specs.Run.{over, Wrote}
 use Rattle.octets.proofs.Writes.{lent, back, then}

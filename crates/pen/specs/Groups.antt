@@ -6,8 +6,8 @@ use lib.Dec.{ltb}
 use Rattle.pen.specs.Bytes.{copied, copiedSize, numberBytes, vendorHead, group, vendorGroup, ifThere}
 
 -- "260 (266, 258)"; "Experimental-Result 297 (266, 298)"; "Failed-AVP 279"
-unfoldable pub vendorApplication : List ℕ
-vendorApplication = group 260 (numberBytes 266 10415 ++ numberBytes 258 16777216)
+unfoldable pub vendorApplication : ℕ → List ℕ
+vendorApplication application = group 260 (numberBytes 266 10415 ++ numberBytes 258 application)
 
 unfoldable pub experimental : ℕ → List ℕ
 experimental n = group 297 (numberBytes 266 10415 ++ numberBytes 298 n)

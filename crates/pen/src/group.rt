@@ -19,15 +19,15 @@ fn put_of_vendor(out: &mut [u8], code: u32, member: u32, n: u32) -> usize
 }
 
 // Vendor-Specific-Application-Id.
-pub fn put_application(out: &mut [u8]) -> usize
+pub fn put_application(out: &mut [u8], application: u32) -> usize
     requires { ⌜ 32 ≤ length (now out) ⌝ }
-    ensures { λ r. ⌜ (r ≡ 32) × Wrote vendorApplication (now (out .entry)) (now (out .exit)) r ⌝ }
+    ensures { λ r. ⌜ (r ≡ 32) × Wrote (vendorApplication application) (now (out .entry)) (now (out .exit)) r ⌝ }
 {
     put_of_vendor(
         out,
         codes::VENDOR_SPECIFIC_APPLICATION_ID,
         codes::AUTH_APPLICATION_ID,
-        codes::CX,
+        application,
     )
 }
 

@@ -1,16 +1,10 @@
 -- A group of one member that comes once holds that AVP and nothing else.
-use Prim.Native.Nat.{ℕ, suc}
-use mathlib.Core.Path.{_≡_, refl, sym, ap}
-use mathlib.Core.List.{List, [], _∷_}
-use mathlib.Core.Bool.{Bool, true, false, not, cond, _&&_, true≢false}
-use native.Mathlib.Omega.{arith}
-use lib.Dec.{leb}
-use borrow.Author.Tests.{eqb-true}
+use Rattle.octets.specs.Standard.{ℕ, suc, _≡_, refl, sym, ap, List, [], _∷_, Bool, true, false, not, cond, _&&_, true≢false, arith, leb, eqb-true}
 use Rattle.octets.specs.All.{allBelow}
 use Rattle.octets.proofs.All.{and-left, and-right}
 use Rattle.diameter.specs.Walk.{Walk, ended, faulty, avp}
 use Rattle.reading.specs.declared.Member.{Member}
-use Rattle.reading.specs.Groups.{fits, unlike, onlyOf, countOf, enough, enoughAt, gathers}
+use Rattle.reading.specs.Groups.{fits, unlike, onlyOf, membersFitting, enough, enoughAt, gathers}
 
 pub record Alone (m : Member) (w : Walk) : Type 0 where
   pub own : List ℕ
@@ -22,23 +16,23 @@ second true y z e g = absurd (true≢false e)
 second false y z e g = g
 
 module _ (m : Member) where
-  none-left : (w : Walk) → onlyOf (m ∷ []) w ≡ true → countOf m w ≡ 0 → w ≡ ended
-  unfolding onlyOf countOf unlike allBelow
+  none-left : (w : Walk) → onlyOf (m ∷ []) w ≡ true → membersFitting m w ≡ 0 → w ≡ ended
+  unfolding onlyOf membersFitting unlike allBelow
   none-left ended o c = refl
   none-left (faulty t) o c = absurd (true≢false (sym o))
   none-left (avp a w) o c = go (fits m a) o c
     where
-      go : (x : Bool) → (not (not x) && onlyOf (m ∷ []) w) ≡ true → cond x (suc (countOf m w)) (countOf m w) ≡ 0 → avp a w ≡ ended
+      go : (x : Bool) → (not (not x) && onlyOf (m ∷ []) w) ≡ true → cond x (suc (membersFitting m w)) (membersFitting m w) ≡ 0 → avp a w ≡ ended
       go true o c = absurd (omega arith)
       go false o c = absurd (true≢false (sym o))
 
-  one-left : (w : Walk) → onlyOf (m ∷ []) w ≡ true → countOf m w ≡ 1 → Alone m w
-  unfolding onlyOf countOf unlike allBelow
+  one-left : (w : Walk) → onlyOf (m ∷ []) w ≡ true → membersFitting m w ≡ 1 → Alone m w
+  unfolding onlyOf membersFitting unlike allBelow
   one-left ended o c = absurd (omega arith)
   one-left (faulty t) o c = absurd (true≢false (sym o))
   one-left (avp a w) o c = go (fits m a) refl o c
     where
-      go : (x : Bool) → fits m a ≡ x → (not (not x) && onlyOf (m ∷ []) w) ≡ true → cond x (suc (countOf m w)) (countOf m w) ≡ 1 → Alone m (avp a w)
+      go : (x : Bool) → fits m a ≡ x → (not (not x) && onlyOf (m ∷ []) w) ≡ true → cond x (suc (membersFitting m w)) (membersFitting m w) ≡ 1 → Alone m (avp a w)
       go true e o c = record { own = a; walked = ap (avp a) (none-left w o (omega arith)); right = e }
       go false e o c = absurd (true≢false (sym o))
 
@@ -46,4 +40,4 @@ module _ (m : Member) where
   unfolding gathers enoughAt enough allBelow
   gathers-alone w once g =
       one-left w (and-right (allBelow (enoughAt (m ∷ []) w) 1) _ g)
-      (eqb-true _ _ (second (m .many) (leb 1 (countOf m w)) _ once (and-left (allBelow (enoughAt (m ∷ []) w) 1) _ g)))
+      (eqb-true _ _ (second (m .many) (leb 1 (membersFitting m w)) _ once (and-left (allBelow (enoughAt (m ∷ []) w) 1) _ g)))

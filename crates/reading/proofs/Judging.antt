@@ -1,13 +1,6 @@
 -- Rules (c) to (h): from what the code finds of one AVP to what the rules say of it.
-use Prim.Native.Nat.{ℕ, zero, suc, _+_, _-_, _/_, _%_, _<_}
-use native.Mathlib.Nat.{not-suc-le-zero, le-of-suc-le-suc}
-use mathlib.Core.Path.{_≡_, refl, _∙_}
-use mathlib.Core.List.{List, [], _∷_, map}
-use mathlib.Core.Option.{none}
-use mathlib.Core.Bool.{Bool, true, false, _&&_}
-use lib.ListN.{length, getD}
-use lib.Dec.{leb}
-use borrow.Author.Tests.{eq-eqb, ne-eqb}
+use Rattle.octets.specs.Standard.{ℕ, zero, suc, _+_, _-_, _/_, _%_, _<_, not-suc-le-zero, le-of-suc-le-suc, _≡_, refl, _∙_, List, [], _∷_, map, none}
+use Rattle.octets.specs.Standard.{Bool, false, _&&_, length, getD, leb, eq-eqb, ne-eqb}
 use Rattle.diameter.specs.Avp.{dataOf, valueOf}
 use Rattle.diameter.specs.Walk.{walk}
 use Rattle.diameter.specs.Reader.{partAt, present, ownOf, Here}

@@ -1,11 +1,5 @@
 -- The table of kinds read by its columns, and a kind's number by its vendor and code.
-use Prim.Native.Nat.{ℕ, zero, suc, _<_, _≤_}
-use native.Mathlib.Omega.{arith}
-use mathlib.Core.Path.{_≡_, sym, _∙_}
-use mathlib.Core.List.{List, _∷_}
-use mathlib.Core.Bool.{and-false}
-use lib.ListN.{List·getD-eq-default}
-use borrow.Author.Tests.{ne-eqb, le-leb, lt-leb}
+use Rattle.octets.specs.Standard.{ℕ, zero, suc, _<_, _≤_, arith, _≡_, sym, _∙_, List, _∷_, and-false, List·getD-eq-default, ne-eqb, le-leb, lt-leb}
 use Rattle.diameter.specs.Avp.{avpCode, vendorOf}
 use Rattle.diameter.specs.Reader.{ownOf, Here}
 use Rattle.diameter.specs.declared.Avp.{Avp}

@@ -1,13 +1,6 @@
 -- The members of a group: one AVP beside the table, and the turns of the loops over the AVPs.
-use Prim.Native.Nat.{ℕ, _+_, _%_, _≤_, _<_}
-use native.Mathlib.Nat.{zero-add, add-zero}
-use native.Mathlib.Omega.{arith}
-use mathlib.Core.Path.{_≡_, sym, ap, _∙_}
-use mathlib.Core.List.{List}
-use mathlib.Core.Bool.{Bool, true, false, not, _&&_, and-assoc}
-use lib.ListN.{length, getD, List·getD-eq-default}
-use lib.Dec.{eqb, leb, ltb}
-use borrow.Author.Tests.{lt-leb, le-leb}
+use Rattle.octets.specs.Standard.{ℕ, _+_, _%_, _≤_, _<_, zero-add, add-zero, arith, _≡_, sym, ap, _∙_, List, Bool, true, false, not, _&&_, and-assoc}
+use Rattle.octets.specs.Standard.{length, getD, List·getD-eq-default, eqb, leb, ltb, lt-leb, le-leb}
 use Rattle.octets.specs.All.{allBelow}
 use Rattle.octets.proofs.All.{all-more}
 use Rattle.diameter.specs.Avp.{avpCode, vendorOf}
@@ -16,7 +9,6 @@ use Rattle.diameter.specs.Walk.{Walk, walk}
 use Rattle.diameter.specs.declared.Avp.{Avp}
 use Rattle.diameter.specs.declared.Read.{Read}
 use Rattle.diameter.specs.declared.Span.{Span}
-use Rattle.diameter.specs.declared.Read.the-variants as read
 use Rattle.diameter.proofs.Reading.{own-flags, read-later}
 use Rattle.diameter.proofs.Parts.{member-walked, member-fault, member-past}
 use Rattle.reading.specs.declared.Content.the-variants.{Free, Number}
@@ -26,12 +18,13 @@ use Rattle.reading.specs.declared.group.Group.{Group}
 use Rattle.reading.specs.declared.group.Group.the-variants.{Application, AuthDataItem}
 use Rattle.reading.specs.Contents.{plainFault}
 use Rattle.reading.specs.Groups.{member, nobody, applicationMembers, itemMembers, membersOf, isOf, fits, unlike, isOther, onlyOf}
-use Rattle.reading.specs.Groups.{countOf, enough, enoughAt, gathers}
+use Rattle.reading.specs.Groups.{membersFitting, enough, enoughAt, gathers}
+use Rattle.diameter.specs.declared.Read.the-variants as read
 
 -- the table by the group
 module _ (d : Dialect) (g : Group) where
   module _ (k : ℕ) (r : Member) where
-    pub member-application : g ≡ Application → r ≡ getD (applicationMembers (d .application)) k nobody → r ≡ getD (membersOf d g) k nobody
+    pub member-application : g ≡ Application → r ≡ getD (applicationMembers (d .terms .application)) k nobody → r ≡ getD (membersOf d g) k nobody
     unfolding membersOf
     member-application e m = m ∙ rw e
 
@@ -124,36 +117,36 @@ module _ (s : List ℕ) (at end : ℕ) (r : Read) (e : r ≡ readOf at (between 
       unfolding onlyOf
       only-more t = rw (member-walked s at end r e a d, ← ex, t) at left
 
-  module _ (m : Member) (n whole : ℕ) (left : n + countOf m (walk (between s at end)) ≡ whole) where
+  module _ (m : Member) (n whole : ℕ) (left : n + membersFitting m (walk (between s at end)) ≡ whole) where
     pub count-cut : {p : ℕ} → at < end → end ≤ length s → r ≡ read.Fault p → n ≡ whole
-    unfolding countOf
+    unfolding membersFitting
     count-cut h fits d = rw (member-fault s at end r e d h fits, add-zero) at left
 
     module _ (a : Avp) (d : r ≡ read.Avp a) (x : Bool) (ex : x ≡ fits m (ownOf s a)) where
-      pub count-one : x ≡ true → n + 1 + countOf m (walk (between s (a .next) end)) ≡ whole
-      unfolding countOf
+      pub count-one : x ≡ true → n + 1 + membersFitting m (walk (between s (a .next) end)) ≡ whole
+      unfolding membersFitting
       count-one t = omega (arith, rw (member-walked s at end r e a d, ← ex, t) at left)
 
-      pub count-other : x ≡ false → n + countOf m (walk (between s (a .next) end)) ≡ whole
-      unfolding countOf
+      pub count-other : x ≡ false → n + membersFitting m (walk (between s (a .next) end)) ≡ whole
+      unfolding membersFitting
       count-other t = rw (member-walked s at end r e a d, ← ex, t) at left
 
 pub only-end : (s : List ℕ) (at end : ℕ) (ms : List Member) (whole : Bool) → onlyOf ms (walk (between s at end)) ≡ whole → end ≤ at → true ≡ whole
 unfolding onlyOf
 only-end s at end ms whole left h = rw (member-past s at end h) at left
 
-pub count-end : (s : List ℕ) (at end : ℕ) (m : Member) (n whole : ℕ) → n + countOf m (walk (between s at end)) ≡ whole → end ≤ at → n ≡ whole
-unfolding countOf
+pub count-end : (s : List ℕ) (at end : ℕ) (m : Member) (n whole : ℕ) → n + membersFitting m (walk (between s at end)) ≡ whole → end ≤ at → n ≡ whole
+unfolding membersFitting
 count-end s at end m n whole left h = rw (member-past s at end h, add-zero) at left
 
 pub count-room : (at : ℕ) (t : List ℕ) (r : Read) → r ≡ readOf at t → (a : Avp) → r ≡ read.Avp a → (n : ℕ) → n ≤ at → n + 1 ≤ a .next
 count-room at t r e a d n h = omega (arith, read-later at t r e a d)
 
-pub count-start : (s : List ℕ) (from end : ℕ) (m : Member) → 0 + countOf m (walk (between s from end)) ≡ countOf m (walk (between s from end))
-count-start s from end m = zero-add (countOf m (walk (between s from end)))
+pub count-start : (s : List ℕ) (from end : ℕ) (m : Member) → 0 + membersFitting m (walk (between s from end)) ≡ membersFitting m (walk (between s from end))
+count-start s from end m = zero-add (membersFitting m (walk (between s from end)))
 
 -- "one", or "one or more"
-module _ (m : Member) (w : Walk) (n : ℕ) (en : n ≡ countOf m w) where
+module _ (m : Member) (w : Walk) (n : ℕ) (en : n ≡ membersFitting m w) where
   pub enough-many : m .many ≡ true → leb 1 n ≡ enough m w
   unfolding enough
   enough-many t = ap (λ (k : ℕ). leb 1 k) en ∙ rw t

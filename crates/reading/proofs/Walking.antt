@@ -1,13 +1,10 @@
 -- A walk over AVPs goes on and ends: what is left grows less at each.
-use Prim.Native.Nat.{ℕ, _-_, _<_, _≤_}
-use mathlib.Core.Path.{_≡_}
-use mathlib.Core.List.{List}
-use native.Mathlib.Omega.{arith}
+use Rattle.octets.specs.Standard.{ℕ, _-_, _<_, _≤_, _≡_, List, arith}
 use Rattle.diameter.specs.Reader.{readOf}
 use Rattle.diameter.specs.declared.Avp.{Avp}
 use Rattle.diameter.specs.declared.Read.{Read}
-use Rattle.diameter.specs.declared.Read.the-variants as read
 use Rattle.diameter.proofs.Reading.{read-later}
+use Rattle.diameter.specs.declared.Read.the-variants as read
 
 module _ (at : ℕ) (t : List ℕ) (r : Read) (e : r ≡ readOf at t) (a : Avp) (d : r ≡ read.Avp a) where
   pub read-less : {n : ℕ} → at < n → n - a .next < n - at

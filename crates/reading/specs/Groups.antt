@@ -32,7 +32,7 @@ unfoldable pub itemMembers : List Member
 itemMembers = member 608 10415 Free false ∷ []
 
 unfoldable pub membersOf : Dialect → Group → List Member
-membersOf d Application = applicationMembers (d .application)
+membersOf d Application = applicationMembers (d .terms .application)
 membersOf d AuthDataItem = itemMembers
 
 -- an AVP of such a code and vendor; such a member: it passes (c) and holds what it must
@@ -55,13 +55,13 @@ onlyOf ms (faulty t) = false
 onlyOf ms (avp a w) = not (isOther ms a) && onlyOf ms w
 
 -- how many are a member: one, or one or more
-unfoldable pub countOf : Member → Walk → ℕ
-countOf m ended = 0
-countOf m (faulty t) = 0
-countOf m (avp a w) = cond (fits m a) (suc (countOf m w)) (countOf m w)
+unfoldable pub membersFitting : Member → Walk → ℕ
+membersFitting m ended = 0
+membersFitting m (faulty t) = 0
+membersFitting m (avp a w) = cond (fits m a) (suc (membersFitting m w)) (membersFitting m w)
 
 unfoldable pub enough : Member → Walk → Bool
-enough m w = cond (m .many) (leb 1 (countOf m w)) (eqb (countOf m w) 1)
+enough m w = cond (m .many) (leb 1 (membersFitting m w)) (eqb (membersFitting m w) 1)
 
 unfoldable pub enoughAt : List Member → Walk → ℕ → Bool
 enoughAt ms w k = enough (getD ms k nobody) w

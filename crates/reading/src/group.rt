@@ -14,7 +14,7 @@ ghost use lib.ListN.{length, getD};
 ghost use Rattle.diameter.specs.Avp.{dataOf};
 ghost use Rattle.diameter.specs.Reader.{between, ownOf, Here};
 ghost use Rattle.diameter.specs.Walk.{walk};
-ghost use Rattle.reading.specs.Groups.{member, nobody, applicationMembers, itemMembers, membersOf, isOf, fits, isOther, onlyOf, countOf, enough, gathers};
+ghost use Rattle.reading.specs.Groups.{member, nobody, applicationMembers, itemMembers, membersOf, isOf, fits, isOther, onlyOf, membersFitting, enough, gathers};
 
 // The groups that a request's AVPs may be: 260 and 612.
 pub enum Group {
@@ -74,8 +74,9 @@ fn item_member(k: usize) -> Member
 fn member_of(d: Dialect, g: Group, k: usize) -> Member
     ensures { λ r. ⌜ r ≡ getD (membersOf d g) k nobody ⌝ }
 {
+    let terms = d.terms;
     match g {
-        Group::Application => application_member(d.application, k),
+        Group::Application => application_member(terms.application, k),
         Group::AuthDataItem => item_member(k),
     }
 }
@@ -147,7 +148,7 @@ fn only_of(d: Dialect, g: Group, s: &[u8], span: Span) -> bool
 // How many of them are a member.
 fn count_of(m: Member, s: &[u8], span: Span) -> usize
     requires { ⌜ span .end ≤ length (now s) ⌝ }
-    ensures { λ r. ⌜ r ≡ countOf m (walk (between (now (s .entry)) (span .from) (span .end))) ⌝ }
+    ensures { λ r. ⌜ r ≡ membersFitting m (walk (between (now (s .entry)) (span .from) (span .end))) ⌝ }
 {
     let mut n = 0;
     let mut at = span.from;

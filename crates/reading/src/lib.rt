@@ -11,10 +11,15 @@ use crate::group::Group;
 ghost use mathlib.Core.Path.{_≡_};
 ghost use Rattle.reading.specs.Verdicts.{numberOf};
 
-// What a request is read by: the command that it asks for, and the application that is spoken.
+// What a call is served under: the application that is spoken.
+pub struct Terms {
+    pub application: u32,
+}
+
+// What a request is read by: the command that it asks for, and the terms of the call.
 pub struct Dialect {
     pub command: usize,
-    pub application: u32,
+    pub terms: Terms,
 }
 
 // The commands.

@@ -1,3 +1,4 @@
+pub mod Alike
 pub mod OneSet
 pub mod Places
 pub mod Sound

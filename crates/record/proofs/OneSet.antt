@@ -1,11 +1,5 @@
 -- Sets: what it is to be of one set and to agree, as equations; each is symmetric and goes on from record to record.
-use Prim.Native.Nat.{ℕ, _%_, _<_}
-use mathlib.Core.Bool.{Bool, true, false, _&&_}
-use mathlib.Core.Path.{_≡_, refl, sym, _∙_}
-use mathlib.Core.List.{List}
-use native.Mathlib.Omega.{arith}
-use lib.Dec.{eqb, ltb}
-use borrow.Author.Tests.{eqb-true, eq-eqb, ltb-true, lt-ltb}
+use Rattle.octets.specs.Standard.{ℕ, _%_, _<_, Bool, true, false, _&&_, _≡_, refl, sym, _∙_, List, eqb, ltb, eqb-true, eq-eqb, ltb-true, lt-ltb}
 use Rattle.octets.specs.Name.{same}
 use Rattle.octets.proofs.All.{and-left, and-right}
 use Rattle.octets.proofs.Names.{same-eq, same-yes}

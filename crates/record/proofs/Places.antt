@@ -1,9 +1,5 @@
 -- The places of visited networks: one in use, one that is not, and all together.
-use Prim.Native.Nat.{ℕ, _+_, _<_, _≤_}
-use mathlib.Core.Bool.{Bool, true, _&&_}
-use mathlib.Core.Path.{_≡_}
-use mathlib.Core.List.{List}
-use borrow.Author.Tests.{lt-ltb, le-ltb, lt-leb, le-leb}
+use Rattle.octets.specs.Standard.{ℕ, _+_, _<_, _≤_, Bool, true, _&&_, _≡_, List, lt-ltb, le-ltb, lt-leb, le-leb}
 use Rattle.octets.specs.All.{allBelow}
 use Rattle.octets.specs.Run.{zeroBetween}
 use Rattle.record.specs.Networks.{placeAt, usedPlace, soundPlace, otherPlace, newPlace, soundNetworks}

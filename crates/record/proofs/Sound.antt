@@ -1,11 +1,6 @@
 -- The tests of a header together, those of a record, what a sound header says of its counts, and the bits.
-use Prim.Native.Nat.{ℕ, _+_, _*_, _≤_}
-use mathlib.Core.Bool.{Bool, true, false, _&&_, and-true, and-false, and-assoc}
-use mathlib.Core.Path.{_≡_, refl, sym, _∙_}
-use mathlib.Core.List.{List, [], _∷_}
-use lib.Bits.{bitOr}
-use lib.Dec.{eqb, leb}
-use borrow.Author.Tests.{leb-true}
+use Rattle.octets.specs.Standard.{ℕ, _+_, _*_, _≤_, Bool, true, false, _&&_, and-true, and-false, and-assoc, _≡_, refl, sym, _∙_, List, [], _∷_}
+use Rattle.octets.specs.Standard.{bitOr, eqb, leb, leb-true}
 use Rattle.octets.specs.Number.{be16At}
 use Rattle.octets.specs.Run.{zeroBetween}
 use Rattle.octets.specs.Sum.{sumWords}

@@ -1,17 +1,12 @@
 -- What a sound block says, a field for each test of it.
-use Prim.Native.Nat.{ℕ, _+_, _*_, _≤_}
-use mathlib.Core.Bool.{Bool, true}
-use mathlib.Core.Path.{_≡_}
-use mathlib.Core.List.{List, [], _∷_}
-use lib.Dec.{eqb, leb}
-use borrow.Author.Tests.{eqb-true, leb-true, eq-eqb, le-leb}
+use Rattle.octets.specs.Standard.{ℕ, _+_, _*_, _≤_, Bool, true, _≡_, List, [], _∷_, eqb, leb, eqb-true, leb-true, eq-eqb, le-leb}
 use Rattle.octets.specs.Run.{zeroBetween}
 use Rattle.octets.specs.Sum.{sumWords}
 use Rattle.octets.proofs.Chains.{chain-says, _also_}
 use Rattle.record.specs.HeaderBlock.{headerOf, soundCounts, soundEdition, isHeader, soundNumbers, soundHeaderRest, soundHeader}
 use Rattle.record.specs.Networks.{soundNetworks}
-use Rattle.record.specs.RecordBlock.{recordOf, isRecord, soundSet, soundLimits, soundServer, soundRoaming, soundProfile, pastNames, pastCapabilities}
-use Rattle.record.specs.RecordBlock.{soundRest, soundRecord}
+use Rattle.record.specs.RecordBlock.{recordOf, isRecord, soundSet, soundLimits, soundServer, soundRoaming, soundProfile, pastNames}
+use Rattle.record.specs.RecordBlock.{pastCapabilities, soundRest, soundRecord}
 use Rattle.record.specs.declared.header.Header.{Header}
 use Rattle.record.specs.declared.subscriber.Record.{Record}
 
@@ -90,8 +85,13 @@ module _ (b : List ℕ) (r : Record) where
   pub rest-holds : Zeros b r → soundRest b r ≡ true
   rest-holds p = p .blank also (p .public also p .private also p .server) also (p .mandatory also p .optional) also p .last
 
--- The header block: what its numbers are within, its last zeros, and its networks.
+-- The header block: its tests, and what its numbers are within.
 pub record HeaderTests (b : List ℕ) : Type 0 where
+  pub counts : soundCounts (headerOf b) ≡ true
+  pub sum : sumWords b 128 ≡ 0
+  pub head : isHeader (headerOf b) ≡ true
+  pub numbers : soundNumbers (headerOf b) ≡ true
+  pub rest : soundHeaderRest b (headerOf b) ≡ true
   pub count : headerOf b .count ≤ 4096
   pub networks : headerOf b .networks ≤ 8
   pub keep : headerOf b .keep ≤ 1
@@ -110,6 +110,11 @@ header-says b e =
     let n = chain-says (leb (headerOf b .keep) 1) (_ ∷ _ ∷ _ ∷ _ ∷ []) (s 2) in
     let i = chain-says (eqb (headerOf b .kind) 1) (_ ∷ _ ∷ []) (s 1) in
     record {
+      counts = two 0;
+      sum = eqb-true _ _ (s 0);
+      head = s 1;
+      numbers = s 2;
+      rest = s 3;
       count = leb-true _ _ (c 0);
       networks = leb-true _ _ (c 1);
       keep = leb-true _ _ (n 0);

@@ -1,38 +1,28 @@
--- How long an answer is at the most.
-use Prim.Native.Nat.{ℕ, _+_, _%_, _≤_}
-use mathlib.Core.List.{List}
-use mathlib.Core.Path.{_≡_}
-use native.Mathlib.Omega.{arith}
-use lib.Dec.{ltb}
-use lib.ListN.{length, length-append, length-take, length-drop}
+-- How long the pieces of an answer are at the most.
+use Rattle.octets.specs.Standard.{ℕ, _+_, _≤_, List, _≡_, arith, ltb, length, length-append, length-take, length-drop}
 use Rattle.record.specs.Fields.{hostOf, realmOf, privateOf, publicOf, serverOf, mandatoryOf, optionalOf}
 use Rattle.blocks.specs.Blocks.{blockOf, ofBlock}
 use Rattle.table.specs.SoundTable.{SoundTable}
 use Rattle.pen.specs.Bytes.{copiedSize, avpBytes, vendorBytes}
 use Rattle.pen.proofs.Sizes.{copied-length, avp-length, vendor-length, number-length, there-length}
 use Rattle.pen.proofs.Groups.{application-length, experimental-length, capabilities-length}
-use Rattle.diameter.specs.Message.{bodyOf}
-use Rattle.requests.specs.Request.{sessionOf}
 use Rattle.reading.specs.declared.Outcome.{Outcome}
+use Rattle.reading.specs.declared.Terms.{Terms}
 use Rattle.reading.specs.declared.Outcome.the-variants.{Base, Experimental}
-use Rattle.failed.specs.Failing.{failedBy}
 use Rattle.choices.specs.declared.Given.{Given}
-use Rattle.vectors.specs.Chosen.{Sendable}
-use Rattle.items.proofs.Items.{sent-most}
 use Rattle.parts.specs.Profile.{profileAt}
 use Rattle.parts.proofs.Fields.{part-length, host-length, realm-length, user-field, public-field, server-field, mandatory-field, optional-field}
-use Rattle.reply.specs.Answer.{resultBytes, namedBytes, vendorNamed, frontBytes, originBytes, topBytes, identityBytes, nameBytes, dataBytes, givenBytes}
-use Rattle.reply.specs.Answer.{failedPart, proxies, endBytes, restBytes, bodyBytes, headerBytes, answerBytes}
-use Rattle.reply.proofs.Copies.{session-proxies}
+use Rattle.reply.specs.Pieces.{resultBytes, namedBytes, vendorNamed, frontBytes, originBytes, identityBytes, nameBytes, dataBytes, headerBytes}
 
 result-length : (o : Outcome) → length (resultBytes o) ≤ 32
 unfolding resultBytes
 result-length (Base n) = omega (arith, number-length 268 n)
 result-length (Experimental n) = omega (arith, experimental-length n)
 
-front-length : (session : List ℕ) (o : Outcome) → length (frontBytes session o) ≤ 76 + copiedSize (length session)
+pub front-length : (terms : Terms) (session : List ℕ) (o : Outcome) → length (frontBytes terms session o) ≤ 76 + copiedSize (length session)
 unfolding frontBytes
-front-length session o = simp length-append (omega (arith, copied-length session, application-length, result-length o, number-length 277 1))
+front-length terms session o =
+    simp length-append (omega (arith, copied-length session, application-length (terms .application), result-length o, number-length 277 1))
 
 named-length : (code : ℕ) (d : List ℕ) → length (namedBytes code d) ≤ 8 + copiedSize (length d)
 named-length code d = omega (arith, there-length (ltb 0 (length d)) (avpBytes code d), avp-length code d)
@@ -46,13 +36,13 @@ header-length req o n h = simp (length-take, length-drop) (omega arith)
 
 -- What the table's limits bound, whatever blocks are named.
 module _ (t : List ℕ) (count : ℕ) (s : SoundTable t count) where
-  origin-length : length (originBytes (blockOf t 0)) ≤ 144
+  pub origin-length : length (originBytes (blockOf t 0)) ≤ 144
   unfolding originBytes
   origin-length =
       let h = blockOf t 0 in
       simp length-append (omega (arith, avp-length 264 (hostOf h), avp-length 296 (realmOf h), host-length t count s, realm-length t count s))
 
-  names-length : (g : Given) → length (nameBytes t g) ≤ 384
+  pub names-length : (g : Given) → length (nameBytes t g) ≤ 384
   unfolding nameBytes identityBytes
   names-length g =
       simp length-append
@@ -66,7 +56,7 @@ module _ (t : List ℕ) (count : ℕ) (s : SoundTable t count) where
         part-length serverOf 96 t count (server-field t count s) (g .server),
       ))
 
-  data-length : (file : List ℕ) (g : Given) → length (dataBytes t file g) ≤ 152 + copiedSize (length (profileAt t file (g .profile)))
+  pub data-length : (file : List ℕ) (g : Given) → length (dataBytes t file g) ≤ 152 + copiedSize (length (profileAt t file (g .profile)))
   unfolding dataBytes
   data-length file g =
       simp length-append
@@ -77,29 +67,3 @@ module _ (t : List ℕ) (count : ℕ) (s : SoundTable t count) where
         part-length mandatoryOf 16 t count (mandatory-field t count s) (g .capable),
         part-length optionalOf 16 t count (optional-field t count s) (g .capable),
       ))
-
-  -- 3,716 bytes are bounded by the table's fields and by 16 vectors; the rest comes from the request and from the profile file
-  module _ (req file v : List ℕ) (g : Given) (good : Sendable v (g .sent)) where
-    body-length : length (bodyBytes req t file v g)
-        ≤ 3716 + copiedSize (length (sessionOf (bodyOf req))) + copiedSize (length (profileAt t file (g .profile)))
-        + length (failedPart (failedBy req (g .verdict))) + length (proxies (bodyOf req))
-    unfolding bodyBytes topBytes restBytes givenBytes endBytes
-    body-length =
-        simp length-append
-        (omega (
-          arith,
-          front-length (sessionOf (bodyOf req)) (g .verdict .result),
-          origin-length,
-          names-length g,
-          sent-most v (g .sent) good,
-          data-length file g,
-        ))
-
-    -- Session-Id and every Proxy-Info are copied from different AVPs.
-    pub answer-length : 20 ≤ length req → length req % 4 ≡ 0
-        → length (answerBytes req t file v g) ≤ 3716 + length req + copiedSize (length (profileAt t file (g .profile)))
-        + length (failedPart (failedBy req (g .verdict)))
-    unfolding answerBytes
-    answer-length h e =
-        simp length-append
-        (omega (arith, header-length req (g .verdict .result) (20 + length (bodyBytes req t file v g)) h, body-length, session-proxies req h e))

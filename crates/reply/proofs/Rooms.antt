@@ -1,9 +1,5 @@
 -- Room for what is written in two parts, one after the other.
-use Prim.Native.Nat.{ℕ, _+_, _≤_}
-use mathlib.Core.Path.{_≡_}
-use mathlib.Core.List.{List, _++_}
-use native.Mathlib.Omega.{arith}
-use lib.ListN.{length, length-append, length-take, length-drop}
+use Rattle.octets.specs.Standard.{ℕ, _≤_, _≡_, List, _++_, arith, length, length-append, length-take, length-drop}
 use Rattle.octets.specs.Run.{Wrote}
 use Rattle.octets.proofs.Writes.{lent, over-length}
 

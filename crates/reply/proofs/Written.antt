@@ -1,10 +1,6 @@
 -- The pieces of an answer, each written by the writers of its AVPs, one after the other.
-use Prim.Native.Nat.{ℕ, _+_, _*_, _/_, _%_, _≤_}
-use mathlib.Core.Path.{_≡_, refl, sym, _∙_}
-use mathlib.Core.List.{List, _++_}
-use native.Mathlib.Omega.{arith}
-use lib.ListN.{length, getD, take, drop, length-append, length-take, length-drop}
-use borrow.Author.Tests.{eq-eqb, ne-eqb}
+use Rattle.octets.specs.Standard.{ℕ, _+_, _*_, _/_, _%_, _≤_, _≡_, refl, sym, _∙_, List, _++_, arith, length, getD, take, drop, length-append}
+use Rattle.octets.specs.Standard.{length-take, length-drop, eq-eqb, ne-eqb}
 use Rattle.octets.specs.Run.{Wrote}
 use Rattle.octets.proofs.Writes.{lent, back, then, named}
 use Rattle.record.specs.Fields.{hostOf, realmOf, privateOf, publicOf, serverOf, mandatoryOf, optionalOf}
@@ -17,12 +13,13 @@ use Rattle.reading.specs.Verdicts.{numberOf}
 use Rattle.diameter.specs.Message.{bodyOf}
 use Rattle.requests.specs.Request.{sessionOf}
 use Rattle.reading.specs.declared.Outcome.{Outcome}
+use Rattle.reading.specs.declared.Terms.{Terms}
 use Rattle.reading.specs.declared.Outcome.the-variants.{Base, Experimental}
 use Rattle.choices.specs.declared.Given.{Given}
 use Rattle.items.specs.Items.{sentBytes}
 use Rattle.parts.specs.Profile.{profileAt}
-use Rattle.reply.specs.Answer.{resultBytes, namedBytes, vendorNamed, frontBytes, originBytes, topBytes, identityBytes, nameBytes, dataBytes, givenBytes}
-use Rattle.reply.specs.Answer.{flagsOf, startBytes, headerBytes}
+use Rattle.reply.specs.Pieces.{resultBytes, namedBytes, vendorNamed, frontBytes, originBytes, topBytes, identityBytes, nameBytes, dataBytes}
+use Rattle.reply.specs.Pieces.{givenBytes, flagsOf, startBytes, headerBytes}
 use Rattle.reply.proofs.Rooms.{room-left, room-right, wrote-most, wrote-within}
 
 -- The result.
@@ -53,14 +50,14 @@ module _ (o : Outcome) (n : ℕ) where
     wrote-experimental e w = rw e w
 
 -- Session-Id is the request's.
-module _ (req session : List ℕ) (o : Outcome) (is : session ≡ sessionOf (bodyOf req)) where
-  pub session-room : {m : ℕ} → length (frontBytes (sessionOf (bodyOf req)) o) ≤ m → copiedSize (length session) + 32 + length (resultBytes o) + 12 ≤ m
+module _ (terms : Terms) (req session : List ℕ) (o : Outcome) (is : session ≡ sessionOf (bodyOf req)) where
+  pub session-room : {m : ℕ} → length (frontBytes terms (sessionOf (bodyOf req)) o) ≤ m → copiedSize (length session) + 32 + length (resultBytes o) + 12 ≤ m
   unfolding frontBytes
   session-room h =
       let k = simp length-append at (rw (← is) at h) in
-      omega (arith, copied-length session, application-length, number-length 277 1)
+      omega (arith, copied-length session, application-length (terms .application), number-length 277 1)
 
-  pub wrote-session : {b xs : List ℕ} {r : ℕ} → Wrote (frontBytes session o) b xs r → Wrote (frontBytes (sessionOf (bodyOf req)) o) b xs r
+  pub wrote-session : {b xs : List ℕ} {r : ℕ} → Wrote (frontBytes terms session o) b xs r → Wrote (frontBytes terms (sessionOf (bodyOf req)) o) b xs r
   wrote-session w = rw is at w
 
 -- Origin-Host and Origin-Realm.
@@ -157,17 +154,17 @@ unfolding headerBytes
 wrote-header req result n f room e p q = named (rw e) (simp (length-take, length-drop) (omega arith)) (then p q)
 
 -- One piece after another.
-module _ (req t : List ℕ) (o : Outcome) where
-  pub front-room : {m : ℕ} → length (topBytes req t o) ≤ m → length (frontBytes (sessionOf (bodyOf req)) o) ≤ m
+module _ (terms : Terms) (req t : List ℕ) (o : Outcome) where
+  pub front-room : {m : ℕ} → length (topBytes terms req t o) ≤ m → length (frontBytes terms (sessionOf (bodyOf req)) o) ≤ m
   unfolding topBytes
-  front-room r = room-left (frontBytes (sessionOf (bodyOf req)) o) (originBytes (blockOf t 0)) r
+  front-room r = room-left (frontBytes terms (sessionOf (bodyOf req)) o) (originBytes (blockOf t 0)) r
 
-  module _ {b xs : List ℕ} {n : ℕ} (p : Wrote (frontBytes (sessionOf (bodyOf req)) o) b xs n) where
-    pub origin-room : length (topBytes req t o) ≤ length b → length (originBytes (blockOf t 0)) ≤ length (lent n xs)
+  module _ {b xs : List ℕ} {n : ℕ} (p : Wrote (frontBytes terms (sessionOf (bodyOf req)) o) b xs n) where
+    pub origin-room : length (topBytes terms req t o) ≤ length b → length (originBytes (blockOf t 0)) ≤ length (lent n xs)
     unfolding topBytes
     origin-room r = room-right _ _ p r
 
-    pub wrote-top : {ys : List ℕ} {r : ℕ} → Wrote (originBytes (blockOf t 0)) (lent n xs) ys r → Wrote (topBytes req t o) b (back n xs ys) (n + r)
+    pub wrote-top : {ys : List ℕ} {r : ℕ} → Wrote (originBytes (blockOf t 0)) (lent n xs) ys r → Wrote (topBytes terms req t o) b (back n xs ys) (n + r)
     unfolding topBytes
     wrote-top q = then p q
 

@@ -2,6 +2,7 @@
 use diameter::codes;
 use pen::group;
 use reading::Outcome;
+use reading::Terms;
 ghost use mathlib.Core.Path.{_≡_};
 ghost use Prim.Native.Nat.{_+_, _≤_};
 ghost use lib.ListN.{length};
@@ -11,7 +12,7 @@ ghost use Rattle.pen.specs.Bytes.{copiedSize};
 ghost use Rattle.diameter.specs.Message.{bodyOf};
 ghost use Rattle.requests.specs.Request.{sessionOf};
 ghost use Rattle.table.specs.SoundTable.{SoundTable};
-ghost use Rattle.reply.specs.Answer.{resultBytes, frontBytes, originBytes, topBytes};
+ghost use Rattle.reply.specs.Pieces.{resultBytes, frontBytes, originBytes, topBytes};
 
 // Result-Code or Experimental-Result.
 fn put_result(out: &mut [u8], o: Outcome) -> usize
@@ -25,22 +26,23 @@ fn put_result(out: &mut [u8], o: Outcome) -> usize
 }
 
 // A Session-Id, the application, the result, and 277 of 1.
-fn put_start(out: &mut [u8], session: &[u8], o: Outcome) -> usize
+fn put_start(out: &mut [u8], session: &[u8], terms: Terms, o: Outcome) -> usize
     requires { ⌜ copiedSize (length (now session)) + 32 + length (resultBytes o) + 12 ≤ length (now out) ⌝ }
-    ensures { λ r. ⌜ (r ≤ length (now (out .entry))) × Wrote (frontBytes (now (session .entry)) o) (now (out .entry)) (now (out .exit)) r ⌝ }
+    ensures { λ r. ⌜ (r ≤ length (now (out .entry))) × Wrote (frontBytes terms (now (session .entry)) o) (now (out .entry)) (now (out .exit)) r ⌝ }
 {
     let a = pen::put_copy(out, session);
-    let b = a + group::put_application(&mut out[a..]);
+    let b = a + group::put_application(&mut out[a..], terms.application);
     let c = b + put_result(&mut out[b..], o);
     c + pen::put_number(&mut out[c..], codes::AUTH_SESSION_STATE, 1)
 }
 
 // The same with the request's Session-Id.
-fn put_front(out: &mut [u8], req: &[u8], o: Outcome) -> usize
-    requires { ⌜ length (frontBytes (sessionOf (bodyOf (now req))) o) ≤ length (now out) ⌝ }
-    ensures { λ r. ⌜ (r ≤ length (now (out .entry))) × Wrote (frontBytes (sessionOf (bodyOf (now (req .entry)))) o) (now (out .entry)) (now (out .exit)) r ⌝ }
+fn put_front(out: &mut [u8], req: &[u8], terms: Terms, o: Outcome) -> usize
+    requires { ⌜ length (frontBytes terms (sessionOf (bodyOf (now req))) o) ≤ length (now out) ⌝ }
+    ensures { λ r. ⌜ (r ≤ length (now (out .entry))) × Wrote (frontBytes terms (sessionOf (bodyOf (now (req .entry)))) o) (now (out .entry))
+        (now (out .exit)) r ⌝ }
 {
-    put_start(out, requests::session(req), o)
+    put_start(out, requests::session(req), terms, o)
 }
 
 // Origin-Host and Origin-Realm.
@@ -53,10 +55,17 @@ fn put_origin(out: &mut [u8], t: &[u8], count: usize) -> usize
 }
 
 // What every answer has.
-pub fn put_top(out: &mut [u8], req: &[u8], t: &[u8], count: usize, o: Outcome) -> usize
-    requires { ⌜ SoundTable (now t) count × (length (topBytes (now req) (now t) o) ≤ length (now out)) ⌝ }
-    ensures { λ r. ⌜ (r ≤ length (now (out .entry))) × Wrote (topBytes (now (req .entry)) (now (t .entry)) o) (now (out .entry)) (now (out .exit)) r ⌝ }
+pub fn put_top(
+    out: &mut [u8],
+    req: &[u8],
+    t: &[u8],
+    count: usize,
+    terms: Terms,
+    o: Outcome,
+) -> usize
+    requires { ⌜ SoundTable (now t) count × (length (topBytes terms (now req) (now t) o) ≤ length (now out)) ⌝ }
+    ensures { λ r. ⌜ (r ≤ length (now (out .entry))) × Wrote (topBytes terms (now (req .entry)) (now (t .entry)) o) (now (out .entry)) (now (out .exit)) r ⌝ }
 {
-    let a = put_front(out, req, o);
+    let a = put_front(out, req, terms, o);
     a + put_origin(&mut out[a..], t, count)
 }

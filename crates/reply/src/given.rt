@@ -9,7 +9,7 @@ ghost use Rattle.octets.specs.Run.{Wrote};
 ghost use Rattle.table.specs.SoundTable.{SoundTable};
 ghost use Rattle.vectors.specs.Chosen.{Sendable};
 ghost use Rattle.items.specs.Items.{sentBytes};
-ghost use Rattle.reply.specs.Answer.{identityBytes, nameBytes, dataBytes, givenBytes};
+ghost use Rattle.reply.specs.Pieces.{identityBytes, nameBytes, dataBytes, givenBytes};
 
 // User-Name and Public-Identity, each absent where block 0 is named.
 fn put_identities(out: &mut [u8], t: &[u8], count: usize, g: Given) -> usize

@@ -8,7 +8,7 @@ ghost use mathlib.Core.Path.{_≡_};
 ghost use Prim.Native.Nat.{_≤_};
 ghost use lib.ListN.{length};
 ghost use Rattle.octets.specs.Run.{Wrote};
-ghost use Rattle.reply.specs.Answer.{flagsOf, startBytes, headerBytes};
+ghost use Rattle.reply.specs.Pieces.{flagsOf, startBytes, headerBytes};
 
 // "flags P as received and E exactly for 3xxx, no others"
 fn flags_of(flags: u8, result: Outcome) -> u8

@@ -1,10 +1,5 @@
 -- A small month: where is `a`, its removal, where is it now, an answer that strayed into the file, and 3 bytes. The calls, computed one by one.
-use Prim.Native.Nat.{ℕ}
-use mathlib.Core.Path.{_≡_, refl, sym, ap, _∙_}
-use mathlib.Core.List.{List, [], _∷_, _++_}
-use mathlib.Core.Bool.{false}
-use lib.ListN.{length, set}
-use lib.Dec.{ltb, lit≤}
+use Rattle.octets.specs.Standard.{ℕ, _≡_, refl, sym, ap, _∙_, List, [], _∷_, _++_, false, length, set, ltb, lit≤}
 use Rattle.octets.specs.Run.{over}
 use Rattle.blocks.specs.declared.Checked.{Checked}
 use Rattle.blocks.specs.declared.Checked.the-variants.{Sound}
@@ -17,15 +12,16 @@ use Rattle.pen.specs.Groups.{experimental}
 use Rattle.reading.specs.declared.Outcome.{Outcome}
 use Rattle.reading.specs.declared.Outcome.the-variants.{Base, Experimental}
 use Rattle.counting.specs.declared.Event.{Event}
-use Rattle.counting.specs.declared.Event.the-variants as event
+use Rattle.requests.specs.Request.{underCx}
 use Rattle.calling.specs.Call.{Answered, Refused}
 use Rattle.calling.specs.Lent.{Lent, lent}
 use Rattle.calling.specs.Serve.{Served, smallBuffer, checkOf, checkValue, decision, resultOf, serve}
 use Rattle.reporting.specs.Row.{eventBy, eventOf}
-use Rattle.report_numbers.specs.File.{OneRequest, joined}
+use Rattle.report_numbers.specs.File.{OneRequest, endToEnd}
 use Rattle.demands.proofs.Demands.{demand-2-room}
 use Rattle.worked_examples.proofs.Computed.{come, roomy, no-vectors, registered-sound, unregistered-sound}
 use Rattle.worked_examples.proofs.Sample.{room, request, reply, answer, common, assignment, one, s, opened}
+use Rattle.counting.specs.declared.Event.the-variants as event
 
 -- a LIR and a SAR of type 5 for `a`; a message with the R bit clear
 unfoldable pub lir : List ℕ
@@ -44,7 +40,7 @@ abbrev pub scrap : List ℕ
 scrap = 0x01 ∷ 0x00 ∷ 0x00 ∷ []
 
 unfoldable pub file : List ℕ
-file = joined messages ++ scrap
+file = endToEnd messages ++ scrap
 
 -- the table: `a` registered at `s`, and not registered; the buffer, as each answer leaves it
 unfoldable pub here : List ℕ
@@ -63,11 +59,11 @@ unfoldable pub sought : List ℕ
 sought = over (reply 302 (experimental 5003) []) removed
 
 unfoldable pub month : Lent
-month = lent file here [] [] room
+month = lent file here [] [] room underCx
 
 -- what is lent to each call
 abbrev pub lending : List ℕ → List ℕ → List ℕ → Lent
-lending message table buffer = lent message table [] [] buffer
+lending message table buffer = lent message table [] [] buffer underCx
 
 -- all that a call opens
 unfoldable pub all : ℕ
@@ -94,12 +90,16 @@ each = (
 )
 
 -- what each call comes to
+abbrev pub leaves : ℕ → List ℕ → List ℕ → List ℕ → Served
+leaves length table vectors buffer = record { call = Answered (record { length = length; place = 0 }); table = table; vectors = vectors; buffer = buffer }
+
 abbrev pub comes : ℕ → List ℕ → List ℕ → Served
-comes length table buffer = record { call = Answered (record { length = length; place = 0 }); table = table; vectors = []; buffer = buffer }
+comes length table buffer = leaves length table [] buffer
 
 -- a call leaves a buffer of the least room as long as it was
-stays : (x : Lent) (length : ℕ) (table buffer : List ℕ) → serve x ≡ comes length table buffer → smallBuffer (x .buffer) ≡ false → smallBuffer buffer ≡ false
-stays x length table buffer e h =
+pub stays : (x : Lent) (length : ℕ) (table vectors buffer : List ℕ) → serve x ≡ leaves length table vectors buffer → smallBuffer (x .buffer) ≡ false
+    → smallBuffer buffer ≡ false
+stays x length table vectors buffer e h =
     ap (λ (y : Served). smallBuffer (y .buffer)) (sym e) ∙ ap (λ (n : ℕ). ltb n 36864) (demand-2-room x) ∙ h
 
 pub located-comes : serve (lending lir here room) ≡ comes 132 here located
@@ -107,21 +107,21 @@ unfolding all
 located-comes = come (lending lir here room) roomy sound-here no-vectors refl
 
 located-roomy : smallBuffer located ≡ false
-located-roomy = stays (lending lir here room) 132 here located located-comes roomy
+located-roomy = stays (lending lir here room) 132 here [] located located-comes roomy
 
 pub removed-comes : serve (lending removal here located) ≡ comes 116 gone removed
 unfolding all
 removed-comes = come (lending removal here located) located-roomy sound-here no-vectors refl
 
 removed-roomy : smallBuffer removed ≡ false
-removed-roomy = stays (lending removal here located) 116 gone removed removed-comes located-roomy
+removed-roomy = stays (lending removal here located) 116 gone [] removed removed-comes located-roomy
 
 pub sought-comes : serve (lending lir gone removed) ≡ comes 136 gone sought
 unfolding all
 sought-comes = come (lending lir gone removed) removed-roomy sound-gone no-vectors refl
 
 sought-roomy : smallBuffer sought ≡ false
-sought-roomy = stays (lending lir gone removed) 136 gone sought sought-comes removed-roomy
+sought-roomy = stays (lending lir gone removed) 136 gone [] sought sought-comes removed-roomy
 
 pub strayed-comes : serve (lending strayed gone sought) ≡ record { call = Refused 4 0; table = gone; vectors = []; buffer = sought }
 unfolding all
@@ -132,10 +132,10 @@ abbrev pub counts : ℕ → Outcome → ℕ → ℕ → Event
 counts command result length altered = event.Answered (record { command = command; result = result; length = length; altered = altered })
 
 -- from what the call comes to, so that it is not computed again
-pub counted-from : (x : Lent) (length : ℕ) (table buffer : List ℕ) → serve x ≡ comes length table buffer → checkOf x ≡ Sound 1
+pub counted-from : (x : Lent) (length : ℕ) (table vectors buffer : List ℕ) → serve x ≡ leaves length table vectors buffer → checkOf x ≡ Sound 1
     → eventOf x ≡ counts (commandOf (x .request)) (decision x 1 .given .verdict .result) length (alteredUpTo (x .table) table 1)
 unfolding eventOf
-counted-from x length table buffer e f =
+counted-from x length table vectors buffer e f =
     ap (λ (y : Served). eventBy x (y .call)) e
     ∙ ap (λ (n : ℕ). counts (commandOf (x .request)) (resultOf x) length n)
     (ap (λ (y : Served). alteredUpTo (x .table) (y .table) (checkValue (checkOf x))) e)
@@ -144,15 +144,15 @@ counted-from x length table buffer e f =
 
 pub located-counts : eventOf (lending lir here room) ≡ counts 302 (Base 2001) 132 0
 unfolding all
-located-counts = counted-from (lending lir here room) 132 here located located-comes sound-here
+located-counts = counted-from (lending lir here room) 132 here [] located located-comes sound-here
 
 pub removed-counts : eventOf (lending removal here located) ≡ counts 301 (Base 2001) 116 1
 unfolding all
-removed-counts = counted-from (lending removal here located) 116 gone removed removed-comes sound-here
+removed-counts = counted-from (lending removal here located) 116 gone [] removed removed-comes sound-here
 
 pub sought-counts : eventOf (lending lir gone removed) ≡ counts 302 (Experimental 5003) 136 0
 unfolding all
-sought-counts = counted-from (lending lir gone removed) 136 gone sought sought-comes sound-gone
+sought-counts = counted-from (lending lir gone removed) 136 gone [] sought sought-comes sound-gone
 
 pub strayed-counts : eventOf (lending strayed gone sought) ≡ event.Refused 4
 unfolding eventOf

@@ -1,38 +1,33 @@
 -- Each theorem of the numbers has an instance: its hypotheses are met by the small month, or by a part of it.
-use Prim.Native.Nat.{ℕ, _+_, _%_, _^_, _≤_, _<_, max}
-use mathlib.Core.List.{List, [], _∷_, _++_}
-use mathlib.Core.Path.{_≡_, refl, sym, ap, _∙_}
-use mathlib.Core.Logic.{inl, inr}
-use native.Mathlib.Omega.{arith}
-use lib.ListN.{length, getD, take, drop}
-use lib.Dec.{lit≤, lit<}
+use Rattle.octets.specs.Standard.{ℕ, _+_, _%_, _^_, _≤_, _<_, max, List, [], _∷_, _++_, _≡_, refl, sym, ap, _∙_, inl, inr, arith, length, getD, take}
+use Rattle.octets.specs.Standard.{drop, lit≤, lit<}
 use Rattle.blocks.specs.Blocks.{blockOf}
 use Rattle.table.specs.Check.{checkTable}
+use Rattle.blocks.specs.declared.Checked.{Checked}
 use Rattle.blocks.specs.declared.Checked.the-variants.{Sound}
 use Rattle.reading.specs.declared.Outcome.the-variants.{Base}
 use Rattle.reading.specs.Verdicts.{numberOf}
-use Rattle.counting.specs.Results.{listed}
+use Rattle.counting.specs.Results.{columnOf, listed}
 use Rattle.counting.specs.Words.{longBytes}
+use Rattle.requests.specs.Request.{underCx}
 use Rattle.calling.specs.Lent.{Lent, lent, asking}
-use Rattle.calling.specs.Serve.{serve}
-use Rattle.ndushavire.specs.Word.{word, callWord}
-use Rattle.ndushavire.specs.Reads.{placeIn, valueIn}
+use Rattle.calling.specs.Serve.{serve, checkValue, decision, resultOf}
+use Rattle.ndushavire.specs.Word.{word, callWord, placeIn, valueIn}
 use Rattle.ndushavire.specs.Promise.{ReportPromise}
 use Rattle.reporting.specs.Pieces.{stopOf}
 use Rattle.reporting.specs.Row.{eventOf, row, left}
 use Rattle.reporting.specs.Report.{Reported, requestsOf, wordsOf, reported}
 use Rattle.report_numbers.specs.Area.{wordIn, rowsIn, refusalsIn}
-use Rattle.report_numbers.specs.File.{joined, Breaks}
-use Rattle.report_numbers.specs.Turns.{eventsOf, Place, callAt, answerLength, alteredOver, allIdle, goingOn}
-use Rattle.report_numbers.proofs.Numbers as numbers
+use Rattle.report_numbers.specs.File.{endToEnd, BrokenOff}
+use Rattle.report_numbers.specs.Turns.{eventsOf, InTurn, callAt, callLength, alteredOver, allIdle, goingOn}
 use Rattle.worked_examples.proofs.Sample.{block, room}
-use Rattle.report_example.proofs.Calls.{lir, removal, strayed, scrap, file, here, month, each, sound-here, counts, all}
-use Rattle.report_example.proofs.Calls.{located-counts}
+use Rattle.report_example.proofs.Calls.{lir, removal, strayed, scrap, file, here, month, each, sound-here, counts, all, located-counts}
 use Rattle.report_example.proofs.Month.{area, enough, month-requests, month-stop, month-number, month-events, counting}
+use Rattle.report_numbers.proofs.Numbers as numbers
 
 -- the month's length
 size : length file < 2 ^ 56
-unfolding all file joined
+unfolding all file endToEnd
 size = lit< tt
 
 short : length (month .request) < 2 ^ 64
@@ -54,7 +49,7 @@ met-meant : (reported month area .number ≡ 7) × (placeIn (word 7 0 0) ≡ 0) 
 met-meant = let m = numbers.report-meant month area promised in (ap (λ (r : Reported). r .number) (m .0), m .1, m .2)
 
 -- THE FILE: the removal is the second of four requests
-second : Place (requestsOf month)
+second : InTurn (requestsOf month)
 second = record { before = lir ∷ []; request = removal; after = lir ∷ strayed ∷ []; is = month-requests }
 
 met-event : eventsOf month ≡ row month (lir ∷ []) ++ (eventOf (callAt month second) ∷ row (left month (lir ∷ removal ∷ [])) (lir ∷ strayed ∷ []))
@@ -98,47 +93,66 @@ met-altered : wordIn (reported month area .area) 2 ≡ alteredOver month (reques
 unfolding month
 met-altered = numbers.report-altered-exact month area enough size
 
-met-largest : answerLength (serve (callAt month second) .call) ≤ 136
+met-largest : callLength (serve (callAt month second) .call) ≤ 136
 met-largest = rw met-word at (numbers.report-largest month area enough second)
 
 met-columns : Base 5012 ≡ Base 5012
 unfolding counting listed
 met-columns = numbers.report-columns (Base 5012) (Base 5012) refl refl refl
 
+-- the LIR's result has a column; the removal's is in the same, and so is the same
+alone : Lent
+alone = lent lir here [] [] room underCx
+
+met-column : columnOf (resultOf alone) < 25
+met-column = numbers.report-column alone
+
+taking : Lent
+taking = lent removal here [] [] room underCx
+
+both-first : columnOf (resultOf alone) ≡ columnOf (resultOf taking)
+unfolding all alone taking counting
+both-first = ap (λ (c : Checked). columnOf (decision alone (checkValue c) .given .verdict .result)) sound-here
+    ∙ sym (ap (λ (c : Checked). columnOf (decision taking (checkValue c) .given .verdict .result)) sound-here)
+
+met-own-column : resultOf alone ≡ resultOf taking
+met-own-column = numbers.report-own-column alone taking both-first
+
+met-unable : (wordIn (reported month area .area) 31 ≡ 0) × (wordIn (reported month area .area) 81 ≡ 0)
+met-unable = numbers.report-unable month area enough
+
 -- THE ENDS: no room for the words; two requests that are a whole file; and the 3 bytes
 met-15 : reported month [] .number ≡ 15
 met-15 = ap (λ (r : Reported). r .number) (numbers.report-15-kept month [] (lit< tt))
 
 firstTwo : List ℕ
-firstTwo = joined (lir ∷ removal ∷ [])
+firstTwo = endToEnd (lir ∷ removal ∷ [])
 
 begun : Lent
-begun = lent firstTwo here [] [] room
+begun = lent firstTwo here [] [] room underCx
 
 met-0 : reported begun area .number ≡ 0
 unfolding begun firstTwo
 met-0 = numbers.report-0-whole begun area enough (lir ∷ removal ∷ []) (each .0, (each .1 .0, tt)) refl .1
 
-met-0-file : joined (requestsOf begun) ≡ firstTwo
+met-0-file : endToEnd (requestsOf begun) ≡ firstTwo
 unfolding begun
 met-0-file = numbers.report-0-file begun area enough met-0
 
-met-7 : Breaks (drop (stopOf file) file)
+met-7 : BrokenOff (drop (stopOf file) file)
 unfolding month
 met-7 = numbers.report-7-breaks month area enough month-number
 
 -- a header length under 20, and one past the file
-under : Breaks (0x01 ∷ 0x00 ∷ 0x00 ∷ 0x13 ∷ [])
+under : BrokenOff (0x01 ∷ 0x00 ∷ 0x00 ∷ 0x13 ∷ [])
 unfolding all
 under = record { some = lit≤ tt; by = inr (inl (lit< tt)) }
 
-past : Breaks (0x01 ∷ 0x00 ∷ 0x00 ∷ 0x14 ∷ [])
+past : BrokenOff (0x01 ∷ 0x00 ∷ 0x00 ∷ 0x14 ∷ [])
 unfolding all
 past = record { some = lit≤ tt; by = inr (inr (lit< tt)) }
 
 -- ONE REQUEST
-alone : Lent
-alone = lent lir here [] [] room
 
 met-one : eventsOf alone ≡ counts 302 (Base 2001) 132 0 ∷ []
 unfolding alone
@@ -158,7 +172,7 @@ met-one-decides =
 
 -- TWO FILES: the rest of the month goes on where the first two requests ended
 rest : List ℕ
-rest = joined (lir ∷ strayed ∷ []) ++ scrap
+rest = endToEnd (lir ∷ strayed ∷ []) ++ scrap
 
 met-both : requestsOf (asking begun (begun .request ++ rest)) ≡ requestsOf begun ++ requestsOf (goingOn begun area rest)
 met-both = numbers.report-both begun rest area enough met-0
@@ -174,7 +188,7 @@ met-both-words : wordIn (reported (asking begun (begun .request ++ rest)) area .
 met-both-words = numbers.report-both-words begun rest area enough met-0 area enough 0 (omega arith) (omega arith) (omega arith)
 
 both-short : length (begun .request ++ rest) < 2 ^ 64
-unfolding all begun firstTwo rest joined
+unfolding all begun firstTwo rest endToEnd
 both-short = lit< tt
 
 met-both-place : wordIn (reported (asking begun (begun .request ++ rest)) area .area) 1
@@ -196,21 +210,21 @@ met-kept = numbers.report-kept month area 1 sound-here 1 16 (lit≤ tt) (lit< tt
 
 -- over a block of zeros, a vector file of one byte, and with no buffer
 unsound : Lent
-unsound = lent file block [] [] room
+unsound = lent file block [] [] room underCx
 
 met-unsound : reported unsound area .table ≡ block
 unfolding all unsound
 met-unsound = numbers.report-unsound unsound area 0 refl .0
 
 spoilt : Lent
-spoilt = lent file here [] (3 ∷ []) room
+spoilt = lent file here [] (3 ∷ []) room underCx
 
 met-spoilt : reported spoilt area .vectors ≡ 3 ∷ []
 unfolding all spoilt
 met-spoilt = numbers.report-unsound-vectors spoilt area 0 refl .1
 
 cramped : Lent
-cramped = lent file here [] [] []
+cramped = lent file here [] [] [] underCx
 
 met-small : reported cramped area .buffer ≡ []
 unfolding cramped

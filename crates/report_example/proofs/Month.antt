@@ -1,28 +1,24 @@
 -- The small month's report: by 7, with the place of the 3 bytes, the counts, the table and the buffer afterwards.
-use Prim.Native.Nat.{ℕ, _≤_}
-use mathlib.Core.Path.{_≡_, refl, ap, _∙_}
-use mathlib.Core.List.{List, [], _∷_, _++_}
-use mathlib.Core.Logic.{inl}
-use lib.ListN.{length, replicate}
-use lib.Dec.{lit≤}
+use Rattle.octets.specs.Standard.{ℕ, _≤_, _≡_, refl, ap, _∙_, List, [], _∷_, _++_, inl, length, replicate, lit≤}
 use Rattle.octets.specs.Run.{over}
-use Rattle.counting.specs.Results.{baseResults, experimentalResults, indexIn, rowOf, columnOf}
+use Rattle.counting.specs.Results.{baseResults, experimentalResults, indexIn, commandRow, columnOf}
 use Rattle.counting.specs.Counted.{cellOf, howMany, alteredIn, largestIn, numberAt, wordAt, valuesBelow, countsOf}
-use Rattle.counting.specs.Words.{longBytes, bytesOf}
+use Rattle.counting.specs.Words.{longBytes, wordsBytes}
 use Rattle.counting.specs.declared.Event.{Event}
-use Rattle.counting.specs.declared.Event.the-variants as event
 use Rattle.reading.specs.declared.Outcome.the-variants.{Base, Experimental}
+use Rattle.requests.specs.Request.{underCx}
 use Rattle.calling.specs.Lent.{Lent, lent}
 use Rattle.reporting.specs.Pieces.{stopOf}
 use Rattle.reporting.specs.Row.{next, row, left}
 use Rattle.reporting.specs.Report.{Reported, requestsOf, wordsOf, ran, reported}
-use Rattle.report_numbers.specs.File.{joined, Breaks}
+use Rattle.report_numbers.specs.File.{endToEnd, BrokenOff}
 use Rattle.report_numbers.specs.Turns.{eventsOf}
 use Rattle.report_numbers.proofs.Ends.{area-long}
 use Rattle.report_numbers.proofs.Numbers.{report-7-broken}
-use Rattle.report_example.proofs.Calls.{lir, removal, strayed, messages, scrap, file, here, gone, located, removed, sought, month, each, counts}
-use Rattle.report_example.proofs.Calls.{located-comes, removed-comes, sought-comes, strayed-comes, all}
-use Rattle.report_example.proofs.Calls.{located-counts, removed-counts, sought-counts, strayed-counts}
+use Rattle.report_example.proofs.Calls.{lir, removal, strayed, messages, scrap, file, here, gone, located, removed, sought, month, each}
+use Rattle.report_example.proofs.Calls.{counts, located-comes, removed-comes, sought-comes, strayed-comes, all, located-counts, removed-counts}
+use Rattle.report_example.proofs.Calls.{sought-counts, strayed-counts}
+use Rattle.counting.specs.declared.Event.the-variants as event
 
 -- an area of one byte more than the report
 unfoldable pub area : List ℕ
@@ -32,11 +28,11 @@ pub enough : 1160 ≤ length area
 unfolding area
 enough = lit≤ tt
 
-pub breaks : Breaks scrap
+pub breaks : BrokenOff scrap
 breaks = record { some = lit≤ tt; by = inl (lit≤ tt) }
 
 -- the file is read up to the 3 bytes
-month-read : (requestsOf month ≡ messages) × (stopOf file ≡ length (joined messages)) × (reported month area .number ≡ 7)
+month-read : (requestsOf month ≡ messages) × (stopOf file ≡ length (endToEnd messages)) × (reported month area .number ≡ 7)
 unfolding month file
 month-read = report-7-broken month area enough messages each scrap refl breaks
 
@@ -47,23 +43,23 @@ pub month-number : reported month area .number ≡ 7
 month-number = month-read .2
 
 pub month-stop : stopOf file ≡ 452
-unfolding all joined
+unfolding all endToEnd
 month-stop = month-read .1
 
 -- the calls in turn
-after-located : next month lir ≡ lent file here [] [] located
+after-located : next month lir ≡ lent file here [] [] located underCx
 unfolding month next
 after-located = rw located-comes
 
-after-removed : next (lent file here [] [] located) removal ≡ lent file gone [] [] removed
+after-removed : next (lent file here [] [] located underCx) removal ≡ lent file gone [] [] removed underCx
 unfolding next
 after-removed = rw removed-comes
 
-after-sought : next (lent file gone [] [] removed) lir ≡ lent file gone [] [] sought
+after-sought : next (lent file gone [] [] removed underCx) lir ≡ lent file gone [] [] sought underCx
 unfolding next
 after-sought = rw sought-comes
 
-after-strayed : next (lent file gone [] [] sought) strayed ≡ lent file gone [] [] sought
+after-strayed : next (lent file gone [] [] sought underCx) strayed ≡ lent file gone [] [] sought underCx
 unfolding next
 after-strayed = rw strayed-comes
 
@@ -75,7 +71,7 @@ unfolding row month
 month-events =
     ap (row month) month-requests ∙ rw (after-located, after-removed, after-sought, located-counts, removed-counts, sought-counts, strayed-counts)
 
-month-left : left month (requestsOf month) ≡ lent file gone [] [] sought
+month-left : left month (requestsOf month) ≡ lent file gone [] [] sought underCx
 unfolding left
 month-left = ap (left month) month-requests ∙ rw (after-located, after-removed, after-sought, after-strayed)
 
@@ -87,7 +83,7 @@ words =
     ++ (1 ∷ replicate 36 0 ++ (1 ∷ replicate 24 0 ++ (1 ∷ replicate 18 0 ++ (1 ∷ replicate 55 0))))
 
 unfoldable pub counting : ℕ
-unfolding cellOf howMany alteredIn largestIn numberAt wordAt valuesBelow countsOf rowOf columnOf indexIn baseResults experimentalResults
+unfolding cellOf howMany alteredIn largestIn numberAt wordAt valuesBelow countsOf commandRow columnOf indexIn baseResults experimentalResults
 counting = 0
 
 month-words : wordsOf month ≡ words
@@ -104,10 +100,10 @@ record Month : Type 0 where
   table : reported month area .table ≡ gone
   vectors : reported month area .vectors ≡ []
   buffer : reported month area .buffer ≡ sought
-  area : reported month area .area ≡ bytesOf words ++ (9 ∷ [])
+  area : reported month area .area ≡ wordsBytes words ++ (9 ∷ [])
 
 reported-month : Month
-unfolding ran over bytesOf longBytes area
+unfolding ran over wordsBytes longBytes area
 reported-month =
     let long = area-long month area enough in
     record {

@@ -1,12 +1,6 @@
--- Wrong reporters: each is a function here, and over the small month its outcome does not meet the promise.
-use Prim.Native.Nat.{ℕ, _^_, _≤_, _<_}
-use mathlib.Core.Path.{_≡_, refl, sym, ap, _∙_}
-use mathlib.Core.Logic.{_≢_}
-use mathlib.Core.Bool.{false}
-use mathlib.Core.List.{List, [], _∷_, _++_}
-use native.Mathlib.Omega.{arith}
-use lib.ListN.{length, getD, set, length-set}
-use lib.Seq.{getD-set-other}
+-- Wrong reporters: each is a function here, and over the small month, or over that of the cards, its outcome does not meet the promise.
+use Rattle.octets.specs.Standard.{ℕ, _^_, _≤_, _<_, _≡_, refl, sym, ap, _∙_, _≢_, false, List, [], _∷_, _++_, arith, length, getD, set, length-set}
+use Rattle.octets.specs.Standard.{getD-set-other}
 use Rattle.octets.specs.Run.{over}
 use Rattle.blocks.specs.declared.Checked.the-variants.{Sound}
 use Rattle.diameter.specs.Message.{commandOf}
@@ -14,14 +8,12 @@ use Rattle.pen.specs.Bytes.{numberBytes}
 use Rattle.reading.specs.declared.Outcome.{Outcome}
 use Rattle.reading.specs.declared.Outcome.the-variants.{Base}
 use Rattle.counting.specs.Counted.{wordAt, countsOf}
-use Rattle.counting.specs.Words.{bytesOf}
+use Rattle.counting.specs.Words.{wordsBytes}
 use Rattle.counting.specs.declared.Event.{Event}
-use Rattle.counting.specs.declared.Event.the-variants as event
 use Rattle.counting.proofs.Counts.{counts-length, counts-at}
-use Rattle.calling.specs.Lent.{Lent, asking}
-use Rattle.calling.specs.Serve.{Served}
-use Rattle.ndushavire.specs.Word.{word}
-use Rattle.ndushavire.specs.Reads.{numberIn}
+use Rattle.calling.specs.Lent.{Lent, asking, lent}
+use Rattle.calling.specs.Serve.{Served, serve}
+use Rattle.ndushavire.specs.Word.{word, numberIn}
 use Rattle.ndushavire.specs.Promise.{ReportPromise}
 use Rattle.reporting.specs.Pieces.{stopOf}
 use Rattle.reporting.specs.Row.{eventBy, eventOf, row}
@@ -33,7 +25,9 @@ use Rattle.report_numbers.proofs.Words.{area-word}
 use Rattle.worked_examples.proofs.Computed.{known, come, roomy, no-vectors}
 use Rattle.worked_examples.proofs.Sample.{answer, room}
 use Rattle.report_example.proofs.Calls.{removal, strayed, here, gone, month, sound-here, lending, counts, counted-from, located-counts, all}
+use Rattle.report_example.proofs.Cards.{fresh, used, cards, cards-requests, cards-events, cards-vectors, sent-comes, sent-counts, again-counts}
 use Rattle.report_example.proofs.Month.{area, enough, month-requests, month-events, month-number, month-table, counting}
+use Rattle.counting.specs.declared.Event.the-variants as event
 
 -- what a report leaves
 record Left : Type 0 where
@@ -61,7 +55,7 @@ truly-meets x a = record { word-is = refl; table-is = refl; vectors-is = refl; b
 
 -- One that counts another row of outcomes, and is right in all else.
 writes : (Lent → List Event) → Lent → List ℕ → List ℕ
-writes row x a = over (bytesOf (set (countsOf (row x)) 1 (stopOf (x .request)))) a
+writes row x a = over (wordsBytes (set (countsOf (row x)) 1 (stopOf (x .request)))) a
 
 counting-by : (Lent → List Event) → Reporter
 counting-by row x a =
@@ -94,7 +88,7 @@ forgetting = counting-by (λ (x : Lent). apart x (requestsOf x))
 removed-apart : eventOf (lending removal here room) ≡ counts 301 (Base 2001) 116 1
 unfolding all
 removed-apart =
-    counted-from (lending removal here room) 116 gone (over (answer (numberBytes 268 2001) []) room)
+    counted-from (lending removal here room) 116 gone [] (over (answer (numberBytes 268 2001) []) room)
     (come (lending removal here room) roomy sound-here no-vectors refl) sound-here
 
 strayed-apart : eventOf (lending strayed here room) ≡ event.Refused 4
@@ -123,6 +117,37 @@ unwriting-fails : (f : Reporter) → f month area .table ≡ here → Meets f mo
 unfolding all
 unwriting-fails f e p =
     let n : _≡_ {A = ℕ} 1 0 = ap (λ (t : List ℕ). getD t 520 0) (sym e ∙ p .table-is ∙ month-table) in
+    omega arith
+
+-- nor one that does not carry the vectors along: each request is decided over the vector file as it came
+unspent : Lent → List (List ℕ) → List Event
+unspent x [] = []
+unspent x (p ∷ ps) = eventOf (asking x p) ∷ unspent (lent (x .request) (serve (asking x p) .table) (x .profile) (x .vectors)
+    (serve (asking x p) .buffer) (x .terms)) ps
+
+sparing : Reporter
+sparing = counting-by (λ (x : Lent). unspent x (requestsOf x))
+
+-- the second MAR would be sent the vector again: B2001 twice, where the definitions have it once
+unspent-cards : unspent cards (requestsOf cards) ≡ counts 303 (Base 2001) 336 1 ∷ counts 303 (Base 2001) 336 0 ∷ []
+unfolding unspent cards
+unspent-cards = ap (unspent cards) cards-requests ∙ rw (sent-counts, sent-comes, again-counts)
+
+true-95 : wordAt (eventsOf cards) 95 ≡ 1
+unfolding counting
+true-95 = rw cards-events
+
+sparing-fails : Meets sparing cards area → ⊥
+unfolding sparing counting
+sparing-fails =
+    other-fails (λ (x : Lent). unspent x (requestsOf x)) 95 2 (omega arith) (omega arith) (omega arith) cards area enough (rw unspent-cards)
+    (λ e. omega (arith, true-95, e))
+
+-- nor does one that leaves the vectors as they came, whatever else it does
+unspending-fails : (f : Reporter) → f cards area .vectors ≡ fresh → Meets f cards area → ⊥
+unfolding all fresh used
+unspending-fails f e p =
+    let n : _≡_ {A = ℕ} 0 1 = ap (λ (v : List ℕ). getD v 1 0) (sym e ∙ p .vectors-is ∙ cards-vectors) in
     omega arith
 
 -- 2. one that counts a refused request under its command, as if it were answered by some result

@@ -1,29 +1,22 @@
 -- The words that a report writes.
-use Prim.Native.Nat.{ℕ, zero, suc, _+_, _*_, _%_, _^_, _≤_, _<_}
-use mathlib.Core.List.{List}
-use mathlib.Core.Bool.{Bool, true, false}
-use mathlib.Core.Path.{_≡_, refl, sym, ap, _∙_}
-use mathlib.Core.Logic.{_⊎_, _≢_}
-use native.Mathlib.Omega.{arith}
-use native.Mathlib.Nat.{mod-lt, mod-eq-of-lt}
-use lib.ListN.{length, getD, take, drop, length-set}
-use lib.Seq.{getD-set-same, getD-set-other}
-use lib.Dec.{eqb, ltb}
-use borrow.Author.Tests.{ltb-true, ltb-false, eqb-true, eqb-false}
+use Rattle.octets.specs.Standard.{ℕ, _+_, _*_, _%_, _^_, _≤_, _<_, List, Bool, true, false, _≡_, refl, sym, ap, _∙_, _⊎_, _≢_, arith, mod-lt}
+use Rattle.octets.specs.Standard.{mod-eq-of-lt, length, getD, take, drop, length-set, getD-set-same, getD-set-other, eqb, ltb, ltb-true, ltb-false}
+use Rattle.octets.specs.Standard.{eqb-true, eqb-false}
 use Rattle.octets.specs.Run.{over}
 use Rattle.counting.specs.Counted.{howMany, largestIn, numberAt, wordAt, countsOf}
-use Rattle.counting.specs.Totals.{sumFrom, rowTotals}
-use Rattle.counting.specs.Words.{longBytes, bytesOf}
+use Rattle.counting.specs.Layout.{readWord, stopWord, alteredWord, largestWord, answeredWord, refusalWord, cellWord, sumFrom}
+use Rattle.counting.specs.Totals.{rowTotals}
+use Rattle.counting.specs.Words.{longBytes, wordsBytes}
 use Rattle.counting.proofs.Counts.{counts-length, counts-at}
 use Rattle.counting.proofs.Numbers.{word-largest, word-other, exact}
-use Rattle.counting.proofs.Totals.{rows-answered, totals-read}
+use Rattle.counting.proofs.Totals.{sum-alike, rows-answered, totals-read}
 use Rattle.calling.specs.Lent.{Lent}
 use Rattle.calling.specs.Serve.{serve}
 use Rattle.reporting.specs.Pieces.{stopOf}
 use Rattle.reporting.specs.Report.{Reported, requestsOf, wordsOf, ran, reported}
 use Rattle.reporting.proofs.Whole.{row-fits}
 use Rattle.report_numbers.specs.Area.{wordIn, rowsIn, refusalsIn}
-use Rattle.report_numbers.specs.Turns.{eventsOf, Place, callAt, refusedBy, answeredIn, answerLength, alteredOver}
+use Rattle.report_numbers.specs.Turns.{eventsOf, InTurn, callAt, refusedBy, answeredIn, callLength, alteredOver}
 use Rattle.report_numbers.proofs.Cut.{stop-within, few-pieces}
 use Rattle.report_numbers.proofs.Calls.{row-length, row-altered, over-most, largest-most, largest-least, largest-one}
 use Rattle.report_numbers.proofs.Cells.{refused-count, answered-count}
@@ -33,15 +26,15 @@ use Rattle.report_numbers.proofs.Ends.{area-short, area-long}
 module _ (x : Lent) where
   words-length : length (wordsOf x) ≡ 145
   unfolding wordsOf
-  words-length = length-set (countsOf (eventsOf x)) 1 (stopOf (x .request)) ∙ counts-length (eventsOf x)
+  words-length = length-set (countsOf (eventsOf x)) stopWord (stopOf (x .request)) ∙ counts-length (eventsOf x)
 
-  words-place : getD (wordsOf x) 1 0 ≡ stopOf (x .request)
+  words-place : getD (wordsOf x) stopWord 0 ≡ stopOf (x .request)
   unfolding wordsOf
-  words-place = getD-set-same (countsOf (eventsOf x)) 1 (stopOf (x .request)) 0 (omega (arith, counts-length (eventsOf x)))
+  words-place = getD-set-same (countsOf (eventsOf x)) stopWord (stopOf (x .request)) 0 (omega (arith, counts-length (eventsOf x)))
 
-  words-at : (i : ℕ) → i < 145 → i ≢ 1 → getD (wordsOf x) i 0 ≡ wordAt (eventsOf x) i
+  words-at : (i : ℕ) → i < 145 → i ≢ stopWord → getD (wordsOf x) i 0 ≡ wordAt (eventsOf x) i
   unfolding wordsOf
-  words-at i h n = getD-set-other (countsOf (eventsOf x)) 1 i (stopOf (x .request)) 0 n ∙ counts-at (eventsOf x) i h
+  words-at i h n = getD-set-other (countsOf (eventsOf x)) stopWord i (stopOf (x .request)) 0 n ∙ counts-at (eventsOf x) i h
 
   word-small : (i : ℕ) → wordAt (eventsOf x) i < 2 ^ 64
   word-small i = go (eqb i 3) refl
@@ -63,16 +56,11 @@ module _ (x : Lent) where
           let h = ltb-false (length area) 1160 e in
           rw (area-long x area h) (area-length (wordsOf x) area words-length h)
 
-sum-alike : (f g : ℕ → ℕ) (i n : ℕ) → ((k : ℕ) → i ≤ k → k < i + n → f k ≡ g k) → sumFrom f i n ≡ sumFrom g i n
-unfolding sumFrom
-sum-alike f g i zero h = refl
-sum-alike f g i (suc n) h = omega (arith, h i (omega arith) (omega arith), sum-alike f g (suc i) n (λ k a b. h k (omega arith) (omega arith)))
-
 module _ (x : Lent) (area : List ℕ) (room : 1160 ≤ length area) where
   abbrev written : List ℕ
   written = reported x area .area
 
-  written-is : written ≡ over (bytesOf (wordsOf x)) area
+  written-is : written ≡ over (wordsBytes (wordsOf x)) area
   unfolding ran
   written-is = ap (λ (r : Reported). r .area) (area-long x area room)
 
@@ -82,32 +70,33 @@ module _ (x : Lent) (area : List ℕ) (room : 1160 ≤ length area) where
   pub report-bytes : (i : ℕ) → i < 145 → take 8 (drop (8 * i) written) ≡ longBytes (getD (wordsOf x) i 0)
   report-bytes i h = rw written-is (area-bytes (wordsOf x) area (words-length x) room i h)
 
-  pub report-word : (i : ℕ) → i < 145 → i ≢ 1 → wordIn written i ≡ wordAt (eventsOf x) i
+  pub report-word : (i : ℕ) → i < 145 → i ≢ stopWord → wordIn written i ≡ wordAt (eventsOf x) i
   report-word i h n =
       let e = words-at x i h n in
       rw written-is (area-word (wordsOf x) area (words-length x) room i h (rw e (word-small x i)) ∙ e)
 
-  pub report-place : length (x .request) < 2 ^ 64 → wordIn written 1 ≡ stopOf (x .request)
+  pub report-place : length (x .request) < 2 ^ 64 → wordIn written stopWord ≡ stopOf (x .request)
   report-place l =
       let e = words-place x in
       rw written-is (area-word (wordsOf x) area (words-length x) room 1 (omega arith) (rw e (omega (arith, stop-within (x .request)))) ∙ e)
 
   -- no remainder
-  pub report-exact : length (x .request) < 2 ^ 64 → (i : ℕ) → i < 145 → i ≢ 1 → i ≢ 2 → i ≢ 3 → wordIn written i ≡ numberAt (eventsOf x) i
+  pub report-exact : length (x .request) < 2 ^ 64 → (i : ℕ) → i < 145 → i ≢ stopWord → i ≢ alteredWord → i ≢ largestWord
+      → wordIn written i ≡ numberAt (eventsOf x) i
   report-exact l i h n m k = report-word i h n ∙ exact (eventsOf x) (omega (arith, few-requests x)) i m k
 
-  pub report-altered : wordIn written 2 ≡ alteredOver x (requestsOf x) % 2 ^ 64
+  pub report-altered : wordIn written alteredWord ≡ alteredOver x (requestsOf x) % 2 ^ 64
   unfolding numberAt
   report-altered =
       report-word 2 (omega arith) (omega arith)
       ∙ word-other (eventsOf x) 2 (omega arith)
       ∙ ap (λ (n : ℕ). n % 2 ^ 64) (row-altered x (requestsOf x))
 
-  pub report-altered-exact : length (x .request) < 2 ^ 56 → wordIn written 2 ≡ alteredOver x (requestsOf x)
+  pub report-altered-exact : length (x .request) < 2 ^ 56 → wordIn written alteredWord ≡ alteredOver x (requestsOf x)
   report-altered-exact l =
       report-altered ∙ mod-eq-of-lt (omega (arith, over-most x (requestsOf x), few-pieces (x .request)))
 
-  pub report-largest : wordIn written 3 ≡ largestIn (eventsOf x)
+  pub report-largest : wordIn written largestWord ≡ largestIn (eventsOf x)
   report-largest = report-word 3 (omega arith) (omega arith) ∙ word-largest (eventsOf x)
 
   -- "the row totals add up to the requests read"
@@ -128,17 +117,17 @@ module _ (x : Lent) (area : List ℕ) (room : 1160 ≤ length area) where
           part 120 25 (omega arith) (omega arith),
         )
 
-    pub report-read : wordIn written 0 ≡ length (requestsOf x)
+    pub report-read : wordIn written readWord ≡ length (requestsOf x)
     unfolding numberAt
     report-read = report-exact l 0 (omega arith) (omega arith) (omega arith) (omega arith) ∙ row-length x (requestsOf x)
 
-    pub report-rows : rowsIn written ≡ wordIn written 4
+    pub report-rows : rowsIn written ≡ wordIn written answeredWord
     report-rows =
         rows-are
         ∙ rows-answered (eventsOf x) (row-fits x (requestsOf x))
         ∙ sym (report-exact l 4 (omega arith) (omega arith) (omega arith) (omega arith))
 
-    pub report-totals : rowsIn written + refusalsIn written ≡ wordIn written 0
+    pub report-totals : rowsIn written + refusalsIn written ≡ wordIn written readWord
     report-totals =
         omega (
           arith,
@@ -150,19 +139,20 @@ module _ (x : Lent) (area : List ℕ) (room : 1160 ≤ length area) where
         )
 
     -- from word 5 on
-    pub refused-word : (n : ℕ) → 1 ≤ n → n ≤ 15 → wordIn written (4 + n) ≡ howMany (refusedBy n) (eventsOf x)
+    pub refused-word : (n : ℕ) → 1 ≤ n → n ≤ 15 → wordIn written (refusalWord n) ≡ howMany (refusedBy n) (eventsOf x)
     refused-word n a h =
-        report-exact l (4 + n) (omega arith) (omega arith) (omega arith) (omega arith)
+        report-exact l (refusalWord n) (omega arith) (omega arith) (omega arith) (omega arith)
         ∙ refused-count (eventsOf x) (row-fits x (requestsOf x)) n a h
 
-    pub answered-word : (r c : ℕ) → r ≤ 4 → c < 25 → wordIn written (20 + (25 * r + c)) ≡ howMany (answeredIn r c) (eventsOf x)
+    pub answered-word : (r c : ℕ) → r ≤ 4 → c < 25 → wordIn written (cellWord r c) ≡ howMany (answeredIn r c) (eventsOf x)
     answered-word r c h a =
-        report-exact l (20 + (25 * r + c)) (omega arith) (omega arith) (omega arith) (omega arith)
+        report-exact l (cellWord r c) (omega arith) (omega arith) (omega arith) (omega arith)
         ∙ answered-count (eventsOf x) (row-fits x (requestsOf x)) r c a
 
   -- the largest answer
-  pub largest-word : (p : Place (requestsOf x)) → answerLength (serve (callAt x p) .call) ≤ wordIn written 3
+  pub largest-word : (p : InTurn (requestsOf x)) → callLength (serve (callAt x p) .call) ≤ wordIn written largestWord
   largest-word p = rw report-largest (largest-least x (requestsOf x) p)
 
-  pub largest-word-one : (wordIn written 3 ≡ 0) ⊎ ((p : Place (requestsOf x)) × (answerLength (serve (callAt x p) .call) ≡ wordIn written 3))
+  pub largest-word-one : (wordIn written largestWord ≡ 0)
+      ⊎ ((p : InTurn (requestsOf x)) × (callLength (serve (callAt x p) .call) ≡ wordIn written largestWord))
   largest-word-one = rw report-largest (largest-one x (requestsOf x))

@@ -1,31 +1,21 @@
 -- The calls of a report in turn: two rows of them, the records altered, the largest answer.
-use Prim.Native.Nat.{ℕ, zero, suc, _+_, _*_, _≤_, max}
-use mathlib.Core.List.{List, [], _∷_, _++_}
-use mathlib.Core.Bool.{Bool, true, false, cond}
-use mathlib.Core.Path.{_≡_, refl, sym, ap, _∙_}
-use mathlib.Core.Logic.{_⊎_, inl, inr}
-use native.Mathlib.Omega.{arith}
-use lib.ListN.{length}
-use lib.Dec.{leb}
-use borrow.Author.Tests.{leb-true, leb-false}
-use Rattle.octets.specs.Name.{same}
-use Rattle.octets.proofs.Names.{same-refl}
-use Rattle.blocks.specs.Blocks.{blockOf}
-use Rattle.rewrite.specs.Change.{differ, alteredUpTo}
-use Rattle.fitting.proofs.Room.{answer-most}
+use Rattle.octets.specs.Standard.{ℕ, suc, _*_, _≤_, max, List, [], _∷_, _++_, Bool, true, false, _≡_, refl, sym, ap, _∙_, _⊎_, inl, inr, arith}
+use Rattle.octets.specs.Standard.{length, leb, leb-true, leb-false}
+use Rattle.rewrite.specs.Change.{alteredUpTo}
+use Rattle.deciding.proofs.Room.{answer-most}
 use Rattle.counting.specs.Counted.{alteredIn, largestIn}
-use Rattle.counting.specs.Counted as counted
 use Rattle.counting.specs.declared.Event.{Event}
 use Rattle.counting.proofs.Numbers.{largest-append}
-use Rattle.rewrite.proofs.Counts.{altered-none}
+use Rattle.rewrite.proofs.Counts.{altered-none, altered-most}
 use Rattle.calling.specs.Call.{Call, Answered, Refused}
-use Rattle.calling.specs.Lent.{Lent, asking}
+use Rattle.calling.specs.Lent.{Lent, asking, dialectIn}
 use Rattle.calling.specs.Serve.{Served, checkOf, checkValue, refused, answered, serve}
 use Rattle.calling.proofs.Calls.{size-least, size-most, length-even}
 use Rattle.calling.proofs.Kept.{serve-by}
 use Rattle.demands.proofs.Firm.{check-most}
 use Rattle.reporting.specs.Row.{recordsAltered, eventBy, eventOf, next, row, left}
-use Rattle.report_numbers.specs.Turns.{Place, callAt, answerLength, alteredOver}
+use Rattle.report_numbers.specs.Turns.{InTurn, callAt, callLength, alteredOver}
+use Rattle.counting.specs.Counted as counted
 
 -- Two rows of requests.
 pub row-append : (x : Lent) (ps qs : List (List ℕ)) → row x (ps ++ qs) ≡ row x ps ++ row (left x ps) qs
@@ -39,7 +29,7 @@ left-append x [] qs = refl
 left-append x (p ∷ ps) qs = left-append (next x p) ps qs
 
 -- the call of a request in its place
-pub row-at : (x : Lent) (ps : List (List ℕ)) (p : Place ps)
+pub row-at : (x : Lent) (ps : List (List ℕ)) (p : InTurn ps)
     → row x ps ≡ row x (p .before) ++ (eventOf (callAt x p) ∷ row (left x (p .before ++ (p .request ∷ []))) (p .after))
 unfolding row left
 row-at x ps p =
@@ -61,6 +51,11 @@ pub left-other : (x : Lent) (q : List ℕ) (ps : List (List ℕ)) → left (aski
 unfolding left next
 left-other x q [] = refl
 left-other x q (p ∷ ps) = left-other (next x p) q ps
+
+pub left-terms : (x : Lent) (ps : List (List ℕ)) → left x ps .terms ≡ x .terms
+unfolding left next
+left-terms x [] = refl
+left-terms x (p ∷ ps) = left-terms (next x p) ps
 
 pub left-profile : (x : Lent) (ps : List (List ℕ)) → left x ps .profile ≡ x .profile
 unfolding left next
@@ -85,15 +80,6 @@ row-altered x [] = refl
 row-altered x (p ∷ ps) = omega (arith, event-altered (asking x p), row-altered (next x p) ps)
 
 -- at most all of 4,096 a call
-altered-most : (t u : List ℕ) (n : ℕ) → alteredUpTo t u n ≤ n
-unfolding alteredUpTo differ
-altered-most t u zero = omega arith
-altered-most t u (suc n) = go (same (blockOf t (suc n)) (blockOf u (suc n))) (altered-most t u n)
-  where
-    go : (b : Bool) → alteredUpTo t u n ≤ n → alteredUpTo t u n + cond b 0 1 ≤ suc n
-    go true h = omega arith
-    go false h = omega arith
-
 pub over-most : (x : Lent) (ps : List (List ℕ)) → alteredOver x ps ≤ 4096 * length ps
 unfolding alteredOver
 over-most x [] = omega arith
@@ -107,29 +93,29 @@ over-most x (p ∷ ps) =
     )
 
 -- The largest answer.
-event-length : (x : Lent) → counted.answerLength (eventOf x) ≡ answerLength (serve x .call)
+event-length : (x : Lent) → counted.answerLength (eventOf x) ≡ callLength (serve x .call)
 unfolding eventOf
 event-length x = go (serve x .call)
   where
-    go : (c : Call) → counted.answerLength (eventBy x c) ≡ answerLength c
+    go : (c : Call) → counted.answerLength (eventBy x c) ≡ callLength c
     go (Answered a) = refl
     go (Refused number besides) = refl
 
-call-most : (x : Lent) → answerLength (serve x .call) ≤ 36864
+call-most : (x : Lent) → callLength (serve x .call) ≤ 36864
 unfolding refused answered
 call-most x =
     let req = x .request in
-    serve-by x (λ (s : Served). answerLength (s .call) ≤ 36864) (λ r a b. omega arith)
+    serve-by x (λ (s : Served). callLength (s .call) ≤ 36864) (λ r a b. omega arith)
     (λ k.
-    answer-most (x .table) (x .profile) (checkValue (checkOf x)) (record { file = length (x .profile); checked = k .table }) (x .vectors) (k .vectors) req
-    (size-least req (k .size)) (size-most req (k .size)) (length-even req (k .lengths)))
+    answer-most (x .table) (x .profile) (checkValue (checkOf x)) (record { file = length (x .profile); checked = k .table }) (x .vectors) req
+    (size-least req (k .size)) (size-most req (k .size)) (length-even req (k .lengths)) (dialectIn x) (k .vectors))
 
 pub largest-most : (x : Lent) (ps : List (List ℕ)) → largestIn (row x ps) ≤ 36864
 unfolding row largestIn
 largest-most x [] = omega arith
 largest-most x (p ∷ ps) = omega (arith, event-length (asking x p), call-most (asking x p), largest-most (next x p) ps)
 
-pub largest-least : (x : Lent) (ps : List (List ℕ)) (p : Place ps) → answerLength (serve (callAt x p) .call) ≤ largestIn (row x ps)
+pub largest-least : (x : Lent) (ps : List (List ℕ)) (p : InTurn ps) → callLength (serve (callAt x p) .call) ≤ largestIn (row x ps)
 unfolding row largestIn
 largest-least x ps p =
     let there : row x ps ≡ row x (p .before) ++ row (left x (p .before)) (p .request ∷ p .after) =
@@ -142,7 +128,7 @@ largest-least x ps p =
     )
 
 pub largest-one : (x : Lent) (ps : List (List ℕ))
-    → (largestIn (row x ps) ≡ 0) ⊎ ((p : Place ps) × (answerLength (serve (callAt x p) .call) ≡ largestIn (row x ps)))
+    → (largestIn (row x ps) ≡ 0) ⊎ ((p : InTurn ps) × (callLength (serve (callAt x p) .call) ≡ largestIn (row x ps)))
 unfolding row left largestIn
 largest-one x [] = inl refl
 largest-one x (p ∷ ps) = go (leb rest first) refl (largest-one (next x p) ps)
@@ -154,8 +140,8 @@ largest-one x (p ∷ ps) = go (leb rest first) refl (largest-one (next x p) ps)
     rest = largestIn (row (next x p) ps)
 
     go : (b : Bool) → leb rest first ≡ b
-        → (rest ≡ 0) ⊎ ((q : Place ps) × (answerLength (serve (callAt (next x p) q) .call) ≡ rest))
-        → (max first rest ≡ 0) ⊎ ((q : Place (p ∷ ps)) × (answerLength (serve (callAt x q) .call) ≡ max first rest))
+        → (rest ≡ 0) ⊎ ((q : InTurn ps) × (callLength (serve (callAt (next x p) q) .call) ≡ rest))
+        → (max first rest ≡ 0) ⊎ ((q : InTurn (p ∷ ps)) × (callLength (serve (callAt x q) .call) ≡ max first rest))
     go true e more =
         inr (
           record { before = []; request = p; after = ps; is = refl },

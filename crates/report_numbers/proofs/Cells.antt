@@ -1,16 +1,13 @@
 -- What a word from the sixth on counts: one refusal, or one result of one row of commands.
-use Prim.Native.Nat.{ℕ, suc, _+_, _*_, _≤_, _<_}
-use mathlib.Core.List.{List, [], _∷_}
-use mathlib.Core.Bool.{Bool, true, false, cond, _&&_, false≢true}
-use mathlib.Core.Path.{_≡_, refl, sym, ap, _∙_}
-use native.Mathlib.Omega.{arith}
-use lib.ListN.{length, getD}
-use lib.Dec.{eqb}
-use borrow.Author.Tests.{eqb-true, eq-eqb, ne-eqb, ltb-true}
+use Rattle.octets.specs.Standard.{ℕ, suc, _≤_, _<_, List, [], _∷_, Bool, true, false, cond, _&&_, false≢true, _≡_, refl, sym, ap, _∙_, arith, length}
+use Rattle.octets.specs.Standard.{getD, eqb, eqb-true, eq-eqb, ne-eqb, ltb-true}
+use Rattle.octets.proofs.All.{and-left, and-right}
+use Rattle.octets.proofs.Chains.{_also_}
 use Rattle.reading.specs.declared.Outcome.{Outcome}
 use Rattle.reading.specs.declared.Outcome.the-variants.{Base, Experimental}
-use Rattle.counting.specs.Results.{baseResults, experimentalResults, indexIn, rowOf, columnOf, listed, Listed}
+use Rattle.counting.specs.Results.{baseResults, experimentalResults, indexIn, commandRow, columnOf, listed, Listed}
 use Rattle.counting.specs.Counted.{cellOf, Fits, AllFit, standsIn, howMany, numberAt}
+use Rattle.counting.specs.Layout.{refusalWord, cellWord}
 use Rattle.counting.specs.declared.Event.{Event}
 use Rattle.counting.specs.declared.Event.the-variants.{Answered, Refused}
 use Rattle.counting.proofs.Columns.{listed-column}
@@ -27,49 +24,38 @@ pub same-test : (a b : ℕ) (c : Bool) → (a ≡ b → c ≡ true) → (c ≡ t
 same-test a b true f g = eq-eqb a b (g refl)
 same-test a b false f g = ne-eqb a b (λ e. let z : false ≡ true = f e in false≢true z)
 
-both : (a b : Bool) → a ≡ true → b ≡ true → (a && b) ≡ true
-both a b e f = rw (e, f)
-
-first-true : (a b : Bool) → (a && b) ≡ true → a ≡ true
-first-true true b e = refl
-first-true false b e = e
-
-second-true : (a b : Bool) → (a && b) ≡ true → b ≡ true
-second-true true b e = e
-second-true false b e = absurd (false≢true e)
-
-refused-there : (n : ℕ) → n ≤ 15 → (e : Event) → Fits e → standsIn (4 + n) e ≡ refusedBy n e
+refused-there : (n : ℕ) → n ≤ 15 → (e : Event) → Fits e → standsIn (refusalWord n) e ≡ refusedBy n e
 unfolding cellOf
 refused-there n h (Answered e) f =
-    let other : 20 + (25 * rowOf (e .command) + columnOf (e .result)) ≡ 4 + n → ⊥ = λ q. omega (arith, q) in
-    ne-eqb (20 + (25 * rowOf (e .command) + columnOf (e .result))) (4 + n) other
-refused-there n h (Refused m) f = same-test (4 + m) (4 + n) (eqb m n) (λ q. eq-eqb m n (omega (arith, q))) (λ q. omega (arith, eqb-true m n q))
+    let other : cellWord (commandRow (e .command)) (columnOf (e .result)) ≡ refusalWord n → ⊥ = λ q. omega (arith, q) in
+    ne-eqb (cellWord (commandRow (e .command)) (columnOf (e .result))) (refusalWord n) other
+refused-there n h (Refused m) f = same-test (refusalWord m) (refusalWord n) (eqb m n) (λ q. eq-eqb m n (omega (arith, q))) (λ q. omega (arith, eqb-true m n q))
 
-answered-there : (r c : ℕ) → c < 25 → (e : Event) → Fits e → standsIn (20 + (25 * r + c)) e ≡ answeredIn r c e
+answered-there : (r c : ℕ) → c < 25 → (e : Event) → Fits e → standsIn (cellWord r c) e ≡ answeredIn r c e
 unfolding cellOf
 answered-there r c h (Answered e) f =
-    let row = rowOf (e .command) in
+    let row = commandRow (e .command) in
     let column = columnOf (e .result) in
     let l : column < 25 = listed-column (e .result) f in
-    same-test (20 + (25 * row + column)) (20 + (25 * r + c)) (eqb row r && eqb column c)
-    (λ q. both (eqb row r) (eqb column c) (eq-eqb row r (omega (arith, q, l))) (eq-eqb column c (omega (arith, q, l))))
+    same-test (cellWord row column) (cellWord r c) (eqb row r && eqb column c)
+    (λ q. eq-eqb row r (omega (arith, q, l)) also eq-eqb column c (omega (arith, q, l)))
     (λ q.
     omega (
       arith,
-      eqb-true row r (first-true (eqb row r) (eqb column c) q),
-      eqb-true column c (second-true (eqb row r) (eqb column c) q),
+      eqb-true row r (and-left (eqb row r) (eqb column c) q),
+      eqb-true column c (and-right (eqb row r) (eqb column c) q),
     ))
 answered-there r c h (Refused m) f =
-    let other : 4 + m ≡ 20 + (25 * r + c) → ⊥ = λ q. omega (arith, q, f .1) in
-    ne-eqb (4 + m) (20 + (25 * r + c)) other
+    let other : refusalWord m ≡ cellWord r c → ⊥ = λ q. omega (arith, q, f .1) in
+    ne-eqb (refusalWord m) (cellWord r c) other
 
 module _ (es : List Event) (f : AllFit es) where
-  pub refused-count : (n : ℕ) → 1 ≤ n → n ≤ 15 → numberAt es (4 + n) ≡ howMany (refusedBy n) es
-  refused-count n l h = number-cell es (4 + n) (omega arith) ∙ many-alike (standsIn (4 + n)) (refusedBy n) es f (refused-there n h)
+  pub refused-count : (n : ℕ) → 1 ≤ n → n ≤ 15 → numberAt es (refusalWord n) ≡ howMany (refusedBy n) es
+  refused-count n l h = number-cell es (refusalWord n) (omega arith) ∙ many-alike (standsIn (refusalWord n)) (refusedBy n) es f (refused-there n h)
 
-  pub answered-count : (r c : ℕ) → c < 25 → numberAt es (20 + (25 * r + c)) ≡ howMany (answeredIn r c) es
+  pub answered-count : (r c : ℕ) → c < 25 → numberAt es (cellWord r c) ≡ howMany (answeredIn r c) es
   answered-count r c h =
-      number-cell es (20 + (25 * r + c)) (omega arith) ∙ many-alike (standsIn (20 + (25 * r + c))) (answeredIn r c) es f (answered-there r c h)
+      number-cell es (cellWord r c) (omega arith) ∙ many-alike (standsIn (cellWord r c)) (answeredIn r c) es f (answered-there r c h)
 
 -- "each result, B and X apart": no two have one column
 index-at : (n : ℕ) (xs : List ℕ) → indexIn n xs < length xs → getD xs (indexIn n xs) 0 ≡ n

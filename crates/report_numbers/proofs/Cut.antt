@@ -1,21 +1,16 @@
 -- A file of requests, and what is left at its end: it is cut into these.
-use Prim.Native.Nat.{ℕ, zero, suc, _+_, _*_, _≤_, _<_}
-use mathlib.Core.List.{List, [], _∷_, _++_, append-nil, append-assoc}
-use mathlib.Core.Bool.{Bool, true, false, cond, _||_, true≢false}
-use mathlib.Core.Path.{_≡_, refl, sym, ap, _∙_}
-use mathlib.Core.Logic.{_⊎_, inl, inr}
-use native.Mathlib.Omega.{arith}
-use lib.ListN.{length, take, drop, length-append, length-take, length-drop, take-append-drop, List·getD-append}
-use lib.Seq.{take-at, drop-at, take-append-seam, drop-append-seam}
-use lib.Dec.{ltb}
-use borrow.Author.Tests.{lt-ltb, le-ltb, ltb-true, ltb-false}
+use Rattle.octets.specs.Standard.{ℕ, zero, suc, _+_, _*_, _≤_, _<_, List, [], _∷_, _++_, append-nil, append-assoc, Bool, true, false, cond, _||_}
+use Rattle.octets.specs.Standard.{true≢false, _≡_, refl, sym, ap, _∙_, _⊎_, inl, inr, arith, length, take, drop, length-append, length-take}
+use Rattle.octets.specs.Standard.{length-drop, take-append-drop, List·getD-append, take-at, drop-at, take-append-seam, drop-append-seam, ltb, lt-ltb}
+use Rattle.octets.specs.Standard.{le-ltb, ltb-true, ltb-false}
 use Rattle.octets.specs.Number.{be24At}
 use Rattle.octets.proofs.Numbers.{be24-alike, be24-take}
 use Rattle.diameter.specs.Put.{All}
-use Rattle.fitting.proofs.Tests.{neither}
+use Rattle.deciding.proofs.Tests.{neither}
 use Rattle.reporting.specs.Pieces.{broken, piecesIn, pieces, totalOf, stopOf}
 use Rattle.reporting.proofs.Cutting.{pieces-none, pieces-first}
-use Rattle.report_numbers.specs.File.{OneRequest, joined, Breaks}
+use Rattle.octets.proofs.Parts.{nothing}
+use Rattle.report_numbers.specs.File.{OneRequest, endToEnd, BrokenOff}
 
 -- a request stands first
 module _ (p : List ℕ) (one : OneRequest p) (rest : List ℕ) where
@@ -38,11 +33,11 @@ module _ (p : List ℕ) (one : OneRequest p) (rest : List ℕ) where
   pub pieces-more : pieces (p ++ rest) ≡ p ∷ pieces rest
   pieces-more = pieces-first (p ++ rest) one-stands ∙ rw (length-first, take-append-seam p rest, drop-append-seam p rest)
 
-pub pieces-joined : (ps : List (List ℕ)) → All OneRequest ps → (rest : List ℕ) → pieces (joined ps ++ rest) ≡ ps ++ pieces rest
-unfolding joined
+pub pieces-joined : (ps : List (List ℕ)) → All OneRequest ps → (rest : List ℕ) → pieces (endToEnd ps ++ rest) ≡ ps ++ pieces rest
+unfolding endToEnd
 pieces-joined [] a rest = refl
 pieces-joined (p ∷ ps) a rest =
-    rw (append-assoc p (joined ps) rest) (pieces-more p (a .0) (joined ps ++ rest) ∙ ap (λ (qs : List (List ℕ)). p ∷ qs) (pieces-joined ps (a .1) rest))
+    rw (append-assoc p (endToEnd ps) rest) (pieces-more p (a .0) (endToEnd ps ++ rest) ∙ ap (λ (qs : List (List ℕ)). p ∷ qs) (pieces-joined ps (a .1) rest))
 
 -- no request stands first in what is broken
 module _ (s : List ℕ) where
@@ -56,7 +51,7 @@ module _ (s : List ℕ) where
       let l : length (take (be24At s 1) s) ≡ be24At s 1 = length-take (be24At s 1) s ∙ omega arith in
       record { own = be24-take s (be24At s 1) 1 (omega arith) ∙ sym l; least = omega arith }
 
-  pub broken-by : 1 ≤ length s → broken s ≡ true → Breaks s
+  pub broken-by : 1 ≤ length s → broken s ≡ true → BrokenOff s
   unfolding broken
   broken-by some e = record { some = some; by = go (ltb (length s) 4) (ltb (be24At s 1) 20) (ltb (length s) (be24At s 1)) refl refl refl e }
     where
@@ -67,7 +62,7 @@ module _ (s : List ℕ) where
       go false false true f g h z = inr (inr (ltb-true (length s) (be24At s 1) h))
       go false false false f g h z = absurd (true≢false (sym z))
 
-  pub breaks-broken : Breaks s → broken s ≡ true
+  pub breaks-broken : BrokenOff s → broken s ≡ true
   unfolding broken
   breaks-broken b = go (b .by)
     where
@@ -92,16 +87,16 @@ module _ (s : List ℕ) where
 -- every file is its pieces and what is left
 record Laid (s : List ℕ) (ps : List (List ℕ)) : Type 0 where
   rest : List ℕ
-  file : s ≡ joined ps ++ rest
+  file : s ≡ endToEnd ps ++ rest
   all : All OneRequest ps
   ends : broken rest ≡ true
 
 none-laid : (s : List ℕ) → broken s ≡ true → Laid s []
-unfolding joined
+unfolding endToEnd
 none-laid s e = record { rest = s; file = refl; all = tt; ends = e }
 
 laid-in : (n : ℕ) (s : List ℕ) → length s ≤ n → Laid s (piecesIn n s)
-unfolding piecesIn joined
+unfolding piecesIn endToEnd
 laid-in zero s h = none-laid s (empty-broken s h)
 laid-in (suc n) s h = go (broken s) refl (laid-in n (drop (be24At s 1) s))
   where
@@ -118,7 +113,7 @@ laid-in (suc n) s h = go (broken s) refl (laid-in n (drop (be24At s 1) s))
           file =
               sym (take-append-drop (be24At s 1) s)
               ∙ ap (λ (r : List ℕ). take (be24At s 1) s ++ r) (d .file)
-              ∙ sym (append-assoc (take (be24At s 1) s) (joined (piecesIn n (drop (be24At s 1) s))) (d .rest));
+              ∙ sym (append-assoc (take (be24At s 1) s) (endToEnd (piecesIn n (drop (be24At s 1) s))) (d .rest));
           all = (one, d .all);
           ends = d .ends;
         }
@@ -126,20 +121,20 @@ laid-in (suc n) s h = go (broken s) refl (laid-in n (drop (be24At s 1) s))
 laid : (s : List ℕ) → Laid s (pieces s)
 laid s = laid-in (length s) s (omega arith)
 
-pub total-joined : (ps : List (List ℕ)) → length (joined ps) ≡ totalOf ps
-unfolding joined totalOf
+pub total-joined : (ps : List (List ℕ)) → length (endToEnd ps) ≡ totalOf ps
+unfolding endToEnd totalOf
 total-joined [] = refl
-total-joined (p ∷ ps) = length-append p (joined ps) ∙ ap (λ (n : ℕ). length p + n) (total-joined ps)
+total-joined (p ∷ ps) = length-append p (endToEnd ps) ∙ ap (λ (n : ℕ). length p + n) (total-joined ps)
 
 module _ (s : List ℕ) where
   pub pieces-one : All OneRequest (pieces s)
   pieces-one = laid s .all
 
-  pub pieces-end : joined (pieces s) ≡ take (stopOf s) s
-  pieces-end = let d = laid s in sym (ap (take (stopOf s)) (d .file) ∙ take-at (joined (pieces s)) (d .rest) (stopOf s) (total-joined (pieces s)))
+  pub pieces-end : endToEnd (pieces s) ≡ take (stopOf s) s
+  pieces-end = let d = laid s in sym (ap (take (stopOf s)) (d .file) ∙ take-at (endToEnd (pieces s)) (d .rest) (stopOf s) (total-joined (pieces s)))
 
   rest-is : drop (stopOf s) s ≡ laid s .rest
-  rest-is = let d = laid s in ap (drop (stopOf s)) (d .file) ∙ drop-at (joined (pieces s)) (d .rest) (stopOf s) (total-joined (pieces s))
+  rest-is = let d = laid s in ap (drop (stopOf s)) (d .file) ∙ drop-at (endToEnd (pieces s)) (d .rest) (stopOf s) (total-joined (pieces s))
 
   pub stop-broken : broken (drop (stopOf s) s) ≡ true
   stop-broken = ap broken rest-is ∙ laid s .ends
@@ -147,7 +142,7 @@ module _ (s : List ℕ) where
   pub stop-within : stopOf s ≤ length s
   stop-within =
       let d = laid s in
-      let l : length s ≡ length (joined (pieces s)) + length (d .rest) = ap length (d .file) ∙ length-append (joined (pieces s)) (d .rest) in
+      let l : length s ≡ length (endToEnd (pieces s)) + length (d .rest) = ap length (d .file) ∙ length-append (endToEnd (pieces s)) (d .rest) in
       omega (arith, l, total-joined (pieces s))
 
   -- what is left where reading stops
@@ -165,10 +160,10 @@ few-pieces s = omega (arith, few (pieces s) (pieces-one s), stop-within s)
 
 -- requests, and then what is broken
 module _ (ps : List (List ℕ)) (all : All OneRequest ps) (rest : List ℕ) (b : broken rest ≡ true) where
-  pub cut-pieces : pieces (joined ps ++ rest) ≡ ps
+  pub cut-pieces : pieces (endToEnd ps ++ rest) ≡ ps
   cut-pieces = pieces-joined ps all rest ∙ ap (λ (qs : List (List ℕ)). ps ++ qs) (pieces-none rest b) ∙ append-nil ps
 
-  pub cut-stop : stopOf (joined ps ++ rest) ≡ length (joined ps)
+  pub cut-stop : stopOf (endToEnd ps ++ rest) ≡ length (endToEnd ps)
   cut-stop = ap totalOf cut-pieces ∙ sym (total-joined ps)
 
 -- one request
@@ -183,15 +178,11 @@ module _ (p : List ℕ) (one : OneRequest p) where
 
 -- two files, the first used up
 module _ (s more : List ℕ) (whole : stopOf s ≡ length s) where
-  used-file : joined (pieces s) ≡ s
+  used-file : endToEnd (pieces s) ≡ s
   used-file =
       let d = laid s in
       let z : length (d .rest) ≤ 0 = omega (arith, ap length (rest-is s), rest-length s) in
-      sym (d .file ∙ ap (λ (r : List ℕ). joined (pieces s) ++ r) (nothing (d .rest) z) ∙ append-nil (joined (pieces s)))
-    where
-      nothing : (r : List ℕ) → length r ≤ 0 → r ≡ []
-      nothing [] h = refl
-      nothing (b ∷ bs) h = absurd (omega arith)
+      sym (d .file ∙ ap (λ (r : List ℕ). endToEnd (pieces s) ++ r) (nothing (d .rest) z) ∙ append-nil (endToEnd (pieces s)))
 
   pub two-pieces : pieces (s ++ more) ≡ pieces s ++ pieces more
   two-pieces = ap (λ (r : List ℕ). pieces (r ++ more)) (sym used-file) ∙ pieces-joined (pieces s) (pieces-one s) more

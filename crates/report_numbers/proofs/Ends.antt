@@ -1,20 +1,13 @@
 -- How a report ends: by 0, 7 or 15.
-use Prim.Native.Nat.{ℕ, _+_, _≤_, _<_}
-use mathlib.Core.List.{List, [], _++_, append-nil}
-use mathlib.Core.Bool.{Bool, true, false, cond}
-use mathlib.Core.Path.{_≡_, refl, sym, ap, _∙_}
-use native.Mathlib.Omega.{arith}
-use lib.ListN.{length, drop, length-append}
-use lib.Seq.{take-all}
-use lib.Dec.{eqb, ltb}
-use borrow.Author.Tests.{lt-ltb, le-ltb, eq-eqb, eqb-true, eqb-false, ltb-true}
+use Rattle.octets.specs.Standard.{ℕ, _+_, _≤_, _<_, List, [], _++_, append-nil, Bool, true, false, cond, _≡_, refl, sym, ap, _∙_, arith, length, drop}
+use Rattle.octets.specs.Standard.{length-append, take-all, eqb, ltb, lt-ltb, le-ltb, eq-eqb, eqb-true, eqb-false, ltb-true}
 use Rattle.diameter.specs.Put.{All}
 use Rattle.calling.specs.Lent.{Lent}
 use Rattle.reporting.specs.Pieces.{broken, pieces, stopOf}
 use Rattle.reporting.specs.Report.{requestsOf, ended, ran, reported}
-use Rattle.report_numbers.specs.File.{OneRequest, joined, Breaks}
-use Rattle.report_numbers.proofs.Cut.{empty-broken, pieces-end, total-joined, stop-broken, stop-within, rest-length}
-use Rattle.report_numbers.proofs.Cut.{broken-by, breaks-broken, cut-pieces, cut-stop}
+use Rattle.report_numbers.specs.File.{OneRequest, endToEnd, BrokenOff}
+use Rattle.report_numbers.proofs.Cut.{empty-broken, pieces-end, total-joined, stop-broken, stop-within, rest-length, broken-by, breaks-broken}
+use Rattle.report_numbers.proofs.Cut.{cut-pieces, cut-stop}
 
 module _ (x : Lent) (area : List ℕ) where
   pub area-short : length area < 1160
@@ -73,14 +66,14 @@ module _ (x : Lent) (area : List ℕ) where
     stop-zero e = eqb-true (reported x area .number) 0 (zero-exactly ∙ eq-eqb (stopOf s) (length s) e)
 
     -- 0: the requests are the whole file
-    pub zero-file : reported x area .number ≡ 0 → joined (requestsOf x) ≡ s
+    pub zero-file : reported x area .number ≡ 0 → endToEnd (requestsOf x) ≡ s
     zero-file e = pieces-end s ∙ take-all (stopOf s) s (omega (arith, zero-stop e))
 
-    pub file-zero : joined (requestsOf x) ≡ s → reported x area .number ≡ 0
+    pub file-zero : endToEnd (requestsOf x) ≡ s → reported x area .number ≡ 0
     file-zero e = stop-zero (sym (total-joined (pieces s)) ∙ ap length e)
 
     -- 7: what is left breaks
-    pub seven-breaks : reported x area .number ≡ 7 → Breaks (drop (stopOf s) s)
+    pub seven-breaks : reported x area .number ≡ 7 → BrokenOff (drop (stopOf s) s)
     seven-breaks e =
         let l : stopOf s < length s = ltb-true (stopOf s) (length s) (sym seven-exactly ∙ eq-eqb (reported x area .number) 7 e) in
         broken-by (drop (stopOf s) s) (omega (arith, rest-length s, l)) (stop-broken s)
@@ -89,16 +82,16 @@ module _ (x : Lent) (area : List ℕ) where
     left-seven l = eqb-true (reported x area .number) 7 (seven-exactly ∙ lt-ltb (stopOf s) (length s) l)
 
     -- requests laid end to end, and then what breaks; or nothing more
-    module _ (ps : List (List ℕ)) (all : All OneRequest ps) (rest : List ℕ) (is : s ≡ joined ps ++ rest) where
-      pub breaks-seven : Breaks rest → (requestsOf x ≡ ps) × (stopOf s ≡ length (joined ps)) × (reported x area .number ≡ 7)
+    module _ (ps : List (List ℕ)) (all : All OneRequest ps) (rest : List ℕ) (is : s ≡ endToEnd ps ++ rest) where
+      pub breaks-seven : BrokenOff rest → (requestsOf x ≡ ps) × (stopOf s ≡ length (endToEnd ps)) × (reported x area .number ≡ 7)
       breaks-seven b =
           let e = breaks-broken rest b in
-          let c : stopOf s ≡ length (joined ps) = ap stopOf is ∙ cut-stop ps all rest e in
-          let l : length s ≡ length (joined ps) + length rest = ap length is ∙ length-append (joined ps) rest in
+          let c : stopOf s ≡ length (endToEnd ps) = ap stopOf is ∙ cut-stop ps all rest e in
+          let l : length s ≡ length (endToEnd ps) + length rest = ap length is ∙ length-append (endToEnd ps) rest in
           (ap pieces is ∙ cut-pieces ps all rest e, c, left-seven (omega (arith, c, l, b .some)))
 
-    pub requests-zero : (ps : List (List ℕ)) → All OneRequest ps → s ≡ joined ps → (requestsOf x ≡ ps) × (reported x area .number ≡ 0)
+    pub requests-zero : (ps : List (List ℕ)) → All OneRequest ps → s ≡ endToEnd ps → (requestsOf x ≡ ps) × (reported x area .number ≡ 0)
     requests-zero ps all is =
         let e : broken [] ≡ true = empty-broken [] (omega arith) in
-        let f : s ≡ joined ps ++ [] = is ∙ sym (append-nil (joined ps)) in
+        let f : s ≡ endToEnd ps ++ [] = is ∙ sym (append-nil (endToEnd ps)) in
         (ap pieces f ∙ cut-pieces ps all [] e, stop-zero (ap stopOf f ∙ cut-stop ps all [] e ∙ ap length (sym is)))

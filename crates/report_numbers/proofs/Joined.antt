@@ -1,15 +1,8 @@
 -- Reports over one request, and over two files, one behind the other.
-use Prim.Native.Nat.{ℕ, _+_, _%_, _^_, _≤_, _<_, max}
-use mathlib.Core.Bool.{Bool, cond}
-use mathlib.Core.List.{List, [], _∷_, _++_}
-use mathlib.Core.Path.{_≡_, refl, sym, ap, _∙_}
-use mathlib.Core.Logic.{_≢_}
-use native.Mathlib.Omega.{arith}
-use native.Mathlib.Nat.{add-mod}
-use lib.ListN.{length, length-append}
-use lib.Dec.{eqb}
-use borrow.Author.Tests.{eq-eqb, eqb-true}
+use Rattle.octets.specs.Standard.{ℕ, _+_, _%_, _^_, _≤_, _<_, max, Bool, cond, List, [], _∷_, _++_, _≡_, refl, sym, ap, _∙_, _≢_, arith, add-mod}
+use Rattle.octets.specs.Standard.{length, length-append, eqb, eq-eqb, eqb-true}
 use Rattle.counting.specs.Counted.{largestIn, numberAt}
+use Rattle.counting.specs.Layout.{stopWord, largestWord}
 use Rattle.counting.specs.declared.Event.{Event}
 use Rattle.counting.proofs.Numbers.{number-append, largest-append, word-other}
 use Rattle.calling.specs.Lent.{Lent, asking}
@@ -22,7 +15,7 @@ use Rattle.report_numbers.specs.Area.{wordIn}
 use Rattle.report_numbers.specs.File.{OneRequest}
 use Rattle.report_numbers.specs.Turns.{eventsOf, goingOn}
 use Rattle.report_numbers.proofs.Area.{report-word, report-place, report-largest}
-use Rattle.report_numbers.proofs.Calls.{row-append, left-append, row-other, left-other, left-profile}
+use Rattle.report_numbers.proofs.Calls.{row-append, left-append, row-other, left-other, left-profile, left-terms}
 use Rattle.report_numbers.proofs.Cells.{same-test}
 use Rattle.report_numbers.proofs.Cut.{one-piece, one-stop, two-pieces, total-append}
 use Rattle.report_numbers.proofs.Ends.{area-long, stop-zero, zero-stop}
@@ -66,7 +59,7 @@ module _ (x : Lent) (more area : List ℕ) (room : 1160 ≤ length area) (whole 
 
   goes-on : asking (left x (requestsOf x)) more ≡ second
   unfolding ran
-  goes-on = rw (area-long x area room, left-profile x (requestsOf x))
+  goes-on = rw (area-long x area room, left-profile x (requestsOf x), left-terms x (requestsOf x))
 
   pub two-events : eventsOf both ≡ eventsOf x ++ eventsOf second
   two-events =
@@ -114,7 +107,7 @@ module _ (x : Lent) (more area : List ℕ) (room : 1160 ≤ length area) (whole 
       ap (λ (y : Lent). y .buffer) two-left,
     )
 
-    pub two-words : (i : ℕ) → i < 145 → i ≢ 1 → i ≢ 3
+    pub two-words : (i : ℕ) → i < 145 → i ≢ stopWord → i ≢ largestWord
         → wordIn (reported both area .area) i ≡ (wordIn (reported x area .area) i + wordIn (reported second again .area) i) % 2 ^ 64
     two-words i h m n =
         report-word both area room i h m
@@ -124,7 +117,8 @@ module _ (x : Lent) (more area : List ℕ) (room : 1160 ≤ length area) (whole 
         ∙ add-mod (numberAt (eventsOf x) i) (numberAt (eventsOf second) i) (2 ^ 64)
         ∙ rw (report-word x area room i h m, report-word second again space i h m, word-other (eventsOf x) i n, word-other (eventsOf second) i n)
 
-    pub two-largest : wordIn (reported both area .area) 3 ≡ max (wordIn (reported x area .area) 3) (wordIn (reported second again .area) 3)
+    pub two-largest : wordIn (reported both area .area) largestWord
+        ≡ max (wordIn (reported x area .area) largestWord) (wordIn (reported second again .area) largestWord)
     two-largest =
         report-largest both area room
         ∙ ap largestIn two-events
@@ -132,7 +126,7 @@ module _ (x : Lent) (more area : List ℕ) (room : 1160 ≤ length area) (whole 
         ∙ rw (report-largest x area room, report-largest second again space)
 
     pub two-place : length (x .request ++ more) < 2 ^ 64
-        → wordIn (reported both area .area) 1 ≡ wordIn (reported x area .area) 1 + wordIn (reported second again .area) 1
+        → wordIn (reported both area .area) stopWord ≡ wordIn (reported x area .area) stopWord + wordIn (reported second again .area) stopWord
     two-place l =
         let n : length (x .request ++ more) ≡ length (x .request) + length more = length-append (x .request) more in
         report-place both area room l

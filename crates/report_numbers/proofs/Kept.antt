@@ -1,19 +1,13 @@
 -- Demand 2 over a row of calls: what stays sound, and what stays as it came.
-use Prim.Native.Nat.{ℕ, _≤_, _<_}
-use mathlib.Core.List.{List, [], _∷_}
-use mathlib.Core.Bool.{Bool, true, false, not, _||_, _&&_, or-true, true≢false}
-use mathlib.Core.Path.{_≡_, refl, sym, ap, _∙_}
-use native.Mathlib.Omega.{arith}
-use lib.ListN.{length, getD}
-use lib.Dec.{eqb, ltb}
-use borrow.Author.Tests.{eqb-false, lt-ltb, ltb-true, ltb-false}
+use Rattle.octets.specs.Standard.{ℕ, _≤_, _<_, List, [], _∷_, Bool, true, false, not, _||_, _&&_, or-true, true≢false, _≡_, refl, sym, ap, _∙_, arith}
+use Rattle.octets.specs.Standard.{length, getD, eqb, ltb, eqb-false, lt-ltb, ltb-true, ltb-false}
 use Rattle.blocks.specs.Blocks.{blockOf}
 use Rattle.table.specs.Check.{checkTable}
 use Rattle.blocks.specs.declared.Checked.the-variants.{Sound, Bad}
 use Rattle.vectors.specs.VectorFile.{checkVectors}
 use Rattle.rewrite.specs.Change.{alterable}
 use Rattle.diameter.specs.Message.{commandOf}
-use Rattle.fitting.proofs.Tests.{neither}
+use Rattle.deciding.proofs.Tests.{neither}
 use Rattle.counting.specs.declared.Event.{Event}
 use Rattle.calling.specs.Lent.{Lent, asking}
 use Rattle.calling.specs.Trial.{anyHolds}

@@ -1,13 +1,8 @@
 -- The month's numbers, as theorems about `reported`: the number, the table, the vectors, the buffer and the area of a report, for anything lent. The file of
 -- requests is lent as the request. What the words below mean is in specs/File (a file of requests), specs/Turns (the calls) and specs/Area (the words
 -- read back).
-use Prim.Native.Nat.{ℕ, _+_, _*_, _%_, _^_, _≤_, _<_, max}
-use mathlib.Core.List.{List, [], _∷_, _++_}
-use mathlib.Core.Bool.{true, false}
-use mathlib.Core.Path.{_≡_}
-use mathlib.Core.Logic.{_⊎_, _≢_}
-use lib.ListN.{length, getD, take, drop}
-use lib.Dec.{eqb, ltb}
+use Rattle.octets.specs.Standard.{ℕ, _+_, _*_, _%_, _^_, _≤_, _<_, max, List, [], _∷_, _++_, true, false, _≡_, refl, _⊎_, inl, inr, _≢_, length, getD}
+use Rattle.octets.specs.Standard.{take, drop, eqb, ltb}
 use Rattle.blocks.specs.Blocks.{blockOf}
 use Rattle.table.specs.Check.{checkTable}
 use Rattle.blocks.specs.declared.Checked.the-variants.{Sound, Bad}
@@ -17,20 +12,22 @@ use Rattle.reading.specs.declared.Outcome.{Outcome}
 use Rattle.diameter.specs.Put.{All}
 use Rattle.counting.specs.Results.{columnOf, Listed}
 use Rattle.counting.specs.Counted.{howMany, numberAt, wordAt}
+use Rattle.counting.specs.Layout.{readWord, stopWord, alteredWord, largestWord, answeredWord, refusalWord, cellWord}
 use Rattle.counting.specs.Words.{longBytes}
 use Rattle.calling.specs.Lent.{Lent, asking}
-use Rattle.calling.specs.Serve.{checkOf, serve}
-use Rattle.ndushavire.specs.Reads.{numberIn, placeIn, valueIn}
+use Rattle.calling.specs.Serve.{checkOf, serve, resultOf}
+use Rattle.ndushavire.specs.Word.{numberIn, placeIn, valueIn}
 use Rattle.ndushavire.specs.Promise.{DecidePromise, ReportPromise}
 use Rattle.reporting.specs.Pieces.{stopOf}
 use Rattle.reporting.specs.Row.{eventOf, row, left}
 use Rattle.reporting.specs.Report.{requestsOf, wordsOf, reported}
 use Rattle.report_numbers.specs.Area.{wordIn, rowsIn, refusalsIn}
-use Rattle.report_numbers.specs.File.{OneRequest, joined, Breaks}
-use Rattle.report_numbers.specs.Turns.{eventsOf, Place, callAt, refusedBy, answeredIn, answerLength, alteredOver, allIdle, goingOn}
+use Rattle.report_numbers.specs.File.{OneRequest, endToEnd, BrokenOff}
+use Rattle.report_numbers.specs.Turns.{eventsOf, InTurn, callAt, refusedBy, answeredIn, callLength, alteredOver, allIdle, goingOn}
 use Rattle.report_numbers.proofs.Area as area
 use Rattle.report_numbers.proofs.Calls as calls
 use Rattle.report_numbers.proofs.Cells as cells
+use Rattle.report_numbers.proofs.Columns as columns
 use Rattle.report_numbers.proofs.Cut as cut
 use Rattle.report_numbers.proofs.Ends as ends
 use Rattle.report_numbers.proofs.Firm as firm
@@ -50,7 +47,7 @@ report-meant x a p = (firm.report-is x a p, firm.report-besides x a p .0, firm.r
 -- "A REPORT OVER A FILE OF MANY REQUESTS LAID END TO END": the requests are the file up to the byte where reading stops, and each of them is one request by
 -- the length in its header. What is left there is no request.
 module _ (x : Lent) where
-  pub report-file : joined (requestsOf x) ≡ take (stopOf (x .request)) (x .request)
+  pub report-file : endToEnd (requestsOf x) ≡ take (stopOf (x .request)) (x .request)
   report-file = cut.pieces-end (x .request)
 
   pub report-each : All OneRequest (requestsOf x)
@@ -61,7 +58,7 @@ module _ (x : Lent) where
 
   -- "The numbers are those of the definitions run over the requests in turn, table and vectors carried along": a request in its place is counted as the call
   -- that `serve` makes of it over what those before it left.
-  pub report-event : (p : Place (requestsOf x))
+  pub report-event : (p : InTurn (requestsOf x))
       → eventsOf x ≡ row x (p .before) ++ (eventOf (callAt x p) ∷ row (left x (p .before ++ (p .request ∷ []))) (p .after))
   report-event = calls.row-at x (requestsOf x)
 
@@ -78,10 +75,10 @@ module _ (x : Lent) (a : List ℕ) (room : 1160 ≤ length a) where
   report-length = area.report-length x a
 
   -- Word 1 is the byte where reading stopped, and every other counts over the row of `serve`'s outcomes.
-  pub report-place : length (x .request) < 2 ^ 64 → wordIn (reported x a .area) 1 ≡ stopOf (x .request)
+  pub report-place : length (x .request) < 2 ^ 64 → wordIn (reported x a .area) stopWord ≡ stopOf (x .request)
   report-place = area.report-place x a room
 
-  pub report-word : (i : ℕ) → i < 145 → i ≢ 1 → wordIn (reported x a .area) i ≡ wordAt (eventsOf x) i
+  pub report-word : (i : ℕ) → i < 145 → i ≢ stopWord → wordIn (reported x a .area) i ≡ wordAt (eventsOf x) i
   report-word = area.report-word x a room
 
   -- "Counts of 64 bits": there are fewer requests than bytes, so of a file under 2^64 bytes a count is the number itself.
@@ -89,43 +86,54 @@ module _ (x : Lent) (a : List ℕ) (room : 1160 ≤ length a) where
   report-few = cut.few-pieces (x .request)
 
   module _ (short : length (x .request) < 2 ^ 64) where
-    pub report-count : (i : ℕ) → i < 145 → i ≢ 1 → i ≢ 2 → i ≢ 3 → wordIn (reported x a .area) i ≡ numberAt (eventsOf x) i
+    pub report-count : (i : ℕ) → i < 145 → i ≢ stopWord → i ≢ alteredWord → i ≢ largestWord → wordIn (reported x a .area) i ≡ numberAt (eventsOf x) i
     report-count = area.report-exact x a room short
 
-    pub report-read : wordIn (reported x a .area) 0 ≡ length (requestsOf x)
+    pub report-read : wordIn (reported x a .area) readWord ≡ length (requestsOf x)
     report-read = area.report-read x a room short
 
     -- "for each refusal, how many", and "for each command (300 to 303, the rest as one) and each result, B and X apart, how many".
-    pub report-refused : (n : ℕ) → 1 ≤ n → n ≤ 15 → wordIn (reported x a .area) (4 + n) ≡ howMany (refusedBy n) (eventsOf x)
+    pub report-refused : (n : ℕ) → 1 ≤ n → n ≤ 15 → wordIn (reported x a .area) (refusalWord n) ≡ howMany (refusedBy n) (eventsOf x)
     report-refused n l h = area.refused-word x a room short n l h
 
-    pub report-answered : (r c : ℕ) → r ≤ 4 → c < 25 → wordIn (reported x a .area) (20 + (25 * r + c)) ≡ howMany (answeredIn r c) (eventsOf x)
+    pub report-answered : (r c : ℕ) → r ≤ 4 → c < 25 → wordIn (reported x a .area) (cellWord r c) ≡ howMany (answeredIn r c) (eventsOf x)
     report-answered r c h l = area.answered-word x a room short r c h l
 
     -- "THE ROW TOTALS ADD UP TO THE REQUESTS READ": the five rows and the refusals 1 to 15; the rows alone are the requests answered.
-    pub report-totals : rowsIn (reported x a .area) + refusalsIn (reported x a .area) ≡ wordIn (reported x a .area) 0
+    pub report-totals : rowsIn (reported x a .area) + refusalsIn (reported x a .area) ≡ wordIn (reported x a .area) readWord
     report-totals = area.report-totals x a room short
 
-    pub report-rows : rowsIn (reported x a .area) ≡ wordIn (reported x a .area) 4
+    pub report-rows : rowsIn (reported x a .area) ≡ wordIn (reported x a .area) answeredWord
     report-rows = area.report-rows x a room short
+
+  -- Column B5012 of the rows 300 and 302 is 0 in every report: 02 [7] has shown that no UAR and no LIR comes to it.
+  pub report-unable : (wordIn (reported x a .area) 31 ≡ 0) × (wordIn (reported x a .area) 81 ≡ 0)
+  report-unable = (columns.unable-word 0 (inl refl) x a room, columns.unable-word 2 (inr refl) x a room)
 
   -- "RECORDS ALTERED, ONCE PER REQUEST": the sum over the calls of how many records have other bytes after each; its remainder by 2^64, which is the sum
   -- itself of a file under 2^56 bytes.
-  pub report-altered : wordIn (reported x a .area) 2 ≡ alteredOver x (requestsOf x) % 2 ^ 64
+  pub report-altered : wordIn (reported x a .area) alteredWord ≡ alteredOver x (requestsOf x) % 2 ^ 64
   report-altered = area.report-altered x a room
 
-  pub report-altered-exact : length (x .request) < 2 ^ 56 → wordIn (reported x a .area) 2 ≡ alteredOver x (requestsOf x)
+  pub report-altered-exact : length (x .request) < 2 ^ 56 → wordIn (reported x a .area) alteredWord ≡ alteredOver x (requestsOf x)
   report-altered-exact = area.report-altered-exact x a room
 
   -- "AND THE LARGEST ANSWER": none is longer, and it is one of them, or 0.
-  pub report-largest : (p : Place (requestsOf x)) → answerLength (serve (callAt x p) .call) ≤ wordIn (reported x a .area) 3
+  pub report-largest : (p : InTurn (requestsOf x)) → callLength (serve (callAt x p) .call) ≤ wordIn (reported x a .area) largestWord
   report-largest = area.largest-word x a room
 
-  pub report-largest-one : (wordIn (reported x a .area) 3 ≡ 0)
-      ⊎ ((p : Place (requestsOf x)) × (answerLength (serve (callAt x p) .call) ≡ wordIn (reported x a .area) 3))
+  pub report-largest-one : (wordIn (reported x a .area) largestWord ≡ 0)
+      ⊎ ((p : InTurn (requestsOf x)) × (callLength (serve (callAt x p) .call) ≡ wordIn (reported x a .area) largestWord))
   report-largest-one = area.largest-word-one x a room
 
--- No two results have one column.
+-- "each result, B and X apart": the result of every call has a column, and two results have two.
+pub report-column : (x : Lent) → columnOf (resultOf x) < 25
+report-column = columns.column-within
+
+pub report-own-column : (x y : Lent) → columnOf (resultOf x) ≡ columnOf (resultOf y) → resultOf x ≡ resultOf y
+report-own-column = columns.column-own
+
+-- No two results that have a column have the same.
 pub report-columns : (o p : Outcome) → Listed o → Listed p → columnOf o ≡ columnOf p → o ≡ p
 report-columns = cells.columns-apart
 
@@ -142,10 +150,10 @@ module _ (x : Lent) (a : List ℕ) where
     pub report-0 : eqb (reported x a .number) 0 ≡ eqb (stopOf (x .request)) (length (x .request))
     report-0 = ends.zero-exactly x a room
 
-    pub report-0-file : reported x a .number ≡ 0 → joined (requestsOf x) ≡ x .request
+    pub report-0-file : reported x a .number ≡ 0 → endToEnd (requestsOf x) ≡ x .request
     report-0-file = ends.zero-file x a room
 
-    pub report-0-whole : (ps : List (List ℕ)) → All OneRequest ps → x .request ≡ joined ps → (requestsOf x ≡ ps) × (reported x a .number ≡ 0)
+    pub report-0-whole : (ps : List (List ℕ)) → All OneRequest ps → x .request ≡ endToEnd ps → (requestsOf x ≡ ps) × (reported x a .number ≡ 0)
     report-0-whole = ends.requests-zero x a room
 
     -- "1 to 3 bytes left, or a header length under 20 or past the file, end the report with the place": by 7 exactly if bytes are left where reading stops,
@@ -153,12 +161,12 @@ module _ (x : Lent) (a : List ℕ) where
     pub report-7 : eqb (reported x a .number) 7 ≡ ltb (stopOf (x .request)) (length (x .request))
     report-7 = ends.seven-exactly x a room
 
-    pub report-7-breaks : reported x a .number ≡ 7 → Breaks (drop (stopOf (x .request)) (x .request))
+    pub report-7-breaks : reported x a .number ≡ 7 → BrokenOff (drop (stopOf (x .request)) (x .request))
     report-7-breaks = ends.seven-breaks x a room
 
     -- .. and requests laid end to end with such bytes behind them are read up to these, and no further.
-    pub report-7-broken : (ps : List (List ℕ)) → All OneRequest ps → (rest : List ℕ) → x .request ≡ joined ps ++ rest → Breaks rest
-        → (requestsOf x ≡ ps) × (stopOf (x .request) ≡ length (joined ps)) × (reported x a .number ≡ 7)
+    pub report-7-broken : (ps : List (List ℕ)) → All OneRequest ps → (rest : List ℕ) → x .request ≡ endToEnd ps ++ rest → BrokenOff rest
+        → (requestsOf x ≡ ps) × (stopOf (x .request) ≡ length (endToEnd ps)) × (reported x a .number ≡ 7)
     report-7-broken = ends.breaks-seven x a room
 
 -- ONE REQUEST is counted as the one call that it is, and the table, the vectors and the buffer are as that call leaves them.
@@ -189,18 +197,18 @@ module _ (x : Lent) (more a : List ℕ) (room : 1160 ≤ length a) (whole : repo
     report-both-leaves = join.two-leave x more a room whole b space
 
     -- The counts add up, and so do the places; the largest answer is the larger of the two.
-    pub report-both-words : (i : ℕ) → i < 145 → i ≢ 1 → i ≢ 3
+    pub report-both-words : (i : ℕ) → i < 145 → i ≢ stopWord → i ≢ largestWord
         → wordIn (reported (asking x (x .request ++ more)) a .area) i
         ≡ (wordIn (reported x a .area) i + wordIn (reported (goingOn x a more) b .area) i) % 2 ^ 64
     report-both-words = join.two-words x more a room whole b space
 
     pub report-both-place : length (x .request ++ more) < 2 ^ 64
-        → wordIn (reported (asking x (x .request ++ more)) a .area) 1
-        ≡ wordIn (reported x a .area) 1 + wordIn (reported (goingOn x a more) b .area) 1
+        → wordIn (reported (asking x (x .request ++ more)) a .area) stopWord
+        ≡ wordIn (reported x a .area) stopWord + wordIn (reported (goingOn x a more) b .area) stopWord
     report-both-place = join.two-place x more a room whole b space
 
-    pub report-both-largest : wordIn (reported (asking x (x .request ++ more)) a .area) 3
-        ≡ max (wordIn (reported x a .area) 3) (wordIn (reported (goingOn x a more) b .area) 3)
+    pub report-both-largest : wordIn (reported (asking x (x .request ++ more)) a .area) largestWord
+        ≡ max (wordIn (reported x a .area) largestWord) (wordIn (reported (goingOn x a more) b .area) largestWord)
     report-both-largest = join.two-largest x more a room whole b space
 
 -- WHAT STAYS. The checks say of the table and of the vector file what they said before: a sound one stays sound, with as many records or blocks.

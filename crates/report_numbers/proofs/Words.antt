@@ -1,16 +1,11 @@
 -- The words of a report, read back out of the area that it was written to.
-use Prim.Native.Nat.{ℕ, zero, suc, _+_, _*_, _/_, _%_, _^_, _≤_, _<_}
-use mathlib.Core.List.{List, [], _∷_, _++_}
-use mathlib.Core.Path.{_≡_, _∙_}
-use native.Mathlib.Omega.{arith}
-use lib.Pow.{shr-shr}
-use lib.ListN.{length, getD, take, drop, List·getD-append, length-drop}
-use lib.Seq.{drop-at, drop-drop, take-at, drop-append-le, take-append-le}
+use Rattle.octets.specs.Standard.{ℕ, zero, suc, _+_, _*_, _/_, _%_, _^_, _≤_, _<_, List, [], _∷_, _++_, _≡_, _∙_, arith, shr-shr, length, getD, take}
+use Rattle.octets.specs.Standard.{drop, List·getD-append, length-drop, drop-at, drop-drop, take-at, drop-append-le, take-append-le}
 use Rattle.octets.specs.Number.{four, be32At}
 use Rattle.octets.specs.Run.{over}
 use Rattle.octets.proofs.Numbers.{be32-alike, be32-drop}
 use Rattle.octets.proofs.Writes.{over-length}
-use Rattle.counting.specs.Words.{longBytes, bytesOf}
+use Rattle.counting.specs.Words.{longBytes, wordsBytes}
 use Rattle.counting.proofs.Longs.{long-length, bytes-length}
 use Rattle.report_numbers.specs.Area.{wordIn}
 
@@ -36,50 +31,50 @@ word-later n r i =
     let b : 8 * suc i + 4 ≡ 8 + (8 * i + 4) = omega arith in
     rw (b, a, ← be32-drop (longBytes n ++ r) 8 (8 * i), ← be32-drop (longBytes n ++ r) 8 (8 * i + 4), d)
 
-word-back : (ws : List ℕ) (i : ℕ) → i < length ws → getD ws i 0 < 2 ^ 64 → wordIn (bytesOf ws) i ≡ getD ws i 0
-unfolding bytesOf
+word-back : (ws : List ℕ) (i : ℕ) → i < length ws → getD ws i 0 < 2 ^ 64 → wordIn (wordsBytes ws) i ≡ getD ws i 0
+unfolding wordsBytes
 word-back [] i h l = absurd (omega arith)
-word-back (w ∷ ws) zero h l = long-back w l (bytesOf ws)
-word-back (w ∷ ws) (suc i) h l = word-later w (bytesOf ws) i ∙ word-back ws i (omega arith) l
+word-back (w ∷ ws) zero h l = long-back w l (wordsBytes ws)
+word-back (w ∷ ws) (suc i) h l = word-later w (wordsBytes ws) i ∙ word-back ws i (omega arith) l
 
-eight-back : (ws : List ℕ) (i : ℕ) → i < length ws → take 8 (drop (8 * i) (bytesOf ws)) ≡ longBytes (getD ws i 0)
-unfolding bytesOf
+eight-back : (ws : List ℕ) (i : ℕ) → i < length ws → take 8 (drop (8 * i) (wordsBytes ws)) ≡ longBytes (getD ws i 0)
+unfolding wordsBytes
 eight-back [] i h = absurd (omega arith)
-eight-back (w ∷ ws) zero h = take-at (longBytes w) (bytesOf ws) 8 (long-length w)
+eight-back (w ∷ ws) zero h = take-at (longBytes w) (wordsBytes ws) 8 (long-length w)
 eight-back (w ∷ ws) (suc i) h =
     let a : 8 * suc i ≡ 8 + 8 * i = omega arith in
-    rw (a, ← drop-drop (8 * i) 8 (longBytes w ++ bytesOf ws), drop-at (longBytes w) (bytesOf ws) 8 (long-length w)) (eight-back ws i (omega arith))
+    rw (a, ← drop-drop (8 * i) 8 (longBytes w ++ wordsBytes ws), drop-at (longBytes w) (wordsBytes ws) 8 (long-length w)) (eight-back ws i (omega arith))
 
 -- written over the front of an area
 module _ (ws area : List ℕ) (all : length ws ≡ 145) (room : 1160 ≤ length area) where
-  whole : length (bytesOf ws) ≡ 1160
+  whole : length (wordsBytes ws) ≡ 1160
   whole = bytes-length ws ∙ omega (arith, all)
 
-  pub area-length : length (over (bytesOf ws) area) ≡ length area
-  area-length = over-length (bytesOf ws) area (omega (arith, whole))
+  pub area-length : length (over (wordsBytes ws) area) ≡ length area
+  area-length = over-length (wordsBytes ws) area (omega (arith, whole))
 
-  pub area-past : drop 1160 (over (bytesOf ws) area) ≡ drop 1160 area
+  pub area-past : drop 1160 (over (wordsBytes ws) area) ≡ drop 1160 area
   unfolding over
-  area-past = drop-at (bytesOf ws) (drop (length (bytesOf ws)) area) 1160 whole ∙ rw whole
+  area-past = drop-at (wordsBytes ws) (drop (length (wordsBytes ws)) area) 1160 whole ∙ rw whole
 
   module _ (i : ℕ) (h : i < 145) where
-    front : wordIn (over (bytesOf ws) area) i ≡ wordIn (bytesOf ws) i
+    front : wordIn (over (wordsBytes ws) area) i ≡ wordIn (wordsBytes ws) i
     unfolding wordIn over
     front =
-        let rest = drop (length (bytesOf ws)) area in
-        let a = be32-alike (bytesOf ws ++ rest) (bytesOf ws) (8 * i) (8 * i)
-        (λ j l. List·getD-append (bytesOf ws) rest 0 (8 * i + j) (omega (arith, whole))) in
-        let b = be32-alike (bytesOf ws ++ rest) (bytesOf ws) (8 * i + 4) (8 * i + 4)
-        (λ j l. List·getD-append (bytesOf ws) rest 0 (8 * i + 4 + j) (omega (arith, whole))) in
+        let rest = drop (length (wordsBytes ws)) area in
+        let a = be32-alike (wordsBytes ws ++ rest) (wordsBytes ws) (8 * i) (8 * i)
+        (λ j l. List·getD-append (wordsBytes ws) rest 0 (8 * i + j) (omega (arith, whole))) in
+        let b = be32-alike (wordsBytes ws ++ rest) (wordsBytes ws) (8 * i + 4) (8 * i + 4)
+        (λ j l. List·getD-append (wordsBytes ws) rest 0 (8 * i + 4 + j) (omega (arith, whole))) in
         rw (a, b)
 
-    pub area-word : getD ws i 0 < 2 ^ 64 → wordIn (over (bytesOf ws) area) i ≡ getD ws i 0
+    pub area-word : getD ws i 0 < 2 ^ 64 → wordIn (over (wordsBytes ws) area) i ≡ getD ws i 0
     area-word l = front ∙ word-back ws i (omega (arith, all)) l
 
-    pub area-bytes : take 8 (drop (8 * i) (over (bytesOf ws) area)) ≡ longBytes (getD ws i 0)
+    pub area-bytes : take 8 (drop (8 * i) (over (wordsBytes ws) area)) ≡ longBytes (getD ws i 0)
     unfolding over
     area-bytes =
-        let rest = drop (length (bytesOf ws)) area in
-        let l : 8 * i ≤ length (bytesOf ws) = omega (arith, whole) in
-        let m : 8 ≤ length (drop (8 * i) (bytesOf ws)) = simp length-drop (omega (arith, whole)) in
-        rw (drop-append-le (8 * i) (bytesOf ws) rest l, take-append-le 8 (drop (8 * i) (bytesOf ws)) rest m) (eight-back ws i (omega (arith, all)))
+        let rest = drop (length (wordsBytes ws)) area in
+        let l : 8 * i ≤ length (wordsBytes ws) = omega (arith, whole) in
+        let m : 8 ≤ length (drop (8 * i) (wordsBytes ws)) = simp length-drop (omega (arith, whole)) in
+        rw (drop-append-le (8 * i) (wordsBytes ws) rest l, take-append-le 8 (drop (8 * i) (wordsBytes ws)) rest m) (eight-back ws i (omega (arith, all)))

@@ -11,11 +11,11 @@ pub record OneRequest (p : List ℕ) : Type 0 where
   pub own : be24At p 1 ≡ length p
   pub least : 20 ≤ length p
 
-unfoldable pub joined : List (List ℕ) → List ℕ
-joined [] = []
-joined (p ∷ ps) = p ++ joined ps
+unfoldable pub endToEnd : List (List ℕ) → List ℕ
+endToEnd [] = []
+endToEnd (p ∷ ps) = p ++ endToEnd ps
 
 -- "1 to 3 bytes left, or a header length under 20 or past the file": these bytes are left, and no request stands first in them
-pub record Breaks (s : List ℕ) : Type 0 where
+pub record BrokenOff (s : List ℕ) : Type 0 where
   pub some : 1 ≤ length s
   pub by : (length s ≤ 3) ⊎ ((be24At s 1 < 20) ⊎ (length s < be24At s 1))

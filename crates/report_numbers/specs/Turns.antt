@@ -4,7 +4,7 @@ use mathlib.Core.Bool.{Bool, true, false, not, _||_, _&&_}
 use mathlib.Core.Path.{_≡_}
 use mathlib.Core.List.{List, [], _∷_, _++_}
 use lib.Dec.{eqb}
-use Rattle.counting.specs.Results.{rowOf, columnOf}
+use Rattle.counting.specs.Results.{commandRow, columnOf}
 use Rattle.counting.specs.declared.Event.{Event}
 use Rattle.counting.specs.declared.Event.the-variants as event
 use Rattle.calling.specs.Call.{Call, Answered, Refused}
@@ -18,13 +18,13 @@ abbrev pub eventsOf : Lent → List Event
 eventsOf x = row x (requestsOf x)
 
 -- one of a row of requests, in its place; what those before it left is lent to it
-pub record Place (ps : List (List ℕ)) : Type 0 where
+pub record InTurn (ps : List (List ℕ)) : Type 0 where
   pub before : List (List ℕ)
   pub request : List ℕ
   pub after : List (List ℕ)
   pub is : ps ≡ before ++ (request ∷ after)
 
-abbrev pub callAt : (x : Lent) {ps : List (List ℕ)} → Place ps → Lent
+abbrev pub callAt : (x : Lent) {ps : List (List ℕ)} → InTurn ps → Lent
 callAt x p = asking (left x (p .before)) (p .request)
 
 -- refused by a number; answered, in a row and a column of the report
@@ -33,13 +33,13 @@ refusedBy n (event.Answered e) = false
 refusedBy n (event.Refused m) = eqb m n
 
 abbrev pub answeredIn : ℕ → ℕ → Event → Bool
-answeredIn r c (event.Answered e) = eqb (rowOf (e .command)) r && eqb (columnOf (e .result)) c
+answeredIn r c (event.Answered e) = eqb (commandRow (e .command)) r && eqb (columnOf (e .result)) c
 answeredIn r c (event.Refused m) = false
 
 -- the length of an answer, 0 of a refusal
-abbrev pub answerLength : Call → ℕ
-answerLength (Answered a) = a .length
-answerLength (Refused number besides) = 0
+abbrev pub callLength : Call → ℕ
+callLength (Answered a) = a .length
+callLength (Refused number besides) = 0
 
 -- "records altered, once per request": the sum over the calls of how many records have other bytes after each
 unfoldable pub alteredOver : Lent → List (List ℕ) → ℕ
@@ -57,4 +57,4 @@ allIdle (e ∷ es) = idle e && allIdle es
 
 -- what a report left, lent to a report over another file
 abbrev pub goingOn : Lent → List ℕ → List ℕ → Lent
-goingOn x area more = lent more (reported x area .table) (x .profile) (reported x area .vectors) (reported x area .buffer)
+goingOn x area more = lent more (reported x area .table) (x .profile) (reported x area .vectors) (reported x area .buffer) (x .terms)

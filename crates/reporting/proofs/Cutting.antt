@@ -1,15 +1,9 @@
 -- A file of requests is cut: the first piece, and the rest of the file behind it.
-use Prim.Native.Nat.{ℕ, zero, suc, _+_, _-_, _≤_, _<_}
-use mathlib.Core.List.{List, [], _∷_}
-use mathlib.Core.Bool.{Bool, true, false, cond, _||_, true≢false}
-use mathlib.Core.Path.{_≡_, refl, sym, ap, _∙_}
-use native.Mathlib.Omega.{arith}
-use lib.ListN.{length, take, drop, length-take, length-drop}
-use lib.Dec.{ltb}
-use borrow.Author.Tests.{lt-ltb, le-ltb, ltb-false}
+use Rattle.octets.specs.Standard.{ℕ, zero, suc, _≤_, _<_, List, [], _∷_, Bool, true, false, cond, _||_, _≡_, refl, ap, _∙_, arith, length, take, drop}
+use Rattle.octets.specs.Standard.{length-drop, ltb, lt-ltb, le-ltb, ltb-false}
 use Rattle.octets.specs.Number.{be24At}
-use Rattle.fitting.proofs.Tests.{neither}
-use Rattle.reporting.specs.Pieces.{broken, firstLength, piecesIn, pieces, totalOf}
+use Rattle.deciding.proofs.Tests.{neither}
+use Rattle.reporting.specs.Pieces.{broken, firstLength, piecesIn, pieces}
 
 -- where a request stands: its length is at least 20 and it ends within the file
 record Whole (s : List ℕ) : Type 0 where

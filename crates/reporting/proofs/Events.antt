@@ -1,49 +1,45 @@
 -- A call as it is counted: the event of the definitions, which always has a word.
-use Prim.Native.Nat.{ℕ}
-use mathlib.Core.List.{List}
-use mathlib.Core.Path.{_≡_, refl, sym, ap, _∙_}
-use native.Mathlib.Omega.{arith}
-use lib.ListN.{length}
+use Rattle.octets.specs.Standard.{ℕ, List, _≡_, ap, _∙_, arith, length}
 use Rattle.table.specs.Check.{checkTable}
 use Rattle.blocks.specs.declared.Checked.{Checked}
-use Rattle.diameter.specs.Message.{commandOf}
+use Rattle.reading.specs.declared.Terms.{Terms}
 use Rattle.counting.specs.Counted.{Fits, counted}
 use Rattle.counting.specs.declared.Event.{Event}
-use Rattle.calling.specs.Lent.{Lent, lent}
+use Rattle.deciding.proofs.Comes.{decide-carries}
+use Rattle.calling.specs.Lent.{Lent, lent, dialectIn}
 use Rattle.calling.specs.Serve.{Served, checkOf, checkValue, refused, answered, serve}
 use Rattle.calling.specs.Leaves.{Leaves}
 use Rattle.calling.specs.declared.Came.{Came}
-use Rattle.calling.specs.declared.Came.the-variants as came
 use Rattle.calling.proofs.Kept.{serve-by}
 use Rattle.reporting.specs.Row.{eventBy, eventOf, eventFrom}
 use Rattle.reporting.specs.Counts.{Counts}
-use Rattle.reporting.proofs.Listed.{decide-listed}
+use Rattle.calling.specs.declared.Came.the-variants as came
 
 -- refusals have numbers up to 6, and every result has a column
 pub event-fits : (x : Lent) → Fits (eventOf x)
 unfolding eventOf refused answered
 event-fits x =
     serve-by x (λ (s : Served). Fits (eventBy x (s .call))) (λ r a b. (a, omega arith))
-    (λ k. decide-listed (x .request) (x .table) (checkValue (checkOf x)) (x .vectors))
+    (λ k. decide-carries (dialectIn x) (x .request) (x .table) (checkValue (checkOf x)) (x .vectors) .result)
 
-module _ (x : Lent) {command : ℕ} (is : command ≡ commandOf (x .request)) where
-  event-is : (r : Came) {t' v' o' : List ℕ} → Leaves x (serve x) (checkValue (checkOf x)) r t' v' o' → eventFrom command r ≡ eventOf x
+module _ (x : Lent) where
+  event-is : (r : Came) {t' v' o' : List ℕ} → Leaves x (serve x) (checkValue (checkOf x)) r t' v' o' → eventFrom r ≡ eventOf x
   unfolding eventOf
-  event-is (came.Answered told) l = rw (← l .call-is, is, l .noted .0, l .noted .1, l .table-is)
+  event-is (came.Answered told) l = rw (← l .call-is, l .noted .0, l .noted .1, l .noted .2, l .table-is)
   event-is (came.Refused number besides) l = rw (← l .call-is)
 
 -- The same, as the code has it: the checks were made before.
-module _ (req t file v o : List ℕ) {command : ℕ} (is : command ≡ commandOf req) (c : Checked) (checked : c ≡ checkTable t (length file)) (r : Came)
-    {t' v' o' : List ℕ} (l : Leaves (lent req t file v o) (serve (lent req t file v o)) (checkValue c) r t' v' o') where
+module _ (req t file v o : List ℕ) (terms : Terms) (c : Checked) (checked : c ≡ checkTable t (length file)) (r : Came)
+    {t' v' o' : List ℕ} (l : Leaves (lent req t file v o terms) (serve (lent req t file v o terms)) (checkValue c) r t' v' o') where
   abbrev x : Lent
-  x = lent req t file v o
+  x = lent req t file v o terms
 
-  same : eventFrom command r ≡ eventOf x
-  same = event-is x is r (rw checked at l)
+  same : eventFrom r ≡ eventOf x
+  same = event-is x r (rw checked at l)
 
-  pub counted-fits : {e : Event} → e ≡ eventFrom command r → Fits e
+  pub counted-fits : {e : Event} → e ≡ eventFrom r → Fits e
   counted-fits f = rw (f, same) (event-fits x)
 
-  pub counted-one : (counts : List ℕ) {counts' : List ℕ} {e : Event} → e ≡ eventFrom command r → counts' ≡ counted counts e → Counts x counts counts' t' v' o'
+  pub counted-one : (counts : List ℕ) {counts' : List ℕ} {e : Event} → e ≡ eventFrom r → counts' ≡ counted counts e → Counts x counts counts' t' v' o'
   counted-one counts f g =
       record { counts-is = g ∙ ap (counted counts) (f ∙ same); table-is = l .table-is; vectors-is = l .vectors-is; buffer-is = l .buffer-is }

@@ -1,5 +1,4 @@
 pub mod Cutting
 pub mod Events
-pub mod Listed
 pub mod Turns
 pub mod Whole

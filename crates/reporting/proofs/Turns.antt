@@ -1,15 +1,11 @@
 -- The turns of a report: what is behind and what is to come make the whole.
-use Prim.Native.Nat.{ℕ, zero, suc, _+_, _-_, _≤_, _<_}
-use mathlib.Core.List.{List, [], _∷_}
-use mathlib.Core.Path.{_≡_, refl, sym, ap, _∙_}
-use native.Mathlib.Nat.{add-sub-cancel-left}
-use native.Mathlib.Omega.{arith}
-use lib.ListN.{length, take, drop, length-take, length-drop}
-use lib.Seq.{drop-drop, take-all}
+use Rattle.octets.specs.Standard.{ℕ, _+_, _-_, _≤_, List, [], _∷_, _≡_, refl, sym, _∙_, add-sub-cancel-left, arith, length, take, drop, length-take}
+use Rattle.octets.specs.Standard.{length-drop, drop-drop, take-all}
 use Rattle.table.specs.Check.{checkTable}
 use Rattle.blocks.specs.declared.Checked.{Checked}
 use Rattle.vectors.specs.VectorFile.{checkVectors}
-use Rattle.counting.specs.Counted.{counted, countedAll}
+use Rattle.reading.specs.declared.Terms.{Terms}
+use Rattle.counting.specs.Counted.{countedAll}
 use Rattle.calling.specs.Lent.{Lent, lent}
 use Rattle.calling.proofs.Kept.{table-checked, vectors-checked}
 use Rattle.reporting.specs.Pieces.{firstLength, pieces, totalOf, stopOf}
@@ -21,8 +17,8 @@ use Rattle.reporting.proofs.Cutting.{first-least, first-cut, first-none
 -- at a byte of the file, with the counts, the table, the vectors and the buffer so far
 pub record Going (x : Lent) (c₀ c t v o : List ℕ) (at : ℕ) : Type 0 where
   pub stop : stopOf (x .request) ≡ at + stopOf (drop at (x .request))
-  pub counts : countedAll c₀ (row x (requestsOf x)) ≡ countedAll c (row (lent (x .request) t (x .profile) v o) (pieces (drop at (x .request))))
-  pub lefts : left x (requestsOf x) ≡ left (lent (x .request) t (x .profile) v o) (pieces (drop at (x .request)))
+  pub counts : countedAll c₀ (row x (requestsOf x)) ≡ countedAll c (row (lent (x .request) t (x .profile) v o (x .terms)) (pieces (drop at (x .request))))
+  pub lefts : left x (requestsOf x) ≡ left (lent (x .request) t (x .profile) v o (x .terms)) (pieces (drop at (x .request)))
 
 -- a slice up to the end; one of so many bytes
 rest-is : (s : List ℕ) (at : ℕ) → take (length s - at) (drop at s) ≡ drop at s
@@ -42,13 +38,9 @@ module _ (s : List ℕ) (at : ℕ) {n : ℕ} (e : n ≡ firstLength (take (lengt
     pub turn-within : at + n ≤ length s
     turn-within = omega (arith, simp (length-take, length-drop) at most)
 
-    -- a request that stands has a header
-    pub turn-request : (n ≡ 0 → ⊥) → 20 ≤ length (take (at + n - at) (drop at s))
-    turn-request z = rw piece-is (simp (length-take, length-drop) (omega (arith, turn-least z, turn-within)))
-
-module _ (req t₀ file v₀ o₀ : List ℕ) (c₀ : List ℕ) where
+module _ (req t₀ file v₀ o₀ : List ℕ) (terms : Terms) (c₀ : List ℕ) where
   abbrev x : Lent
-  x = lent req t₀ file v₀ o₀
+  x = lent req t₀ file v₀ o₀ terms
 
   pub going-start : Going x c₀ c₀ t₀ v₀ o₀ 0
   going-start = record { stop = omega arith; counts = refl; lefts = refl }
@@ -58,7 +50,7 @@ module _ (req t₀ file v₀ o₀ : List ℕ) (c₀ : List ℕ) where
     none-more : pieces (drop at req) ≡ [] → Runs x c₀ c t v o at
     unfolding row left countedAll totalOf
     none-more e =
-        let stays : left x (requestsOf x) ≡ lent req t file v o = rw e at (g .lefts) in
+        let stays : left x (requestsOf x) ≡ lent req t file v o terms = rw e at (g .lefts) in
         let stop : stopOf req ≡ at + 0 = rw e at (g .stop) in
         record {
           stop-is = omega (arith, stop);
@@ -77,11 +69,11 @@ module _ (req t₀ file v₀ o₀ : List ℕ) (c₀ : List ℕ) where
     -- one request more
     module _ {n : ℕ} (e : n ≡ firstLength (take (length req - at) (drop at req))) (z : n ≡ 0 → ⊥) (start : at ≤ length req)
         (most : n ≤ length (take (length req - at) (drop at req))) {c' t' v' o' : List ℕ}
-        (s : Counts (lent (take (at + n - at) (drop at req)) t file v o) c c' t' v' o') where
+        (s : Counts (lent (take (at + n - at) (drop at req)) t file v o terms) c c' t' v' o') where
       pub going-turns : Going x c₀ c' t' v' o' (at + n)
       unfolding row left countedAll totalOf next
       going-turns =
-          let q : Counts (lent (take n (drop at req)) t file v o) c c' t' v' o' = rw (piece-is req at e) at s in
+          let q : Counts (lent (take n (drop at req)) t file v o terms) c c' t' v' o' = rw (piece-is req at e) at s in
           let cut : pieces (drop at req) ≡ take n (drop at req) ∷ pieces (drop n (drop at req)) = first-cut (drop at req) (here req at e) z in
           let on : drop n (drop at req) ≡ drop (at + n) req = drop-drop n at req in
           let l : length (take n (drop at req)) ≡ n = simp (length-take, length-drop) (omega (arith, turn-within req at e start most)) in
@@ -93,9 +85,9 @@ module _ (req t₀ file v₀ o₀ : List ℕ) (c₀ : List ℕ) where
           }
 
 -- what was checked before a request is so after it
-module _ (req t file v o : List ℕ) {counts counts' t' v' o' : List ℕ} (s : Counts (lent req t file v o) counts counts' t' v' o') where
+module _ (req t file v o : List ℕ) (terms : Terms) {counts counts' t' v' o' : List ℕ} (s : Counts (lent req t file v o terms) counts counts' t' v' o') where
   pub turn-table : {c : Checked} → c ≡ checkTable t (length file) → c ≡ checkTable t' (length file)
-  turn-table e = e ∙ sym (table-checked (lent req t file v o)) ∙ rw (s .table-is)
+  turn-table e = e ∙ sym (table-checked (lent req t file v o terms)) ∙ rw (s .table-is)
 
   pub turn-vectors : {d : Checked} → d ≡ checkVectors v → d ≡ checkVectors v'
-  turn-vectors e = e ∙ sym (vectors-checked (lent req t file v o)) ∙ rw (s .vectors-is)
+  turn-vectors e = e ∙ sym (vectors-checked (lent req t file v o terms)) ∙ rw (s .vectors-is)

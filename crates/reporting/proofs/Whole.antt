@@ -1,17 +1,11 @@
 -- The whole report, from the run.
-use Prim.Native.Nat.{ℕ, _≤_, _<_}
-use mathlib.Core.List.{List, [], _∷_}
-use mathlib.Core.Bool.{cond}
-use mathlib.Core.Path.{_≡_, refl, sym, ap, _∙_}
-use lib.ListN.{length, set, length-set}
-use lib.Dec.{eqb}
-use borrow.Author.Tests.{lt-ltb, le-ltb, eq-eqb, ne-eqb}
+use Rattle.octets.specs.Standard.{ℕ, _≤_, _<_, List, [], _∷_, cond, _≡_, ap, _∙_, length, set, length-set, eqb, lt-ltb, le-ltb, eq-eqb, ne-eqb}
 use Rattle.octets.specs.Run.{Wrote}
-use Rattle.counting.specs.Counted.{AllFit, noCounts, countsOf}
-use Rattle.counting.specs.Words.{bytesOf}
+use Rattle.counting.specs.Counted.{AllFit, noCounts}
+use Rattle.counting.specs.Words.{wordsBytes}
 use Rattle.counting.proofs.Counts.{all-length, none-length, counted-counts}
+use Rattle.reading.specs.declared.Terms.{Terms}
 use Rattle.calling.specs.Lent.{Lent, lent, asking}
-use Rattle.reporting.specs.Pieces.{stopOf}
 use Rattle.reporting.specs.Row.{next, row}
 use Rattle.reporting.specs.Report.{requestsOf, wordsOf, ended, ran, reported}
 use Rattle.reporting.specs.Counts.{Runs, Reports}
@@ -28,15 +22,15 @@ unfolding row
 row-fits x [] = tt
 row-fits x (p ∷ ps) = (event-fits (asking x p), row-fits (next x p) ps)
 
-pub area-short : (req t file v o area : List ℕ) → length area < 1160 → Reports (lent req t file v o) area 15 t v o area
+pub area-short : (req t file v o area : List ℕ) (terms : Terms) → length area < 1160 → Reports (lent req t file v o terms) area 15 t v o area
 unfolding reported
-area-short req t file v o area h =
+area-short req t file v o area terms h =
     let q = lt-ltb (length area) 1160 h in
     record { number-is = rw q; table-is = rw q; vectors-is = rw q; buffer-is = rw q; area-is = rw q }
 
-module _ (req t file v o : List ℕ) {c t' v' o' : List ℕ} {at : ℕ} (r : Runs (lent req t file v o) noCounts c t' v' o' at) where
+module _ (req t file v o : List ℕ) (terms : Terms) {c t' v' o' : List ℕ} {at : ℕ} (r : Runs (lent req t file v o terms) noCounts c t' v' o' at) where
   abbrev x : Lent
-  x = lent req t file v o
+  x = lent req t file v o terms
 
   pub words-whole : length (set c 1 at) ≡ 145
   words-whole = length-set c 1 at ∙ ap length (r .counts-is) ∙ all-length noCounts (row x (requestsOf x)) ∙ none-length
@@ -45,7 +39,7 @@ module _ (req t file v o : List ℕ) {c t' v' o' : List ℕ} {at : ℕ} (r : Run
   unfolding wordsOf
   words-are = rw (r .counts-is, counted-counts (row x (requestsOf x)) (row-fits x (requestsOf x)), r .stop-is)
 
-  pub reports-all : (area : List ℕ) {n m : ℕ} {area' : List ℕ} → 1160 ≤ length area → Wrote (bytesOf (set c 1 at)) area area' m
+  pub reports-all : (area : List ℕ) {n m : ℕ} {area' : List ℕ} → 1160 ≤ length area → Wrote (wordsBytes (set c 1 at)) area area' m
       → n ≡ cond (eqb at (length req)) 0 7 → Reports x area n t' v' o' area'
   unfolding reported ran ended
   reports-all area h w e =

@@ -6,7 +6,8 @@ use lib.ListN.{length, set}
 use lib.Dec.{eqb, ltb}
 use Rattle.octets.specs.Run.{over}
 use Rattle.counting.specs.Counted.{countsOf}
-use Rattle.counting.specs.Words.{bytesOf}
+use Rattle.counting.specs.Layout.{stopWord}
+use Rattle.counting.specs.Words.{wordsBytes}
 use Rattle.calling.specs.Lent.{Lent}
 use Rattle.reporting.specs.Pieces.{pieces, stopOf}
 use Rattle.reporting.specs.Row.{row, left}
@@ -24,7 +25,7 @@ abbrev pub requestsOf : Lent → List (List ℕ)
 requestsOf x = pieces (x .request)
 
 unfoldable pub wordsOf : Lent → List ℕ
-wordsOf x = set (countsOf (row x (requestsOf x))) 1 (stopOf (x .request))
+wordsOf x = set (countsOf (row x (requestsOf x))) stopWord (stopOf (x .request))
 
 -- "the report stops by number 7, after the numbers so far", where the file is not used up
 unfoldable pub ended : List ℕ → ℕ
@@ -37,7 +38,7 @@ ran x area =
       table = left x (requestsOf x) .table;
       vectors = left x (requestsOf x) .vectors;
       buffer = left x (requestsOf x) .buffer;
-      area = over (bytesOf (wordsOf x)) area;
+      area = over (wordsBytes (wordsOf x)) area;
     }
 
 -- 15: the area has no room for the 145 words; nothing is run

@@ -26,7 +26,7 @@ eventOf x = eventBy x (serve x .call)
 
 -- what a request leaves to the next one. What is lent to a report is lent to each call, but its requests one by one
 unfoldable pub next : Lent → List ℕ → Lent
-next x p = lent (x .request) (serve (asking x p) .table) (x .profile) (serve (asking x p) .vectors) (serve (asking x p) .buffer)
+next x p = lent (x .request) (serve (asking x p) .table) (x .profile) (serve (asking x p) .vectors) (serve (asking x p) .buffer) (x .terms)
 
 unfoldable pub row : Lent → List (List ℕ) → List Event
 row x [] = []
@@ -37,7 +37,7 @@ left x [] = x
 left x (p ∷ ps) = left (next x p) ps
 
 -- the same from what the code says of a call
-abbrev pub eventFrom : ℕ → Came → Event
-eventFrom command (came.Answered told) =
-    event.Answered (record { command = command; result = told .result; length = told .length; altered = told .altered })
-eventFrom command (came.Refused number besides) = event.Refused number
+abbrev pub eventFrom : Came → Event
+eventFrom (came.Answered told) =
+    event.Answered (record { command = told .command; result = told .result; length = told .length; altered = told .altered })
+eventFrom (came.Refused number besides) = event.Refused number

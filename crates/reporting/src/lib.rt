@@ -1,11 +1,12 @@
 // A report over a file of requests laid end to end: each is decided in turn and counted.
-use blocks::Checked;
 use calling::Came;
+use calling::Shared;
 use counting::Entry;
 use counting::Event;
 use counting::words;
 use diameter::message;
 use octets::number;
+use reading::Terms;
 ghost use mathlib.Core.Bool.{cond};
 ghost use mathlib.Core.Path.{_≡_};
 ghost use Prim.Native.Nat.{_≤_};
@@ -28,12 +29,6 @@ const LEFT: usize = 4;
 
 const LEAST: usize = 20;
 
-// What the checks of the table and of the vector file say: a call keeps both, so they are asked once for all requests.
-pub struct Checks {
-    table: Checked,
-    vectors: Checked,
-}
-
 // The length of the request that stands first, 0 if none does.
 fn first_length(s: &[u8]) -> usize
     ensures { λ r. ⌜ (r ≡ firstLength (now (s .entry))) × (r ≤ length (now (s .entry))) ⌝ }
@@ -49,14 +44,14 @@ fn first_length(s: &[u8]) -> usize
 }
 
 // A call as it is counted.
-fn event_of(command: usize, c: Came) -> Event
-    ensures { λ r. ⌜ r ≡ eventFrom command c ⌝ }
+fn event_of(c: Came) -> Event
+    ensures { λ r. ⌜ r ≡ eventFrom c ⌝ }
 {
     match c {
         Came::Answered(told) => {
             let result = told.result;
             Event::Answered(Entry {
-                command,
+                command: told.command,
                 result,
                 length: told.length,
                 altered: told.altered,
@@ -69,28 +64,25 @@ fn event_of(command: usize, c: Came) -> Event
 // One request, decided and counted.
 fn count_one(
     counts: &mut [u64; counting::WORDS],
-    k: Checks,
+    k: Shared,
     req: &[u8],
     t: &mut [u8],
     file: &[u8],
     v: &mut [u8],
     out: &mut [u8],
 )
-    requires { ⌜ (20 ≤ length (now req)) × (k .table ≡ checkTable (now t) (length (now file))) × (k .vectors ≡ checkVectors (now v)) ⌝ }
-    ensures { λ _. ⌜ Counts (lent (now (req .entry)) (now (t .entry)) (now (file .entry)) (now (v .entry)) (now (out .entry)))
+    requires { ⌜ (k .table ≡ checkTable (now t) (length (now file))) × (k .vectors ≡ checkVectors (now v)) ⌝ }
+    ensures { λ _. ⌜ Counts (lent (now (req .entry)) (now (t .entry)) (now (file .entry)) (now (v .entry)) (now (out .entry)) (k .terms))
         (now (counts .entry)) (now (counts .exit)) (now (t .exit)) (now (v .exit)) (now (out .exit)) ⌝ }
 {
-    let command = requests::command(req);
-    let c = k.table;
-    let d = k.vectors;
-    let came = calling::call_over(c, d, req, t, file, v, out);
-    counting::count(counts, event_of(command, came));
+    let came = calling::call_over(k, req, t, file, v, out);
+    counting::count(counts, event_of(came));
 }
 
 // Every request of the file in turn. Answers the byte where reading stops.
 fn run(
     counts: &mut [u64; counting::WORDS],
-    k: Checks,
+    k: Shared,
     requests: &[u8],
     t: &mut [u8],
     file: &[u8],
@@ -98,7 +90,7 @@ fn run(
     out: &mut [u8],
 ) -> usize
     requires { ⌜ (k .table ≡ checkTable (now t) (length (now file))) × (k .vectors ≡ checkVectors (now v)) ⌝ }
-    ensures { λ r. ⌜ Runs (lent (now (requests .entry)) (now (t .entry)) (now (file .entry)) (now (v .entry)) (now (out .entry)))
+    ensures { λ r. ⌜ Runs (lent (now (requests .entry)) (now (t .entry)) (now (file .entry)) (now (v .entry)) (now (out .entry)) (k .terms))
         (now (counts .entry)) (now (counts .exit)) (now (t .exit)) (now (v .exit)) (now (out .exit)) r ⌝ }
 {
     let mut at = 0;
@@ -128,16 +120,18 @@ pub fn report(
     v: &mut [u8],
     out: &mut [u8],
     area: &mut [u8],
+    terms: Terms,
 ) -> u16
-    ensures { λ r. ⌜ Reports (lent (now (requests .entry)) (now (t .entry)) (now (file .entry)) (now (v .entry)) (now (out .entry))) (now (area .entry))
+    ensures { λ r. ⌜ Reports (lent (now (requests .entry)) (now (t .entry)) (now (file .entry)) (now (v .entry)) (now (out .entry)) terms) (now (area .entry))
         r (now (t .exit)) (now (v .exit)) (now (out .exit)) (now (area .exit)) ⌝ }
 {
     if area.len() < counting::BYTES {
         return SHORT_AREA;
     }
-    let k = Checks {
+    let k = Shared {
         table: table::check(t, file.len()),
         vectors: vectors::file::check(v),
+        terms,
     };
     let mut counts = [0u64; counting::WORDS];
     let stop = run(&mut counts, k, requests, t, file, v, out);

@@ -1,14 +1,8 @@
 -- Where an AVP at fault stands: within the message, behind its header.
-use Prim.Native.Nat.{ℕ, zero, suc, pred, _+_, _-_, _<_, _≤_}
-use mathlib.Core.List.{List, [], _∷_}
-use mathlib.Core.Bool.{Bool, true, false, cond}
-use mathlib.Core.Path.{_≡_, refl, sym, _∙_}
-use native.Mathlib.Omega.{arith}
-use lib.ListN.{length, take, drop, length-drop}
-use lib.Seq.{length-take-le}
-use lib.Dec.{eqb}
+use Rattle.octets.specs.Standard.{ℕ, zero, suc, pred, _+_, _-_, _<_, _≤_, List, [], _∷_, Bool, true, false, cond, _≡_, refl, arith, length, take}
+use Rattle.octets.specs.Standard.{drop, length-drop, length-take-le, eqb}
 use Rattle.diameter.specs.Avp.{avpLen, padded, sound}
-use Rattle.diameter.specs.Walk.{Walk, ended, faulty, avp, onSound, walkFrom, walk}
+use Rattle.diameter.specs.Walk.{Walk, onSound, walkFrom, walk}
 use Rattle.diameter.specs.Message.{bodyOf}
 use Rattle.diameter.proofs.Walks.{Sound, sound-says, padded-least}
 use Rattle.reading.specs.Kinds.{sessionId}
@@ -19,7 +13,7 @@ use Rattle.reading.specs.declared.Ruled.{Ruled}
 use Rattle.reading.specs.declared.Ruled.the-variants.{Taken, Skipped, Fault}
 use Rattle.reading.specs.declared.Verdict.{Verdict}
 use Rattle.requests.specs.Judged.{Judged, bad, fine, nothing, onRule, judge}
-use Rattle.requests.specs.Request.{firstOther, missing, complete, headerFault, readWalk, readIn, readRequest, dialectOf, cx}
+use Rattle.requests.specs.Request.{firstOther, missing, complete, headerFault, readWalk, readIn}
 
 fine-bad : {A : Type 0} (seen : Seen) (v : Verdict) → fine seen ≡ bad v → A
 fine-bad seen v e = let z : _≡_ {A = ℕ} 0 1 = cc in absurd (omega arith)
@@ -86,13 +80,10 @@ complete-placed d req v (fine seen) h e = go (eqb (missing d seen) 0) e
     go true f = fine-bad seen v f
     go false f = unplaced req v (lackOf (missing d seen)) refl f
 
-pub read-placed : (req : List ℕ) (v : Verdict) → 20 ≤ length req → readRequest req ≡ bad v → Placed req v
+pub read-placed : (d : Dialect) (req : List ℕ) (v : Verdict) → 20 ≤ length req → readIn d req ≡ bad v → Placed req v
 unfolding readIn readWalk walk
-read-placed req v h e = go (eqb (headerFault (dialectOf cx req) req) 0) e
+read-placed d req v h e = go (eqb (headerFault d req) 0) e
   where
-    d : Dialect
-    d = dialectOf cx req
-
     walked : (w : Verdict) → judge d 20 (walkFrom 0 (drop 20 req)) nothing ≡ bad w → Placed req w
     walked w f =
         let p = judge-within d (drop 20 req) 0 20 nothing w f in

@@ -1,11 +1,5 @@
 -- Demand 3 over walks: an unknown kind without M is passed over; one with M is B5001, unless an AVP in front of it is at fault.
-use Prim.Native.Nat.{ℕ, _+_}
-use mathlib.Core.Path.{_≡_, refl, sym, ap, _∙_, fun-ext}
-use mathlib.Core.List.{List, [], _∷_}
-use mathlib.Core.Bool.{Bool, true, false, cond, true≢false}
-use lib.ListN.{length}
-use lib.Dec.{eqb}
-use borrow.Author.Tests.{eqb-true}
+use Rattle.octets.specs.Standard.{ℕ, _+_, _≡_, refl, sym, ap, _∙_, fun-ext, List, [], _∷_, Bool, true, false, cond, true≢false, length, eqb, eqb-true}
 use Rattle.diameter.specs.Avp.{padded, avpFlags, reserved, marked}
 use Rattle.diameter.specs.Walk.{Walk, ended, avp}
 use Rattle.diameter.specs.Put.{glue}

@@ -1,15 +1,7 @@
 -- What a request that was read holds: what the dialect needs came, and each AVP that was taken keeps rule (h).
-use Prim.Native.Nat.{ℕ, zero, suc, _+_, _≤_, _<_}
-use native.Mathlib.Nat.{add-zero, add-suc, suc-add}
-use mathlib.Core.Path.{_≡_, refl, sym, ap, _∙_}
-use mathlib.Core.List.{List, [], _∷_}
-use mathlib.Core.Option.{Option, none, some, Option·none-ne-some}
-use mathlib.Core.Bool.{Bool, true, false, not, cond, _&&_, true≢false}
-use mathlib.Core.Logic.{_⊎_, inl, inr}
-use native.Mathlib.Omega.{arith}
-use lib.ListN.{length, getD, set, replicate}
-use lib.Dec.{eqb, leb}
-use borrow.Author.Tests.{eqb-true, leb-true, ne-eqb}
+use Rattle.octets.specs.Standard.{ℕ, zero, suc, _+_, _≤_, _<_, add-zero, add-suc, suc-add, _≡_, refl, sym, ap, _∙_, List, [], _∷_, Option, none, some}
+use Rattle.octets.specs.Standard.{Option·none-ne-some, Bool, true, false, not, cond, _&&_, true≢false, _⊎_, inl, inr, arith, length, getD, set}
+use Rattle.octets.specs.Standard.{replicate, eqb, leb, eqb-true, leb-true, ne-eqb}
 use Rattle.octets.proofs.All.{and-left, and-right}
 use Rattle.diameter.specs.Avp.{padded, avpFlags, dataOf, reserved, marked}
 use Rattle.diameter.specs.Walk.{Walk, ended, faulty, avp}
@@ -26,10 +18,9 @@ use Rattle.reading.specs.Kinds.{kinds, known, unknown, kindOf, rowOf, useIn, us
 use Rattle.reading.specs.Contents.{faultUnless, plainFault}
 use Rattle.reading.specs.Rules.{contentFault, ofContent, ofUse, ruleBy, rule, Seen}
 use Rattle.requests.specs.Judged.{nothing, Judged, bad, fine, onRule, judge}
-use Rattle.diameter.specs.Message.{commandOf, bodyOf}
+use Rattle.diameter.specs.Message.{bodyOf}
 use Rattle.reading.specs.Verdicts.{lackOf, faultOf}
-use Rattle.requests.specs.Request.{dialectOf, cx, headerFault, firstOther, missingFrom, missing, complete, readWalk, readIn, readRequest}
-use Rattle.requests.specs.Request.{given, dataIf, dataSeen}
+use Rattle.requests.specs.Request.{headerFault, firstOther, missingFrom, missing, complete, readWalk, readIn, given, dataIf, dataSeen}
 
 -- every AVP that was taken holds what its kind must
 abbrev pub AllKept : Dialect → Seen → Type 0
@@ -121,18 +112,18 @@ walk-fine dialect w seen e = go (firstOther w) e
     go true d = bad-fine _ _ d
     go false d = complete-fine dialect (judge dialect 20 w nothing) seen d
 
-request-fine : (req : List ℕ) (seen : Seen) → readRequest req ≡ fine seen
-    → (judge (dialectOf cx req) 20 (bodyOf req) nothing ≡ fine seen) × (missing (dialectOf cx req) seen ≡ 0)
+request-fine : (dialect : Dialect) (req : List ℕ) (seen : Seen) → readIn dialect req ≡ fine seen
+    → (judge dialect 20 (bodyOf req) nothing ≡ fine seen) × (missing dialect seen ≡ 0)
 unfolding readIn
-request-fine req seen e = go (eqb (headerFault (dialectOf cx req) req) 0) e
+request-fine dialect req seen e = go (eqb (headerFault dialect req) 0) e
   where
-    go : (x : Bool) → cond x (readWalk (dialectOf cx req) (bodyOf req)) (bad (faultOf (headerFault (dialectOf cx req) req))) ≡ fine seen
-        → (judge (dialectOf cx req) 20 (bodyOf req) nothing ≡ fine seen) × (missing (dialectOf cx req) seen ≡ 0)
-    go true d = walk-fine (dialectOf cx req) (bodyOf req) seen d
+    go : (x : Bool) → cond x (readWalk dialect (bodyOf req)) (bad (faultOf (headerFault dialect req))) ≡ fine seen
+        → (judge dialect 20 (bodyOf req) nothing ≡ fine seen) × (missing dialect seen ≡ 0)
+    go true d = walk-fine dialect (bodyOf req) seen d
     go false d = bad-fine _ _ d
 
-pub read-kept : (req : List ℕ) (seen : Seen) → readRequest req ≡ fine seen → AllKept (dialectOf cx req) seen
-read-kept req seen e = judge-kept (dialectOf cx req) 20 (bodyOf req) nothing seen (nothing-kept (dialectOf cx req)) (request-fine req seen e .0)
+pub read-kept : (dialect : Dialect) (req : List ℕ) (seen : Seen) → readIn dialect req ≡ fine seen → AllKept dialect seen
+read-kept dialect req seen e = judge-kept dialect 20 (bodyOf req) nothing seen (nothing-kept dialect) (request-fine dialect req seen e .0)
 
 -- what is needed came
 missing-zero : (dialect : Dialect) (seen : Seen) (ks : List Kind) (n : ℕ) → 0 < n → missingFrom dialect seen ks n ≡ 0 → (i : ℕ) → i < length ks
@@ -155,18 +146,18 @@ missing-zero dialect seen (k ∷ ks) n p e i h t =
     go true true ex ey d next (suc j) l u = later j (next d j (omega arith) u)
     go false y ex ey d next (suc j) l u = later j (next d j (omega arith) u)
 
-pub read-needed : (req : List ℕ) (seen : Seen) (k : ℕ) → readRequest req ≡ fine seen → k < kinds → isNeeded (useIn (dialectOf cx req) (rowOf k)) ≡ true
-    → given seen k ≡ true
+pub read-needed : (dialect : Dialect) (req : List ℕ) (seen : Seen) (k : ℕ) → readIn dialect req ≡ fine seen → k < kinds
+    → isNeeded (useIn dialect (rowOf k)) ≡ true → given seen k ≡ true
 unfolding missing rowOf known useIn
-read-needed req seen zero e h t = go (eqb (commandOf req) 300) (eqb (commandOf req) 301) (eqb (commandOf req) 302) t
+read-needed dialect req seen zero e h t = go (eqb (dialect .command) 300) (eqb (dialect .command) 301) (eqb (dialect .command) 302) t
   where
     go : (x y z : Bool) → isNeeded (cond x Unknown (cond y Unknown (cond z Unknown Unknown))) ≡ true → given seen zero ≡ true
     go true y z d = absurd (true≢false (sym d))
     go false true z d = absurd (true≢false (sym d))
     go false false true d = absurd (true≢false (sym d))
     go false false false d = absurd (true≢false (sym d))
-read-needed req seen (suc i) e h t =
-    let d = missing-zero (dialectOf cx req) seen known 1 (omega arith) (request-fine req seen e .1) i (omega arith) t in
+read-needed dialect req seen (suc i) e h t =
+    let d = missing-zero dialect seen known 1 (omega arith) (request-fine dialect req seen e .1) i (omega arith) t in
     let n : 1 + i ≡ suc i = omega arith in
     rw n at d
 
@@ -197,20 +188,20 @@ module _ (dialect : Dialect) (seen : Seen) (k : ℕ) (h : AllKept dialect seen) 
   data-least least most e t = if-given (getD seen k none) least t (λ a d. leb-true _ _ (and-left (leb least (length (dataOf a))) _ (sized least most e a d)))
 
 -- "Server-Name 602 (1 to 96 bytes)", which a SAR and a MAR (none of the other three that are read) need
-module _ (req : List ℕ) (seen : Seen) (e : readRequest req ≡ fine seen) where
+module _ (dialect : Dialect) (req : List ℕ) (seen : Seen) (e : readIn dialect req ≡ fine seen) where
   pub server-most : length (dataSeen seen serverName) ≤ 96
   unfolding rowOf known
-  server-most = data-most (dialectOf cx req) seen serverName (read-kept req seen e) 1 96 refl
+  server-most = data-most dialect seen serverName (read-kept dialect req seen e) 1 96 refl
 
-  server-needed : (commandOf req ≡ 301) ⊎ ((commandOf req ≡ 300 → ⊥) × (commandOf req ≡ 301 → ⊥) × (commandOf req ≡ 302 → ⊥))
-      → isNeeded (useIn (dialectOf cx req) (rowOf serverName)) ≡ true
+  server-needed : (dialect .command ≡ 301) ⊎ ((dialect .command ≡ 300 → ⊥) × (dialect .command ≡ 301 → ⊥) × (dialect .command ≡ 302 → ⊥))
+      → isNeeded (useIn dialect (rowOf serverName)) ≡ true
   unfolding rowOf known useIn
   server-needed (inl c) = rw c
-  server-needed (inr (a, b, c)) = rw (ne-eqb (commandOf req) 300 a, ne-eqb (commandOf req) 301 b, ne-eqb (commandOf req) 302 c)
+  server-needed (inr (a, b, c)) = rw (ne-eqb (dialect .command) 300 a, ne-eqb (dialect .command) 301 b, ne-eqb (dialect .command) 302 c)
 
-  pub server-least : (commandOf req ≡ 301) ⊎ ((commandOf req ≡ 300 → ⊥) × (commandOf req ≡ 301 → ⊥) × (commandOf req ≡ 302 → ⊥))
+  pub server-least : (dialect .command ≡ 301) ⊎ ((dialect .command ≡ 300 → ⊥) × (dialect .command ≡ 301 → ⊥) × (dialect .command ≡ 302 → ⊥))
       → 1 ≤ length (dataSeen seen serverName)
   unfolding rowOf known
   server-least c =
-      data-least (dialectOf cx req) seen serverName (read-kept req seen e) 1 96 refl
-      (read-needed req seen serverName e (omega arith) (server-needed c))
+      data-least dialect seen serverName (read-kept dialect req seen e) 1 96 refl
+      (read-needed dialect req seen serverName e (omega arith) (server-needed c))

@@ -1,19 +1,12 @@
 -- The Public-Identities of a walk, one after the other.
-use Prim.Native.Nat.{ℕ, zero, suc, _+_, _-_, _≤_, _<_}
-use mathlib.Core.Path.{_≡_, refl, sym, _∙_}
-use mathlib.Core.List.{List, [], _∷_, map}
-use mathlib.Core.Bool.{Bool, true, false, cond}
-use native.Mathlib.Omega.{arith}
-use lib.ListN.{length, drop}
-use lib.Dec.{eqb}
-use borrow.Author.Tests.{ne-eqb}
+use Rattle.octets.specs.Standard.{ℕ, zero, suc, _+_, _-_, _≤_, _<_, _≡_, refl, sym, _∙_, List, [], _∷_, map, Bool, true, false, cond, arith, length}
+use Rattle.octets.specs.Standard.{drop, eqb, ne-eqb}
 use Rattle.diameter.specs.Avp.{padded, sound}
 use Rattle.diameter.specs.Walk.{Walk, walk}
 use Rattle.diameter.specs.Put.{All}
 use Rattle.diameter.specs.Reader.{avpHere, readOf, avpAt, ownOf}
 use Rattle.diameter.specs.declared.Avp.{Avp}
 use Rattle.diameter.specs.declared.Read.{Read}
-use Rattle.diameter.specs.declared.Read.the-variants as read
 use Rattle.diameter.proofs.Reading.{Says, read-says, read-unsound, walk-past}
 use Rattle.diameter.proofs.Parts.{counted}
 use Rattle.reading.specs.Kinds.{kindOf, publicIdentity}
@@ -22,6 +15,7 @@ use Rattle.requests.specs.Identity.{placesFrom, placesBy, Stands, Named}
 use Rattle.requests.specs.declared.identities.Next.{Next}
 use Rattle.requests.specs.declared.identities.Next.the-variants.{At, Nothing}
 use Rattle.requests.proofs.Requests.{at-fault}
+use Rattle.diameter.specs.declared.Read.the-variants as read
 
 -- the walk goes on at the next place
 module _ (s : List ℕ) (at : ℕ) (a : Avp) (says : Says s at a) where

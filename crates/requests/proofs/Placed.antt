@@ -1,20 +1,14 @@
 -- A kind's AVP is what stands at the kind's place.
-use Prim.Native.Nat.{ℕ, _<_}
-use mathlib.Core.Path.{_≡_, refl, sym, _∙_}
-use mathlib.Core.List.{List}
-use mathlib.Core.Option.{Option, none, some}
-use mathlib.Core.Bool.{Bool}
-use lib.ListN.{length, getD, drop}
-use lib.Seq.{drop-nil}
+use Rattle.octets.specs.Standard.{ℕ, _<_, _≡_, refl, sym, _∙_, List, Option, none, some, Bool, length, getD, drop, drop-nil}
 use Rattle.diameter.specs.Avp.{headOf, dataOf, valueOf}
 use Rattle.diameter.specs.Reader.{readOf, partAt, present, orNone, dataAt, ownOf}
 use Rattle.diameter.specs.declared.Avp.{Avp}
 use Rattle.diameter.specs.declared.Read.{Read}
-use Rattle.diameter.specs.declared.Read.the-variants as read
 use Rattle.diameter.proofs.Reading.{read-says, read-none}
 use Rattle.requests.specs.Request.{given, dataIf, valueIf, dataSeen, valueSeen}
 use Rattle.reading.specs.Places.{seenOf}
 use Rattle.reading.proofs.Judging.{seen-at}
+use Rattle.diameter.specs.declared.Read.the-variants as read
 
 data-if : (o : Option (List ℕ)) → dataIf o ≡ dataOf (orNone o)
 data-if none = sym (drop-nil (headOf 0))

@@ -1,34 +1,27 @@
 -- A request's header, its first AVP, what is missing, and the whole.
-use Prim.Native.Nat.{ℕ, _+_, _/_, _%_, _≤_, _<_}
-use native.Mathlib.Numerals.{add-one}
-use mathlib.Core.Path.{_≡_, refl, sym, _∙_}
-use mathlib.Core.List.{List, [], _∷_}
-use mathlib.Core.Bool.{Bool, true, false, not, _&&_}
-use native.Mathlib.Omega.{arith}
-use lib.ListN.{length, getD, drop, drop-of-length-le}
-use lib.Seq.{drop-cons}
-use lib.Dec.{eqb}
-use borrow.Author.Tests.{eq-eqb, ne-eqb}
+use Rattle.octets.specs.Standard.{ℕ, _+_, _/_, _%_, _≤_, _<_, add-one, _≡_, refl, sym, _∙_, List, [], _∷_, Bool, true, false, not, _&&_, arith}
+use Rattle.octets.specs.Standard.{length, getD, drop, drop-of-length-le, drop-cons, eqb, eq-eqb, ne-eqb}
 use Rattle.diameter.specs.Avp.{sound}
 use Rattle.diameter.specs.Walk.{Walk, ended, faulty, walk}
 use Rattle.diameter.specs.Reader.{readOf, partAt, present, ownOf}
 use Rattle.diameter.specs.declared.Avp.{Avp}
 use Rattle.diameter.specs.declared.Read.{Read}
-use Rattle.diameter.specs.declared.Read.the-variants as read
 use Rattle.diameter.proofs.Walks.{walk-nil, walk-faulty}
 use Rattle.diameter.proofs.Reading.{own-flags, read-says, read-unsound}
 use Rattle.reading.specs.declared.Dialect.{Dialect}
+use Rattle.reading.specs.declared.Verdict.{Verdict}
 use Rattle.requests.specs.declared.Walked.{Walked}
 use Rattle.reading.specs.Kinds.{kinds, known, unknown, sessionId, kindOf, rowOf, useIn, isNeeded}
 use Rattle.reading.specs.Rules.{Seen}
 use Rattle.requests.specs.Judged.{nothing, Judged, bad, fine, judge}
-use Rattle.diameter.specs.Message.{commandOf, applicationOf, bodyOf}
+use Rattle.diameter.specs.Message.{applicationOf, bodyOf}
 use Rattle.reading.specs.Verdicts.{lackOf, faultOf}
-use Rattle.requests.specs.Request.{cx, spoken, headerFault, firstOther, missingFrom, missing, complete, readWalk, readIn, readRequest, sessionOf}
+use Rattle.requests.specs.Request.{spoken, headerFault, firstOther, missingFrom, missing, complete, readWalk, readIn, sessionOf}
 use Rattle.reading.specs.Places.{seenOf}
-use Rattle.requests.specs.Found.{judgedOf, Refuses}
+use Rattle.requests.specs.Found.{judgedOf}
 use Rattle.reading.proofs.Judging.{seen-at}
-use Rattle.requests.proofs.Refusing.{refused-is}
+use Rattle.diameter.specs.declared.Read.the-variants as read
+use Rattle.requests.specs.declared.Walked.the-variants as walked
 
 -- "Header, in order"
 module _ (req : List ℕ) (dialect : Dialect) where
@@ -47,11 +40,11 @@ module _ (req : List ℕ) (dialect : Dialect) where
       header-command t = rw (first, ne-eqb _ _ asked, ← ex, t)
 
       module _ (known : not x ≡ false) (a : ℕ) (ea : a ≡ applicationOf req) where
-        pub header-application : (a ≡ dialect .application → ⊥) → 3007 ≡ headerFault dialect req
+        pub header-application : (a ≡ dialect .terms .application → ⊥) → 3007 ≡ headerFault dialect req
         unfolding headerFault
         header-application h = rw (first, ne-eqb _ _ asked, ← ex, known, ← ea, ne-eqb _ _ h)
 
-        pub header-sound : a ≡ dialect .application → 0 ≡ headerFault dialect req
+        pub header-sound : a ≡ dialect .terms .application → 0 ≡ headerFault dialect req
         unfolding headerFault
         header-sound e = rw (first, ne-eqb _ _ asked, ← ex, known, ← ea, eq-eqb _ _ e)
 
@@ -103,48 +96,42 @@ module _ (s places : List ℕ) (dialect : Dialect) (k whole : ℕ) (left : whole
   missing-none h = rw (left, drop-of-length-le (unknown ∷ known) {i = k} h)
 
 -- "After the walk, the first missing AVP in the order below: B5005"
-module _ (s : List ℕ) (dialect : Dialect) (w : Walked) where
-  pub complete-bad : w .ok ≡ false → judgedOf s w ≡ complete dialect (judgedOf s w)
+module _ (s places : List ℕ) (dialect : Dialect) (w : Walked) where
+  pub complete-bad : {v : Verdict} → w ≡ walked.Fault v → judgedOf s places w ≡ complete dialect (judgedOf s places w)
   unfolding judgedOf complete
   complete-bad f = rw f
 
-  module _ (t : w .ok ≡ true) (k : ℕ) (e : k ≡ missing dialect (seenOf s (w .places))) where
-    pub complete-whole : k ≡ 0 → judgedOf s w ≡ complete dialect (judgedOf s w)
+  module _ (t : w ≡ walked.Read) (k : ℕ) (e : k ≡ missing dialect (seenOf s places)) where
+    pub complete-whole : k ≡ 0 → judgedOf s places w ≡ complete dialect (judgedOf s places w)
     unfolding judgedOf complete
     complete-whole z = rw (t, ← e, z)
 
-    pub complete-lacking : (r : Walked) → (k ≡ 0 → ⊥) → Refuses (lackOf k) r → judgedOf s r ≡ complete dialect (judgedOf s w)
+    pub complete-lacking : (r : Walked) → (k ≡ 0 → ⊥) → r ≡ walked.Fault (lackOf k) → judgedOf s places r ≡ complete dialect (judgedOf s places w)
     unfolding judgedOf complete
-    complete-lacking r h f =
-        refused-is s (lackOf k) r f ∙ rw (t, ← e, ne-eqb _ _ h)
+    complete-lacking r h f = rw (f, t, ← e, ne-eqb _ _ h)
 
 -- header, first AVP, walk, what is missing
-module _ (req : List ℕ) (dialect : Dialect) (r : Walked) (n : ℕ) (en : n ≡ headerFault dialect req) where
-  pub request-header : (n ≡ 0 → ⊥) → Refuses (faultOf n) r → judgedOf req r ≡ readIn dialect req
-  unfolding readIn
-  request-header h f = refused-is req (faultOf n) r f ∙ rw (← en, ne-eqb _ _ h)
+module _ (req places : List ℕ) (dialect : Dialect) (r : Walked) (n : ℕ) (en : n ≡ headerFault dialect req) where
+  pub request-header : (n ≡ 0 → ⊥) → r ≡ walked.Fault (faultOf n) → judgedOf req places r ≡ readIn dialect req
+  unfolding readIn judgedOf
+  request-header h f = rw (f, ← en, ne-eqb _ _ h)
 
   module _ (z : n ≡ 0) (x : Bool) (ex : x ≡ firstOther (bodyOf req)) where
-    pub request-first : x ≡ true → Refuses (lackOf sessionId) r → judgedOf req r ≡ readIn dialect req
-    unfolding readIn readWalk
-    request-first t f = refused-is req (lackOf sessionId) r f ∙ rw (← en, z, ← ex, t)
+    pub request-first : x ≡ true → r ≡ walked.Fault (lackOf sessionId) → judgedOf req places r ≡ readIn dialect req
+    unfolding readIn readWalk judgedOf
+    request-first t f = rw (f, ← en, z, ← ex, t)
 
-    pub request-walked : (w : Walked) → x ≡ false → judgedOf req w ≡ judge dialect 20 (bodyOf req) nothing → judgedOf req r ≡ complete dialect (judgedOf req w)
-        → judgedOf req r ≡ readIn dialect req
+    pub request-walked : (w : Walked) → x ≡ false → judgedOf req places w ≡ judge dialect 20 (bodyOf req) nothing
+        → judgedOf req places r ≡ complete dialect (judgedOf req places w) → judgedOf req places r ≡ readIn dialect req
     unfolding readIn readWalk
     request-walked w f ew e = e ∙ rw (ew, ← en, z, ← ex, f)
 
--- in the dialect of its command
-pub request-asked : (req : List ℕ) (c : ℕ) (r : Walked) → c ≡ commandOf req → judgedOf req r ≡ readIn (record { command = c; application = cx }) req
-    → judgedOf req r ≡ readRequest req
-request-asked req c r e d = d ∙ rw e
-
 -- What a caller may use of a request that was read: the AVPs at its places, or its fault.
-module _ (s : List ℕ) (w : Walked) (j : Judged) (e : judgedOf s w ≡ j) where
-  pub judged-fine : w .ok ≡ true → j ≡ fine (seenOf s (w .places))
+module _ (s places : List ℕ) (w : Walked) (j : Judged) (e : judgedOf s places w ≡ j) where
+  pub judged-fine : w ≡ walked.Read → j ≡ fine (seenOf s places)
   unfolding judgedOf
   judged-fine t = sym e ∙ rw t
 
-  pub judged-bad : w .ok ≡ false → j ≡ bad (w .verdict)
+  pub judged-bad : (v : Verdict) → w ≡ walked.Fault v → j ≡ bad v
   unfolding judgedOf
-  judged-bad f = sym e ∙ rw f
+  judged-bad v f = sym e ∙ rw f

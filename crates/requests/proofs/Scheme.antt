@@ -1,14 +1,8 @@
 -- The scheme that a MAR asks for: a 612 that was taken holds one AVP, a 608, and the scheme is its data.
-use Prim.Native.Nat.{ℕ, _<_}
-use mathlib.Core.Path.{_≡_, refl, sym, _∙_}
-use mathlib.Core.List.{List, [], _∷_}
-use mathlib.Core.Option.{Option, none, some}
-use mathlib.Core.Bool.{Bool, true, false, cond, true≢false}
-use native.Mathlib.Omega.{arith}
-use lib.ListN.{length, getD, take}
+use Rattle.octets.specs.Standard.{ℕ, _<_, _≡_, refl, sym, _∙_, List, [], _∷_, Option, none, some, Bool, true, false, cond, true≢false, arith, length}
+use Rattle.octets.specs.Standard.{getD, take}
 use Rattle.diameter.specs.Avp.{avpLen, dataOf, sound}
-use Rattle.diameter.specs.Walk.{Walk, ended, faulty, avp, onSound, walkFrom, walk}
-use Rattle.diameter.specs.Message.{commandOf}
+use Rattle.diameter.specs.Walk.{Walk, ended, avp, onSound, walkFrom, walk}
 use Rattle.diameter.specs.Reader.{between, present, avpOf, dataAt, Spans}
 use Rattle.diameter.specs.declared.Span.{Span}
 use Rattle.diameter.proofs.Parts.{data-there}
@@ -21,7 +15,7 @@ use Rattle.reading.specs.Places.{seenOf}
 use Rattle.reading.specs.Rules.{Seen, contentFault}
 use Rattle.reading.proofs.Alone.{Alone, gathers-alone}
 use Rattle.requests.specs.Judged.{fine}
-use Rattle.requests.specs.Request.{dialectOf, cx, readRequest, given, dataIf, dataSeen, schemeOf}
+use Rattle.requests.specs.Request.{readIn, given, dataIf, dataSeen, schemeOf}
 use Rattle.requests.proofs.Placed.{data-in}
 use Rattle.requests.proofs.Kept.{read-kept, read-needed, no-fault}
 
@@ -58,14 +52,14 @@ unfolding contentFault rowOf known membersOf itemMembers
 item-alone dialect none t f = absurd (true≢false (sym t))
 item-alone dialect (some a) t f = gathers-alone scheme (walk (dataOf a)) refl (no-fault _ 5003 (f a refl))
 
-module _ (req : List ℕ) (seen : Seen) (e : readRequest req ≡ fine seen) (c : commandOf req ≡ 303) where
+module _ (dialect : Dialect) (req : List ℕ) (seen : Seen) (e : readIn dialect req ≡ fine seen) (c : dialect .command ≡ 303) where
   item-given : given seen authDataItem ≡ true
   unfolding rowOf known useIn
-  item-given = read-needed req seen authDataItem e (omega arith) (rw c)
+  item-given = read-needed dialect req seen authDataItem e (omega arith) (rw c)
 
   pub read-scheme : Asks seen
   read-scheme =
-      let alone = item-alone (dialectOf cx req) (getD seen authDataItem none) item-given (read-kept req seen e authDataItem) in
+      let alone = item-alone dialect (getD seen authDataItem none) item-given (read-kept dialect req seen e authDataItem) in
       record {
         own = alone .own;
         walked = alone .walked;

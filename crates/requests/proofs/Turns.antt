@@ -1,18 +1,12 @@
 -- One turn of the walk over a message: to judge the rest from what is found so far is to judge the whole from nothing.
-use Prim.Native.Nat.{ℕ, zero, suc, _≤_, _<_}
-use mathlib.Core.Path.{_≡_, refl, ap, _∙_}
-use mathlib.Core.List.{List, [], _∷_, map}
-use native.Mathlib.Omega.{arith}
-use lib.ListN.{length, drop, set, replicate}
+use Rattle.octets.specs.Standard.{ℕ, zero, suc, _≤_, _<_, _≡_, refl, ap, _∙_, List, [], _∷_, map, arith, length, drop, set, replicate}
 use Rattle.diameter.specs.Walk.{walk}
 use Rattle.diameter.specs.Reader.{readOf, beginsAt, partAt, ownOf}
 use Rattle.diameter.specs.declared.Avp.{Avp}
 use Rattle.diameter.specs.declared.Read.{Read}
-use Rattle.diameter.specs.declared.Read.the-variants as read
 use Rattle.diameter.proofs.Reading.{Says, read-begins, read-says, read-fault-says, walk-past, none-past}
 use Rattle.diameter.proofs.Parts.{says-next}
 use Rattle.reading.specs.declared.Ruled.{Ruled}
-use Rattle.reading.specs.declared.Ruled.the-variants as ruled
 use Rattle.reading.specs.declared.Dialect.{Dialect}
 use Rattle.requests.specs.declared.Walked.{Walked}
 use Rattle.reading.specs.Kinds.{kinds, kindOf}
@@ -20,8 +14,10 @@ use Rattle.reading.specs.Rules.{rule}
 use Rattle.reading.specs.Verdicts.{faultAt}
 use Rattle.requests.specs.Judged.{nothing, Judged, onRule, judge}
 use Rattle.reading.specs.Places.{seenOf}
-use Rattle.requests.specs.Found.{judgedOf, Refuses, Accepts}
-use Rattle.requests.proofs.Refusing.{refused-is, accepted-is}
+use Rattle.requests.specs.Found.{judgedOf}
+use Rattle.diameter.specs.declared.Read.the-variants as read
+use Rattle.reading.specs.declared.Ruled.the-variants as ruled
+use Rattle.requests.specs.declared.Walked.the-variants as walked
 
 map-set : {X Y : Type 0} (f : X → Y) (l : List X) (i : ℕ) (x : X) → map f (set l i x) ≡ set (map f l) i (f x)
 map-set f [] i x = refl
@@ -35,18 +31,18 @@ unfolding nothing
 nothing-seen s dialect at = rw (none-past s (length s) (omega arith))
 
 module _ (s places : List ℕ) (dialect : Dialect) (at : ℕ) (whole : Judged) (left : judge dialect at (walk (drop at s)) (seenOf s places) ≡ whole) where
-  pub turn-end : (w : Walked) → length s ≤ at → Accepts places w → judgedOf s w ≡ whole
-  unfolding judge
-  turn-end w h a = accepted-is s places w a ∙ rw (walk-past s at h) at left
+  pub turn-end : length s ≤ at → judgedOf s places walked.Read ≡ whole
+  unfolding judge judgedOf
+  turn-end h = rw (walk-past s at h) at left
 
   module _ (r : Read) (e : r ≡ readOf at (drop at s)) where
     module _ (place : ℕ) (ep : place ≡ beginsAt r) where
       abbrev placed : place ≡ at
       placed = ep ∙ read-begins at (drop at s) r e
 
-      pub turn-cut : (w : Walked) {p : ℕ} → at < length s → r ≡ read.Fault p → Refuses (faultAt 5014 place) w → judgedOf s w ≡ whole
-      unfolding judge
-      turn-cut w h d f = refused-is s (faultAt 5014 place) w f ∙ rw placed (rw (read-fault-says s at r e d h) at left)
+      pub turn-cut : (w : Walked) {p : ℕ} → at < length s → r ≡ read.Fault p → w ≡ walked.Fault (faultAt 5014 place) → judgedOf s places w ≡ whole
+      unfolding judge judgedOf
+      turn-cut w h d f = rw (f, placed) (rw (read-fault-says s at r e d h) at left)
 
       module _ (a : Avp) (x : Ruled) (d : r ≡ read.Avp a) (ex : x ≡ rule dialect (seenOf s places) (ownOf s a)) where
         abbrev says : Says s at a
@@ -56,8 +52,9 @@ module _ (s places : List ℕ) (dialect : Dialect) (at : ℕ) (whole : Judged) (
         unfolding judge
         turned = rw (says .walked, says-next s at a says, ← ex) at left
 
-        pub turn-bad : (n : ℕ) (w : Walked) → x ≡ ruled.Fault n → Refuses (faultAt n place) w → judgedOf s w ≡ whole
-        turn-bad n w z f = refused-is s (faultAt n place) w f ∙ rw placed (rw z at turned)
+        pub turn-bad : (n : ℕ) (w : Walked) → x ≡ ruled.Fault n → w ≡ walked.Fault (faultAt n place) → judgedOf s places w ≡ whole
+        unfolding judgedOf
+        turn-bad n w z f = rw (f, placed) (rw z at turned)
 
         pub turn-taken : (k : ℕ) → k ≡ kindOf (ownOf s a) → x ≡ ruled.Taken
             → judge dialect (a .next) (walk (drop (a .next) s)) (seenOf s (set places k place)) ≡ whole

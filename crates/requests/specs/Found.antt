@@ -1,21 +1,12 @@
 -- What the code's answer to a request says: places in the message stand for the AVPs there.
 use Prim.Native.Nat.{ℕ}
 use mathlib.Core.List.{List}
-use mathlib.Core.Bool.{true, false, cond}
-use mathlib.Core.Path.{_≡_}
-use Rattle.reading.specs.declared.Verdict.{Verdict}
 use Rattle.reading.specs.Places.{seenOf}
 use Rattle.requests.specs.Judged.{Judged, bad, fine}
 use Rattle.requests.specs.declared.Walked.{Walked}
+use Rattle.requests.specs.declared.Walked.the-variants.{Read, Fault}
 
-unfoldable pub judgedOf : List ℕ → Walked → Judged
-judgedOf s r = cond (r .ok) (fine (seenOf s (r .places))) (bad (r .verdict))
-
--- a verdict; or the places of the kinds
-pub record Refuses (v : Verdict) (r : Walked) : Type 0 where
-  pub refused : r .ok ≡ false
-  pub judged : r .verdict ≡ v
-
-pub record Accepts (places : List ℕ) (r : Walked) : Type 0 where
-  pub accepted : r .ok ≡ true
-  pub found : r .places ≡ places
+-- the AVPs at the places that were lent to the reading, or a verdict
+unfoldable pub judgedOf : List ℕ → List ℕ → Walked → Judged
+judgedOf s places Read = fine (seenOf s places)
+judgedOf s places (Fault v) = bad v

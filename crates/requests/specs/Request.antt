@@ -11,21 +11,26 @@ use Rattle.diameter.specs.Message.{versionOf, messageFlags, commandOf, applicat
 use Rattle.diameter.specs.Reader.{present, dataAt}
 use Rattle.reading.specs.declared.Dialect.{Dialect}
 use Rattle.reading.specs.declared.Kind.{Kind}
+use Rattle.reading.specs.declared.Terms.{Terms}
 use Rattle.reading.specs.Kinds.{known, kindOf, useIn, isNeeded, sessionId, publicIdentity, authDataItem}
 use Rattle.reading.specs.Rules.{Seen}
 use Rattle.reading.specs.Verdicts.{faultOf, lackOf}
 use Rattle.requests.specs.Judged.{Judged, bad, fine, nothing, judge}
 
--- the dialect of a request to the server of an application; the application Cx
-abbrev pub dialectOf : ℕ → List ℕ → Dialect
-dialectOf application req = record { command = commandOf req; application = application }
+-- the dialect of a request: its command, and the terms of the call
+abbrev pub dialectOf : Terms → List ℕ → Dialect
+dialectOf terms req = record { command = commandOf req; terms = terms }
 
+-- the application Cx, and the terms of a call to its server
 abbrev pub cx : ℕ
 cx = 16777216
 
+abbrev pub underCx : Terms
+underCx = record { application = cx }
+
 -- whether the application has the command: 300 to 303 are Cx's
 abbrev pub spoken : Dialect → Bool
-spoken d = eqb (d .application) cx && leb 300 (d .command) && leb (d .command) 303
+spoken d = eqb (d .terms .application) cx && leb 300 (d .command) && leb (d .command) 303
 
 -- "Header, in order: version not 1, B5011; E bit set, B3008; command not 300 to 302, B3001; application not 16777216, B3007"; "Multimedia-Auth (303)
 -- joins". 0: no fault
@@ -34,7 +39,7 @@ headerFault d req =
     cond (not (eqb (versionOf req) 1)) 5011
     (cond (eqb (messageFlags req / 32 % 2) 1) 3008
     (cond (not (spoken d)) 3001
-    (cond (not (eqb (applicationOf req) (d .application))) 3007
+    (cond (not (eqb (applicationOf req) (d .terms .application))) 3007
     0)))
 
 -- (b) "the first AVP is no Session-Id: B5005 for Session-Id"
@@ -62,12 +67,9 @@ complete d (fine seen) = cond (eqb (missing d seen) 0) (fine seen) (bad (lackOf 
 unfoldable pub readWalk : Dialect → Walk → Judged
 readWalk d w = cond (firstOther w) (bad (lackOf sessionId)) (complete d (judge d 20 w nothing))
 
--- a request read in a dialect; a request to the Cx server
+-- a request read in a dialect
 unfoldable pub readIn : Dialect → List ℕ → Judged
 readIn d req = cond (eqb (headerFault d req) 0) (readWalk d (bodyOf req)) (bad (faultOf (headerFault d req)))
-
-abbrev pub readRequest : List ℕ → Judged
-readRequest req = readIn (dialectOf cx req) req
 
 -- What a read request says: whether an AVP of a kind came, its data, its number
 abbrev pub given : Seen → ℕ → Bool

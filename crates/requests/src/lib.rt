@@ -8,6 +8,7 @@ use diameter::codes;
 use diameter::message;
 use octets::number;
 use reading::Dialect;
+use reading::Terms;
 use reading::Verdict;
 use reading::base;
 use reading::kinds;
@@ -17,31 +18,35 @@ ghost use mathlib.Core.Bool.{_&&_, not};
 ghost use lib.ListN.{length};
 ghost use Rattle.diameter.specs.Reader.{partAt, present};
 ghost use Rattle.reading.specs.Kinds.{isNeeded, useIn, rowOf};
-ghost use Rattle.diameter.specs.Message.{commandOf, bodyOf};
-ghost use Rattle.requests.specs.Request.{spoken, headerFault, firstOther, missing, complete, readIn, readRequest, sessionOf};
+ghost use Rattle.diameter.specs.Message.{bodyOf};
+ghost use Rattle.requests.specs.Request.{dialectOf, spoken, headerFault, firstOther, missing, complete, readIn, sessionOf};
 ghost use Rattle.reading.specs.Places.{seenOf};
 ghost use Rattle.requests.specs.Found.{judgedOf};
 
-// What reading a request found: for each kind number the place of its last AVP (the message's length: none came), or the first fault.
-pub struct Walked {
-    pub ok: bool,
-    pub verdict: Verdict,
-    pub places: [usize; kinds::KINDS],
+// What reading a request found: its AVPs, whose places it left in what was lent to it, or the first fault. For each kind's number that is the place of
+// its last AVP, the message's length where none came.
+pub enum Walked {
+    Read,
+    Fault(Verdict),
 }
 
-// The command of a request.
-pub fn command(req: &[u8]) -> usize
+// The dialect of a request: its command, and the terms of the call.
+pub fn dialect(req: &[u8], terms: Terms) -> Dialect
     requires { ⌜ 20 ≤ length (now req) ⌝ }
-    ensures { λ r. ⌜ r ≡ commandOf (now (req .entry)) ⌝ }
+    ensures { λ r. ⌜ r ≡ dialectOf terms (now (req .entry)) ⌝ }
 {
-    number::be24(req, message::COMMAND_AT)
+    Dialect {
+        command: number::be24(req, message::COMMAND_AT),
+        terms,
+    }
 }
 
 // Whether the application has the command.
 fn spoken(d: Dialect) -> bool
     ensures { λ r. ⌜ r ≡ spoken d ⌝ }
 {
-    (d.application == codes::CX) & (reading::UAR <= d.command) & (d.command <= reading::MAR)
+    let terms = d.terms;
+    (terms.application == codes::CX) & (reading::UAR <= d.command) & (d.command <= reading::MAR)
 }
 
 // The header's first fault, 0 where there is none.
@@ -49,6 +54,7 @@ fn header_fault(req: &[u8], d: Dialect) -> u32
     requires { ⌜ 20 ≤ length (now req) ⌝ }
     ensures { λ r. ⌜ r ≡ headerFault d (now (req .entry)) ⌝ }
 {
+    let terms = d.terms;
     if req[message::VERSION_AT] != message::VERSION {
         return base::UNSUPPORTED_VERSION;
     }
@@ -58,7 +64,7 @@ fn header_fault(req: &[u8], d: Dialect) -> u32
     if !spoken(d) {
         return base::COMMAND_UNSUPPORTED;
     }
-    if number::be32(req, message::APPLICATION_AT) != d.application {
+    if number::be32(req, message::APPLICATION_AT) != terms.application {
         return base::APPLICATION_UNSUPPORTED;
     }
     0
@@ -96,23 +102,25 @@ fn missing(s: &[u8], d: Dialect, places: [usize; kinds::KINDS]) -> usize
 }
 
 // "After the walk, the first missing AVP"
-fn complete(s: &[u8], d: Dialect, w: Walked) -> Walked
-    ensures { λ r. ⌜ judgedOf (now (s .entry)) r ≡ complete d (judgedOf (now (s .entry)) w) ⌝ }
+fn complete(s: &[u8], d: Dialect, places: [usize; kinds::KINDS], w: Walked) -> Walked
+    ensures { λ r. ⌜ judgedOf (now (s .entry)) places r ≡ complete d (judgedOf (now (s .entry)) places w) ⌝ }
 {
-    if w.ok {
-        let places = w.places;
-        let k = missing(s, d, places);
-        if k != 0 {
-            return walk::refuse(base::MISSING_AVP, 0, k);
+    match w {
+        Walked::Fault(_) => w,
+        Walked::Read => {
+            let k = missing(s, d, places);
+            if k != 0 {
+                return walk::refuse(base::MISSING_AVP, 0, k);
+            }
+            w
         }
     }
-    w
 }
 
-// The request read in a dialect: the first fault, or the places of its AVPs.
-pub fn read_in(req: &[u8], d: Dialect) -> Walked
+// The request read in a dialect: the first fault, or its AVPs, whose places are left in what is lent.
+pub fn read_in(req: &[u8], d: Dialect, places: &mut [usize; kinds::KINDS]) -> Walked
     requires { ⌜ 20 ≤ length (now req) ⌝ }
-    ensures { λ r. ⌜ judgedOf (now (req .entry)) r ≡ readIn d (now (req .entry)) ⌝ }
+    ensures { λ r. ⌜ judgedOf (now (req .entry)) (now (places .exit)) r ≡ readIn d (now (req .entry)) ⌝ }
 {
     let n = header_fault(req, d);
     if n != 0 {
@@ -121,19 +129,8 @@ pub fn read_in(req: &[u8], d: Dialect) -> Walked
     if first_other(req) {
         return walk::refuse(base::MISSING_AVP, 0, kinds::SESSION_ID);
     }
-    complete(req, d, walk::walk_message(req, d))
-}
-
-// A request to the Cx server.
-pub fn read_request(req: &[u8]) -> Walked
-    requires { ⌜ 20 ≤ length (now req) ⌝ }
-    ensures { λ r. ⌜ judgedOf (now (req .entry)) r ≡ readRequest (now (req .entry)) ⌝ }
-{
-    let d = Dialect {
-        command: command(req),
-        application: codes::CX,
-    };
-    read_in(req, d)
+    let w = walk::walk_message(req, d, places);
+    complete(req, d, *places, w)
 }
 
 // Session-Id for the answer: "if it is the first AVP and passes (a) to (c)", else nothing.

@@ -14,44 +14,25 @@ ghost use lib.ListN.{drop};
 ghost use Rattle.diameter.specs.Walk.{walk};
 ghost use Rattle.reading.specs.declared.Outcome.the-variants.{Base};
 ghost use Rattle.requests.specs.Judged.{nothing, judge};
-ghost use Rattle.requests.specs.Found.{judgedOf, Refuses, Accepts};
+ghost use Rattle.requests.specs.Found.{judgedOf};
 
 // A fault: its base result, the place of the AVP at fault (0: none is), the kind that is missing (0: none is).
 pub fn refuse(number: u32, place: usize, lacks: usize) -> Walked
-    ensures { λ r. ⌜ Refuses (record { result = Base number; place = place; lacks = lacks }) r ⌝ }
+    ensures { λ r. ⌜ r ≡ Walked.Fault (record { result = Base number; place = place; lacks = lacks }) ⌝ }
 {
-    Walked {
-        ok: false,
-        verdict: Verdict {
-            result: Outcome::Base(number),
-            place,
-            lacks,
-        },
-        places: [0; kinds::KINDS],
-    }
+    Walked::Fault(Verdict {
+        result: Outcome::Base(number),
+        place,
+        lacks,
+    })
 }
 
-// No fault, and the places of the kinds.
-pub fn accept(places: [usize; kinds::KINDS]) -> Walked
-    ensures { λ r. ⌜ Accepts places r ⌝ }
-{
-    Walked {
-        ok: true,
-        verdict: Verdict {
-            result: Outcome::Base(base::SUCCESS),
-            place: 0,
-            lacks: 0,
-        },
-        places,
-    }
-}
-
-// The walk over the AVPs, up to the first fault. Each place that it gives back is the reader's.
-pub fn walk_message(s: &[u8], d: Dialect) -> Walked
-    ensures { λ r. ⌜ judgedOf (now (s .entry)) r ≡ judge d 20 (walk (drop 20 (now (s .entry)))) nothing ⌝ }
+// The walk over the AVPs, up to the first fault. Each place that it leaves is the reader's.
+pub fn walk_message(s: &[u8], d: Dialect, places: &mut [usize; kinds::KINDS]) -> Walked
+    ensures { λ r. ⌜ judgedOf (now (s .entry)) (now (places .exit)) r ≡ judge d 20 (walk (drop 20 (now (s .entry)))) nothing ⌝ }
 {
     let absent = s.len();
-    let mut places = [absent; kinds::KINDS];
+    *places = [absent; kinds::KINDS];
     let mut at = message::BODY;
     while at < s.len() {
         let read = diameter::read_avp(s, at);
@@ -60,12 +41,12 @@ pub fn walk_message(s: &[u8], d: Dialect) -> Walked
             return refuse(base::INVALID_AVP_LENGTH, place, 0);
         };
         let k = kinds::kind_of(s, a);
-        match rules::rule_at(s, d, places, a, k) {
+        match rules::rule_at(s, d, *places, a, k) {
             Ruled::Taken => places[k] = place,
             Ruled::Skipped => {}
             Ruled::Fault(n) => return refuse(n, place, 0),
         }
         at = a.next;
     }
-    accept(places)
+    Walked::Read
 }

@@ -1,18 +1,11 @@
 -- The bytes of a renewed block: what is written anew, and what stays.
-use Prim.Native.Nat.{ℕ, _+_, _-_, _<_, _≤_}
-use mathlib.Core.Bool.{Bool, true, false, _&&_, _||_, true≢false}
-use mathlib.Core.Path.{_≡_, refl, sym, _∙_}
-use mathlib.Core.Logic.{_≢_}
-use mathlib.Core.List.{List}
-use native.Mathlib.Omega.{arith}
-use lib.Dec.{ltb, leb, eqb}
-use borrow.Author.Tests.{ltb-true, ltb-false, leb-true, leb-false, lt-leb, le-leb, le-ltb, eqb-true, eqb-false, ne-eqb}
-use lib.ListN.{length, getD, set, take, drop, length-set, length-take, length-drop}
-use lib.Seq.{getD-set-same, getD-set-other, getD-take, getD-drop, ext-getD}
+use Rattle.octets.specs.Standard.{ℕ, _+_, _-_, _<_, _≤_, Bool, true, false, _&&_, _||_, true≢false, _≡_, refl, sym, _∙_, _≢_, List, arith, ltb, leb}
+use Rattle.octets.specs.Standard.{eqb, ltb-true, ltb-false, leb-true, leb-false, lt-leb, le-leb, le-ltb, eqb-true, eqb-false, ne-eqb, length, getD}
+use Rattle.octets.specs.Standard.{set, take, drop, length-set, length-take, length-drop, getD-set-same, getD-set-other, getD-take, getD-drop}
+use Rattle.octets.specs.Standard.{ext-getD}
 use Rattle.octets.specs.Run.{putName}
 use Rattle.octets.proofs.Runs.{name-length, name-apart, name-here}
 use Rattle.record.specs.Fields.{serverOf}
-use Rattle.blocks.specs.Sealed.{sealed}
 use Rattle.blocks.proofs.Sealed.{sealed-length, seal-before, seal-alike}
 use Rattle.rewrite.specs.Change.{alterable}
 use Rattle.rewrite.specs.Renew.{renewed}

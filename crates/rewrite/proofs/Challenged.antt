@@ -1,12 +1,6 @@
 -- A challenge stores a name and sets pending: a change of a record's block that keeps what every effect keeps.
-use Prim.Native.Nat.{ℕ, _+_, _-_, _/_, _%_, _<_, _≤_}
-use mathlib.Core.Bool.{Bool, true, false, cond, not, _||_}
-use mathlib.Core.Path.{_≡_, refl, sym, _∙_, ap}
-use mathlib.Core.List.{List}
-use native.Mathlib.Omega.{arith}
-use lib.Dec.{eqb, ltb}
-use borrow.Author.Tests.{eqb-true, eq-eqb, ne-eqb, lt-ltb}
-use lib.ListN.{length}
+use Rattle.octets.specs.Standard.{ℕ, _%_, _≤_, Bool, true, false, cond, not, _||_, or-true, _≡_, refl, _∙_, ap, List, arith, eqb, ltb, eq-eqb, ne-eqb}
+use Rattle.octets.specs.Standard.{lt-ltb, length}
 use Rattle.octets.specs.Name.{same}
 use Rattle.octets.proofs.Names.{same-yes}
 use Rattle.record.specs.Fields.{stateOf, bitsOf, serverOf, pendingSet}
@@ -14,7 +8,7 @@ use Rattle.record.specs.RecordBlock.{recordOf, serverFits, soundRecord}
 use Rattle.record.specs.Sets.{agreeing}
 use Rattle.record.specs.declared.header.Header.{Header}
 use Rattle.record.proofs.OneSet.{Agree, agree-says}
-use Rattle.record.proofs.Tests.{RecordTests, record-says, Limits, limits-say}
+use Rattle.record.proofs.Tests.{record-says, limits-say}
 use Rattle.rewrite.specs.Change.{Kept, Keeps}
 use Rattle.rewrite.specs.Renew.{renewed, challenged}
 use Rattle.rewrite.proofs.Bytes.{renewed-length, renewed-other, renewed-state, renewed-bits, renewed-stores, renewed-alike}
@@ -29,11 +23,7 @@ module _ (name : List ℕ) (least : 1 ≤ length name) (most : length name ≤ 9
     served : serverFits (length name) (stateOf b) (pendingSet (bitsOf b)) ≡ true
     served =
         rw (ne-eqb (length name) 0 (omega arith), lt-ltb 0 (length name) (omega arith), eq-eqb (pendingSet (bitsOf b) % 2) 1 (omega arith))
-        (go (ltb 0 (stateOf b)))
-      where
-        go : (x : Bool) → (x || true) ≡ true
-        go true = refl
-        go false = refl
+        (or-true (ltb 0 (stateOf b)))
 
     two : (k : ℕ) (h : Header) (file : ℕ) → soundRecord b k h file ≡ true → stateOf b ≤ 2
     unfolding recordOf

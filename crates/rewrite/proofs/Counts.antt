@@ -1,13 +1,6 @@
 -- How many records an effect alters: what each rewriting altered, added up, since a record that is changed twice is changed once.
-use Prim.Native.Nat.{ℕ, zero, suc, _+_, _*_, _<_, _≤_}
-use mathlib.Core.Bool.{Bool, true, false, cond}
-use mathlib.Core.Path.{_≡_, refl, sym, _∙_, ap}
-use mathlib.Core.Logic.{_≢_}
-use mathlib.Core.List.{List}
-use native.Mathlib.Omega.{arith}
-use lib.Dec.{eqb}
-use borrow.Author.Tests.{eqb-true, eqb-false}
-use lib.ListN.{length}
+use Rattle.octets.specs.Standard.{ℕ, zero, suc, _+_, _*_, _<_, _≤_, Bool, true, false, cond, _≡_, refl, sym, _∙_, ap, _≢_, List, arith, eqb, eqb-true}
+use Rattle.octets.specs.Standard.{eqb-false, length}
 use Rattle.octets.specs.Name.{same}
 use Rattle.blocks.specs.Blocks.{blockOf}
 use Rattle.blocks.proofs.Blocks.{block-length}

@@ -1,11 +1,6 @@
 -- Which records an effect reaches: whole sets, each of them once, and never the header.
-use Prim.Native.Nat.{ℕ, _<_, _≤_}
-use mathlib.Core.Bool.{Bool, true, false, _||_, or-false, or-assoc, true≢false}
-use mathlib.Core.Path.{_≡_, refl, sym, ap, _∙_}
-use mathlib.Core.List.{List, [], _∷_, _++_}
-use native.Mathlib.Omega.{arith}
-use lib.Dec.{eqb}
-use borrow.Author.Tests.{eqb-true, ne-eqb}
+use Rattle.octets.specs.Standard.{ℕ, _<_, _≤_, Bool, true, false, _||_, or-false, or-assoc, or-true, _≡_, refl, sym, ap, _∙_, List, [], _∷_, _++_}
+use Rattle.octets.specs.Standard.{arith, eqb, eqb-true, ne-eqb}
 use Rattle.octets.specs.Number.{be16At}
 use Rattle.octets.specs.Run.{zeroBetween}
 use Rattle.octets.specs.Sum.{sumWords}
@@ -43,11 +38,7 @@ module _ (t : List ℕ) where
       go false a b = g b
 
   one-set : (k j : ℕ) → sameSet (blockOf t k) (blockOf t j) ≡ true → one k j ≡ true
-  one-set k j e = rw e (go (eqb j k))
-    where
-      go : (x : Bool) → (x || true) ≡ true
-      go true = refl
-      go false = refl
+  one-set k j e = rw e (or-true (eqb j k))
 
   one-next : (k i j : ℕ) → sameSet (blockOf t i) (blockOf t j) ≡ true → one k i ≡ true → one k j ≡ true
   one-next k i j s e =

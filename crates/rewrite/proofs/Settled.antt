@@ -1,17 +1,12 @@
 -- A renewed block: that it is sound if its new fields fit; and that settling a record is a change of its block that keeps what every effect keeps.
-use Prim.Native.Nat.{ℕ, _+_, _-_, _/_, _%_, _<_, _≤_}
-use mathlib.Core.Bool.{true, false}
-use mathlib.Core.Path.{_≡_, refl, sym, _∙_, ap}
-use mathlib.Core.List.{List, []}
-use native.Mathlib.Omega.{arith}
-use borrow.Author.Tests.{ne-eqb, lt-ltb}
-use lib.ListN.{length, getD, List·getD-eq-default}
+use Rattle.octets.specs.Standard.{ℕ, _+_, _-_, _/_, _%_, _<_, _≤_, true, false, _≡_, refl, sym, _∙_, ap, List, [], arith, ne-eqb, lt-ltb, length}
+use Rattle.octets.specs.Standard.{getD, List·getD-eq-default}
 use Rattle.octets.specs.Number.{be16At, be32At}
 use Rattle.octets.specs.Sum.{sumWords}
 use Rattle.octets.proofs.Numbers.{be16-alike, be32-alike}
 use Rattle.octets.proofs.Runs.{at-zero, zero-alike}
 use Rattle.record.specs.Fields.{bitsOf, cleared}
-use Rattle.record.specs.RecordBlock.{recordOf, isRecord, soundSet, serverFits, soundServer, soundRecord}
+use Rattle.record.specs.RecordBlock.{recordOf, isRecord, soundSet, serverFits, soundRecord}
 use Rattle.record.specs.Sets.{agreeing}
 use Rattle.record.specs.declared.header.Header.{Header}
 use Rattle.record.proofs.OneSet.{agree-holds}

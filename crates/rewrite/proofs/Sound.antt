@@ -1,29 +1,22 @@
 -- What rests on what every effect keeps: a table stays sound, and what is found in it is found again.
-use Prim.Native.Nat.{ℕ, _+_, _-_, _*_, _<_, _≤_}
-use mathlib.Core.Bool.{Bool, true, false, _&&_, cond}
-use mathlib.Core.Path.{_≡_, refl, sym, _∙_}
-use mathlib.Core.List.{List, []}
-use native.Mathlib.Omega.{arith}
-use lib.Dec.{eqb, leb}
-use borrow.Author.Tests.{eqb-true, eqb-false, leb-true, leb-false}
-use lib.ListN.{length, getD, drop-of-length-le}
-use Rattle.octets.specs.Name.{orderOf}
-use Rattle.octets.proofs.All.{and-left, and-right}
+use Rattle.octets.specs.Standard.{ℕ, _+_, _*_, _<_, _≤_, Bool, true, false, _≡_, refl, sym, _∙_, List, [], arith, eqb, leb, eqb-true, eqb-false}
+use Rattle.octets.specs.Standard.{leb-true, leb-false, length, drop-of-length-le}
 use Rattle.octets.proofs.Numbers.{be16-alike}
 use Rattle.octets.proofs.Parts.{part-alike}
 use Rattle.record.specs.Fields.{publicSize, privateSize, publicOf, privateOf, setOf}
 use Rattle.record.specs.HeaderBlock.{headerOf}
-use Rattle.record.specs.RecordBlock.{recordOf, soundRecord}
+use Rattle.record.specs.RecordBlock.{recordOf}
 use Rattle.record.specs.Sets.{sameSet}
 use Rattle.record.specs.declared.header.Header.{Header}
 use Rattle.record.proofs.OneSet.{set-alike}
 use Rattle.blocks.specs.Blocks.{blockOf}
 use Rattle.table.specs.Named.{publicAt}
-use Rattle.table.specs.Check.{isLess, risesAt, standsAt, agreesAt, soundAt, checkTable}
+use Rattle.table.specs.Check.{risesAt, standsAt, agreesAt, soundAt, checkTable}
 use Rattle.blocks.specs.declared.Checked.the-variants.{Sound}
 use Rattle.table.specs.SoundTable.{SoundTable}
 use Rattle.table.proofs.Agreement.{agrees-holds}
-use Rattle.table.proofs.Sound.{TableTests, table-holds, sound-tests, sound-record, sound-agrees, sound-limits, sound-public}
+use Rattle.table.proofs.Rising.{rises-alike}
+use Rattle.table.proofs.Sound.{TableTests, table-holds, tests-rises, sound-tests, sound-record, sound-agrees, sound-limits, sound-public}
 use Rattle.rewrite.specs.Change.{Kept}
 use Rattle.rewrite.proofs.Bytes.{kept-low, kept-high}
 use Rattle.rewrite.proofs.Tables.{Keeping}
@@ -67,13 +60,7 @@ module _ (x y : List ℕ) (count : ℕ) (keeping : Keeping x y count) (sound : S
   keeping-public k a b = kept-public (blockOf x k) (blockOf y k) (keeping .each k a b) (sound-public x count sound k a b)
 
   rises-same : (k : ℕ) → 1 ≤ k → k ≤ count → risesAt y k ≡ risesAt x k
-  unfolding risesAt
-  rises-same k a b = go (leb k 1) refl
-    where
-      go : (z : Bool) → leb k 1 ≡ z
-          → cond z true (isLess (orderOf (publicAt y (k - 1)) (publicAt y k))) ≡ cond z true (isLess (orderOf (publicAt x (k - 1)) (publicAt x k)))
-      go true e = refl
-      go false e = let l : 1 < k = leb-false k 1 e in rw (keeping-public (k - 1) (omega arith) (omega arith), keeping-public k a b)
+  rises-same k a b = rises-alike x y k a (λ j u v. keeping-public j u (omega arith))
 
   -- what sets are made of stays, whatever the block
   keeping-block : (k : ℕ) → (setOf (blockOf y k) ≡ setOf (blockOf x k)) × (privateOf (blockOf y k) ≡ privateOf (blockOf x k))
@@ -111,10 +98,12 @@ module _ (x y : List ℕ) (count : ℕ) (keeping : Keeping x y count) (sound : S
   good-at : (k : ℕ) → 1 ≤ k → k ≤ count → soundAt y h (sound .file) k ≡ true
   unfolding soundAt standsAt
   good-at k a b =
-      let r : risesAt x k ≡ true =
-      and-right (soundRecord (blockOf x k) k h (sound .file)) (risesAt x k)
-      (and-left (standsAt x h (sound .file) k) (agreesAt x k) (was .each k a b)) in
-      rw (keeping .each k a b .sound k h (sound .file) (sound-record x count sound k a b), rises-same k a b, agrees-still k a b, r)
+      rw (
+        keeping .each k a b .sound k h (sound .file) (sound-record x count sound k a b),
+        rises-same k a b,
+        agrees-still k a b,
+        tests-rises x (sound .file) count was k a b,
+      )
 
   pub keeping-sound : checkTable y (sound .file) ≡ Sound count
   keeping-sound =

@@ -1,17 +1,11 @@
 -- The table after an effect, by its blocks: for any change that keeps what every effect keeps.
-use Prim.Native.Nat.{ℕ, suc, _+_, _*_, _<_, _≤_}
-use mathlib.Core.Bool.{Bool, true, false, cond, _||_}
-use mathlib.Core.Path.{_≡_, refl, sym, _∙_}
-use mathlib.Core.List.{List}
-use native.Mathlib.Omega.{arith}
-use lib.Dec.{eqb}
-use borrow.Author.Tests.{eqb-true, eqb-false, ne-eqb}
-use lib.ListN.{length}
+use Rattle.octets.specs.Standard.{ℕ, suc, _+_, _*_, _≤_, Bool, true, false, cond, _||_, _≡_, refl, sym, _∙_, ap, List, arith, eqb, ne-eqb, eq-eqb}
+use Rattle.octets.specs.Standard.{length}
 use Rattle.blocks.specs.Blocks.{blockOf}
-use Rattle.blocks.proofs.Blocks.{block-length, table-is, table-same}
+use Rattle.blocks.proofs.Blocks.{block-length, table-same}
 use Rattle.record.specs.Sets.{sameSet, agreeing}
 use Rattle.blocks.specs.Changed.{changedAt, changedAll, changedIn}
-use Rattle.blocks.proofs.Changed.{Whole, in-length, in-here, in-other, all-none, all-length, all-block}
+use Rattle.blocks.proofs.Changed.{Whole, all-none, all-length, all-block, one-more}
 use Rattle.rewrite.specs.Change.{afterOf, Kept, Keeps}
 
 pub kept-same : (b c : List ℕ) → c ≡ b → Kept b c
@@ -117,11 +111,8 @@ module _ (t : List ℕ) (count : ℕ) (change : List ℕ → List ℕ) (size : l
 
     -- the one that is chosen
     pub one-after : (k : ℕ) → k ≤ count → (chosen : ℕ → Bool) → ((j : ℕ) → chosen j ≡ eqb j k) → changedIn t k change ≡ afterOf t count chosen change
-    unfolding afterOf changedAll changedAt
+    unfolding afterOf changedAt
     one-after k b chosen is =
-        table-is (changedIn t k change) (suc count) (in-length t k change (keeps-whole keeps) (omega arith) ∙ omega arith)
-        ∙ table-same (blockOf (changedIn t k change)) (changedAt t chosen change) (suc count) (λ j l. go j (eqb j k) refl)
-      where
-        go : (j : ℕ) (x : Bool) → eqb j k ≡ x → blockOf (changedIn t k change) j ≡ changedAt t chosen change j
-        go j true e = let q : j ≡ k = eqb-true j k e in rw (is j, e) (rw q (in-here t k change (keeps-whole keeps) (omega arith)))
-        go j false e = rw (is j, e) (in-other t k change (keeps-whole keeps) (omega arith) j (eqb-false j k e))
+        ap (λ (z : List ℕ). changedIn z k change) (after-none (λ (j : ℕ). false) (λ j l. refl))
+        ∙ one-more t (suc count) (λ (j : ℕ). false) change (omega arith) (keeps-whole keeps) chosen k (omega arith) refl (is k ∙ eq-eqb k k refl)
+        (λ j d. sym (is j ∙ ne-eqb j k d))

@@ -1,23 +1,17 @@
 -- The members of a set are altered together or not at all: whether a sound record gets other bytes, what a set agrees in says.
-use Prim.Native.Nat.{ℕ, _+_, _-_, _*_, _%_, _<_, _≤_}
-use mathlib.Core.Bool.{Bool, true, false, _&&_, _||_, not, cond}
-use mathlib.Core.Path.{_≡_, refl, sym, ap, _∙_}
-use mathlib.Core.List.{List}
-use native.Mathlib.Omega.{arith}
-use lib.Dec.{eqb, ltb}
-use lib.ListN.{length}
-use borrow.Author.Tests.{eqb-true, eq-eqb, ltb-true, ltb-false}
+use Rattle.octets.specs.Standard.{ℕ, _+_, _*_, _%_, _≤_, Bool, true, false, _&&_, _||_, not, cond, _≡_, refl, sym, _∙_, List, arith, eqb, ltb, length}
+use Rattle.octets.specs.Standard.{eqb-true, eq-eqb, ltb-true, ltb-false}
 use Rattle.octets.specs.Name.{same}
 use Rattle.octets.specs.Run.{zeroBetween}
 use Rattle.octets.specs.Sum.{sumWords}
 use Rattle.octets.proofs.Names.{same-eq}
 use Rattle.octets.proofs.Numbers.{Bytes}
-use Rattle.record.specs.Fields.{stateOf, bitsOf, serverSize, serverOf, cleared, pendingSet}
+use Rattle.record.specs.Fields.{stateOf, bitsOf, serverOf, cleared, pendingSet}
 use Rattle.record.specs.RecordBlock.{recordOf, soundRecord}
 use Rattle.record.specs.Sets.{sameSet, agreeing}
 use Rattle.record.specs.declared.header.Header.{Header}
 use Rattle.record.proofs.OneSet.{Agree, agree-says, agree-refl, agree-sym, set-sym}
-use Rattle.record.proofs.Tests.{RecordTests, record-says, Zeros, rest-says}
+use Rattle.record.proofs.Tests.{RecordTests, record-says, rest-says}
 use Rattle.blocks.specs.Blocks.{blockOf}
 use Rattle.table.specs.SoundTable.{SoundTable}
 use Rattle.blocks.proofs.Blocks.{block-length, block-bytes}

@@ -1,49 +1,30 @@
 -- The turns of a loop over all the records of a table that changes the chosen ones, each where it stands.
-use Prim.Native.Nat.{ℕ, zero, suc, _+_, _*_, _<_, _≤_}
-use mathlib.Core.Bool.{Bool, true, false, cond, _&&_}
-use mathlib.Core.Path.{_≡_, refl, sym, ap, _∙_}
-use mathlib.Core.Logic.{_≢_}
-use mathlib.Core.List.{List, [], _∷_}
-use native.Mathlib.Omega.{arith}
-use native.Mathlib.Numerals.{add-one}
-use lib.Dec.{eqb, leb, ltb}
-use lib.ListN.{length}
-use borrow.Author.Tests.{eqb-true, eqb-false, le-leb, lt-leb, leb-true, leb-false}
+use Rattle.octets.specs.Standard.{ℕ, zero, suc, _+_, _*_, _<_, _≤_, Bool, true, false, cond, _≡_, refl, sym, ap, _∙_, _≢_, List, [], _∷_, arith}
+use Rattle.octets.specs.Standard.{add-one, length, le-ltb}
 use Rattle.record.specs.Fields.{setOf}
 use Rattle.record.specs.Sets.{sameSet}
 use Rattle.record.proofs.OneSet.{set-alike}
 use Rattle.blocks.specs.Blocks.{blockOf}
 use Rattle.table.specs.SoundTable.{SoundTable}
-use Rattle.blocks.proofs.Blocks.{block-length, table-is, table-same}
+use Rattle.blocks.proofs.Blocks.{block-length}
 use Rattle.table.proofs.Sound.{sound-size}
-use Rattle.blocks.specs.Changed.{changedAt, changedAll, changedIn}
-use Rattle.blocks.proofs.Changed.{in-length, in-here, in-other}
+use Rattle.blocks.specs.Changed.{changedAt, changedIn}
+use Rattle.blocks.proofs.Changed.{in-here, in-other, upTo, turns-next, turns-end}
 use Rattle.rewrite.specs.Change.{afterOf, reaches, Kept, Keeps, differ, alteredUpTo}
 use Rattle.rewrite.specs.Renew.{changeOf, ChangeFits}
 use Rattle.rewrite.specs.declared.Change.{Change}
 use Rattle.rewrite.specs.declared.Change.the-variants.{Settled, Challenged}
 use Rattle.rewrite.proofs.Challenged.{challenged-keeps}
-use Rattle.rewrite.proofs.Counts.{altered-most, altered-none, one-counts}
+use Rattle.rewrite.proofs.Counts.{altered-most, one-counts}
 use Rattle.rewrite.proofs.Reaching.{reaches-alone, reaches-members, reaches-later}
 use Rattle.rewrite.proofs.Settled.{settled-keeps}
 use Rattle.rewrite.proofs.Sound.{kept-set, kept-private, sound-private}
-use Rattle.rewrite.proofs.Tables.{keeps-whole, after-choice, after-none, after-length, after-block, after-kept, one-after}
+use Rattle.rewrite.proofs.Tables.{keeps-whole, after-none, after-length, after-block, after-kept, one-after}
 use Rattle.rewrite.proofs.Writes.{differ-same, in-differs}
-
--- the chosen ones of the first i records
-abbrev pub upTo : ℕ → (ℕ → Bool) → ℕ → Bool
-upTo i p j = leb j i && p j
-
-up-to-last : (i : ℕ) (p : ℕ → Bool) (j : ℕ) → j ≢ i + 1 → upTo (i + 1) p j ≡ upTo i p j
-up-to-last i p j n = go (leb j i) refl
-  where
-    go : (x : Bool) → leb j i ≡ x → (leb j (i + 1) && p j) ≡ (x && p j)
-    go true e = rw (le-leb j (i + 1) (omega (arith, leb-true j i e)))
-    go false e = rw (lt-leb j (i + 1) (omega (arith, leb-false j i e, n)))
 
 -- Where such a loop is: what the table y is by then, and how many records were altered.
 pub record Going (x : List ℕ) (count : ℕ) (p : ℕ → Bool) (change : List ℕ → List ℕ) (i : ℕ) (y : List ℕ) (altered : ℕ) : Type 0 where
-  pub table : y ≡ afterOf x count (upTo i p) change
+  pub table : y ≡ afterOf x count (upTo (i + 1) p) change
   pub counts : altered ≡ alteredUpTo x y i
 
 altered-alike : (x y z : List ℕ) (n : ℕ) → ((j : ℕ) → j ≤ n → blockOf z j ≡ blockOf y j) → alteredUpTo x z n ≡ alteredUpTo x y n
@@ -54,21 +35,21 @@ altered-alike x y z (suc n) h = rw (altered-alike x y z n (λ j l. h j (omega ar
 module _ (x : List ℕ) (count : ℕ) (p : ℕ → Bool) (change : List ℕ → List ℕ) (keeps : Keeps change) (size : length x ≡ 512 * (count + 1)) where
   pub going-start : p 0 ≡ false → Going x count p change 0 x 0
   unfolding alteredUpTo
-  going-start first = record { table = after-none x count change size (upTo 0 p) (λ k l. none k); counts = refl }
+  going-start first = record { table = after-none x count change size (upTo 1 p) (λ k l. none k); counts = refl }
     where
-      none : (k : ℕ) → upTo 0 p k ≡ false
+      none : (k : ℕ) → upTo 1 p k ≡ false
       none zero = first
-      none (suc k) = rw (lt-leb (suc k) 0 (omega arith))
+      none (suc k) = rw (le-ltb (suc k) 1 (omega arith))
 
   module _ (i : ℕ) (y : List ℕ) (altered : ℕ) (going : Going x count p change i y altered) where
     pub going-size : length y ≡ 512 * (count + 1)
-    going-size = rw (going .table) (after-length x count change size (upTo i p) keeps ∙ size)
+    going-size = rw (going .table) (after-length x count change size (upTo (i + 1) p) keeps ∙ size)
 
-    going-block : (j : ℕ) → j ≤ count → blockOf y j ≡ changedAt x (upTo i p) change j
-    going-block j h = rw (going .table) (after-block x count change size (upTo i p) keeps j h)
+    going-block : (j : ℕ) → j ≤ count → blockOf y j ≡ changedAt x (upTo (i + 1) p) change j
+    going-block j h = rw (going .table) (after-block x count change size (upTo (i + 1) p) keeps j h)
 
     pub going-kept : (j : ℕ) → j ≤ count → Kept (blockOf x j) (blockOf y j)
-    going-kept j h = rw (going .table) (after-kept x count change size (upTo i p) keeps j h)
+    going-kept j h = rw (going .table) (after-kept x count change size (upTo (i + 1) p) keeps j h)
 
     pub going-few : altered ≤ i
     going-few = omega (arith, going .counts, altered-most x y i)
@@ -76,7 +57,7 @@ module _ (x : List ℕ) (count : ℕ) (p : ℕ → Bool) (change : List ℕ → 
     -- the next record is as it came
     pub going-next : i < count → blockOf y (i + 1) ≡ blockOf x (i + 1)
     unfolding changedAt
-    going-next h = going-block (i + 1) (omega arith) ∙ rw (lt-leb (i + 1) i (omega arith))
+    going-next h = going-block (i + 1) (omega arith) ∙ rw (le-ltb (i + 1) (i + 1) (omega arith))
 
     -- it is looked at, and changed if it is chosen
     module _ (h : i < count) (u : Bool) (is : p (i + 1) ≡ u) (z : List ℕ) (put : z ≡ cond u (changedIn y (i + 1) change) y) where
@@ -97,24 +78,10 @@ module _ (x : List ℕ) (count : ℕ) (p : ℕ → Bool) (change : List ℕ → 
           go true = in-other y (i + 1) change (keeps-whole keeps) room j n
           go false = refl
 
-      turn-size : length z ≡ 512 * (count + 1)
-      turn-size = rw put (go u)
-        where
-          go : (v : Bool) → length (cond v (changedIn y (i + 1) change) y) ≡ 512 * (count + 1)
-          go true = in-length y (i + 1) change (keeps-whole keeps) room ∙ going-size
-          go false = going-size
-
-      turn-table : z ≡ afterOf x count (upTo (i + 1) p) change
-      unfolding afterOf changedAll changedAt
+      turn-table : z ≡ afterOf x count (upTo (i + 1 + 1) p) change
+      unfolding afterOf
       turn-table =
-          table-is z (suc count) (turn-size ∙ omega arith)
-          ∙ table-same (blockOf z) (changedAt x (upTo (i + 1) p) change) (suc count) (λ j l. go j (omega arith) (eqb j (i + 1)) refl)
-        where
-          go : (j : ℕ) → j ≤ count → (v : Bool) → eqb j (i + 1) ≡ v → blockOf z j ≡ changedAt x (upTo (i + 1) p) change j
-          go j l true e = let q : j ≡ i + 1 = eqb-true j (i + 1) e in rw (q, le-leb (i + 1) (i + 1) (omega arith), is) here
-          go j l false e =
-              let n : j ≢ i + 1 = eqb-false j (i + 1) e in
-              there j n ∙ going-block j l ∙ rw (up-to-last i p j n)
+          rw (put, going .table, ← is) (turns-next x (suc count) p change (omega arith) (keeps-whole keeps) (i + 1) (omega arith))
 
       turn-differs : differ (blockOf x (i + 1)) (blockOf z (i + 1)) ≡ differ y z
       turn-differs = rw (here, put, ← going-next h) (go u)
@@ -135,7 +102,8 @@ module _ (x : List ℕ) (count : ℕ) (p : ℕ → Bool) (change : List ℕ → 
           }
 
     pub going-end : count ≤ i → i ≤ count → y ≡ afterOf x count p change
-    going-end a b = going .table ∙ after-choice x count (upTo i p) p change (λ k l. rw (le-leb k i (omega arith)))
+    unfolding afterOf
+    going-end a b = going .table ∙ turns-end x (suc count) p change (i + 1) (omega arith)
 
     pub going-sum : count ≤ i → i ≤ count → altered ≡ alteredUpTo x y count
     going-sum a b = let q : i ≡ count = omega arith in rw q at (going .counts)

@@ -1,63 +1,26 @@
 -- A block that is already as it would be renewed.
-use Prim.Native.Nat.{ℕ, zero, suc, _+_, _-_, _/_, _%_, _^_, _<_, _≤_}
-use mathlib.Core.Bool.{Bool, true, false, _&&_, true≢false}
-use mathlib.Core.Path.{_≡_, refl, sym, _∙_, ap}
-use mathlib.Core.List.{List, [], _∷_}
-use native.Mathlib.Omega.{arith}
-use lib.Dec.{eqb, ltb}
-use lib.ListN.{length, getD, take, drop, length-take, length-drop}
-use lib.Seq.{set-getD, getD-take, getD-drop}
-use mir.Syntax.{w8}
-use mir.Val.{Fits}
-use borrow.Author.Tests.{eqb-true, eq-eqb, ltb-true, ltb-false}
+use Rattle.octets.specs.Standard.{ℕ, zero, suc, _+_, _-_, _<_, _≤_, Bool, true, false, _&&_, true≢false, _≡_, refl, sym, _∙_, ap, List, [], _∷_}
+use Rattle.octets.specs.Standard.{arith, eqb, ltb, length, getD, take, drop, length-take, length-drop, set-getD, getD-take, getD-drop, eqb-true}
+use Rattle.octets.specs.Standard.{eq-eqb, ltb-true, ltb-false}
 use Rattle.octets.specs.Name.{same}
-use Rattle.octets.specs.Number.{four, be32At, putBe32}
 use Rattle.octets.specs.Run.{putName, zeroBetween}
 use Rattle.octets.specs.Sum.{sumWords}
 use Rattle.octets.proofs.Chains.{chain-says, _also_}
 use Rattle.octets.proofs.Names.{same-eq, same-yes}
 use Rattle.octets.proofs.Numbers.{Bytes}
 use Rattle.octets.proofs.Runs.{zero-at, at-zero, past-zero}
-use Rattle.octets.proofs.Sums.{sum-lt}
 use Rattle.record.specs.Fields.{serverOf, serverSize}
-use Rattle.blocks.specs.Sealed.{negated, sealed}
-use Rattle.blocks.proofs.Sealed.{sealed-zero}
+use Rattle.blocks.specs.Sealed.{sealed}
+use Rattle.blocks.proofs.Sealed.{sealed-zero, sealed-held}
 use Rattle.rewrite.specs.Change.{differ}
 use Rattle.rewrite.specs.Renew.{renewed}
 use Rattle.rewrite.proofs.Bytes.{drafted, drafted-length, renewed-state, renewed-bits, renewed-name, renewed-stores}
 
--- A word that is put where it stands, and a name.
-digits : (a b c d : ℕ) {w : ℕ} → Fits w8 a → Fits w8 b → Fits w8 c → Fits w8 d → w ≡ four a b c d
-    → (w / 16777216 % 256 ≡ a) × (w / 65536 % 256 ≡ b) × (w / 256 % 256 ≡ c) × (w % 256 ≡ d)
-digits a b c d h i j k e = (omega arith, omega arith, omega arith, omega arith)
-
-lacks : (x c : ℕ) → x < 2 ^ 32 → c < 2 ^ 32 → (x + c) % 2 ^ 32 ≡ 0 → negated x ≡ c
-unfolding negated
-lacks x c h k e = omega arith
-
+-- A name that is put where it stands.
 name-held : (s : List ℕ) (at : ℕ) (name : List ℕ) (n : ℕ) → ((j : ℕ) → j < n → getD name j 0 ≡ getD s (at + j) 0) → putName s at name n ≡ s
 unfolding putName
 name-held s at name zero h = refl
 name-held s at name (suc n) h = rw (name-held s at name n (λ j l. h j (omega arith)), h n (omega arith)) (set-getD s (at + n) 0)
-
-module _ (b : List ℕ) (bytes : Bytes b) where
-  word-held : putBe32 b 508 (be32At b 508) ≡ b
-  unfolding putBe32 be32At
-  word-held =
-      let d = digits (getD b 508 0) (getD b 509 0) (getD b 510 0) (getD b 511 0) (bytes 508) (bytes 509) (bytes 510) (bytes 511) refl in
-      rw (d .0, set-getD b 508 0, d .1, set-getD b 509 0, d .2, set-getD b 510 0, d .3) (set-getD b 511 0)
-
-  word-lt : be32At b 508 < 2 ^ 32
-  unfolding be32At
-  word-lt = omega (arith, bytes 508, bytes 509, bytes 510, bytes 511)
-
-  word-lacks : sumWords b 128 ≡ 0 → negated (sumWords b 127) ≡ be32At b 508
-  unfolding sumWords
-  word-lacks e = lacks (sumWords b 127) (be32At b 508) (sum-lt b 127) word-lt e
-
-  sealed-held : sumWords b 128 ≡ 0 → sealed b ≡ b
-  unfolding sealed
-  sealed-held e = rw (word-lacks e) word-held
 
 module _ (b : List ℕ) (state bits : ℕ) (name : List ℕ) (bytes : Bytes b) (whole : length b ≡ 512) (most : length name ≤ 96) where
   pub server-size : serverOf b ≡ name → length name ≡ getD b 15 0

@@ -1,13 +1,7 @@
 -- What the functions that write leave, each by what its parts left.
-use Prim.Native.Nat.{ℕ, _+_, _-_, _*_, _≤_}
-use mathlib.Core.Bool.{Bool, true, false, cond, not, _||_, true≢false}
-use mathlib.Core.Path.{_≡_, refl, sym, _∙_, ap}
-use mathlib.Core.List.{List, _++_}
-use native.Mathlib.Omega.{arith}
-use lib.Dec.{eqb}
-use lib.ListN.{length, getD, set, take, drop, length-set, length-take, length-drop}
-use lib.Seq.{drop-drop, drop-at, take-at, length-take-le}
-use borrow.Rule.Slice.PartMut.{midOf, putMid, put-same, mid-len}
+use Rattle.octets.specs.Standard.{ℕ, _+_, _-_, _*_, _≤_, Bool, true, false, cond, not, _||_, true≢false, _≡_, refl, sym, _∙_, ap, List, _++_, arith}
+use Rattle.octets.specs.Standard.{eqb, length, getD, set, take, drop, length-set, length-take, length-drop, drop-drop, drop-at, take-at}
+use Rattle.octets.specs.Standard.{length-take-le, midOf, putMid, put-same, mid-len}
 use Rattle.octets.specs.Name.{same}
 use Rattle.octets.specs.Run.{putName}
 use Rattle.octets.proofs.Names.{same-eq, same-refl, same-yes, same-no}

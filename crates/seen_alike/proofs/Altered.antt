@@ -1,11 +1,6 @@
 -- A call alters as many records of the one table as of the other: whether a block is already as it would be renewed, its own bytes 2 to 407 say.
-use Prim.Native.Nat.{ℕ, zero, suc, _+_, _*_, _≤_}
-use mathlib.Core.Bool.{Bool, true, false, _&&_, cond, not, _||_}
-use mathlib.Core.Path.{_≡_, refl, sym, _∙_}
-use mathlib.Core.List.{List, [], _∷_}
-use native.Mathlib.Omega.{arith}
-use lib.Dec.{eqb, ltb}
-use lib.ListN.{length, getD}
+use Rattle.octets.specs.Standard.{ℕ, zero, suc, _+_, _≤_, Bool, true, false, _&&_, cond, not, _||_, _≡_, refl, sym, _∙_, List, [], _∷_, arith, eqb}
+use Rattle.octets.specs.Standard.{length, getD}
 use Rattle.octets.specs.Name.{same}
 use Rattle.octets.specs.Run.{zeroBetween}
 use Rattle.octets.specs.Sum.{sumWords}
@@ -27,14 +22,19 @@ use Rattle.rewrite.proofs.Counts.{altered-none}
 use Rattle.rewrite.proofs.Settled.{settled-keeps}
 use Rattle.rewrite.proofs.Tables.{after-block}
 use Rattle.rewrite.proofs.Unchanged.{held-all}
+use Rattle.reading.specs.Kinds.{serverName}
+use Rattle.reading.specs.Rules.{Seen}
+use Rattle.reading.specs.declared.Dialect.{Dialect}
 use Rattle.requests.specs.Judged.{Judged, bad, fine}
-use Rattle.requests.specs.Request.{readRequest}
+use Rattle.requests.specs.Request.{readIn, dataSeen}
 use Rattle.choices.specs.declared.plan.Deed.{Deed}
 use Rattle.choices.specs.declared.plan.Deed.the-variants.{Leave, Settle, Challenge}
-use Rattle.assignment.specs.Assignment.{Assignment, plannedRecords}
-use Rattle.fitting.specs.Decide.{assignmentOf, planRead, performed, decideJudged, decide}
-use Rattle.fitting.specs.Deeds.{carriedOut, DeedFits}
-use Rattle.fitting.proofs.Deeds.{plan-fits}
+use Rattle.assignment.specs.Assignment.{plannedRecords}
+use Rattle.deciding.specs.Plans.{assignmentOf, planRead}
+use Rattle.deciding.specs.Rules.{inForce}
+use Rattle.deciding.specs.Decide.{performedBy, judgedBy, decideBy, decide}
+use Rattle.deciding.specs.Deeds.{carriedOut, DeedFits}
+use Rattle.deciding.proofs.Deeds.{plan-fits}
 use Rattle.seen_alike.specs.Alike.{Alike, AlikeTables}
 use Rattle.seen_alike.specs.Shown.{SameTables}
 use Rattle.seen_alike.proofs.Fields.{server-alike, tables-same}
@@ -130,28 +130,31 @@ module _ (t u : List ℕ) (count : ℕ) (sound : SoundTable t count) (other : So
     challenged-at name most =
         challenged-differ (blockOf t k) (blockOf u k) (alike .blocks k b) (block-bytes t bytes k) (block-bytes u other-bytes k) zeros other-zeros room name most
 
-  deed-altered : (s : Assignment) (d : Deed) → DeedFits count (s .server) d
-      → alteredUpTo t (carriedOut t count s d) count ≡ alteredUpTo u (carriedOut u count s d) count
-  unfolding carriedOut
-  deed-altered s Leave f = altered-none t count ∙ sym (altered-none u count)
-  deed-altered s (Settle w) f =
+  deed-altered : (req v : List ℕ) (seen : Seen) (d : Deed) → DeedFits count (dataSeen seen serverName) d
+      → alteredUpTo t (carriedOut req t count seen d) count ≡ alteredUpTo u (carriedOut req u count seen d) count
+  unfolding carriedOut assignmentOf
+  deed-altered req v seen Leave f = altered-none t count ∙ sym (altered-none u count)
+  deed-altered req v seen (Settle w) f =
+      let s = assignmentOf req t seen in
       let ks = plannedRecords t count s (w .owned) in
-      rw (← planned-same [] t u count like s (w .owned))
+      rw (← assignment-same [] t u count like req v seen, ← planned-same [] t u count like s (w .owned))
       (after-altered (reaches t ks) (reaches u ks) _ (settled-keeps _ _ f)
       (reaches-same t u count sound other alike ks (planned-ranged [] t u count like s (w .owned)))
       (λ k a b. settled-at k a b _ (f .most) (w .state)) count (omega arith))
-  deed-altered s (Challenge k) (a, b, least, most) =
-      after-altered (reaches t (k ∷ [])) (reaches u (k ∷ [])) _ (challenged-keeps (s .server) least most)
+  deed-altered req v seen (Challenge k) (a, b, least, most) =
+      let server = dataSeen seen serverName in
+      after-altered (reaches t (k ∷ [])) (reaches u (k ∷ [])) _ (challenged-keeps server least most)
       (reaches-same t u count sound other alike (k ∷ []) ((a, b), tt))
-      (λ j l h. challenged-at j l h (s .server) most) count (omega arith)
+      (λ j l h. challenged-at j l h server most) count (omega arith)
 
-  pub altered-same : (req v : List ℕ) → alteredUpTo t (decide req t count v .table) count ≡ alteredUpTo u (decide req u count v .table) count
-  unfolding decide decideJudged performed assignmentOf
-  altered-same req v = go (readRequest req) refl
+  pub altered-same : (dialect : Dialect) (req v : List ℕ) → alteredUpTo t (decide dialect req t count v .table) count
+      ≡ alteredUpTo u (decide dialect req u count v .table) count
+  unfolding decideBy judgedBy performedBy
+  altered-same dialect req v = go (readIn dialect req) refl
     where
-      go : (j : Judged) → readRequest req ≡ j
-          → alteredUpTo t (decideJudged req t count v j .table) count ≡ alteredUpTo u (decideJudged req u count v j .table) count
+      go : (j : Judged) → readIn dialect req ≡ j
+          → alteredUpTo t (judgedBy inForce dialect req t count v j .table) count ≡ alteredUpTo u (judgedBy inForce dialect req u count v j .table) count
       go (bad f) e = altered-none t count ∙ sym (altered-none u count)
       go (fine seen) e =
-          rw (← plan-same [] t u count like req v seen, ← assignment-same [] t u count like req v seen)
-          (deed-altered (assignmentOf t seen req) (planRead req t count v seen .deed) (plan-fits req t count v seen sound e))
+          rw (← plan-same [] t u count like req v dialect seen)
+          (deed-altered req v seen (planRead dialect req t count v seen .deed) (plan-fits dialect req t count v seen e))

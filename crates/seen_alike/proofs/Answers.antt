@@ -1,21 +1,19 @@
 -- An answer takes the same of tables that show the same, if it names none but their records.
-use Prim.Native.Nat.{ℕ, _≤_}
-use mathlib.Core.Bool.{Bool, true, false, cond}
-use mathlib.Core.Path.{_≡_, refl, ap, _∙_}
-use mathlib.Core.List.{List, []}
-use native.Mathlib.Omega.{arith}
-use lib.Dec.{eqb}
-use borrow.Author.Tests.{eqb-false}
+use Rattle.octets.specs.Standard.{ℕ, _≤_, Bool, true, false, cond, _≡_, refl, ap, _∙_, List, [], arith, eqb, eqb-false}
 use Rattle.record.specs.Fields.{privateOf, publicOf, serverOf, mandatoryOf, optionalOf, profileOf}
 use Rattle.blocks.specs.Blocks.{blockOf, ofBlock}
 use Rattle.reading.specs.declared.Outcome.{Outcome}
 use Rattle.choices.specs.declared.Given.{Given}
 use Rattle.parts.specs.Profile.{profileAt}
-use Rattle.reply.specs.Answer.{originBytes, topBytes, identityBytes, nameBytes, dataBytes, givenBytes, restBytes, bodyBytes, answerBytes}
-use Rattle.fitting.specs.Decide.{decide}
+use Rattle.reading.specs.declared.Dialect.{Dialect}
+use Rattle.reading.specs.declared.Terms.{Terms}
+use Rattle.reply.specs.Pieces.{originBytes, topBytes, identityBytes, nameBytes, dataBytes, givenBytes}
+use Rattle.answering.specs.Answer.{restBytes, bodyBytes, answerBytes}
+use Rattle.deciding.specs.Decide.{decide}
+use Rattle.deciding.proofs.Cases.{Within}
+use Rattle.deciding.proofs.Comes.{decide-carries}
 use Rattle.seen_alike.specs.Shown.{SameTables}
 use Rattle.seen_alike.proofs.Plans.{given-same}
-use Rattle.seen_alike.proofs.Within.{Within, given-within}
 
 module _ (file t u : List ℕ) (count : ℕ) (like : SameTables file t u count) where
   -- something of a record, nothing where there is none
@@ -51,20 +49,22 @@ module _ (file t u : List ℕ) (count : ℕ) (like : SameTables file t u count) 
           profile-same,
         )
 
-    top-same : (req : List ℕ) (r : Outcome) → topBytes req t r ≡ topBytes req u r
+    top-same : (terms : Terms) (req : List ℕ) (r : Outcome) → topBytes terms req t r ≡ topBytes terms req u r
     unfolding topBytes originBytes
-    top-same req r = rw (like .header .host, like .header .realm)
+    top-same terms req r = rw (like .header .host, like .header .realm)
 
-    body-same : (req v : List ℕ) → bodyBytes req t file v g ≡ bodyBytes req u file v g
+    body-same : (terms : Terms) (req v : List ℕ) → bodyBytes terms req t file v g ≡ bodyBytes terms req u file v g
     unfolding bodyBytes restBytes givenBytes
-    body-same req v = rw (top-same req (g .verdict .result), name-same, data-same)
+    body-same terms req v = rw (top-same terms req (g .verdict .result), name-same, data-same)
 
-    pub answer-same : (req v : List ℕ) → answerBytes req t file v g ≡ answerBytes req u file v g
+    pub answer-same : (terms : Terms) (req v : List ℕ) → answerBytes terms req t file v g ≡ answerBytes terms req u file v g
     unfolding answerBytes
-    answer-same req v = rw (body-same req v)
+    answer-same terms req v = rw (body-same terms req v)
 
   -- the answer of the decision
-  pub bytes-same : (req v : List ℕ) → answerBytes req t file v (decide req t count v .given) ≡ answerBytes req u file v (decide req u count v .given)
-  bytes-same req v =
-      answer-same (decide req t count v .given) (given-within t count req v) req v
-      ∙ ap (answerBytes req u file v) (given-same file t u count like req v)
+  pub bytes-same : (dialect : Dialect) (req v : List ℕ)
+      → answerBytes (dialect .terms) req t file v (decide dialect req t count v .given)
+      ≡ answerBytes (dialect .terms) req u file v (decide dialect req u count v .given)
+  bytes-same dialect req v =
+      answer-same (decide dialect req t count v .given) (decide-carries dialect req t count v .within) (dialect .terms) req v
+      ∙ ap (answerBytes (dialect .terms) req u file v) (given-same file t u count like req v dialect)

@@ -1,9 +1,5 @@
 -- A SAR means the same records of tables that show the same, sees the same of them, and has one plan.
-use Prim.Native.Nat.{ℕ, zero, suc, _≤_}
-use mathlib.Core.Bool.{Bool, true, false, cond, _&&_}
-use mathlib.Core.Path.{_≡_, refl, sym}
-use mathlib.Core.List.{List, [], _∷_, _++_}
-use native.Mathlib.Omega.{arith}
+use Rattle.octets.specs.Standard.{ℕ, zero, suc, _≤_, Bool, true, false, cond, _&&_, _≡_, refl, sym, List, [], _∷_, _++_, arith}
 use Rattle.blocks.specs.Blocks.{blockOf}
 use Rattle.table.specs.Named.{privateAt}
 use Rattle.lookup.specs.Find.{isAt, findPublic}
@@ -16,8 +12,8 @@ use Rattle.choices.specs.Types.{isRemoval}
 use Rattle.choices.specs.declared.types.AssignmentType.{AssignmentType}
 use Rattle.choices.specs.declared.plan.Survey.{Survey}
 use Rattle.lookup.proofs.Among.{public-among}
-use Rattle.assignment.specs.Assignment.{Assignment, meantBy, every, findAll, numbersOf, firstOf, ownedHere, ownedUpTo, ownAt, storesAt, fitsAt, rightAt}
-use Rattle.assignment.specs.Assignment.{surveyOf, userKnown, ownerBy, namedSurvey, ownedSurvey, assignMeant, assign, plannedRecords}
+use Rattle.assignment.specs.Assignment.{Assignment, meantBy, every, findAll, numbersOf, firstOf, ownedHere, ownedUpTo, ownAt, storesAt, fitsAt}
+use Rattle.assignment.specs.Assignment.{rightAt, surveyOf, userKnown, ownerBy, namedSurvey, ownedSurvey, assignMeant, assign, plannedRecords}
 use Rattle.assignment.specs.declared.Meant.{Meant}
 use Rattle.assignment.specs.declared.Meant.the-variants.{Fault, Owned, Listed}
 use Rattle.seen_alike.specs.Shown.{SameRecord, SameTables}

@@ -1,8 +1,5 @@
 -- The questions of a UAR, a LIR and a MAR have one answer over tables that show the same, and so do the plans that come of them.
-use Prim.Native.Nat.{ℕ}
-use mathlib.Core.Bool.{Bool}
-use mathlib.Core.Path.{_≡_, refl, ap}
-use mathlib.Core.List.{List}
+use Rattle.octets.specs.Standard.{ℕ, Bool, _≡_, refl, ap, List}
 use Rattle.blocks.specs.Blocks.{blockOf}
 use Rattle.table.specs.Named.{privateAt}
 use Rattle.lookup.specs.Find.{findPublic}
@@ -12,10 +9,10 @@ use Rattle.choices.specs.Choices.{location}
 use Rattle.choices.specs.declared.choice.Choice.{Choice}
 use Rattle.choices.specs.declared.choice.Choice.the-variants.{Alone, Server, Capabilities, First}
 use Rattle.lookup.specs.Among.{Among}
-use Rattle.decisions.specs.Authentication.{claimedAt, claimedOf, authenticateFound, authenticate}
-use Rattle.decisions.specs.Authorization.{askedAt, askedOf, authorizeFound, authorize}
-use Rattle.decisions.specs.Carried.{servedBy, carried}
-use Rattle.decisions.specs.Location.{soughtAt, soughtOf, locateFound, locate}
+use Rattle.questions.specs.Authentication.{claimedAt, claimedOf, authenticateFound, authenticate}
+use Rattle.questions.specs.Authorization.{askedAt, askedOf, authorizeFound, authorize}
+use Rattle.questions.specs.Carried.{servedBy, carried}
+use Rattle.questions.specs.Location.{soughtAt, soughtOf, locateFound, locate}
 use Rattle.lookup.proofs.Among.{public-among}
 use Rattle.seen_alike.specs.Shown.{SameRecord, SameTables}
 use Rattle.seen_alike.proofs.Lookups.{roam-same, public-same, private-same, server-same, barred-same}

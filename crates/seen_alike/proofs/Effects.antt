@@ -1,12 +1,6 @@
 -- What a call writes, it writes into blocks that are alike alike: the tables afterwards are alike again.
-use Prim.Native.Nat.{ℕ, zero, suc, _+_, _-_, _<_, _≤_}
-use mathlib.Core.Bool.{Bool, true, false, cond, not, _||_, true≢false}
-use mathlib.Core.Path.{_≡_, refl, sym, _∙_}
-use mathlib.Core.List.{List, [], _∷_}
-use native.Mathlib.Omega.{arith}
-use lib.Dec.{eqb, leb, ltb}
-use lib.ListN.{getD}
-use borrow.Author.Tests.{eqb-true, ne-eqb, leb-true, ltb-true, lt-leb}
+use Rattle.octets.specs.Standard.{ℕ, zero, suc, _+_, _-_, _<_, _≤_, Bool, true, false, cond, not, _||_, true≢false, _≡_, refl, sym, _∙_, List, []}
+use Rattle.octets.specs.Standard.{_∷_, arith, eqb, leb, ltb, getD, eqb-true, ne-eqb, leb-true, ltb-true, lt-leb}
 use Rattle.octets.specs.Name.{same}
 use Rattle.record.specs.Fields.{stateOf, bitsOf, serverSize, serverOf, pendingSet}
 use Rattle.record.specs.RecordBlock.{recordOf}
@@ -22,14 +16,19 @@ use Rattle.rewrite.proofs.Reaching.{reaches-zero}
 use Rattle.rewrite.proofs.Settled.{settled-keeps}
 use Rattle.rewrite.proofs.Tables.{after-block}
 use Rattle.diameter.specs.Put.{All}
+use Rattle.reading.specs.Kinds.{serverName}
+use Rattle.reading.specs.Rules.{Seen}
+use Rattle.reading.specs.declared.Dialect.{Dialect}
 use Rattle.requests.specs.Judged.{Judged, bad, fine}
-use Rattle.requests.specs.Request.{readRequest}
+use Rattle.requests.specs.Request.{readIn, dataSeen}
 use Rattle.choices.specs.declared.plan.Deed.{Deed}
 use Rattle.choices.specs.declared.plan.Deed.the-variants.{Leave, Settle, Challenge}
-use Rattle.assignment.specs.Assignment.{Assignment, plannedRecords}
-use Rattle.fitting.specs.Decide.{assignmentOf, planRead, performed, decideJudged, decide}
-use Rattle.fitting.specs.Deeds.{carriedOut, DeedFits}
-use Rattle.fitting.proofs.Deeds.{plan-fits}
+use Rattle.assignment.specs.Assignment.{plannedRecords}
+use Rattle.deciding.specs.Plans.{assignmentOf, planRead}
+use Rattle.deciding.specs.Rules.{inForce}
+use Rattle.deciding.specs.Decide.{performedBy, judgedBy, decideBy, decide}
+use Rattle.deciding.specs.Deeds.{carriedOut, DeedFits}
+use Rattle.deciding.proofs.Deeds.{plan-fits}
 use Rattle.seen_alike.specs.Alike.{Alike, AlikeTables}
 use Rattle.seen_alike.specs.Shown.{SameTables}
 use Rattle.seen_alike.proofs.Fields.{server-alike, tables-same}
@@ -138,26 +137,30 @@ module _ (t u : List ℕ) (count : ℕ) (sound : SoundTable t count) (other : So
   unfolding recordOf
   room k a b = sound-limits t count sound k a b .server
 
-  deed-alike : (s : Assignment) (d : Deed) → DeedFits count (s .server) d → AlikeTables (carriedOut t count s d) (carriedOut u count s d) count
-  unfolding carriedOut
-  deed-alike s Leave f = alike
-  deed-alike s (Settle w) f =
+  deed-alike : (req v : List ℕ) (seen : Seen) (d : Deed) → DeedFits count (dataSeen seen serverName) d
+      → AlikeTables (carriedOut req t count seen d) (carriedOut req u count seen d) count
+  unfolding carriedOut assignmentOf
+  deed-alike req v seen Leave f = alike
+  deed-alike req v seen (Settle w) f =
+      let s = assignmentOf req t seen in
       let ks = plannedRecords t count s (w .owned) in
       let all : All (Ranged count) ks = planned-ranged [] t u count like s (w .owned) in
-      rw (← planned-same [] t u count like s (w .owned))
+      rw (← assignment-same [] t u count like req v seen, ← planned-same [] t u count like s (w .owned))
       (after-alike (reaches t ks) (reaches u ks) _ (settled-keeps _ _ f) (reaches-none ks all) (reaches-same ks all)
       (λ k a h. settled-alike (blockOf t k) (blockOf u k) (alike .blocks k h) _ (w .state)))
-  deed-alike s (Challenge k) (a, b, least, most) =
-      after-alike (reaches t (k ∷ [])) (reaches u (k ∷ [])) _ (challenged-keeps (s .server) least most) (reaches-none (k ∷ []) ((a, b), tt))
+  deed-alike req v seen (Challenge k) (a, b, least, most) =
+      let server = dataSeen seen serverName in
+      after-alike (reaches t (k ∷ [])) (reaches u (k ∷ [])) _ (challenged-keeps server least most) (reaches-none (k ∷ []) ((a, b), tt))
       (reaches-same (k ∷ []) ((a, b), tt))
-      (λ j l h. challenged-alike (blockOf t j) (blockOf u j) (alike .blocks j h) (s .server) (room j l h))
+      (λ j l h. challenged-alike (blockOf t j) (blockOf u j) (alike .blocks j h) server (room j l h))
 
-  pub tables-alike : (req v : List ℕ) → AlikeTables (decide req t count v .table) (decide req u count v .table) count
-  unfolding decide decideJudged performed assignmentOf
-  tables-alike req v = go (readRequest req) refl
+  pub tables-alike : (dialect : Dialect) (req v : List ℕ) → AlikeTables (decide dialect req t count v .table) (decide dialect req u count v .table) count
+  unfolding decideBy judgedBy performedBy
+  tables-alike dialect req v = go (readIn dialect req) refl
     where
-      go : (j : Judged) → readRequest req ≡ j → AlikeTables (decideJudged req t count v j .table) (decideJudged req u count v j .table) count
+      go : (j : Judged) → readIn dialect req ≡ j → AlikeTables (judgedBy inForce dialect req t count v j .table)
+          (judgedBy inForce dialect req u count v j .table) count
       go (bad f) e = alike
       go (fine seen) e =
-          rw (← plan-same [] t u count like req v seen, ← assignment-same [] t u count like req v seen)
-          (deed-alike (assignmentOf t seen req) (planRead req t count v seen .deed) (plan-fits req t count v seen sound e))
+          rw (← plan-same [] t u count like req v dialect seen)
+          (deed-alike req v seen (planRead dialect req t count v seen .deed) (plan-fits dialect req t count v seen e))

@@ -8,4 +8,3 @@ pub mod Likeness
 pub mod Lookups
 pub mod Moved
 pub mod Plans
-pub mod Within

@@ -1,10 +1,6 @@
 -- Two sound tables of as many records that agree in every byte that a request can see: every call comes to the same, with the same vectors and the same
 -- buffer, and leaves tables that are alike again. What `AlikeTables`, `holding` and `SameCall` mean is in specs/Alike.
-use Prim.Native.Nat.{ℕ}
-use mathlib.Core.Bool.{Bool, true, false, cond}
-use mathlib.Core.Path.{_≡_, refl, sym, _∙_, ap}
-use mathlib.Core.List.{List, [], _∷_}
-use lib.ListN.{length}
+use Rattle.octets.specs.Standard.{ℕ, Bool, true, false, cond, _≡_, refl, sym, _∙_, ap, List, [], _∷_, length}
 use Rattle.octets.proofs.Numbers.{Bytes}
 use Rattle.table.specs.SoundTable.{SoundTable}
 use Rattle.blocks.specs.declared.Checked.{Checked}
@@ -13,16 +9,19 @@ use Rattle.rewrite.specs.Change.{alteredUpTo}
 use Rattle.rewrite.proofs.Counts.{altered-none}
 use Rattle.reading.specs.Rules.{Seen}
 use Rattle.choices.specs.declared.Given.{Given}
-use Rattle.reply.specs.Answer.{answerBytes}
-use Rattle.fitting.specs.Decide.{planRead, decide}
-use Rattle.calling.specs.Lent.{Lent}
+use Rattle.reading.specs.declared.Dialect.{Dialect}
+use Rattle.reading.specs.declared.Terms.{Terms}
+use Rattle.answering.specs.Answer.{answerBytes}
+use Rattle.deciding.specs.Plans.{planRead}
+use Rattle.deciding.specs.Decide.{decide}
+use Rattle.calling.specs.Lent.{Lent, dialectIn}
 use Rattle.calling.specs.Trial.{Trial, tried}
-use Rattle.calling.specs.Serve.{Served, checkOf, checkValue, refused, answered, decision, resultOf, serve}
+use Rattle.calling.specs.Serve.{Served, checkOf, checkValue, refused, answered, decision, resultOf, serveFound, serveBy, serve}
+use Rattle.deciding.proofs.Cases.{Within}
 use Rattle.seen_alike.specs.Alike.{AlikeTables, SameCall, holding}
 use Rattle.seen_alike.specs.Shown.{SameTables}
 use Rattle.seen_alike.proofs.Fields.{tables-same}
 use Rattle.seen_alike.proofs.Plans.{plan-same, given-same, place-same, vectors-same}
-use Rattle.seen_alike.proofs.Within.{Within}
 use Rattle.seen_alike.proofs.Answers.{answer-same, bytes-same}
 use Rattle.seen_alike.proofs.Effects.{tables-alike}
 use Rattle.seen_alike.proofs.Altered.{altered-same}
@@ -32,33 +31,35 @@ module _ (t u : List ℕ) (count : ℕ) (sound : SoundTable t count) (alike : Al
   like : (file : List ℕ) → SameTables file t u count
   like file = tables-same file t u count sound alike
 
-  pub plan-alike : (req v : List ℕ) (seen : Seen) → planRead req t count v seen ≡ planRead req u count v seen
-  plan-alike req v seen = plan-same [] t u count (like []) req v seen
+  pub plan-alike : (dialect : Dialect) (req v : List ℕ) (seen : Seen) → planRead dialect req t count v seen ≡ planRead dialect req u count v seen
+  plan-alike dialect req v seen = plan-same [] t u count (like []) req v dialect seen
 
-  pub given-alike : (req v : List ℕ) → decide req t count v .given ≡ decide req u count v .given
-  given-alike req v = given-same [] t u count (like []) req v
+  pub given-alike : (dialect : Dialect) (req v : List ℕ) → decide dialect req t count v .given ≡ decide dialect req u count v .given
+  given-alike dialect req v = given-same [] t u count (like []) req v dialect
 
-  pub place-alike : (req v : List ℕ) → decide req t count v .place ≡ decide req u count v .place
-  place-alike req v = place-same [] t u count (like []) req v
+  pub place-alike : (dialect : Dialect) (req v : List ℕ) → decide dialect req t count v .place ≡ decide dialect req u count v .place
+  place-alike dialect req v = place-same [] t u count (like []) req v dialect
 
-  pub vectors-alike : (req v : List ℕ) → decide req t count v .vectors ≡ decide req u count v .vectors
-  vectors-alike req v = vectors-same [] t u count (like []) req v
+  pub vectors-alike : (dialect : Dialect) (req v : List ℕ) → decide dialect req t count v .vectors ≡ decide dialect req u count v .vectors
+  vectors-alike dialect req v = vectors-same [] t u count (like []) req v dialect
 
-  pub answer-alike : (req file v : List ℕ) (g : Given) → Within count g → answerBytes req t file v g ≡ answerBytes req u file v g
-  answer-alike req file v g within = answer-same file t u count (like file) g within req v
+  pub answer-alike : (terms : Terms) (req file v : List ℕ) (g : Given) → Within count g → answerBytes terms req t file v g ≡ answerBytes terms req u file v g
+  answer-alike terms req file v g within = answer-same file t u count (like file) g within terms req v
 
-  pub decision-alike : (req file v : List ℕ)
-      → answerBytes req t file v (decide req t count v .given) ≡ answerBytes req u file v (decide req u count v .given)
-  decision-alike req file v = bytes-same file t u count (like file) req v
+  pub decision-alike : (dialect : Dialect) (req file v : List ℕ)
+      → answerBytes (dialect .terms) req t file v (decide dialect req t count v .given)
+      ≡ answerBytes (dialect .terms) req u file v (decide dialect req u count v .given)
+  decision-alike dialect req file v = bytes-same file t u count (like file) dialect req v
 
   -- the tables afterwards, if both are sound
-  pub table-alike : SoundTable u count → (req v : List ℕ) → AlikeTables (decide req t count v .table) (decide req u count v .table) count
-  table-alike other req v = tables-alike t u count sound other alike req v
+  pub table-alike : SoundTable u count → (dialect : Dialect) (req v : List ℕ)
+      → AlikeTables (decide dialect req t count v .table) (decide dialect req u count v .table) count
+  table-alike other dialect req v = tables-alike t u count sound other alike dialect req v
 
   -- how many records it alters, if both are of bytes
-  pub altered-alike : SoundTable u count → Bytes t → Bytes u → (req v : List ℕ)
-      → alteredUpTo t (decide req t count v .table) count ≡ alteredUpTo u (decide req u count v .table) count
-  altered-alike other bytes other-bytes req v = altered-same t u count sound other alike bytes other-bytes req v
+  pub altered-alike : SoundTable u count → Bytes t → Bytes u → (dialect : Dialect) (req v : List ℕ)
+      → alteredUpTo t (decide dialect req t count v .table) count ≡ alteredUpTo u (decide dialect req u count v .table) count
+  altered-alike other bytes other-bytes dialect req v = altered-same t u count sound other alike bytes other-bytes dialect req v
 
 -- The same refusals, tried in one order: what holds of each that is given by both, and of what both do otherwise.
 tried-both : (P : Served → Served → Type 0) (give other : Trial → Served) (o p : Served) → ((r : Trial) → P (give r) (other r)) → P o p → (rs : List Trial)
@@ -83,7 +84,7 @@ module _ (x : Lent) (u : List ℕ) (count : ℕ) (first : checkOf x ≡ Sound co
   -- what holds of refusals and of the answers holds of the calls
   both-by : (P : Served → Served → Type 0) → ((r : Trial) → P (refused x r) (refused (holding x u) r))
       → P (answered x (decision x count)) (answered (holding x u) (decision (holding x u) count)) → P (serve x) (serve (holding x u))
-  unfolding serve
+  unfolding serveBy serveFound
   both-by P f h =
       rw (first, second)
       (tried-both P (refused x) (refused (holding x u)) (answered x (decision x count)) (answered (holding x u) (decision (holding x u) count)) f h _)
@@ -91,11 +92,11 @@ module _ (x : Lent) (u : List ℕ) (count : ℕ) (first : checkOf x ≡ Sound co
   pub serve-alike : SameCall (serve x) (serve (holding x u))
   unfolding refused answered
   serve-alike =
-      let bytes = decision-alike (x .table) u count sound alike (x .request) (x .profile) (x .vectors) in
+      let bytes = decision-alike (x .table) u count sound alike (dialectIn x) (x .request) (x .profile) (x .vectors) in
       both-by SameCall (λ r. record { call = refl; vectors = refl; buffer = refl })
       (record {
-        call = rw (bytes, place-alike (x .table) u count sound alike (x .request) (x .vectors));
-        vectors = vectors-alike (x .table) u count sound alike (x .request) (x .vectors);
+        call = rw (bytes, place-alike (x .table) u count sound alike (dialectIn x) (x .request) (x .vectors));
+        vectors = vectors-alike (x .table) u count sound alike (dialectIn x) (x .request) (x .vectors);
         buffer = rw bytes;
       })
 
@@ -103,13 +104,13 @@ module _ (x : Lent) (u : List ℕ) (count : ℕ) (first : checkOf x ≡ Sound co
   unfolding refused answered
   serve-after =
       both-by (λ r s. AlikeTables (r .table) (s .table) count) (λ r. alike)
-      (table-alike (x .table) u count sound alike other (x .request) (x .vectors))
+      (table-alike (x .table) u count sound alike other (dialectIn x) (x .request) (x .vectors))
 
   -- what the report counts besides: the result, and the records altered
   pub result-alike : resultOf x ≡ resultOf (holding x u)
   result-alike =
       ap (λ (c : Checked). decision x (checkValue c) .given .verdict .result) first
-      ∙ ap (λ (g : Given). g .verdict .result) (given-alike (x .table) u count sound alike (x .request) (x .vectors))
+      ∙ ap (λ (g : Given). g .verdict .result) (given-alike (x .table) u count sound alike (dialectIn x) (x .request) (x .vectors))
       ∙ sym (ap (λ (c : Checked). decision (holding x u) (checkValue c) .given .verdict .result) second)
 
   pub serve-altered : Bytes (x .table) → Bytes u → alteredUpTo (x .table) (serve x .table) count ≡ alteredUpTo u (serve (holding x u) .table) count
@@ -117,4 +118,4 @@ module _ (x : Lent) (u : List ℕ) (count : ℕ) (first : checkOf x ≡ Sound co
   serve-altered bytes other-bytes =
       both-by (λ r s. alteredUpTo (x .table) (r .table) count ≡ alteredUpTo u (s .table) count)
       (λ r. altered-none (x .table) count ∙ sym (altered-none u count))
-      (altered-alike (x .table) u count sound alike other bytes other-bytes (x .request) (x .vectors))
+      (altered-alike (x .table) u count sound alike other bytes other-bytes (dialectIn x) (x .request) (x .vectors))

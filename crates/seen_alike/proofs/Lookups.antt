@@ -1,11 +1,7 @@
 -- Tables that show the same give one answer to every look-up.
-use Prim.Native.Nat.{ℕ, zero, suc, _+_, _<_, _≤_}
-use mathlib.Core.Bool.{Bool, not, _&&_}
-use mathlib.Core.Path.{_≡_, refl, ap}
-use mathlib.Core.List.{List}
-use native.Mathlib.Omega.{arith}
+use Rattle.octets.specs.Standard.{ℕ, zero, suc, _+_, _<_, _≤_, Bool, _≡_, refl, ap, List, arith}
 use Rattle.octets.specs.Name.{same}
-use Rattle.record.specs.Fields.{networksOf, barred}
+use Rattle.record.specs.Fields.{networksOf}
 use Rattle.record.specs.Sets.{sameSet}
 use Rattle.blocks.specs.Blocks.{blockOf}
 use Rattle.table.specs.Named.{publicAt, privateAt}

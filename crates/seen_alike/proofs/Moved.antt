@@ -1,11 +1,5 @@
 -- A move between editions shows in no answer: what it writes no request can see.
-use Prim.Native.Nat.{ℕ, zero, suc, _^_, _<_, _≤_}
-use mathlib.Core.Path.{_≡_, sym}
-use mathlib.Core.Bool.{false}
-use mathlib.Core.List.{List}
-use native.Mathlib.Omega.{arith}
-use lib.ListN.{length}
-use borrow.Author.Tests.{ne-eqb, lt-leb}
+use Rattle.octets.specs.Standard.{ℕ, zero, suc, _^_, _<_, _≤_, _≡_, sym, false, List, arith, length, ne-eqb, lt-leb}
 use Rattle.blocks.specs.Blocks.{blockOf}
 use Rattle.table.specs.Check.{checkTable}
 use Rattle.table.specs.SoundTable.{SoundTable}
@@ -13,7 +7,7 @@ use Rattle.blocks.specs.declared.Checked.the-variants.{Sound}
 use Rattle.blocks.proofs.Blocks.{block-length}
 use Rattle.table.proofs.Sound.{sound-block}
 use Rattle.moving.specs.Moves.{movable, Carried}
-use Rattle.moving.specs.Outcomes.{forward, back, SameTable}
+use Rattle.moving.specs.Outcomes.{forward, back, TableMoved}
 use Rattle.moving.specs.declared.Move.the-variants.{Moved}
 use Rattle.moving.proofs.Moving.{forward-sound, forward-keeps, forward-moved, back-sound, back-keeps, back-moved}
 use Rattle.calling.specs.Lent.{Lent}
@@ -26,7 +20,7 @@ still : (i : ℕ) → 2 ≤ i → i < 408 → movable i ≡ false
 still i a b = rw (ne-eqb i 1 (omega arith), lt-leb 408 i (omega arith), lt-leb 508 i (omega arith))
 
 module _ (x : Lent) (y : List ℕ) (count edition issue : ℕ) (first : checkOf x ≡ Sound count) (second : checkTable y (length (x .profile)) ≡ Sound count)
-    (same : SameTable (x .table) y count edition issue) where
+    (same : TableMoved (x .table) y count edition issue) where
   carried : (k : ℕ) → k ≤ count → Carried (blockOf (x .table) k) (blockOf y k)
   carried zero h = same .header .bytes
   carried (suc k) h = same .records (suc k) (omega arith) h .bytes

@@ -1,21 +1,22 @@
 -- One plan, and but for the table one decision, over tables that show the same.
-use Prim.Native.Nat.{ℕ}
-use mathlib.Core.Path.{_≡_, refl, ap}
-use mathlib.Core.List.{List}
+use Rattle.octets.specs.Standard.{ℕ, _≡_, refl, ap, List}
 use Rattle.reading.specs.Kinds.{publicIdentity, authorizationType, numberAuthItems}
 use Rattle.reading.specs.Rules.{Seen}
+use Rattle.reading.specs.declared.Dialect.{Dialect}
 use Rattle.requests.specs.Judged.{Judged, bad, fine}
-use Rattle.requests.specs.Request.{readRequest, dataSeen, valueSeen, schemeOf}
+use Rattle.requests.specs.Request.{readIn, dataSeen, valueSeen, schemeOf}
 use Rattle.choices.specs.declared.plan.Plan.{Plan}
-use Rattle.fitting.specs.Decide.{assignmentOf, uarPlan, sarPlan, lirPlan, marPlan, planRead, performed, decideJudged, decide}
-use Rattle.fitting.specs.Deeds.{spentBy}
+use Rattle.deciding.specs.Plans.{assignmentOf, uarPlan, sarPlan, lirPlan, marPlan, planRead}
+use Rattle.deciding.specs.Rules.{inForce}
+use Rattle.deciding.specs.Decide.{performedBy, judgedBy, decideBy, decide}
+use Rattle.deciding.specs.Deeds.{spentBy}
 use Rattle.seen_alike.specs.Shown.{SameTables}
 use Rattle.seen_alike.proofs.Decisions.{authorize-same, locate-same, authenticate-same}
 use Rattle.seen_alike.proofs.Assignments.{assign-same}
 
 module _ (file t u : List ℕ) (count : ℕ) (like : SameTables file t u count) (req v : List ℕ) where
   -- of the table a SAR's numbers have the header's keep
-  pub assignment-same : (seen : Seen) → assignmentOf t seen req ≡ assignmentOf u seen req
+  pub assignment-same : (seen : Seen) → assignmentOf req t seen ≡ assignmentOf req u seen
   unfolding assignmentOf
   assignment-same seen = rw (like .header .keep)
 
@@ -25,7 +26,7 @@ module _ (file t u : List ℕ) (count : ℕ) (like : SameTables file t u count) 
 
   sar-same : (seen : Seen) → sarPlan req t count seen ≡ sarPlan req u count seen
   unfolding sarPlan
-  sar-same seen = rw (assignment-same seen) (assign-same file t u count like (assignmentOf u seen req))
+  sar-same seen = rw (assignment-same seen) (assign-same file t u count like (assignmentOf req u seen))
 
   lir-same : (seen : Seen) → lirPlan t count seen ≡ lirPlan u count seen
   unfolding lirPlan
@@ -35,30 +36,31 @@ module _ (file t u : List ℕ) (count : ℕ) (like : SameTables file t u count) 
   unfolding marPlan
   mar-same seen = authenticate-same file t u count like v _ _ (schemeOf seen) (valueSeen seen numberAuthItems)
 
-  pub plan-same : (seen : Seen) → planRead req t count v seen ≡ planRead req u count v seen
-  unfolding planRead
-  plan-same seen = rw (uar-same seen, sar-same seen, lir-same seen, mar-same seen)
+  module _ (dialect : Dialect) where
+    pub plan-same : (seen : Seen) → planRead dialect req t count v seen ≡ planRead dialect req u count v seen
+    unfolding planRead
+    plan-same seen = rw (uar-same seen, sar-same seen, lir-same seen, mar-same seen)
 
-  pub given-same : decide req t count v .given ≡ decide req u count v .given
-  unfolding decide decideJudged performed
-  given-same = go (readRequest req)
-    where
-      go : (j : Judged) → decideJudged req t count v j .given ≡ decideJudged req u count v j .given
-      go (bad f) = refl
-      go (fine seen) = ap (λ (p : Plan). p .given) (plan-same seen)
+    pub given-same : decide dialect req t count v .given ≡ decide dialect req u count v .given
+    unfolding decideBy judgedBy performedBy
+    given-same = go (readIn dialect req)
+      where
+        go : (j : Judged) → judgedBy inForce dialect req t count v j .given ≡ judgedBy inForce dialect req u count v j .given
+        go (bad f) = refl
+        go (fine seen) = ap (λ (p : Plan). p .given) (plan-same seen)
 
-  pub place-same : decide req t count v .place ≡ decide req u count v .place
-  unfolding decide decideJudged performed
-  place-same = go (readRequest req)
-    where
-      go : (j : Judged) → decideJudged req t count v j .place ≡ decideJudged req u count v j .place
-      go (bad f) = refl
-      go (fine seen) = refl
+    pub place-same : decide dialect req t count v .place ≡ decide dialect req u count v .place
+    unfolding decideBy judgedBy performedBy
+    place-same = go (readIn dialect req)
+      where
+        go : (j : Judged) → judgedBy inForce dialect req t count v j .place ≡ judgedBy inForce dialect req u count v j .place
+        go (bad f) = refl
+        go (fine seen) = refl
 
-  pub vectors-same : decide req t count v .vectors ≡ decide req u count v .vectors
-  unfolding decide decideJudged performed
-  vectors-same = go (readRequest req)
-    where
-      go : (j : Judged) → decideJudged req t count v j .vectors ≡ decideJudged req u count v j .vectors
-      go (bad f) = refl
-      go (fine seen) = ap (λ (p : Plan). spentBy v (p .given .sent) (p .deed)) (plan-same seen)
+    pub vectors-same : decide dialect req t count v .vectors ≡ decide dialect req u count v .vectors
+    unfolding decideBy judgedBy performedBy
+    vectors-same = go (readIn dialect req)
+      where
+        go : (j : Judged) → judgedBy inForce dialect req t count v j .vectors ≡ judgedBy inForce dialect req u count v j .vectors
+        go (bad f) = refl
+        go (fine seen) = ap (λ (p : Plan). spentBy v (p .given .sent) (p .deed)) (plan-same seen)

@@ -20,7 +20,7 @@ pub record AlikeTables (t u : List ℕ) (count : ℕ) : Type 0 where
 
 -- the same lent with another table
 abbrev pub holding : Lent → List ℕ → Lent
-holding x table = record { request = x .request; table = table; profile = x .profile; vectors = x .vectors; buffer = x .buffer }
+holding x table = record { request = x .request; table = table; profile = x .profile; vectors = x .vectors; buffer = x .buffer; terms = x .terms }
 
 -- two calls come to the same: the answer or the refusal, the vectors and the buffer
 pub record SameCall (r s : Served) : Type 0 where

@@ -1,44 +1,39 @@
 -- A family: lines of one private identity that share a set, computed. The definitions of 02 [6] are tried here, the theorems about sets have their instances,
 -- and three wrong servers fail the promise.
-use Prim.Native.Nat.{ℕ, _≤_}
-use mathlib.Core.Path.{_≡_, refl, sym, ap, _∙_}
-use mathlib.Core.Bool.{true, false}
-use mathlib.Core.List.{List, [], _∷_, _++_}
-use native.Mathlib.Omega.{arith}
-use lib.ListN.{getD, take, set}
+use Rattle.octets.specs.Standard.{ℕ, _≡_, refl, ap, _∙_, true, false, List, [], _∷_, _++_, arith, getD, take, set}
 use Rattle.octets.specs.Run.{over}
 use Rattle.record.specs.Fields.{editionOf}
 use Rattle.record.specs.Sets.{sameSet, agreeing}
 use Rattle.blocks.specs.Blocks.{blockOf}
 use Rattle.table.specs.Check.{checkTable}
-use Rattle.blocks.specs.declared.Checked.{Checked}
 use Rattle.blocks.specs.declared.Checked.the-variants.{Sound, Bad}
 use Rattle.vectors.specs.VectorFile.{checkVectors}
 use Rattle.pen.specs.Bytes.{avpBytes, vendorBytes, numberBytes, vendorNumber}
+use Rattle.requests.specs.Request.{underCx}
 use Rattle.calling.specs.Lent.{Lent, lent}
 use Rattle.calling.specs.Call.{Answered}
-use Rattle.calling.specs.Serve.{Served, serve}
+use Rattle.calling.specs.Serve.{Served, serveBy, serve}
 use Rattle.ndushavire.specs.Promise.{DecidePromise}
-use Rattle.older_rules.specs.Rules.{serveBy}
 use Rattle.older_rules.specs.WithoutSets.{beforeSets}
 use Rattle.older_rules.proofs.Sets.{without-sets, first-edition, members-agree}
 use Rattle.older_rules.proofs.Unreachable.{withBranch, same-for-every-input}
 use Rattle.worked_examples.proofs.Computed.{known, come, roomy, no-vectors, registered-sound}
-use Rattle.worked_examples.proofs.Sample.{checked, header, subscriber, request, reply, answer, common, assignment, authentication, vector, item, challenges, room, one, s, z, opened}
+use Rattle.worked_examples.proofs.Sample.{checked, header, subscriber, request, reply, answer, common, assignment, authentication, vector, room, one}
+use Rattle.worked_examples.proofs.Sample.{s, z, opened}
 
 -- a header of the second edition; a line of the private identity `p`, or of another, with a set number
-unfoldable head : ℕ → List ℕ
+unfoldable pub head : ℕ → List ℕ
 head count = checked (take 508 (set (header count 0) 1 2))
 
-unfoldable line : ℕ → ℕ → ℕ → ℕ → ℕ → ℕ → List ℕ → List ℕ
+unfoldable pub line : ℕ → ℕ → ℕ → ℕ → ℕ → ℕ → List ℕ → List ℕ
 line k public private number state bits server = checked (take 508 (set (set (subscriber k public private state bits server) 1 2) 407 number))
 
 -- two lines `a` and `b`, of set 1 and of some other number, state, bits and server name
-unfoldable pair : ℕ → ℕ → ℕ → ℕ → List ℕ → List ℕ
+unfoldable pub pair : ℕ → ℕ → ℕ → ℕ → List ℕ → List ℕ
 pair private number state bits server = head 2 ++ (line 1 0x61 0x70 1 1 0 s ++ line 2 0x62 private number state bits server)
 
 -- a family: `a` and `b` of set 1, and `c` of no set, all of `p`; `a` with bits of its own
-unfoldable family : ℕ → ℕ → List ℕ → List ℕ
+unfoldable pub family : ℕ → ℕ → List ℕ → List ℕ
 family bits state server = head 3 ++ (line 1 0x61 0x70 1 state bits server ++ (line 2 0x62 0x70 1 state 0 server ++ line 3 0x63 0x70 0 0 0 []))
 
 -- "all records of a set agree in state, pending and server name, the later block being blamed"
@@ -73,21 +68,21 @@ unfolding opened head line pair
 other-private = refl
 
 -- "Every effect of a SAR .. reaches the whole set": registering `a` registers `b`, and not `c`
-family-sound : checkTable (family 0 0 []) 0 ≡ Sound 3
+pub family-sound : checkTable (family 0 0 []) 0 ≡ Sound 3
 unfolding opened head line family
 family-sound = refl
 
-registration : Lent
-registration = lent (assignment 1 s) (family 0 0 []) [] [] room
+abbrev pub registration : Lent
+registration = lent (assignment 1 s) (family 0 0 []) [] [] room underCx
 
-registered : serve registration
+pub registered : serve registration
     ≡ record {
       call = Answered (record { length = 128; place = 0 });
       table = family 0 1 s;
       vectors = [];
       buffer = over (answer (numberBytes 268 2001) (avpBytes 1 (0x70 ∷ []))) room;
     }
-unfolding opened head line family registration
+unfolding opened head line family
 registered = come registration roomy family-sound no-vectors refl
 
 -- .. and of "an authentication request": the name is stored and pending is set in both
@@ -95,7 +90,7 @@ unfoldable challenged : List ℕ
 challenged = head 3 ++ (line 1 0x61 0x70 1 0 1 s ++ (line 2 0x62 0x70 1 0 1 s ++ line 3 0x63 0x70 0 0 0 []))
 
 challenge : Lent
-challenge = lent (authentication 1 s) (family 0 0 []) [] (vector 0 0x70 0x20) room
+challenge = lent (authentication 1 s) (family 0 0 []) [] (vector 0 0x70 0x20) room underCx
 
 card-sound : checkVectors (vector 0 0x70 0x20) ≡ Sound 1
 unfolding opened
@@ -107,13 +102,13 @@ both-challenged =
     ap (λ (y : Served). y .table) (come challenge {y = known false (Sound 3) (Sound 1) challenge} roomy family-sound card-sound refl)
 
 -- "one with a non-barred identity in its implicit set may go on": a UAR of type 1 for `a`, which is barred, and `b` is not; then both are
-unfoldable asking : List ℕ
+unfoldable pub asking : List ℕ
 asking = request 300 (common ++ (avpBytes 1 (0x70 ∷ []) ++ (vendorBytes 601 (0x61 ∷ []) ++ (vendorBytes 600 (0x76 ∷ []) ++ vendorNumber 623 1))))
 
-admitted : Lent
-admitted = lent asking (family 2 1 s) [] [] room
+abbrev pub admitted : Lent
+admitted = lent asking (family 2 1 s) [] [] room underCx
 
-barred-sound : checkTable (family 2 1 s) 0 ≡ Sound 3
+pub barred-sound : checkTable (family 2 1 s) 0 ≡ Sound 3
 unfolding opened head line family
 barred-sound = refl
 
@@ -124,17 +119,17 @@ going-on : serve admitted
       vectors = [];
       buffer = over (reply 300 (numberBytes 268 2001) (vendorBytes 602 s)) room;
     }
-unfolding opened head line family asking admitted
+unfolding opened head line family asking
 going-on = come admitted roomy barred-sound no-vectors refl
 
-unfoldable shut : List ℕ
+unfoldable pub shut : List ℕ
 shut = head 3 ++ (line 1 0x61 0x70 1 1 2 s ++ (line 2 0x62 0x70 1 1 2 s ++ line 3 0x63 0x70 0 0 0 []))
 
-shut-sound : checkTable shut 0 ≡ Sound 3
+pub shut-sound : checkTable shut 0 ≡ Sound 3
 unfolding opened head line shut
 shut-sound = refl
 
-turned-away : serve (lent asking shut [] [] room)
+turned-away : serve (lent asking shut [] [] room underCx)
     ≡ record {
       call = Answered (record { length = 116; place = 0 });
       table = shut;
@@ -142,7 +137,7 @@ turned-away : serve (lent asking shut [] [] room)
       buffer = over (reply 300 (numberBytes 268 5003) []) room;
     }
 unfolding opened head line shut asking
-turned-away = come (lent asking shut [] [] room) roomy shut-sound no-vectors refl
+turned-away = come (lent asking shut [] [] room underCx) roomy shut-sound no-vectors refl
 
 -- The theorems have instances: the registered family's members agree; a first edition's table is served as it was before sets, and before 02 [7].
 one-set : sameSet (blockOf (serve registration .table) 1) (blockOf (serve registration .table) 2) ≡ true
@@ -150,11 +145,10 @@ unfolding opened head line family
 one-set = ap (λ (y : Served). sameSet (blockOf (y .table) 1) (blockOf (y .table) 2)) registered
 
 met-agreement : agreeing (blockOf (serve registration .table) 1) (blockOf (serve registration .table) 2) ≡ true
-unfolding registration
 met-agreement = members-agree registration 3 family-sound 1 2 (omega arith) (omega arith) (omega arith) one-set
 
 alone : Lent
-alone = lent (assignment 5 s) (one 0 1 s) [] [] room
+alone = lent (assignment 5 s) (one 0 1 s) [] [] room underCx
 
 alone-first : editionOf (blockOf (one 0 1 s) 0) ≡ 1
 unfolding opened
@@ -168,33 +162,33 @@ met-every-input : serveBy withBranch admitted ≡ serve admitted
 met-every-input = same-for-every-input admitted
 
 -- WRONG SERVERS. Each is any function of what is lent; at an input above its outcome does not meet the promise.
-record Outcome : Type 0 where
+record CallLeft : Type 0 where
   word : ℕ
   table : List ℕ
   vectors : List ℕ
   buffer : List ℕ
 
-abbrev Meets : (Lent → Outcome) → Lent → Type 0
+abbrev Meets : (Lent → CallLeft) → Lent → Type 0
 Meets f x = DecidePromise x (f x .word) (f x .table) (f x .vectors) (f x .buffer)
 
 -- 1. "an effect on the named member only": whatever it does to the first record, the second stays as it came
-module _ (f : Lent → Outcome) (only : getD (f registration .table) 1032 0 ≡ getD (registration .table) 1032 0) where
+module _ (f : Lent → CallLeft) (only : getD (f registration .table) 1032 0 ≡ getD (registration .table) 1032 0) where
   named-only-fails : Meets f registration → ⊥
-  unfolding opened head line family registration
+  unfolding opened head line family
   named-only-fails p =
       let after : getD (f registration .table) 1032 0 ≡ 1 = ap (λ (t : List ℕ). getD t 1032 0) (p .table-is ∙ ap (λ (y : Served). y .table) registered) in
       omega (arith, after, only)
 
 -- 2. "an effect" on a line of the subscription that is in no set
-module _ (f : Lent → Outcome) (more : getD (f registration .table) 1544 0 ≡ 1) where
+module _ (f : Lent → CallLeft) (more : getD (f registration .table) 1544 0 ≡ 1) where
   all-lines-fails : Meets f registration → ⊥
-  unfolding opened head line family registration
+  unfolding opened head line family
   all-lines-fails p =
       let after : getD (f registration .table) 1544 0 ≡ 0 = ap (λ (t : List ℕ). getD t 1544 0) (p .table-is ∙ ap (λ (y : Served). y .table) registered) in
       omega (arith, after, more)
 
 -- 3. "barred though a member is free": the last byte of 5003 is 139, that of 2001 is 209
-module _ (f : Lent → Outcome) (rejects : getD (f admitted .buffer) 75 0 ≡ 139) where
+module _ (f : Lent → CallLeft) (rejects : getD (f admitted .buffer) 75 0 ≡ 139) where
   rejecting-fails : Meets f admitted → ⊥
   unfolding opened
   rejecting-fails p =

@@ -1,9 +1,5 @@
 -- That the records of every set agree: what the test says of every pair.
-use Prim.Native.Nat.{ℕ, suc, _-_, _<_, _≤_}
-use mathlib.Core.Bool.{Bool, true, false, _||_, not, true≢false}
-use mathlib.Core.Path.{_≡_, refl, sym}
-use mathlib.Core.List.{List}
-use native.Mathlib.Omega.{arith}
+use Rattle.octets.specs.Standard.{ℕ, suc, _-_, _<_, _≤_, Bool, true, false, _||_, not, true≢false, _≡_, refl, sym, List, arith}
 use Rattle.octets.proofs.All.{all-at, all-true, all-alike}
 use Rattle.record.specs.Sets.{sameSet, agreeing}
 use Rattle.record.proofs.OneSet.{SameMember, member-set, member-agrees}

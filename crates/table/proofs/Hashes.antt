@@ -1,13 +1,6 @@
 -- The turns of the loops that make a number of a name, and that records of one set have the same.
-use Prim.Native.Nat.{ℕ, _+_, _-_, _*_, _/_, _%_, _^_, _<_, _≤_}
-use mathlib.Core.Bool.{true}
-use mathlib.Core.Path.{_≡_, refl}
-use mathlib.Core.List.{List}
-use native.Mathlib.Omega.{arith}
-use native.Mathlib.Nat.{le-of-lt, lt-of-le-of-lt, mul-le-mul-left}
-use native.Mathlib.Numerals.{add-one}
-use lib.ListN.{length, getD}
-use borrow.Author.Tests.{lt-ltb, le-ltb}
+use Rattle.octets.specs.Standard.{ℕ, _+_, _-_, _*_, _/_, _%_, _^_, _<_, _≤_, true, _≡_, refl, List, arith, le-of-lt, lt-of-le-of-lt, mul-le-mul-left}
+use Rattle.octets.specs.Standard.{add-one, length, getD, lt-ltb, le-ltb}
 use Rattle.record.specs.Fields.{privateOf, setOf}
 use Rattle.table.specs.Hash.{termAt, sumTerms, mixed, mixBytes, hashName, hashOf}
 use Rattle.record.specs.Sets.{sameSet}

@@ -1,21 +1,13 @@
 -- Numbers counted up to the first that is not good: the turns of such a loop, and that two passes find what one finds.
-use Prim.Native.Nat.{ℕ, zero, suc, _+_, _-_, _<_, _≤_}
-use mathlib.Core.Bool.{Bool, true, false, _&&_, cond}
-use mathlib.Core.Path.{_≡_, refl, sym, _∙_}
-use mathlib.Core.List.{List}
-use native.Mathlib.Omega.{arith}
-use native.Mathlib.Numerals.{add-one}
-use lib.Bits.{bitOr}
-use lib.Dec.{leb, eqb}
-use borrow.Author.Tests.{le-leb, lt-leb, leb-true, leb-false, eqb-true}
+use Rattle.octets.specs.Standard.{ℕ, zero, suc, _+_, _-_, _<_, _≤_, Bool, true, false, _&&_, cond, _≡_, refl, sym, _∙_, List, arith, add-one, bitOr}
+use Rattle.octets.specs.Standard.{leb, eqb, le-leb, lt-leb, leb-true, leb-false, eqb-true}
 use Rattle.octets.specs.All.{allBelow}
 use Rattle.octets.proofs.All.{and-left, all-at, all-more}
 use Rattle.octets.proofs.Runs.{or-zero}
 use Rattle.record.specs.Fields.{setOf}
 use Rattle.record.specs.declared.header.Header.{Header}
 use Rattle.record.proofs.OneSet.{OneSet, set-says}
-use Rattle.blocks.specs.Blocks.{blockOf}
-use Rattle.blocks.specs.Blocks.{firstBad}
+use Rattle.blocks.specs.Blocks.{blockOf, firstBad}
 use Rattle.table.specs.Check.{standsAt, agreesAt, soundAt, checkRecords}
 use Rattle.table.specs.Leading.{leading, setless, Setless, outcomeOf}
 use Rattle.blocks.specs.declared.Checked.{Checked}

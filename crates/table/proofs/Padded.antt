@@ -1,13 +1,6 @@
 -- The order of two public identities by their whole fields, and that a record that stands has zeros past its name.
-use Prim.Native.Nat.{ℕ, _+_, _-_, _<_, _≤_}
-use mathlib.Core.Bool.{Bool, true, false, cond}
-use mathlib.Core.Path.{_≡_, refl, sym, _∙_}
-use mathlib.Core.List.{List}
-use native.Mathlib.Omega.{arith}
-use lib.Dec.{ltb}
-use lib.ListN.{length, getD, take, drop, length-take, length-drop, List·getD-eq-default}
-use lib.Seq.{getD-drop, getD-take, take-take}
-use borrow.Author.Tests.{ltb-true, ltb-false}
+use Rattle.octets.specs.Standard.{ℕ, _+_, _-_, _<_, _≤_, Bool, true, false, cond, _≡_, refl, sym, _∙_, List, arith, ltb, length, getD, take, drop}
+use Rattle.octets.specs.Standard.{length-take, length-drop, List·getD-eq-default, getD-drop, getD-take, take-take, ltb-true, ltb-false}
 use Rattle.octets.specs.Name.{orderOf, byLength}
 use Rattle.octets.specs.declared.name.Order.{Order}
 use Rattle.octets.specs.declared.name.Order.the-variants.{Less, Equal, Greater}

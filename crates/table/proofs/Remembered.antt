@@ -1,13 +1,7 @@
 -- The sets that are remembered: a slot is empty only where no earlier record is of the set looked for; to agree with the remembered one is to agree with all.
-use Prim.Native.Nat.{ℕ, zero, suc, _+_, _-_, _*_, _/_, _%_, _<_, _≤_}
-use mathlib.Core.Bool.{Bool, true, false, _&&_, _||_, cond, true≢false}
-use mathlib.Core.Path.{_≡_, refl, sym, _∙_, ap}
-use mathlib.Core.List.{List}
-use native.Mathlib.Omega.{arith}
-use lib.Dec.{eqb, ltb}
-use lib.ListN.{length, getD, set, replicate, length-set, length-replicate}
-use lib.Seq.{getD-set-same, getD-set-other}
-use borrow.Author.Tests.{eqb-true, eqb-false, eq-eqb, ne-eqb, ltb-true, ltb-false}
+use Rattle.octets.specs.Standard.{ℕ, zero, suc, _+_, _-_, _*_, _/_, _%_, _<_, _≤_, Bool, true, false, _&&_, _||_, cond, true≢false, _≡_, refl, sym}
+use Rattle.octets.specs.Standard.{_∙_, ap, List, arith, eqb, ltb, length, getD, set, replicate, length-set, length-replicate, getD-set-same}
+use Rattle.octets.specs.Standard.{getD-set-other, eqb-true, eqb-false, eq-eqb, ne-eqb, ltb-true, ltb-false}
 use Rattle.record.specs.Fields.{setOf}
 use Rattle.table.specs.Hash.{hashOf}
 use Rattle.record.specs.Sets.{sameSet, agreeing}
@@ -15,7 +9,7 @@ use Rattle.table.proofs.Hashes.{hash-same}
 use Rattle.record.proofs.OneSet.{OneSet, set-says, set-sym, set-trans, set-own, agree-refl, agree-sym, agree-trans}
 use Rattle.blocks.specs.Blocks.{blockOf}
 use Rattle.table.specs.Check.{agreesAt}
-use Rattle.table.specs.Remembered.{tagOf, wordOf, probe, slotAt, stopsAt, filled, Word, Kept, Remembers, Passed, Found, Agreed}
+use Rattle.table.specs.Remembered.{tagOf, wordOf, probe, slotAt, stopsAt, filled, Word, SetKept, Remembers, SlotsPassed, SlotFound, Agreed}
 use Rattle.table.proofs.Agreement.{agrees-says, agrees-holds}
 use Rattle.table.proofs.Leading.{setless-agrees}
 
@@ -138,16 +132,16 @@ search-ends t slots hash k i m most p = go (ltb i 4608) refl
     go false e = absurd (omega (arith, filled-all slots 4608 (every (ltb-false i 4608 e)), m .few))
 
 -- The turns of the search.
-pub find-first : (t slots : List ℕ) (hash k : ℕ) → Passed t slots hash k 0
+pub find-first : (t slots : List ℕ) (hash k : ℕ) → SlotsPassed t slots hash k 0
 find-first t slots hash k = record { few = omega arith; each = λ i h. absurd (omega arith) }
 
-module _ (t slots : List ℕ) (hash k i : ℕ) {at w : ℕ} {x : Bool} (p : Passed t slots hash k i) (place : at ≡ (hash % 4608 + i) % 4608)
+module _ (t slots : List ℕ) (hash k i : ℕ) {at w : ℕ} {x : Bool} (p : SlotsPassed t slots hash k i) (place : at ≡ (hash % 4608 + i) % 4608)
     (is : w ≡ getD slots at 0) (e : x ≡ stopsAt t hash k w) where
   stops-here : stopsAt t hash k (slotAt slots hash i) ≡ x
   unfolding slotAt probe
   stops-here = rw (← place, ← is) (sym e)
 
-  pub find-more : x ≡ false → Remembers t slots k → k ≤ 4096 → Passed t slots hash k (i + 1)
+  pub find-more : x ≡ false → Remembers t slots k → k ≤ 4096 → SlotsPassed t slots hash k (i + 1)
   find-more f m most = record { few = search-ends t slots hash k (i + 1) m most later; each = later }
     where
       go : (j : ℕ) → j < i + 1 → (y : Bool) → ltb j i ≡ y → stopsAt t hash k (slotAt slots hash j) ≡ false
@@ -157,7 +151,7 @@ module _ (t slots : List ℕ) (hash k i : ℕ) {at w : ℕ} {x : Bool} (p : Pass
       later : (j : ℕ) → j < i + 1 → stopsAt t hash k (slotAt slots hash j) ≡ false
       later j h = go j h (ltb j i) refl
 
-  pub find-here : x ≡ true → Found t slots hash k at
+  pub find-here : x ≡ true → SlotFound t slots hash k at
   unfolding probe
   find-here f = record { turn = i; passed = p; place = place; stopped = stops-here ∙ f }
 
@@ -177,7 +171,7 @@ hash-own t k b is e = rw is at e
 
 -- One record more: block k, by what is kept of it if it has a set.
 module _ (t slots : List ℕ) (k : ℕ) (m : Remembers t slots k) where
-  one-more : (0 < setOf (blockOf t k) → Kept t slots k) → Remembers t slots (k + 1)
+  one-more : (0 < setOf (blockOf t k) → SetKept t slots k) → Remembers t slots (k + 1)
   one-more f =
       record {
         size = m .size;
@@ -187,7 +181,7 @@ module _ (t slots : List ℕ) (k : ℕ) (m : Remembers t slots k) where
         kept = λ j a b s. go j a b s (ltb j k) refl;
       }
     where
-      go : (j : ℕ) → 1 ≤ j → j < k + 1 → 0 < setOf (blockOf t j) → (y : Bool) → ltb j k ≡ y → Kept t slots j
+      go : (j : ℕ) → 1 ≤ j → j < k + 1 → 0 < setOf (blockOf t j) → (y : Bool) → ltb j k ≡ y → SetKept t slots j
       go j a b s true g = m .kept j a (ltb-true j k g) s
       go j a b s false g = let q : j ≡ k = omega (arith, ltb-false j k g) in rw q (f (rw q at s))
 
@@ -199,7 +193,7 @@ module _ (t slots : List ℕ) (k : ℕ) (m : Remembers t slots k) where
     pub apart-kept : Remembers t slots (k + 1)
     apart-kept = one-more (λ l. let z : setOf (blockOf t k) ≡ 0 = rw is at (sym set ∙ e) in absurd (omega arith))
 
-  module _ (hash : ℕ) (at : ℕ) (f : Found t slots hash k at) (own : hash ≡ hashOf (blockOf t k)) where
+  module _ (hash : ℕ) (at : ℕ) (f : SlotFound t slots hash k at) (own : hash ≡ hashOf (blockOf t k)) where
     passed : (i : ℕ) → i < f .turn → stopsAt t (hashOf (blockOf t k)) k (slotAt slots (hashOf (blockOf t k)) i) ≡ false
     passed = rw own at (f .passed .each)
 
@@ -218,13 +212,13 @@ module _ (t slots : List ℕ) (k : ℕ) (m : Remembers t slots k) where
         unfolding slotAt
         none-before j a b s =
             let o : OneSet (blockOf t j) (blockOf t k) = set-says (blockOf t j) (blockOf t k) s in
-            let q : Kept t slots j = m .kept j a b (o .numbered) in
+            let q : SetKept t slots j = m .kept j a b (o .numbered) in
             go q (ltb (q .turn) (f .turn)) (ltb (f .turn) (q .turn)) refl refl
           where
             hashes : hashOf (blockOf t j) ≡ hashOf (blockOf t k)
             hashes = hash-same (blockOf t j) (blockOf t k) s
 
-            later : (q : Kept t slots j) → q .turn < f .turn → (v : ℕ) → slotAt slots (hashOf (blockOf t j)) (q .turn) ≡ v → ⊥
+            later : (q : SetKept t slots j) → q .turn < f .turn → (v : ℕ) → slotAt slots (hashOf (blockOf t j)) (q .turn) ≡ v → ⊥
             later q h v e =
                 let n : 0 < v = rw e at (q .full) in
                 let g : sameSet (blockOf t (v % 8192)) (blockOf t j) ≡ true = rw e at (q .own) in
@@ -235,7 +229,7 @@ module _ (t slots : List ℕ) (k : ℕ) (m : Remembers t slots k) where
                 let p : stopsAt t (hashOf (blockOf t k)) k v ≡ false = rw z at (passed (q .turn) h) in
                 absurd (true≢false (sym d ∙ sym (stops-at t (hashOf (blockOf t k)) k v n (u .tag ∙ c)) ∙ p))
 
-            go : (q : Kept t slots j) (x y : Bool) → ltb (q .turn) (f .turn) ≡ x → ltb (f .turn) (q .turn) ≡ y → ⊥
+            go : (q : SetKept t slots j) (x y : Bool) → ltb (q .turn) (f .turn) ≡ x → ltb (f .turn) (q .turn) ≡ y → ⊥
             go q true y d e = later q (ltb-true _ _ d) _ refl
             go q false true d e =
                 let n : 0 < slotAt slots (hashOf (blockOf t k)) (f .turn) = rw hashes at (q .filled (f .turn) (ltb-true _ _ e)) in
@@ -276,7 +270,7 @@ module _ (t slots : List ℕ) (k : ℕ) (m : Remembers t slots k) where
               go true e = let q : a ≡ at = eqb-true a at e in rw (q, put-there) x
               go false e = rw (getD-set-other slots at a (wordOf (hashOf (blockOf t k)) k) 0 (eqb-false a at e)) y
 
-          kept-stays : (j : ℕ) → Kept t slots j → Kept t after j
+          kept-stays : (j : ℕ) → SetKept t slots j → SetKept t after j
           kept-stays j q =
               record {
                 turn = q .turn;
@@ -289,7 +283,7 @@ module _ (t slots : List ℕ) (k : ℕ) (m : Remembers t slots k) where
           unfolding slotAt
           there-turn = let e : at ≡ probe (hashOf (blockOf t k)) (f .turn) = rw own at (f .place) in rw (← e) put-there
 
-          kept-there : 0 < setOf (blockOf t k) → Kept t after k
+          kept-there : 0 < setOf (blockOf t k) → SetKept t after k
           kept-there s =
               record {
                 turn = f .turn;
@@ -309,7 +303,7 @@ module _ (t slots : List ℕ) (k : ℕ) (m : Remembers t slots k) where
                 kept = λ j a b s. go j a b s (ltb j k) refl;
               })
             where
-              go : (j : ℕ) → 1 ≤ j → j < k + 1 → 0 < setOf (blockOf t j) → (y : Bool) → ltb j k ≡ y → Kept t after j
+              go : (j : ℕ) → 1 ≤ j → j < k + 1 → 0 < setOf (blockOf t j) → (y : Bool) → ltb j k ≡ y → SetKept t after j
               go j a b s true g = kept-stays j (m .kept j a (ltb-true j k g) s)
               go j a b s false g = let q : j ≡ k = omega (arith, ltb-false j k g) in rw q (kept-there (rw q at s))
 

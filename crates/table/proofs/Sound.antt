@@ -1,18 +1,12 @@
 -- What a sound table says, and that a table that says so is sound.
-use Prim.Native.Nat.{ℕ, suc, _+_, _-_, _*_, _<_, _≤_}
-use mathlib.Core.Bool.{Bool, true, false, _&&_, _||_, not, cond, true≢false}
-use mathlib.Core.Path.{_≡_, refl, sym, _∙_, ap}
-use mathlib.Core.List.{List}
-use native.Mathlib.Omega.{arith}
-use lib.ListN.{length, getD}
-use lib.Dec.{leb, ltb, eqb}
-use borrow.Author.Tests.{eqb-true, leb-true, ltb-true, lt-leb, le-leb, eq-eqb, ne-eqb, lt-ltb}
+use Rattle.octets.specs.Standard.{ℕ, suc, _+_, _-_, _*_, _<_, _≤_, Bool, true, false, _&&_, _||_, not, cond, true≢false, _≡_, refl, sym, _∙_, ap}
+use Rattle.octets.specs.Standard.{List, arith, length, getD, leb, ltb, eqb, eqb-true, leb-true, ltb-true, lt-leb, le-leb, eq-eqb, ne-eqb, lt-ltb}
 use Rattle.octets.specs.Name.{orderOf}
 use Rattle.octets.specs.declared.name.Order.{Order}
 use Rattle.octets.specs.declared.name.Order.the-variants.{Less, Equal, Greater}
 use Rattle.octets.specs.All.{allBelow}
 use Rattle.octets.proofs.All.{and-left, and-right, all-at}
-use Rattle.record.specs.Fields.{networksOf, stateOf, bitsOf, publicSize, privateSize, serverSize, pending}
+use Rattle.record.specs.Fields.{networksOf, stateOf, bitsOf, publicSize, serverSize, pending}
 use Rattle.record.specs.HeaderBlock.{headerOf, soundHeader}
 use Rattle.record.specs.declared.header.Header.{Header}
 use Rattle.record.specs.Networks.{placeAt, usedPlace, soundPlace, soundNetworks}
@@ -69,6 +63,33 @@ table-holds t file count s = go ∙ ap Sound (s .counted)
         rw (s .header, le-leb 512 (length t) (omega (arith, s .size)), eq-eqb (length t) (512 * (h .count + 1)) long)
         (all-good (soundAt t h file) (h .count) (h .count) 1 (λ j a b. s .each j a (omega (arith, s .counted))))
 
+-- What they say of each record.
+module _ (t : List ℕ) (file count : ℕ) (was : TableTests t file count) (k : ℕ) (a : 1 ≤ k) (b : k ≤ count) where
+  abbrev first : Header
+  first = headerOf (blockOf t 0)
+
+  tests-stands : standsAt t first file k ≡ true
+  unfolding soundAt
+  tests-stands = and-left (standsAt t first file k) (agreesAt t k) (was .each k a b)
+
+  pub tests-agrees : agreesAt t k ≡ true
+  unfolding soundAt
+  tests-agrees = and-right (standsAt t first file k) (agreesAt t k) (was .each k a b)
+
+  pub tests-sound : soundRecord (blockOf t k) k first file ≡ true
+  unfolding standsAt
+  tests-sound = and-left (soundRecord (blockOf t k) k first file) (risesAt t k) tests-stands
+
+  pub tests-rises : risesAt t k ≡ true
+  unfolding standsAt
+  tests-rises = and-right (soundRecord (blockOf t k) k first file) (risesAt t k) tests-stands
+
+  pub tests-record : RecordTests (blockOf t k) k first file
+  tests-record = record-says (blockOf t k) k first file tests-sound
+
+  pub tests-limits : Limits (recordOf (blockOf t k))
+  tests-limits = limits-say (recordOf (blockOf t k)) (tests-record .limits)
+
 drop-false : (x : Bool) {y : Bool} → (x && false || y) ≡ true → y ≡ true
 drop-false true e = e
 drop-false false e = e
@@ -118,20 +139,14 @@ module _ (t : List ℕ) (count : ℕ) (s : SoundTable t count) where
 
   -- what each record says
   pub sound-record : (k : ℕ) → 1 ≤ k → k ≤ count → soundRecord (blockOf t k) k (headerOf (blockOf t 0)) (s .file) ≡ true
-  unfolding soundAt standsAt
-  sound-record k a b =
-      and-left (soundRecord (blockOf t k) k (headerOf (blockOf t 0)) (s .file)) _
-      (and-left (standsAt t (headerOf (blockOf t 0)) (s .file) k) _ (sound-tests .each k a b))
+  sound-record = tests-sound t (s .file) count sound-tests
 
   -- the records of each of its sets agree
   pub sound-agrees : (j k : ℕ) → 1 ≤ j → j < k → k ≤ count → sameSet (blockOf t j) (blockOf t k) ≡ true → agreeing (blockOf t j) (blockOf t k) ≡ true
-  unfolding soundAt
-  sound-agrees j k a b c =
-      agrees-says t k (and-right (standsAt t (headerOf (blockOf t 0)) (s .file) k) _ (sound-tests .each k (omega arith) c)) j a b
+  sound-agrees j k a b c = agrees-says t k (tests-agrees t (s .file) count sound-tests k (omega arith) c) j a b
 
   pub sound-limits : (k : ℕ) → 1 ≤ k → k ≤ count → Limits (recordOf (blockOf t k))
-  sound-limits k a b =
-      limits-say (recordOf (blockOf t k)) (record-says (blockOf t k) k (headerOf (blockOf t 0)) (s .file) (sound-record k a b) .limits)
+  sound-limits = tests-limits t (s .file) count sound-tests
 
   pub sound-public : (k : ℕ) → 1 ≤ k → k ≤ count → publicSize (blockOf t k) ≤ 128
   unfolding recordOf
@@ -142,7 +157,7 @@ module _ (t : List ℕ) (count : ℕ) (s : SoundTable t count) where
   unfolding recordOf
   sound-served k a b l =
       go (eqb (serverSize (blockOf t k)) 0) refl
-      (rw (ne-eqb (stateOf (blockOf t k)) 0 (omega arith)) at (record-says (blockOf t k) k (headerOf (blockOf t 0)) (s .file) (sound-record k a b) .server))
+      (rw (ne-eqb (stateOf (blockOf t k)) 0 (omega arith)) at (tests-record t (s .file) count sound-tests k a b .server))
     where
       go : (x : Bool) → eqb (serverSize (blockOf t k)) 0 ≡ x
           → (x && (false && not (pending (bitsOf (blockOf t k))))
@@ -152,11 +167,9 @@ module _ (t : List ℕ) (count : ℕ) (s : SoundTable t count) where
 
   -- its public identities rise
   pub sound-rises : (k : ℕ) → 1 ≤ k → k < count → orderOf (publicAt t k) (publicAt t (suc k)) ≡ Less
-  unfolding soundAt standsAt risesAt
+  unfolding risesAt
   sound-rises k a b =
-      let g : risesAt t (suc k) ≡ true =
-      and-right (soundRecord (blockOf t (suc k)) (suc k) (headerOf (blockOf t 0)) (s .file)) _
-      (and-left (standsAt t (headerOf (blockOf t 0)) (s .file) (suc k)) _ (sound-tests .each (suc k) (omega arith) (omega arith))) in
+      let g : risesAt t (suc k) ≡ true = tests-rises t (s .file) count sound-tests (suc k) (omega arith) (omega arith) in
       let l : 1 < suc k = omega arith in
       let q : suc k - 1 ≡ k = omega arith in
       is-less _ (rw (lt-leb _ _ l, q) at g)

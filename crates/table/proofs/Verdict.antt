@@ -1,10 +1,5 @@
 -- The answer for a whole table, by the tests on the way.
-use Prim.Native.Nat.{ℕ, _+_, _*_, _<_, _≤_}
-use mathlib.Core.Bool.{Bool, true, false}
-use mathlib.Core.Path.{_≡_}
-use mathlib.Core.List.{List}
-use lib.ListN.{length}
-use borrow.Author.Tests.{le-leb, lt-leb, eq-eqb, ne-eqb}
+use Rattle.octets.specs.Standard.{ℕ, _+_, _*_, _<_, _≤_, Bool, true, false, _≡_, List, length, le-leb, lt-leb, eq-eqb, ne-eqb}
 use Rattle.record.specs.HeaderBlock.{headerOf, soundHeader}
 use Rattle.record.specs.declared.header.Header.{Header}
 use Rattle.blocks.specs.Blocks.{blockOf}

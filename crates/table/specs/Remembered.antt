@@ -36,7 +36,7 @@ pub record Word (t : List ℕ) (word : ℕ) : Type 0 where
   pub tag : word / 8192 ≡ tagOf (hashOf (blockOf t (word % 8192)))
 
 -- record j, which has a set: no slot of its hash is empty, up to one whose block is of its set
-pub record Kept (t slots : List ℕ) (j : ℕ) : Type 0 where
+pub record SetKept (t slots : List ℕ) (j : ℕ) : Type 0 where
   pub turn : ℕ
   pub filled : (i : ℕ) → i < turn → 0 < slotAt slots (hashOf (blockOf t j)) i
   pub full : 0 < slotAt slots (hashOf (blockOf t j)) turn
@@ -53,17 +53,17 @@ pub record Remembers (t slots : List ℕ) (k : ℕ) : Type 0 where
   pub few : filled slots 4608 < k
   pub before : (a : ℕ) → getD slots a 0 % 8192 < k
   pub word : (a : ℕ) → 0 < getD slots a 0 → Word t (getD slots a 0)
-  pub kept : (j : ℕ) → 1 ≤ j → j < k → 0 < setOf (blockOf t j) → Kept t slots j
+  pub kept : (j : ℕ) → 1 ≤ j → j < k → 0 < setOf (blockOf t j) → SetKept t slots j
 
 -- block k's set was looked for in so many slots in vain, and not in all
-pub record Passed (t slots : List ℕ) (hash k turn : ℕ) : Type 0 where
+pub record SlotsPassed (t slots : List ℕ) (hash k turn : ℕ) : Type 0 where
   pub few : turn < 4608
   pub each : (i : ℕ) → i < turn → stopsAt t hash k (slotAt slots hash i) ≡ false
 
 -- where block k's set was found, or an empty slot for it
-pub record Found (t slots : List ℕ) (hash k at : ℕ) : Type 0 where
+pub record SlotFound (t slots : List ℕ) (hash k at : ℕ) : Type 0 where
   pub turn : ℕ
-  pub passed : Passed t slots hash k turn
+  pub passed : SlotsPassed t slots hash k turn
   pub place : at ≡ probe hash turn
   pub stopped : stopsAt t hash k (slotAt slots hash turn) ≡ true
 

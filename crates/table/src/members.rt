@@ -9,7 +9,7 @@ ghost use Rattle.table.specs.Hash.{hashOf};
 ghost use Rattle.blocks.specs.Blocks.{blockOf};
 ghost use Rattle.table.specs.Check.{agreesAt};
 ghost use Rattle.table.specs.Leading.{leading};
-ghost use Rattle.table.specs.Remembered.{tagOf, stopsAt, Remembers, Found, Agreed};
+ghost use Rattle.table.specs.Remembered.{tagOf, stopsAt, Remembers, SlotFound, Agreed};
 
 // More slots than a table has records: some stay empty, so that a search ends.
 const SLOTS: usize = 4608;
@@ -55,7 +55,7 @@ fn stops(t: &[u8], hash: usize, k: usize, word: usize) -> bool
 // The place of the first slot of a hash at which block k's set is looked for no further.
 fn find(t: &[u8], slots: &[u16], hash: usize, k: usize) -> usize
     requires { ⌜ Remembers (now t) (now slots) k × (k ≤ 4096) × (512 * k + 512 ≤ length (now t)) ⌝ }
-    ensures { λ r. ⌜ Found (now (t .entry)) (now (slots .entry)) hash k r × (r < 4608) ⌝ }
+    ensures { λ r. ⌜ SlotFound (now (t .entry)) (now (slots .entry)) hash k r × (r < 4608) ⌝ }
 {
     let home = hash % SLOTS;
     let mut i = 0;
@@ -71,7 +71,7 @@ fn find(t: &[u8], slots: &[u16], hash: usize, k: usize) -> usize
 // Whether block k agrees with the one in the slot where its set was looked for, if there is one; if not, block k is remembered there.
 fn held(t: &[u8], slots: &mut [u16], hash: usize, k: usize, at: usize) -> bool
     requires { ⌜ (1 ≤ k) × (k ≤ 4096) × (at < 4608) × (512 * k + 512 ≤ length (now t)) × Remembers (now t) (now slots) k × Agreed (now t) k
-        × Found (now t) (now slots) hash k at × (hash ≡ hashOf (blockOf (now t) k)) ⌝ }
+        × SlotFound (now t) (now slots) hash k at × (hash ≡ hashOf (blockOf (now t) k)) ⌝ }
     ensures { λ r. ⌜ (r ≡ agreesAt (now (t .entry)) k) × Remembers (now (t .entry)) (now (slots .exit)) (k + 1) ⌝ }
 {
     let word = slot(slots, at);

@@ -1,7 +1,5 @@
 -- The line of each answer.
-use Prim.Native.Nat.{ℕ}
-use mathlib.Core.Path.{_≡_}
-use mathlib.Core.List.{List, [], _∷_}
+use Rattle.octets.specs.Standard.{ℕ, _≡_, List, [], _∷_}
 use Rattle.blocks.specs.declared.Checked.{Checked}
 use Rattle.blocks.specs.declared.Checked.the-variants.{Sound, Bad}
 use Rattle.lines.specs.Words.{Words}

@@ -1,18 +1,10 @@
 -- A file that does not fit is judged by what was read of it: no table of more than 4,097 blocks is sound, nor a vector file of more than 4,096, and its
 -- first bad block is among the first 4,097.
-use Prim.Native.Nat.{ℕ, zero, suc, _+_, _-_, _*_, _≤_, _<_}
-use mathlib.Core.Bool.{Bool, true, false, _&&_, cond, true≢false}
-use mathlib.Core.Path.{_≡_, refl, sym, _∙_}
-use mathlib.Core.List.{List, [], _∷_}
-use native.Mathlib.Omega.{arith}
-use lib.Dec.{leb, eqb}
-use lib.ListN.{length, take, drop, length-take}
-use borrow.Author.Tests.{eqb-true, eqb-false, le-leb}
-use lib.Seq.{length-take-le, take-take}
+use Rattle.octets.specs.Standard.{ℕ, zero, suc, _+_, _*_, _≤_, _<_, Bool, true, false, _&&_, cond, true≢false, _≡_, refl, sym, _∙_, List, [], _∷_}
+use Rattle.octets.specs.Standard.{arith, leb, eqb, length, take, drop, length-take, eqb-true, eqb-false, le-leb, length-take-le, take-take}
 use Rattle.record.specs.HeaderBlock.{headerOf, soundHeader}
 use Rattle.record.proofs.Sound.{header-count}
-use Rattle.blocks.specs.Blocks.{blockOf}
-use Rattle.blocks.specs.Blocks.{firstBad}
+use Rattle.blocks.specs.Blocks.{blockOf, firstBad}
 use Rattle.table.specs.Check.{checkRecords, checkTable}
 use Rattle.blocks.specs.declared.Checked.the-variants.{Bad}
 use Rattle.vectors.specs.VectorFile.{piecesOf, soundPiece, checkVectors}

@@ -1,13 +1,7 @@
 -- The first unused vectors: the turns of the scan that chooses them.
-use Prim.Native.Nat.{ℕ, zero, suc, _+_, _-_, _/_, _<_, _≤_}
-use mathlib.Core.Bool.{Bool, true, false}
-use mathlib.Core.Path.{_≡_, refl, sym, _∙_, ap}
-use mathlib.Core.List.{List, [], _∷_, _++_, append-nil, append-assoc}
-use native.Mathlib.Omega.{arith}
-use native.Mathlib.Numerals.{add-one}
-use lib.ListN.{length, getD, take, drop, set, replicate, length-drop, length-append}
-use lib.Seq.{length-take-le}
-use borrow.Author.Tests.{eq-eqb, ne-eqb}
+use Rattle.octets.specs.Standard.{ℕ, zero, suc, _+_, _-_, _/_, _<_, _≤_, Bool, true, false, _≡_, refl, sym, _∙_, ap, List, [], _∷_, _++_, append-nil}
+use Rattle.octets.specs.Standard.{append-assoc, arith, add-one, length, getD, take, drop, set, replicate, length-drop, length-append, length-take-le}
+use Rattle.octets.specs.Standard.{eq-eqb, ne-eqb}
 use Rattle.octets.specs.Name.{same}
 use Rattle.blocks.specs.Blocks.{blockOf}
 use Rattle.vectors.specs.VectorBlock.{vectorOf, cardOf}

@@ -1,22 +1,13 @@
 -- Vectors marked: a block with its mark, and the file with those that are sent marked, one after the other.
-use Prim.Native.Nat.{ℕ, suc, _+_, _-_, _*_, _/_, _%_, _<_, _≤_}
-use mathlib.Core.Bool.{Bool, true, false, cond, _||_}
-use mathlib.Core.Path.{_≡_, refl, sym, _∙_, ap}
-use mathlib.Core.Logic.{_≢_}
-use mathlib.Core.List.{List, [], _∷_, _++_}
-use native.Mathlib.Omega.{arith}
-use native.Mathlib.Numerals.{add-one}
-use lib.ListN.{length, getD, set, take, length-set}
-use lib.Seq.{take-suc, getD-set-same, getD-set-other}
-use lib.Dec.{eqb}
-use borrow.Author.Tests.{eqb-true, eqb-false}
-use borrow.Rule.Slice.PartMut.{midOf, putMid}
+use Rattle.octets.specs.Standard.{ℕ, suc, _+_, _-_, _*_, _/_, _%_, _<_, _≤_, Bool, true, false, cond, _||_, or-true, or-false, _≡_, refl, sym, _∙_}
+use Rattle.octets.specs.Standard.{ap, _≢_, List, [], _∷_, _++_, arith, add-one, length, getD, set, take, length-set, take-suc, getD-set-same}
+use Rattle.octets.specs.Standard.{getD-set-other, eqb, eqb-true, eqb-false, eq-eqb, ne-eqb, midOf, putMid}
 use Rattle.blocks.specs.Blocks.{blockOf}
-use Rattle.blocks.proofs.Blocks.{block-length, table-is, table-same}
+use Rattle.blocks.proofs.Blocks.{block-length}
 use Rattle.blocks.specs.Sealed.{sealed}
-use Rattle.blocks.specs.Changed.{changedAt, changedAll, changedIn, isOne}
+use Rattle.blocks.specs.Changed.{changedAt, changedIn, isOne}
 use Rattle.blocks.proofs.Sealed.{sealed-length, seal-before, seal-alike}
-use Rattle.blocks.proofs.Changed.{Whole, block-put, in-length, in-here, in-other, all-none, all-length, all-block}
+use Rattle.blocks.proofs.Changed.{Whole, block-put, all-none, all-length, all-block, one-more, one-append}
 use Rattle.vectors.specs.Chosen.{sentOf, Sendable}
 use Rattle.vectors.specs.Marked.{markedUsed, spent}
 use Rattle.vectors.specs.declared.choice.Sent.{Sent}
@@ -64,16 +55,7 @@ mark-lent v k e = block-put markedUsed v k e
 -- One number more among those sent.
 sent-more : (ks : List ℕ) (k j : ℕ) → isOne (ks ++ (k ∷ [])) j ≡ (isOne ks j || eqb j k)
 unfolding isOne
-sent-more [] k j = go (eqb j k)
-  where
-    go : (x : Bool) → (x || false) ≡ x
-    go true = refl
-    go false = refl
-sent-more (i ∷ ks) k j = go (eqb j i) (sent-more ks k j)
-  where
-    go : (x : Bool) → isOne (ks ++ (k ∷ [])) j ≡ (isOne ks j || eqb j k) → (x || isOne (ks ++ (k ∷ [])) j) ≡ ((x || isOne ks j) || eqb j k)
-    go true e = refl
-    go false e = e
+sent-more ks k j = one-append ks (k ∷ []) j ∙ ap (λ (x : Bool). isOne ks j || x) (or-false (eqb j k))
 
 module _ (v : List ℕ) (whole : length v % 512 ≡ 0) where
   size : length v ≡ 512 * (length v / 512)
@@ -91,41 +73,15 @@ module _ (v : List ℕ) (whole : length v % 512 ≡ 0) where
   unfolding spent isOne
   spent-none = all-none v (length v / 512) (isOne []) markedUsed size (λ k h. refl)
 
-  module _ (ks : List ℕ) (k : ℕ) (fits : 512 * k + 512 ≤ length v) where
-    here : 512 * k + 512 ≤ length (spent v ks)
-    here = rw (spent-length ks) fits
-
-    block-next : (j : ℕ) → j < length v / 512 → blockOf (changedIn (spent v ks) k markedUsed) j ≡ changedAt v (isOne (ks ++ (k ∷ []))) markedUsed j
-    unfolding changedAt
-    block-next j h = go (eqb j k) refl
-      where
-        again : (x : Bool) → markedUsed (cond x (markedUsed (blockOf v k)) (blockOf v k)) ≡ markedUsed (blockOf v k)
-        again true = marked-twice (blockOf v k) (block-length v k fits)
-        again false = refl
-
-        orb : (x : Bool) → (x || true) ≡ true
-        orb true = refl
-        orb false = refl
-
-        orn : (x : Bool) → (x || false) ≡ x
-        orn true = refl
-        orn false = refl
-
-        go : (x : Bool) → eqb j k ≡ x
-            → blockOf (changedIn (spent v ks) k markedUsed) j ≡ cond (isOne (ks ++ (k ∷ [])) j) (markedUsed (blockOf v j)) (blockOf v j)
-        go true e =
-            let q : j ≡ k = eqb-true j k e in
-            rw (sent-more ks k j, e, orb (isOne ks j), q)
-            (in-here (spent v ks) k markedUsed marked-whole here ∙ ap markedUsed (spent-block ks k (omega arith)) ∙ again (isOne ks k))
-        go false e =
-            rw (sent-more ks k j, e, orn (isOne ks j))
-            (in-other (spent v ks) k markedUsed marked-whole here j (eqb-false j k e) ∙ spent-block ks j h)
-
-    spent-one : changedIn (spent v ks) k markedUsed ≡ spent v (ks ++ (k ∷ []))
-    unfolding spent changedAll
-    spent-one =
-        table-is (changedIn (spent v ks) k markedUsed) (length v / 512) (in-length (spent v ks) k markedUsed marked-whole here ∙ spent-length ks ∙ size)
-        ∙ table-same (blockOf (changedIn (spent v ks) k markedUsed)) (changedAt v (isOne (ks ++ (k ∷ []))) markedUsed) (length v / 512) block-next
+  spent-one : (ks : List ℕ) (k : ℕ) → 512 * k + 512 ≤ length v → changedIn (spent v ks) k markedUsed ≡ spent v (ks ++ (k ∷ []))
+  unfolding spent changedAt
+  spent-one ks k fits =
+      one-more v (length v / 512) (isOne ks) markedUsed size marked-whole (isOne (ks ++ (k ∷ []))) k (omega arith) (again (isOne ks k))
+      (rw (sent-more ks k k, eq-eqb k k refl) (or-true (isOne ks k))) (λ j d. rw (sent-more ks k j, ne-eqb j k d, or-false (isOne ks j)))
+    where
+      again : (x : Bool) → markedUsed (cond x (markedUsed (blockOf v k)) (blockOf v k)) ≡ markedUsed (blockOf v k)
+      again true = marked-twice (blockOf v k) (block-length v k fits)
+      again false = refl
 
 -- The turns of the loop: the first i of those sent are marked.
 pub record Spending (v x : List ℕ) (blocks : List ℕ) (i : ℕ) : Type 0 where

@@ -1,17 +1,9 @@
 -- The pieces of the vector file: how many, each by the tests on the way, and the turns of the loop over them.
-use Prim.Native.Nat.{ℕ, _+_, _-_, _*_, _/_, _%_, _<_, _≤_}
-use mathlib.Core.Bool.{Bool, true, false, _&&_, and-true, and-false}
-use mathlib.Core.Path.{_≡_, refl, sym, _∙_}
-use mathlib.Core.List.{List, [], _∷_}
-use native.Mathlib.Omega.{arith}
-use lib.ListN.{length}
-use lib.Bits.{bitOr}
-use lib.Dec.{leb, eqb}
-use borrow.Author.Tests.{le-leb, lt-leb, lt-ltb, le-ltb, eq-eqb, ne-eqb, ltb-true, leb-true}
+use Rattle.octets.specs.Standard.{ℕ, _+_, _-_, _*_, _/_, _%_, _<_, _≤_, Bool, true, false, _&&_, and-true, and-false, _≡_, sym, _∙_, List, [], _∷_}
+use Rattle.octets.specs.Standard.{arith, length, bitOr, leb, eqb, le-leb, lt-leb, lt-ltb, le-ltb, eq-eqb, ne-eqb, ltb-true, leb-true}
 use Rattle.octets.proofs.Chains.{test, chain-says}
 use Rattle.octets.proofs.Runs.{or-zero}
-use Rattle.blocks.specs.Blocks.{blockOf}
-use Rattle.blocks.specs.Blocks.{firstBad}
+use Rattle.blocks.specs.Blocks.{blockOf, firstBad}
 use Rattle.octets.specs.Run.{zeroBetween}
 use Rattle.octets.specs.Sum.{sumWords}
 use Rattle.vectors.specs.VectorBlock.{vectorOf, soundLimits, soundRest, soundVector}

@@ -1,16 +1,8 @@
 -- What is chosen can be sent.
-use Prim.Native.Nat.{ℕ, zero, suc, _+_, _-_, _*_, _/_, _<_, _≤_, min}
-use mathlib.Core.Bool.{Bool, true, false, _||_}
-use mathlib.Core.Path.{_≡_, refl, _∙_}
-use mathlib.Core.List.{List, [], _∷_, _++_}
-use native.Mathlib.Omega.{arith}
-use lib.ListN.{length, getD, replicate, length-append, length-replicate, List·getD-append}
-use lib.Dec.{eqb}
-use borrow.Author.Tests.{eq-eqb}
-use Rattle.blocks.specs.Blocks.{blockOf}
-use Rattle.vectors.specs.VectorBlock.{vectorOf}
+use Rattle.octets.specs.Standard.{ℕ, zero, suc, _-_, _/_, _<_, _≤_, Bool, true, false, _||_, _≡_, refl, _∙_, List, [], _∷_, arith, length, getD}
+use Rattle.octets.specs.Standard.{replicate, length-append, length-replicate, List·getD-append, eqb, eq-eqb}
 use Rattle.vectors.specs.VectorFile.{SoundVectors}
-use Rattle.vectors.specs.Chosen.{firstOnes, unusedAt, unusedOf, noneSent, packed, howMany, Sendable}
+use Rattle.vectors.specs.Chosen.{unusedAt, unusedOf, noneSent, packed, Sendable}
 use Rattle.blocks.specs.Changed.{isOne}
 use Rattle.vectors.proofs.Sound.{block-fits, sound-xres}
 use Rattle.vectors.proofs.Unused.{ones-many, ones-hold}

@@ -1,15 +1,8 @@
 -- What a sound vector file says, and that a file that says so is sound.
-use Prim.Native.Nat.{ℕ, _+_, _*_, _/_, _%_, _<_, _≤_}
-use mathlib.Core.Bool.{Bool, true, false, _&&_, cond}
-use mathlib.Core.Path.{_≡_, refl, sym, _∙_}
-use mathlib.Core.List.{List, [], _∷_}
-use native.Mathlib.Omega.{arith}
-use lib.ListN.{length}
-use lib.Dec.{eqb, leb, ltb}
-use borrow.Author.Tests.{eqb-true, eqb-false, eq-eqb, leb-true, ltb-true, ltb-false, lt-ltb, le-leb}
+use Rattle.octets.specs.Standard.{ℕ, _+_, _*_, _/_, _%_, _<_, _≤_, Bool, true, false, _≡_, refl, sym, _∙_, List, [], _∷_, arith, length, eqb, leb}
+use Rattle.octets.specs.Standard.{ltb, eqb-true, eq-eqb, leb-true, ltb-true, ltb-false, lt-ltb, le-leb}
 use Rattle.octets.proofs.Chains.{chain-says}
 use Rattle.blocks.specs.Blocks.{blockOf}
-use Rattle.blocks.specs.Blocks.{firstBad}
 use Rattle.blocks.specs.declared.Checked.the-variants.{Sound}
 use Rattle.blocks.proofs.First.{good-each, good-count, all-good}
 use Rattle.octets.specs.Sum.{sumWords}

@@ -1,11 +1,6 @@
 -- Vectors marked used: a sound one is sound still, of the same private identity, and unused no more; and so is a file of them sound.
-use Prim.Native.Nat.{ℕ, _+_, _/_, _%_, _<_, _≤_}
-use mathlib.Core.Bool.{Bool, true, false, cond}
-use mathlib.Core.Path.{_≡_, sym, _∙_, ap}
-use mathlib.Core.Logic.{_≢_}
-use mathlib.Core.List.{List}
-use native.Mathlib.Omega.{arith}
-use lib.ListN.{length, getD, set, length-set}
+use Rattle.octets.specs.Standard.{ℕ, _+_, _/_, _%_, _<_, _≤_, Bool, true, false, cond, _≡_, sym, _∙_, ap, _≢_, List, arith, length, getD, set}
+use Rattle.octets.specs.Standard.{length-set}
 use Rattle.octets.proofs.Parts.{part-alike}
 use Rattle.octets.proofs.Runs.{zero-alike}
 use Rattle.blocks.specs.Blocks.{blockOf}
@@ -17,8 +12,8 @@ use Rattle.vectors.specs.VectorFile.{checkVectors, SoundVectors}
 use Rattle.blocks.specs.Changed.{isOne}
 use Rattle.vectors.specs.Marked.{markedUsed, spent}
 use Rattle.vectors.proofs.Marks.{marked-length, marked-other, marked-used, spent-length, spent-block}
-use Rattle.vectors.proofs.Sound.{VectorLimits, VectorTests, vector-says, vector-holds, whole-blocks, blocks-are, sound-vector, few-all, block-fits}
-use Rattle.vectors.proofs.Sound.{vectors-hold}
+use Rattle.vectors.proofs.Sound.{VectorLimits, VectorTests, vector-says, vector-holds, whole-blocks, blocks-are, sound-vector, few-all}
+use Rattle.vectors.proofs.Sound.{block-fits, vectors-hold}
 
 module _ (b : List ℕ) (whole : length b ≡ 512) (sound : soundVector b ≡ true) where
   was : VectorTests b

@@ -1,27 +1,21 @@
 -- The vectors that are chosen: so many as asked or as remain, unused and of that name, the first ones in file order, each once.
-use Prim.Native.Nat.{ℕ, zero, suc, _+_, _<_, _≤_, min}
-use mathlib.Core.Bool.{Bool, true, false, cond, _||_, true≢false}
-use mathlib.Core.Path.{_≡_, refl, sym, _∙_}
-use mathlib.Core.List.{List, [], _∷_}
-use native.Mathlib.Omega.{arith}
-use lib.ListN.{length}
-use lib.Dec.{eqb}
-use borrow.Author.Tests.{eqb-true, eqb-false, eq-eqb, ne-eqb}
-use Rattle.vectors.specs.Chosen.{firstOnes, howMany, Rising}
+use Rattle.octets.specs.Standard.{ℕ, zero, suc, _+_, _<_, _≤_, min, Bool, true, false, cond, true≢false, _≡_, refl, sym, _∙_, List, [], _∷_, arith}
+use Rattle.octets.specs.Standard.{length, eqb, eqb-true, eqb-false}
+use Rattle.vectors.specs.Chosen.{firstOnes, countFrom, Rising}
 use Rattle.blocks.specs.Changed.{isOne}
 
 module _ (p : ℕ → Bool) where
   -- as many as asked or as remain
-  pub ones-many : (n k most : ℕ) → length (firstOnes p n k most) ≡ min most (howMany p n k)
-  unfolding firstOnes howMany
+  pub ones-many : (n k most : ℕ) → length (firstOnes p n k most) ≡ min most (countFrom p n k)
+  unfolding firstOnes countFrom
   ones-many zero k most = omega arith
   ones-many (suc n) k zero = omega arith
   ones-many (suc n) k (suc most) = go (p k) (ones-many n (suc k) most) (ones-many n (suc k) (suc most))
     where
-      go : (x : Bool) → length (firstOnes p n (suc k) most) ≡ min most (howMany p n (suc k))
-          → length (firstOnes p n (suc k) (suc most)) ≡ min (suc most) (howMany p n (suc k))
+      go : (x : Bool) → length (firstOnes p n (suc k) most) ≡ min most (countFrom p n (suc k))
+          → length (firstOnes p n (suc k) (suc most)) ≡ min (suc most) (countFrom p n (suc k))
           → length (cond x (k ∷ firstOnes p n (suc k) most) (firstOnes p n (suc k) (suc most)))
-          ≡ min (suc most) (cond x (suc (howMany p n (suc k))) (howMany p n (suc k)))
+          ≡ min (suc most) (cond x (suc (countFrom p n (suc k))) (countFrom p n (suc k)))
       go true a b = omega arith
       go false a b = omega arith
 

@@ -41,9 +41,9 @@ unfoldable pub sentAlso : Sent → ℕ → Sent
 sentAlso s k = record { blocks = set (s .blocks) (s .count) k; count = s .count + 1 }
 
 -- how many of the n numbers from k on a test holds of
-unfoldable pub howMany : (ℕ → Bool) → ℕ → ℕ → ℕ
-howMany p zero k = 0
-howMany p (suc n) k = cond (p k) (suc (howMany p n (suc k))) (howMany p n (suc k))
+unfoldable pub countFrom : (ℕ → Bool) → ℕ → ℕ → ℕ
+countFrom p zero k = 0
+countFrom p (suc n) k = cond (p k) (suc (countFrom p n (suc k))) (countFrom p n (suc k))
 
 -- numbers that rise from a bound on: no two of them are equal
 abbrev pub Rising : ℕ → List ℕ → Type 0

@@ -3,3 +3,6 @@ pub mod choice;
 pub mod file;
 pub mod mark;
 pub mod vector;
+
+// The one authentication scheme that is served.
+pub const SCHEME: [u8; 16] = *b"Digest-AKAv1-MD5";

@@ -1,13 +1,6 @@
 -- The blocks of the vector file after one call: each that was sent is marked, and every other is as it was.
-use Prim.Native.Nat.{ℕ, _*_, _/_, _%_, _<_, _≤_, min}
-use mathlib.Core.List.{List, []}
-use mathlib.Core.Bool.{Bool, true, false, true≢false}
-use mathlib.Core.Path.{_≡_, refl, sym, ap, _∙_}
-use mathlib.Core.Logic.{_⊎_, inl, inr, _≢_}
-use native.Mathlib.Omega.{arith}
-use lib.ListN.{length, getD, drop-of-length-le}
-use lib.Dec.{eqb, ltb}
-use borrow.Author.Tests.{eqb-true, ltb-true, ltb-false}
+use Rattle.octets.specs.Standard.{ℕ, _*_, _/_, _%_, _<_, _≤_, min, List, [], Bool, true, false, true≢false, _≡_, refl, sym, ap, _∙_, _⊎_, inl, inr}
+use Rattle.octets.specs.Standard.{_≢_, arith, length, getD, drop-of-length-le, eqb, ltb, eqb-true, ltb-true, ltb-false}
 use Rattle.octets.specs.Name.{same}
 use Rattle.octets.proofs.All.{and-left, and-right}
 use Rattle.octets.proofs.Names.{same-eq}

@@ -1,7 +1,6 @@
 pub mod Blocks
 pub mod Calls
 pub mod Cases
-pub mod Faults
 pub mod Rows
 pub mod Said
 pub mod Sending

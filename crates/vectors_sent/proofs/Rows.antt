@@ -1,17 +1,12 @@
 -- Rows of calls: what is used stays used, what is sent was unused, and so nothing is sent twice.
-use Prim.Native.Nat.{ℕ, suc, _<_}
-use mathlib.Core.List.{List, [], _∷_, _++_}
-use mathlib.Core.Bool.{Bool, true, false, _||_, true≢false}
-use mathlib.Core.Path.{_≡_, refl, sym, ap, _∙_}
-use native.Mathlib.Omega.{arith}
-use lib.ListN.{length, getD}
-use lib.Dec.{eqb}
-use borrow.Author.Tests.{eq-eqb, ne-eqb}
+use Rattle.octets.specs.Standard.{ℕ, suc, _<_, List, [], _∷_, _++_, Bool, true, false, _||_, true≢false, _≡_, refl, sym, ap, _∙_, arith, length, getD}
+use Rattle.octets.specs.Standard.{eqb, eq-eqb, ne-eqb}
 use Rattle.vectors.specs.Chosen.{Rising}
 use Rattle.blocks.specs.Changed.{isOne}
 use Rattle.vectors.specs.VectorFile.{checkVectors}
 use Rattle.calling.specs.Lent.{Lent}
 use Rattle.calling.specs.Serve.{serve}
+use Rattle.blocks.proofs.Changed.{one-append}
 use Rattle.vectors_sent.specs.Sent.{sentBy, usedAt}
 use Rattle.vectors_sent.specs.Row.{Turn, lending, leftBy, sentOver, Once}
 use Rattle.vectors_sent.proofs.Blocks.{unsent-kept, sent-unused, sent-used, length-kept, check-kept, rising}
@@ -25,15 +20,6 @@ below from (k ∷ ks) r j h = rw (ne-eqb j k (omega (arith, r .0))) (below (suc 
 rising-once : (from : ℕ) (ks : List ℕ) → Rising from ks → Once ks
 rising-once from [] r = tt
 rising-once from (k ∷ ks) r = (below (suc k) ks (r .1) k (omega arith), rising-once (suc k) ks (r .1))
-
-listed-join : (is js : List ℕ) (k : ℕ) → isOne (is ++ js) k ≡ (isOne is k || isOne js k)
-unfolding isOne
-listed-join [] js k = refl
-listed-join (i ∷ is) js k = go (eqb k i) (listed-join is js k)
-  where
-    go : (x : Bool) → isOne (is ++ js) k ≡ (isOne is k || isOne js k) → (x || isOne (is ++ js) k) ≡ ((x || isOne is k) || isOne js k)
-    go true e = refl
-    go false e = e
 
 head-listed : (k : ℕ) (ks : List ℕ) → isOne (k ∷ ks) k ≡ true
 unfolding isOne
@@ -50,7 +36,7 @@ tail-listed i is k e = go (eqb k i)
 once-join : (is js : List ℕ) → Once is → Once js → ((k : ℕ) → isOne is k ≡ true → isOne js k ≡ false) → Once (is ++ js)
 once-join [] js a b h = b
 once-join (i ∷ is) js a b h =
-    (rw (listed-join is js i, a .0) (h i (head-listed i is)), once-join is js (a .1) b (λ k e. h k (tail-listed i is k e)))
+    (rw (one-append is js i, a .0) (h i (head-listed i is)), once-join is js (a .1) b (λ k e. h k (tail-listed i is k e)))
 
 -- One call: what is used stays used, and what is unused afterwards was so before.
 module _ (x : Lent) (k : ℕ) where
@@ -78,7 +64,7 @@ row-used v (c ∷ cs) k e = row-used (serve (lending v c) .vectors) cs k (call-u
 sent-first : (v : List ℕ) (c : Turn) (cs : List Turn) (k : ℕ) (P : Type 0) → isOne (sentOver v (c ∷ cs)) k ≡ true
     → (isOne (sentBy (lending v c)) k ≡ true → P) → (isOne (sentOver (serve (lending v c) .vectors) cs) k ≡ true → P) → P
 unfolding sentOver
-sent-first v c cs k P e f g = go (isOne is k) refl (sym (listed-join is js k) ∙ e)
+sent-first v c cs k P e f g = go (isOne is k) refl (sym (one-append is js k) ∙ e)
   where
     is : List ℕ
     is = sentBy (lending v c)

@@ -1,30 +1,27 @@
 -- What an answer says of the vectors that are sent: their number, and of each its item, in this order.
-use Prim.Native.Nat.{ℕ, zero, suc, _+_, _≤_}
-use mathlib.Core.List.{List, [], _∷_, _++_, append-nil, append-assoc}
-use mathlib.Core.Bool.{false}
-use mathlib.Core.Path.{_≡_, refl, sym, ap}
-use native.Mathlib.Omega.{arith}
-use lib.ListN.{length, getD, take}
-use lib.Seq.{take-suc, length-take-le}
+use Rattle.octets.specs.Standard.{ℕ, zero, suc, _+_, _≤_, List, [], _∷_, _++_, append-nil, append-assoc, false, _≡_, refl, sym, ap, arith, length}
+use Rattle.octets.specs.Standard.{getD, take, take-suc, length-take-le}
 use Rattle.octets.specs.Run.{over}
 use Rattle.blocks.specs.Blocks.{blockOf}
 use Rattle.vectors.specs.Chosen.{sentOf, Sendable}
 use Rattle.vectors.specs.declared.choice.Sent.{Sent}
 use Rattle.items.specs.Items.{itemBytes, itemsBytes, numberedBytes, sentBytes}
-use Rattle.reply.specs.Answer.{givenBytes, restBytes, bodyBytes, answerBytes}
+use Rattle.reading.specs.declared.Dialect.{Dialect}
+use Rattle.reply.specs.Pieces.{givenBytes}
+use Rattle.answering.specs.Answer.{restBytes, bodyBytes, answerBytes}
 use Rattle.reading.specs.Verdicts.{numberOf}
 use Rattle.reading.specs.declared.Outcome.the-variants.{Base}
-use Rattle.requests.specs.Judged.{Judged, bad, fine}
-use Rattle.requests.specs.Request.{readRequest}
-use Rattle.fitting.specs.Decide.{performed, decideJudged, decide}
-use Rattle.fitting.proofs.Room.{decide-light}
+use Rattle.deciding.specs.Decide.{performedBy, decide}
+use Rattle.deciding.proofs.Comes.{decide-by}
+use Rattle.deciding.proofs.Deeds.{decide-sendable}
+use Rattle.deciding.proofs.Read.{fails-most}
 use Rattle.calling.specs.Call.{Answered}
-use Rattle.calling.specs.Lent.{Lent}
+use Rattle.calling.specs.Lent.{Lent, dialectIn}
 use Rattle.calling.specs.Trial.{anyHolds}
 use Rattle.calling.specs.Serve.{checkOf, trials, answerOf, answered, serve, checkValue, decided}
 use Rattle.vectors_sent.specs.Sent.{sentBy, itemsFrom, saidOf, answerWith}
-use Rattle.vectors_sent.proofs.Calls.{answered-is, answered-sound}
-use Rattle.vectors_sent.proofs.Faults.{read-fails}
+use Rattle.calling.proofs.Kept.{answered-is}
+use Rattle.vectors_sent.proofs.Calls.{answered-sound}
 
 module _ (v : List ℕ) where
   -- one item more
@@ -49,7 +46,7 @@ module _ (v : List ℕ) where
 
 module _ (x : Lent) (taken : anyHolds (trials x) ≡ false) where
   sendable : Sendable (x .vectors) (decided x .given .sent)
-  sendable = decide-light (x .request) (x .table) (checkValue (checkOf x)) (x .vectors) (answered-sound x taken) .1
+  sendable = decide-sendable (dialectIn x) (x .request) (x .table) (checkValue (checkOf x)) (x .vectors) (answered-sound x taken)
 
   answer-is : answerOf x (decided x) ≡ answerWith x (decided x .given) (saidOf (x .vectors) (sentBy x))
   unfolding answerBytes bodyBytes restBytes givenBytes sentBy
@@ -65,10 +62,9 @@ module _ (x : Lent) (taken : anyHolds (trials x) ≡ false) where
   )
 
 -- A success blames no AVP.
-pub success-nowhere : (req t : List ℕ) (count : ℕ) (v : List ℕ) → decide req t count v .given .verdict .result ≡ Base 2001 → decide req t count v .place ≡ 0
-unfolding decide decideJudged performed numberOf
-success-nowhere req t count v = go (readRequest req) refl
-  where
-    go : (j : Judged) → readRequest req ≡ j → decideJudged req t count v j .given .verdict .result ≡ Base 2001 → decideJudged req t count v j .place ≡ 0
-    go (bad f) e r = absurd (omega (arith, read-fails req f e, ap numberOf r))
-    go (fine seen) e r = refl
+pub success-nowhere : (dialect : Dialect) (req t : List ℕ) (count : ℕ) (v : List ℕ) → decide dialect req t count v .given .verdict .result ≡ Base 2001
+    → decide dialect req t count v .place ≡ 0
+unfolding performedBy numberOf
+success-nowhere dialect req t count v =
+    decide-by dialect req t count v (λ d. d .given .verdict .result ≡ Base 2001 → d .place ≡ 0)
+    (λ f e b r. absurd (omega (arith, fails-most (f .result) b, ap numberOf r))) (λ seen e p c r. refl)

@@ -1,12 +1,7 @@
 -- What becomes of the vector file, as theorems about `serve`, which is what the exported call is promised to leave (ndushavire/specs/Promise), for anything
 -- lent. What the words below mean is in specs/Sent (one call) and specs/Row (a row of calls).
-use Prim.Native.Nat.{ℕ, _/_, _<_, min}
-use mathlib.Core.List.{List, [], _∷_, _++_}
-use mathlib.Core.Bool.{true, false, true≢false}
-use mathlib.Core.Path.{_≡_, sym, ap, _∙_}
-use mathlib.Core.Logic.{_⊎_, inl, inr, _≢_}
-use lib.ListN.{length, getD}
-use borrow.Author.Tests.{lt-ltb}
+use Rattle.octets.specs.Standard.{ℕ, _/_, _<_, min, List, [], _∷_, _++_, true, false, true≢false, _≡_, sym, ap, _∙_, _⊎_, inl, inr, _≢_, length, getD}
+use Rattle.octets.specs.Standard.{lt-ltb}
 use Rattle.octets.specs.Run.{over}
 use Rattle.blocks.specs.Blocks.{blockOf}
 use Rattle.vectors.specs.Chosen.{unusedAt, Rising}
@@ -17,15 +12,15 @@ use Rattle.pen.specs.Bytes.{vendorNumber, ifThere}
 use Rattle.reading.specs.declared.Outcome.the-variants.{Base}
 use Rattle.diameter.specs.Message.{commandOf}
 use Rattle.calling.specs.Call.{Answered}
-use Rattle.calling.specs.Lent.{Lent}
+use Rattle.calling.specs.Lent.{Lent, dialectIn}
 use Rattle.calling.specs.Trial.{anyHolds}
 use Rattle.calling.specs.Serve.{checkOf, trials, serve, checkValue, decided, resultOf}
 use Rattle.ndushavire.specs.Word.{callPlace}
 use Rattle.vectors_sent.specs.Sent.{sentBy, Challenges, userOf, askedBy, usedAt, remaining, itemsFrom, saidOf, answerWith}
 use Rattle.vectors_sent.specs.Row.{Turn, lending, leftBy, sentOver, Once}
 use Rattle.vectors_sent.proofs.Calls.{Quiet, Sending, call-cases}
-use Rattle.vectors_sent.proofs.Blocks as blocks
 use Rattle.vectors_sent.proofs.Said.{answer-says, success-nowhere}
+use Rattle.vectors_sent.proofs.Blocks as blocks
 use Rattle.vectors_sent.proofs.Rows as rows
 
 module _ (x : Lent) where
@@ -111,7 +106,7 @@ module _ (x : Lent) where
   -- Of a success the place is 0, for no AVP is at fault ..
   pub success-place : Challenges x → callPlace (serve x .call) ≡ 0
   success-place c =
-      ap callPlace (answer-sends (c .taken) .0) ∙ success-nowhere (x .request) (x .table) (checkValue (checkOf x)) (x .vectors) (c .success)
+      ap callPlace (answer-sends (c .taken) .0) ∙ success-nowhere (dialectIn x) (x .request) (x .table) (checkValue (checkOf x)) (x .vectors) (c .success)
 
   -- .. and this is the number sent in 607, and so many items.
   pub success-says : Challenges x

@@ -4,20 +4,22 @@ use mathlib.Core.List.{List, [], _∷_, _++_}
 use mathlib.Core.Bool.{false}
 use mathlib.Core.Path.{_≡_}
 use Rattle.blocks.specs.Changed.{isOne}
+use Rattle.reading.specs.declared.Terms.{Terms}
 use Rattle.calling.specs.Lent.{Lent, lent}
 use Rattle.calling.specs.Serve.{serve}
 use Rattle.vectors_sent.specs.Sent.{sentBy}
 
--- what is lent to a call besides the vector file. Any table may be: the one that the call before left, or another that the daemon has put in its place
+-- what is lent to a call besides the vector file, and its terms. Any table may be: the one that the call before left, or another that the daemon has put in its place
 pub record Turn : Type 0 where
   pub request : List ℕ
   pub table : List ℕ
   pub profile : List ℕ
   pub buffer : List ℕ
+  pub terms : Terms
 
 -- the call over a vector file
 abbrev pub lending : List ℕ → Turn → Lent
-lending v c = lent (c .request) (c .table) (c .profile) v (c .buffer)
+lending v c = lent (c .request) (c .table) (c .profile) v (c .buffer) (c .terms)
 
 -- the file after a row of calls, each over what the one before left of it
 unfoldable pub leftBy : List ℕ → List Turn → List ℕ

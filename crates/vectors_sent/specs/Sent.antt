@@ -6,17 +6,18 @@ use mathlib.Core.Path.{_≡_}
 use lib.ListN.{length, getD}
 use lib.Dec.{ltb}
 use Rattle.blocks.specs.Blocks.{blockOf}
-use Rattle.vectors.specs.Chosen.{sentOf, unusedAt, howMany}
+use Rattle.vectors.specs.Chosen.{sentOf, unusedAt, countFrom}
 use Rattle.reading.specs.Kinds.{userName, numberAuthItems}
 use Rattle.reading.specs.declared.Outcome.the-variants.{Base}
 use Rattle.diameter.specs.Message.{commandOf}
 use Rattle.requests.specs.Judged.{Judged, bad, fine}
-use Rattle.requests.specs.Request.{readRequest, dataSeen, valueSeen}
+use Rattle.requests.specs.Request.{readIn, dataSeen, valueSeen}
 use Rattle.pen.specs.Bytes.{vendorNumber, ifThere}
 use Rattle.items.specs.Items.{itemBytes}
 use Rattle.choices.specs.declared.Given.{Given}
-use Rattle.reply.specs.Answer.{topBytes, nameBytes, dataBytes, endBytes, headerBytes}
-use Rattle.calling.specs.Lent.{Lent}
+use Rattle.reply.specs.Pieces.{topBytes, nameBytes, dataBytes, headerBytes}
+use Rattle.answering.specs.Answer.{endBytes}
+use Rattle.calling.specs.Lent.{Lent, dialectIn}
 use Rattle.calling.specs.Trial.{anyHolds}
 use Rattle.calling.specs.Serve.{trials, decided, resultOf}
 
@@ -35,22 +36,22 @@ abbrev pub userIn : Judged → List ℕ
 userIn (bad v) = []
 userIn (fine seen) = dataSeen seen userName
 
-abbrev pub numberIn : Judged → ℕ
-numberIn (bad v) = 0
-numberIn (fine seen) = valueSeen seen numberAuthItems
+abbrev pub itemsAsked : Judged → ℕ
+itemsAsked (bad v) = 0
+itemsAsked (fine seen) = valueSeen seen numberAuthItems
 
 abbrev pub userOf : Lent → List ℕ
-userOf x = userIn (readRequest (x .request))
+userOf x = userIn (readIn (dialectIn x) (x .request))
 
 abbrev pub askedBy : Lent → ℕ
-askedBy x = numberIn (readRequest (x .request))
+askedBy x = itemsAsked (readIn (dialectIn x) (x .request))
 
 -- byte 1 of block k, "used (0 or 1)"; how many unused vectors of a name there are
 abbrev pub usedAt : List ℕ → ℕ → ℕ
 usedAt v k = getD (blockOf v k) 1 0
 
 unfoldable pub remaining : List ℕ → List ℕ → ℕ
-remaining v name = howMany (unusedAt v name) (length v / 512) 0
+remaining v name = countFrom (unusedAt v name) (length v / 512) 0
 
 -- "the number sent, and the items", of these blocks of a file in this order; nothing of none
 unfoldable pub itemsFrom : List ℕ → ℕ → List ℕ → List ℕ
@@ -63,7 +64,7 @@ saidOf v ks = ifThere (ltb 0 (length ks)) (vendorNumber 607 (length ks) ++ items
 -- an answer with these bytes between its names and its data: nothing else of it is taken from the vector file
 abbrev pub bodyWith : Lent → Given → List ℕ → List ℕ
 bodyWith x g said =
-    topBytes (x .request) (x .table) (g .verdict .result)
+    topBytes (x .terms) (x .request) (x .table) (g .verdict .result)
     ++ ((nameBytes (x .table) g ++ (said ++ dataBytes (x .table) (x .profile) g)) ++ endBytes (x .request) (g .verdict))
 
 abbrev pub answerWith : Lent → Given → List ℕ → List ℕ

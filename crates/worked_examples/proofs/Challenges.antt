@@ -1,9 +1,5 @@
 -- Authentication requests, worked through: what each is answered, and the table and the vector file afterwards.
-use Prim.Native.Nat.{ℕ, zero, suc, _+_}
-use mathlib.Core.Path.{_≡_, refl, ap, _∙_}
-use mathlib.Core.List.{List, [], _∷_, _++_, map}
-use mathlib.Core.Bool.{Bool, true, false}
-use lib.ListN.{length, take, replicate, set}
+use Rattle.octets.specs.Standard.{ℕ, zero, suc, _+_, _≡_, refl, ap, _∙_, List, [], _∷_, _++_, map, Bool, true, false, length, take, replicate, set}
 use Rattle.octets.specs.Run.{over}
 use Rattle.blocks.specs.Blocks.{blockOf}
 use Rattle.table.specs.Check.{checkTable}
@@ -18,15 +14,16 @@ use Rattle.pen.specs.Bytes.{vendorHead, avpBytes, vendorBytes, vendorNumber, nu
 use Rattle.pen.specs.Groups.{experimental, failed}
 use Rattle.choices.specs.Given.{givenSent}
 use Rattle.choices.specs.declared.Given.{Given}
-use Rattle.decisions.specs.Authentication.{toSend}
-use Rattle.fitting.specs.Decide.{decide}
-use Rattle.reply.specs.Answer.{answerBytes}
+use Rattle.questions.specs.Authentication.{toSend}
+use Rattle.deciding.specs.Decide.{decide}
+use Rattle.answering.specs.Answer.{answerBytes}
+use Rattle.requests.specs.Request.{dialectOf, underCx}
 use Rattle.calling.specs.Call.{Answered, Refused}
 use Rattle.calling.specs.Lent.{Lent, lent}
 use Rattle.calling.specs.Serve.{Served, serve}
 use Rattle.worked_examples.proofs.Computed.{known, come, roomy, registered-sound}
 use Rattle.worked_examples.proofs.Sample.{block, header, person, subscriber, vector, room, request, reply, assignment, digest}
-use Rattle.worked_examples.proofs.Sample.{authenticationOf, authentication, item, challenges, one, waiting, s, z, opened}
+use Rattle.worked_examples.proofs.Sample.{authenticationOf, authentication, item, challenges, one, s, z, opened}
 
 -- what is left where a call is answered: with the place of an AVP at fault, or with none
 abbrev leftAt : ℕ → List ℕ → List ℕ → List ℕ → Served
@@ -104,10 +101,10 @@ unfolding opened stored unsent
 unsent-sound = refl
 
 to-the-byte :
-    serve (lent mar table [] unsent room)
+    serve (lent mar table [] unsent room underCx)
     ≡ left (header 1 0 ++ line 1 1 0x73 (0xB9 ∷ 0xFC ∷ 0xFE ∷ 0xFE ∷ [])) (stored 1 (0x42 ∷ 0x98 ∷ 0x83 ∷ 0x7B ∷ [])) maa
 unfolding opened mar maa stored line table unsent
-to-the-byte = come (lent mar table [] unsent room) roomy table-sound unsent-sound refl
+to-the-byte = come (lent mar table [] unsent room underCx) roomy table-sound unsent-sound refl
 
 -- Two files with what their checks answer, so that these are computed once; and a row: a request over them, and what is left.
 record Files : Type 0 where
@@ -122,7 +119,7 @@ data Row : Type 0 where
   row : Files → List ℕ → Served → Row
 
 abbrev calling : Files → List ℕ → Lent
-calling f req = lent req (f .table) [] (f .vectors) room
+calling f req = lent req (f .table) [] (f .vectors) room underCx
 
 abbrev Comes : Row → Type 0
 Comes (row f req y) = serve (calling f req) ≡ y
@@ -204,23 +201,24 @@ unfolding opened mixed
 numbers-come = all-come numbers (refl, (refl, (refl, (refl, tt))))
 
 -- these four by name
-pub one-sent : serve (lent (authentication 1 s) (one 0 1 s) [] (vector 0 0x70 1) room) ≡ left (one 0 1 s) (vector 1 0x70 1) (challenges 1 (item 1 1))
+pub one-sent : serve (lent (authentication 1 s) (one 0 1 s) [] (vector 0 0x70 1) room underCx) ≡ left (one 0 1 s) (vector 1 0x70 1) (challenges 1 (item 1 1))
 one-sent = numbers-come .0
 
-pub two-left : serve (lent (authentication 3 s) (one 0 1 s) [] (mixed 0 0 0) room) ≡ left (one 0 1 s) (mixed 0 1 1) (challenges 2 (item 1 5 ++ item 2 9))
+pub two-left : serve (lent (authentication 3 s) (one 0 1 s) [] (mixed 0 0 0) room underCx)
+    ≡ left (one 0 1 s) (mixed 0 1 1) (challenges 2 (item 1 5 ++ item 2 9))
 two-left = numbers-come .1 .0
 
 pub none-asked :
-    serve (lent (authentication 0 s) (one 0 1 s) [] (vector 0 0x70 1) room) ≡ left (one 0 1 s) (vector 0 0x70 1) (reply 303 (numberBytes 268 5012) [])
+    serve (lent (authentication 0 s) (one 0 1 s) [] (vector 0 0x70 1) room underCx) ≡ left (one 0 1 s) (vector 0 0x70 1) (reply 303 (numberBytes 268 5012) [])
 none-asked = numbers-come .1 .1 .0
 
 pub none-unused :
-    serve (lent (authentication 1 s) (one 0 1 s) [] (vector 1 0x70 1) room) ≡ left (one 0 1 s) (vector 1 0x70 1) (reply 303 (numberBytes 268 5012) [])
+    serve (lent (authentication 1 s) (one 0 1 s) [] (vector 1 0x70 1) room underCx) ≡ left (one 0 1 s) (vector 1 0x70 1) (reply 303 (numberBytes 268 5012) [])
 none-unused = numbers-come .1 .1 .1 .0
 
 -- "No vector is ever sent twice": the same MAR again, over what the first call left
 abbrev again : List ℕ → Served → Served
-again req y = serve (lent req (y .table) [] (y .vectors) room)
+again req y = serve (lent req (y .table) [] (y .vectors) room underCx)
 
 twice :
     again (authentication 1 s) (again (authentication 1 s) (left (one 0 1 s) (vector 0 0x70 1) []))
@@ -242,11 +240,11 @@ items : ℕ → List ℕ
 items zero = []
 items (suc k) = items k ++ item (suc k) k
 
-at-most : decide (authentication 17 s) (one 0 1 s) 1 seventeen .given ≡ sixteen
+at-most : decide (dialectOf underCx (authentication 17 s)) (authentication 17 s) (one 0 1 s) 1 seventeen .given ≡ sixteen
 unfolding opened cards sixteen
 at-most = refl
 
-at-most-sent : answerBytes (authentication 17 s) (one 0 1 s) [] seventeen sixteen ≡ challenges 16 (items 16)
+at-most-sent : answerBytes underCx (authentication 17 s) (one 0 1 s) [] seventeen sixteen ≡ challenges 16 (items 16)
 unfolding opened cards sixteen items
 at-most-sent = refl
 
@@ -325,7 +323,8 @@ named state bits name server bits' = record { state = state; bits = bits; name =
 decided : Naming → List ℕ
 decided c =
     let t = header 1 0 ++ subscriber 1 0x61 0x70 (c .state) (c .bits) (c .name) in
-    take 508 (blockOf (decide (authentication 1 (c .server)) t 1 (vector 0 0x70 1) .table) 1)
+    let req = authentication 1 (c .server) in
+    take 508 (blockOf (decide (dialectOf underCx req) req t 1 (vector 0 0x70 1) .table) 1)
 
 expected : Naming → List ℕ
 expected c = take 508 (subscriber 1 0x61 0x70 (c .state) (c .bits') (c .server))

@@ -1,30 +1,26 @@
 -- How a call is computed. The buffer stays a variable, and what the checks of its files answer is computed once for all calls over them.
-use Prim.Native.Nat.{ℕ}
-use mathlib.Core.Path.{_≡_, refl, ap, _∙_}
-use mathlib.Core.List.{List, [], _∷_, _++_}
-use mathlib.Core.Bool.{Bool, true, false}
-use lib.ListN.{length, take, drop, replicate, length-replicate}
-use lib.Dec.{ltb}
+use Rattle.octets.specs.Standard.{ℕ, _≡_, refl, ap, _∙_, List, [], _∷_, _++_, Bool, false, drop, replicate, length-replicate, ltb}
 use Rattle.blocks.specs.declared.Checked.{Checked}
 use Rattle.blocks.specs.declared.Checked.the-variants.{Sound}
 use Rattle.table.specs.Check.{checkTable}
 use Rattle.vectors.specs.VectorFile.{checkVectors}
 use Rattle.calling.specs.Lent.{Lent}
 use Rattle.calling.specs.Trial.{Trial, tried, anyHolds}
-use Rattle.calling.specs.Serve.{Served, smallBuffer, checkValue, unsound, unsoundVectors, checkOf, trials, refused, answered, decision, serve}
+use Rattle.calling.specs.Serve.{Served, smallBuffer, earlyTrials, fileTrials, checkValue, checkOf, trials, refused, answered, decision, serveFound}
+use Rattle.calling.specs.Serve.{serveBy, serve}
 use Rattle.worked_examples.proofs.Sample.{room, one, s, opened}
 
 -- a call by what its buffer's length and its files' checks say: whether the buffer is too small, and the two answers
 abbrev pub knownTrials : Bool → Checked → Checked → Lent → List Trial
 knownTrials small c d x =
-    record { holds = small; number = 1; besides = 0 } ∷ take 3 (drop 1 (trials x)) ++ (unsound c ∷ unsoundVectors d ∷ [])
+    record { holds = small; number = 1; besides = 0 } ∷ drop 1 (earlyTrials (x .request) (x .buffer)) ++ fileTrials c d
 
 abbrev pub known : Bool → Checked → Checked → Lent → Served
 known small c d x = tried (refused x) (answered x (decision x (checkValue c))) (knownTrials small c d x)
 
 pub come : (x : Lent) {small : Bool} {c d : Checked} {y : Served} → smallBuffer (x .buffer) ≡ small → checkOf x ≡ c → checkVectors (x .vectors) ≡ d
     → known small c d x ≡ y → serve x ≡ y
-unfolding serve
+unfolding serveBy serveFound
 come x o e f g = rw (o, e, f) g
 
 -- whether it is refused, likewise

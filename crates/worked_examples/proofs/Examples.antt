@@ -1,10 +1,5 @@
 -- "Proved of the definitions, all in a single table under a single statement."
-use Prim.Native.Nat.{ℕ}
-use mathlib.Core.Path.{_≡_, refl}
-use mathlib.Core.List.{List, [], _∷_, _++_}
-use mathlib.Core.Bool.{Bool, true, false}
-use lib.ListN.{length, take, replicate, set}
-use lib.Dec.{ltb}
+use Rattle.octets.specs.Standard.{ℕ, _≡_, refl, List, [], _∷_, _++_, Bool, true, false, length, take, replicate, set, ltb}
 use Rattle.octets.specs.Run.{over}
 use Rattle.octets.specs.Sum.{sumWords}
 use Rattle.blocks.specs.declared.Checked.{Checked}
@@ -13,12 +8,12 @@ use Rattle.table.specs.Check.{checkTable}
 use Rattle.blocks.specs.Sealed.{sealed}
 use Rattle.pen.specs.Bytes.{vendorHead, avpBytes, numberBytes}
 use Rattle.pen.specs.Groups.{experimental, failed}
-use Rattle.calling.specs.Call.{Call}
-use Rattle.calling.specs.Call.{Answered, Refused}
+use Rattle.requests.specs.Request.{underCx}
+use Rattle.calling.specs.Call.{Call, Answered, Refused}
 use Rattle.calling.specs.Lent.{lent}
 use Rattle.calling.specs.Serve.{serve}
 use Rattle.worked_examples.proofs.Computed.{known, come, sized, no-vectors, unregistered-sound}
-use Rattle.worked_examples.proofs.Sample.{block, header, answer, assignment, one, two, s, z, opened}
+use Rattle.worked_examples.proofs.Sample.{block, header, answer, assignment, one, two, s, opened}
 
 -- A case: a call (a request, a table, no profile file and no vector, a buffer of zeros of so many bytes; what it comes to, the table afterwards, the answer),
 -- the check of a table with its answer, or a block with the sum of its words
@@ -29,7 +24,7 @@ data Case : Type 0 where
 
 abbrev Right : Case → Type 0
 Right (call req table room comes after bytes) =
-    serve (lent req table [] [] (replicate room 0)) ≡ record { call = comes; table = after; vectors = []; buffer = over bytes (replicate room 0) }
+    serve (lent req table [] [] (replicate room 0) underCx) ≡ record { call = comes; table = after; vectors = []; buffer = over bytes (replicate room 0) }
 Right (check table answer) = checkTable table 0 ≡ answer
 Right (sum b n) = sumWords b 128 ≡ n
 
@@ -142,7 +137,7 @@ record Called (req table : List ℕ) (room : ℕ) (comes : Call) (after bytes : 
   small : Bool
   size : ltb room 36864 ≡ small
   computed : (o : List ℕ)
-      → known small answer (Sound 0) (lent req table [] [] o) ≡ record { call = comes; table = after; vectors = []; buffer = over bytes o }
+      → known small answer (Sound 0) (lent req table [] [] o underCx) ≡ record { call = comes; table = after; vectors = []; buffer = over bytes o }
 
 abbrev Computes : Case → Type 0
 Computes (call req table room comes after bytes) = Called req table room comes after bytes
@@ -151,7 +146,7 @@ Computes (sum b n) = sumWords b 128 ≡ n
 
 right : (c : Case) → Computes c → Right c
 right (call req table room comes after bytes) g =
-    come (lent req table [] [] (replicate room 0)) (sized room (g .size)) (g .checked) no-vectors (g .computed (replicate room 0))
+    come (lent req table [] [] (replicate room 0) underCx) (sized room (g .size)) (g .checked) no-vectors (g .computed (replicate room 0))
 right (check table answer) e = e
 right (sum b n) e = e
 

@@ -1,15 +1,12 @@
 -- How a MAR is read, computed: what it says, or the verdict on it; and what 607 and 612 are in the other commands.
-use Prim.Native.Nat.{ℕ}
-use mathlib.Core.Path.{_≡_, refl}
-use mathlib.Core.List.{List, [], _∷_, _++_, map}
-use lib.ListN.{replicate}
+use Rattle.octets.specs.Standard.{ℕ, _≡_, refl, List, [], _∷_, _++_, map, replicate}
 use Rattle.pen.specs.Bytes.{headBytes, wordBytes, vendorHead, copied, avpBytes, vendorBytes, vendorNumber}
 use Rattle.reading.specs.declared.Verdict.{Verdict}
 use Rattle.reading.specs.Kinds.{userName, publicIdentity, authDataItem, numberAuthItems, serverName}
 use Rattle.reading.specs.Verdicts.{faultAt, faultOf, lackOf}
 use Rattle.failed.specs.Failing.{example}
 use Rattle.requests.specs.Judged.{Judged, bad, fine}
-use Rattle.requests.specs.Request.{readRequest, dataSeen, valueSeen, schemeOf}
+use Rattle.requests.specs.Request.{dialectOf, underCx, readIn, dataSeen, valueSeen, schemeOf}
 use Rattle.worked_examples.proofs.Sample.{common, request, s, z, opened}
 
 -- a fault; or what is said: User-Name, Public-Identity, the scheme, the number of items asked for, Server-Name
@@ -36,7 +33,7 @@ row [] = []
 row (a ∷ avps) = a ++ row avps
 
 reading : Case → Reading
-reading c = readingOf (readRequest (request (c .command) (common ++ row (c .avps))))
+reading c = let req = request (c .command) (common ++ row (c .avps)) in readingOf (readIn (dialectOf underCx req) req)
 
 -- User-Name `p` and Public-Identity `a`; three items asked for, and the Server-Name `s`; a MAR whose 612, at byte 140, holds these bytes
 user : List ℕ

@@ -1,7 +1,5 @@
 -- What the worked cases and the instances of the demands share: names, blocks, a SAR and its answer, and all definitions that a computed case opens.
-use Prim.Native.Nat.{ℕ, zero, suc, _+_, _-_, _%_, _^_}
-use mathlib.Core.List.{List, [], _∷_, _++_}
-use lib.ListN.{length, getD, drop, replicate, set}
+use Rattle.octets.specs.Standard.{ℕ, zero, suc, _+_, _-_, _%_, _^_, List, [], _∷_, _++_, length, getD, drop, replicate, set}
 use Rattle.octets.specs.All.{allBelow}
 use Rattle.octets.specs.Name.{orderOf, alikeAt, same}
 use Rattle.octets.specs.Number.{four, be16At, be24At, be32At, putBe24, putBe32}
@@ -12,9 +10,8 @@ use Rattle.record.specs.HeaderBlock.{headerOf, soundHeader}
 use Rattle.record.specs.Networks.{networkOf, usedPlace, soundPlace, sameByte, otherPlace, newPlace, soundNetworks}
 use Rattle.record.specs.RecordBlock.{recordOf, soundRecord}
 use Rattle.record.specs.Sets.{sameSet, agreeing}
-use Rattle.blocks.specs.Blocks.{blockOf, tableOf}
+use Rattle.blocks.specs.Blocks.{blockOf, tableOf, firstBad}
 use Rattle.table.specs.Named.{publicAt, privateAt}
-use Rattle.blocks.specs.Blocks.{firstBad}
 use Rattle.table.specs.Check.{risesAt, standsAt, agreesWith, agreesAt, soundAt, checkRecords, checkTable}
 use Rattle.lookup.specs.Find.{firstFrom, publicIs, findPublic, privateIs, findPrivate, serverHere, servesAt, findServer, freeHere, freeAt, findFree}
 use Rattle.lookup.specs.Find.{barredAlone}
@@ -35,30 +32,31 @@ use Rattle.pen.specs.Bytes.{wordBytes, padding, vendorHead, copied, avpBytes, v
 use Rattle.pen.specs.Groups.{vendorApplication, experimental, failed, vendorNumbers, capabilities}
 use Rattle.reading.specs.Kinds.{known, kindFrom, kindBy, rowOf, useIn}
 use Rattle.reading.specs.Contents.{numberFault, plainFault}
-use Rattle.reading.specs.Groups.{applicationMembers, itemMembers, membersOf, isOf, fits, unlike, onlyOf, countOf, enough, enoughAt, gathers}
+use Rattle.reading.specs.Groups.{applicationMembers, itemMembers, membersOf, isOf, fits, unlike, onlyOf, membersFitting, enough, enoughAt, gathers}
 use Rattle.reading.specs.Rules.{contentFault, ruleBy, rule}
 use Rattle.requests.specs.Judged.{nothing, judge}
-use Rattle.requests.specs.Request.{headerFault, missingFrom, missing, complete, readWalk, readIn, identities}
+use Rattle.requests.specs.Request.{cx, headerFault, missingFrom, missing, complete, readWalk, readIn, identities}
 use Rattle.items.specs.Items.{challengeBytes, keyBytes, itemBytes, itemsBytes, numberedBytes, sentBytes}
 use Rattle.choices.specs.Challenges.{claimOf, challengeOf}
 use Rattle.choices.specs.Choices.{authorization, location}
 use Rattle.choices.specs.Plans.{findingOf, grant, deedOf, planOf}
 use Rattle.choices.specs.Types.{typeOf}
-use Rattle.decisions.specs.Carried.{carried}
-use Rattle.decisions.specs.Authentication.{claimedAt, claimedOf, toSend, authenticateFound, authenticate}
-use Rattle.decisions.specs.Authorization.{askedAt, askedOf, authorizeFound, authorize}
-use Rattle.decisions.specs.Location.{soughtAt, soughtOf, locateFound, locate}
+use Rattle.questions.specs.Carried.{carried}
+use Rattle.questions.specs.Authentication.{claimedAt, claimedOf, toSend, authenticateFound, authenticate}
+use Rattle.questions.specs.Authorization.{askedAt, askedOf, authorizeFound, authorize}
+use Rattle.questions.specs.Location.{soughtAt, soughtOf, locateFound, locate}
 use Rattle.requests.specs.Identity.{placesFrom}
-use Rattle.assignment.specs.Assignment.{meantBy, every, findAll, numbersOf, ownedHere, ownedUpTo, ownAt, storesAt, fitsAt, rightAt, surveyOf, userKnown}
-use Rattle.assignment.specs.Assignment.{ownerBy, namedSurvey, ownedSurvey, assignMeant, assign, storedName, plannedRecords}
-use Rattle.fitting.specs.Deeds.{carriedOut, spentBy}
-use Rattle.fitting.specs.Decide.{assignmentOf, uarPlan, sarPlan, lirPlan, marPlan, planRead, performed, decideJudged, decide}
+use Rattle.assignment.specs.Assignment.{meantBy, every, findAll, numbersOf, ownedHere, ownedUpTo, ownAt, storesAt, fitsAt, rightAt, surveyOf}
+use Rattle.assignment.specs.Assignment.{userKnown, ownerBy, namedSurvey, ownedSurvey, assignMeant, assign, storedName, plannedRecords}
+use Rattle.deciding.specs.Deeds.{carriedOut, spentBy}
+use Rattle.deciding.specs.Plans.{assignmentOf, uarPlan, sarPlan, lirPlan, marPlan, planRead}
+use Rattle.deciding.specs.Decide.{performedBy, judgedBy, decideBy}
 use Rattle.reading.specs.Verdicts.{numberOf}
 use Rattle.failed.specs.Failing.{headPart, alone, failedOf, sample, exampleOf, failedBy}
-use Rattle.reply.specs.Answer.{resultBytes, frontBytes, originBytes, topBytes, identityBytes, nameBytes, dataBytes, givenBytes, proxy, proxies, endBytes}
-use Rattle.reply.specs.Answer.{restBytes, bodyBytes, flagsOf, headerBytes, answerBytes}
+use Rattle.reply.specs.Pieces.{resultBytes, frontBytes, originBytes, topBytes, identityBytes, nameBytes, dataBytes, givenBytes, flagsOf, headerBytes}
+use Rattle.answering.specs.Answer.{proxy, proxies, endBytes, restBytes, bodyBytes, answerBytes}
 use Rattle.calling.specs.Trial.{tried}
-use Rattle.calling.specs.Serve.{wrongLength, refused, answered, serve}
+use Rattle.calling.specs.Serve.{wrongLength, refused, answered, serveFound, serveBy}
 
 -- `hss.isle` and `isle`
 unfoldable pub host : List ℕ
@@ -117,7 +115,7 @@ request command body =
 unfoldable pub reply : ℕ → List ℕ → List ℕ → List ℕ
 reply command result rest =
     let own = avpBytes 264 host ++ (avpBytes 296 realm ++ rest) in
-    set (request command (avpBytes 263 (0x73 ∷ []) ++ (vendorApplication ++ (result ++ (numberBytes 277 1 ++ own))))) 4 0x40
+    set (request command (avpBytes 263 (0x73 ∷ []) ++ (vendorApplication cx ++ (result ++ (numberBytes 277 1 ++ own))))) 4 0x40
 
 unfoldable pub answer : List ℕ → List ℕ → List ℕ
 answer result rest = reply 301 result rest
@@ -125,7 +123,7 @@ answer result rest = reply 301 result rest
 -- what every request needs, and a SAR of a type for the identity `a` with a server name
 unfoldable pub common : List ℕ
 common =
-    avpBytes 263 (0x73 ∷ []) ++ (vendorApplication ++
+    avpBytes 263 (0x73 ∷ []) ++ (vendorApplication cx ++
     (numberBytes 277 1 ++ (avpBytes 264 (0x63 ∷ []) ++ (avpBytes 296 (0x72 ∷ []) ++ avpBytes 283 (0x72 ∷ [])))))
 
 unfoldable pub assignment : ℕ → List ℕ → List ℕ
@@ -180,12 +178,12 @@ unfolding host realm block field wordsOf checked header subscriber person vector
     xresOf confidentialityOf integrityOf piecesOf soundPiece checkVectors firstOnes unusedHere unusedAt unusedOf packed isOne markedUsed spent padded headOf
     vendorOf valueOf sound walkFrom walk avpOf padding vendorHead copied avpBytes vendorBytes numberBytes vendorNumber group vendorGroup ifThere
     vendorApplication experimental failed vendorNumbers capabilities known kindFrom kindBy rowOf useIn numberFault plainFault applicationMembers itemMembers
-    membersOf isOf fits unlike onlyOf countOf enough enoughAt gathers contentFault nothing ruleBy rule judge headerFault headPart alone failedOf sample
+    membersOf isOf fits unlike onlyOf membersFitting enough enoughAt gathers contentFault nothing ruleBy rule judge headerFault headPart alone failedOf sample
     exampleOf failedBy missingFrom missing complete readWalk readIn identities placesFrom mandatoryOf optionalOf profileOf mayRoam authorization
     location findingOf grant deedOf planOf claimOf challengeOf typeOf carried askedAt askedOf authorizeFound authorize soughtAt soughtOf locateFound locate
     claimedAt claimedOf toSend authenticateFound authenticate meantBy every findAll numbersOf ownedHere ownedUpTo ownAt storesAt fitsAt rightAt
     surveyOf userKnown ownerBy namedSurvey ownedSurvey assignMeant assign storedName plannedRecords carriedOut spentBy assignmentOf uarPlan sarPlan lirPlan
-    marPlan planRead performed decideJudged decide numberOf resultBytes frontBytes originBytes topBytes identityBytes nameBytes dataBytes givenBytes proxy
+    marPlan planRead performedBy judgedBy decideBy numberOf resultBytes frontBytes originBytes topBytes identityBytes nameBytes dataBytes givenBytes proxy
     proxies endBytes challengeBytes keyBytes itemBytes itemsBytes numberedBytes sentBytes restBytes bodyBytes flagsOf headerBytes answerBytes tried
-    wrongLength refused answered serve
+    wrongLength refused answered serveFound serveBy
 opened = 0

@@ -1,28 +1,23 @@
 -- "Try these against it": document 01's five wrong servers, four that break document 02 [1], and two that break [2]. Each is a function here, and at an input
 -- that is computed its outcome does not meet the promise.
-use Prim.Native.Nat.{ℕ, zero, suc, _≤_}
-use mathlib.Core.Path.{_≡_, refl, ap, _∙_}
-use mathlib.Core.Logic.{_≢_}
-use mathlib.Core.List.{List, [], _∷_, _++_}
-use mathlib.Core.Bool.{false}
-use native.Mathlib.Omega.{arith}
-use lib.ListN.{getD, take}
+use Rattle.octets.specs.Standard.{ℕ, zero, suc, _≤_, _≡_, refl, ap, _∙_, _≢_, List, [], _∷_, _++_, false, arith, getD, take}
 use Rattle.octets.specs.Run.{over}
 use Rattle.blocks.specs.declared.Checked.the-variants.{Sound}
 use Rattle.vectors.specs.VectorFile.{checkVectors}
 use Rattle.pen.specs.Bytes.{vendorHead, vendorBytes, numberBytes, vendorNumber}
 use Rattle.pen.specs.Groups.{failed}
+use Rattle.requests.specs.Request.{underCx}
 use Rattle.calling.specs.Lent.{Lent, lent}
 use Rattle.calling.specs.Serve.{Served, serve}
 use Rattle.calling.specs.Call.{Answered}
-use Rattle.ndushavire.specs.Word.{word, checkWord, callWord}
-use Rattle.ndushavire.specs.Reads.{placeIn}
+use Rattle.ndushavire.specs.Word.{word, checkWord, callWord, placeIn}
 use Rattle.ndushavire.specs.Promise.{CheckPromise, CheckVectorsPromise, DecidePromise}
 use Rattle.worked_examples.proofs.Computed.{known, come, roomy, no-vectors, registered-sound, unregistered-sound}
-use Rattle.worked_examples.proofs.Sample.{room, request, reply, answer, common, assignment, authentication, vector, item, challenges, one, waiting, two, s, z, opened}
+use Rattle.worked_examples.proofs.Sample.{room, request, reply, answer, common, assignment, authentication, vector, item, challenges, one, waiting}
+use Rattle.worked_examples.proofs.Sample.{two, s, z, opened}
 
 -- what a call leaves
-record Outcome : Type 0 where
+record CallLeft : Type 0 where
   word : ℕ
   table : List ℕ
   vectors : List ℕ
@@ -30,7 +25,7 @@ record Outcome : Type 0 where
 
 -- A server may count its calls: it is a function of the number of the call in its run, 0 for the first, and of what is lent.
 abbrev Server : Type 0
-Server = ℕ → Lent → Outcome
+Server = ℕ → Lent → CallLeft
 
 -- Call n of a run meets the promise, given x.
 abbrev Meets : Server → ℕ → Lent → Type 0
@@ -46,10 +41,10 @@ truly-meets n x = record { word-is = refl; table-is = refl; vectors-is = refl; b
 
 -- Two inputs over one registered line: a removal, B2001, which rewrites the record; and type 0 with another name, B5012. The word is 116 for both.
 removal : Lent
-removal = lent (assignment 5 s) (one 0 1 s) [] [] room
+removal = lent (assignment 5 s) (one 0 1 s) [] [] room underCx
 
 question : Lent
-question = lent (assignment 0 z) (one 0 1 s) [] [] room
+question = lent (assignment 0 z) (one 0 1 s) [] [] room underCx
 
 abbrev comes : List ℕ → List ℕ → Served
 comes after bytes = record { call = Answered (record { length = 116; place = 0 }); table = after; vectors = []; buffer = over bytes room }
@@ -130,10 +125,10 @@ unfolding once
 once-later later n x p = p
 
 -- .. which fails, be it one of the others or one that gives any outcome that it has seen or made up, by the number of the call and not by what is asked
-imitating : (ℕ → Outcome) → Server
+imitating : (ℕ → CallLeft) → Server
 imitating outcome n x = outcome n
 
-once-fails : (outcome : ℕ → Outcome) (n : ℕ) → Meets (once (imitating outcome)) (suc n) removal → Meets (once (imitating outcome)) (suc n) question → ⊥
+once-fails : (outcome : ℕ → CallLeft) (n : ℕ) → Meets (once (imitating outcome)) (suc n) removal → Meets (once (imitating outcome)) (suc n) question → ⊥
 unfolding imitating
 once-fails outcome n p q =
     alike-fails (imitating outcome) n refl (once-later (imitating outcome) n removal p) (once-later (imitating outcome) n question q)
@@ -175,10 +170,10 @@ cut-fails f h p = h (p .answer)
 
 -- Document 02 [1]. Over a line in state 0 that has one unused vector: a MAR for two, which gets one; and a MAR for none, B5012.
 challenge : Lent
-challenge = lent (authentication 2 s) (one 0 0 []) [] (vector 0 0x70 1) room
+challenge = lent (authentication 2 s) (one 0 0 []) [] (vector 0 0x70 1) room underCx
 
 nought : Lent
-nought = lent (authentication 0 s) (one 0 0 []) [] (vector 0 0x70 1) room
+nought = lent (authentication 0 s) (one 0 0 []) [] (vector 0 0x70 1) room underCx
 
 challenge-served : serve challenge ≡ record {
   call = Answered (record { length = 336; place = 0 });
@@ -247,12 +242,12 @@ wasting-fails f n e p = omega (arith, e, nought-used f n p)
 
 -- Document 02 [2]. A SAR of type 12, B5004, whose 614 stands at 144; and a SAR of type 1 with a second identity, which stands at 128: B5009, a decision's.
 faulty : Lent
-faulty = lent (assignment 12 s) (one 0 1 s) [] [] room
+faulty = lent (assignment 12 s) (one 0 1 s) [] [] room underCx
 
 second : Lent
 second =
     let own = vendorBytes 602 s ++ (vendorNumber 614 1 ++ vendorNumber 624 1) in
-    lent (request 301 (common ++ (vendorBytes 601 (0x61 ∷ []) ++ (vendorBytes 601 (0x62 ∷ []) ++ own)))) (one 0 1 s) [] [] room
+    lent (request 301 (common ++ (vendorBytes 601 (0x61 ∷ []) ++ (vendorBytes 601 (0x62 ∷ []) ++ own)))) (one 0 1 s) [] [] room underCx
 
 faulty-call : serve faulty .call ≡ Answered (record { length = 140; place = 144 })
 unfolding opened faulty

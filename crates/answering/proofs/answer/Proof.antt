@@ -1,5 +1,5 @@
 use Rattle.answering.proofs.Whole.{body-room, answer-bounded, wrote-answer}
-use borrow.Author.Needs.{needs}
+use Rattle.octets.specs.Standard.{needs}
 use Rattle.answering.proofs.answer.Statement.{statement}
 use Rattle.answering.proofs.answer.Tie as tie
 

@@ -1,5 +1,5 @@
 use Rattle.answering.proofs.Whole.{top-room, rest-room, wrote-body}
-use borrow.Author.Needs.{needs}
+use Rattle.octets.specs.Standard.{needs}
 use Rattle.answering.proofs.put_body.Statement.{statement}
 use Rattle.answering.proofs.put_body.Tie as tie
 

@@ -1,5 +1,5 @@
 use Rattle.arguments.proofs.Asking.{asks}
-use borrow.Author.Needs.{needs}
+use Rattle.octets.specs.Standard.{needs}
 use Rattle.arguments.proofs.asked_by.Statement.{statement}
 use Rattle.arguments.proofs.asked_by.Tie as tie
 

@@ -1,5 +1,5 @@
 use Rattle.blocks.proofs.Blocks.{block-part, block-whole}
-use borrow.Author.Needs.{needs}
+use Rattle.octets.specs.Standard.{needs}
 use Rattle.blocks.proofs.block.Statement.{statement}
 use Rattle.blocks.proofs.block.Tie as tie
 

@@ -1,5 +1,5 @@
 use Rattle.blocks.proofs.Sealed.{seal-put}
-use borrow.Author.Needs.{needs}
+use Rattle.octets.specs.Standard.{needs}
 use Rattle.blocks.proofs.seal.Statement.{statement}
 use Rattle.blocks.proofs.seal.Tie as tie
 

@@ -1,5 +1,5 @@
 use Rattle.calling.proofs.Calls.{refuses, passes, call-serves}
-use borrow.Author.Needs.{needs}
+use Rattle.octets.specs.Standard.{needs}
 use Rattle.calling.proofs.call.Statement.{statement}
 use Rattle.calling.proofs.call.Tie as tie
 

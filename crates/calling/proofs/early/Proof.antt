@@ -1,5 +1,5 @@
 use Rattle.calling.proofs.Calls.{size-least, size-flags, early-buffer, early-size, early-length, early-answer, early-none}
-use borrow.Author.Needs.{needs}
+use Rattle.octets.specs.Standard.{needs}
 use Rattle.calling.proofs.early.Statement.{statement}
 use Rattle.calling.proofs.early.Tie as tie
 

@@ -1,5 +1,5 @@
 use Rattle.calling.proofs.Calls.{vectors-sound, over-answered, over-spoilt}
-use borrow.Author.Needs.{needs}
+use Rattle.octets.specs.Standard.{needs}
 use Rattle.calling.proofs.over_sound.Statement.{statement}
 use Rattle.calling.proofs.over_sound.Tie as tie
 

@@ -1,5 +1,5 @@
 use Rattle.calling.proofs.Calls.{length-all}
-use borrow.Author.Needs.{needs}
+use Rattle.octets.specs.Standard.{needs}
 use Rattle.calling.proofs.wrong_length.Statement.{statement}
 use Rattle.calling.proofs.wrong_length.Tie as tie
 

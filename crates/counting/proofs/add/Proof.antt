@@ -1,5 +1,5 @@
 use Rattle.counting.proofs.Steps.{plus-set}
-use borrow.Author.Needs.{needs}
+use Rattle.octets.specs.Standard.{needs}
 use Rattle.counting.proofs.add.Statement.{statement}
 use Rattle.counting.proofs.add.Tie as tie
 

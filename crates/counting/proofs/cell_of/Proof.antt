@@ -1,5 +1,5 @@
 use Rattle.counting.proofs.Columns.{cell-there}
-use borrow.Author.Needs.{needs}
+use Rattle.octets.specs.Standard.{needs}
 use Rattle.counting.proofs.cell_of.Statement.{statement}
 use Rattle.counting.proofs.cell_of.Tie as tie
 

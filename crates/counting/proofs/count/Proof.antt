@@ -1,5 +1,5 @@
 use Rattle.counting.proofs.Steps.{answered-fits, refused-fits, answered-counted, refused-counted}
-use borrow.Author.Needs.{needs}
+use Rattle.octets.specs.Standard.{needs}
 use Rattle.counting.proofs.count.Statement.{statement}
 use Rattle.counting.proofs.count.Tie as tie
 

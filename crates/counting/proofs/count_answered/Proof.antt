@@ -1,5 +1,5 @@
 use Rattle.counting.proofs.Steps.{answered-steps}
-use borrow.Author.Needs.{needs}
+use Rattle.octets.specs.Standard.{needs}
 use Rattle.counting.proofs.count_answered.Statement.{statement}
 use Rattle.counting.proofs.count_answered.Tie as tie
 

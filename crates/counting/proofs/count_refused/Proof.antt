@@ -1,5 +1,5 @@
 use Rattle.counting.proofs.Steps.{refused-steps}
-use borrow.Author.Needs.{needs}
+use Rattle.octets.specs.Standard.{needs}
 use Rattle.counting.proofs.count_refused.Statement.{statement}
 use Rattle.counting.proofs.count_refused.Tie as tie
 

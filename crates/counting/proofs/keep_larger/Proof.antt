@@ -1,5 +1,5 @@
 use Rattle.counting.proofs.Steps.{larger-set}
-use borrow.Author.Needs.{needs}
+use Rattle.octets.specs.Standard.{needs}
 use Rattle.counting.proofs.keep_larger.Statement.{statement}
 use Rattle.counting.proofs.keep_larger.Tie as tie
 

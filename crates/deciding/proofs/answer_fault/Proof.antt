@@ -1,5 +1,5 @@
-use Rattle.deciding.proofs.Answering.{fault-given, fault-tells, fault-table, fault-vectors, given-room, given-sendable}
-use borrow.Author.Needs.{needs}
+use Rattle.deciding.proofs.Answering.{fault-sendable, fault-room, fault-tells, fault-table, fault-vectors}
+use Rattle.octets.specs.Standard.{needs}
 use Rattle.deciding.proofs.answer_fault.Statement.{statement}
 use Rattle.deciding.proofs.answer_fault.Tie as tie
 
@@ -8,7 +8,7 @@ answer-fault-spec =
     tie.close
     (tie.spec
     (λ c κs. search needs)
-    (λ c κs. search (needs, given-room, given-sendable, fault-given))
+    (λ c κs. search (needs, fault-sendable, fault-room))
     (λ c. search needs)
     (λ c. search needs)
     (λ c. search needs)

@@ -1,5 +1,5 @@
-use Rattle.deciding.proofs.Answering.{plan-given, plan-tells, plan-table, plan-vectors, given-room}
-use borrow.Author.Needs.{needs}
+use Rattle.deciding.proofs.Answering.{plan-room, plan-tells, plan-table, plan-vectors}
+use Rattle.octets.specs.Standard.{needs}
 use Rattle.deciding.proofs.answer_read.Statement.{statement}
 use Rattle.deciding.proofs.answer_read.Tie as tie
 
@@ -8,7 +8,7 @@ answer-read-spec =
     tie.close
     (tie.spec
     (λ c κs. search needs)
-    (λ c κs. search (needs, given-room, plan-given))
+    (λ c κs. (search needs, search needs, search needs, search (needs, plan-room), search needs))
     (λ c κs. search needs)
     (λ c. search needs)
     (λ c. search needs)

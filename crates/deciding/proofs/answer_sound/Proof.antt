@@ -1,6 +1,6 @@
 use Rattle.requests.proofs.Requests.{judged-fine, judged-bad}
 use Rattle.deciding.proofs.Answering.{fault-near}
-use borrow.Author.Needs.{needs}
+use Rattle.octets.specs.Standard.{needs}
 use Rattle.deciding.proofs.answer_sound.Statement.{statement}
 use Rattle.deciding.proofs.answer_sound.Tie as tie
 
@@ -9,12 +9,14 @@ answer-sound-spec =
     tie.close
     (tie.spec
     (λ c κs. search needs)
+    (λ c. search needs)
     (λ c κs. search (needs, judged-fine))
     (λ c. search needs)
-    (λ c. search needs)
-    (λ c. search needs)
-    (λ c. search needs)
     (λ c κs. search (needs, judged-bad, fault-near))
+    (λ c. search needs)
+    (λ c. search needs)
+    (λ c. search needs)
+    (λ c. search needs)
     (λ c. search needs)
     (λ c. search needs)
     (λ c. search needs)

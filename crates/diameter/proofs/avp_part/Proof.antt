@@ -1,5 +1,5 @@
 use Rattle.diameter.proofs.Parts.{avp-there}
-use borrow.Author.Needs.{needs}
+use Rattle.octets.specs.Standard.{needs}
 use Rattle.diameter.proofs.avp_part.Statement.{statement}
 use Rattle.diameter.proofs.avp_part.Tie as tie
 

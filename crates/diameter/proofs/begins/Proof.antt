@@ -1,5 +1,5 @@
 use Rattle.diameter.proofs.Reading.{begins-whole, begins-fault}
-use borrow.Author.Needs.{needs}
+use Rattle.octets.specs.Standard.{needs}
 use Rattle.diameter.proofs.begins.Statement.{statement}
 use Rattle.diameter.proofs.begins.Tie as tie
 

@@ -1,5 +1,5 @@
 use Rattle.diameter.proofs.Parts.{code-there}
-use borrow.Author.Needs.{needs}
+use Rattle.octets.specs.Standard.{needs}
 use Rattle.diameter.proofs.code_of.Statement.{statement}
 use Rattle.diameter.proofs.code_of.Tie as tie
 

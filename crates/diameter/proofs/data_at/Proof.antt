@@ -1,5 +1,5 @@
 use Rattle.diameter.proofs.Parts.{data-there}
-use borrow.Author.Needs.{needs}
+use Rattle.octets.specs.Standard.{needs}
 use Rattle.diameter.proofs.data_at.Statement.{statement}
 use Rattle.diameter.proofs.data_at.Tie as tie
 

@@ -1,5 +1,4 @@
-use native.Mathlib.Omega.{arith}
-use borrow.Author.Tests.{le-leb, lt-leb}
+use Rattle.octets.specs.Standard.{arith, le-leb, lt-leb}
 use Rattle.diameter.specs.Avp.{headOf}
 use Rattle.diameter.proofs.head_size.Statement.{statement}
 use Rattle.diameter.proofs.head_size.Tie as tie

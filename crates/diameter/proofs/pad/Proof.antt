@@ -1,7 +1,5 @@
-use native.Mathlib.Omega.{arith}
-use mathlib.Core.Path.{refl}
+use Rattle.octets.specs.Standard.{arith, refl, needs}
 use Rattle.diameter.specs.Avp.{padded}
-use borrow.Author.Needs.{needs}
 use Rattle.diameter.proofs.pad.Statement.{statement}
 use Rattle.diameter.proofs.pad.Tie as tie
 

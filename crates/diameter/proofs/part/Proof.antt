@@ -1,7 +1,5 @@
-use native.Mathlib.Omega.{arith}
-use lib.ListN.{length-take, length-drop}
+use Rattle.octets.specs.Standard.{arith, length-take, length-drop, needs}
 use Rattle.diameter.proofs.Parts.{part-is}
-use borrow.Author.Needs.{needs}
 use Rattle.diameter.proofs.part.Statement.{statement}
 use Rattle.diameter.proofs.part.Tie as tie
 

@@ -1,5 +1,5 @@
 use Rattle.diameter.proofs.Parts.{present-none, present-whole}
-use borrow.Author.Needs.{needs}
+use Rattle.octets.specs.Standard.{needs}
 use Rattle.diameter.proofs.present_at.Statement.{statement}
 use Rattle.diameter.proofs.present_at.Tie as tie
 

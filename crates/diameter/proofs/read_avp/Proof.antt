@@ -1,5 +1,5 @@
 use Rattle.diameter.proofs.Reading.{read-all}
-use borrow.Author.Needs.{needs}
+use Rattle.octets.specs.Standard.{needs}
 use Rattle.diameter.proofs.read_avp.Statement.{statement}
 use Rattle.diameter.proofs.read_avp.Tie as tie
 

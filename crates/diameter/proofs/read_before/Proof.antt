@@ -1,6 +1,5 @@
-use native.Mathlib.Omega.{arith}
+use Rattle.octets.specs.Standard.{arith, needs}
 use Rattle.diameter.proofs.Reading.{read-fault, read-whole}
-use borrow.Author.Needs.{needs}
 use Rattle.diameter.proofs.read_before.Statement.{statement}
 use Rattle.diameter.proofs.read_before.Tie as tie
 

@@ -1,5 +1,5 @@
 use Rattle.diameter.proofs.Parts.{member-here, span-none, span-there}
-use borrow.Author.Needs.{needs}
+use Rattle.octets.specs.Standard.{needs}
 use Rattle.diameter.proofs.span_at.Statement.{statement}
 use Rattle.diameter.proofs.span_at.Tie as tie
 

@@ -1,5 +1,5 @@
 use Rattle.diameter.proofs.Parts.{spans-data}
-use borrow.Author.Needs.{needs}
+use Rattle.octets.specs.Standard.{needs}
 use Rattle.diameter.proofs.span_of.Statement.{statement}
 use Rattle.diameter.proofs.span_of.Tie as tie
 

@@ -1,5 +1,5 @@
 use Rattle.diameter.proofs.Parts.{value-there, value-none}
-use borrow.Author.Needs.{needs}
+use Rattle.octets.specs.Standard.{needs}
 use Rattle.diameter.proofs.value_of.Statement.{statement}
 use Rattle.diameter.proofs.value_of.Tie as tie
 

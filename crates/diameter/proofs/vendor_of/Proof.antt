@@ -1,5 +1,5 @@
 use Rattle.diameter.proofs.Parts.{vendor-there, vendor-none}
-use borrow.Author.Needs.{needs}
+use Rattle.octets.specs.Standard.{needs}
 use Rattle.diameter.proofs.vendor_of.Statement.{statement}
 use Rattle.diameter.proofs.vendor_of.Tie as tie
 

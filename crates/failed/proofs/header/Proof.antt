@@ -1,5 +1,5 @@
 use Rattle.failed.proofs.Faulty.{head-past, head-cut, head-there, head-short}
-use borrow.Author.Needs.{needs}
+use Rattle.octets.specs.Standard.{needs}
 use Rattle.failed.proofs.header.Statement.{statement}
 use Rattle.failed.proofs.header.Tie as tie
 

@@ -1,5 +1,5 @@
 use Rattle.failed.proofs.Faulty.{length-read}
-use borrow.Author.Needs.{needs}
+use Rattle.octets.specs.Standard.{needs}
 use Rattle.failed.proofs.length_at.Statement.{statement}
 use Rattle.failed.proofs.length_at.Tie as tie
 

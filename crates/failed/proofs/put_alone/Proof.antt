@@ -1,5 +1,5 @@
 use Rattle.failed.proofs.Faulty.{copy-room, store-room, wrote-alone, wrote-none}
-use borrow.Author.Needs.{needs}
+use Rattle.octets.specs.Standard.{needs}
 use Rattle.failed.proofs.put_alone.Statement.{statement}
 use Rattle.failed.proofs.put_alone.Tie as tie
 

@@ -1,5 +1,5 @@
 use Rattle.failed.proofs.Examples.{group-room, head-left, example-room, wrote-example}
-use borrow.Author.Needs.{needs}
+use Rattle.octets.specs.Standard.{needs}
 use Rattle.failed.proofs.put_example.Statement.{statement}
 use Rattle.failed.proofs.put_example.Tie as tie
 

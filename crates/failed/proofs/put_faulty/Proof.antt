@@ -1,5 +1,5 @@
 use Rattle.failed.proofs.Faulty.{head-room, wrote-head, whole-room, wrote-whole}
-use borrow.Author.Needs.{needs}
+use Rattle.octets.specs.Standard.{needs}
 use Rattle.failed.proofs.put_faulty.Statement.{statement}
 use Rattle.failed.proofs.put_faulty.Tie as tie
 

@@ -1,5 +1,5 @@
 use Rattle.failed.proofs.Examples.{zeros-counted, zeros-room, zeros-most, wrote-base, vendor-room, vendor-most, wrote-vendors}
-use borrow.Author.Needs.{needs}
+use Rattle.octets.specs.Standard.{needs}
 use Rattle.failed.proofs.put_sample.Statement.{statement}
 use Rattle.failed.proofs.put_sample.Tie as tie
 

@@ -1,5 +1,5 @@
 use Rattle.failed.proofs.Faulty.{whole-past, whole-there}
-use borrow.Author.Needs.{needs}
+use Rattle.octets.specs.Standard.{needs}
 use Rattle.failed.proofs.whole.Statement.{statement}
 use Rattle.failed.proofs.whole.Tie as tie
 

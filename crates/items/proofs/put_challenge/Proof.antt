@@ -1,5 +1,5 @@
 use Rattle.items.proofs.Items.{wrote-challenge}
-use borrow.Author.Needs.{needs}
+use Rattle.octets.specs.Standard.{needs}
 use Rattle.items.proofs.put_challenge.Statement.{statement}
 use Rattle.items.proofs.put_challenge.Tie as tie
 

@@ -1,5 +1,5 @@
 use Rattle.items.proofs.Items.{wrote-item}
-use borrow.Author.Needs.{needs}
+use Rattle.octets.specs.Standard.{needs}
 use Rattle.items.proofs.put_item.Statement.{statement}
 use Rattle.items.proofs.put_item.Tie as tie
 

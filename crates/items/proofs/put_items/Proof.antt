@@ -1,10 +1,7 @@
-use Prim.Native.Nat.{_≤_, _-_}
-use mathlib.Core.Path.{_≡_}
-use lib.ListN.{length}
+use Rattle.octets.specs.Standard.{_≤_, _-_, _≡_, length, needs}
 use Rattle.octets.specs.Run.{Wrote}
 use Rattle.items.specs.Items.{itemsBytes}
-use Rattle.items.proofs.Items.{items-none, items-place, items-held, items-within, items-short, items-fit, items-next, items-all}
-use borrow.Author.Needs.{needs}
+use Rattle.items.proofs.Items.{items-none, items-within, items-short, items-fit, items-next, items-all}
 use Rattle.items.proofs.put_items.Statement.{statement}
 use Rattle.items.proofs.put_items.Tie as tie
 

@@ -1,5 +1,5 @@
 use Rattle.items.proofs.Items.{wrote-keys}
-use borrow.Author.Needs.{needs}
+use Rattle.octets.specs.Standard.{needs}
 use Rattle.items.proofs.put_keys.Statement.{statement}
 use Rattle.items.proofs.put_keys.Tie as tie
 

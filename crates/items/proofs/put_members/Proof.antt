@@ -1,5 +1,5 @@
 use Rattle.octets.proofs.Writes.{then}
-use borrow.Author.Needs.{needs}
+use Rattle.octets.specs.Standard.{needs}
 use Rattle.items.proofs.put_members.Statement.{statement}
 use Rattle.items.proofs.put_members.Tie as tie
 

@@ -1,5 +1,5 @@
 use Rattle.items.proofs.Items.{wrote-numbered}
-use borrow.Author.Needs.{needs}
+use Rattle.octets.specs.Standard.{needs}
 use Rattle.items.proofs.put_numbered.Statement.{statement}
 use Rattle.items.proofs.put_numbered.Tie as tie
 

@@ -1,5 +1,5 @@
 use Rattle.items.proofs.Items.{sent-room, sent-within, wrote-sent, wrote-nothing}
-use borrow.Author.Needs.{needs}
+use Rattle.octets.specs.Standard.{needs}
 use Rattle.items.proofs.put_sent.Statement.{statement}
 use Rattle.items.proofs.put_sent.Tie as tie
 

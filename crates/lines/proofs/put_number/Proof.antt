@@ -1,5 +1,5 @@
 use Rattle.lines.proofs.Written.{ten-places, number-room, number-wrote}
-use borrow.Author.Needs.{needs}
+use Rattle.octets.specs.Standard.{needs}
 use Rattle.lines.proofs.put_number.Statement.{statement}
 use Rattle.lines.proofs.put_number.Tie as tie
 

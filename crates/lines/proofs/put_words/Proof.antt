@@ -1,5 +1,5 @@
 use Rattle.lines.proofs.Written.{words-wrote}
-use borrow.Author.Needs.{needs}
+use Rattle.octets.specs.Standard.{needs}
 use Rattle.lines.proofs.put_words.Statement.{statement}
 use Rattle.lines.proofs.put_words.Tie as tie
 

@@ -1,5 +1,5 @@
 use Rattle.lookup.proofs.Places.{agree-none, agree-some}
-use borrow.Author.Needs.{needs}
+use Rattle.octets.specs.Standard.{needs}
 use Rattle.lookup.proofs.agree.Statement.{statement}
 use Rattle.lookup.proofs.agree.Tie as tie
 

@@ -1,5 +1,5 @@
 use Rattle.lookup.proofs.Scans.{alone-free, alone-barred}
-use borrow.Author.Needs.{needs}
+use Rattle.octets.specs.Standard.{needs}
 use Rattle.lookup.proofs.barred_alone.Statement.{statement}
 use Rattle.lookup.proofs.barred_alone.Tie as tie
 

@@ -1,11 +1,8 @@
-use Prim.Native.Nat.{_≤_, _-_, _+_, _*_}
-use lib.ListN.{length}
-use mathlib.Core.Path.{_≡_, refl}
+use Rattle.octets.specs.Standard.{_≤_, _-_, _+_, _*_, length, _≡_, refl, needs}
 use Rattle.lookup.specs.Find.{firstFrom, findPublic, publicIs}
 use Rattle.lookup.proofs.First.{first-start}
 use Rattle.lookup.proofs.Halves.{halves-less, halves-equal, halves-greater, halves-none}
 use Rattle.table.proofs.Sound.{sound-few, sound-size}
-use borrow.Author.Needs.{needs}
 use Rattle.lookup.proofs.find_public.Statement.{statement}
 use Rattle.lookup.proofs.find_public.Tie as tie
 

@@ -1,11 +1,8 @@
-use Prim.Native.Nat.{_≤_, _-_, _+_, _*_}
-use lib.ListN.{length}
-use mathlib.Core.Path.{_≡_, refl}
+use Rattle.octets.specs.Standard.{_≤_, _-_, _+_, _*_, length, _≡_, refl, needs}
 use Rattle.lookup.specs.Find.{firstFrom, findServer, servesAt}
 use Rattle.lookup.proofs.First.{first-start, first-here, first-next, first-nothing}
 use Rattle.lookup.proofs.Scans.{serves-here}
 use Rattle.table.proofs.Sound.{sound-few, sound-size}
-use borrow.Author.Needs.{needs}
 use Rattle.lookup.proofs.first_server.Statement.{statement}
 use Rattle.lookup.proofs.first_server.Tie as tie
 

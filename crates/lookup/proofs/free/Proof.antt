@@ -1,5 +1,5 @@
 use Rattle.lookup.specs.Find.{freeHere}
-use borrow.Author.Needs.{needs}
+use Rattle.octets.specs.Standard.{needs}
 use Rattle.lookup.proofs.free.Statement.{statement}
 use Rattle.lookup.proofs.free.Tie as tie
 

@@ -1,6 +1,6 @@
 use Rattle.lookup.proofs.Scans.{private-known}
 use Rattle.table.proofs.Sound.{sound-block}
-use borrow.Author.Needs.{needs}
+use Rattle.octets.specs.Standard.{needs}
 use Rattle.lookup.proofs.known_near.Statement.{statement}
 use Rattle.lookup.proofs.known_near.Tie as tie
 

@@ -1,4 +1,4 @@
-use borrow.Author.Needs.{needs}
+use Rattle.octets.specs.Standard.{needs}
 use Rattle.lookup.proofs.known_private.Statement.{statement}
 use Rattle.lookup.proofs.known_private.Tie as tie
 

@@ -1,6 +1,6 @@
 use Rattle.table.proofs.Sound.{sound-first}
 use Rattle.lookup.proofs.Places.{roams-there}
-use borrow.Author.Needs.{needs}
+use Rattle.octets.specs.Standard.{needs}
 use Rattle.lookup.proofs.may_roam.Statement.{statement}
 use Rattle.lookup.proofs.may_roam.Tie as tie
 

@@ -1,7 +1,4 @@
-use Prim.Native.Nat.{_-_, _≤_}
-use mathlib.Core.Bool.{true}
-use mathlib.Core.Path.{_≡_}
-use lib.ListN.{length}
+use Rattle.octets.specs.Standard.{_-_, _≤_, true, _≡_, length, needs}
 use Rattle.octets.specs.All.{allBelow}
 use Rattle.octets.proofs.All.{all-none}
 use Rattle.record.specs.Fields.{networksOf}
@@ -9,7 +6,6 @@ use Rattle.blocks.specs.Blocks.{blockOf}
 use Rattle.table.proofs.Sound.{sound-first}
 use Rattle.lookup.specs.Network.{agreeAt, networkIs, seek, networkNumber}
 use Rattle.lookup.proofs.Places.{places-start, places-few, places-end, bytes-more, place-miss, place-hit}
-use borrow.Author.Needs.{needs}
 use Rattle.lookup.proofs.network.Statement.{statement}
 use Rattle.lookup.proofs.network.Tie as tie
 

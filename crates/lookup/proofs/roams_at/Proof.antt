@@ -1,5 +1,5 @@
 use Rattle.lookup.proofs.Places.{roams-past}
-use borrow.Author.Needs.{needs}
+use Rattle.octets.specs.Standard.{needs}
 use Rattle.lookup.proofs.roams_at.Statement.{statement}
 use Rattle.lookup.proofs.roams_at.Tie as tie
 

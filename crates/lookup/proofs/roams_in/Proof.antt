@@ -1,5 +1,5 @@
 use Rattle.lookup.proofs.Places.{roams-all}
-use borrow.Author.Needs.{needs}
+use Rattle.octets.specs.Standard.{needs}
 use Rattle.lookup.proofs.roams_in.Statement.{statement}
 use Rattle.lookup.proofs.roams_in.Tie as tie
 

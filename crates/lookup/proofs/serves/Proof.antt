@@ -1,5 +1,5 @@
 use Rattle.lookup.proofs.Scans.{serves-none, serves-some}
-use borrow.Author.Needs.{needs}
+use Rattle.octets.specs.Standard.{needs}
 use Rattle.lookup.proofs.serves.Statement.{statement}
 use Rattle.lookup.proofs.serves.Tie as tie
 

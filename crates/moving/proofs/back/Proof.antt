@@ -1,5 +1,5 @@
 use Rattle.moving.proofs.Ways.{back-whole}
-use borrow.Author.Needs.{needs}
+use Rattle.octets.specs.Standard.{needs}
 use Rattle.moving.proofs.back.Statement.{statement}
 use Rattle.moving.proofs.back.Tie as tie
 

@@ -1,5 +1,5 @@
 use Rattle.moving.proofs.Ways.{back-moves, back-stays}
-use borrow.Author.Needs.{needs}
+use Rattle.octets.specs.Standard.{needs}
 use Rattle.moving.proofs.back_past.Statement.{statement}
 use Rattle.moving.proofs.back_past.Tie as tie
 

@@ -1,5 +1,5 @@
 use Rattle.moving.proofs.Ways.{back-looks, back-other}
-use borrow.Author.Needs.{needs}
+use Rattle.octets.specs.Standard.{needs}
 use Rattle.moving.proofs.back_sound.Statement.{statement}
 use Rattle.moving.proofs.back_sound.Tie as tie
 

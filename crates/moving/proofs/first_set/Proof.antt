@@ -1,10 +1,8 @@
-use Prim.Native.Nat.{_+_, _-_, _≤_}
-use mathlib.Core.Path.{_≡_}
+use Rattle.octets.specs.Standard.{_+_, _-_, _≤_, _≡_, needs}
 use Rattle.blocks.specs.Blocks.{firstBad}
 use Rattle.blocks.proofs.First.{first-bad, first-more, first-none, below-stop, past-stop}
 use Rattle.moving.specs.Moves.{noSet, firstSet}
 use Rattle.moving.proofs.Turns.{sets-all}
-use borrow.Author.Needs.{needs}
 use Rattle.moving.proofs.first_set.Statement.{statement}
 use Rattle.moving.proofs.first_set.Tie as tie
 

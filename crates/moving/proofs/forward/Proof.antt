@@ -1,5 +1,5 @@
 use Rattle.moving.proofs.Ways.{forward-whole}
-use borrow.Author.Needs.{needs}
+use Rattle.octets.specs.Standard.{needs}
 use Rattle.moving.proofs.forward.Statement.{statement}
 use Rattle.moving.proofs.forward.Tie as tie
 

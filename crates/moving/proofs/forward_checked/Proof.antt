@@ -1,5 +1,5 @@
 use Rattle.moving.proofs.Ways.{checked-size, checked-few, forward-good, forward-bad}
-use borrow.Author.Needs.{needs}
+use Rattle.octets.specs.Standard.{needs}
 use Rattle.moving.proofs.forward_checked.Statement.{statement}
 use Rattle.moving.proofs.forward_checked.Tie as tie
 

@@ -1,5 +1,5 @@
 use Rattle.moving.proofs.Ways.{forward-moves, forward-other}
-use borrow.Author.Needs.{needs}
+use Rattle.octets.specs.Standard.{needs}
 use Rattle.moving.proofs.forward_sound.Statement.{statement}
 use Rattle.moving.proofs.forward_sound.Tie as tie
 

@@ -1,6 +1,5 @@
-use Prim.Native.Nat.{_+_, _-_, _≤_}
+use Rattle.octets.specs.Standard.{_+_, _-_, _≤_, needs}
 use Rattle.moving.proofs.Turns.{Moving, moving-none, moving-fits, moving-next, moving-kept, moving-end}
-use borrow.Author.Needs.{needs}
 use Rattle.moving.proofs.move_all.Statement.{statement}
 use Rattle.moving.proofs.move_all.Tie as tie
 

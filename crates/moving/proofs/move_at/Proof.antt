@@ -1,5 +1,5 @@
 use Rattle.moving.proofs.Turns.{move-lent}
-use borrow.Author.Needs.{needs}
+use Rattle.octets.specs.Standard.{needs}
 use Rattle.moving.proofs.move_at.Statement.{statement}
 use Rattle.moving.proofs.move_at.Tie as tie
 

@@ -1,5 +1,5 @@
 use Rattle.moving.proofs.Turns.{move-fits, move-draft, move-kept, move-put}
-use borrow.Author.Needs.{needs}
+use Rattle.octets.specs.Standard.{needs}
 use Rattle.moving.proofs.move_block.Statement.{statement}
 use Rattle.moving.proofs.move_block.Tie as tie
 

@@ -1,5 +1,5 @@
 use Rattle.moving.proofs.Turns.{set-none}
-use borrow.Author.Needs.{needs}
+use Rattle.octets.specs.Standard.{needs}
 use Rattle.moving.proofs.no_set.Statement.{statement}
 use Rattle.moving.proofs.no_set.Tie as tie
 

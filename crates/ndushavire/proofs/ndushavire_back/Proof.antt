@@ -1,5 +1,5 @@
 use Rattle.ndushavire.proofs.Words.{back-promised}
-use borrow.Author.Needs.{needs}
+use Rattle.octets.specs.Standard.{needs}
 use Rattle.ndushavire.proofs.ndushavire_back.Statement.{statement}
 use Rattle.ndushavire.proofs.ndushavire_back.Tie as tie
 

@@ -1,5 +1,5 @@
 use Rattle.ndushavire.proofs.Words.{check-kept}
-use borrow.Author.Needs.{needs}
+use Rattle.octets.specs.Standard.{needs}
 use Rattle.ndushavire.proofs.ndushavire_check.Statement.{statement}
 use Rattle.ndushavire.proofs.ndushavire_check.Tie as tie
 

@@ -1,5 +1,5 @@
 use Rattle.ndushavire.proofs.Words.{vectors-kept}
-use borrow.Author.Needs.{needs}
+use Rattle.octets.specs.Standard.{needs}
 use Rattle.ndushavire.proofs.ndushavire_check_vectors.Statement.{statement}
 use Rattle.ndushavire.proofs.ndushavire_check_vectors.Tie as tie
 

@@ -1,5 +1,5 @@
 use Rattle.ndushavire.proofs.Words.{word-promised}
-use borrow.Author.Needs.{needs}
+use Rattle.octets.specs.Standard.{needs}
 use Rattle.ndushavire.proofs.ndushavire_decide.Statement.{statement}
 use Rattle.ndushavire.proofs.ndushavire_decide.Tie as tie
 

@@ -1,5 +1,5 @@
 use Rattle.ndushavire.proofs.Words.{forward-promised}
-use borrow.Author.Needs.{needs}
+use Rattle.octets.specs.Standard.{needs}
 use Rattle.ndushavire.proofs.ndushavire_forward.Statement.{statement}
 use Rattle.ndushavire.proofs.ndushavire_forward.Tie as tie
 

@@ -1,5 +1,5 @@
 use Rattle.ndushavire.proofs.Words.{report-promised}
-use borrow.Author.Needs.{needs}
+use Rattle.octets.specs.Standard.{needs}
 use Rattle.ndushavire.proofs.ndushavire_report.Statement.{statement}
 use Rattle.ndushavire.proofs.ndushavire_report.Tie as tie
 

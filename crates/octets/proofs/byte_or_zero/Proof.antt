@@ -1,5 +1,5 @@
 use Rattle.octets.proofs.Runs.{past-zero}
-use borrow.Author.Needs.{needs}
+use Rattle.octets.specs.Standard.{needs}
 use Rattle.octets.proofs.byte_or_zero.Statement.{statement}
 use Rattle.octets.proofs.byte_or_zero.Tie as tie
 

@@ -1,6 +1,6 @@
 use Rattle.record.specs.Fields.{mandatoryOf}
 use Rattle.parts.proofs.Fields.{record-room, part-there, part-short, part-none, mandatory-field, mandatory-few, mandatory-words}
-use borrow.Author.Needs.{needs}
+use Rattle.octets.specs.Standard.{needs}
 use Rattle.parts.proofs.mandatory.Statement.{statement}
 use Rattle.parts.proofs.mandatory.Tie as tie
 

@@ -1,6 +1,6 @@
 use Rattle.record.specs.Fields.{optionalOf}
 use Rattle.parts.proofs.Fields.{record-room, part-there, part-short, part-none, optional-field, optional-few, optional-words}
-use borrow.Author.Needs.{needs}
+use Rattle.octets.specs.Standard.{needs}
 use Rattle.parts.proofs.optional.Statement.{statement}
 use Rattle.parts.proofs.optional.Tie as tie
 

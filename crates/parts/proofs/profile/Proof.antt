@@ -1,5 +1,5 @@
 use Rattle.parts.proofs.Fields.{record-room, profile-there, profile-short, profile-none}
-use borrow.Author.Needs.{needs}
+use Rattle.octets.specs.Standard.{needs}
 use Rattle.parts.proofs.profile.Statement.{statement}
 use Rattle.parts.proofs.profile.Tie as tie
 

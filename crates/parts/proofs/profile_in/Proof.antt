@@ -1,5 +1,5 @@
 use Rattle.parts.proofs.Fields.{profile-lent}
-use borrow.Author.Needs.{needs}
+use Rattle.octets.specs.Standard.{needs}
 use Rattle.parts.proofs.profile_in.Statement.{statement}
 use Rattle.parts.proofs.profile_in.Tie as tie
 

@@ -1,6 +1,6 @@
 use Rattle.record.specs.Fields.{publicOf}
 use Rattle.parts.proofs.Fields.{record-room, part-there, part-short, part-none, public-field}
-use borrow.Author.Needs.{needs}
+use Rattle.octets.specs.Standard.{needs}
 use Rattle.parts.proofs.public.Statement.{statement}
 use Rattle.parts.proofs.public.Tie as tie
 

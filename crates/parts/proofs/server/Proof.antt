@@ -1,6 +1,6 @@
 use Rattle.record.specs.Fields.{serverOf}
 use Rattle.parts.proofs.Fields.{record-room, part-there, part-short, part-none, server-field}
-use borrow.Author.Needs.{needs}
+use Rattle.octets.specs.Standard.{needs}
 use Rattle.parts.proofs.server.Statement.{statement}
 use Rattle.parts.proofs.server.Tie as tie
 

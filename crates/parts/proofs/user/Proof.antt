@@ -1,6 +1,6 @@
 use Rattle.record.specs.Fields.{privateOf}
 use Rattle.parts.proofs.Fields.{record-room, part-there, part-short, part-none, user-field}
-use borrow.Author.Needs.{needs}
+use Rattle.octets.specs.Standard.{needs}
 use Rattle.parts.proofs.user.Statement.{statement}
 use Rattle.parts.proofs.user.Tie as tie
 

@@ -1,5 +1,5 @@
 use Rattle.parts.proofs.Fields.{words-lent}
-use borrow.Author.Needs.{needs}
+use Rattle.octets.specs.Standard.{needs}
 use Rattle.parts.proofs.words.Statement.{statement}
 use Rattle.parts.proofs.words.Tie as tie
 

@@ -1,5 +1,5 @@
 use Rattle.pen.proofs.Writers.{wrote-vendor}
-use borrow.Author.Needs.{needs}
+use Rattle.octets.specs.Standard.{needs}
 use Rattle.pen.proofs.put_vendor_avp.Statement.{statement}
 use Rattle.pen.proofs.put_vendor_avp.Tie as tie
 

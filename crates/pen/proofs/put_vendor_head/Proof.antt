@@ -1,5 +1,5 @@
 use Rattle.pen.proofs.Writers.{wrote-vendorHead}
-use borrow.Author.Needs.{needs}
+use Rattle.octets.specs.Standard.{needs}
 use Rattle.pen.proofs.put_vendor_head.Statement.{statement}
 use Rattle.pen.proofs.put_vendor_head.Tie as tie
 

@@ -1,6 +1,6 @@
 use Rattle.pen.proofs.Sizes.{vendor-room, vendor-most}
 use Rattle.pen.proofs.Writers.{wrote-there, wrote-none}
-use borrow.Author.Needs.{needs}
+use Rattle.octets.specs.Standard.{needs}
 use Rattle.pen.proofs.put_vendor_if.Statement.{statement}
 use Rattle.pen.proofs.put_vendor_if.Tie as tie
 

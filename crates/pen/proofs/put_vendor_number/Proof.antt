@@ -1,5 +1,5 @@
 use Rattle.pen.proofs.Writers.{wrote-vendor-number}
-use borrow.Author.Needs.{needs}
+use Rattle.octets.specs.Standard.{needs}
 use Rattle.pen.proofs.put_vendor_number.Statement.{statement}
 use Rattle.pen.proofs.put_vendor_number.Tie as tie
 

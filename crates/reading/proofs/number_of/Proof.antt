@@ -1,5 +1,5 @@
 use Rattle.reading.specs.Verdicts.{numberOf}
-use borrow.Author.Needs.{needs}
+use Rattle.octets.specs.Standard.{needs}
 use Rattle.reading.proofs.number_of.Statement.{statement}
 use Rattle.reading.proofs.number_of.Tie as tie
 

@@ -1,5 +1,5 @@
 use Rattle.reporting.proofs.Events.{counted-fits, counted-one}
-use borrow.Author.Needs.{needs}
+use Rattle.octets.specs.Standard.{needs}
 use Rattle.reporting.proofs.count_one.Statement.{statement}
 use Rattle.reporting.proofs.count_one.Tie as tie
 
@@ -7,7 +7,6 @@ pub count-one-spec : {M : Type 1} → statement M
 count-one-spec =
     tie.close
     (tie.spec
-    (λ c κs. search needs)
     (λ c κs. search needs)
     (λ c κs. search needs)
     (λ c κs. search (needs, counted-fits))

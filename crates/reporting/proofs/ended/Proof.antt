@@ -1,4 +1,4 @@
-use borrow.Author.Needs.{needs}
+use Rattle.octets.specs.Standard.{needs}
 use Rattle.reporting.proofs.Whole.{used-up, stops-early}
 use Rattle.reporting.proofs.ended.Statement.{statement}
 use Rattle.reporting.proofs.ended.Tie as tie

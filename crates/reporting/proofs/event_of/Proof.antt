@@ -1,4 +1,4 @@
-use borrow.Author.Needs.{needs}
+use Rattle.octets.specs.Standard.{needs}
 use Rattle.reporting.proofs.event_of.Statement.{statement}
 use Rattle.reporting.proofs.event_of.Tie as tie
 

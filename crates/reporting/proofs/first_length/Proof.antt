@@ -1,5 +1,5 @@
 use Rattle.reporting.proofs.Cutting.{short-none, other-none, length-first, first-within}
-use borrow.Author.Needs.{needs}
+use Rattle.octets.specs.Standard.{needs}
 use Rattle.reporting.proofs.first_length.Statement.{statement}
 use Rattle.reporting.proofs.first_length.Tie as tie
 

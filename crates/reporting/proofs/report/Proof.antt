@@ -1,5 +1,5 @@
 use Rattle.reporting.proofs.Whole.{area-short, words-whole, reports-all}
-use borrow.Author.Needs.{needs}
+use Rattle.octets.specs.Standard.{needs}
 use Rattle.reporting.proofs.report.Statement.{statement}
 use Rattle.reporting.proofs.report.Tie as tie
 

@@ -1,19 +1,15 @@
-use Prim.Native.Nat.{_≤_, _-_}
-use mathlib.Core.Path.{_≡_}
-use lib.ListN.{length}
+use Rattle.octets.specs.Standard.{_≤_, _-_, _≡_, length, needs}
 use Rattle.table.specs.Check.{checkTable}
 use Rattle.vectors.specs.VectorFile.{checkVectors}
 use Rattle.calling.specs.Lent.{lent}
-use Rattle.reporting.proofs.Turns.{Going, going-start, going-stops, going-ends, going-turns}
-use Rattle.reporting.proofs.Turns.{turn-least, turn-within, turn-request, turn-table, turn-vectors}
-use borrow.Author.Needs.{needs}
+use Rattle.reporting.proofs.Turns.{Going, going-start, going-stops, going-ends, going-turns, turn-least, turn-within, turn-table, turn-vectors}
 use Rattle.reporting.proofs.run.Statement.{statement}
 use Rattle.reporting.proofs.run.Tie as tie
 
 abbrev Inv-loop : tie.InvT-loop
 Inv-loop counts₀ k requests t₀ file v₀ out₀ at₀ counts t v out at =
     (at ≤ length requests) × (length t ≡ length t₀) × (length v ≡ length v₀) × (length out ≡ length out₀)
-    × (k .table ≡ checkTable t (length file)) × (k .vectors ≡ checkVectors v) × Going (lent requests t₀ file v₀ out₀) counts₀ counts t v out at
+    × (k .table ≡ checkTable t (length file)) × (k .vectors ≡ checkVectors v) × Going (lent requests t₀ file v₀ out₀ (k .terms)) counts₀ counts t v out at
 
 abbrev μ-loop : tie.MeasureT-loop
 μ-loop counts₀ k requests t₀ file v₀ out₀ at₀ counts t v out at = length requests - at
@@ -37,7 +33,7 @@ run-spec =
     (λ c. search (needs, turn-within))
     (λ c. search (needs, turn-within))
     (λ c. search (needs, turn-within))
-    (λ c κs. search (needs, turn-request))
+    (λ c κs. search needs)
     (λ c. search (needs, turn-within))
     (λ c. search (needs, turn-least, turn-within))
     (λ c. (

@@ -1,5 +1,5 @@
 use Rattle.requests.proofs.Requests.{complete-lacking, complete-whole, complete-bad}
-use borrow.Author.Needs.{needs}
+use Rattle.octets.specs.Standard.{needs}
 use Rattle.requests.proofs.complete.Statement.{statement}
 use Rattle.requests.proofs.complete.Tie as tie
 
@@ -7,8 +7,10 @@ pub complete-spec : {M : Type 1} → statement M
 complete-spec =
     tie.close
     (tie.spec
+    (λ c. search needs)
+    (λ c. search needs)
     (λ c κs. search needs)
     (λ c κs. search needs)
     (λ c. search (needs, complete-lacking))
-    (λ c. search (needs, complete-whole))
-    (λ c. search (needs, complete-bad)))
+    (λ c. search (needs, complete-bad, complete-whole))
+    (λ c. search (needs, complete-bad, complete-whole)))

@@ -1,6 +1,6 @@
 use Rattle.diameter.proofs.Reading.{read-here}
 use Rattle.requests.proofs.Requests.{first-none, first-is}
-use borrow.Author.Needs.{needs}
+use Rattle.octets.specs.Standard.{needs}
 use Rattle.requests.proofs.first_other.Statement.{statement}
 use Rattle.requests.proofs.first_other.Tie as tie
 

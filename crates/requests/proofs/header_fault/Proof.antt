@@ -1,5 +1,5 @@
 use Rattle.requests.proofs.Requests.{header-version, header-error, header-command, header-application, header-sound}
-use borrow.Author.Needs.{needs}
+use Rattle.octets.specs.Standard.{needs}
 use Rattle.requests.proofs.header_fault.Statement.{statement}
 use Rattle.requests.proofs.header_fault.Tie as tie
 

@@ -1,4 +1,4 @@
-use borrow.Author.Needs.{needs}
+use Rattle.octets.specs.Standard.{needs}
 use Rattle.requests.proofs.lacks.Statement.{statement}
 use Rattle.requests.proofs.lacks.Tie as tie
 

@@ -1,12 +1,8 @@
-use Prim.Native.Nat.{_-_, _≤_}
-use mathlib.Core.Path.{_≡_}
-use mathlib.Core.List.{_∷_}
-use lib.ListN.{drop}
+use Rattle.octets.specs.Standard.{_-_, _≤_, _≡_, _∷_, drop, needs}
 use Rattle.reading.specs.Kinds.{kinds, known, unknown}
 use Rattle.requests.specs.Request.{missingFrom, missing}
 use Rattle.reading.specs.Places.{seenOf}
 use Rattle.requests.proofs.Requests.{missing-all, missing-found, missing-more, missing-none}
-use borrow.Author.Needs.{needs}
 use Rattle.requests.proofs.missing.Statement.{statement}
 use Rattle.requests.proofs.missing.Tie as tie
 

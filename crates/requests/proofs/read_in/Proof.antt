@@ -1,5 +1,5 @@
 use Rattle.requests.proofs.Requests.{request-header, request-first, request-walked}
-use borrow.Author.Needs.{needs}
+use Rattle.octets.specs.Standard.{needs}
 use Rattle.requests.proofs.read_in.Statement.{statement}
 use Rattle.requests.proofs.read_in.Tie as tie
 

@@ -1,6 +1,6 @@
 use Rattle.diameter.proofs.Reading.{read-here}
 use Rattle.requests.proofs.Requests.{session-none, session-there, session-other}
-use borrow.Author.Needs.{needs}
+use Rattle.octets.specs.Standard.{needs}
 use Rattle.requests.proofs.session.Statement.{statement}
 use Rattle.requests.proofs.session.Tie as tie
 

@@ -1,4 +1,3 @@
-use borrow.Author.Needs.{needs}
 use Rattle.requests.proofs.spoken.Statement.{statement}
 use Rattle.requests.proofs.spoken.Tie as tie
 

@@ -1,5 +1,5 @@
 use Rattle.rewrite.proofs.Writes.{challenge-block, challenge-none, differ-none}
-use borrow.Author.Needs.{needs}
+use Rattle.octets.specs.Standard.{needs}
 use Rattle.rewrite.proofs.challenge_block.Statement.{statement}
 use Rattle.rewrite.proofs.challenge_block.Tie as tie
 

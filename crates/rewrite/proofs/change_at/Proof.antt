@@ -1,5 +1,5 @@
 use Rattle.rewrite.proofs.Writes.{change-put, change-differs}
-use borrow.Author.Needs.{needs}
+use Rattle.octets.specs.Standard.{needs}
 use Rattle.rewrite.proofs.change_at.Statement.{statement}
 use Rattle.rewrite.proofs.change_at.Tie as tie
 

@@ -1,5 +1,5 @@
 use Rattle.rewrite.proofs.Writes.{fits-settled, fits-challenged, change-settled, change-challenged}
-use borrow.Author.Needs.{needs}
+use Rattle.octets.specs.Standard.{needs}
 use Rattle.rewrite.proofs.change_block.Statement.{statement}
 use Rattle.rewrite.proofs.change_block.Tie as tie
 

@@ -1,5 +1,5 @@
 use Rattle.rewrite.proofs.Writes.{if-yes, if-no, differ-none}
-use borrow.Author.Needs.{needs}
+use Rattle.octets.specs.Standard.{needs}
 use Rattle.rewrite.proofs.change_if.Statement.{statement}
 use Rattle.rewrite.proofs.change_if.Tie as tie
 

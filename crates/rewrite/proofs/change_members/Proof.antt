@@ -1,12 +1,8 @@
-use Prim.Native.Nat.{_+_, _-_, _*_, _≤_}
-use mathlib.Core.Path.{_≡_}
-use mathlib.Core.List.{[], _∷_}
-use lib.ListN.{length}
+use Rattle.octets.specs.Standard.{_+_, _-_, _*_, _≤_, _≡_, [], _∷_, length, needs}
 use Rattle.table.proofs.Sound.{sound-few, sound-size}
 use Rattle.rewrite.specs.Change.{reaches}
 use Rattle.rewrite.specs.Renew.{changeOf}
-use Rattle.rewrite.proofs.Turns.{Going, members-start, members-size, members-turn, members-few, members-end, members-sum}
-use borrow.Author.Needs.{needs}
+use Rattle.rewrite.proofs.Turns.{Going, members-start, members-size, members-turn, members-end, members-sum}
 use Rattle.rewrite.proofs.change_members.Statement.{statement}
 use Rattle.rewrite.proofs.change_members.Tie as tie
 

@@ -1,6 +1,6 @@
 use Rattle.table.proofs.Sound.{sound-block}
 use Rattle.rewrite.proofs.Turns.{has-set, alone-changed, alone-counts}
-use borrow.Author.Needs.{needs}
+use Rattle.octets.specs.Standard.{needs}
 use Rattle.rewrite.proofs.change_set.Statement.{statement}
 use Rattle.rewrite.proofs.change_set.Tie as tie
 

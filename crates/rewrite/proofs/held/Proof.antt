@@ -1,5 +1,5 @@
 use Rattle.rewrite.proofs.Unchanged.{held-all}
-use borrow.Author.Needs.{needs}
+use Rattle.octets.specs.Standard.{needs}
 use Rattle.rewrite.proofs.held.Statement.{statement}
 use Rattle.rewrite.proofs.held.Tie as tie
 

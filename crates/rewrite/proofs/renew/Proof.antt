@@ -1,5 +1,5 @@
 use Rattle.rewrite.proofs.Writes.{draft-fits, draft-whole, renew-kept, renew-put}
-use borrow.Author.Needs.{needs}
+use Rattle.octets.specs.Standard.{needs}
 use Rattle.rewrite.proofs.renew.Statement.{statement}
 use Rattle.rewrite.proofs.renew.Tie as tie
 

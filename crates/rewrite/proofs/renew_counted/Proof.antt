@@ -1,6 +1,6 @@
 use Rattle.rewrite.proofs.Unchanged.{left-renewed, renewed-differs}
 use Rattle.rewrite.proofs.Writes.{differ-none}
-use borrow.Author.Needs.{needs}
+use Rattle.octets.specs.Standard.{needs}
 use Rattle.rewrite.proofs.renew_counted.Statement.{statement}
 use Rattle.rewrite.proofs.renew_counted.Tie as tie
 

@@ -1,5 +1,5 @@
 use Rattle.rewrite.proofs.Writes.{set-read}
-use borrow.Author.Needs.{needs}
+use Rattle.octets.specs.Standard.{needs}
 use Rattle.rewrite.proofs.same_set.Statement.{statement}
 use Rattle.rewrite.proofs.same_set.Tie as tie
 

@@ -1,5 +1,5 @@
 use Rattle.rewrite.proofs.Writes.{settle-block}
-use borrow.Author.Needs.{needs}
+use Rattle.octets.specs.Standard.{needs}
 use Rattle.rewrite.proofs.settle_block.Statement.{statement}
 use Rattle.rewrite.proofs.settle_block.Tie as tie
 

@@ -1,7 +1,4 @@
-use Prim.Native.Nat.{_-_, _≤_}
-use mathlib.Core.Path.{_≡_}
-use lib.ListN.{length}
-use borrow.Author.Needs.{needs}
+use Rattle.octets.specs.Standard.{_-_, _≤_, _≡_, length, needs}
 use Rattle.streams.proofs.hold_all.Statement.{statement}
 use Rattle.streams.proofs.hold_all.Tie as tie
 

@@ -1,6 +1,6 @@
 use Rattle.record.proofs.Sound.{header-count, header-networks}
 use Rattle.table.proofs.Verdict.{table-short, table-header, table-length, table-records}
-use borrow.Author.Needs.{needs}
+use Rattle.octets.specs.Standard.{needs}
 use Rattle.table.proofs.check.Statement.{statement}
 use Rattle.table.proofs.check.Tie as tie
 

@@ -1,5 +1,5 @@
 use Rattle.table.proofs.Padded.{field-less, field-equal, field-greater}
-use borrow.Author.Needs.{needs}
+use Rattle.octets.specs.Standard.{needs}
 use Rattle.table.proofs.less.Statement.{statement}
 use Rattle.table.proofs.less.Tie as tie
 

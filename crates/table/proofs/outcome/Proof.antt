@@ -1,5 +1,5 @@
 use Rattle.table.proofs.Leading.{outcome-bad, outcome-sound}
-use borrow.Author.Needs.{needs}
+use Rattle.octets.specs.Standard.{needs}
 use Rattle.table.proofs.outcome.Statement.{statement}
 use Rattle.table.proofs.outcome.Tie as tie
 

@@ -1,5 +1,5 @@
 use Rattle.table.proofs.Leading.{records-one, records-two}
-use borrow.Author.Needs.{needs}
+use Rattle.octets.specs.Standard.{needs}
 use Rattle.table.proofs.records.Statement.{statement}
 use Rattle.table.proofs.records.Tie as tie
 

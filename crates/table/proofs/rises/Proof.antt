@@ -1,6 +1,6 @@
 use Rattle.table.proofs.Rising.{rises-first, rises-later}
 use Rattle.table.proofs.Padded.{padded-before, padded-lent}
-use borrow.Author.Needs.{needs}
+use Rattle.octets.specs.Standard.{needs}
 use Rattle.table.proofs.rises.Statement.{statement}
 use Rattle.table.proofs.rises.Tie as tie
 

@@ -1,5 +1,5 @@
 use Rattle.table.proofs.Leading.{setless-read}
-use borrow.Author.Needs.{needs}
+use Rattle.octets.specs.Standard.{needs}
 use Rattle.table.proofs.set_after.Statement.{statement}
 use Rattle.table.proofs.set_after.Tie as tie
 

@@ -1,6 +1,4 @@
-use Prim.Native.Nat.{_+_, _-_, _≤_}
-use mathlib.Core.Path.{_≡_}
-use lib.Dec.{eqb}
+use Rattle.octets.specs.Standard.{_+_, _-_, _≤_, _≡_, eqb, needs}
 use Rattle.octets.specs.All.{allBelow}
 use Rattle.octets.proofs.All.{all-none}
 use Rattle.table.specs.Check.{standsAt}
@@ -8,7 +6,6 @@ use Rattle.table.specs.Leading.{leading, setless}
 use Rattle.table.specs.Padded.{Before}
 use Rattle.table.proofs.Leading.{leading-all, leading-more, leading-stop, leading-end, setless-left, setless-more, setless-end}
 use Rattle.table.proofs.Padded.{before-first, before-next}
-use borrow.Author.Needs.{needs}
 use Rattle.table.proofs.standing.Statement.{statement}
 use Rattle.table.proofs.standing.Tie as tie
 

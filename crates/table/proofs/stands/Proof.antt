@@ -1,5 +1,5 @@
 use Rattle.table.proofs.Padded.{padded-here, stands-here, stands-not}
-use borrow.Author.Needs.{needs}
+use Rattle.octets.specs.Standard.{needs}
 use Rattle.table.proofs.stands.Statement.{statement}
 use Rattle.table.proofs.stands.Tie as tie
 

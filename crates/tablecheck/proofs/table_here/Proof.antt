@@ -1,5 +1,5 @@
 use Rattle.files.proofs.Counts.{got-within, got-front}
-use borrow.Author.Needs.{needs}
+use Rattle.octets.specs.Standard.{needs}
 use Rattle.tablecheck.proofs.table_here.Statement.{statement}
 use Rattle.tablecheck.proofs.table_here.Tie as tie
 

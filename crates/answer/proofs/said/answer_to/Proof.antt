@@ -1,5 +1,5 @@
 use Rattle.answer.proofs.Saying.{promise-fits, said-served}
-use borrow.Author.Needs.{needs}
+use Rattle.octets.specs.Standard.{needs}
 use Rattle.answer.proofs.said.answer_to.Statement.{statement}
 use Rattle.answer.proofs.said.answer_to.Tie as tie
 

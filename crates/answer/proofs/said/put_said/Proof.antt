@@ -1,5 +1,5 @@
 use Rattle.answer.proofs.Saying.{answer-within, said-answer, said-refusal}
-use borrow.Author.Needs.{needs}
+use Rattle.octets.specs.Standard.{needs}
 use Rattle.answer.proofs.said.put_said.Statement.{statement}
 use Rattle.answer.proofs.said.put_said.Tie as tie
 
@@ -7,6 +7,8 @@ pub put-said-spec : {M : Type 1} → statement M
 put-said-spec =
     tie.close
     (tie.spec
+    (λ c κs. search needs)
+    (λ c κs. search needs)
     (λ c. search needs)
     (λ c. search (needs, answer-within, said-answer))
     (λ c. search needs)

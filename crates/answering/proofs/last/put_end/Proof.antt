@@ -1,5 +1,5 @@
 use Rattle.answering.proofs.Ending.{wrote-end}
-use borrow.Author.Needs.{needs}
+use Rattle.octets.specs.Standard.{needs}
 use Rattle.answering.proofs.last.put_end.Statement.{statement}
 use Rattle.answering.proofs.last.put_end.Tie as tie
 

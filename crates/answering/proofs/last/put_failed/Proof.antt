@@ -1,5 +1,5 @@
 use Rattle.answering.proofs.Ending.{lacking-room, wrote-lacking, placed-room, wrote-placed, wrote-no-failed}
-use borrow.Author.Needs.{needs}
+use Rattle.octets.specs.Standard.{needs}
 use Rattle.answering.proofs.last.put_failed.Statement.{statement}
 use Rattle.answering.proofs.last.put_failed.Tie as tie
 

@@ -1,13 +1,10 @@
-use Prim.Native.Nat.{_≤_, _-_}
-use mathlib.Core.Path.{_≡_}
-use lib.ListN.{length, drop}
+use Rattle.octets.specs.Standard.{_≤_, _-_, _≡_, length, drop, needs}
 use Rattle.octets.proofs.Writes.{Going, going-none}
 use Rattle.diameter.specs.Walk.{walk}
 use Rattle.diameter.proofs.Reading.{read-here}
 use Rattle.reading.proofs.Walking.{read-less}
-use Rattle.reply.specs.Answer.{proxies}
+use Rattle.answering.specs.Answer.{proxies}
 use Rattle.answering.proofs.Proxies.{proxies-end, proxies-fault, turn-room, turn-more}
-use borrow.Author.Needs.{needs}
 use Rattle.answering.proofs.last.put_proxies.Statement.{statement}
 use Rattle.answering.proofs.last.put_proxies.Tie as tie
 

@@ -1,5 +1,5 @@
 use Rattle.answering.proofs.Proxies.{wrote-fits, proxy-room, wrote-proxy, wrote-other}
-use borrow.Author.Needs.{needs}
+use Rattle.octets.specs.Standard.{needs}
 use Rattle.answering.proofs.last.put_proxy.Statement.{statement}
 use Rattle.answering.proofs.last.put_proxy.Tie as tie
 

@@ -1,5 +1,5 @@
 use Rattle.answering.proofs.Ending.{given-room, end-room, wrote-rest}
-use borrow.Author.Needs.{needs}
+use Rattle.octets.specs.Standard.{needs}
 use Rattle.answering.proofs.last.put_rest.Statement.{statement}
 use Rattle.answering.proofs.last.put_rest.Tie as tie
 

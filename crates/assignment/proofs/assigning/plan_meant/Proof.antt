@@ -1,5 +1,5 @@
 use Rattle.assignment.proofs.Plans.{meant-place, meant-fault, meant-owned, meant-named}
-use borrow.Author.Needs.{needs}
+use Rattle.octets.specs.Standard.{needs}
 use Rattle.assignment.proofs.assigning.plan_meant.Statement.{statement}
 use Rattle.assignment.proofs.assigning.plan_meant.Tie as tie
 

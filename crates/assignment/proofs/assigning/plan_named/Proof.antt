@@ -1,6 +1,6 @@
 use Rattle.lookup.proofs.Among.{public-among}
 use Rattle.assignment.proofs.Plans.{found-first, named-plan}
-use borrow.Author.Needs.{needs}
+use Rattle.octets.specs.Standard.{needs}
 use Rattle.assignment.proofs.assigning.plan_named.Statement.{statement}
 use Rattle.assignment.proofs.assigning.plan_named.Tie as tie
 

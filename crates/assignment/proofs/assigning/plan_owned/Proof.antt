@@ -1,5 +1,5 @@
 use Rattle.assignment.proofs.Plans.{nothing-among, owned-plan}
-use borrow.Author.Needs.{needs}
+use Rattle.octets.specs.Standard.{needs}
 use Rattle.assignment.proofs.assigning.plan_owned.Statement.{statement}
 use Rattle.assignment.proofs.assigning.plan_owned.Tie as tie
 

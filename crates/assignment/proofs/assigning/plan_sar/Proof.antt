@@ -1,5 +1,5 @@
 use Rattle.assignment.proofs.Plans.{meant-kind, assigned}
-use borrow.Author.Needs.{needs}
+use Rattle.octets.specs.Standard.{needs}
 use Rattle.assignment.proofs.assigning.plan_sar.Statement.{statement}
 use Rattle.assignment.proofs.assigning.plan_sar.Tie as tie
 

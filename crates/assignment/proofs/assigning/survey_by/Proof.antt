@@ -1,5 +1,5 @@
 use Rattle.assignment.proofs.Plans.{first-room, survey-given, survey-first}
-use borrow.Author.Needs.{needs}
+use Rattle.octets.specs.Standard.{needs}
 use Rattle.assignment.proofs.assigning.survey_by.Statement.{statement}
 use Rattle.assignment.proofs.assigning.survey_by.Tie as tie
 

@@ -1,6 +1,6 @@
 use Rattle.lookup.proofs.Among.{among-from, among-to}
 use Rattle.assignment.proofs.Plans.{user-absent, user-given}
-use borrow.Author.Needs.{needs}
+use Rattle.octets.specs.Standard.{needs}
 use Rattle.assignment.proofs.assigning.user_known.Statement.{statement}
 use Rattle.assignment.proofs.assigning.user_known.Tie as tie
 

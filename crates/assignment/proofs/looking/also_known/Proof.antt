@@ -1,5 +1,5 @@
 use Rattle.assignment.specs.Survey.{alsoKnown}
-use borrow.Author.Needs.{needs}
+use Rattle.octets.specs.Standard.{needs}
 use Rattle.assignment.proofs.looking.also_known.Statement.{statement}
 use Rattle.assignment.proofs.looking.also_known.Tie as tie
 

@@ -1,5 +1,5 @@
 use Rattle.assignment.proofs.Looks.{look-all}
-use borrow.Author.Needs.{needs}
+use Rattle.octets.specs.Standard.{needs}
 use Rattle.assignment.proofs.looking.look_at.Statement.{statement}
 use Rattle.assignment.proofs.looking.look_at.Tie as tie
 

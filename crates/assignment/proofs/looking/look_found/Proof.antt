@@ -1,5 +1,5 @@
 use Rattle.assignment.proofs.Looks.{found-fits, look-here, look-none}
-use borrow.Author.Needs.{needs}
+use Rattle.octets.specs.Standard.{needs}
 use Rattle.assignment.proofs.looking.look_found.Statement.{statement}
 use Rattle.assignment.proofs.looking.look_found.Tie as tie
 

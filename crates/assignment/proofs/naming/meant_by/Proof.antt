@@ -1,5 +1,5 @@
 use Rattle.assignment.proofs.NameTurns.{means-owned, means-none, means-removal, means-one, means-second}
-use borrow.Author.Needs.{needs}
+use Rattle.octets.specs.Standard.{needs}
 use Rattle.assignment.proofs.naming.meant_by.Statement.{statement}
 use Rattle.assignment.proofs.naming.meant_by.Tie as tie
 

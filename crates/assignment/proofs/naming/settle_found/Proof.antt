@@ -1,6 +1,6 @@
 use Rattle.lookup.proofs.Among.{among-from, among-to}
 use Rattle.assignment.proofs.NameTurns.{change-fits, found-settled, found-none, none-altered, few-altered}
-use borrow.Author.Needs.{needs}
+use Rattle.octets.specs.Standard.{needs}
 use Rattle.assignment.proofs.naming.settle_found.Statement.{statement}
 use Rattle.assignment.proofs.naming.settle_found.Tie as tie
 

@@ -1,6 +1,4 @@
-use Prim.Native.Nat.{_+_, _-_, _≤_}
-use mathlib.Core.Path.{_≡_}
-use lib.ListN.{length}
+use Rattle.octets.specs.Standard.{_+_, _-_, _≤_, _≡_, length, needs}
 use Rattle.table.specs.SoundTable.{SoundTable}
 use Rattle.rewrite.specs.Change.{afterOf, reaches, alteredUpTo}
 use Rattle.rewrite.specs.Renew.{settled}
@@ -11,7 +9,6 @@ use Rattle.requests.proofs.Naming.{named-less}
 use Rattle.lookup.proofs.Among.{public-among}
 use Rattle.assignment.specs.Assignment.{findAll, numbersOf}
 use Rattle.assignment.proofs.NameTurns.{restOf, settle-start, settle-none, settle-turn, settle-sound, settle-counts, settle-few, settle-end}
-use borrow.Author.Needs.{needs}
 use Rattle.assignment.proofs.naming.settle_named.Statement.{statement}
 use Rattle.assignment.proofs.naming.settle_named.Tie as tie
 

@@ -1,6 +1,4 @@
-use Prim.Native.Nat.{_-_}
-use mathlib.Core.Path.{_≡_}
-use lib.ListN.{length}
+use Rattle.octets.specs.Standard.{_-_, _≡_, length, needs}
 use Rattle.lookup.proofs.Scans.{public-end}
 use Rattle.diameter.specs.Message.{bodyOf}
 use Rattle.requests.specs.Request.{identities}
@@ -8,7 +6,6 @@ use Rattle.requests.proofs.Naming.{named-less}
 use Rattle.assignment.specs.Assignment.{findAll}
 use Rattle.assignment.specs.Survey.{both, foundSurvey}
 use Rattle.assignment.proofs.NameTurns.{restOf, survey-start, survey-none, survey-turn, survey-end}
-use borrow.Author.Needs.{needs}
 use Rattle.assignment.proofs.naming.survey_all.Statement.{statement}
 use Rattle.assignment.proofs.naming.survey_all.Tie as tie
 

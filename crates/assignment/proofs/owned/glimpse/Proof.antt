@@ -1,5 +1,5 @@
 use Rattle.assignment.proofs.Looks.{glimpse-own, glimpse-other}
-use borrow.Author.Needs.{needs}
+use Rattle.octets.specs.Standard.{needs}
 use Rattle.assignment.proofs.owned.glimpse.Statement.{statement}
 use Rattle.assignment.proofs.owned.glimpse.Tie as tie
 

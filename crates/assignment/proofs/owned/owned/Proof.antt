@@ -1,5 +1,5 @@
 use Rattle.assignment.proofs.Looks.{owned-all}
-use borrow.Author.Needs.{needs}
+use Rattle.octets.specs.Standard.{needs}
 use Rattle.assignment.proofs.owned.owned.Statement.{statement}
 use Rattle.assignment.proofs.owned.owned.Tie as tie
 

@@ -1,6 +1,4 @@
-use Prim.Native.Nat.{_+_, _-_, _*_, _≤_}
-use mathlib.Core.Path.{_≡_}
-use lib.ListN.{length}
+use Rattle.octets.specs.Standard.{_+_, _-_, _*_, _≤_, _≡_, length, needs}
 use Rattle.table.proofs.Sound.{sound-few, sound-size}
 use Rattle.rewrite.specs.Change.{reaches}
 use Rattle.rewrite.specs.Renew.{settled}
@@ -8,7 +6,6 @@ use Rattle.rewrite.proofs.Turns.{Going}
 use Rattle.assignment.specs.Assignment.{ownedUpTo}
 use Rattle.assignment.proofs.OwnTurns.{owned-start, owned-turn, owned-end, owned-sum}
 use Rattle.assignment.proofs.NameTurns.{change-fits}
-use borrow.Author.Needs.{needs}
 use Rattle.assignment.proofs.owned.settle_owned.Statement.{statement}
 use Rattle.assignment.proofs.owned.settle_owned.Tie as tie
 

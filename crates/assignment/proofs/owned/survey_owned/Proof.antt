@@ -1,11 +1,7 @@
-use Prim.Native.Nat.{_+_, _-_, _*_, _≤_}
-use mathlib.Core.Bool.{true}
-use mathlib.Core.Path.{_≡_}
-use lib.ListN.{length}
+use Rattle.octets.specs.Standard.{_+_, _-_, _*_, _≤_, true, _≡_, length, needs}
 use Rattle.table.proofs.Sound.{sound-few, sound-size}
 use Rattle.assignment.specs.Assignment.{ownedUpTo, surveyOf}
 use Rattle.assignment.proofs.Looks.{sight-none, sight-turn, sight-end}
-use borrow.Author.Needs.{needs}
 use Rattle.assignment.proofs.owned.survey_owned.Statement.{statement}
 use Rattle.assignment.proofs.owned.survey_owned.Tie as tie
 

@@ -1,5 +1,5 @@
 use Rattle.choices.proofs.Challenging.{challenge-denied, challenge-made}
-use borrow.Author.Needs.{needs}
+use Rattle.octets.specs.Standard.{needs}
 use Rattle.choices.proofs.challenge.challenge_of.Statement.{statement}
 use Rattle.choices.proofs.challenge.challenge_of.Tie as tie
 

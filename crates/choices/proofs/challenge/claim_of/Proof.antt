@@ -1,5 +1,5 @@
 use Rattle.choices.proofs.Challenging.{is-nobody, is-another, is-unserved, is-spent, is-claimed}
-use borrow.Author.Needs.{needs}
+use Rattle.octets.specs.Standard.{needs}
 use Rattle.choices.proofs.challenge.claim_of.Statement.{statement}
 use Rattle.choices.proofs.challenge.claim_of.Tie as tie
 

@@ -1,6 +1,6 @@
-use Rattle.choices.proofs.Choosing.{choose-unknown, choose-apart, choose-barred, choose-away, choose-capable, choose-registered, choose-present}
-use Rattle.choices.proofs.Choosing.{choose-gone, choose-first}
-use borrow.Author.Needs.{needs}
+use Rattle.choices.proofs.Choosing.{choose-unknown, choose-apart, choose-barred, choose-away, choose-capable, choose-registered}
+use Rattle.choices.proofs.Choosing.{choose-present, choose-gone, choose-first}
+use Rattle.octets.specs.Standard.{needs}
 use Rattle.choices.proofs.choice.authorization.Statement.{statement}
 use Rattle.choices.proofs.choice.authorization.Tie as tie
 

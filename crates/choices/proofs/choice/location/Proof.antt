@@ -1,5 +1,5 @@
 use Rattle.choices.proofs.Choosing.{locate-unknown, locate-present, locate-nothing, locate-first}
-use borrow.Author.Needs.{needs}
+use Rattle.octets.specs.Standard.{needs}
 use Rattle.choices.proofs.choice.location.Statement.{statement}
 use Rattle.choices.proofs.choice.location.Tie as tie
 

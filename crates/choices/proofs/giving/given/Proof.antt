@@ -1,5 +1,5 @@
 use Rattle.choices.proofs.Carrying.{given-made}
-use borrow.Author.Needs.{needs}
+use Rattle.octets.specs.Standard.{needs}
 use Rattle.choices.proofs.giving.given.Statement.{statement}
 use Rattle.choices.proofs.giving.given.Tie as tie
 

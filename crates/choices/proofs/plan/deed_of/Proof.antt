@@ -1,5 +1,5 @@
 use Rattle.choices.proofs.Planning.{deed-settle, deed-nothing}
-use borrow.Author.Needs.{needs}
+use Rattle.octets.specs.Standard.{needs}
 use Rattle.choices.proofs.plan.deed_of.Statement.{statement}
 use Rattle.choices.proofs.plan.deed_of.Tie as tie
 

@@ -1,5 +1,5 @@
 use Rattle.choices.proofs.Planning.{plan-made}
-use borrow.Author.Needs.{needs}
+use Rattle.octets.specs.Standard.{needs}
 use Rattle.choices.proofs.plan.effecting.Statement.{statement}
 use Rattle.choices.proofs.plan.effecting.Tie as tie
 

@@ -1,5 +1,5 @@
 use Rattle.choices.proofs.Planning.{is-unknown, is-foreign, is-held, is-not-held, is-taken, is-wrong, is-fine}
-use borrow.Author.Needs.{needs}
+use Rattle.octets.specs.Standard.{needs}
 use Rattle.choices.proofs.plan.finding_of.Statement.{statement}
 use Rattle.choices.proofs.plan.finding_of.Tie as tie
 

@@ -1,5 +1,5 @@
 use Rattle.choices.proofs.Planning.{grant-none, grant-both, grant-user}
-use borrow.Author.Needs.{needs}
+use Rattle.octets.specs.Standard.{needs}
 use Rattle.choices.proofs.plan.granted.Statement.{statement}
 use Rattle.choices.proofs.plan.granted.Tie as tie
 

@@ -1,5 +1,5 @@
 use Rattle.choices.proofs.Planning.{plan-denied, plan-fine}
-use borrow.Author.Needs.{needs}
+use Rattle.octets.specs.Standard.{needs}
 use Rattle.choices.proofs.plan.plan_of.Statement.{statement}
 use Rattle.choices.proofs.plan.plan_of.Tie as tie
 

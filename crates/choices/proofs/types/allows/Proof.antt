@@ -1,5 +1,5 @@
 use Rattle.choices.proofs.Ranges.{allow-removal, allow-storing, allow-again, allow-unregistered}
-use borrow.Author.Needs.{needs}
+use Rattle.octets.specs.Standard.{needs}
 use Rattle.choices.proofs.types.allows.Statement.{statement}
 use Rattle.choices.proofs.types.allows.Tie as tie
 

@@ -1,5 +1,5 @@
 use Rattle.choices.proofs.Ranges.{effect-is}
-use borrow.Author.Needs.{needs}
+use Rattle.octets.specs.Standard.{needs}
 use Rattle.choices.proofs.types.effect_of.Statement.{statement}
 use Rattle.choices.proofs.types.effect_of.Tie as tie
 

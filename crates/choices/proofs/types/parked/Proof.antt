@@ -1,5 +1,5 @@
 use Rattle.choices.proofs.Ranges.{parked-kept, parked-gone}
-use borrow.Author.Needs.{needs}
+use Rattle.octets.specs.Standard.{needs}
 use Rattle.choices.proofs.types.parked.Statement.{statement}
 use Rattle.choices.proofs.types.parked.Tie as tie
 

@@ -1,5 +1,5 @@
 use Rattle.choices.proofs.Ranges.{type-one, type-two, type-three, type-apart, type-low, type-removal, type-storing, type-failure, type-high}
-use borrow.Author.Needs.{needs}
+use Rattle.octets.specs.Standard.{needs}
 use Rattle.choices.proofs.types.type_of.Statement.{statement}
 use Rattle.choices.proofs.types.type_of.Tie as tie
 

@@ -1,6 +1,6 @@
 use Rattle.counting.specs.Results.{indexIn, baseResults}
 use Rattle.counting.proofs.Columns.{base-none}
-use borrow.Author.Needs.{needs}
+use Rattle.octets.specs.Standard.{needs}
 use Rattle.counting.proofs.results.base_column.Statement.{statement}
 use Rattle.counting.proofs.results.base_column.Tie as tie
 

@@ -1,5 +1,5 @@
 use Rattle.counting.proofs.Columns.{base-column, base-few, experimental-column, experimental-few}
-use borrow.Author.Needs.{needs}
+use Rattle.octets.specs.Standard.{needs}
 use Rattle.counting.proofs.results.column_of.Statement.{statement}
 use Rattle.counting.proofs.results.column_of.Tie as tie
 

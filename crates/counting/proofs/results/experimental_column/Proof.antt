@@ -1,6 +1,6 @@
 use Rattle.counting.specs.Results.{indexIn, experimentalResults}
 use Rattle.counting.proofs.Columns.{experimental-none}
-use borrow.Author.Needs.{needs}
+use Rattle.octets.specs.Standard.{needs}
 use Rattle.counting.proofs.results.experimental_column.Statement.{statement}
 use Rattle.counting.proofs.results.experimental_column.Tie as tie
 

@@ -1,9 +1,6 @@
-use mathlib.Core.Path.{refl}
-use native.Mathlib.Omega.{arith}
-use lib.ListN.{length-set}
+use Rattle.octets.specs.Standard.{refl, arith, length-set, needs}
 use Rattle.octets.proofs.Writes.{over-sets}
 use Rattle.counting.specs.Words.{longBytes}
-use borrow.Author.Needs.{needs}
 use Rattle.counting.proofs.words.put_long.Statement.{statement}
 use Rattle.counting.proofs.words.put_long.Tie as tie
 

@@ -1,15 +1,12 @@
-use Prim.Native.Nat.{_≤_, _-_, _*_}
-use mathlib.Core.Path.{_≡_}
-use lib.ListN.{length, drop}
+use Rattle.octets.specs.Standard.{_≤_, _-_, _*_, _≡_, length, drop, needs}
 use Rattle.octets.proofs.Writes.{Going}
-use Rattle.counting.specs.Words.{bytesOf}
+use Rattle.counting.specs.Words.{wordsBytes}
 use Rattle.counting.proofs.Longs.{words-none, words-next, words-all}
-use borrow.Author.Needs.{needs}
 use Rattle.counting.proofs.words.put_words.Statement.{statement}
 use Rattle.counting.proofs.words.put_words.Tie as tie
 
 abbrev Inv-loop : tie.InvT-loop
-Inv-loop area₀ counts i₀ area i = (i ≤ 145) × (length area ≡ length area₀) × Going area₀ area (8 * i) (bytesOf (drop i counts)) (bytesOf counts)
+Inv-loop area₀ counts i₀ area i = (i ≤ 145) × (length area ≡ length area₀) × Going area₀ area (8 * i) (wordsBytes (drop i counts)) (wordsBytes counts)
 
 abbrev μ-loop : tie.MeasureT-loop
 μ-loop area₀ counts i₀ area i = 145 - i

@@ -1,5 +1,5 @@
 use Rattle.deciding.proofs.Deciding.{deed-settles, deed-challenges, done-leave, left-counts, done-settle, done-challenge}
-use borrow.Author.Needs.{needs}
+use Rattle.octets.specs.Standard.{needs}
 use Rattle.deciding.proofs.doing.carry_out.Statement.{statement}
 use Rattle.deciding.proofs.doing.carry_out.Tie as tie
 

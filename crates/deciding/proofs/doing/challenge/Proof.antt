@@ -1,5 +1,5 @@
 use Rattle.deciding.proofs.Deciding.{challenge-from, challenge-to, challenge-fits, challenged-set}
-use borrow.Author.Needs.{needs}
+use Rattle.octets.specs.Standard.{needs}
 use Rattle.deciding.proofs.doing.challenge.Statement.{statement}
 use Rattle.deciding.proofs.doing.challenge.Tie as tie
 

@@ -1,5 +1,5 @@
 use Rattle.deciding.proofs.Deciding.{stored-fits, settled-owned, settled-named}
-use borrow.Author.Needs.{needs}
+use Rattle.octets.specs.Standard.{needs}
 use Rattle.deciding.proofs.doing.settle.Statement.{statement}
 use Rattle.deciding.proofs.doing.settle.Tie as tie
 

@@ -1,6 +1,6 @@
 use Rattle.deciding.proofs.Deciding.{spent-leave, spent-settle, spent-challenge}
 use Rattle.vectors.proofs.Sound.{whole-blocks}
-use borrow.Author.Needs.{needs}
+use Rattle.octets.specs.Standard.{needs}
 use Rattle.deciding.proofs.doing.spend.Statement.{statement}
 use Rattle.deciding.proofs.doing.spend.Tie as tie
 

@@ -1,5 +1,5 @@
 use Rattle.assignment.specs.Assignment.{storedName}
-use borrow.Author.Needs.{needs}
+use Rattle.octets.specs.Standard.{needs}
 use Rattle.deciding.proofs.doing.stored.Statement.{statement}
 use Rattle.deciding.proofs.doing.stored.Tie as tie
 

@@ -1,5 +1,5 @@
 use Rattle.deciding.proofs.Deciding.{keep-read}
-use borrow.Author.Needs.{needs}
+use Rattle.octets.specs.Standard.{needs}
 use Rattle.deciding.proofs.planning.keep.Statement.{statement}
 use Rattle.deciding.proofs.planning.keep.Tie as tie
 

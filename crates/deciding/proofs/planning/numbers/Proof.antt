@@ -1,5 +1,5 @@
 use Rattle.deciding.proofs.Deciding.{numbers-read}
-use borrow.Author.Needs.{needs}
+use Rattle.octets.specs.Standard.{needs}
 use Rattle.deciding.proofs.planning.numbers.Statement.{statement}
 use Rattle.deciding.proofs.planning.numbers.Tie as tie
 

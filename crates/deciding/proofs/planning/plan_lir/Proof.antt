@@ -1,5 +1,5 @@
 use Rattle.deciding.proofs.Deciding.{lir-planned}
-use borrow.Author.Needs.{needs}
+use Rattle.octets.specs.Standard.{needs}
 use Rattle.deciding.proofs.planning.plan_lir.Statement.{statement}
 use Rattle.deciding.proofs.planning.plan_lir.Tie as tie
 

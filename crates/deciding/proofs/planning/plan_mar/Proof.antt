@@ -1,5 +1,5 @@
 use Rattle.deciding.proofs.Deciding.{mar-planned}
-use borrow.Author.Needs.{needs}
+use Rattle.octets.specs.Standard.{needs}
 use Rattle.deciding.proofs.planning.plan_mar.Statement.{statement}
 use Rattle.deciding.proofs.planning.plan_mar.Tie as tie
 

@@ -1,5 +1,5 @@
-use Rattle.deciding.proofs.Deciding.{plan-uar, plan-sar, plan-lir, plan-mar}
-use borrow.Author.Needs.{needs}
+use Rattle.deciding.proofs.Answering.{planned-uar, planned-sar, planned-lir, planned-mar}
+use Rattle.octets.specs.Standard.{needs}
 use Rattle.deciding.proofs.planning.plan_read.Statement.{statement}
 use Rattle.deciding.proofs.planning.plan_read.Tie as tie
 
@@ -8,11 +8,10 @@ plan-read-spec =
     tie.close
     (tie.spec
     (λ c κs. search needs)
+    (λ c. search (needs, planned-uar))
     (λ c κs. search needs)
-    (λ c. search (needs, plan-uar))
+    (λ c. search (needs, planned-sar))
     (λ c κs. search needs)
-    (λ c. search (needs, plan-sar))
+    (λ c. search (needs, planned-lir))
     (λ c κs. search needs)
-    (λ c. search (needs, plan-lir))
-    (λ c κs. search needs)
-    (λ c. search (needs, plan-mar)))
+    (λ c. search (needs, planned-mar)))

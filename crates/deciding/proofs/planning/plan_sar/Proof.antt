@@ -1,5 +1,5 @@
 use Rattle.deciding.proofs.Deciding.{table-whole, sar-planned}
-use borrow.Author.Needs.{needs}
+use Rattle.octets.specs.Standard.{needs}
 use Rattle.deciding.proofs.planning.plan_sar.Statement.{statement}
 use Rattle.deciding.proofs.planning.plan_sar.Tie as tie
 

@@ -1,5 +1,5 @@
 use Rattle.deciding.proofs.Deciding.{uar-planned}
-use borrow.Author.Needs.{needs}
+use Rattle.octets.specs.Standard.{needs}
 use Rattle.deciding.proofs.planning.plan_uar.Statement.{statement}
 use Rattle.deciding.proofs.planning.plan_uar.Tie as tie
 

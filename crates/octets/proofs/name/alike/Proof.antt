@@ -1,9 +1,7 @@
-use Prim.Native.Nat.{_≤_, _-_}
-use mathlib.Core.Path.{_≡_}
+use Rattle.octets.specs.Standard.{_≤_, _-_, _≡_, needs}
 use Rattle.octets.specs.All.{allBelow}
 use Rattle.octets.specs.Name.{alikeAt}
 use Rattle.octets.proofs.All.{all-none, all-more, all-end}
-use borrow.Author.Needs.{needs}
 use Rattle.octets.proofs.name.alike.Statement.{statement}
 use Rattle.octets.proofs.name.alike.Tie as tie
 

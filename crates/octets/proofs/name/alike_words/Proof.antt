@@ -1,10 +1,7 @@
-use Prim.Native.Nat.{_*_, _-_, _≤_}
-use mathlib.Core.Path.{_≡_}
-use lib.Dec.{eqb}
+use Rattle.octets.specs.Standard.{_*_, _-_, _≤_, _≡_, eqb, needs}
 use Rattle.octets.specs.All.{allBelow}
 use Rattle.octets.specs.Name.{alikeFrom}
 use Rattle.octets.proofs.Names.{words-none, words-more, words-all}
-use borrow.Author.Needs.{needs}
 use Rattle.octets.proofs.name.alike_words.Statement.{statement}
 use Rattle.octets.proofs.name.alike_words.Tie as tie
 

@@ -1,9 +1,6 @@
-use Prim.Native.Nat.{_≤_, _-_, min}
-use mathlib.Core.Path.{_≡_}
-use lib.ListN.{length, drop}
+use Rattle.octets.specs.Standard.{_≤_, _-_, min, _≡_, length, drop, needs}
 use Rattle.octets.specs.Name.{orderOf}
 use Rattle.octets.proofs.Orders.{order-equal, order-differ, order-lengths}
-use borrow.Author.Needs.{needs}
 use Rattle.octets.proofs.name.by_bytes.Statement.{statement}
 use Rattle.octets.proofs.name.by_bytes.Tie as tie
 

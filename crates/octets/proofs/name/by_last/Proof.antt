@@ -1,5 +1,5 @@
 use Rattle.octets.proofs.Orders.{last-alike, last-differ}
-use borrow.Author.Needs.{needs}
+use Rattle.octets.specs.Standard.{needs}
 use Rattle.octets.proofs.name.by_last.Statement.{statement}
 use Rattle.octets.proofs.name.by_last.Tie as tie
 

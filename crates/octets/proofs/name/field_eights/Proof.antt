@@ -1,11 +1,7 @@
-use Prim.Native.Nat.{_≤_, _-_, _%_}
-use mathlib.Core.Bool.{true}
-use mathlib.Core.Path.{_≡_}
-use lib.ListN.{length}
+use Rattle.octets.specs.Standard.{_≤_, _-_, _%_, true, _≡_, length, needs}
 use Rattle.octets.specs.All.{allBelow}
 use Rattle.octets.specs.Name.{alikeAt}
 use Rattle.octets.proofs.Orders.{eight-alike, field-differ, field-same}
-use borrow.Author.Needs.{needs}
 use Rattle.octets.proofs.name.field_eights.Statement.{statement}
 use Rattle.octets.proofs.name.field_eights.Tie as tie
 

@@ -1,10 +1,7 @@
-use Prim.Native.Nat.{_≤_, _-_, _%_}
-use mathlib.Core.Bool.{true}
-use mathlib.Core.Path.{_≡_}
+use Rattle.octets.specs.Standard.{_≤_, _-_, _%_, true, _≡_, needs}
 use Rattle.octets.specs.All.{allBelow}
 use Rattle.octets.specs.Name.{alikeAt}
 use Rattle.octets.proofs.Names.{same-more}
-use borrow.Author.Needs.{needs}
 use Rattle.octets.proofs.name.passed.Statement.{statement}
 use Rattle.octets.proofs.name.passed.Tie as tie
 

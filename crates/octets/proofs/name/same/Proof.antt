@@ -1,5 +1,5 @@
 use Rattle.octets.proofs.Names.{same-within, same-lengths}
-use borrow.Author.Needs.{needs}
+use Rattle.octets.specs.Standard.{needs}
 use Rattle.octets.proofs.name.same.Statement.{statement}
 use Rattle.octets.proofs.name.same.Tie as tie
 

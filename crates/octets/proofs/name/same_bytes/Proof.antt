@@ -1,5 +1,5 @@
 use Rattle.octets.proofs.Eights.{eights-front, eights-apart}
-use borrow.Author.Needs.{needs}
+use Rattle.octets.specs.Standard.{needs}
 use Rattle.octets.proofs.name.same_bytes.Statement.{statement}
 use Rattle.octets.proofs.name.same_bytes.Tie as tie
 

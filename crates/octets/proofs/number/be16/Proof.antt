@@ -1,5 +1,5 @@
 use Rattle.octets.specs.Number.{be16At}
-use borrow.Author.Needs.{needs}
+use Rattle.octets.specs.Standard.{needs}
 use Rattle.octets.proofs.number.be16.Statement.{statement}
 use Rattle.octets.proofs.number.be16.Tie as tie
 

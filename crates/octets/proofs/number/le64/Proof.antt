@@ -1,5 +1,5 @@
 use Rattle.octets.specs.Number.{le64At}
-use borrow.Author.Needs.{needs}
+use Rattle.octets.specs.Standard.{needs}
 use Rattle.octets.proofs.number.le64.Statement.{statement}
 use Rattle.octets.proofs.number.le64.Tie as tie
 

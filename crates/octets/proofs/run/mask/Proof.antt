@@ -1,6 +1,5 @@
-use Prim.Native.Nat.{_-_, _≤_}
+use Rattle.octets.specs.Standard.{_-_, _≤_, needs}
 use Rattle.octets.proofs.Masks.{Made, made-none, made-more, made-all}
-use borrow.Author.Needs.{needs}
 use Rattle.octets.proofs.run.mask.Statement.{statement}
 use Rattle.octets.proofs.run.mask.Tie as tie
 

@@ -1,5 +1,5 @@
 use Rattle.octets.proofs.Runs.{name-whole}
-use borrow.Author.Needs.{needs}
+use Rattle.octets.specs.Standard.{needs}
 use Rattle.octets.proofs.run.put_name.Statement.{statement}
 use Rattle.octets.proofs.run.put_name.Tie as tie
 

@@ -1,9 +1,6 @@
-use Prim.Native.Nat.{_*_, _-_, _≤_}
-use mathlib.Core.Path.{_≡_}
-use lib.Dec.{eqb}
+use Rattle.octets.specs.Standard.{_*_, _-_, _≤_, _≡_, eqb, needs}
 use Rattle.octets.specs.Run.{zeros}
 use Rattle.octets.proofs.Runs.{set-none, set-more, set-all}
-use borrow.Author.Needs.{needs}
 use Rattle.octets.proofs.run.set_bits.Statement.{statement}
 use Rattle.octets.proofs.run.set_bits.Tie as tie
 

@@ -1,10 +1,7 @@
-use Prim.Native.Nat.{_+_, _*_, _-_, _≤_}
-use mathlib.Core.Path.{_≡_}
-use lib.Dec.{eqb}
+use Rattle.octets.specs.Standard.{_+_, _*_, _-_, _≤_, _≡_, eqb, needs}
 use Rattle.octets.specs.Run.{zeros}
 use Rattle.octets.proofs.Masks.{past-more, past-all}
 use Rattle.octets.proofs.Runs.{tail-none}
-use borrow.Author.Needs.{needs}
 use Rattle.octets.proofs.run.set_past.Statement.{statement}
 use Rattle.octets.proofs.run.set_past.Tie as tie
 

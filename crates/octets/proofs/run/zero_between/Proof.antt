@@ -1,8 +1,6 @@
-use Prim.Native.Nat.{_≤_, _-_, max}
-use mathlib.Core.Path.{_≡_}
+use Rattle.octets.specs.Standard.{_≤_, _-_, max, _≡_, needs}
 use Rattle.octets.specs.Run.{zeros}
 use Rattle.octets.proofs.Runs.{zeros-none, zeros-more, zeros-all}
-use borrow.Author.Needs.{needs}
 use Rattle.octets.proofs.run.zero_between.Statement.{statement}
 use Rattle.octets.proofs.run.zero_between.Tie as tie
 

@@ -1,8 +1,6 @@
-use Prim.Native.Nat.{_*_, _-_, _≤_}
-use mathlib.Core.Path.{_≡_}
+use Rattle.octets.specs.Standard.{_*_, _-_, _≤_, _≡_, needs}
 use Rattle.octets.specs.Columns.{wholeOf, oddOf}
 use Rattle.octets.proofs.Columns.{whole-none, odd-none, whole-more, odd-more, columns-end}
-use borrow.Author.Needs.{needs}
 use Rattle.octets.proofs.sum.columns.Statement.{statement}
 use Rattle.octets.proofs.sum.columns.Tie as tie
 

@@ -1,5 +1,5 @@
 use Rattle.octets.proofs.Columns.{columns-sum}
-use borrow.Author.Needs.{needs}
+use Rattle.octets.specs.Standard.{needs}
 use Rattle.octets.proofs.sum.sum_words.Statement.{statement}
 use Rattle.octets.proofs.sum.sum_words.Tie as tie
 

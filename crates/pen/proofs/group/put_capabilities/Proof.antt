@@ -1,5 +1,5 @@
 use Rattle.pen.proofs.Groups.{wrote-no-capabilities, capabilities-room, capabilities-most}
-use borrow.Author.Needs.{needs}
+use Rattle.octets.specs.Standard.{needs}
 use Rattle.pen.proofs.group.put_capabilities.Statement.{statement}
 use Rattle.pen.proofs.group.put_capabilities.Tie as tie
 

@@ -1,5 +1,5 @@
 use Rattle.pen.proofs.Groups.{wrote-failed}
-use borrow.Author.Needs.{needs}
+use Rattle.octets.specs.Standard.{needs}
 use Rattle.pen.proofs.group.put_failed.Statement.{statement}
 use Rattle.pen.proofs.group.put_failed.Tie as tie
 

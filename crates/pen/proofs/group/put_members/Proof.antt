@@ -1,5 +1,5 @@
 use Rattle.pen.proofs.Groups.{wrote-capabilities}
-use borrow.Author.Needs.{needs}
+use Rattle.octets.specs.Standard.{needs}
 use Rattle.pen.proofs.group.put_members.Statement.{statement}
 use Rattle.pen.proofs.group.put_members.Tie as tie
 

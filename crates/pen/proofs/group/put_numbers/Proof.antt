@@ -1,10 +1,7 @@
-use Prim.Native.Nat.{_≤_, _-_, _*_}
-use mathlib.Core.Path.{_≡_}
-use lib.ListN.{length}
+use Rattle.octets.specs.Standard.{_≤_, _-_, _*_, _≡_, length, needs}
 use Rattle.octets.specs.Run.{Wrote}
 use Rattle.pen.specs.Groups.{vendorNumbers}
 use Rattle.pen.proofs.Groups.{wrote-no-number, wrote-next-number, wrote-all-numbers}
-use borrow.Author.Needs.{needs}
 use Rattle.pen.proofs.group.put_numbers.Statement.{statement}
 use Rattle.pen.proofs.group.put_numbers.Tie as tie
 

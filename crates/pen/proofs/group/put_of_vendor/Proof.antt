@@ -1,5 +1,5 @@
 use Rattle.pen.proofs.Groups.{wrote-pair}
-use borrow.Author.Needs.{needs}
+use Rattle.octets.specs.Standard.{needs}
 use Rattle.pen.proofs.group.put_of_vendor.Statement.{statement}
 use Rattle.pen.proofs.group.put_of_vendor.Tie as tie
 

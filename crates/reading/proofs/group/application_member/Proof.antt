@@ -1,5 +1,5 @@
 use Rattle.reading.proofs.Members.{first-member, second-member, no-member}
-use borrow.Author.Needs.{needs}
+use Rattle.octets.specs.Standard.{needs}
 use Rattle.reading.proofs.group.application_member.Statement.{statement}
 use Rattle.reading.proofs.group.application_member.Tie as tie
 

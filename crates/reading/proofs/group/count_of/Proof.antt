@@ -1,18 +1,16 @@
-use Prim.Native.Nat.{_+_, _-_, _≤_}
-use mathlib.Core.Path.{_≡_}
+use Rattle.octets.specs.Standard.{_+_, _-_, _≤_, _≡_, needs}
 use Rattle.diameter.specs.Reader.{between}
 use Rattle.diameter.specs.Walk.{walk}
 use Rattle.diameter.proofs.Parts.{member-here}
-use Rattle.reading.specs.Groups.{countOf}
+use Rattle.reading.specs.Groups.{membersFitting}
 use Rattle.reading.proofs.Walking.{read-less, read-from}
 use Rattle.reading.proofs.Members.{count-start, count-cut, count-one, count-other, count-room, count-end}
-use borrow.Author.Needs.{needs}
 use Rattle.reading.proofs.group.count_of.Statement.{statement}
 use Rattle.reading.proofs.group.count_of.Tie as tie
 
 abbrev Inv-loop : tie.InvT-loop
 Inv-loop m s span n₀ at₀ n at =
-    (n ≤ at) × (n + countOf m (walk (between s at (span .end))) ≡ countOf m (walk (between s (span .from) (span .end))))
+    (n ≤ at) × (n + membersFitting m (walk (between s at (span .end))) ≡ membersFitting m (walk (between s (span .from) (span .end))))
 
 abbrev μ-loop : tie.MeasureT-loop
 μ-loop m s span n₀ at₀ n at = span .end - at

@@ -1,5 +1,5 @@
 use Rattle.reading.proofs.Members.{enough-many, enough-one}
-use borrow.Author.Needs.{needs}
+use Rattle.octets.specs.Standard.{needs}
 use Rattle.reading.proofs.group.enough.Statement.{statement}
 use Rattle.reading.proofs.group.enough.Tie as tie
 

@@ -1,5 +1,5 @@
 use Rattle.reading.proofs.Members.{fits-there}
-use borrow.Author.Needs.{needs}
+use Rattle.octets.specs.Standard.{needs}
 use Rattle.reading.proofs.group.fits.Statement.{statement}
 use Rattle.reading.proofs.group.fits.Tie as tie
 

@@ -1,12 +1,10 @@
-use Prim.Native.Nat.{_-_, _≤_}
-use mathlib.Core.Path.{_≡_}
+use Rattle.octets.specs.Standard.{_-_, _≤_, _≡_, needs}
 use Rattle.octets.specs.All.{allBelow}
 use Rattle.octets.proofs.All.{all-none}
 use Rattle.diameter.specs.Reader.{between}
 use Rattle.diameter.specs.Walk.{walk}
 use Rattle.reading.specs.Groups.{membersOf, enoughAt}
 use Rattle.reading.proofs.Members.{all-enough, gathers-end}
-use borrow.Author.Needs.{needs}
 use Rattle.reading.proofs.group.gathers.Statement.{statement}
 use Rattle.reading.proofs.group.gathers.Tie as tie
 

@@ -1,5 +1,5 @@
 use Rattle.reading.proofs.Members.{of-base, of-vendor}
-use borrow.Author.Needs.{needs}
+use Rattle.octets.specs.Standard.{needs}
 use Rattle.reading.proofs.group.is_of.Statement.{statement}
 use Rattle.reading.proofs.group.is_of.Tie as tie
 

@@ -1,11 +1,9 @@
-use Prim.Native.Nat.{_-_, _≤_}
-use mathlib.Core.Path.{_≡_}
+use Rattle.octets.specs.Standard.{_-_, _≤_, _≡_, needs}
 use Rattle.octets.specs.All.{allBelow}
 use Rattle.octets.proofs.All.{all-none}
 use Rattle.diameter.specs.Reader.{ownOf}
 use Rattle.reading.specs.Groups.{membersOf, unlike}
 use Rattle.reading.proofs.Members.{other-more, other-end}
-use borrow.Author.Needs.{needs}
 use Rattle.reading.proofs.group.is_other.Statement.{statement}
 use Rattle.reading.proofs.group.is_other.Tie as tie
 

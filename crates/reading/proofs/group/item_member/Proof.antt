@@ -1,5 +1,5 @@
 use Rattle.reading.proofs.Members.{only-member, no-second}
-use borrow.Author.Needs.{needs}
+use Rattle.octets.specs.Standard.{needs}
 use Rattle.reading.proofs.group.item_member.Statement.{statement}
 use Rattle.reading.proofs.group.item_member.Tie as tie
 

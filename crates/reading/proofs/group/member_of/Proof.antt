@@ -1,5 +1,5 @@
 use Rattle.reading.proofs.Members.{member-application, member-item}
-use borrow.Author.Needs.{needs}
+use Rattle.octets.specs.Standard.{needs}
 use Rattle.reading.proofs.group.member_of.Statement.{statement}
 use Rattle.reading.proofs.group.member_of.Tie as tie
 

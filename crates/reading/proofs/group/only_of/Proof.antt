@@ -1,12 +1,10 @@
-use Prim.Native.Nat.{_-_}
-use mathlib.Core.Path.{_≡_}
+use Rattle.octets.specs.Standard.{_-_, _≡_, needs}
 use Rattle.diameter.specs.Reader.{between}
 use Rattle.diameter.specs.Walk.{walk}
 use Rattle.diameter.proofs.Parts.{member-here}
 use Rattle.reading.specs.Groups.{membersOf, onlyOf}
 use Rattle.reading.proofs.Walking.{read-less}
 use Rattle.reading.proofs.Members.{only-cut, only-other, only-more, only-end}
-use borrow.Author.Needs.{needs}
 use Rattle.reading.proofs.group.only_of.Statement.{statement}
 use Rattle.reading.proofs.group.only_of.Tie as tie
 

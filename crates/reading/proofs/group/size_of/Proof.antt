@@ -1,5 +1,5 @@
 use Rattle.reading.proofs.Members.{size-application, size-item}
-use borrow.Author.Needs.{needs}
+use Rattle.octets.specs.Standard.{needs}
 use Rattle.reading.proofs.group.size_of.Statement.{statement}
 use Rattle.reading.proofs.group.size_of.Tie as tie
 

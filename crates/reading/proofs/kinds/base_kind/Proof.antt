@@ -1,6 +1,6 @@
 use Rattle.reading.specs.Kinds.{known, kindFrom, kindBy}
 use Rattle.reading.proofs.Known.{base-none}
-use borrow.Author.Needs.{needs}
+use Rattle.octets.specs.Standard.{needs}
 use Rattle.reading.proofs.kinds.base_kind.Statement.{statement}
 use Rattle.reading.proofs.kinds.base_kind.Tie as tie
 

@@ -1,5 +1,5 @@
 use Rattle.reading.proofs.Known.{kind-base, kind-vendor, kind-stranger}
-use borrow.Author.Needs.{needs}
+use Rattle.octets.specs.Standard.{needs}
 use Rattle.reading.proofs.kinds.kind_by.Statement.{statement}
 use Rattle.reading.proofs.kinds.kind_by.Tie as tie
 

@@ -1,5 +1,5 @@
 use Rattle.reading.proofs.Known.{kind-there}
-use borrow.Author.Needs.{needs}
+use Rattle.octets.specs.Standard.{needs}
 use Rattle.reading.proofs.kinds.kind_of.Statement.{statement}
 use Rattle.reading.proofs.kinds.kind_of.Tie as tie
 

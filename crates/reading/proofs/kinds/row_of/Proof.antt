@@ -1,6 +1,6 @@
 use Rattle.reading.specs.Kinds.{known, rowOf}
 use Rattle.reading.proofs.Known.{row-is, row-past}
-use borrow.Author.Needs.{needs}
+use Rattle.octets.specs.Standard.{needs}
 use Rattle.reading.proofs.kinds.row_of.Statement.{statement}
 use Rattle.reading.proofs.kinds.row_of.Tie as tie
 

@@ -1,5 +1,5 @@
 use Rattle.reading.proofs.Known.{in-uar, in-sar, in-lir, in-mar}
-use borrow.Author.Needs.{needs}
+use Rattle.octets.specs.Standard.{needs}
 use Rattle.reading.proofs.kinds.use_in.Statement.{statement}
 use Rattle.reading.proofs.kinds.use_in.Tie as tie
 

@@ -1,6 +1,6 @@
 use Rattle.reading.specs.Kinds.{known, kindFrom, kindBy}
 use Rattle.reading.proofs.Known.{vendor-none}
-use borrow.Author.Needs.{needs}
+use Rattle.octets.specs.Standard.{needs}
 use Rattle.reading.proofs.kinds.vendor_kind.Statement.{statement}
 use Rattle.reading.proofs.kinds.vendor_kind.Tie as tie
 

@@ -1,5 +1,5 @@
 use Rattle.reading.proofs.Judging.{number-long, number-judged}
-use borrow.Author.Needs.{needs}
+use Rattle.octets.specs.Standard.{needs}
 use Rattle.reading.proofs.plain.number_fault.Statement.{statement}
 use Rattle.reading.proofs.plain.number_fault.Tie as tie
 

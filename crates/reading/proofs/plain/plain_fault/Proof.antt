@@ -1,5 +1,5 @@
 use Rattle.reading.proofs.Judging.{plain-free, plain-number, plain-sized, plain-group}
-use borrow.Author.Needs.{needs}
+use Rattle.octets.specs.Standard.{needs}
 use Rattle.reading.proofs.plain.plain_fault.Statement.{statement}
 use Rattle.reading.proofs.plain.plain_fault.Tie as tie
 

@@ -1,5 +1,5 @@
 use Rattle.reading.proofs.Judging.{content-free, content-number, content-sized, content-group}
-use borrow.Author.Needs.{needs}
+use Rattle.octets.specs.Standard.{needs}
 use Rattle.reading.proofs.rules.content_fault.Statement.{statement}
 use Rattle.reading.proofs.rules.content_fault.Tie as tie
 

@@ -1,5 +1,5 @@
 use Rattle.reading.proofs.Judging.{content-bad, content-good}
-use borrow.Author.Needs.{needs}
+use Rattle.octets.specs.Standard.{needs}
 use Rattle.reading.proofs.rules.of_content.Statement.{statement}
 use Rattle.reading.proofs.rules.of_content.Tie as tie
 

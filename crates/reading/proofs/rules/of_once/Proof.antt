@@ -1,5 +1,5 @@
 use Rattle.reading.proofs.Judging.{once-first}
-use borrow.Author.Needs.{needs}
+use Rattle.octets.specs.Standard.{needs}
 use Rattle.reading.proofs.rules.of_once.Statement.{statement}
 use Rattle.reading.proofs.rules.of_once.Tie as tie
 

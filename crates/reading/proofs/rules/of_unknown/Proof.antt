@@ -1,5 +1,5 @@
 use Rattle.reading.proofs.Judging.{unknown-marked, unknown-plain}
-use borrow.Author.Needs.{needs}
+use Rattle.octets.specs.Standard.{needs}
 use Rattle.reading.proofs.rules.of_unknown.Statement.{statement}
 use Rattle.reading.proofs.rules.of_unknown.Tie as tie
 

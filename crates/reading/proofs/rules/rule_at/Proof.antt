@@ -1,5 +1,5 @@
 use Rattle.reading.proofs.Judging.{rule-there}
-use borrow.Author.Needs.{needs}
+use Rattle.octets.specs.Standard.{needs}
 use Rattle.reading.proofs.rules.rule_at.Statement.{statement}
 use Rattle.reading.proofs.rules.rule_at.Tie as tie
 

@@ -1,5 +1,5 @@
 use Rattle.reading.proofs.Judging.{rule-reserved, rule-unknown, rule-unnamed, rule-needed, rule-optional, rule-repeated}
-use borrow.Author.Needs.{needs}
+use Rattle.octets.specs.Standard.{needs}
 use Rattle.reading.proofs.rules.rule_by.Statement.{statement}
 use Rattle.reading.proofs.rules.rule_by.Tie as tie
 

@@ -1,5 +1,5 @@
 use Rattle.record.proofs.Sound.{bits-barred}
-use borrow.Author.Needs.{needs}
+use Rattle.octets.specs.Standard.{needs}
 use Rattle.record.proofs.fields.barred.Statement.{statement}
 use Rattle.record.proofs.fields.barred.Tie as tie
 

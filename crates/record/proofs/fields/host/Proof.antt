@@ -1,5 +1,5 @@
 use Rattle.record.specs.Fields.{hostOf}
-use borrow.Author.Needs.{needs}
+use Rattle.octets.specs.Standard.{needs}
 use Rattle.record.proofs.fields.host.Statement.{statement}
 use Rattle.record.proofs.fields.host.Tie as tie
 

@@ -1,5 +1,5 @@
 use Rattle.octets.proofs.Parts.{part-cut, part-short}
-use borrow.Author.Needs.{needs}
+use Rattle.octets.specs.Standard.{needs}
 use Rattle.record.proofs.fields.part.Statement.{statement}
 use Rattle.record.proofs.fields.part.Tie as tie
 

@@ -1,5 +1,5 @@
 use Rattle.record.specs.Fields.{privateOf}
-use borrow.Author.Needs.{needs}
+use Rattle.octets.specs.Standard.{needs}
 use Rattle.record.proofs.fields.private.Statement.{statement}
 use Rattle.record.proofs.fields.private.Tie as tie
 

@@ -1,5 +1,5 @@
 use Rattle.record.specs.Fields.{publicOf}
-use borrow.Author.Needs.{needs}
+use Rattle.octets.specs.Standard.{needs}
 use Rattle.record.proofs.fields.public.Statement.{statement}
 use Rattle.record.proofs.fields.public.Tie as tie
 

@@ -1,7 +1,5 @@
-use native.Mathlib.Omega.{arith}
-use lib.ListN.{length-take, length-drop}
+use Rattle.octets.specs.Standard.{arith, length-take, length-drop, needs}
 use Rattle.record.specs.Fields.{publicField}
-use borrow.Author.Needs.{needs}
 use Rattle.record.proofs.fields.public_field.Statement.{statement}
 use Rattle.record.proofs.fields.public_field.Tie as tie
 

@@ -1,5 +1,5 @@
 use Rattle.record.specs.Fields.{realmOf}
-use borrow.Author.Needs.{needs}
+use Rattle.octets.specs.Standard.{needs}
 use Rattle.record.proofs.fields.realm.Statement.{statement}
 use Rattle.record.proofs.fields.realm.Tie as tie
 

@@ -1,5 +1,5 @@
 use Rattle.record.specs.Fields.{serverOf}
-use borrow.Author.Needs.{needs}
+use Rattle.octets.specs.Standard.{needs}
 use Rattle.record.proofs.fields.server.Statement.{statement}
 use Rattle.record.proofs.fields.server.Tie as tie
 

@@ -1,5 +1,5 @@
 use Rattle.record.proofs.Sound.{bits-services}
-use borrow.Author.Needs.{needs}
+use Rattle.octets.specs.Standard.{needs}
 use Rattle.record.proofs.fields.unregistered_services.Statement.{statement}
 use Rattle.record.proofs.fields.unregistered_services.Tie as tie
 

@@ -1,4 +1,4 @@
-use borrow.Author.Needs.{needs}
+use Rattle.octets.specs.Standard.{needs}
 use Rattle.record.proofs.header.is_header.Statement.{statement}
 use Rattle.record.proofs.header.is_header.Tie as tie
 

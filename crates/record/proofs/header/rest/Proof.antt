@@ -1,5 +1,5 @@
 use Rattle.record.proofs.Sound.{header-rest}
-use borrow.Author.Needs.{needs}
+use Rattle.octets.specs.Standard.{needs}
 use Rattle.record.proofs.header.rest.Statement.{statement}
 use Rattle.record.proofs.header.rest.Tie as tie
 

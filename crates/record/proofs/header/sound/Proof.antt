@@ -1,5 +1,5 @@
 use Rattle.record.proofs.Sound.{host-within, realm-within, header-bytes, header-refused}
-use borrow.Author.Needs.{needs}
+use Rattle.octets.specs.Standard.{needs}
 use Rattle.record.proofs.header.sound.Statement.{statement}
 use Rattle.record.proofs.header.sound.Tie as tie
 

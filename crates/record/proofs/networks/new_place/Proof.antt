@@ -1,5 +1,5 @@
 use Rattle.record.proofs.Places.{new-unused, new-used}
-use borrow.Author.Needs.{needs}
+use Rattle.octets.specs.Standard.{needs}
 use Rattle.record.proofs.networks.new_place.Statement.{statement}
 use Rattle.record.proofs.networks.new_place.Tie as tie
 

@@ -1,5 +1,5 @@
 use Rattle.record.specs.Networks.{otherPlace}
-use borrow.Author.Needs.{needs}
+use Rattle.octets.specs.Standard.{needs}
 use Rattle.record.proofs.networks.other.Statement.{statement}
 use Rattle.record.proofs.networks.other.Tie as tie
 

@@ -1,5 +1,5 @@
 use Rattle.record.proofs.Places.{places-all}
-use borrow.Author.Needs.{needs}
+use Rattle.octets.specs.Standard.{needs}
 use Rattle.record.proofs.networks.sound.Statement.{statement}
 use Rattle.record.proofs.networks.sound.Tie as tie
 

@@ -1,5 +1,5 @@
 use Rattle.record.proofs.Places.{place-used, place-unused}
-use borrow.Author.Needs.{needs}
+use Rattle.octets.specs.Standard.{needs}
 use Rattle.record.proofs.networks.sound_place.Statement.{statement}
 use Rattle.record.proofs.networks.sound_place.Tie as tie
 

@@ -1,5 +1,5 @@
 use Rattle.record.specs.Networks.{usedPlace}
-use borrow.Author.Needs.{needs}
+use Rattle.octets.specs.Standard.{needs}
 use Rattle.record.proofs.networks.used.Statement.{statement}
 use Rattle.record.proofs.networks.used.Tie as tie
 

@@ -1,5 +1,5 @@
 use Rattle.record.specs.Sets.{agreeing}
-use borrow.Author.Needs.{needs}
+use Rattle.octets.specs.Standard.{needs}
 use Rattle.record.proofs.sets.agree.Statement.{statement}
 use Rattle.record.proofs.sets.agree.Tie as tie
 

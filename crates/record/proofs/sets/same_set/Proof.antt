@@ -1,5 +1,5 @@
 use Rattle.record.proofs.OneSet.{set-named, set-apart}
-use borrow.Author.Needs.{needs}
+use Rattle.octets.specs.Standard.{needs}
 use Rattle.record.proofs.sets.same_set.Statement.{statement}
 use Rattle.record.proofs.sets.same_set.Tie as tie
 

@@ -1,5 +1,5 @@
 use Rattle.record.proofs.Sound.{capabilities-past}
-use borrow.Author.Needs.{needs}
+use Rattle.octets.specs.Standard.{needs}
 use Rattle.record.proofs.subscriber.past_capabilities.Statement.{statement}
 use Rattle.record.proofs.subscriber.past_capabilities.Tie as tie
 

@@ -1,5 +1,5 @@
 use Rattle.record.proofs.Sound.{names-past}
-use borrow.Author.Needs.{needs}
+use Rattle.octets.specs.Standard.{needs}
 use Rattle.record.proofs.subscriber.past_names.Statement.{statement}
 use Rattle.record.proofs.subscriber.past_names.Tie as tie
 

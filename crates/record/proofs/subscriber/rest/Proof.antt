@@ -1,5 +1,5 @@
 use Rattle.record.proofs.Sound.{record-rest}
-use borrow.Author.Needs.{needs}
+use Rattle.octets.specs.Standard.{needs}
 use Rattle.record.proofs.subscriber.rest.Statement.{statement}
 use Rattle.record.proofs.subscriber.rest.Tie as tie
 

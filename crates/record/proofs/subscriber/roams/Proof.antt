@@ -1,9 +1,4 @@
-use Prim.Native.Nat.{_+_, _≤_}
-use native.Mathlib.Omega.{arith}
-use native.Mathlib.Nat.{one-mul}
-use lib.Pow.{shl-exact}
-use lib.Dec.{lit<}
-use borrow.Author.Needs.{needs}
+use Rattle.octets.specs.Standard.{_+_, _≤_, arith, one-mul, shl-exact, lit<, needs}
 use Rattle.record.proofs.subscriber.roams.Statement.{statement}
 use Rattle.record.proofs.subscriber.roams.Tie as tie
 

@@ -1,4 +1,4 @@
-use borrow.Author.Needs.{needs}
+use Rattle.octets.specs.Standard.{needs}
 use Rattle.record.proofs.subscriber.server_sound.Statement.{statement}
 use Rattle.record.proofs.subscriber.server_sound.Tie as tie
 

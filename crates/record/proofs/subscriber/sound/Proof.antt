@@ -1,5 +1,5 @@
 use Rattle.record.proofs.Sound.{public-within, private-within, server-within, mandatory-within, optional-within, record-bytes, record-refused}
-use borrow.Author.Needs.{needs}
+use Rattle.octets.specs.Standard.{needs}
 use Rattle.record.proofs.subscriber.sound.Statement.{statement}
 use Rattle.record.proofs.subscriber.sound.Tie as tie
 

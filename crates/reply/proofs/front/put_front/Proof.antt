@@ -1,5 +1,5 @@
 use Rattle.reply.proofs.Written.{session-room, wrote-session}
-use borrow.Author.Needs.{needs}
+use Rattle.octets.specs.Standard.{needs}
 use Rattle.reply.proofs.front.put_front.Statement.{statement}
 use Rattle.reply.proofs.front.put_front.Tie as tie
 

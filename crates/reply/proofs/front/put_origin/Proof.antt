@@ -1,5 +1,5 @@
 use Rattle.reply.proofs.Written.{host-room, host-most, realm-room, origin-most, wrote-origin}
-use borrow.Author.Needs.{needs}
+use Rattle.octets.specs.Standard.{needs}
 use Rattle.reply.proofs.front.put_origin.Statement.{statement}
 use Rattle.reply.proofs.front.put_origin.Tie as tie
 

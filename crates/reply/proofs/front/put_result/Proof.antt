@@ -1,5 +1,5 @@
 use Rattle.reply.proofs.Written.{base-room, experimental-room, base-count, experimental-count, wrote-base, wrote-experimental}
-use borrow.Author.Needs.{needs}
+use Rattle.octets.specs.Standard.{needs}
 use Rattle.reply.proofs.front.put_result.Statement.{statement}
 use Rattle.reply.proofs.front.put_result.Tie as tie
 

@@ -1,7 +1,6 @@
-use native.Mathlib.Omega.{arith}
+use Rattle.octets.specs.Standard.{arith, needs}
 use Rattle.octets.proofs.Writes.{then}
-use Rattle.reply.specs.Answer.{frontBytes}
-use borrow.Author.Needs.{needs}
+use Rattle.reply.specs.Pieces.{frontBytes}
 use Rattle.reply.proofs.front.put_start.Statement.{statement}
 use Rattle.reply.proofs.front.put_start.Tie as tie
 

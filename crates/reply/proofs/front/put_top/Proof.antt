@@ -1,6 +1,6 @@
 use Rattle.reply.proofs.Rooms.{wrote-most}
 use Rattle.reply.proofs.Written.{front-room, origin-room, wrote-top}
-use borrow.Author.Needs.{needs}
+use Rattle.octets.specs.Standard.{needs}
 use Rattle.reply.proofs.front.put_top.Statement.{statement}
 use Rattle.reply.proofs.front.put_top.Tie as tie
 

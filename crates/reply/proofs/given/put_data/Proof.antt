@@ -1,6 +1,6 @@
 use Rattle.reply.proofs.Rooms.{wrote-most}
 use Rattle.reply.proofs.Written.{capable-room, data-room, wrote-data}
-use borrow.Author.Needs.{needs}
+use Rattle.octets.specs.Standard.{needs}
 use Rattle.reply.proofs.given.put_data.Statement.{statement}
 use Rattle.reply.proofs.given.put_data.Tie as tie
 

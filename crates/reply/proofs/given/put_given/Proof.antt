@@ -1,6 +1,6 @@
 use Rattle.reply.proofs.Rooms.{wrote-most}
 use Rattle.reply.proofs.Written.{names-room, contents-room, wrote-given}
-use borrow.Author.Needs.{needs}
+use Rattle.octets.specs.Standard.{needs}
 use Rattle.reply.proofs.given.put_given.Statement.{statement}
 use Rattle.reply.proofs.given.put_given.Tie as tie
 

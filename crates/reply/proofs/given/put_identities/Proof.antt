@@ -1,6 +1,6 @@
 use Rattle.reply.proofs.Rooms.{wrote-most}
 use Rattle.reply.proofs.Written.{user-room, public-room, wrote-identities}
-use borrow.Author.Needs.{needs}
+use Rattle.octets.specs.Standard.{needs}
 use Rattle.reply.proofs.given.put_identities.Statement.{statement}
 use Rattle.reply.proofs.given.put_identities.Tie as tie
 

@@ -1,6 +1,6 @@
 use Rattle.reply.proofs.Rooms.{wrote-most}
 use Rattle.reply.proofs.Written.{identities-room, server-room, wrote-names}
-use borrow.Author.Needs.{needs}
+use Rattle.octets.specs.Standard.{needs}
 use Rattle.reply.proofs.given.put_names.Statement.{statement}
 use Rattle.reply.proofs.given.put_names.Tie as tie
 

@@ -1,5 +1,5 @@
 use Rattle.reply.proofs.Written.{flags-error, flags-plain}
-use borrow.Author.Needs.{needs}
+use Rattle.octets.specs.Standard.{needs}
 use Rattle.reply.proofs.header.flags_of.Statement.{statement}
 use Rattle.reply.proofs.header.flags_of.Tie as tie
 

@@ -1,5 +1,5 @@
 use Rattle.reply.proofs.Written.{wrote-header}
-use borrow.Author.Needs.{needs}
+use Rattle.octets.specs.Standard.{needs}
 use Rattle.reply.proofs.header.put_header.Statement.{statement}
 use Rattle.reply.proofs.header.put_header.Tie as tie
 

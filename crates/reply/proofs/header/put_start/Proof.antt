@@ -1,8 +1,5 @@
-use mathlib.Core.Path.{refl}
-use native.Mathlib.Omega.{arith}
-use lib.ListN.{length-set}
+use Rattle.octets.specs.Standard.{refl, arith, length-set, needs}
 use Rattle.octets.proofs.Writes.{over-sets}
-use borrow.Author.Needs.{needs}
 use Rattle.reply.proofs.header.put_start.Statement.{statement}
 use Rattle.reply.proofs.header.put_start.Tie as tie
 

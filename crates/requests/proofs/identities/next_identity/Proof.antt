@@ -1,12 +1,9 @@
-use Prim.Native.Nat.{_-_, _≤_}
-use mathlib.Core.Path.{_≡_}
-use lib.ListN.{length, drop}
+use Rattle.octets.specs.Standard.{_-_, _≤_, _≡_, length, drop, needs}
 use Rattle.diameter.specs.Walk.{walk}
 use Rattle.diameter.proofs.Reading.{read-here}
 use Rattle.reading.proofs.Walking.{read-less, read-from}
 use Rattle.requests.specs.Identity.{placesFrom}
 use Rattle.requests.proofs.Naming.{named-end, named-cut, named-at, named-more}
-use borrow.Author.Needs.{needs}
 use Rattle.requests.proofs.identities.next_identity.Statement.{statement}
 use Rattle.requests.proofs.identities.next_identity.Tie as tie
 

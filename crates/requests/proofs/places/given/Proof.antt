@@ -1,5 +1,5 @@
 use Rattle.requests.proofs.Placed.{given-placed}
-use borrow.Author.Needs.{needs}
+use Rattle.octets.specs.Standard.{needs}
 use Rattle.requests.proofs.places.given.Statement.{statement}
 use Rattle.requests.proofs.places.given.Tie as tie
 

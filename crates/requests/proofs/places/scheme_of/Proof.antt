@@ -1,5 +1,5 @@
 use Rattle.requests.proofs.Scheme.{scheme-placed}
-use borrow.Author.Needs.{needs}
+use Rattle.octets.specs.Standard.{needs}
 use Rattle.requests.proofs.places.scheme_of.Statement.{statement}
 use Rattle.requests.proofs.places.scheme_of.Tie as tie
 

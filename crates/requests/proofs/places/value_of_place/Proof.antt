@@ -1,6 +1,6 @@
 use Rattle.diameter.proofs.Reading.{read-here}
 use Rattle.requests.proofs.Placed.{place-empty, place-value}
-use borrow.Author.Needs.{needs}
+use Rattle.octets.specs.Standard.{needs}
 use Rattle.requests.proofs.places.value_of_place.Statement.{statement}
 use Rattle.requests.proofs.places.value_of_place.Tie as tie
 

@@ -1,6 +1,4 @@
-use Prim.Native.Nat.{_-_, _≤_}
-use mathlib.Core.Path.{_≡_}
-use lib.ListN.{length, drop}
+use Rattle.octets.specs.Standard.{_-_, _≡_, length, drop, needs}
 use Rattle.diameter.specs.Walk.{walk}
 use Rattle.diameter.proofs.Reading.{read-here}
 use Rattle.reading.specs.Kinds.{kinds}
@@ -8,16 +6,15 @@ use Rattle.requests.specs.Judged.{nothing, judge}
 use Rattle.reading.specs.Places.{seenOf}
 use Rattle.reading.proofs.Walking.{read-less}
 use Rattle.requests.proofs.Turns.{nothing-seen, turn-end, turn-cut, turn-bad, turn-taken, turn-skipped}
-use borrow.Author.Needs.{needs}
 use Rattle.requests.proofs.walk.walk_message.Statement.{statement}
 use Rattle.requests.proofs.walk.walk_message.Tie as tie
 
 abbrev Inv-loop : tie.InvT-loop
-Inv-loop s dialect absent places₀ at₀ places at =
+Inv-loop s dialect places₀ absent at₀ places at =
     (length places ≡ kinds) × (judge dialect at (walk (drop at s)) (seenOf s places) ≡ judge dialect 20 (walk (drop 20 s)) nothing)
 
 abbrev μ-loop : tie.MeasureT-loop
-μ-loop s dialect absent places₀ at₀ places at = length s - at
+μ-loop s dialect places₀ absent at₀ places at = length s - at
 
 pub walk-message-spec : {M : Type 1} → statement M
 walk-message-spec =
@@ -45,5 +42,4 @@ walk-message-spec =
     (λ c. search (needs, turn-taken))
     (λ c. search (needs, read-less))
     (λ c. search (needs, turn-skipped))
-    (λ c κs. search needs)
     (λ c. search (needs, turn-end)))

@@ -1,5 +1,5 @@
 use Rattle.table.proofs.Hashes.{hash-block}
-use borrow.Author.Needs.{needs}
+use Rattle.octets.specs.Standard.{needs}
 use Rattle.table.proofs.hash.hash.Statement.{statement}
 use Rattle.table.proofs.hash.hash.Tie as tie
 

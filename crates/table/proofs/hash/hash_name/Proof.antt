@@ -1,5 +1,5 @@
 use Rattle.table.proofs.Hashes.{name-short, name-long}
-use borrow.Author.Needs.{needs}
+use Rattle.octets.specs.Standard.{needs}
 use Rattle.table.proofs.hash.hash_name.Statement.{statement}
 use Rattle.table.proofs.hash.hash_name.Tie as tie
 

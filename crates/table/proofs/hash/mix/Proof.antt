@@ -1,5 +1,5 @@
 use Rattle.table.specs.Hash.{mixed}
-use borrow.Author.Needs.{needs}
+use Rattle.octets.specs.Standard.{needs}
 use Rattle.table.proofs.hash.mix.Statement.{statement}
 use Rattle.table.proofs.hash.mix.Tie as tie
 

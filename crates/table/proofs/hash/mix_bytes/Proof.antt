@@ -1,9 +1,6 @@
-use Prim.Native.Nat.{_-_, _≤_}
-use mathlib.Core.Path.{_≡_}
-use lib.ListN.{length}
+use Rattle.octets.specs.Standard.{_-_, _≤_, _≡_, length, needs}
 use Rattle.table.specs.Hash.{mixBytes}
 use Rattle.table.proofs.Hashes.{bytes-none, bytes-more, bytes-all}
-use borrow.Author.Needs.{needs}
 use Rattle.table.proofs.hash.mix_bytes.Statement.{statement}
 use Rattle.table.proofs.hash.mix_bytes.Tie as tie
 

@@ -1,5 +1,5 @@
 use Rattle.table.proofs.Hashes.{halves-fit}
-use borrow.Author.Needs.{needs}
+use Rattle.octets.specs.Standard.{needs}
 use Rattle.table.proofs.hash.product.Statement.{statement}
 use Rattle.table.proofs.hash.product.Tie as tie
 

@@ -1,5 +1,5 @@
 use Rattle.table.specs.Hash.{termAt}
-use borrow.Author.Needs.{needs}
+use Rattle.octets.specs.Standard.{needs}
 use Rattle.table.proofs.hash.term.Statement.{statement}
 use Rattle.table.proofs.hash.term.Tie as tie
 

@@ -1,9 +1,6 @@
-use Prim.Native.Nat.{_-_, _/_, _≤_}
-use mathlib.Core.Path.{_≡_}
-use lib.ListN.{length}
+use Rattle.octets.specs.Standard.{_-_, _/_, _≤_, _≡_, length, needs}
 use Rattle.table.specs.Hash.{sumTerms}
 use Rattle.table.proofs.Hashes.{terms-none, terms-more, terms-all}
-use borrow.Author.Needs.{needs}
 use Rattle.table.proofs.hash.terms.Statement.{statement}
 use Rattle.table.proofs.hash.terms.Tie as tie
 

@@ -1,11 +1,9 @@
-use Prim.Native.Nat.{_+_, _-_, _≤_}
-use mathlib.Core.Path.{_≡_}
+use Rattle.octets.specs.Standard.{_+_, _-_, _≤_, _≡_, needs}
 use Rattle.table.specs.Check.{agreesAt}
 use Rattle.table.specs.Leading.{leading}
 use Rattle.table.specs.Remembered.{Remembers, Agreed}
 use Rattle.table.proofs.Leading.{leading-all, leading-more, leading-stop, leading-end}
 use Rattle.table.proofs.Remembered.{remember-none, agreed-none, agreed-more}
-use borrow.Author.Needs.{needs}
 use Rattle.table.proofs.members.agreeing.Statement.{statement}
 use Rattle.table.proofs.members.agreeing.Tie as tie
 

@@ -1,5 +1,5 @@
 use Rattle.table.proofs.Remembered.{apart-agrees, apart-kept, hash-own}
-use borrow.Author.Needs.{needs}
+use Rattle.octets.specs.Standard.{needs}
 use Rattle.table.proofs.members.agrees_by.Statement.{statement}
 use Rattle.table.proofs.members.agrees_by.Tie as tie
 

@@ -1,12 +1,11 @@
-use Prim.Native.Nat.{_-_}
-use Rattle.table.specs.Remembered.{Passed}
+use Rattle.octets.specs.Standard.{_-_, needs}
+use Rattle.table.specs.Remembered.{SlotsPassed}
 use Rattle.table.proofs.Remembered.{find-first, find-more, find-here, slot-before}
-use borrow.Author.Needs.{needs}
 use Rattle.table.proofs.members.find.Statement.{statement}
 use Rattle.table.proofs.members.find.Tie as tie
 
 abbrev Inv-loop : tie.InvT-loop
-Inv-loop t slots hash k home i₀ i = Passed t slots hash k i
+Inv-loop t slots hash k home i₀ i = SlotsPassed t slots hash k i
 
 abbrev μ-loop : tie.MeasureT-loop
 μ-loop t slots hash k home i₀ i = 4608 - i

@@ -1,5 +1,5 @@
 use Rattle.table.proofs.Remembered.{empty-agrees, empty-kept, full-agrees, full-kept, slot-within}
-use borrow.Author.Needs.{needs}
+use Rattle.octets.specs.Standard.{needs}
 use Rattle.table.proofs.members.held.Statement.{statement}
 use Rattle.table.proofs.members.held.Tie as tie
 

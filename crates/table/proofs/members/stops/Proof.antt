@@ -1,5 +1,5 @@
 use Rattle.table.proofs.Remembered.{stop-empty, stop-same, stop-other}
-use borrow.Author.Needs.{needs}
+use Rattle.octets.specs.Standard.{needs}
 use Rattle.table.proofs.members.stops.Statement.{statement}
 use Rattle.table.proofs.members.stops.Tie as tie
 

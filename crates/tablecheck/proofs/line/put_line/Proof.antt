@@ -1,5 +1,5 @@
 use Rattle.tablecheck.proofs.Lines.{line-sound, line-bad}
-use borrow.Author.Needs.{needs}
+use Rattle.octets.specs.Standard.{needs}
 use Rattle.tablecheck.proofs.line.put_line.Statement.{statement}
 use Rattle.tablecheck.proofs.line.put_line.Tie as tie
 

@@ -1,5 +1,5 @@
 use Rattle.tablecheck.proofs.Lines.{vectors-sound, vectors-bad}
-use borrow.Author.Needs.{needs}
+use Rattle.octets.specs.Standard.{needs}
 use Rattle.tablecheck.proofs.line.put_vectors_line.Statement.{statement}
 use Rattle.tablecheck.proofs.line.put_vectors_line.Tie as tie
 

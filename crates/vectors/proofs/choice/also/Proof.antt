@@ -1,5 +1,5 @@
 use Rattle.vectors.proofs.Choosing.{also-is}
-use borrow.Author.Needs.{needs}
+use Rattle.octets.specs.Standard.{needs}
 use Rattle.vectors.proofs.choice.also.Statement.{statement}
 use Rattle.vectors.proofs.choice.also.Tie as tie
 

@@ -1,7 +1,6 @@
-use Prim.Native.Nat.{_-_, _≤_}
+use Rattle.octets.specs.Standard.{_-_, _≤_, needs}
 use Rattle.vectors.proofs.Choosing.{Left, left-all, left-full, left-taken, left-passed, left-none}
 use Rattle.vectors.proofs.Sound.{few-all, block-fits}
-use borrow.Author.Needs.{needs}
 use Rattle.vectors.proofs.choice.first_unused.Statement.{statement}
 use Rattle.vectors.proofs.choice.first_unused.Tie as tie
 

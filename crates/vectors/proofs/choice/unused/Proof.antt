@@ -1,5 +1,5 @@
 use Rattle.vectors.proofs.Choosing.{unused-named, used-not}
-use borrow.Author.Needs.{needs}
+use Rattle.octets.specs.Standard.{needs}
 use Rattle.vectors.proofs.choice.unused.Statement.{statement}
 use Rattle.vectors.proofs.choice.unused.Tie as tie
 

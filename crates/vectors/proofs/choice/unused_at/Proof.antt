@@ -1,5 +1,5 @@
 use Rattle.vectors.proofs.Choosing.{unused-block}
-use borrow.Author.Needs.{needs}
+use Rattle.octets.specs.Standard.{needs}
 use Rattle.vectors.proofs.choice.unused_at.Statement.{statement}
 use Rattle.vectors.proofs.choice.unused_at.Tie as tie
 

@@ -1,11 +1,9 @@
-use Prim.Native.Nat.{_-_, _≤_}
-use mathlib.Core.Path.{_≡_}
+use Rattle.octets.specs.Standard.{_-_, _≤_, _≡_, needs}
 use Rattle.octets.specs.Run.{Mask}
 use Rattle.blocks.specs.Blocks.{firstBad}
 use Rattle.vectors.specs.VectorFile.{soundPiece, checkVectors}
 use Rattle.blocks.proofs.First.{first-bad, first-more, first-none}
 use Rattle.vectors.proofs.Pieces.{turn-all, turn-near}
-use borrow.Author.Needs.{needs}
 use Rattle.vectors.proofs.file.check.Statement.{statement}
 use Rattle.vectors.proofs.file.check.Tie as tie
 

@@ -1,5 +1,5 @@
 use Rattle.vectors.proofs.Pieces.{piece-far, piece-cut, piece-whole}
-use borrow.Author.Needs.{needs}
+use Rattle.octets.specs.Standard.{needs}
 use Rattle.vectors.proofs.file.piece_sound.Statement.{statement}
 use Rattle.vectors.proofs.file.piece_sound.Tie as tie
 

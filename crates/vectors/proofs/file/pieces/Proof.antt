@@ -1,5 +1,5 @@
 use Rattle.vectors.proofs.Pieces.{pieces-whole, pieces-cut}
-use borrow.Author.Needs.{needs}
+use Rattle.octets.specs.Standard.{needs}
 use Rattle.vectors.proofs.file.pieces.Statement.{statement}
 use Rattle.vectors.proofs.file.pieces.Tie as tie
 

@@ -1,5 +1,5 @@
 use Rattle.vectors.proofs.Marks.{mark-kept, mark-put}
-use borrow.Author.Needs.{needs}
+use Rattle.octets.specs.Standard.{needs}
 use Rattle.vectors.proofs.mark.mark.Statement.{statement}
 use Rattle.vectors.proofs.mark.mark.Tie as tie
 

@@ -1,5 +1,5 @@
 use Rattle.vectors.proofs.Marks.{mark-lent}
-use borrow.Author.Needs.{needs}
+use Rattle.octets.specs.Standard.{needs}
 use Rattle.vectors.proofs.mark.mark_at.Statement.{statement}
 use Rattle.vectors.proofs.mark.mark_at.Tie as tie
 

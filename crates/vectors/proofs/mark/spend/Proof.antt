@@ -1,6 +1,5 @@
-use Prim.Native.Nat.{_-_, _≤_}
+use Rattle.octets.specs.Standard.{_-_, _≤_, needs}
 use Rattle.vectors.proofs.Marks.{Spending, spend-all, spend-room, spend-fits, spend-next, spend-end}
-use borrow.Author.Needs.{needs}
 use Rattle.vectors.proofs.mark.spend.Statement.{statement}
 use Rattle.vectors.proofs.mark.spend.Tie as tie
 

@@ -1,5 +1,5 @@
 use Rattle.vectors.specs.VectorBlock.{confidentialityOf}
-use borrow.Author.Needs.{needs}
+use Rattle.octets.specs.Standard.{needs}
 use Rattle.vectors.proofs.vector.confidentiality_key.Statement.{statement}
 use Rattle.vectors.proofs.vector.confidentiality_key.Tie as tie
 

@@ -1,5 +1,5 @@
 use Rattle.vectors.specs.VectorBlock.{integrityOf}
-use borrow.Author.Needs.{needs}
+use Rattle.octets.specs.Standard.{needs}
 use Rattle.vectors.proofs.vector.integrity_key.Statement.{statement}
 use Rattle.vectors.proofs.vector.integrity_key.Tie as tie
 

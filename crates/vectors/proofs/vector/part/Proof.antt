@@ -1,5 +1,5 @@
 use Rattle.vectors.proofs.Choosing.{part-lent, part-size}
-use borrow.Author.Needs.{needs}
+use Rattle.octets.specs.Standard.{needs}
 use Rattle.vectors.proofs.vector.part.Statement.{statement}
 use Rattle.vectors.proofs.vector.part.Tie as tie
 

@@ -1,6 +1,5 @@
 use Rattle.vectors.specs.VectorBlock.{cardOf}
-use native.Mathlib.Omega.{arith}
-use borrow.Author.Needs.{needs}
+use Rattle.octets.specs.Standard.{arith, needs}
 use Rattle.vectors.proofs.vector.private.Statement.{statement}
 use Rattle.vectors.proofs.vector.private.Tie as tie
 

@@ -1,5 +1,5 @@
 use Rattle.vectors.specs.VectorBlock.{randAutnOf}
-use borrow.Author.Needs.{needs}
+use Rattle.octets.specs.Standard.{needs}
 use Rattle.vectors.proofs.vector.rand_autn.Statement.{statement}
 use Rattle.vectors.proofs.vector.rand_autn.Tie as tie
 

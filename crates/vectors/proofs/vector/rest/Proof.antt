@@ -1,5 +1,5 @@
 use Rattle.vectors.proofs.Pieces.{rest-none}
-use borrow.Author.Needs.{needs}
+use Rattle.octets.specs.Standard.{needs}
 use Rattle.vectors.proofs.vector.rest.Statement.{statement}
 use Rattle.vectors.proofs.vector.rest.Tie as tie
 

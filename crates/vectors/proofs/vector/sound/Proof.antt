@@ -1,5 +1,5 @@
 use Rattle.vectors.proofs.Pieces.{limits-xres, limits-private, vector-within, vector-past}
-use borrow.Author.Needs.{needs}
+use Rattle.octets.specs.Standard.{needs}
 use Rattle.vectors.proofs.vector.sound.Statement.{statement}
 use Rattle.vectors.proofs.vector.sound.Tie as tie
 

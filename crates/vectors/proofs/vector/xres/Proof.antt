@@ -1,5 +1,5 @@
 use Rattle.vectors.specs.VectorBlock.{xresOf, vectorOf}
-use borrow.Author.Needs.{needs}
+use Rattle.octets.specs.Standard.{needs}
 use Rattle.vectors.proofs.vector.xres.Statement.{statement}
 use Rattle.vectors.proofs.vector.xres.Tie as tie
 

@@ -1,5 +1,5 @@
 use Rattle.record.specs.HeaderBlock.{headerOf}
-use borrow.Author.Needs.{needs}
+use Rattle.octets.specs.Standard.{needs}
 use Rattle.record.proofs.header.Header.read.Statement.{statement}
 use Rattle.record.proofs.header.Header.read.Tie as tie
 

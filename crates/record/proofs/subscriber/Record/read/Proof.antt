@@ -1,5 +1,5 @@
 use Rattle.record.specs.RecordBlock.{recordOf}
-use borrow.Author.Needs.{needs}
+use Rattle.octets.specs.Standard.{needs}
 use Rattle.record.proofs.subscriber.Record.read.Statement.{statement}
 use Rattle.record.proofs.subscriber.Record.read.Tie as tie
 

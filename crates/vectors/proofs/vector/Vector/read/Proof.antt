@@ -1,5 +1,5 @@
 use Rattle.vectors.specs.VectorBlock.{vectorOf}
-use borrow.Author.Needs.{needs}
+use Rattle.octets.specs.Standard.{needs}
 use Rattle.vectors.proofs.vector.Vector.read.Statement.{statement}
 use Rattle.vectors.proofs.vector.Vector.read.Tie as tie
 

@@ -1,2 +1,0 @@
-pub mod Decide
-pub mod Deeds
