@@ -2,7 +2,7 @@
 use Rattle.octets.specs.Standard.{ℕ, _≤_, List, [], _∷_, _≡_, refl, sym, _∙_, arith, length, eq-eqb, ne-eqb}
 use Rattle.lines.specs.Words.{Words}
 use Rattle.calling.specs.Lent.{Lent}
-use Rattle.ndushavire.specs.Word.{numberIn, valueIn}
+use Rattle.ndushavire.specs.Reads.{numberIn, valueIn}
 use Rattle.ndushavire.specs.Promise.{DecidePromise}
 use Rattle.demands.proofs.Demands.{demand-1-word, demand-1-within}
 use Rattle.answer.specs.Said.{SaidFits, Said, SaidTo}

@@ -7,7 +7,8 @@ use lib.Dec.{eqb}
 use Rattle.lines.specs.Words.{Words}
 use Rattle.calling.specs.Lent.{Lent}
 use Rattle.calling.specs.Serve.{serve}
-use Rattle.ndushavire.specs.Word.{callWord, numberIn, valueIn}
+use Rattle.ndushavire.specs.Word.{callWord}
+use Rattle.ndushavire.specs.Reads.{numberIn, valueIn}
 
 -- the answer of a word that says one lies within a buffer of n bytes
 pub record SaidFits (w n : ℕ) : Type 0 where

@@ -1,7 +1,7 @@
 -- How long an answer is at the most.
 use Rattle.octets.specs.Standard.{ℕ, _+_, _%_, _≤_, List, _≡_, arith, length, length-append}
 use Rattle.table.specs.SoundTable.{SoundTable}
-use Rattle.vectors.specs.Chosen.{Sendable}
+use Rattle.vectors.specs.Sendable.{Sendable}
 use Rattle.diameter.specs.Message.{bodyOf}
 use Rattle.pen.specs.Bytes.{copiedSize}
 use Rattle.items.proofs.Items.{sent-most}

@@ -10,7 +10,7 @@ ghost use Prim.Native.Nat.{_+_, _≤_};
 ghost use lib.ListN.{length};
 ghost use Rattle.octets.specs.Run.{Wrote};
 ghost use Rattle.table.specs.SoundTable.{SoundTable};
-ghost use Rattle.vectors.specs.Chosen.{Sendable};
+ghost use Rattle.vectors.specs.Sendable.{Sendable};
 ghost use Rattle.diameter.specs.Reader.{ownOf, Here};
 ghost use Rattle.diameter.specs.Message.{bodyOf};
 ghost use Rattle.failed.specs.Failing.{failedBy};

@@ -9,7 +9,7 @@ ghost use Prim.Native.Nat.{_+_, _≤_};
 ghost use lib.ListN.{length};
 ghost use Rattle.octets.specs.Run.{Wrote};
 ghost use Rattle.table.specs.SoundTable.{SoundTable};
-ghost use Rattle.vectors.specs.Chosen.{Sendable};
+ghost use Rattle.vectors.specs.Sendable.{Sendable};
 ghost use Rattle.answering.specs.Answer.{bodyBytes, answerBytes};
 
 // What a decision stands on: the dialect of the request, and how many records the table has.

@@ -9,8 +9,10 @@ use Rattle.lookup.specs.declared.Found.the-variants.{At, Nothing}
 use Rattle.lookup.proofs.First.{FirstAt, first-stands}
 use Rattle.blocks.specs.Changed.{isOne}
 use Rattle.lookup.proofs.Halves.{find-alike}
-use Rattle.rewrite.specs.Change.{afterOf, reaches, Keeps, alteredUpTo}
-use Rattle.rewrite.specs.Renew.{settled, Fitting, changeOf, ChangeFits}
+use Rattle.rewrite.specs.Change.{afterOf, reaches, alteredUpTo}
+use Rattle.rewrite.specs.Keeps.{Keeps}
+use Rattle.rewrite.specs.Renew.{settled}
+use Rattle.rewrite.specs.Fitting.{Fitting, changeOf, ChangeFits}
 use Rattle.rewrite.specs.declared.Change.{Change}
 use Rattle.rewrite.specs.declared.Change.the-variants.{Settled}
 use Rattle.rewrite.proofs.Counts.{altered-most, altered-none, both-counts, sum-few}
@@ -20,7 +22,7 @@ use Rattle.rewrite.proofs.Sound.{keeping-says, keeping-public}
 use Rattle.rewrite.proofs.Tables.{Keeping, after-choice, after-none, after-keeping, after-both}
 use Rattle.diameter.specs.Avp.{dataOf}
 use Rattle.diameter.specs.Walk.{walk}
-use Rattle.diameter.specs.Reader.{dataAt}
+use Rattle.diameter.specs.AvpAt.{dataAt}
 use Rattle.diameter.proofs.Reading.{walk-past}
 use Rattle.reading.specs.Kinds.{publicIdentity}
 use Rattle.reading.specs.Verdicts.{faultAt, lackOf}
@@ -35,7 +37,7 @@ use Rattle.assignment.specs.Assignment.{meantBy, findAll, numbersOf}
 use Rattle.assignment.specs.Survey.{clean, both, lookFound, foundSurvey}
 use Rattle.assignment.specs.declared.Meant.the-variants.{Fault, Owned, Listed}
 use Rattle.assignment.proofs.Surveys.{survey-cons, both-assoc, both-clean}
-use Rattle.requests.specs.Identity as identity
+use Rattle.requests.specs.NextIdentity as identity
 use Rattle.requests.specs.declared.identities.Next.the-variants as next
 
 -- the identities from a place on

@@ -8,8 +8,10 @@ use Rattle.blocks.specs.Blocks.{blockOf}
 use Rattle.table.specs.SoundTable.{SoundTable}
 use Rattle.table.proofs.Sound.{sound-size}
 use Rattle.blocks.specs.Changed.{changedIn, isOne}
-use Rattle.rewrite.specs.Change.{afterOf, reaches, Keeps, differ, alteredUpTo}
-use Rattle.rewrite.specs.Renew.{settled, Fitting, changeOf}
+use Rattle.rewrite.specs.Change.{afterOf, reaches, differ, alteredUpTo}
+use Rattle.rewrite.specs.Keeps.{Keeps}
+use Rattle.rewrite.specs.Renew.{settled}
+use Rattle.rewrite.specs.Fitting.{Fitting, changeOf}
 use Rattle.rewrite.specs.declared.Change.{Change}
 use Rattle.rewrite.specs.declared.Change.the-variants.{Settled}
 use Rattle.rewrite.proofs.Reaching.{both-ways, reaches-named-one, reaches-one, reaches-append, reaches-zero}

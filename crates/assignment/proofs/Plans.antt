@@ -8,7 +8,7 @@ use Rattle.table.proofs.Sound.{sound-block}
 use Rattle.lookup.specs.Find.{isAt, findPublic, findPrivate, blockFound}
 use Rattle.lookup.specs.declared.Found.{Found}
 use Rattle.lookup.specs.declared.Found.the-variants.{At, Nothing}
-use Rattle.diameter.specs.Reader.{avpAt, dataAt}
+use Rattle.diameter.specs.AvpAt.{avpAt, dataAt}
 use Rattle.reading.specs.Kinds.{publicIdentity}
 use Rattle.reading.specs.Verdicts.{faultAt, lackOf}
 use Rattle.diameter.specs.Message.{bodyOf}

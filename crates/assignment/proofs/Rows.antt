@@ -1,6 +1,6 @@
 -- Each row of the table of effects fits a record: it has a server name exactly in state 1 or 2.
 use Rattle.octets.specs.Standard.{ℕ, _≤_, Bool, true, false, List, arith, length}
-use Rattle.rewrite.specs.Renew.{Fitting}
+use Rattle.rewrite.specs.Fitting.{Fitting}
 use Rattle.rewrite.proofs.Settled.{fits-named, fits-none}
 use Rattle.choices.specs.Types.{effectOf}
 use Rattle.choices.specs.declared.types.AssignmentType.{AssignmentType}

@@ -11,7 +11,8 @@ ghost use mathlib.Core.Bool.{true};
 ghost use lib.ListN.{length};
 ghost use Rattle.table.specs.SoundTable.{SoundTable};
 ghost use Rattle.rewrite.specs.Change.{afterOf, reaches, alteredUpTo};
-ghost use Rattle.rewrite.specs.Renew.{settled, Fitting};
+ghost use Rattle.rewrite.specs.Renew.{settled};
+ghost use Rattle.rewrite.specs.Fitting.{Fitting};
 ghost use Rattle.assignment.specs.Assignment.{ownedHere, ownedUpTo, surveyOf};
 ghost use Rattle.assignment.specs.Survey.{glimpsed};
 

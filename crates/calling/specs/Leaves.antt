@@ -5,12 +5,17 @@ use mathlib.Core.List.{List}
 use Rattle.blocks.specs.declared.Checked.{Checked}
 use Rattle.rewrite.specs.Change.{alteredUpTo}
 use Rattle.diameter.specs.Message.{commandOf}
-use Rattle.calling.specs.Call.{callOf}
 use Rattle.calling.specs.Lent.{Lent}
 use Rattle.calling.specs.Trial.{tried}
 use Rattle.calling.specs.Serve.{Served, earlyTrials, fileTrials, refused, answered, decision, checkValue}
 use Rattle.calling.specs.declared.Came.{Came}
 use Rattle.calling.specs.declared.Came.the-variants as came
+use Rattle.calling.specs.Call.{Call, Answered, Refused}
+
+-- what the code says of it, which knows more of an answer
+abbrev pub callOf : Came → Call
+callOf (came.Answered told) = Answered (record { length = told .length; place = told .place })
+callOf (came.Refused number besides) = Refused number besides
 
 -- of an answer over a table of count records: the request's command, the result, and how many records have other bytes in the table afterwards
 abbrev pub Noted : Lent → ℕ → List ℕ → Came → Type 0

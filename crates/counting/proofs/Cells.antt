@@ -1,7 +1,8 @@
 -- The word of a request that can be counted is its own: none of the first five, and below 145.
 use Rattle.octets.specs.Standard.{ℕ, _≤_, _<_, arith, Bool, true, false, cond, eqb}
 use Rattle.counting.specs.Results.{commandRow}
-use Rattle.counting.specs.Counted.{cellOf, Fits}
+use Rattle.counting.specs.Counted.{cellOf}
+use Rattle.counting.specs.Counting.{Fits}
 use Rattle.counting.specs.declared.Event.{Event}
 use Rattle.counting.specs.declared.Event.the-variants.{Answered, Refused}
 use Rattle.counting.proofs.Columns.{listed-column}

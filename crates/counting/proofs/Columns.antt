@@ -2,7 +2,8 @@
 use Rattle.octets.specs.Standard.{ℕ, _+_, _*_, _<_, arith, _≡_, _∙_, ne-eqb, ltb-true}
 use Rattle.reading.specs.declared.Outcome.{Outcome}
 use Rattle.reading.specs.declared.Outcome.the-variants.{Base, Experimental}
-use Rattle.counting.specs.Results.{baseResults, experimentalResults, indexIn, commandRow, columnOf, listed, Listed}
+use Rattle.counting.specs.Results.{baseResults, experimentalResults, indexIn, commandRow, columnOf}
+use Rattle.counting.specs.Counting.{listed, Listed}
 use Rattle.counting.specs.Counted.{cellOf}
 use Rattle.counting.specs.declared.Entry.{Entry}
 use Rattle.counting.specs.declared.Event.the-variants.{Answered}

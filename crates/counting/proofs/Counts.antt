@@ -2,8 +2,8 @@
 use Rattle.octets.specs.Standard.{ℕ, zero, suc, _+_, _%_, _^_, _<_, max, arith, mod-eq-of-lt, zero-max, max-zero, zero-add, add-zero, _≡_, refl, sym}
 use Rattle.octets.specs.Standard.{ap, _∙_, List, [], _∷_, _++_, length, getD, length-replicate, getD-replicate, ext-getD, Bool, true, false, eqb}
 use Rattle.octets.specs.Standard.{eqb-true, eqb-false}
-use Rattle.counting.specs.Counted.{AllFit, alteredIn, largestIn, howMany, numberAt, wordAt, valuesBelow, countsOf, noCounts, counted}
-use Rattle.counting.specs.Counted.{countedAll}
+use Rattle.counting.specs.Counted.{alteredIn, largestIn, howMany, numberAt, wordAt, valuesBelow, countsOf}
+use Rattle.counting.specs.Counting.{AllFit, noCounts, counted, countedAll}
 use Rattle.counting.specs.declared.Event.{Event}
 use Rattle.counting.proofs.Word.{counted-length, counted-at, counted-small, counted-largest}
 use Rattle.counting.proofs.Numbers.{each-word, number-cell, number-more, word-largest, word-other}

@@ -1,7 +1,8 @@
 -- The numbers of a report, word by word: of one request more, of two rows of requests, and at most as many as were read.
 use Rattle.octets.specs.Standard.{ℕ, zero, suc, _+_, _%_, _^_, _≤_, _<_, max, arith, mod-eq-of-lt, zero-max, Bool, true, false, cond, _≡_, refl, sym}
 use Rattle.octets.specs.Standard.{_∙_, List, [], _∷_, _++_, length, length-append, ne-eqb}
-use Rattle.counting.specs.Counted.{cellOf, Fits, isAnswered, standsIn, howMany, alteredIn, largestIn, numberAt, wordAt}
+use Rattle.counting.specs.Counted.{cellOf, isAnswered, standsIn, howMany, alteredIn, largestIn, numberAt, wordAt}
+use Rattle.counting.specs.Counting.{Fits}
 use Rattle.counting.specs.Layout.{readWord, stopWord, alteredWord, largestWord, answeredWord}
 use Rattle.counting.specs.declared.Event.{Event}
 use Rattle.counting.specs.declared.Event.the-variants.{Answered, Refused}

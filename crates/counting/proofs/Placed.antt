@@ -2,10 +2,11 @@
 use Rattle.octets.specs.Standard.{ℕ, false, _≡_, refl, List, [], _∷_}
 use Rattle.reading.specs.declared.Outcome.{Outcome}
 use Rattle.reading.specs.declared.Outcome.the-variants.{Base, Experimental}
-use Rattle.counting.specs.Results.{baseResults, experimentalResults, indexIn, commandRow, columnOf, listed}
+use Rattle.counting.specs.Results.{baseResults, experimentalResults, indexIn, commandRow, columnOf}
+use Rattle.counting.specs.Counting.{listed}
 use Rattle.counting.specs.Counted.{cellOf, howMany, alteredIn, largestIn, numberAt}
-use Rattle.counting.specs.Layout.{readWord, alteredWord, largestWord, answeredWord, refusalWord, cellWord, sumFrom}
-use Rattle.counting.specs.Totals.{rowTotals, refusalTotal}
+use Rattle.counting.specs.Layout.{readWord, alteredWord, largestWord, answeredWord, refusalWord, cellWord}
+use Rattle.counting.specs.Totals.{sumFrom, rowTotals, refusalTotal}
 use Rattle.counting.specs.declared.Event.{Event}
 use Rattle.counting.specs.declared.Event.the-variants.{Answered, Refused}
 

@@ -1,7 +1,7 @@
 -- One request counted: the steps of the code.
 use Rattle.octets.specs.Standard.{ℕ, _+_, _%_, _^_, _≤_, max, _≡_, ap, _∙_, List, getD, set}
-use Rattle.counting.specs.Results.{Listed}
-use Rattle.counting.specs.Counted.{cellOf, Fits, plus, larger, counted}
+use Rattle.counting.specs.Counting.{Listed, Fits, plus, larger, counted}
+use Rattle.counting.specs.Counted.{cellOf}
 use Rattle.counting.specs.declared.Entry.{Entry}
 use Rattle.counting.specs.declared.Event.{Event}
 use Rattle.counting.specs.declared.Event.the-variants.{Answered, Refused}

@@ -1,9 +1,9 @@
 -- "the row totals add up to the requests read".
 use Rattle.octets.specs.Standard.{ℕ, zero, suc, _+_, _≤_, _<_, arith, zero-add, suc-add, add-zero, Bool, true, false, cond, _≡_, refl, _∙_, List, []}
 use Rattle.octets.specs.Standard.{_∷_, length, eqb, eqb-true, eqb-false, ne-eqb}
-use Rattle.counting.specs.Counted.{cellOf, Fits, AllFit, isAnswered, standsIn, howMany, numberAt}
-use Rattle.counting.specs.Layout.{sumFrom}
-use Rattle.counting.specs.Totals.{rowTotals, refusalTotal}
+use Rattle.counting.specs.Counted.{cellOf, isAnswered, standsIn, howMany, numberAt}
+use Rattle.counting.specs.Counting.{Fits, AllFit}
+use Rattle.counting.specs.Totals.{sumFrom, rowTotals, refusalTotal}
 use Rattle.counting.specs.declared.Event.{Event}
 use Rattle.counting.specs.declared.Event.the-variants.{Answered, Refused}
 use Rattle.counting.proofs.Cells.{cell-above, cell-below}

@@ -1,7 +1,8 @@
 -- One word where one request more is counted.
 use Rattle.octets.specs.Standard.{ℕ, _+_, _%_, _^_, _<_, max, arith, mod-lt, mod-mod, mod-add-mod, add-assoc, max-zero, Bool, true, false, cond, _≡_}
 use Rattle.octets.specs.Standard.{refl, sym, ap, _∙_, List, length, getD, length-set, getD-set-same, getD-set-other, eqb, eqb-true, eqb-false, ne-eqb}
-use Rattle.counting.specs.Counted.{cellOf, Fits, answerLength, plus, larger, counted}
+use Rattle.counting.specs.Counted.{cellOf, answerLength}
+use Rattle.counting.specs.Counting.{Fits, plus, larger, counted}
 use Rattle.counting.specs.declared.Entry.{Entry}
 use Rattle.counting.specs.declared.Event.{Event}
 use Rattle.counting.specs.declared.Event.the-variants.{Answered, Refused}

@@ -1,11 +1,11 @@
 -- "how many; for each refusal, how many; records altered, once per request; and the largest answer": the words of a report over requests that were read.
-use Prim.Native.Nat.{ℕ, zero, suc, _+_, _%_, _^_, _≤_, max}
+use Prim.Native.Nat.{ℕ, zero, suc, _+_, _%_, _^_, max}
 use mathlib.Core.Bool.{Bool, true, false, cond}
 use mathlib.Core.List.{List, [], _∷_}
-use lib.ListN.{length, getD, set, replicate}
+use lib.ListN.{length}
 use lib.Dec.{eqb}
 use Rattle.counting.specs.Layout.{readWord, stopWord, alteredWord, largestWord, answeredWord, refusalWord, cellWord}
-use Rattle.counting.specs.Results.{commandRow, columnOf, Listed}
+use Rattle.counting.specs.Results.{commandRow, columnOf}
 use Rattle.counting.specs.declared.Event.{Event}
 use Rattle.counting.specs.declared.Event.the-variants.{Answered, Refused}
 
@@ -13,15 +13,6 @@ use Rattle.counting.specs.declared.Event.the-variants.{Answered, Refused
 unfoldable pub cellOf : Event → ℕ
 cellOf (Answered e) = cellWord (commandRow (e .command)) (columnOf (e .result))
 cellOf (Refused n) = refusalWord n
-
--- what can be counted: a result that has a column, a refusal that has a word
-abbrev pub Fits : Event → Type 0
-Fits (Answered e) = Listed (e .result)
-Fits (Refused n) = (1 ≤ n) × (n ≤ 15)
-
-abbrev pub AllFit : List Event → Type 0
-AllFit [] = Unit
-AllFit (e ∷ es) = Fits e × AllFit es
 
 -- a refused request is not answered, alters nothing and has no answer's length
 abbrev pub isAnswered : Event → Bool
@@ -72,23 +63,3 @@ valuesBelow f i (suc n) = f i ∷ valuesBelow f (suc i) n
 
 unfoldable pub countsOf : List Event → List ℕ
 countsOf es = valuesBelow (wordAt es) 0 145
-
--- the words before the first request
-abbrev pub noCounts : List ℕ
-noCounts = replicate 145 0
-
--- so many more in word i; the larger of two answers
-unfoldable pub plus : ℕ → ℕ → List ℕ → List ℕ
-plus a i c = set c i ((getD c i 0 + a) % 2 ^ 64)
-
-unfoldable pub larger : ℕ → List ℕ → List ℕ
-larger n c = set c largestWord (max (getD c largestWord 0) n)
-
--- one request more
-unfoldable pub counted : List ℕ → Event → List ℕ
-counted c (Answered e) = plus 1 (cellOf (Answered e)) (plus 1 answeredWord (larger (e .length) (plus (e .altered) alteredWord (plus 1 readWord c))))
-counted c (Refused n) = plus 1 (cellOf (Refused n)) (plus 1 readWord c)
-
-unfoldable pub countedAll : List ℕ → List Event → List ℕ
-countedAll c [] = c
-countedAll c (e ∷ es) = countedAll (counted c e) es

@@ -1,5 +1,5 @@
 -- The words of a report by their places: five of the whole file, then one for each refusal 1 to 15, then one for each row and column, 145 in all.
-use Prim.Native.Nat.{ℕ, zero, suc, _+_, _*_}
+use Prim.Native.Nat.{ℕ, _+_, _*_}
 
 -- requests read; the byte where reading stopped; records altered; the largest answer; requests answered
 abbrev pub readWord : ℕ
@@ -23,17 +23,3 @@ refusalWord n = 4 + n
 
 abbrev pub cellWord : ℕ → ℕ → ℕ
 cellWord row column = 20 + (25 * row + column)
-
--- the sum of n words from word i on; of a row's columns, of the five rows, of the refusals
-unfoldable pub sumFrom : (ℕ → ℕ) → ℕ → ℕ → ℕ
-sumFrom f i zero = 0
-sumFrom f i (suc n) = f i + sumFrom f (suc i) n
-
-abbrev pub rowSum : (ℕ → ℕ) → ℕ → ℕ
-rowSum f row = sumFrom f (cellWord row 0) 25
-
-abbrev pub rowsSum : (ℕ → ℕ) → ℕ
-rowsSum f = rowSum f 0 + (rowSum f 1 + (rowSum f 2 + (rowSum f 3 + rowSum f 4)))
-
-abbrev pub refusalsSum : (ℕ → ℕ) → ℕ
-refusalsSum f = sumFrom f (refusalWord 1) 15

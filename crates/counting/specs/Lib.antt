@@ -1,4 +1,5 @@
 pub mod Counted
+pub mod Counting
 pub mod Layout
 pub mod Results
 pub mod Totals

@@ -1,10 +1,8 @@
 -- "for each command (300 to 303, the rest as one) and each result, B and X apart": the rows and the columns of the report.
 use Prim.Native.Nat.{ℕ, suc, _+_}
-use mathlib.Core.Bool.{Bool, true, cond}
-use mathlib.Core.Path.{_≡_}
+use mathlib.Core.Bool.{cond}
 use mathlib.Core.List.{List, [], _∷_}
-use lib.ListN.{length}
-use lib.Dec.{eqb, ltb}
+use lib.Dec.{eqb}
 use Rattle.reading.specs.declared.Outcome.{Outcome}
 use Rattle.reading.specs.declared.Outcome.the-variants.{Base, Experimental}
 
@@ -27,11 +25,3 @@ commandRow c = cond (eqb c 300) 0 (cond (eqb c 301) 1 (cond (eqb c 302) 2 (cond 
 unfoldable pub columnOf : Outcome → ℕ
 columnOf (Base n) = indexIn n baseResults
 columnOf (Experimental n) = 13 + indexIn n experimentalResults
-
--- a result that has a column
-unfoldable pub listed : Outcome → Bool
-listed (Base n) = ltb (indexIn n baseResults) (length baseResults)
-listed (Experimental n) = ltb (indexIn n experimentalResults) (length experimentalResults)
-
-abbrev pub Listed : Outcome → Type 0
-Listed o = listed o ≡ true

@@ -4,7 +4,8 @@ use reading::base;
 use reading::experimental;
 ghost use mathlib.Core.Path.{_≡_};
 ghost use Prim.Native.Nat.{_≤_, _<_};
-ghost use Rattle.counting.specs.Results.{baseResults, experimentalResults, indexIn, commandRow, columnOf, Listed};
+ghost use Rattle.counting.specs.Results.{baseResults, experimentalResults, indexIn, commandRow, columnOf};
+ghost use Rattle.counting.specs.Counting.{Listed};
 
 // The columns of X come after those of B.
 const EXPERIMENTAL_AT: usize = 13;

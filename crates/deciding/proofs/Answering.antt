@@ -2,7 +2,7 @@
 use Rattle.octets.specs.Standard.{ℕ, _≤_, List, _≡_, refl, sym, _∙_, inl, arith, length, ne-eqb}
 use Rattle.octets.specs.Run.{Wrote}
 use Rattle.table.specs.SoundTable.{SoundTable}
-use Rattle.vectors.specs.Chosen.{Sendable}
+use Rattle.vectors.specs.Sendable.{Sendable}
 use Rattle.vectors.specs.VectorFile.{SoundVectors}
 use Rattle.vectors.proofs.Sendable.{none-sendable}
 use Rattle.rewrite.specs.Change.{alteredUpTo}

@@ -7,8 +7,9 @@ use Rattle.vectors.specs.Chosen.{noneSent}
 use Rattle.vectors.specs.declared.choice.Sent.{Sent}
 use Rattle.lookup.specs.Find.{findPublic}
 use Rattle.lookup.specs.declared.Found.the-variants.{At}
-use Rattle.rewrite.specs.Change.{afterOf, reaches, Keeps}
-use Rattle.rewrite.specs.Renew.{Fitting}
+use Rattle.rewrite.specs.Change.{afterOf, reaches}
+use Rattle.rewrite.specs.Keeps.{Keeps}
+use Rattle.rewrite.specs.Fitting.{Fitting}
 use Rattle.diameter.specs.Avp.{dataOf}
 use Rattle.diameter.specs.Message.{bodyOf}
 use Rattle.reading.specs.Kinds.{userName, serverName, numberAuthItems}
@@ -17,7 +18,7 @@ use Rattle.reading.specs.Verdicts.{numberOf}
 use Rattle.reading.specs.declared.Dialect.{Dialect}
 use Rattle.reading.specs.declared.Outcome.{Outcome}
 use Rattle.reading.specs.declared.Verdict.{Verdict}
-use Rattle.counting.specs.Results.{Listed}
+use Rattle.counting.specs.Counting.{Listed}
 use Rattle.requests.specs.Request.{given, dataSeen, valueSeen, identities}
 use Rattle.choices.specs.Given.{blameless, givenOf, givenFault, givenSent}
 use Rattle.choices.specs.Plans.{only}
@@ -28,7 +29,8 @@ use Rattle.choices.specs.declared.plan.Settling.{Settling}
 use Rattle.questions.specs.Authentication.{toSend}
 use Rattle.assignment.specs.Assignment.{Assignment, storedName}
 use Rattle.deciding.specs.Plans.{assignmentOf}
-use Rattle.deciding.specs.Deeds.{settledBy, challengedBy, DeedFits}
+use Rattle.deciding.specs.Deeds.{settledBy, challengedBy}
+use Rattle.deciding.specs.DeedFits.{DeedFits}
 use Rattle.deciding.proofs.Read.{Fails}
 use Rattle.assignment.specs.declared.Meant.the-variants as meant
 

@@ -12,12 +12,13 @@ use Rattle.lookup.specs.declared.Found.the-variants.{At, Nothing}
 use Rattle.lookup.specs.Among.{Among}
 use Rattle.lookup.proofs.Among.{public-among}
 use Rattle.lookup.proofs.First.{first-stands}
-use Rattle.rewrite.specs.Renew.{settled, challenged, Fitting}
+use Rattle.rewrite.specs.Renew.{settled, challenged}
+use Rattle.rewrite.specs.Fitting.{Fitting}
 use Rattle.rewrite.proofs.Challenged.{challenged-keeps}
 use Rattle.rewrite.proofs.Settled.{settled-keeps}
 use Rattle.diameter.specs.Avp.{dataOf}
 use Rattle.diameter.specs.Message.{bodyOf}
-use Rattle.diameter.specs.Reader.{avpAt}
+use Rattle.diameter.specs.AvpAt.{avpAt}
 use Rattle.reading.specs.Kinds.{rowOf, known, useIn, userName, publicIdentity, serverName}
 use Rattle.reading.specs.Rules.{Seen}
 use Rattle.reading.specs.Verdicts.{numberOf}
@@ -25,7 +26,8 @@ use Rattle.reading.specs.declared.Dialect.{Dialect}
 use Rattle.reading.specs.declared.Outcome.{Outcome}
 use Rattle.reading.specs.declared.Outcome.the-variants.{Base, Experimental}
 use Rattle.reading.specs.declared.Verdict.{Verdict}
-use Rattle.counting.specs.Results.{baseResults, experimentalResults, indexIn, listed, Listed}
+use Rattle.counting.specs.Results.{baseResults, experimentalResults, indexIn}
+use Rattle.counting.specs.Counting.{listed, Listed}
 use Rattle.requests.specs.Identity.{placesFrom}
 use Rattle.requests.specs.Judged.{Judged, bad, fine}
 use Rattle.requests.specs.Request.{readIn, given, dataSeen, schemeOf, identities}

@@ -8,7 +8,8 @@ use Rattle.vectors.specs.Chosen.{sentOf}
 use Rattle.vectors.specs.Marked.{spent}
 use Rattle.vectors.specs.declared.choice.Sent.{Sent}
 use Rattle.rewrite.specs.Change.{afterOf, reaches, alteredUpTo}
-use Rattle.rewrite.specs.Renew.{settled, Fitting, changeOf, ChangeFits}
+use Rattle.rewrite.specs.Renew.{settled}
+use Rattle.rewrite.specs.Fitting.{Fitting, changeOf, ChangeFits}
 use Rattle.rewrite.specs.declared.Change.{Change}
 use Rattle.rewrite.specs.declared.Change.the-variants.{Challenged}
 use Rattle.rewrite.proofs.Counts.{altered-none}
@@ -32,7 +33,8 @@ use Rattle.questions.specs.Location.{locate}
 use Rattle.assignment.specs.Assignment.{findAll, numbersOf, ownedUpTo, assign, storedName, plannedRecords}
 use Rattle.assignment.specs.Survey.{sarOf}
 use Rattle.deciding.specs.Plans.{numbersIn, assignmentOf, uarPlan, sarPlan, lirPlan, marPlan}
-use Rattle.deciding.specs.Deeds.{carriedOut, spentBy, DeedFits}
+use Rattle.deciding.specs.Deeds.{carriedOut, spentBy}
+use Rattle.deciding.specs.DeedFits.{DeedFits}
 
 pub numbers-read : (t : List ℕ) (seen : Seen) {n already : ℕ} {kind : AssignmentType} {named keep : Bool} → n ≡ valueSeen seen assignmentType → kind ≡ typeOf n
     → already ≡ valueSeen seen dataAvailable → named ≡ given seen userName → keep ≡ eqb (keepOf (blockOf t 0)) 1

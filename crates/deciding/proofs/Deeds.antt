@@ -1,6 +1,6 @@
 -- What is to be written fits, what is to be sent can be sent, and what is given has room.
 use Rattle.octets.specs.Standard.{ℕ, List, _≡_, _⊎_, arith}
-use Rattle.vectors.specs.Chosen.{Sendable}
+use Rattle.vectors.specs.Sendable.{Sendable}
 use Rattle.vectors.specs.VectorFile.{SoundVectors}
 use Rattle.vectors.proofs.Sendable.{none-sendable, unused-sendable}
 use Rattle.reading.specs.Kinds.{userName, serverName}
@@ -12,7 +12,7 @@ use Rattle.choices.specs.declared.plan.Plan.{Plan}
 use Rattle.questions.specs.Authentication.{toSend}
 use Rattle.deciding.specs.Plans.{planRead}
 use Rattle.deciding.specs.Decide.{performedBy, decide}
-use Rattle.deciding.specs.Deeds.{DeedFits}
+use Rattle.deciding.specs.DeedFits.{DeedFits}
 use Rattle.deciding.proofs.Cases.{Blameless, Comes, tells, settles, challenges}
 use Rattle.deciding.proofs.Comes.{comes, decide-by}
 

@@ -5,7 +5,7 @@ use Rattle.octets.proofs.All.{and-left, and-right}
 use Rattle.octets.proofs.Chains.{chain-says}
 use Rattle.diameter.specs.Avp.{padded, avpHead, avpFlags, dataOf, valueOf, reserved, marked}
 use Rattle.diameter.specs.Message.{versionOf, messageFlags, applicationOf, bodyOf}
-use Rattle.diameter.specs.Reader.{present}
+use Rattle.diameter.specs.AvpAt.{present}
 use Rattle.diameter.specs.Walk.{Walk, ended, faulty, avp, walk}
 use Rattle.reading.specs.Contents.{numberFault, plainFault}
 use Rattle.reading.specs.Groups.{membersOf, gathers}
@@ -22,7 +22,8 @@ use Rattle.reading.specs.declared.Ruled.the-variants.{Taken, Skipped, Fault}
 use Rattle.reading.specs.declared.Use.{Use}
 use Rattle.reading.specs.declared.Use.the-variants.{Unknown, Unnamed, Needed, Optional, Repeated}
 use Rattle.reading.specs.declared.Verdict.{Verdict}
-use Rattle.counting.specs.Results.{baseResults, indexIn, listed, Listed}
+use Rattle.counting.specs.Results.{baseResults, indexIn}
+use Rattle.counting.specs.Counting.{listed, Listed}
 use Rattle.requests.specs.Judged.{Judged, bad, fine, nothing, onRule, judge}
 use Rattle.requests.specs.Request.{cx, spoken, headerFault, firstOther, missing, complete, readWalk, readIn}
 use Rattle.deciding.proofs.Tests.{either}

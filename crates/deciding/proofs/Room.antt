@@ -1,7 +1,7 @@
 -- Every answer fits: no request of at most 16,384 bytes has one of more than 36,864.
 use Rattle.octets.specs.Standard.{ℕ, _+_, _≤_, _%_, List, Option, some, _≡_, _⊎_, inl, inr, arith, length, drop, length-drop, ltb}
 use Rattle.table.specs.SoundTable.{SoundTable}
-use Rattle.vectors.specs.Chosen.{Sendable}
+use Rattle.vectors.specs.Sendable.{Sendable}
 use Rattle.vectors.specs.VectorFile.{SoundVectors}
 use Rattle.pen.specs.Bytes.{copiedSize}
 use Rattle.reading.specs.Verdicts.{numberOf}

@@ -3,7 +3,7 @@ use Prim.Native.Nat.{ℕ}
 use mathlib.Core.List.{List}
 use mathlib.Core.Path.{_≡_}
 use Rattle.octets.specs.Run.{Wrote}
-use Rattle.vectors.specs.Chosen.{Sendable}
+use Rattle.vectors.specs.Sendable.{Sendable}
 use Rattle.rewrite.specs.Change.{alteredUpTo}
 use Rattle.reading.specs.Kinds.{serverName}
 use Rattle.reading.specs.Rules.{Seen}
@@ -12,7 +12,7 @@ use Rattle.requests.specs.Request.{dataSeen}
 use Rattle.choices.specs.declared.plan.Plan.{Plan}
 use Rattle.answering.specs.Answer.{answerBytes}
 use Rattle.deciding.specs.Plans.{planRead}
-use Rattle.deciding.specs.Deeds.{DeedFits}
+use Rattle.deciding.specs.DeedFits.{DeedFits}
 use Rattle.deciding.specs.Decide.{decide}
 use Rattle.deciding.specs.declared.Told.{Told}
 

@@ -1,12 +1,11 @@
 -- What is to be written, carried out: the table and the vector file afterwards.
-use Prim.Native.Nat.{ℕ, _≤_}
+use Prim.Native.Nat.{ℕ}
 use mathlib.Core.List.{List, [], _∷_}
-use lib.ListN.{length}
 use Rattle.vectors.specs.Chosen.{sentOf}
 use Rattle.vectors.specs.Marked.{spent}
 use Rattle.vectors.specs.declared.choice.Sent.{Sent}
 use Rattle.rewrite.specs.Change.{afterOf, reaches}
-use Rattle.rewrite.specs.Renew.{settled, challenged, Fitting}
+use Rattle.rewrite.specs.Renew.{settled, challenged}
 use Rattle.reading.specs.Kinds.{serverName}
 use Rattle.reading.specs.Rules.{Seen}
 use Rattle.requests.specs.Request.{dataSeen}
@@ -34,9 +33,3 @@ unfoldable pub spentBy : List ℕ → Sent → Deed → List ℕ
 spentBy v sent Leave = v
 spentBy v sent (Settle w) = v
 spentBy v sent (Challenge k) = spent v (sentOf sent)
-
--- what is written fits a record: a row with its name; the name that a challenge stores in one of the records
-abbrev pub DeedFits : ℕ → List ℕ → Deed → Type 0
-DeedFits count server Leave = Unit
-DeedFits count server (Settle w) = Fitting (w .state) (storedName (w .named) server)
-DeedFits count server (Challenge k) = (1 ≤ k) × (k ≤ count) × (1 ≤ length server) × (length server ≤ 96)

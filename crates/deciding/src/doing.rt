@@ -11,15 +11,16 @@ use vectors::choice::Sent;
 use vectors::mark;
 ghost use mathlib.Core.Path.{_≡_};
 ghost use Rattle.table.specs.SoundTable.{SoundTable};
-ghost use Rattle.vectors.specs.Chosen.{Sendable};
+ghost use Rattle.vectors.specs.Sendable.{Sendable};
 ghost use Rattle.vectors.specs.VectorFile.{SoundVectors};
 ghost use Rattle.rewrite.specs.Change.{alteredUpTo};
-ghost use Rattle.rewrite.specs.Renew.{Fitting};
+ghost use Rattle.rewrite.specs.Fitting.{Fitting};
 ghost use Rattle.reading.specs.Kinds.{serverName};
 ghost use Rattle.reading.specs.Places.{seenOf};
 ghost use Rattle.requests.specs.Request.{dataSeen};
 ghost use Rattle.assignment.specs.Assignment.{storedName};
-ghost use Rattle.deciding.specs.Deeds.{carriedOut, spentBy, DeedFits};
+ghost use Rattle.deciding.specs.Deeds.{carriedOut, spentBy};
+ghost use Rattle.deciding.specs.DeedFits.{DeedFits};
 
 // The server name that a record gets.
 fn stored(named: bool, server: &[u8]) -> &[u8]

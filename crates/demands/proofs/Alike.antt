@@ -2,7 +2,7 @@
 use Rattle.octets.specs.Standard.{ℕ, List, [], _∷_, map, Bool, true, false, cond, _&&_, _≡_, refl, sym, ap, _∙_, _⊎_, inl, inr, arith, length, getD}
 use Rattle.octets.specs.Standard.{eqb, eqb-true, eqb-false}
 use Rattle.diameter.specs.Put.{All}
-use Rattle.diameter.specs.Reader.{avpAt}
+use Rattle.diameter.specs.AvpAt.{avpAt}
 use Rattle.reading.specs.Kinds.{publicIdentity}
 use Rattle.reading.specs.Rules.{Seen}
 use Rattle.reading.specs.declared.Dialect.{Dialect}

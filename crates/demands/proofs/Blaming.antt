@@ -18,7 +18,7 @@ use Rattle.answering.specs.Answer.{endBytes, restBytes, bodyBytes, answerBytes}
 use Rattle.deciding.specs.Rules.{inForce}
 use Rattle.deciding.specs.Decide.{Decision, faulted, performedBy, judgedBy, decideBy, decide}
 use Rattle.calling.specs.Lent.{Lent, dialectIn}
-use Rattle.ndushavire.specs.Word.{callPlace}
+use Rattle.ndushavire.specs.Reads.{callPlace}
 use Rattle.calling.specs.Serve.{checkOf, answered, serve, checkValue, resultOf}
 use Rattle.calling.proofs.Calls.{size-most, length-even}
 use Rattle.demands.specs.Call.{turnedAway}

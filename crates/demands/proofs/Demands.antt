@@ -10,12 +10,12 @@ use Rattle.vectors.specs.VectorFile.{checkVectors, SoundVectors}
 use Rattle.diameter.specs.Avp.{sound}
 use Rattle.diameter.specs.Put.{Piece, Whole, All}
 use Rattle.diameter.specs.Message.{commandOf}
-use Rattle.rewrite.specs.Change.{alterable}
+use Rattle.rewrite.specs.Keeps.{alterable}
 use Rattle.calling.specs.Call.{Answer, Answered, Refused}
 use Rattle.calling.specs.Lent.{Lent, asking, dialectIn}
 use Rattle.calling.specs.Serve.{wrongSize, wrongLength, checkOf, trials, answered, decision, serve}
-use Rattle.ndushavire.specs.Word.{callNumber, callValue, callWord}
-use Rattle.ndushavire.specs.Reads.{callIn, Reads, ReadsCheck, ReadsMove}
+use Rattle.ndushavire.specs.Word.{callWord}
+use Rattle.ndushavire.specs.Reads.{callNumber, callValue, callIn, Reads, ReadsCheck, ReadsMove}
 use Rattle.ndushavire.specs.Promise.{CheckPromise, CheckVectorsPromise, DecidePromise, ForwardPromise, BackPromise}
 use Rattle.moving.specs.Outcomes.{forward, back}
 use Rattle.demands.proofs.Firm.{check-said, check-vectors-said, forward-said, back-said}

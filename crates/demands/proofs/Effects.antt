@@ -1,7 +1,8 @@
 -- What a decision does to the table and the vectors: nothing, or one change of records of the subscription asked about, by a SAR or by a MAR.
 use Rattle.octets.specs.Standard.{ℕ, List, Option, some, true, _≡_, refl, ap, _∙_, _⊎_, inl, inr}
 use Rattle.table.specs.Named.{privateAt}
-use Rattle.rewrite.specs.Change.{afterOf, reaches, Keeps}
+use Rattle.rewrite.specs.Change.{afterOf, reaches}
+use Rattle.rewrite.specs.Keeps.{Keeps}
 use Rattle.reading.specs.declared.Dialect.{Dialect}
 use Rattle.reading.specs.Rules.{Seen}
 use Rattle.reading.specs.Verdicts.{numberOf}

@@ -4,7 +4,7 @@ use Rattle.octets.specs.Standard.{refl, sym, ap, _∙_, _⊎_, inl, inr, _≢_,
 use Rattle.octets.specs.Standard.{length-take-le, eqb, leb, eqb-true, eqb-false}
 use Rattle.diameter.specs.Avp.{padded, avpHead, avpFlags, avpLen, dataOf, valueOf, reserved, marked, sound}
 use Rattle.diameter.specs.Walk.{Walk, avp, walk}
-use Rattle.diameter.specs.Reader.{present, avpOf, avpAt}
+use Rattle.diameter.specs.AvpAt.{present, avpOf, avpAt}
 use Rattle.diameter.specs.Message.{bodyOf}
 use Rattle.diameter.proofs.Walks.{sound-says, padded-least, walk-nil, walk-sound, walk-faulty}
 use Rattle.reading.specs.Contents.{faultUnless, numberFault, plainFault}

@@ -12,10 +12,11 @@ use Rattle.vectors.proofs.Pieces.{piece-near}
 use Rattle.calling.specs.Call.{Answer, Answered, Refused}
 use Rattle.calling.specs.Lent.{Lent}
 use Rattle.calling.specs.Serve.{checkValue}
-use Rattle.ndushavire.specs.Word.{word, checkWord, callWord, numberIn, moveWord}
-use Rattle.ndushavire.specs.Reads.{Reads, ReadsCheck, ReadsMove}
+use Rattle.ndushavire.specs.Word.{word, checkWord, callWord, moveWord}
+use Rattle.ndushavire.specs.Reads.{numberIn, Reads, ReadsCheck, ReadsMove}
 use Rattle.ndushavire.proofs.Parts.{parts}
-use Rattle.moving.specs.Outcomes.{forward, back, ForwardRefuses, BackRefuses}
+use Rattle.moving.specs.Outcomes.{forward, back}
+use Rattle.moving.specs.Conditions.{ForwardRefuses, BackRefuses}
 use Rattle.moving.specs.declared.Move.{Move}
 use Rattle.moving.specs.declared.Move.the-variants.{Moved}
 use Rattle.moving.proofs.Moving.{forward-moved, forward-refuses, back-moved, back-refuses}

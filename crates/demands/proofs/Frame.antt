@@ -9,7 +9,8 @@ use Rattle.table.specs.Check.{checkTable}
 use Rattle.blocks.specs.declared.Checked.the-variants.{Sound}
 use Rattle.table.specs.SoundTable.{SoundTable}
 use Rattle.table.proofs.Sound.{sound-size}
-use Rattle.rewrite.specs.Change.{alterable, reaches, Kept}
+use Rattle.rewrite.specs.Change.{reaches}
+use Rattle.rewrite.specs.Keeps.{alterable, Kept}
 use Rattle.rewrite.proofs.Tables.{Keeping, keeping-same, kept-same, after-frame}
 use Rattle.diameter.specs.Message.{commandOf}
 use Rattle.blocks.specs.Changed.{isOne}

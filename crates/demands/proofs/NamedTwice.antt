@@ -6,7 +6,7 @@ use Rattle.table.specs.SoundTable.{SoundTable}
 use Rattle.diameter.specs.Walk.{Walk, ended, avp, walk}
 use Rattle.diameter.specs.Put.{glue, Piece, Whole, All, bytesOf, avpsOf}
 use Rattle.diameter.specs.Message.{bodyOf}
-use Rattle.diameter.specs.Reader.{avpAt}
+use Rattle.diameter.specs.AvpAt.{avpAt}
 use Rattle.diameter.proofs.Pieces.{walk-pieces, row-even, glue-glue, avps-joined}
 use Rattle.diameter.proofs.Walks.{walk-nil}
 use Rattle.reading.specs.Kinds.{kindOf, publicIdentity, userName, serverName, assignmentType, dataAvailable}

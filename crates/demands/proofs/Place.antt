@@ -9,7 +9,7 @@ use Rattle.requests.specs.Request.{headerFault, firstOther, readIn}
 use Rattle.failed.specs.Failing.{failedOf}
 use Rattle.calling.specs.Lent.{Lent, dialectIn}
 use Rattle.calling.specs.Serve.{Served, serve, resultOf}
-use Rattle.ndushavire.specs.Word.{callPlace, placeIn}
+use Rattle.ndushavire.specs.Reads.{callPlace, placeIn}
 use Rattle.ndushavire.specs.Promise.{DecidePromise}
 use Rattle.demands.specs.Call.{turnedAway}
 use Rattle.demands.specs.Frame.{succeeds}

@@ -10,8 +10,8 @@ use Rattle.calling.specs.Lent.{Lent, asking, dialectIn}
 use Rattle.calling.specs.Trial.{Trial}
 use Rattle.calling.specs.Serve.{Served, wrongSize, wrongLength, noRequest, isBad, unsound, checkOf, trials, refused, answered, decision, checkValue}
 use Rattle.calling.specs.Serve.{serveFound, serveBy, serve}
-use Rattle.ndushavire.specs.Word.{callNumber, callPlace, callValue, callWord}
-use Rattle.ndushavire.specs.Reads.{Reads}
+use Rattle.ndushavire.specs.Word.{callWord}
+use Rattle.ndushavire.specs.Reads.{callNumber, callPlace, callValue, Reads}
 use Rattle.calling.proofs.Calls.{size-least, size-most}
 use Rattle.demands.specs.Call.{turnedAway, answerTo, Fits, Exactly}
 use Rattle.demands.specs.Insertion.{placed}

@@ -4,7 +4,7 @@ use Rattle.octets.specs.Standard.{inl, inr, _≢_, length, getD, eqb, leb, eqb-
 use Rattle.blocks.specs.Changed.{isOne}
 use Rattle.diameter.specs.Avp.{padded, avpHead, avpFlags, dataOf, valueOf, reserved, marked}
 use Rattle.diameter.specs.Message.{versionOf, messageFlags, applicationOf, bodyOf}
-use Rattle.diameter.specs.Reader.{present}
+use Rattle.diameter.specs.AvpAt.{present}
 use Rattle.diameter.specs.Walk.{Walk, ended, faulty, avp, walk}
 use Rattle.reading.specs.Contents.{numberFault, plainFault}
 use Rattle.reading.specs.Groups.{membersOf, gathers}

@@ -6,7 +6,7 @@ use Rattle.blocks.specs.Blocks.{blockOf}
 use Rattle.table.specs.SoundTable.{SoundTable}
 use Rattle.blocks.specs.declared.Checked.the-variants.{Sound}
 use Rattle.rewrite.specs.Change.{differ}
-use Rattle.rewrite.specs.Renew.{changeOf}
+use Rattle.rewrite.specs.Fitting.{changeOf}
 use Rattle.rewrite.specs.declared.Change.the-variants.{Settled, Challenged}
 use Rattle.rewrite.proofs.Together.{altered-together}
 use Rattle.rewrite.proofs.Writes.{differ-same}
@@ -24,7 +24,8 @@ use Rattle.assignment.specs.Assignment.{Assignment, storedName, plannedRecords}
 use Rattle.deciding.specs.Plans.{assignmentOf, planRead}
 use Rattle.deciding.specs.Rules.{inForce}
 use Rattle.deciding.specs.Decide.{performedBy, judgedBy, decideBy, decide}
-use Rattle.deciding.specs.Deeds.{carriedOut, DeedFits}
+use Rattle.deciding.specs.Deeds.{carriedOut}
+use Rattle.deciding.specs.DeedFits.{DeedFits}
 use Rattle.deciding.proofs.Deeds.{plan-fits}
 use Rattle.calling.specs.Lent.{Lent, dialectIn}
 use Rattle.calling.specs.Serve.{checkOf, checkValue, refused, answered, serve}

@@ -8,7 +8,7 @@ use mathlib.Core.Logic.{_⊎_}
 use lib.ListN.{length, drop, set}
 use Rattle.octets.specs.Run.{over}
 use Rattle.diameter.specs.Avp.{padded, sound}
-use Rattle.diameter.specs.Reader.{avpAt}
+use Rattle.diameter.specs.AvpAt.{avpAt}
 use Rattle.diameter.specs.Message.{bodyOf}
 use Rattle.pen.specs.Groups.{failed}
 use Rattle.reading.specs.Kinds.{kindOf}

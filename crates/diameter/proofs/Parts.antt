@@ -5,7 +5,8 @@ use Rattle.octets.specs.Standard.{take-nil, take-take, take-length, getD-drop, 
 use Rattle.octets.specs.Number.{be32At}
 use Rattle.octets.proofs.Numbers.{be32-drop, be32-take}
 use Rattle.diameter.specs.Avp.{padded, headOf, avpCode, avpFlags, vendorOf, dataOf, valueOf}
-use Rattle.diameter.specs.Reader.{between, readOf, partAt, present, dataAt, ownOf, Here, Spans}
+use Rattle.diameter.specs.Reader.{between, readOf, ownOf, Here, Spans}
+use Rattle.diameter.specs.AvpAt.{partAt, present, dataAt}
 use Rattle.diameter.specs.Walk.{ended, faulty, avp, walk}
 use Rattle.diameter.specs.declared.Avp.{Avp}
 use Rattle.diameter.specs.declared.Read.{Read}

@@ -6,7 +6,8 @@ use Rattle.octets.specs.Number.{be24At, be32At}
 use Rattle.octets.proofs.Numbers.{be24-drop, be24-take, be32-take}
 use Rattle.diameter.specs.Avp.{padded, headOf, avpCode, avpFlags, avpHead, avpLen, vendorOf, sound}
 use Rattle.diameter.specs.Walk.{ended, faulty, avp, walk}
-use Rattle.diameter.specs.Reader.{between, avpHere, readOf, beginsAt, avpOf, partAt, ownOf, Here}
+use Rattle.diameter.specs.Reader.{between, avpHere, readOf, beginsAt, ownOf, Here}
+use Rattle.diameter.specs.AvpAt.{avpOf, partAt}
 use Rattle.diameter.specs.declared.Avp.{Avp}
 use Rattle.diameter.specs.declared.Read.{Read}
 use Rattle.diameter.proofs.Walks.{Sound, sound-says, sound-of, not-sound, walk-sound, walk-faulty, walk-nil, padded-least, head-least}

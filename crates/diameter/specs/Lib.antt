@@ -1,4 +1,5 @@
 pub mod Avp
+pub mod AvpAt
 pub mod Message
 pub mod Put
 pub mod Reader

@@ -6,7 +6,8 @@ ghost use mathlib.Core.Path.{_≡_};
 ghost use Prim.Native.Nat.{_+_, _≤_, _<_};
 ghost use lib.ListN.{length, drop};
 ghost use Rattle.diameter.specs.Avp.{padded, headOf, avpCode, vendorOf, dataOf, valueOf};
-ghost use Rattle.diameter.specs.Reader.{between, readOf, beginsAt, partAt, present, dataAt, ownOf, Here, Spans};
+ghost use Rattle.diameter.specs.Reader.{between, readOf, beginsAt, ownOf, Here, Spans};
+ghost use Rattle.diameter.specs.AvpAt.{partAt, present, dataAt};
 
 // The flags of an AVP; those under P are reserved.
 pub const V_FLAG: u8 = 128;

@@ -2,7 +2,7 @@
 use Rattle.octets.specs.Standard.{ℕ, _≤_, _≡_, refl, sym, _∙_, List, _++_, append-assoc, true, false, arith, length, take, drop, length-append}
 use Rattle.octets.specs.Standard.{take-all, take-at, take-append-le, eqb, le-leb, ne-eqb}
 use Rattle.diameter.specs.Avp.{avpHead, avpLen, sound}
-use Rattle.diameter.specs.Reader.{avpOf, avpAt}
+use Rattle.diameter.specs.AvpAt.{avpOf, avpAt}
 use Rattle.diameter.specs.Put.{Piece, Whole}
 use Rattle.diameter.proofs.Walks.{sound-says}
 use Rattle.diameter.proofs.Pieces.{same-len, same-head, sound-big}

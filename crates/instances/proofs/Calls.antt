@@ -12,8 +12,8 @@ use Rattle.requests.specs.Request.{underCx}
 use Rattle.calling.specs.Call.{Answered, Refused}
 use Rattle.calling.specs.Lent.{Lent, lent}
 use Rattle.calling.specs.Serve.{Served, trials, decision, serve}
-use Rattle.ndushavire.specs.Word.{word, callNumber, callValue, checkWord, callWord}
-use Rattle.ndushavire.specs.Reads.{Reads, ReadsCheck}
+use Rattle.ndushavire.specs.Word.{word, checkWord, callWord}
+use Rattle.ndushavire.specs.Reads.{callNumber, callValue, Reads, ReadsCheck}
 use Rattle.worked_examples.proofs.Computed.{known, come, held, roomy, no-vectors}
 use Rattle.worked_examples.proofs.Sample.{header, room, request, answer, s, z}
 use Rattle.demands.specs.Call.{turnedAway, answerTo}

@@ -9,7 +9,8 @@ use Rattle.requests.specs.Request.{dialectOf, underCx}
 use Rattle.calling.specs.Lent.{Lent, lent}
 use Rattle.calling.specs.Serve.{Served, serve, resultOf}
 use Rattle.blocks.specs.declared.Checked.the-variants.{Sound}
-use Rattle.ndushavire.specs.Word.{word, callPlace, callWord, placeIn}
+use Rattle.ndushavire.specs.Word.{word, callWord}
+use Rattle.ndushavire.specs.Reads.{callPlace, placeIn}
 use Rattle.worked_examples.proofs.Computed.{known, come, held, roomy, no-vectors}
 use Rattle.worked_examples.proofs.Sample.{header, room, answer, s}
 use Rattle.demands.specs.Insertion.{requestOf}

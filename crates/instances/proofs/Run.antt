@@ -5,7 +5,8 @@ use Rattle.blocks.specs.Blocks.{blockOf}
 use Rattle.blocks.specs.declared.Checked.{Checked}
 use Rattle.blocks.specs.declared.Checked.the-variants.{Sound}
 use Rattle.table.specs.Check.{checkTable}
-use Rattle.vectors.specs.Chosen.{countFrom, sentOf}
+use Rattle.vectors.specs.Chosen.{sentOf}
+use Rattle.vectors.specs.Sendable.{countFrom}
 use Rattle.vectors.specs.VectorFile.{checkVectors}
 use Rattle.blocks.specs.Changed.{isOne}
 use Rattle.pen.specs.Bytes.{vendorNumber}
@@ -16,7 +17,7 @@ use Rattle.calling.specs.Call.{Answered}
 use Rattle.calling.specs.Lent.{Lent, lent}
 use Rattle.calling.specs.Trial.{anyHolds}
 use Rattle.calling.specs.Serve.{Served, smallBuffer, checkValue, checkOf, trials, decision, decided, resultOf, serve}
-use Rattle.ndushavire.specs.Word.{callPlace}
+use Rattle.ndushavire.specs.Reads.{callPlace}
 use Rattle.vectors_sent.specs.Sent.{sentBy, Challenges, usedAt, remaining, itemsFrom, saidOf, answerWith}
 use Rattle.vectors_sent.specs.Row.{Turn, lending, leftBy, sentOver, Once}
 use Rattle.vectors_sent.proofs.Sending.{refusal-leaves, command-leaves, failure-leaves, only-success, others-stay, unsent-stay, sent-mark, sent-bytes}

@@ -10,7 +10,7 @@ use Rattle.blocks.specs.Blocks.{blockOf}
 use Rattle.blocks.proofs.Blocks.{block-length}
 use Rattle.vectors.specs.Scheme.{scheme}
 use Rattle.vectors.specs.VectorBlock.{vectorOf, randAutnOf, xresOf, confidentialityOf, integrityOf}
-use Rattle.vectors.specs.Chosen.{Sendable}
+use Rattle.vectors.specs.Sendable.{Sendable}
 use Rattle.vectors.specs.declared.choice.Sent.{Sent}
 use Rattle.items.specs.Items.{challengeBytes, keyBytes, keySize, itemBytes, itemSize, itemsBytes, numberedBytes, sentBytes}
 

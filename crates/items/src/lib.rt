@@ -7,7 +7,7 @@ ghost use mathlib.Core.List.{_++_};
 ghost use Prim.Native.Nat.{_+_, _≤_};
 ghost use lib.ListN.{length};
 ghost use Rattle.octets.specs.Run.{Wrote};
-ghost use Rattle.vectors.specs.Chosen.{Sendable};
+ghost use Rattle.vectors.specs.Sendable.{Sendable};
 ghost use Rattle.vectors.specs.VectorBlock.{vectorOf};
 ghost use Rattle.items.specs.Items.{challengeBytes, keyBytes, keySize, itemBytes, itemSize, itemsBytes, numberedBytes, sentBytes};
 

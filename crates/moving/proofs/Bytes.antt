@@ -10,7 +10,8 @@ use Rattle.record.specs.Fields.{editionOf, issueOf}
 use Rattle.blocks.specs.Sealed.{sealed}
 use Rattle.blocks.proofs.Sealed.{sealed-zero, sealed-length, seal-before, seal-alike}
 use Rattle.blocks.proofs.Changed.{Whole}
-use Rattle.moving.specs.Moves.{moved, movable}
+use Rattle.moving.specs.Moves.{moved}
+use Rattle.moving.specs.Carried.{movable}
 
 -- A byte that a move may not write, and where such bytes are.
 record Apart (i : ℕ) : Type 0 where

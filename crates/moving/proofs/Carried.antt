@@ -9,7 +9,8 @@ use Rattle.record.specs.RecordBlock.{recordOf, isRecord, soundSet}
 use Rattle.record.specs.declared.header.Header.{Header}
 use Rattle.record.proofs.Alike.{SameRun, run-within, run-half, run-word, run-zeros, networks-same}
 use Rattle.record.proofs.Tests.{RecordTests, HeaderTests, Limits, limits-say, Zeros, rest-says, rest-holds}
-use Rattle.moving.specs.Moves.{moved, Carried, recordWith, headerWith}
+use Rattle.moving.specs.Moves.{moved}
+use Rattle.moving.specs.Carried.{Carried, recordWith, headerWith}
 use Rattle.moving.proofs.Bytes.{stays-first, stays-last, moved-length, moved-other}
 
 pub moved-carried : (edition issue : ℕ) (b : List ℕ) → Carried b (moved edition issue b)

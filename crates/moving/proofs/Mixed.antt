@@ -11,7 +11,7 @@ use Rattle.blocks.specs.Blocks.{blockOf}
 use Rattle.table.specs.Check.{standsAt, soundAt, checkRecords, checkTable}
 use Rattle.blocks.specs.declared.Checked.the-variants.{Sound, Bad}
 use Rattle.table.proofs.Sound.{table-says}
-use Rattle.moving.specs.Outcomes.{Mixes}
+use Rattle.moving.specs.Conditions.{Mixes}
 use Rattle.blocks.proofs.First.{FirstNot, bad-holds}
 use Rattle.moving.proofs.Moved.{each-edition, each-issue}
 

@@ -21,7 +21,8 @@ use Rattle.blocks.proofs.Blocks.{block-length, block-bytes, table-is, table-sam
 use Rattle.table.proofs.Sound.{TableTests, table-holds, tests-record, tests-limits, tests-rises, tests-agrees}
 use Rattle.blocks.specs.Changed.{changedAt}
 use Rattle.blocks.proofs.Changed.{all-length, all-block}
-use Rattle.moving.specs.Moves.{moved, movedAll, Carried, headerWith}
+use Rattle.moving.specs.Moves.{moved, movedAll}
+use Rattle.moving.specs.Carried.{Carried, headerWith}
 use Rattle.moving.proofs.Bytes.{moved-whole, moved-edition, moved-issue, moved-sum, moved-twice}
 use Rattle.moving.proofs.Carried.{moved-carried, fields-run, set-same, header-same, record-kept, header-kept}
 use Rattle.moving.proofs.Same.{moved-same}

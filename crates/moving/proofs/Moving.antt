@@ -5,8 +5,8 @@ use Rattle.record.specs.Fields.{editionOf, issueOf}
 use Rattle.blocks.specs.Blocks.{blockOf}
 use Rattle.table.specs.Check.{checkTable}
 use Rattle.blocks.specs.declared.Checked.the-variants.{Sound, Bad}
-use Rattle.moving.specs.Outcomes.{AfterMove, came, refusing, moving, forward, back, OtherEdition, HasSets, WithoutSets, Mixes, ForwardMoves}
-use Rattle.moving.specs.Outcomes.{BackMoves, ForwardRefuses, BackRefuses, TableMoved}
+use Rattle.moving.specs.Outcomes.{AfterMove, came, refusing, moving, forward, back}
+use Rattle.moving.specs.Conditions.{OtherEdition, HasSets, WithoutSets, Mixes, ForwardMoves, BackMoves, ForwardRefuses, BackRefuses, TableMoved}
 use Rattle.moving.specs.declared.Move.{Move}
 use Rattle.moving.specs.declared.Move.the-variants.{Moved, Refused}
 use Rattle.moving.proofs.Outcomes as outcomes

@@ -14,10 +14,12 @@ use Rattle.blocks.specs.declared.Checked.{Checked}
 use Rattle.blocks.specs.declared.Checked.the-variants.{Sound, Bad}
 use Rattle.blocks.proofs.First.{good-each, all-good, FirstNot, bad-says, bad-holds}
 use Rattle.table.proofs.Sound.{TableTests, table-says, sound-networks, sound-place, tests-record, tests-limits}
-use Rattle.moving.specs.Moves.{movedAll, noSet, firstSet, Carried}
+use Rattle.moving.specs.Moves.{movedAll, noSet, firstSet}
+use Rattle.moving.specs.Carried.{Carried}
 use Rattle.moving.specs.Outcomes.{AfterMove, came, refusing, moving, forwardSound, backPast, backSound, forwardChecked, backChecked, forward}
-use Rattle.moving.specs.Outcomes.{back, ForwardMoves, BackMoves, ForwardRefuses, BackRefuses, FirstWithSet, WithoutSets, RecordMoved}
-use Rattle.moving.specs.Outcomes.{HeaderMoved, TableMoved}
+use Rattle.moving.specs.Outcomes.{back}
+use Rattle.moving.specs.Conditions.{ForwardMoves, BackMoves, ForwardRefuses, BackRefuses, FirstWithSet, WithoutSets, RecordMoved, HeaderMoved}
+use Rattle.moving.specs.Conditions.{TableMoved}
 use Rattle.moving.specs.declared.Move.{Move}
 use Rattle.moving.specs.declared.Move.the-variants.{Moved, Refused}
 use Rattle.moving.proofs.Carried.{first-run, fields-run, record-same, header-same, set-same}

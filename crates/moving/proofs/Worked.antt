@@ -19,7 +19,7 @@ use Rattle.blocks.specs.Sealed.{negated, sealed}
 use Rattle.blocks.specs.Changed.{changedAt, changedAll}
 use Rattle.moving.specs.Moves.{moved, movedAll, noSet, firstSet}
 use Rattle.moving.specs.Outcomes.{came, refusing, moving, forwardSound, backPast, backSound, forwardChecked, backChecked, forward, back}
-use Rattle.moving.specs.Outcomes.{OtherEdition, HasSets, WithoutSets, Mixes, ForwardMoves, BackMoves, ForwardRefuses, BackRefuses, TableMoved}
+use Rattle.moving.specs.Conditions.{OtherEdition, HasSets, WithoutSets, Mixes, ForwardMoves, BackMoves, ForwardRefuses, BackRefuses, TableMoved}
 use Rattle.moving.specs.declared.Move.the-variants.{Moved}
 use Rattle.moving.proofs.Moving as page
 

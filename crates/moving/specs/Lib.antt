@@ -1,2 +1,4 @@
+pub mod Carried
+pub mod Conditions
 pub mod Moves
 pub mod Outcomes

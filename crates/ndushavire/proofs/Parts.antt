@@ -1,6 +1,7 @@
 -- What is put into a word is read out of it: the number, the place, the value.
 use Rattle.octets.specs.Standard.{ℕ, _+_, _*_, _/_, _<_, _≡_, arith}
-use Rattle.ndushavire.specs.Word.{word, numberIn, placeIn, valueIn}
+use Rattle.ndushavire.specs.Word.{word}
+use Rattle.ndushavire.specs.Reads.{numberIn, placeIn, valueIn}
 
 pub record Parts (number place value : ℕ) : Type 0 where
   pub number-is : numberIn (word number place value) ≡ number

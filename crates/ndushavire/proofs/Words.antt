@@ -3,10 +3,9 @@ use Rattle.octets.specs.Standard.{ℕ, _≡_, _∙_, ap, List, length}
 use Rattle.table.specs.Check.{checkTable}
 use Rattle.blocks.specs.declared.Checked.{Checked}
 use Rattle.vectors.specs.VectorFile.{checkVectors}
-use Rattle.calling.specs.Call.{callOf}
+use Rattle.calling.specs.Leaves.{callOf, Leaves}
 use Rattle.calling.specs.Lent.{Lent}
 use Rattle.calling.specs.Serve.{serve}
-use Rattle.calling.specs.Leaves.{Leaves}
 use Rattle.calling.specs.declared.Came.{Came}
 use Rattle.moving.specs.Outcomes.{AfterMove, came, forward, back}
 use Rattle.moving.specs.declared.Move.{Move}

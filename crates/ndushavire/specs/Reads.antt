@@ -1,16 +1,52 @@
 -- The word that a call returned, read back, and what it says.
-use Prim.Native.Nat.{ℕ}
+use Prim.Native.Nat.{ℕ, _/_, _%_}
 use mathlib.Core.Bool.{Bool, true, false}
 use mathlib.Core.Path.{_≡_}
 use lib.Dec.{eqb}
 use Rattle.blocks.specs.declared.Checked.{Checked}
 use Rattle.blocks.specs.declared.Checked.the-variants.{Sound, Bad}
-use Rattle.calling.specs.Call.{Call}
-use Rattle.calling.specs.Call.{Answered, Refused}
+use Rattle.calling.specs.Call.{Call, Answered, Refused}
 use Rattle.calling.specs.Serve.{checkValue}
 use Rattle.moving.specs.declared.Move.{Move}
 use Rattle.moving.specs.declared.Move.the-variants as move
-use Rattle.ndushavire.specs.Word.{numberIn, placeIn, valueIn, checkNumber, callNumber, callPlace, callValue, moveNumber, moveValue}
+use Rattle.moving.specs.declared.Move.the-variants.{Moved}
+use Rattle.ndushavire.specs.Word.{numberUnit, placeUnit}
+
+-- read back: bits 48 to 63, 32 to 47 and 0 to 31
+abbrev pub numberIn : ℕ → ℕ
+numberIn w = w / numberUnit
+
+abbrev pub placeIn : ℕ → ℕ
+placeIn w = w / placeUnit % 65536
+
+abbrev pub valueIn : ℕ → ℕ
+valueIn w = w % placeUnit
+
+abbrev pub checkNumber : ℕ → Checked → ℕ
+checkNumber number (Sound count) = 0
+checkNumber number (Bad block) = number
+
+-- a call: number 0 with the place and the answer's length; a refusal's number with what it returns besides
+abbrev pub callNumber : Call → ℕ
+callNumber (Answered a) = 0
+callNumber (Refused number besides) = number
+
+abbrev pub callPlace : Call → ℕ
+callPlace (Answered a) = a .place
+callPlace (Refused number besides) = 0
+
+abbrev pub callValue : Call → ℕ
+callValue (Answered a) = a .length
+callValue (Refused number besides) = besides
+
+-- a move: number 0 with the count of records; a refusal's number with the block
+abbrev pub moveNumber : Move → ℕ
+moveNumber (Moved count) = 0
+moveNumber (move.Refused number block) = number
+
+abbrev pub moveValue : Move → ℕ
+moveValue (Moved count) = count
+moveValue (move.Refused number block) = block
 
 abbrev pub callBy : Bool → ℕ → ℕ → ℕ → Call
 callBy true number place value = Answered (record { length = value; place = place })

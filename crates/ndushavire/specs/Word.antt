@@ -1,5 +1,5 @@
 -- The word that a call returns: its number times 2^48, the place of the AVP at fault times 2^32, and what it returns besides below that.
-use Prim.Native.Nat.{ℕ, _+_, _*_, _/_, _%_}
+use Prim.Native.Nat.{ℕ, _+_, _*_}
 use Rattle.calling.specs.Call.{Call}
 use Rattle.calling.specs.Call.{Answered, Refused}
 use Rattle.moving.specs.declared.Move.{Move}
@@ -17,50 +17,14 @@ placeUnit = 4294967296
 abbrev pub word : ℕ → ℕ → ℕ → ℕ
 word number place value = number * numberUnit + place * placeUnit + value
 
--- read back: bits 48 to 63, 32 to 47 and 0 to 31
-abbrev pub numberIn : ℕ → ℕ
-numberIn w = w / numberUnit
-
-abbrev pub placeIn : ℕ → ℕ
-placeIn w = w / placeUnit % 65536
-
-abbrev pub valueIn : ℕ → ℕ
-valueIn w = w % placeUnit
-
 -- a sound file: number 0 with the count; an unsound one: its refusal's number (the table's is 5, the vector file's 6), with the first bad block
 abbrev pub checkWord : ℕ → Checked → ℕ
 checkWord number (Sound count) = word 0 0 count
 checkWord number (Bad block) = word number 0 block
 
-abbrev pub checkNumber : ℕ → Checked → ℕ
-checkNumber number (Sound count) = 0
-checkNumber number (Bad block) = number
-
--- a call: number 0 with the place and the answer's length; a refusal's number with what it returns besides
-abbrev pub callNumber : Call → ℕ
-callNumber (Answered a) = 0
-callNumber (Refused number besides) = number
-
-abbrev pub callPlace : Call → ℕ
-callPlace (Answered a) = a .place
-callPlace (Refused number besides) = 0
-
-abbrev pub callValue : Call → ℕ
-callValue (Answered a) = a .length
-callValue (Refused number besides) = besides
-
 abbrev pub callWord : Call → ℕ
 callWord (Answered a) = word 0 (a .place) (a .length)
 callWord (Refused number besides) = word number 0 besides
-
--- a move: number 0 with the count of records; a refusal's number with the block
-abbrev pub moveNumber : Move → ℕ
-moveNumber (Moved count) = 0
-moveNumber (move.Refused number block) = number
-
-abbrev pub moveValue : Move → ℕ
-moveValue (Moved count) = count
-moveValue (move.Refused number block) = block
 
 abbrev pub moveWord : Move → ℕ
 moveWord (Moved count) = word 0 0 count

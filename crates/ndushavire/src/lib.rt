@@ -8,7 +8,7 @@ use moving::Move;
 use reading::Terms;
 ghost use mathlib.Core.Path.{_≡_};
 ghost use Rattle.requests.specs.Request.{underCx};
-ghost use Rattle.calling.specs.Call.{callOf};
+ghost use Rattle.calling.specs.Leaves.{callOf};
 ghost use Rattle.calling.specs.Lent.{lent};
 ghost use Rattle.ndushavire.specs.Word.{checkWord, callWord, moveWord};
 ghost use Rattle.ndushavire.specs.Promise.{CheckPromise, CheckVectorsPromise, DecidePromise, ReportPromise};

@@ -1,6 +1,7 @@
 // The word that a call returns: made of its parts, and taken apart by who called.
 ghost use mathlib.Core.Path.{_≡_};
-ghost use Rattle.ndushavire.specs.Word.{word, numberIn, valueIn};
+ghost use Rattle.ndushavire.specs.Word.{word};
+ghost use Rattle.ndushavire.specs.Reads.{numberIn, valueIn};
 
 // What the number of a word counts, 2^48, and what the place counts, 2^32; the value stays below that.
 const NUMBER: u64 = 281474976710656;

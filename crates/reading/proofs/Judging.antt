@@ -3,7 +3,8 @@ use Rattle.octets.specs.Standard.{ℕ, zero, suc, _+_, _-_, _/_, _%_, _<_, not-
 use Rattle.octets.specs.Standard.{Bool, false, _&&_, length, getD, leb, eq-eqb, ne-eqb}
 use Rattle.diameter.specs.Avp.{dataOf, valueOf}
 use Rattle.diameter.specs.Walk.{walk}
-use Rattle.diameter.specs.Reader.{partAt, present, ownOf, Here}
+use Rattle.diameter.specs.Reader.{ownOf, Here}
+use Rattle.diameter.specs.AvpAt.{partAt, present}
 use Rattle.diameter.specs.declared.Avp.{Avp}
 use Rattle.diameter.proofs.Parts.{counted, data-length}
 use Rattle.diameter.proofs.Reading.{own-flags, own-avpHead}

@@ -1,7 +1,7 @@
 -- Places in a message stand for the AVPs there.
 use Prim.Native.Nat.{ℕ}
 use mathlib.Core.List.{List, map}
-use Rattle.diameter.specs.Reader.{partAt}
+use Rattle.diameter.specs.AvpAt.{partAt}
 use Rattle.reading.specs.Rules.{Seen}
 
 -- the AVPs at the places of the kinds

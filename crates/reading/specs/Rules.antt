@@ -7,7 +7,7 @@ use lib.ListN.{getD}
 use lib.Dec.{eqb}
 use Rattle.diameter.specs.Avp.{avpFlags, dataOf, reserved, marked}
 use Rattle.diameter.specs.Walk.{walk}
-use Rattle.diameter.specs.Reader.{present}
+use Rattle.diameter.specs.AvpAt.{present}
 use Rattle.reading.specs.declared.Content.{Content}
 use Rattle.reading.specs.declared.Content.the-variants.{Free, Number, Sized, Members}
 use Rattle.reading.specs.declared.Dialect.{Dialect}

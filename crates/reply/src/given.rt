@@ -7,7 +7,7 @@ ghost use Prim.Native.Nat.{_≤_};
 ghost use lib.ListN.{length};
 ghost use Rattle.octets.specs.Run.{Wrote};
 ghost use Rattle.table.specs.SoundTable.{SoundTable};
-ghost use Rattle.vectors.specs.Chosen.{Sendable};
+ghost use Rattle.vectors.specs.Sendable.{Sendable};
 ghost use Rattle.items.specs.Items.{sentBytes};
 ghost use Rattle.reply.specs.Pieces.{identityBytes, nameBytes, dataBytes, givenBytes};
 

@@ -7,12 +7,14 @@ use Rattle.blocks.specs.declared.Checked.{Checked}
 use Rattle.blocks.specs.declared.Checked.the-variants.{Sound}
 use Rattle.reading.specs.declared.Outcome.the-variants.{Base}
 use Rattle.reading.specs.Verdicts.{numberOf}
-use Rattle.counting.specs.Results.{columnOf, listed}
+use Rattle.counting.specs.Results.{columnOf}
+use Rattle.counting.specs.Counting.{listed}
 use Rattle.counting.specs.Words.{longBytes}
 use Rattle.requests.specs.Request.{underCx}
 use Rattle.calling.specs.Lent.{Lent, lent, asking}
 use Rattle.calling.specs.Serve.{serve, checkValue, decision, resultOf}
-use Rattle.ndushavire.specs.Word.{word, callWord, placeIn, valueIn}
+use Rattle.ndushavire.specs.Word.{word, callWord}
+use Rattle.ndushavire.specs.Reads.{placeIn, valueIn}
 use Rattle.ndushavire.specs.Promise.{ReportPromise}
 use Rattle.reporting.specs.Pieces.{stopOf}
 use Rattle.reporting.specs.Row.{eventOf, row, left}

@@ -13,7 +13,8 @@ use Rattle.counting.specs.declared.Event.{Event}
 use Rattle.counting.proofs.Counts.{counts-length, counts-at}
 use Rattle.calling.specs.Lent.{Lent, asking, lent}
 use Rattle.calling.specs.Serve.{Served, serve}
-use Rattle.ndushavire.specs.Word.{word, numberIn}
+use Rattle.ndushavire.specs.Word.{word}
+use Rattle.ndushavire.specs.Reads.{numberIn}
 use Rattle.ndushavire.specs.Promise.{ReportPromise}
 use Rattle.reporting.specs.Pieces.{stopOf}
 use Rattle.reporting.specs.Row.{eventBy, eventOf, row}

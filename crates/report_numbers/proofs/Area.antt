@@ -4,8 +4,8 @@ use Rattle.octets.specs.Standard.{mod-eq-of-lt, length, getD, take, drop, lengt
 use Rattle.octets.specs.Standard.{eqb-true, eqb-false}
 use Rattle.octets.specs.Run.{over}
 use Rattle.counting.specs.Counted.{howMany, largestIn, numberAt, wordAt, countsOf}
-use Rattle.counting.specs.Layout.{readWord, stopWord, alteredWord, largestWord, answeredWord, refusalWord, cellWord, sumFrom}
-use Rattle.counting.specs.Totals.{rowTotals}
+use Rattle.counting.specs.Layout.{readWord, stopWord, alteredWord, largestWord, answeredWord, refusalWord, cellWord}
+use Rattle.counting.specs.Totals.{sumFrom, rowTotals}
 use Rattle.counting.specs.Words.{longBytes, wordsBytes}
 use Rattle.counting.proofs.Counts.{counts-length, counts-at}
 use Rattle.counting.proofs.Numbers.{word-largest, word-other, exact}

@@ -5,8 +5,9 @@ use Rattle.octets.proofs.All.{and-left, and-right}
 use Rattle.octets.proofs.Chains.{_also_}
 use Rattle.reading.specs.declared.Outcome.{Outcome}
 use Rattle.reading.specs.declared.Outcome.the-variants.{Base, Experimental}
-use Rattle.counting.specs.Results.{baseResults, experimentalResults, indexIn, commandRow, columnOf, listed, Listed}
-use Rattle.counting.specs.Counted.{cellOf, Fits, AllFit, standsIn, howMany, numberAt}
+use Rattle.counting.specs.Results.{baseResults, experimentalResults, indexIn, commandRow, columnOf}
+use Rattle.counting.specs.Counting.{listed, Listed, Fits, AllFit}
+use Rattle.counting.specs.Counted.{cellOf, standsIn, howMany, numberAt}
 use Rattle.counting.specs.Layout.{refusalWord, cellWord}
 use Rattle.counting.specs.declared.Event.{Event}
 use Rattle.counting.specs.declared.Event.the-variants.{Answered, Refused}

@@ -3,7 +3,8 @@ use Rattle.octets.specs.Standard.{ℕ, _+_, _*_, _%_, _^_, _≤_, _<_, List, []
 use Rattle.octets.specs.Standard.{arith, length, eqb, eqb-true}
 use Rattle.diameter.specs.Message.{commandOf}
 use Rattle.reading.specs.declared.Outcome.the-variants.{Base}
-use Rattle.counting.specs.Results.{baseResults, indexIn, commandRow, columnOf, listed, Listed}
+use Rattle.counting.specs.Results.{baseResults, indexIn, commandRow, columnOf}
+use Rattle.counting.specs.Counting.{listed, Listed}
 use Rattle.counting.specs.Counted.{howMany}
 use Rattle.counting.proofs.Columns.{listed-column}
 use Rattle.counting.proofs.Numbers.{word-other}

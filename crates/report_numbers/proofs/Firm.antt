@@ -1,7 +1,7 @@
 -- How firm the report's promise is: it leaves one outcome for each input, and the word returned decides the number.
 use Rattle.octets.specs.Standard.{ℕ, List, _≡_, sym, _∙_, arith}
 use Rattle.calling.specs.Lent.{Lent}
-use Rattle.ndushavire.specs.Word.{numberIn, placeIn, valueIn}
+use Rattle.ndushavire.specs.Reads.{numberIn, placeIn, valueIn}
 use Rattle.ndushavire.specs.Promise.{ReportPromise}
 use Rattle.ndushavire.proofs.Parts.{Parts, parts}
 use Rattle.reporting.specs.Report.{reported}

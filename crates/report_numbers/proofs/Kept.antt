@@ -5,7 +5,7 @@ use Rattle.blocks.specs.Blocks.{blockOf}
 use Rattle.table.specs.Check.{checkTable}
 use Rattle.blocks.specs.declared.Checked.the-variants.{Sound, Bad}
 use Rattle.vectors.specs.VectorFile.{checkVectors}
-use Rattle.rewrite.specs.Change.{alterable}
+use Rattle.rewrite.specs.Keeps.{alterable}
 use Rattle.diameter.specs.Message.{commandOf}
 use Rattle.deciding.proofs.Tests.{neither}
 use Rattle.counting.specs.declared.Event.{Event}

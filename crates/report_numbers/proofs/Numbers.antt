@@ -7,16 +7,17 @@ use Rattle.blocks.specs.Blocks.{blockOf}
 use Rattle.table.specs.Check.{checkTable}
 use Rattle.blocks.specs.declared.Checked.the-variants.{Sound, Bad}
 use Rattle.vectors.specs.VectorFile.{checkVectors}
-use Rattle.rewrite.specs.Change.{alterable}
+use Rattle.rewrite.specs.Keeps.{alterable}
 use Rattle.reading.specs.declared.Outcome.{Outcome}
 use Rattle.diameter.specs.Put.{All}
-use Rattle.counting.specs.Results.{columnOf, Listed}
+use Rattle.counting.specs.Results.{columnOf}
+use Rattle.counting.specs.Counting.{Listed}
 use Rattle.counting.specs.Counted.{howMany, numberAt, wordAt}
 use Rattle.counting.specs.Layout.{readWord, stopWord, alteredWord, largestWord, answeredWord, refusalWord, cellWord}
 use Rattle.counting.specs.Words.{longBytes}
 use Rattle.calling.specs.Lent.{Lent, asking}
 use Rattle.calling.specs.Serve.{checkOf, serve, resultOf}
-use Rattle.ndushavire.specs.Word.{numberIn, placeIn, valueIn}
+use Rattle.ndushavire.specs.Reads.{numberIn, placeIn, valueIn}
 use Rattle.ndushavire.specs.Promise.{DecidePromise, ReportPromise}
 use Rattle.reporting.specs.Pieces.{stopOf}
 use Rattle.reporting.specs.Row.{eventOf, row, left}

@@ -2,7 +2,7 @@
 use Prim.Native.Nat.{ℕ, _+_, _*_}
 use mathlib.Core.List.{List}
 use Rattle.octets.specs.Number.{be32At}
-use Rattle.counting.specs.Layout.{rowsSum, refusalsSum}
+use Rattle.counting.specs.Totals.{rowsSum, refusalsSum}
 
 unfoldable pub wordIn : List ℕ → ℕ → ℕ
 wordIn area i = be32At area (8 * i) * 4294967296 + be32At area (8 * i + 4)

@@ -3,7 +3,8 @@ use Rattle.octets.specs.Standard.{ℕ, zero, suc, _≤_, _<_, List, [], _∷_, 
 use Rattle.octets.specs.Standard.{length-drop, ltb, lt-ltb, le-ltb, ltb-false}
 use Rattle.octets.specs.Number.{be24At}
 use Rattle.deciding.proofs.Tests.{neither}
-use Rattle.reporting.specs.Pieces.{broken, firstLength, piecesIn, pieces}
+use Rattle.reporting.specs.Pieces.{broken, piecesIn, pieces}
+use Rattle.reporting.specs.Run.{firstLength}
 
 -- where a request stands: its length is at least 20 and it ends within the file
 record Whole (s : List ℕ) : Type 0 where

@@ -3,7 +3,7 @@ use Rattle.octets.specs.Standard.{ℕ, List, _≡_, ap, _∙_, arith, length}
 use Rattle.table.specs.Check.{checkTable}
 use Rattle.blocks.specs.declared.Checked.{Checked}
 use Rattle.reading.specs.declared.Terms.{Terms}
-use Rattle.counting.specs.Counted.{Fits, counted}
+use Rattle.counting.specs.Counting.{Fits, counted}
 use Rattle.counting.specs.declared.Event.{Event}
 use Rattle.deciding.proofs.Comes.{decide-carries}
 use Rattle.calling.specs.Lent.{Lent, lent, dialectIn}
@@ -11,7 +11,8 @@ use Rattle.calling.specs.Serve.{Served, checkOf, checkValue, refused, answered,
 use Rattle.calling.specs.Leaves.{Leaves}
 use Rattle.calling.specs.declared.Came.{Came}
 use Rattle.calling.proofs.Kept.{serve-by}
-use Rattle.reporting.specs.Row.{eventBy, eventOf, eventFrom}
+use Rattle.reporting.specs.Row.{eventBy, eventOf}
+use Rattle.reporting.specs.Run.{eventFrom}
 use Rattle.reporting.specs.Counts.{Counts}
 use Rattle.calling.specs.declared.Came.the-variants as came
 

@@ -5,10 +5,11 @@ use Rattle.table.specs.Check.{checkTable}
 use Rattle.blocks.specs.declared.Checked.{Checked}
 use Rattle.vectors.specs.VectorFile.{checkVectors}
 use Rattle.reading.specs.declared.Terms.{Terms}
-use Rattle.counting.specs.Counted.{countedAll}
+use Rattle.counting.specs.Counting.{countedAll}
 use Rattle.calling.specs.Lent.{Lent, lent}
 use Rattle.calling.proofs.Kept.{table-checked, vectors-checked}
-use Rattle.reporting.specs.Pieces.{firstLength, pieces, totalOf, stopOf}
+use Rattle.reporting.specs.Pieces.{pieces, totalOf, stopOf}
+use Rattle.reporting.specs.Run.{firstLength}
 use Rattle.reporting.specs.Row.{next, row, left}
 use Rattle.reporting.specs.Report.{requestsOf}
 use Rattle.reporting.specs.Counts.{Counts, Runs}

@@ -1,7 +1,7 @@
 -- The whole report, from the run.
 use Rattle.octets.specs.Standard.{ℕ, _≤_, _<_, List, [], _∷_, cond, _≡_, ap, _∙_, length, set, length-set, eqb, lt-ltb, le-ltb, eq-eqb, ne-eqb}
 use Rattle.octets.specs.Run.{Wrote}
-use Rattle.counting.specs.Counted.{AllFit, noCounts}
+use Rattle.counting.specs.Counting.{AllFit, noCounts}
 use Rattle.counting.specs.Words.{wordsBytes}
 use Rattle.counting.proofs.Counts.{all-length, none-length, counted-counts}
 use Rattle.reading.specs.declared.Terms.{Terms}

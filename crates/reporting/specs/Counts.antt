@@ -2,7 +2,7 @@
 use Prim.Native.Nat.{ℕ}
 use mathlib.Core.Path.{_≡_}
 use mathlib.Core.List.{List}
-use Rattle.counting.specs.Counted.{counted, countedAll}
+use Rattle.counting.specs.Counting.{counted, countedAll}
 use Rattle.calling.specs.Lent.{Lent}
 use Rattle.calling.specs.Serve.{serve}
 use Rattle.reporting.specs.Pieces.{stopOf}

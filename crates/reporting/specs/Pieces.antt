@@ -10,10 +10,6 @@ use Rattle.octets.specs.Number.{be24At}
 unfoldable pub broken : List ℕ → Bool
 broken s = ltb (length s) 4 || (ltb (be24At s 1) 20 || ltb (length s) (be24At s 1))
 
--- the length of the request that stands first, 0 if none does
-unfoldable pub firstLength : List ℕ → ℕ
-firstLength s = cond (broken s) 0 (be24At s 1)
-
 -- at most so many pieces; each has bytes, so as many as the file has bytes are enough
 unfoldable pub piecesIn : ℕ → List ℕ → List (List ℕ)
 piecesIn zero s = []

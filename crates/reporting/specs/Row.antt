@@ -8,8 +8,6 @@ use Rattle.counting.specs.declared.Event.the-variants as event
 use Rattle.calling.specs.Call.{Call, Answered, Refused}
 use Rattle.calling.specs.Lent.{Lent, lent, asking}
 use Rattle.calling.specs.Serve.{checkOf, checkValue, resultOf, serve}
-use Rattle.calling.specs.declared.Came.{Came}
-use Rattle.calling.specs.declared.Came.the-variants as came
 
 -- "records altered, once per request": those whose bytes are others in the table that the call leaves
 abbrev pub recordsAltered : Lent → ℕ
@@ -35,9 +33,3 @@ row x (p ∷ ps) = eventOf (asking x p) ∷ row (next x p) ps
 unfoldable pub left : Lent → List (List ℕ) → Lent
 left x [] = x
 left x (p ∷ ps) = left (next x p) ps
-
--- the same from what the code says of a call
-abbrev pub eventFrom : Came → Event
-eventFrom (came.Answered told) =
-    event.Answered (record { command = told .command; result = told .result; length = told .length; altered = told .altered })
-eventFrom (came.Refused number besides) = event.Refused number

@@ -15,8 +15,8 @@ ghost use lib.ListN.{length};
 ghost use Rattle.table.specs.Check.{checkTable};
 ghost use Rattle.vectors.specs.VectorFile.{checkVectors};
 ghost use Rattle.calling.specs.Lent.{lent};
-ghost use Rattle.reporting.specs.Pieces.{firstLength};
-ghost use Rattle.reporting.specs.Row.{eventFrom};
+ghost use Rattle.reporting.specs.Run.{firstLength};
+ghost use Rattle.reporting.specs.Run.{eventFrom};
 ghost use Rattle.reporting.specs.Counts.{Runs, Counts, Reports};
 
 // The two ways in which a report does not end well, by their numbers.

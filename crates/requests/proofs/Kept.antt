@@ -5,7 +5,7 @@ use Rattle.octets.specs.Standard.{replicate, eqb, leb, eqb-true, leb-true, ne-e
 use Rattle.octets.proofs.All.{and-left, and-right}
 use Rattle.diameter.specs.Avp.{padded, avpFlags, dataOf, reserved, marked}
 use Rattle.diameter.specs.Walk.{Walk, ended, faulty, avp}
-use Rattle.diameter.specs.Reader.{present}
+use Rattle.diameter.specs.AvpAt.{present}
 use Rattle.reading.specs.declared.Content.the-variants.{Sized}
 use Rattle.reading.specs.declared.Dialect.{Dialect}
 use Rattle.reading.specs.declared.Kind.{Kind}

@@ -4,14 +4,16 @@ use Rattle.octets.specs.Standard.{drop, eqb, ne-eqb}
 use Rattle.diameter.specs.Avp.{padded, sound}
 use Rattle.diameter.specs.Walk.{Walk, walk}
 use Rattle.diameter.specs.Put.{All}
-use Rattle.diameter.specs.Reader.{avpHere, readOf, avpAt, ownOf}
+use Rattle.diameter.specs.Reader.{avpHere, readOf, ownOf}
+use Rattle.diameter.specs.AvpAt.{avpAt}
 use Rattle.diameter.specs.declared.Avp.{Avp}
 use Rattle.diameter.specs.declared.Read.{Read}
 use Rattle.diameter.proofs.Reading.{Says, read-says, read-unsound, walk-past}
 use Rattle.diameter.proofs.Parts.{counted}
 use Rattle.reading.specs.Kinds.{kindOf, publicIdentity}
 use Rattle.requests.specs.Request.{identities}
-use Rattle.requests.specs.Identity.{placesFrom, placesBy, Stands, Named}
+use Rattle.requests.specs.Identity.{placesFrom}
+use Rattle.requests.specs.NextIdentity.{placesBy, Stands, Named}
 use Rattle.requests.specs.declared.identities.Next.{Next}
 use Rattle.requests.specs.declared.identities.Next.the-variants.{At, Nothing}
 use Rattle.requests.proofs.Requests.{at-fault}

@@ -1,7 +1,8 @@
 -- A kind's AVP is what stands at the kind's place.
 use Rattle.octets.specs.Standard.{ℕ, _<_, _≡_, refl, sym, _∙_, List, Option, none, some, Bool, length, getD, drop, drop-nil}
 use Rattle.diameter.specs.Avp.{headOf, dataOf, valueOf}
-use Rattle.diameter.specs.Reader.{readOf, partAt, present, orNone, dataAt, ownOf}
+use Rattle.diameter.specs.Reader.{readOf, ownOf}
+use Rattle.diameter.specs.AvpAt.{partAt, present, orNone, dataAt}
 use Rattle.diameter.specs.declared.Avp.{Avp}
 use Rattle.diameter.specs.declared.Read.{Read}
 use Rattle.diameter.proofs.Reading.{read-says, read-none}

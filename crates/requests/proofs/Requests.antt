@@ -3,7 +3,8 @@ use Rattle.octets.specs.Standard.{ℕ, _+_, _/_, _%_, _≤_, _<_, add-one, _≡
 use Rattle.octets.specs.Standard.{length, getD, drop, drop-of-length-le, drop-cons, eqb, eq-eqb, ne-eqb}
 use Rattle.diameter.specs.Avp.{sound}
 use Rattle.diameter.specs.Walk.{Walk, ended, faulty, walk}
-use Rattle.diameter.specs.Reader.{readOf, partAt, present, ownOf}
+use Rattle.diameter.specs.Reader.{readOf, ownOf}
+use Rattle.diameter.specs.AvpAt.{partAt, present}
 use Rattle.diameter.specs.declared.Avp.{Avp}
 use Rattle.diameter.specs.declared.Read.{Read}
 use Rattle.diameter.proofs.Walks.{walk-nil, walk-faulty}

@@ -3,7 +3,8 @@ use Rattle.octets.specs.Standard.{ℕ, _<_, _≡_, refl, sym, _∙_, List, [], 
 use Rattle.octets.specs.Standard.{getD, take}
 use Rattle.diameter.specs.Avp.{avpLen, dataOf, sound}
 use Rattle.diameter.specs.Walk.{Walk, ended, avp, onSound, walkFrom, walk}
-use Rattle.diameter.specs.Reader.{between, present, avpOf, dataAt, Spans}
+use Rattle.diameter.specs.Reader.{between, Spans}
+use Rattle.diameter.specs.AvpAt.{present, avpOf, dataAt}
 use Rattle.diameter.specs.declared.Span.{Span}
 use Rattle.diameter.proofs.Parts.{data-there}
 use Rattle.reading.specs.declared.Content.the-variants.{Free}

@@ -1,7 +1,8 @@
 -- One turn of the walk over a message: to judge the rest from what is found so far is to judge the whole from nothing.
 use Rattle.octets.specs.Standard.{ℕ, zero, suc, _≤_, _<_, _≡_, refl, ap, _∙_, List, [], _∷_, map, arith, length, drop, set, replicate}
 use Rattle.diameter.specs.Walk.{walk}
-use Rattle.diameter.specs.Reader.{readOf, beginsAt, partAt, ownOf}
+use Rattle.diameter.specs.Reader.{readOf, beginsAt, ownOf}
+use Rattle.diameter.specs.AvpAt.{partAt}
 use Rattle.diameter.specs.declared.Avp.{Avp}
 use Rattle.diameter.specs.declared.Read.{Read}
 use Rattle.diameter.proofs.Reading.{Says, read-begins, read-says, read-fault-says, walk-past, none-past}

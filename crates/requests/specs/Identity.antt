@@ -1,15 +1,12 @@
 -- The places of the Public-Identities, and the next one from a place on.
-use Prim.Native.Nat.{ℕ, _+_, _≤_, _<_}
-use mathlib.Core.Path.{_≡_}
+use Prim.Native.Nat.{ℕ, _+_}
 use mathlib.Core.List.{List, [], _∷_}
-use mathlib.Core.Bool.{true, cond}
-use lib.ListN.{length, drop}
+use mathlib.Core.Bool.{cond}
+use lib.ListN.{length}
 use lib.Dec.{eqb}
-use Rattle.diameter.specs.Avp.{padded, sound}
-use Rattle.diameter.specs.Walk.{Walk, ended, faulty, avp, walk}
+use Rattle.diameter.specs.Avp.{padded}
+use Rattle.diameter.specs.Walk.{Walk, ended, faulty, avp}
 use Rattle.reading.specs.Kinds.{kindOf, publicIdentity}
-use Rattle.requests.specs.declared.identities.Next.{Next}
-use Rattle.requests.specs.declared.identities.Next.the-variants.{At, Nothing}
 
 -- the places in order, where the walk begins at a place
 unfoldable pub placesFrom : ℕ → Walk → List ℕ
@@ -18,23 +15,3 @@ placesFrom at (faulty t) = []
 placesFrom at (avp a w) =
     cond (eqb (kindOf a) publicIdentity) (at ∷ placesFrom (at + padded (length a)) w)
     (placesFrom (at + padded (length a)) w)
-
--- the places that an answer stands for: its own and those after it
-unfoldable pub placesBy : List ℕ → Next → List ℕ
-placesBy s (At place past) = place ∷ placesFrom past (walk (drop past s))
-placesBy s Nothing = []
-
--- a whole AVP stands at its place, not before the place that was asked, and the place after it is later
-pub record Stands (s : List ℕ) (from place past : ℕ) : Type 0 where
-  pub sounds : sound (drop place s) ≡ true
-  pub reached : from ≤ place
-  pub inside : place < length s
-  pub later : place < past
-
-abbrev pub standsBy : List ℕ → ℕ → Next → Type 0
-standsBy s from (At place past) = Stands s from place past
-standsBy s from Nothing = Unit
-
-pub record Named (s : List ℕ) (from : ℕ) (r : Next) : Type 0 where
-  pub rest : placesFrom from (walk (drop from s)) ≡ placesBy s r
-  pub stands : standsBy s from r

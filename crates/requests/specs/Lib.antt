@@ -1,4 +1,5 @@
 pub mod Found
 pub mod Identity
 pub mod Judged
+pub mod NextIdentity
 pub mod Request

@@ -8,7 +8,7 @@ use lib.Dec.{eqb, leb}
 use Rattle.diameter.specs.Avp.{dataOf, valueOf, avpFlags, reserved}
 use Rattle.diameter.specs.Walk.{Walk, ended, faulty, avp}
 use Rattle.diameter.specs.Message.{versionOf, messageFlags, commandOf, applicationOf, bodyOf}
-use Rattle.diameter.specs.Reader.{present, dataAt}
+use Rattle.diameter.specs.AvpAt.{present, dataAt}
 use Rattle.reading.specs.declared.Dialect.{Dialect}
 use Rattle.reading.specs.declared.Kind.{Kind}
 use Rattle.reading.specs.declared.Terms.{Terms}

@@ -1,7 +1,7 @@
 // The Public-Identities of a request, one after the other: a SAR may have many.
 use diameter::Read;
 use reading::kinds;
-ghost use Rattle.requests.specs.Identity.{Named};
+ghost use Rattle.requests.specs.NextIdentity.{Named};
 
 // The next Public-Identity: its place, and the place after it.
 pub enum Next {

@@ -16,7 +16,7 @@ ghost use mathlib.Core.Path.{_≡_};
 ghost use Prim.Native.Nat.{_≤_, _<_};
 ghost use mathlib.Core.Bool.{_&&_, not};
 ghost use lib.ListN.{length};
-ghost use Rattle.diameter.specs.Reader.{partAt, present};
+ghost use Rattle.diameter.specs.AvpAt.{partAt, present};
 ghost use Rattle.reading.specs.Kinds.{isNeeded, useIn, rowOf};
 ghost use Rattle.diameter.specs.Message.{bodyOf};
 ghost use Rattle.requests.specs.Request.{dialectOf, spoken, headerFault, firstOther, missing, complete, readIn, sessionOf};

@@ -4,7 +4,7 @@ use reading::kinds;
 ghost use mathlib.Core.Path.{_≡_};
 ghost use Prim.Native.Nat.{_≤_, _<_};
 ghost use lib.ListN.{length};
-ghost use Rattle.diameter.specs.Reader.{partAt};
+ghost use Rattle.diameter.specs.AvpAt.{partAt};
 ghost use Rattle.reading.specs.Kinds.{kinds};
 ghost use Rattle.requests.specs.Request.{given, valueIf, dataSeen, valueSeen, schemeOf};
 ghost use Rattle.reading.specs.Places.{seenOf};

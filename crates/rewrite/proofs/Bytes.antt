@@ -7,7 +7,7 @@ use Rattle.octets.specs.Run.{putName}
 use Rattle.octets.proofs.Runs.{name-length, name-apart, name-here}
 use Rattle.record.specs.Fields.{serverOf}
 use Rattle.blocks.proofs.Sealed.{sealed-length, seal-before, seal-alike}
-use Rattle.rewrite.specs.Change.{alterable}
+use Rattle.rewrite.specs.Keeps.{alterable}
 use Rattle.rewrite.specs.Renew.{renewed}
 
 -- A byte that no effect may write: where it is not, and where such bytes are.

@@ -9,7 +9,7 @@ use Rattle.record.specs.Sets.{agreeing}
 use Rattle.record.specs.declared.header.Header.{Header}
 use Rattle.record.proofs.OneSet.{Agree, agree-says}
 use Rattle.record.proofs.Tests.{record-says, limits-say}
-use Rattle.rewrite.specs.Change.{Kept, Keeps}
+use Rattle.rewrite.specs.Keeps.{Kept, Keeps}
 use Rattle.rewrite.specs.Renew.{renewed, challenged}
 use Rattle.rewrite.proofs.Bytes.{renewed-length, renewed-other, renewed-state, renewed-bits, renewed-stores, renewed-alike}
 use Rattle.rewrite.proofs.Settled.{renewed-sound, renewed-agree}

@@ -6,7 +6,8 @@ use Rattle.blocks.specs.Blocks.{blockOf}
 use Rattle.blocks.proofs.Blocks.{block-length}
 use Rattle.blocks.specs.Changed.{changedAt, changedIn}
 use Rattle.blocks.proofs.Changed.{in-here, in-other}
-use Rattle.rewrite.specs.Change.{afterOf, Keeps, differ, alteredUpTo}
+use Rattle.rewrite.specs.Change.{afterOf, differ, alteredUpTo}
+use Rattle.rewrite.specs.Keeps.{Keeps}
 use Rattle.rewrite.proofs.Tables.{keeps-whole, after-length, after-block}
 use Rattle.rewrite.proofs.Writes.{differ-same, in-differs}
 

@@ -11,8 +11,9 @@ use Rattle.record.specs.Sets.{agreeing}
 use Rattle.record.specs.declared.header.Header.{Header}
 use Rattle.record.proofs.OneSet.{agree-holds}
 use Rattle.record.proofs.Tests.{RecordTests, record-says, record-holds, Limits, limits-say, limits-hold, Zeros, rest-says, rest-holds}
-use Rattle.rewrite.specs.Change.{alterable, Kept, Keeps}
-use Rattle.rewrite.specs.Renew.{renewed, settled, Fitting}
+use Rattle.rewrite.specs.Keeps.{alterable, Kept, Keeps}
+use Rattle.rewrite.specs.Renew.{renewed, settled}
+use Rattle.rewrite.specs.Fitting.{Fitting}
 use Rattle.rewrite.proofs.Bytes.{kept-first, kept-low, kept-high, drafted, drafted-length, renewed-length, renewed-other, renewed-state}
 use Rattle.rewrite.proofs.Bytes.{renewed-bits, renewed-server, renewed-name, renewed-stores, renewed-alike}
 use Rattle.blocks.proofs.Sealed.{sealed-zero}

@@ -17,7 +17,7 @@ use Rattle.table.specs.SoundTable.{SoundTable}
 use Rattle.table.proofs.Agreement.{agrees-holds}
 use Rattle.table.proofs.Rising.{rises-alike}
 use Rattle.table.proofs.Sound.{TableTests, table-holds, tests-rises, sound-tests, sound-record, sound-agrees, sound-limits, sound-public}
-use Rattle.rewrite.specs.Change.{Kept}
+use Rattle.rewrite.specs.Keeps.{Kept}
 use Rattle.rewrite.proofs.Bytes.{kept-low, kept-high}
 use Rattle.rewrite.proofs.Tables.{Keeping}
 

@@ -6,7 +6,8 @@ use Rattle.blocks.proofs.Blocks.{block-length, table-same}
 use Rattle.record.specs.Sets.{sameSet, agreeing}
 use Rattle.blocks.specs.Changed.{changedAt, changedAll, changedIn}
 use Rattle.blocks.proofs.Changed.{Whole, all-none, all-length, all-block, one-more}
-use Rattle.rewrite.specs.Change.{afterOf, Kept, Keeps}
+use Rattle.rewrite.specs.Change.{afterOf}
+use Rattle.rewrite.specs.Keeps.{Kept, Keeps}
 
 pub kept-same : (b c : List ℕ) → c ≡ b → Kept b c
 kept-same b c e = record { size = rw e; others = λ i l a. rw e; bits = rw e; sound = λ k networks file s. rw e s }

@@ -16,8 +16,10 @@ use Rattle.blocks.specs.Blocks.{blockOf}
 use Rattle.table.specs.SoundTable.{SoundTable}
 use Rattle.blocks.proofs.Blocks.{block-length, block-bytes}
 use Rattle.table.proofs.Sound.{sound-size, sound-block, sound-record, sound-agrees}
-use Rattle.rewrite.specs.Change.{afterOf, reaches, Keeps, differ}
-use Rattle.rewrite.specs.Renew.{renewed, settled, challenged, changeOf, ChangeFits}
+use Rattle.rewrite.specs.Change.{afterOf, reaches, differ}
+use Rattle.rewrite.specs.Keeps.{Keeps}
+use Rattle.rewrite.specs.Renew.{renewed, settled, challenged}
+use Rattle.rewrite.specs.Fitting.{changeOf, ChangeFits}
 use Rattle.rewrite.specs.declared.Change.{Change}
 use Rattle.rewrite.specs.declared.Change.the-variants.{Settled, Challenged}
 use Rattle.rewrite.proofs.Reaching.{both-ways, reaches-closed}

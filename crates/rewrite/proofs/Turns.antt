@@ -10,8 +10,9 @@ use Rattle.blocks.proofs.Blocks.{block-length}
 use Rattle.table.proofs.Sound.{sound-size}
 use Rattle.blocks.specs.Changed.{changedAt, changedIn}
 use Rattle.blocks.proofs.Changed.{in-here, in-other, upTo, turns-next, turns-end}
-use Rattle.rewrite.specs.Change.{afterOf, reaches, Kept, Keeps, differ, alteredUpTo}
-use Rattle.rewrite.specs.Renew.{changeOf, ChangeFits}
+use Rattle.rewrite.specs.Change.{afterOf, reaches, differ, alteredUpTo}
+use Rattle.rewrite.specs.Keeps.{Kept, Keeps}
+use Rattle.rewrite.specs.Fitting.{changeOf, ChangeFits}
 use Rattle.rewrite.specs.declared.Change.{Change}
 use Rattle.rewrite.specs.declared.Change.the-variants.{Settled, Challenged}
 use Rattle.rewrite.proofs.Challenged.{challenged-keeps}

@@ -15,7 +15,8 @@ use Rattle.blocks.specs.Sealed.{sealed}
 use Rattle.blocks.specs.Changed.{changedIn}
 use Rattle.blocks.proofs.Sealed.{sealed-length}
 use Rattle.blocks.proofs.Changed.{block-put}
-use Rattle.rewrite.specs.Renew.{renewed, settled, challenged, Fitting, changeOf, ChangeFits}
+use Rattle.rewrite.specs.Renew.{renewed, settled, challenged}
+use Rattle.rewrite.specs.Fitting.{Fitting, changeOf, ChangeFits}
 use Rattle.rewrite.specs.Change.{differ}
 use Rattle.rewrite.specs.declared.Change.{Change}
 use Rattle.rewrite.specs.declared.Change.the-variants.{Settled, Challenged}

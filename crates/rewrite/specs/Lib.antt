@@ -1,2 +1,4 @@
 pub mod Change
+pub mod Fitting
+pub mod Keeps
 pub mod Renew

@@ -1,7 +1,6 @@
 -- A record block written anew. "A rewritten record gets a new check word."
-use Prim.Native.Nat.{ℕ, _≤_}
-use mathlib.Core.Bool.{true, cond, not, _||_}
-use mathlib.Core.Path.{_≡_}
+use Prim.Native.Nat.{ℕ}
+use mathlib.Core.Bool.{cond, not, _||_}
 use mathlib.Core.List.{List}
 use lib.ListN.{length, set}
 use lib.Dec.{eqb}
@@ -9,9 +8,6 @@ use Rattle.octets.specs.Name.{same}
 use Rattle.octets.specs.Run.{putName}
 use Rattle.blocks.specs.Sealed.{sealed}
 use Rattle.record.specs.Fields.{stateOf, bitsOf, serverOf, cleared, pendingSet}
-use Rattle.record.specs.RecordBlock.{serverFits}
-use Rattle.rewrite.specs.declared.Change.{Change}
-use Rattle.rewrite.specs.declared.Change.the-variants.{Settled, Challenged}
 
 -- a record block with another state, other bits and another server name, all 96 bytes of its field
 unfoldable pub renewed : List ℕ → ℕ → ℕ → List ℕ → List ℕ
@@ -24,18 +20,3 @@ settled state name b = renewed b state (cleared (bitsOf b)) name
 -- "The Server-Name is stored if different; pending is set if state is 0 or the name changed." The state stays
 unfoldable pub challenged : List ℕ → List ℕ → List ℕ
 challenged name b = cond (eqb (stateOf b) 0 || not (same (serverOf b) name)) (renewed b (stateOf b) (pendingSet (bitsOf b)) name) b
-
--- what every row of the table of effects has: a state 0 to 2, and a server name, which has room, exactly in state 1 or 2
-pub record Fitting (state : ℕ) (name : List ℕ) : Type 0 where
-  pub two : state ≤ 2
-  pub most : length name ≤ 96
-  pub served : serverFits (length name) state 0 ≡ true
-
--- either of them, with the server name that goes with it; what it has to fit
-unfoldable pub changeOf : Change → List ℕ → List ℕ → List ℕ
-changeOf (Settled state) name = settled state name
-changeOf Challenged name = challenged name
-
-abbrev pub ChangeFits : Change → List ℕ → Type 0
-ChangeFits (Settled state) name = Fitting state name
-ChangeFits Challenged name = (1 ≤ length name) × (length name ≤ 96)

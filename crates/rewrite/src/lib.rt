@@ -17,7 +17,8 @@ ghost use Rattle.blocks.specs.Blocks.{blockOf};
 ghost use Rattle.table.specs.SoundTable.{SoundTable};
 ghost use Rattle.blocks.specs.Changed.{changedIn};
 ghost use Rattle.rewrite.specs.Change.{afterOf, reaches, differ, alteredUpTo};
-ghost use Rattle.rewrite.specs.Renew.{renewed, settled, challenged, Fitting, changeOf, ChangeFits};
+ghost use Rattle.rewrite.specs.Renew.{renewed, settled, challenged};
+ghost use Rattle.rewrite.specs.Fitting.{Fitting, changeOf, ChangeFits};
 
 // What an effect does to a record: "Effects, pending cleared", with the state that it gets; or what goes with a challenge.
 pub enum Change {

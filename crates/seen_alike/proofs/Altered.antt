@@ -15,7 +15,8 @@ use Rattle.blocks.proofs.Blocks.{block-bytes}
 use Rattle.table.specs.SoundTable.{SoundTable}
 use Rattle.table.proofs.Sound.{sound-size, sound-record, sound-limits}
 use Rattle.blocks.specs.Changed.{changedAt}
-use Rattle.rewrite.specs.Change.{afterOf, reaches, Keeps, differ, alteredUpTo}
+use Rattle.rewrite.specs.Change.{afterOf, reaches, differ, alteredUpTo}
+use Rattle.rewrite.specs.Keeps.{Keeps}
 use Rattle.rewrite.specs.Renew.{renewed, settled, challenged}
 use Rattle.rewrite.proofs.Challenged.{challenged-keeps}
 use Rattle.rewrite.proofs.Counts.{altered-none}
@@ -33,7 +34,8 @@ use Rattle.assignment.specs.Assignment.{plannedRecords}
 use Rattle.deciding.specs.Plans.{assignmentOf, planRead}
 use Rattle.deciding.specs.Rules.{inForce}
 use Rattle.deciding.specs.Decide.{performedBy, judgedBy, decideBy, decide}
-use Rattle.deciding.specs.Deeds.{carriedOut, DeedFits}
+use Rattle.deciding.specs.Deeds.{carriedOut}
+use Rattle.deciding.specs.DeedFits.{DeedFits}
 use Rattle.deciding.proofs.Deeds.{plan-fits}
 use Rattle.seen_alike.specs.Alike.{Alike, AlikeTables}
 use Rattle.seen_alike.specs.Shown.{SameTables}

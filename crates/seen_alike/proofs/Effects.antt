@@ -8,7 +8,8 @@ use Rattle.blocks.specs.Blocks.{blockOf}
 use Rattle.table.specs.SoundTable.{SoundTable}
 use Rattle.table.proofs.Sound.{sound-size, sound-limits}
 use Rattle.blocks.specs.Changed.{isOne, changedAt}
-use Rattle.rewrite.specs.Change.{alterable, afterOf, reaches, Keeps}
+use Rattle.rewrite.specs.Change.{afterOf, reaches}
+use Rattle.rewrite.specs.Keeps.{alterable, Keeps}
 use Rattle.rewrite.specs.Renew.{renewed, settled, challenged}
 use Rattle.rewrite.proofs.Bytes.{renewed-length, renewed-other, renewed-state, renewed-bits, renewed-server, renewed-name}
 use Rattle.rewrite.proofs.Challenged.{challenged-keeps}
@@ -27,7 +28,8 @@ use Rattle.assignment.specs.Assignment.{plannedRecords}
 use Rattle.deciding.specs.Plans.{assignmentOf, planRead}
 use Rattle.deciding.specs.Rules.{inForce}
 use Rattle.deciding.specs.Decide.{performedBy, judgedBy, decideBy, decide}
-use Rattle.deciding.specs.Deeds.{carriedOut, DeedFits}
+use Rattle.deciding.specs.Deeds.{carriedOut}
+use Rattle.deciding.specs.DeedFits.{DeedFits}
 use Rattle.deciding.proofs.Deeds.{plan-fits}
 use Rattle.seen_alike.specs.Alike.{Alike, AlikeTables}
 use Rattle.seen_alike.specs.Shown.{SameTables}

@@ -6,8 +6,9 @@ use Rattle.table.specs.SoundTable.{SoundTable}
 use Rattle.blocks.specs.declared.Checked.the-variants.{Sound}
 use Rattle.blocks.proofs.Blocks.{block-length}
 use Rattle.table.proofs.Sound.{sound-block}
-use Rattle.moving.specs.Moves.{movable, Carried}
-use Rattle.moving.specs.Outcomes.{forward, back, TableMoved}
+use Rattle.moving.specs.Carried.{movable, Carried}
+use Rattle.moving.specs.Outcomes.{forward, back}
+use Rattle.moving.specs.Conditions.{TableMoved}
 use Rattle.moving.specs.declared.Move.the-variants.{Moved}
 use Rattle.moving.proofs.Moving.{forward-sound, forward-keeps, forward-moved, back-sound, back-keeps, back-moved}
 use Rattle.calling.specs.Lent.{Lent}

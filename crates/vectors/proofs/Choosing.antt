@@ -5,7 +5,8 @@ use Rattle.octets.specs.Standard.{eq-eqb, ne-eqb}
 use Rattle.octets.specs.Name.{same}
 use Rattle.blocks.specs.Blocks.{blockOf}
 use Rattle.vectors.specs.VectorBlock.{vectorOf, cardOf}
-use Rattle.vectors.specs.Chosen.{firstOnes, unusedHere, unusedAt, unusedOf, noneSent, packed, sentAlso}
+use Rattle.vectors.specs.Chosen.{firstOnes, unusedHere, unusedAt, unusedOf, noneSent, packed}
+use Rattle.vectors.specs.Sendable.{sentAlso}
 use Rattle.vectors.specs.declared.choice.Sent.{Sent}
 
 -- the part of a block that is lent

@@ -8,7 +8,8 @@ use Rattle.blocks.specs.Sealed.{sealed}
 use Rattle.blocks.specs.Changed.{changedAt, changedIn, isOne}
 use Rattle.blocks.proofs.Sealed.{sealed-length, seal-before, seal-alike}
 use Rattle.blocks.proofs.Changed.{Whole, block-put, all-none, all-length, all-block, one-more, one-append}
-use Rattle.vectors.specs.Chosen.{sentOf, Sendable}
+use Rattle.vectors.specs.Chosen.{sentOf}
+use Rattle.vectors.specs.Sendable.{Sendable}
 use Rattle.vectors.specs.Marked.{markedUsed, spent}
 use Rattle.vectors.specs.declared.choice.Sent.{Sent}
 

@@ -2,7 +2,8 @@
 use Rattle.octets.specs.Standard.{ℕ, zero, suc, _-_, _/_, _<_, _≤_, Bool, true, false, _||_, _≡_, refl, _∙_, List, [], _∷_, arith, length, getD}
 use Rattle.octets.specs.Standard.{replicate, length-append, length-replicate, List·getD-append, eqb, eq-eqb}
 use Rattle.vectors.specs.VectorFile.{SoundVectors}
-use Rattle.vectors.specs.Chosen.{unusedAt, unusedOf, noneSent, packed, Sendable}
+use Rattle.vectors.specs.Chosen.{unusedAt, unusedOf, noneSent, packed}
+use Rattle.vectors.specs.Sendable.{Sendable}
 use Rattle.blocks.specs.Changed.{isOne}
 use Rattle.vectors.proofs.Sound.{block-fits, sound-xres}
 use Rattle.vectors.proofs.Unused.{ones-many, ones-hold}

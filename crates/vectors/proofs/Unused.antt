@@ -1,7 +1,8 @@
 -- The vectors that are chosen: so many as asked or as remain, unused and of that name, the first ones in file order, each once.
 use Rattle.octets.specs.Standard.{ℕ, zero, suc, _+_, _<_, _≤_, min, Bool, true, false, cond, true≢false, _≡_, refl, sym, _∙_, List, [], _∷_, arith}
 use Rattle.octets.specs.Standard.{length, eqb, eqb-true, eqb-false}
-use Rattle.vectors.specs.Chosen.{firstOnes, countFrom, Rising}
+use Rattle.vectors.specs.Chosen.{firstOnes}
+use Rattle.vectors.specs.Sendable.{countFrom, Rising}
 use Rattle.blocks.specs.Changed.{isOne}
 
 module _ (p : ℕ → Bool) where

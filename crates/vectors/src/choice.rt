@@ -5,7 +5,8 @@ use octets::name;
 ghost use mathlib.Core.Path.{_≡_};
 ghost use Prim.Native.Nat.{_+_, _*_, _≤_, _<_};
 ghost use lib.ListN.{length};
-ghost use Rattle.vectors.specs.Chosen.{unusedHere, unusedAt, unusedOf, noneSent, packed, sentAlso};
+ghost use Rattle.vectors.specs.Chosen.{unusedHere, unusedAt, unusedOf, noneSent, packed};
+ghost use Rattle.vectors.specs.Sendable.{sentAlso};
 ghost use Rattle.vectors.specs.VectorFile.{SoundVectors};
 
 // At most so many vectors are sent in one answer.

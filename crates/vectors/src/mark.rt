@@ -5,7 +5,8 @@ ghost use mathlib.Core.Path.{_≡_};
 ghost use Prim.Native.Nat.{_+_, _*_, _≤_, _%_};
 ghost use lib.ListN.{length};
 ghost use Rattle.blocks.specs.Changed.{changedIn};
-ghost use Rattle.vectors.specs.Chosen.{sentOf, Sendable};
+ghost use Rattle.vectors.specs.Chosen.{sentOf};
+ghost use Rattle.vectors.specs.Sendable.{Sendable};
 ghost use Rattle.vectors.specs.Marked.{markedUsed, spent};
 
 fn mark(b: &mut [u8])

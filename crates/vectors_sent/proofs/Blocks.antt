@@ -6,7 +6,8 @@ use Rattle.octets.proofs.All.{and-left, and-right}
 use Rattle.octets.proofs.Names.{same-eq}
 use Rattle.blocks.specs.Blocks.{blockOf}
 use Rattle.blocks.proofs.Blocks.{block-length}
-use Rattle.vectors.specs.Chosen.{unusedHere, unusedAt, unusedOf, Rising}
+use Rattle.vectors.specs.Chosen.{unusedHere, unusedAt, unusedOf}
+use Rattle.vectors.specs.Sendable.{Rising}
 use Rattle.blocks.specs.Changed.{isOne}
 use Rattle.vectors.specs.Marked.{markedUsed, spent}
 use Rattle.vectors.specs.VectorBlock.{vectorOf, cardOf}

@@ -1,7 +1,7 @@
 -- Rows of calls: what is used stays used, what is sent was unused, and so nothing is sent twice.
 use Rattle.octets.specs.Standard.{ℕ, suc, _<_, List, [], _∷_, _++_, Bool, true, false, _||_, true≢false, _≡_, refl, sym, ap, _∙_, arith, length, getD}
 use Rattle.octets.specs.Standard.{eqb, eq-eqb, ne-eqb}
-use Rattle.vectors.specs.Chosen.{Rising}
+use Rattle.vectors.specs.Sendable.{Rising}
 use Rattle.blocks.specs.Changed.{isOne}
 use Rattle.vectors.specs.VectorFile.{checkVectors}
 use Rattle.calling.specs.Lent.{Lent}

@@ -3,7 +3,8 @@ use Rattle.octets.specs.Standard.{ℕ, zero, suc, _+_, _≤_, List, [], _∷_, 
 use Rattle.octets.specs.Standard.{getD, take, take-suc, length-take-le}
 use Rattle.octets.specs.Run.{over}
 use Rattle.blocks.specs.Blocks.{blockOf}
-use Rattle.vectors.specs.Chosen.{sentOf, Sendable}
+use Rattle.vectors.specs.Chosen.{sentOf}
+use Rattle.vectors.specs.Sendable.{Sendable}
 use Rattle.vectors.specs.declared.choice.Sent.{Sent}
 use Rattle.items.specs.Items.{itemBytes, itemsBytes, numberedBytes, sentBytes}
 use Rattle.reading.specs.declared.Dialect.{Dialect}

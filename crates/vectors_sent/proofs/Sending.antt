@@ -4,7 +4,8 @@ use Rattle.octets.specs.Standard.{ℕ, _/_, _<_, min, List, [], _∷_, _++_, tr
 use Rattle.octets.specs.Standard.{lt-ltb}
 use Rattle.octets.specs.Run.{over}
 use Rattle.blocks.specs.Blocks.{blockOf}
-use Rattle.vectors.specs.Chosen.{unusedAt, Rising}
+use Rattle.vectors.specs.Chosen.{unusedAt}
+use Rattle.vectors.specs.Sendable.{Rising}
 use Rattle.blocks.specs.Changed.{isOne}
 use Rattle.vectors.specs.VectorBlock.{cardOf}
 use Rattle.vectors.specs.VectorFile.{checkVectors}
@@ -15,7 +16,7 @@ use Rattle.calling.specs.Call.{Answered}
 use Rattle.calling.specs.Lent.{Lent, dialectIn}
 use Rattle.calling.specs.Trial.{anyHolds}
 use Rattle.calling.specs.Serve.{checkOf, trials, serve, checkValue, decided, resultOf}
-use Rattle.ndushavire.specs.Word.{callPlace}
+use Rattle.ndushavire.specs.Reads.{callPlace}
 use Rattle.vectors_sent.specs.Sent.{sentBy, Challenges, userOf, askedBy, usedAt, remaining, itemsFrom, saidOf, answerWith}
 use Rattle.vectors_sent.specs.Row.{Turn, lending, leftBy, sentOver, Once}
 use Rattle.vectors_sent.proofs.Calls.{Quiet, Sending, call-cases}

@@ -6,7 +6,8 @@ use mathlib.Core.Path.{_≡_}
 use lib.ListN.{length, getD}
 use lib.Dec.{ltb}
 use Rattle.blocks.specs.Blocks.{blockOf}
-use Rattle.vectors.specs.Chosen.{sentOf, unusedAt, countFrom}
+use Rattle.vectors.specs.Chosen.{sentOf, unusedAt}
+use Rattle.vectors.specs.Sendable.{countFrom}
 use Rattle.reading.specs.Kinds.{userName, numberAuthItems}
 use Rattle.reading.specs.declared.Outcome.the-variants.{Base}
 use Rattle.diameter.specs.Message.{commandOf}

@@ -27,7 +27,7 @@ use Rattle.rewrite.specs.Change.{afterOf, reaches}
 use Rattle.rewrite.specs.Renew.{renewed, settled, challenged}
 use Rattle.diameter.specs.Avp.{padded, headOf, vendorOf, valueOf, sound}
 use Rattle.diameter.specs.Walk.{walkFrom, walk}
-use Rattle.diameter.specs.Reader.{avpOf}
+use Rattle.diameter.specs.AvpAt.{avpOf}
 use Rattle.pen.specs.Bytes.{wordBytes, padding, vendorHead, copied, avpBytes, vendorBytes, numberBytes, vendorNumber, group, vendorGroup, ifThere}
 use Rattle.pen.specs.Groups.{vendorApplication, experimental, failed, vendorNumbers, capabilities}
 use Rattle.reading.specs.Kinds.{known, kindFrom, kindBy, rowOf, useIn}

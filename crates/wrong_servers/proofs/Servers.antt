@@ -10,7 +10,8 @@ use Rattle.requests.specs.Request.{underCx}
 use Rattle.calling.specs.Lent.{Lent, lent}
 use Rattle.calling.specs.Serve.{Served, serve}
 use Rattle.calling.specs.Call.{Answered}
-use Rattle.ndushavire.specs.Word.{word, checkWord, callWord, placeIn}
+use Rattle.ndushavire.specs.Word.{word, checkWord, callWord}
+use Rattle.ndushavire.specs.Reads.{placeIn}
 use Rattle.ndushavire.specs.Promise.{CheckPromise, CheckVectorsPromise, DecidePromise}
 use Rattle.worked_examples.proofs.Computed.{known, come, roomy, no-vectors, registered-sound, unregistered-sound}
 use Rattle.worked_examples.proofs.Sample.{room, request, reply, answer, common, assignment, authentication, vector, item, challenges, one, waiting}
