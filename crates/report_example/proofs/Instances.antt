@@ -102,11 +102,20 @@ met-columns : Base 5012 ≡ Base 5012
 unfolding counting listed
 met-columns = numbers.report-columns (Base 5012) (Base 5012) refl refl refl
 
+-- "B and X apart": one number, two columns
+base-column : columnOf (Base 5001) ≡ 5
+unfolding counting
+base-column = refl
+
+experimental-column : columnOf (Experimental 5001) ≡ 17
+unfolding counting
+experimental-column = refl
+
 -- the LIR's result has a column; the removal's is in the same, and so is the same
 alone : Lent
 alone = lent lir here [] [] room underCx
 
-met-column : columnOf (resultOf alone) < 25
+met-column : Listed (resultOf alone)
 met-column = numbers.report-column alone
 
 taking : Lent
