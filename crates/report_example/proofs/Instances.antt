@@ -5,10 +5,10 @@ use Rattle.blocks.specs.Blocks.{blockOf}
 use Rattle.table.specs.Check.{checkTable}
 use Rattle.blocks.specs.declared.Checked.{Checked}
 use Rattle.blocks.specs.declared.Checked.the-variants.{Sound}
-use Rattle.reading.specs.declared.Outcome.the-variants.{Base}
+use Rattle.reading.specs.declared.Outcome.the-variants.{Base, Experimental}
 use Rattle.reading.specs.Verdicts.{numberOf}
 use Rattle.counting.specs.Results.{columnOf}
-use Rattle.counting.specs.Counting.{listed}
+use Rattle.counting.specs.Counting.{listed, Listed}
 use Rattle.counting.specs.Words.{longBytes}
 use Rattle.requests.specs.Request.{underCx}
 use Rattle.calling.specs.Lent.{Lent, lent, asking}
