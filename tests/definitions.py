@@ -135,6 +135,8 @@ def opened():
     text = open('crates/worked_examples/proofs/Sample.antt').read()
     uses = re.findall(r'^use .*', text, re.MULTILINE)
     brought = set(re.findall(r'[^\s{},]+', ' '.join(use[use.index('{'):] for use in uses)))
+    if 'serve' not in brought:
+        uses.append('use Rattle.calling.specs.Serve.{serve}')
     names = re.search(r'^unfoldable pub opened : ℕ\nunfolding (.*?)^opened = ', text, re.MULTILINE | re.DOTALL).group(1).split()
     return uses, [name for name in names if name in brought]
 

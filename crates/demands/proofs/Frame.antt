@@ -2,6 +2,7 @@
 use Rattle.octets.specs.Standard.{ℕ, zero, suc, _+_, _*_, _/_, _≤_, _<_, List, [], _∷_, Option, some, Bool, true, false, _||_, true≢false, or-true}
 use Rattle.octets.specs.Standard.{_≡_, refl, sym, _∙_, _⊎_, inl, inr, _≢_, arith, eqb, length, getD, eqb-true, eq-eqb}
 use Rattle.record.specs.Sets.{sameSet}
+use Rattle.rewrite.proofs.Sound.{keeping-sets}
 use Rattle.record.proofs.OneSet.{OneSet, set-says}
 use Rattle.blocks.specs.Blocks.{blockOf}
 use Rattle.table.specs.Named.{privateAt}
@@ -118,6 +119,9 @@ module _ (x : Lent) (count : ℕ) (sound : checkOf x ≡ Sound count) where
   call-keeping : Keeping t (serveTable x .table) count
   call-keeping =
       after-call (λ y z. Keeping t y count) (keeping-same t count) (λ a. decide-keeping (dialectIn x) (x .request) t count v says)
+
+  pub sets-kept : (j k : ℕ) → sameSet (blockOf (serveTable x .table) j) (blockOf (serveTable x .table) k) ≡ sameSet (blockOf t j) (blockOf t k)
+  sets-kept = keeping-sets t (serveTable x .table) count call-keeping says
 
   pub header-kept : blockOf (serveTable x .table) 0 ≡ blockOf t 0
   header-kept = call-keeping .header

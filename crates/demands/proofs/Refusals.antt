@@ -1,5 +1,6 @@
 -- Demand 1: an answer, or exactly one of six refusals. What a refused call leaves, and what an answered one writes.
-use Rattle.octets.specs.Standard.{ℕ, _≤_, _<_, List, Bool, true, false, true≢false, _≡_, refl, sym, ap, _∙_, _≢_, arith, length, drop, drop-at}
+use Rattle.octets.specs.Standard.{ℕ, _≤_, _<_, List, Bool, true, false, cond, _||_, true≢false, _≡_, refl, sym, ap, _∙_, _≢_, arith, length, drop}
+use Rattle.octets.specs.Standard.{drop-at}
 use Rattle.octets.specs.Run.{over}
 use Rattle.octets.proofs.Writes.{over-length}
 use Rattle.blocks.specs.declared.Checked.{Checked}
@@ -7,9 +8,9 @@ use Rattle.blocks.specs.declared.Checked.the-variants.{Sound, Bad}
 use Rattle.diameter.specs.Put.{All}
 use Rattle.calling.specs.Call.{Answer, Call, Answered, Refused}
 use Rattle.calling.specs.Lent.{Lent, asking, dialectIn}
-use Rattle.calling.specs.Trial.{Trial}
-use Rattle.calling.specs.Serve.{Served, wrongSize, wrongLength, noRequest, isBad, unsound, checkOf, trials, refused, answered, decision, checkValue}
-use Rattle.calling.specs.Serve.{serveFound, serveTableBy, serveTable}
+use Rattle.calling.specs.Trial.{Trial, tried, anyHolds}
+use Rattle.calling.specs.Serve.{Served, smallBuffer, wrongSize, wrongLength, noRequest, isBad, earlyTrials, unsound, checkOf, trials, refused}
+use Rattle.calling.specs.Serve.{answered, decision, checkValue, serveFound, serveTableBy, serveTable}
 use Rattle.ndushavire.specs.Word.{callWord}
 use Rattle.ndushavire.specs.Reads.{callNumber, callPlace, callValue, Reads}
 use Rattle.calling.proofs.Calls.{size-least, size-most}
@@ -188,3 +189,18 @@ pub refused-alike : (x : Lent) (req other : List ℕ) → wrongSize req ≡ wron
 unfolding serveTableBy serveFound refused
 refused-alike x req other a b c e =
     rw (a, b, c) (tried-alike (refused (asking x other)) (answer (asking x req)) (answer (asking x other)) (trials (asking x other)) e)
+
+-- what the first four let pass is refused by 5, over a table whose check answers a bad block
+pub unsound-refused : (x : Lent) (k : ℕ) → anyHolds (earlyTrials (x .request) (x .buffer)) ≡ false → checkOf x ≡ Bad k → serveTable x .call ≡ Refused 5 k
+unfolding serveTableBy serveFound anyHolds tried refused
+unsound-refused x k none e =
+    rw e
+    (ap (λ (s : Served). s .call)
+    (go (smallBuffer (x .buffer)) (wrongSize (x .request)) (wrongLength (x .request)) (noRequest (x .request)) _ _ _ _ _ none))
+  where
+    go : (a b c d : Bool) (p q r s t : Served) → (a || (b || (c || (d || false)))) ≡ false → cond a p (cond b q (cond c r (cond d s t))) ≡ t
+    go true b c d p q r s t h = absurd (true≢false h)
+    go false true c d p q r s t h = absurd (true≢false h)
+    go false false true d p q r s t h = absurd (true≢false h)
+    go false false false true p q r s t h = absurd (true≢false h)
+    go false false false false p q r s t h = refl

@@ -180,7 +180,7 @@ location-without a =
     (either (Without 5012) (not (a .services)) refl
     (refl, refl)))
 
--- B5003 is a UAR's, where both identities are known and stand together in one record, which is barred.
+-- a UAR's B5003: both identities are known and stand together in one record, which is barred.
 module _ (a : Asked) (kind : ℕ) where
   abbrev later : Choice
   later =

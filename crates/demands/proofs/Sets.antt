@@ -18,20 +18,24 @@ use Rattle.requests.specs.Judged.{fine}
 use Rattle.requests.specs.Request.{readIn, dataSeen}
 use Rattle.calling.specs.Call.{Refused}
 use Rattle.calling.specs.Lent.{Lent, asking, tableOnly, dialectIn}
-use Rattle.calling.specs.Serve.{checkOf, resultOf, serveTable, overArea, serveBy, serve}
+use Rattle.calling.specs.Serve.{checkOf, earlyTrials, resultOf, serveTable, overArea, serveBy, serve}
+use Rattle.calling.specs.Trial.{anyHolds}
 use Rattle.calling.proofs.Kept.{table-checked}
 use Rattle.ndushavire.specs.Reads.{ReadsCheck}
 use Rattle.ndushavire.specs.Promise.{CheckPromise}
 use Rattle.older_rules.specs.WithoutSets.{NoSets, beforeSets}
 use Rattle.demands.specs.Sets.{Shares, Agrees, Disagrees, Stands, Belongs, Barred, Removes, OneFewer, Member}
 use Rattle.demands.proofs.Blaming.{base-experimental}
-use Rattle.demands.proofs.Demands.{checked, demand-1-block}
+use Rattle.demands.proofs.Demands.{checked}
+use Rattle.demands.proofs.Frame.{sets-kept}
+use Rattle.demands.proofs.Refusals.{unsound-refused}
 use Rattle.older_rules.proofs.Sets as older
 use Rattle.demands.proofs.Barring as barring
 use Rattle.demands.proofs.Disagreeing as disagreeing
 use Rattle.demands.proofs.NamedTwice as named
 use Rattle.demands.proofs.Together as together
 
+-- A result here (`resultOf`) is that of the decision which `serve` answers with where it does not refuse: proofs/Demands, `demand-2`.
 -- "Document 01 rejects every barred identity in a UAR. The trade's rule is softer: one with a non-barred identity in its implicit set may go on."
 pub going-on : (x : Lent) (count : ℕ) → checkOf x ≡ Sound count → commandOf (x .request) ≡ 300 → (seen : Seen) → readIn (dialectIn x) (x .request) ≡ fine seen
     → (k j : ℕ) → Stands (x .table) count k (dataSeen seen publicIdentity) → 1 ≤ j → j ≤ count → Shares (x .table) k j
@@ -57,9 +61,9 @@ unfolding checkArea
 later-blamed-check area profile j k d p =
     let q : checkArea area (length profile) ≡ Bad k = later-blamed (tableIn area) (length profile) j k d in rw q at (checked area profile p)
 
-pub later-blamed-call : (x : Lent) (j k block : ℕ) → Disagrees (x .table) (length (x .profile)) j k → serveTable x .call ≡ Refused 5 block → block ≡ k
-later-blamed-call x j k block d e =
-    let q : Bad block ≡ Bad k = sym (demand-1-block x block e) ∙ later-blamed (x .table) (length (x .profile)) j k d in cc
+pub later-blamed-call : (x : Lent) (j k : ℕ) → anyHolds (earlyTrials (x .request) (x .buffer)) ≡ false → Disagrees (x .table) (length (x .profile)) j k
+    → serveTable x .call ≡ Refused 5 k
+later-blamed-call x j k none d = unsound-refused x k none (later-blamed (x .table) (length (x .profile)) j k d)
 
 -- "Every effect of a SAR or an authentication request reaches the whole set,": of two records of one set both have other bytes after a call, or neither; and
 -- they agree after it.
@@ -69,9 +73,11 @@ pub members-together : (x : Lent) (count : ℕ) → checkOf x ≡ Sound count �
 members-together x count sound bytes j k a b c d s =
     together.members-together x count sound (λ i. record { fits = bytes i }) j k a b c d (barring.shares-holds (x .table) j k s)
 
-pub members-agree : (x : Lent) (count : ℕ) → checkOf x ≡ Sound count → (j k : ℕ) → 1 ≤ j → j < k → k ≤ count → Shares (serveTable x .table) j k
+pub members-agree : (x : Lent) (count : ℕ) → checkOf x ≡ Sound count → (j k : ℕ) → 1 ≤ j → j < k → k ≤ count → Shares (x .table) j k
     → Agrees (serveTable x .table) j k
-members-agree x count sound j k = sound-agree (serveTable x .table) (length (x .profile)) count j k (table-checked x ∙ sound)
+members-agree x count sound j k a b c s =
+    sound-agree (serveTable x .table) (length (x .profile)) count j k (table-checked x ∙ sound) a b c
+    (barring.shares-says (serveTable x .table) j k (sets-kept x count sound j k ∙ barring.shares-holds (x .table) j k s))
 
 -- "and a removal naming two members of one set is like naming one.": without one of two it comes to the same call, and leaves the same table, vectors and
 -- buffer.

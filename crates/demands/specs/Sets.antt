@@ -48,12 +48,13 @@ pub record BarredAlone (t : List ℕ) (count k : ℕ) : Type 0 where
   pub own : barred (bitsOf (blockOf t k)) ≡ true
   pub others : (j : ℕ) → 1 ≤ j → j ≤ count → Shares t k j → barred (bitsOf (blockOf t j)) ≡ true
 
--- a record has a public identity, and a private one
+-- block k is the record of a public identity
 pub record Stands (t : List ℕ) (count k : ℕ) (public : List ℕ) : Type 0 where
   pub from : 1 ≤ k
   pub to : k ≤ count
   pub name : publicAt t k ≡ public
 
+-- block k is a record of a private identity
 pub record Belongs (t : List ℕ) (count k : ℕ) (private : List ℕ) : Type 0 where
   pub from : 1 ≤ k
   pub to : k ≤ count

@@ -5,10 +5,10 @@ use Rattle.blocks.specs.Blocks.{blockOf}
 use Rattle.table.specs.Check.{checkTable}
 use Rattle.blocks.specs.declared.Checked.{Checked}
 use Rattle.blocks.specs.declared.Checked.the-variants.{Sound}
-use Rattle.reading.specs.declared.Outcome.the-variants.{Base}
+use Rattle.reading.specs.declared.Outcome.the-variants.{Base, Experimental}
 use Rattle.reading.specs.Verdicts.{numberOf}
 use Rattle.counting.specs.Results.{columnOf}
-use Rattle.counting.specs.Counting.{listed}
+use Rattle.counting.specs.Counting.{listed, Listed}
 use Rattle.counting.specs.Words.{longBytes}
 use Rattle.requests.specs.Request.{underCx}
 use Rattle.calling.specs.Lent.{Lent, lent, asking, tableOnly}
@@ -113,11 +113,20 @@ met-columns : Base 5012 ≡ Base 5012
 unfolding counting listed
 met-columns = numbers.report-columns (Base 5012) (Base 5012) refl refl refl
 
+-- "B and X apart": one number, two columns
+base-column : columnOf (Base 5001) ≡ 5
+unfolding counting
+base-column = refl
+
+experimental-column : columnOf (Experimental 5001) ≡ 17
+unfolding counting
+experimental-column = refl
+
 -- the LIR's result has a column; the removal's is in the same, and so is the same
 alone : Lent
 alone = lent lir here [] [] room underCx
 
-met-column : columnOf (resultOf alone) < 25
+met-column : Listed (resultOf alone)
 met-column = numbers.report-column alone
 
 taking : Lent

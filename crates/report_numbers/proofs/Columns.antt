@@ -1,12 +1,11 @@
 -- Every result of a call has a column, and one of its own; and in two rows the column of B5012 counts none.
-use Rattle.octets.specs.Standard.{ℕ, _+_, _*_, _%_, _^_, _≤_, _<_, List, [], _∷_, Bool, true, false, cond, _&&_, _≡_, refl, ap, _∙_, _⊎_, inl, inr}
-use Rattle.octets.specs.Standard.{arith, length, eqb, eqb-true}
+use Rattle.octets.specs.Standard.{ℕ, _+_, _*_, _%_, _^_, _≤_, List, [], _∷_, Bool, true, false, cond, _&&_, _≡_, refl, ap, _∙_, _⊎_, inl, inr, arith}
+use Rattle.octets.specs.Standard.{length, eqb, eqb-true}
 use Rattle.diameter.specs.Message.{commandOf}
 use Rattle.reading.specs.declared.Outcome.the-variants.{Base}
 use Rattle.counting.specs.Results.{baseResults, indexIn, commandRow, columnOf}
 use Rattle.counting.specs.Counting.{listed, Listed}
 use Rattle.counting.specs.Counted.{howMany}
-use Rattle.counting.proofs.Columns.{listed-column}
 use Rattle.counting.proofs.Numbers.{word-other}
 use Rattle.calling.specs.Call.{Call, Answered, Refused}
 use Rattle.calling.specs.Lent.{Lent, asking, dialectIn}
@@ -21,11 +20,8 @@ use Rattle.report_numbers.specs.Turns.{eventsOf, answeredIn}
 use Rattle.report_numbers.proofs.Area.{report-word}
 use Rattle.report_numbers.proofs.Cells.{answered-count, columns-apart}
 
-result-listed : (x : Lent) → Listed (resultOf x)
+pub result-listed : (x : Lent) → Listed (resultOf x)
 result-listed x = decide-carries (dialectIn x) (x .request) (x .table) (checkValue (checkOf x)) (x .vectors) .result
-
-pub column-within : (x : Lent) → columnOf (resultOf x) < 25
-column-within x = listed-column (resultOf x) (result-listed x)
 
 pub column-own : (x y : Lent) → columnOf (resultOf x) ≡ columnOf (resultOf y) → resultOf x ≡ resultOf y
 column-own x y = columns-apart (resultOf x) (resultOf y) (result-listed x) (result-listed y)

@@ -134,7 +134,7 @@ module _ (x : Lent) (a : List ℕ) (room : 1160 ≤ length a) where
     report-rows = area.report-rows x a room short
 
   -- Column B5012 of the rows 300 and 302 is 0 in every report: 02 [7] has shown that no UAR and no LIR comes to it.
-  pub report-unable : (wordIn (reportedTable x a .area) 31 ≡ 0) × (wordIn (reportedTable x a .area) 81 ≡ 0)
+  pub report-unable : (wordIn (reportedTable x a .area) (cellWord 0 11) ≡ 0) × (wordIn (reportedTable x a .area) (cellWord 2 11) ≡ 0)
   report-unable = (columns.unable-word 0 (inl refl) x a room, columns.unable-word 2 (inr refl) x a room)
 
   -- "RECORDS ALTERED, ONCE PER REQUEST": the sum over the calls of how many records have other bytes after each; its remainder by 2^64, which is the sum
@@ -154,8 +154,8 @@ module _ (x : Lent) (a : List ℕ) (room : 1160 ≤ length a) where
   report-largest-one = area.largest-word-one x a room
 
 -- "each result, B and X apart": the result of every call has a column, and two results have two.
-pub report-column : (x : Lent) → columnOf (resultOf x) < 25
-report-column = columns.column-within
+pub report-column : (x : Lent) → Listed (resultOf x)
+report-column = columns.result-listed
 
 pub report-own-column : (x y : Lent) → columnOf (resultOf x) ≡ columnOf (resultOf y) → resultOf x ≡ resultOf y
 report-own-column = columns.column-own

@@ -1,5 +1,5 @@
 -- The theorems of 02 [6] and [7] (demands/proofs/Sets and demands/proofs/Unreachable) have instances: their hypotheses are met by a family, computed.
-use Rattle.octets.specs.Standard.{ℕ, zero, suc, _<_, _≤_, _≡_, refl, sym, ap, subst, _∙_, Bool, true, false, _&&_, _⊎_, inl, _≢_, List, [], _∷_, _++_}
+use Rattle.octets.specs.Standard.{ℕ, zero, suc, _<_, _≤_, _≡_, refl, ap, subst, _∙_, Bool, true, false, _&&_, _⊎_, inl, _≢_, List, [], _∷_, _++_}
 use Rattle.octets.specs.Standard.{arith, getD, ltb, lit≤, lit<, ltb-true}
 use Rattle.octets.proofs.All.{and-left, and-right}
 use Rattle.record.specs.Fields.{serverSize}
@@ -18,13 +18,15 @@ use Rattle.requests.specs.Judged.{Judged, bad, fine}
 use Rattle.requests.specs.Request.{dialectOf, underCx, readIn}
 use Rattle.calling.specs.Call.{Refused}
 use Rattle.calling.specs.Lent.{Lent, lent}
-use Rattle.calling.specs.Serve.{Served, checkOf, checkValue, decisionBy, decision, resultOf, serveTable}
+use Rattle.calling.specs.Serve.{Served, wrongLength, earlyTrials, checkOf, checkValue, decisionBy, decision, resultOf, serveTable}
 use Rattle.ndushavire.specs.Word.{checkWord}
 use Rattle.ndushavire.specs.Reads.{ReadsCheck}
 use Rattle.demands.specs.Sets.{Shares, Agrees, Disagrees, Stands, Barred}
 use Rattle.older_rules.proofs.Unreachable.{withBranch}
 use Rattle.worked_examples.proofs.Computed.{known, come, roomy, no-vectors}
-use Rattle.worked_examples.proofs.Sample.{room, assignment, authentication, s, z, opened}
+use Rattle.calling.specs.Trial.{anyHolds}
+use Rattle.pen.specs.Bytes.{avpBytes, vendorBytes, vendorNumber}
+use Rattle.worked_examples.proofs.Sample.{room, request, common, assignment, authentication, s, z, opened}
 use Rattle.sets_example.proofs.Family.{head, line, pair, family, asking, shut, registration, family-sound, registered, admitted, barred-sound}
 use Rattle.sets_example.proofs.Family.{shut-sound}
 use Rattle.calling.specs.Lent as lending
@@ -107,23 +109,39 @@ blamed-call =
     let x = lent asking apart [] [] room underCx in
     ap (λ (y : Served). y .call) (come x {y = known false (Bad 2) (Sound 0) x} roomy met-blamed no-vectors refl)
 
-met-blamed-call : _≡_ {A = ℕ} 2 2
-met-blamed-call = sets.later-blamed-call (lent asking apart [] [] room underCx) 1 2 2 disagreeing blamed-call
+none-early : anyHolds (earlyTrials asking room) ≡ false
+unfolding opened asking anyHolds wrongLength
+none-early = rw roomy
 
--- B5003 where both are barred, before X5004: no network is named in the header
+met-blamed-call : serve (lent asking apart [] [] room underCx) .call ≡ Refused 5 2
+unfolding opened asking
+met-blamed-call = sets.later-blamed-call (lent asking apart [] [] room underCx) 1 2 none-early disagreeing
+
+-- B5003 where both are barred, before X5004: a UAR of type 0 asks for the network, of which the header names none, and with `b` free it comes to that
+unfoldable visiting : List ℕ
+visiting = request 300 (common ++ (avpBytes 1 (0x70 ∷ []) ++ (vendorBytes 601 (0x61 ∷ []) ++ (vendorBytes 600 (0x76 ∷ []) ++ vendorNumber 623 0))))
+
 abbrev turnedOut : Lent
-turnedOut = lent asking shut [] [] room underCx
+turnedOut = lent visiting shut [] [] room underCx
+
+visits : commandOf visiting ≡ 300
+unfolding opened visiting
+visits = refl
+
+no-network : resultOf (lent visiting (family 2 1 s) [] [] room underCx) ≡ Experimental 5004
+unfolding opened head line family visiting
+no-network = result (lent visiting (family 2 1 s) [] [] room underCx) 3 (Experimental 5004) barred-sound refl
 
 both-barred : Barred turnedOut 3
-unfolding opened head line shut asking
+unfolding opened head line shut visiting
 both-barred =
-    sets.barred-only turnedOut 3 shut-sound is-uar (result turnedOut 3 (Base 5003) shut-sound refl)
+    sets.barred-only turnedOut 3 shut-sound visits (result turnedOut 3 (Base 5003) shut-sound refl)
 
 met-given : resultOf turnedOut ≡ Base 5003
-met-given = sets.barred-given turnedOut 3 shut-sound is-uar both-barred
+met-given = sets.barred-given turnedOut 3 shut-sound visits both-barred
 
 met-before : resultOf turnedOut ≢ Experimental 5004
-met-before = sets.barred-before turnedOut 3 shut-sound is-uar both-barred
+met-before = sets.barred-before turnedOut 3 shut-sound visits both-barred
 
 -- .. after X5001, over a table of no record; and after X5002, where `a` is another's and `b` is of the User-Name
 abbrev unheard : Lent
@@ -186,8 +204,7 @@ first-altered = ap (λ (y : Served). differ (blockOf (family 0 0 []) 1) (blockOf
 met-agreeing : Agrees (serveTable registration .table) 1 2
 unfolding opened head line family
 met-agreeing =
-    sets.members-agree registration 3 family-sound 1 2 (lit≤ tt) (lit< tt) (lit≤ tt)
-    (subst (λ (t : List ℕ). Shares t 1 2) (sym (ap (λ (y : Served). y .table) registered)) (record { nonzero = lit< tt; number = refl; subscription = refl }))
+    sets.members-agree registration 3 family-sound 1 2 (lit≤ tt) (lit< tt) (lit≤ tt) (record { nonzero = lit< tt; number = refl; subscription = refl })
 
 -- 02 [7]
 met-served : 0 < serverSize (blockOf (family 2 1 s) 1)
