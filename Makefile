@@ -354,7 +354,7 @@ target/c99/month: tests/month.c bench/requests.h examples/load.h $(HEADER) $(ARC
 	mkdir -p $(@D)
 	$(X86_CC) -std=c99 $(STRICT) -o $@ $< $(ARCHIVE)
 
-target/c99/daemon: $(addprefix examples/,base.h files.h log.h remember.h)
+target/c99/daemon: $(addprefix examples/,base.h files.h log.h remember.h taking.h)
 target/c99/%: examples/%.c examples/load.h examples/fault.h examples/store.h examples/area.h $(HEADER) $(ARCHIVE)
 	mkdir -p $(@D)
 	$(X86_CC) -std=c99 $(STRICT) -o $@ $< $(ARCHIVE)
