@@ -207,10 +207,10 @@ differential: target/c99/driver $(BINARY)
 	done
 
 COUNT_narrow := 10000
-#: narrow             requests that real software sent, 10,000 calls and 1,000 reports on a thread whose stack is 16 KiB; half a minute
-narrow: target/narrow/decide target/narrow/driver target/c/maketable $(BINARY)
+#: narrow             requests that real software sent, 10,000 calls, 1,000 reports and 1,000 take-overs on a thread whose stack is 16 KiB; half a minute
+narrow: target/narrow/decide target/narrow/driver target/narrow/takes target/c/maketable $(BINARY)
 	RUN='$(RUN)' tests/captured.sh target/test/narrow target/c/maketable $(BINARY) target/narrow/decide
-	tests/narrow.sh $(BINARY) $(SEED) $(COUNT_narrow) $(RUN) target/narrow/driver
+	RUN='$(RUN)' tests/narrow.sh $(BINARY) target/narrow/takes $(SEED) $(COUNT_narrow) $(RUN) target/narrow/driver
 
 #: noticed            whether such a comparison would fail
 noticed: target/c99/overstep $(BINARY)
@@ -322,11 +322,13 @@ target/c99/overstep: tests/overstep.c tests/driver.c $(HEADER) $(ARCHIVE)
 
 target/narrow/driver: tests/driver.c
 target/narrow/decide: examples/decide.c examples/load.h examples/fault.h
+target/narrow/takes: tests/takes.c tests/areas.h tests/random-tables.h bench/requests.h
 # Bound at the start, as pkg-config has it: else a first call pays for the dynamic linker on its own small stack.
-target/narrow/driver target/narrow/decide: tests/narrow.c $(HEADER) $(ARCHIVE)
+target/narrow/driver target/narrow/decide target/narrow/takes: tests/narrow.c $(HEADER) $(ARCHIVE)
 	mkdir -p $(@D)
 	$(X86_CC) -std=c99 $(STRICT) -pthread -Wl,-z,now \
-	    -Wl,--wrap=ndushavire_check,--wrap=ndushavire_check_vectors,--wrap=ndushavire_decide,--wrap=ndushavire_report -o $@ $(filter %.c,$^) $(ARCHIVE)
+	    -Wl,--wrap=ndushavire_check,--wrap=ndushavire_check_vectors,--wrap=ndushavire_decide,--wrap=ndushavire_report,--wrap=ndushavire_take \
+	    -o $@ $(filter %.c,$^) $(ARCHIVE)
 
 target/c99/version: tests/version.c $(HEADER) $(ARCHIVE)
 	mkdir -p $(@D)
@@ -375,15 +377,17 @@ CHECKED := 1-short 16-short 300-short 4096-short 4096-ims 4096-long
 SECOND := 4096-short-2 4096-long-2 4096-short-2-1 4096-short-2-2 4096-short-2-4 4096-long-2-4 4096-alike-2-4 4096-alike-2-1
 DECIDED := 1-short 16-short 300-short 4096-short 1-tiny 16-tiny 300-tiny 4096-tiny
 REPORTED := 16-short 300-short 4096-short
+TAKEN := 16-short-2 300-short-2 4096-short-2 4096-long-2 4096-short-2-4
 # A program's arguments: each table, its profile file and how its names are. A table is named by its records, its names, for edition 2 by 2 and,
 # if it has sets, by how many records are in each.
 samples = $(foreach size,$(1),target/bench/$(size).table target/bench/$(size).profile $(word 2,$(subst -, ,$(size))))
 
 #: bench              times beside the aims, two minutes once their parts are made; a missed aim is marked
-bench: $(addprefix target/bench/,check vectors moves decide report) $(patsubst %,target/bench/%.table,$(sort $(CHECKED) $(SECOND) $(DECIDED)))
+bench: $(addprefix target/bench/,check vectors moves takes decide report) $(patsubst %,target/bench/%.table,$(sort $(CHECKED) $(SECOND) $(TAKEN) $(DECIDED)))
 	@{ $(CC) --version | head -n 1; \
 	   target/bench/check $(call samples,$(CHECKED) $(SECOND)); \
 	   target/bench/moves $(call samples,$(CHECKED)); \
+	   target/bench/takes $(call samples,$(TAKEN)); \
 	   target/bench/vectors $(call samples,$(CHECKED)); \
 	   target/bench/decide $(call samples,$(DECIDED)); \
 	   target/bench/report $(call samples,$(REPORTED)); } | tee target/bench/figures
@@ -420,7 +424,7 @@ target/bench/check target/bench/vectors: target/bench/%: bench/%.c $(TIMER) $(SU
 target/bench/decide: bench/decide.c $(TIMER)
 	$(CC) -std=c99 $(STRICT) -o $@ $< $(TIMED) target/bench/libreference_c.a -lpthread -ldl -lm
 
-target/bench/report target/bench/moves: target/bench/%: bench/%.c $(TIMER)
+target/bench/report target/bench/moves target/bench/takes: target/bench/%: bench/%.c $(TIMER)
 	$(CC) -std=c99 $(STRICT) -o $@ $< $(TIMED)
 
 # One program for both bindings: which it is says the environment that it is run in.
