@@ -82,7 +82,7 @@ static int measure(const Sample *s) {
 
 int main(int argc, char **argv) {
     return each_sample(argc, argv,
-                       "take-overs: microseconds, medians; as a multiple of the check; check and LIR in an area of 2,097,664 bytes, by those over the table alone\n"
+                       "take-overs: microseconds, medians; as a multiple of the check; check and LIR in an area of 2,097,664 bytes, by the table alone\n"
                        "records  names    check take-over  /check  aim           check in   LIR in  aim                LIR\n",
                        measure);
 }
