@@ -158,11 +158,12 @@ takes: target/c99/takes target/c99/cuts target/c99/take target/c99/cut-take
 	$(RUN) $< $(SEED) $(COUNT_taken)
 	$(CUT) '' target/c99/cuts target/c99/take target/c99/cut-take $(SEED) 50 20
 
-#: cuts               the whole of that, with its files on disk, a quarter of an hour: 1,000,000 sets of blocks, and 200 kills within a table of 4,096
+#: cuts               the whole of that, a quarter of an hour: 1,000,000 sets of blocks, 1,000 kills within a table of 4,096, and some of it with files on disk
 cuts: target/c99/takes target/c99/cuts target/c99/take target/c99/cut-take
 	@echo "cuts: seed $(SEED)"
 	$(RUN) $< $(SEED) 500000
-	$(CUT) target/test/cuts target/c99/cuts target/c99/take target/c99/cut-take $(SEED) 2000 200
+	$(CUT) '' target/c99/cuts target/c99/take target/c99/cut-take $(SEED) 2000 1000
+	$(CUT) target/test/cuts target/c99/cuts target/c99/take target/c99/cut-take $(SEED) 100 20
 
 #: daemon             the daemon of the examples with a client of its own: cut frames, garbage, slow peers, new tables, kills; 1 to 3 minutes
 daemon: target/c/remember target/c/maketable $(ARCHIVE)

@@ -300,13 +300,14 @@ static void lay_back(void) {
     static char told[LOG_LINE];
     if (laid_over && tried == now) return;
     tried = now;
-    laid_over = !(has_ours(table.folder, &table) ? on_disk(&table, table.before) : put_in_place());
+    const int still_there = has_ours(table.folder, &table);
+    laid_over = !(still_there ? on_disk(&table, table.before) : put_in_place());
     if (laid_over) {
         say_once(told, "table: ours is NOT STORED where another was laid over it, and nothing that alters is answered", strerror(errno));
         return;
     }
     told[0] = '\0';
-    say("table: ours is stored again; what was laid over it is table.declined");
+    say("table: ours is stored again%s", still_there ? "" : "; what was laid over it is table.declined");
 }
 
 static void take_over(const File *new_table, const File *new_profile) {

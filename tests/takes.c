@@ -2,7 +2,7 @@
  * many, issues in the way anywhere in the area, areas too short; and what the check and a question get of an area that is longer than its table.
  *   - It returns the word that it should, and leaves the bytes that it should, also behind the area; new table and profile stay as they were.
  *   - Repeated, it is refused by 10. A table of a greater issue is taken over what the first left; and over zeros the same one.
- *   - After it the check and a question say of the area what they say of the new table alone, whatever stands behind it.
+ *   - After it the check, a question and a report say of the area what they say of the new table alone, whatever stands behind it.
  * Exit status: 0 all as it should be, 1 not so, or too little was tried, 2 wrong use. */
 #include "areas.h"
 
@@ -109,10 +109,19 @@ static uint64_t take(Bytes area, Bytes fresh, Bytes profile) {
     return ndushavire_take(area.bytes, area.length, fresh.bytes, fresh.length, profile.bytes, profile.length);
 }
 
-/* Of the area the check and a question say what they say of the new table alone. */
+/* The report of one request. */
+static void report_over(uint8_t *numbers, const Request *r, Bytes area, Bytes profile) {
+    static uint8_t answer[NDUSHAVIRE_ANSWER_ROOM], none;
+    if (ndushavire_report(r->bytes, r->length, area.bytes, area.length, profile.bytes, profile.length, &none, 0, answer, sizeof answer, numbers,
+                          NDUSHAVIRE_REPORT_ROOM) != 0)
+        fail("a report is refused");
+}
+
+/* Of the area the check, a question and a report say what they say of the new table alone. */
 static void reads_as_new(Bytes area, Bytes fresh, Bytes profile) {
     static Request r;
     static Said over_area, over_table;
+    static uint8_t of_area[NDUSHAVIRE_REPORT_ROOM], of_table[NDUSHAVIRE_REPORT_ROOM];
     const Bytes alone = copy_of(fresh);
     if (check_over(area, profile) != fresh.length / BLOCK - 1) fail("the check does not say of the area that it is sound");
     if (fresh.length > BLOCK) {
@@ -122,6 +131,9 @@ static void reads_as_new(Bytes area, Bytes fresh, Bytes profile) {
         ask_over(&over_area, &r, area, profile);
         ask_over(&over_table, &r, alone, profile);
         if (!ndushavire_answered(over_area.word) || !same_said(&over_area, &over_table)) fail("a question gets another answer over the area");
+        report_over(of_area, &r, area, profile);
+        report_over(of_table, &r, alone, profile);
+        if (memcmp(of_area, of_table, sizeof of_area) != 0) fail("a report has other numbers over the area");
         if (memcmp(area.bytes, alone.bytes, alone.length) != 0) fail("a question alters the area otherwise");
         seen.answers++;
     }
@@ -149,6 +161,8 @@ static void try_pair(Pair *p) {
         fail("it alters the new table or the profile");
     if (ndushavire_taken(word)) {
         reads_as_new(area, fresh, profile);
+        if (memcmp(area.bytes + fresh.length, after.bytes + fresh.length, area.length - fresh.length + BEHIND) != 0)
+            fail("what stands past the table is altered");
         memcpy(area.bytes, after.bytes, area.length);
         take_again(area, fresh, profile);
         if (memcmp(area.bytes + area.length, after.bytes + after.length, BEHIND) != 0) fail("it writes past the area");
