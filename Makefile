@@ -158,7 +158,7 @@ takes: target/c99/takes target/c99/cuts target/c99/take target/c99/cut-take
 	$(RUN) $< $(SEED) $(COUNT_taken)
 	$(CUT) '' target/c99/cuts target/c99/take target/c99/cut-take $(SEED) 50 20
 
-#: cuts               the whole of that, a quarter of an hour: 1,000,000 sets of blocks, 1,000 kills within a table of 4,096, and some of it with files on disk
+#: cuts               the whole of that, ten minutes: 1,000,000 sets of blocks, 1,000 kills within a table of 4,096, and some of it with files on disk
 cuts: target/c99/takes target/c99/cuts target/c99/take target/c99/cut-take
 	@echo "cuts: seed $(SEED)"
 	$(RUN) $< $(SEED) 500000

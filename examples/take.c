@@ -10,6 +10,7 @@
 #define _POSIX_C_SOURCE 200809L
 #include <ndushavire.h>
 
+#include <signal.h>
 #include <sys/file.h>
 
 #include "area.h"
@@ -80,8 +81,18 @@ static uint8_t *read_area(int area, const char *path, size_t *length) {
     return bytes;
 }
 
+/* A terminal whose link goes, or somebody's key, does not cut it: their signals wait until the program ends. */
+static void hold_signals(void) {
+    static const int waiting[] = {SIGHUP, SIGINT, SIGQUIT, SIGTERM};
+    sigset_t held;
+    sigemptyset(&held);
+    for (size_t i = 0; i < sizeof waiting / sizeof waiting[0]; i++) sigaddset(&held, waiting[i]);
+    sigprocmask(SIG_BLOCK, &held, NULL);
+}
+
 /* Writes all blocks in place, or ends the program. */
 static void write_blocks(int area, const char *path, const uint8_t *fresh, size_t blocks) {
+    hold_signals();
     for (size_t k = 0; k < blocks; k++) {
         if (write_block(area, fresh, k)) continue;
         fprintf(stderr, "%s: block %lu of %lu: %s: the take-over is NOT finished, and the area is refused until it is mended\n", path, (unsigned long)k,

@@ -1,7 +1,8 @@
 /* cut.h: included before take.c by its tests. CUT=BLOCK:WHAT says what happens at that block:
  *   before, written, flushed   the process is killed with SIGKILL before it writes the block, behind that, behind its flush
  *   fails, unflushed           the block cannot be written, or not be flushed
- *   short, interrupted         half of the block is written at first; a signal comes before it
+ *   short, interrupted         half of the block is written at first; the call is interrupted once
+ *   told                       the process gets the signals of a terminal that goes away and of a supervisor before it writes the block
  * It also sees that each block is written whole, by itself, in rising order from 0, and flushed before the next: else the status is 99. */
 #ifndef CUT_H
 #define CUT_H
@@ -41,6 +42,11 @@ static ssize_t cut_pwrite(int file, const void *bytes, size_t length, off_t at) 
     if (at != cut.next || (at + (off_t)length) % 512 != 0 || (length != 512 && !halved)) out_of_order("no whole block, or another");
     if (cut.unflushed && at % 512 == 0) out_of_order("the block before is not flushed");
     cut_here(at, "before");
+    if (cut_is(at, "told")) {
+        kill(getpid(), SIGHUP);
+        kill(getpid(), SIGINT);
+        kill(getpid(), SIGTERM);
+    }
     if (cut_is(at, "fails") || (cut_is(at, "interrupted") && !cut.done)) {
         cut.done = 1;
         errno = cut_is(at, "fails") ? EIO : EINTR;

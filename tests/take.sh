@@ -220,5 +220,6 @@ for block in $(seq 0 "$records"); do
     cut_off "$block" unflushed 1 $((block + 1))
     cut_off "$block" short 0 "$blocks"
     cut_off "$block" interrupted 0 "$blocks"
+    cut_off "$block" told 0 "$blocks"
 done
 echo "take.sh: $tried take-overs, refusals and failures, each as it should be"
