@@ -168,12 +168,13 @@ ifndef SEED
 SEED := $(shell od -An -N4 -tu4 /dev/urandom | tr -d ' ')
 endif
 DRIVER = $(RUN) target/c99/driver
-KINDS := tables vectors calls reports moves demand3 runs
+KINDS := tables vectors calls reports moves takes demand3 runs
 COUNT_tables := 200000
 COUNT_vectors := 100000
 COUNT_calls := 100000
 COUNT_reports := 20000
 COUNT_moves := 50000
+COUNT_takes := 50000
 COUNT_demand3 := 20000
 COUNT_runs := 2000
 
@@ -185,7 +186,7 @@ cited: $(ARCHIVE) $(PROGRAMS)
 recipes: $(ARCHIVE) $(PROGRAMS) $(OVER_ARCHIVE) target/c99/decide
 	RUN='$(RUN)' tests/recipes.sh target/test/recipes '$(PROGRAM)' $(X86_CC)
 
-#: differential       the library beside the independent program on 490,000 new cases and 2,000 runs of calls; SEED=N runs a seed again
+#: differential       the library beside the independent program on 540,000 new cases and 2,000 runs of calls; SEED=N runs a seed again
 differential: target/c99/driver $(BINARY)
 	@for of in $(foreach kind,$(KINDS),$(kind):$(COUNT_$(kind))); do \
 	    echo "differential run: seed $(SEED), $${of#*:} $${of%:*}"; \
@@ -193,7 +194,7 @@ differential: target/c99/driver $(BINARY)
 	done
 
 COUNT_narrow := 10000
-#: narrow             requests that real software sent, 10,000 calls and 1,000 reports on a thread whose stack is 16 KiB; half a minute
+#: narrow             requests that real software sent, 10,000 calls, and 1,000 reports, checks, moves and take-overs on a thread whose stack is 16 KiB; half a minute
 narrow: target/narrow/decide target/narrow/driver target/c/maketable $(BINARY)
 	RUN='$(RUN)' tests/captured.sh target/test/narrow target/c/maketable $(BINARY) target/narrow/decide
 	tests/narrow.sh $(BINARY) $(SEED) $(COUNT_narrow) $(RUN) target/narrow/driver
@@ -233,6 +234,7 @@ stats: $(BINARY)
 	$(BINARY) stats --kind calls --seed $(SEED) --count $(COUNT_calls)
 	$(BINARY) stats --kind reports --seed $(SEED) --count $(COUNT_reports)
 	$(BINARY) stats --kind moves --seed $(SEED) --count $(COUNT_moves)
+	$(BINARY) stats --kind takes --seed $(SEED) --count $(COUNT_takes)
 
 # The definitions beside the independent program: antt computes each case, which takes seconds; 24 make a quick trial.
 COUNT_DEFINITIONS := 300
@@ -312,7 +314,7 @@ target/narrow/decide: examples/decide.c examples/load.h examples/fault.h
 target/narrow/driver target/narrow/decide: tests/narrow.c $(HEADER) $(ARCHIVE)
 	mkdir -p $(@D)
 	$(X86_CC) -std=c99 $(STRICT) -pthread -Wl,-z,now \
-	    -Wl,--wrap=ndushavire_check,--wrap=ndushavire_check_vectors,--wrap=ndushavire_decide,--wrap=ndushavire_report -o $@ $(filter %.c,$^) $(ARCHIVE)
+	    $(foreach entry,check check_vectors decide report forward back take,-Wl,--wrap=ndushavire_$(entry)) -o $@ $(filter %.c,$^) $(ARCHIVE)
 
 target/c99/version: tests/version.c $(HEADER) $(ARCHIVE)
 	mkdir -p $(@D)
