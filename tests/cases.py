@@ -107,26 +107,30 @@ def fitting(reference):
 
 
 def showing(reference, fault, found, told):
-    """The first case that shows a fault, if one does; most are shown by one of the first thousand."""
+    """The first case that shows a fault, with its outcome, if one does; most are shown by one of the first thousand."""
     at, count = 0, 1000
     while at < len(found):
         some = found[at:at + count]
         wrong = outcomes(run(reference, 'outcomes', '--fault', fault, given=b''.join(case.whole for case in some)))
         for case, right, other in zip(some, told[at:at + count], wrong):
             if right.whole != other.whole:
-                return case.whole
+                return case, right
         at, count = at + count, 2 * count
 
 
 def telling(reference, found, told):
-    """For each deliberate fault of the independent program the first case that shows it."""
+    """For each deliberate fault of the independent program the first case that shows it, unless one for a fault before does."""
+    kept = []
     for line in run(reference, 'faults').decode().splitlines():
         fault = line.split()[0]
+        if kept and showing(reference, fault, *zip(*kept)):
+            continue
         case = showing(reference, fault, found, told)
         if case is None:
             print(f'no case shows {fault}')
         else:
-            yield [case]
+            kept.append(case)
+            yield [case[0].whole]
 
 
 def chosen(reference):
@@ -144,10 +148,9 @@ def chosen(reference):
     taken, left = {}, MOST
     for groups in telling(reference, found, told), results.values(), editions.values(), rows.values(), (group[1:] for group in rows.values()):
         for group in groups:
-            case = group[0] if group else None
-            if case and case not in taken and len(case) <= left:
-                taken[case] = None
-                left -= len(case)
+            if group and len(group[0]) <= left and not any(case in taken for case in group):
+                taken[group[0]] = None
+                left -= len(group[0])
         print(f'{len(taken)} cases of {len(results)} results and {len(rows)} rows, room for {left} bytes more')
     return list(taken)
 
