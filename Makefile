@@ -185,12 +185,13 @@ ifndef SEED
 SEED := $(shell od -An -N4 -tu4 /dev/urandom | tr -d ' ')
 endif
 DRIVER = $(RUN) target/c99/driver
-KINDS := tables vectors calls reports moves demand3 runs
+KINDS := tables vectors calls reports moves takes demand3 runs
 COUNT_tables := 200000
 COUNT_vectors := 100000
 COUNT_calls := 100000
 COUNT_reports := 20000
 COUNT_moves := 50000
+COUNT_takes := 50000
 COUNT_demand3 := 20000
 COUNT_runs := 2000
 
@@ -202,7 +203,7 @@ cited: $(ARCHIVE) $(PROGRAMS)
 recipes: $(ARCHIVE) $(PROGRAMS) $(OVER_ARCHIVE) target/c99/decide
 	RUN='$(RUN)' tests/recipes.sh target/test/recipes '$(PROGRAM)' $(X86_CC)
 
-#: differential       the library beside the independent program on 490,000 new cases and 2,000 runs of calls; SEED=N runs a seed again
+#: differential       the library beside the independent program on 540,000 new cases and 2,000 runs of calls; SEED=N runs a seed again
 differential: target/c99/driver $(BINARY)
 	@for of in $(foreach kind,$(KINDS),$(kind):$(COUNT_$(kind))); do \
 	    echo "differential run: seed $(SEED), $${of#*:} $${of%:*}"; \
@@ -210,10 +211,10 @@ differential: target/c99/driver $(BINARY)
 	done
 
 COUNT_narrow := 10000
-#: narrow             requests that real software sent, 10,000 calls, 1,000 reports and 1,000 take-overs on a thread whose stack is 16 KiB; half a minute
-narrow: target/narrow/decide target/narrow/driver target/narrow/takes target/c/maketable $(BINARY)
+#: narrow             requests that real software sent, 10,000 calls, and 1,000 reports, checks, moves and take-overs on a thread whose stack is 16 KiB; half a minute
+narrow: target/narrow/decide target/narrow/driver target/c/maketable $(BINARY)
 	RUN='$(RUN)' tests/captured.sh target/test/narrow target/c/maketable $(BINARY) target/narrow/decide
-	RUN='$(RUN)' tests/narrow.sh $(BINARY) target/narrow/takes $(SEED) $(COUNT_narrow) $(RUN) target/narrow/driver
+	tests/narrow.sh $(BINARY) $(SEED) $(COUNT_narrow) $(RUN) target/narrow/driver
 
 #: noticed            whether such a comparison would fail
 noticed: target/c99/overstep $(BINARY)
@@ -237,7 +238,7 @@ peers: target/c99/daemon target/c/maketable
 
 # After how many cases each deliberate fault of the independent program shows; what the cases are made of.
 COUNT_mutants := 100000
-#: mutants            whether 746 deliberate faults would be noticed, and after how many cases
+#: mutants            whether 839 deliberate faults would be noticed, and after how many cases
 mutants: $(BINARY)
 	@echo "mutants: seed $(SEED)"
 	$(BINARY) mutants --seed $(SEED) --count $(COUNT_mutants)
@@ -250,6 +251,7 @@ stats: $(BINARY)
 	$(BINARY) stats --kind calls --seed $(SEED) --count $(COUNT_calls)
 	$(BINARY) stats --kind reports --seed $(SEED) --count $(COUNT_reports)
 	$(BINARY) stats --kind moves --seed $(SEED) --count $(COUNT_moves)
+	$(BINARY) stats --kind takes --seed $(SEED) --count $(COUNT_takes)
 
 # The definitions beside the independent program: antt computes each case, which takes seconds; 24 make a quick trial.
 COUNT_DEFINITIONS := 300
@@ -325,13 +327,11 @@ target/c99/overstep: tests/overstep.c tests/driver.c $(HEADER) $(ARCHIVE)
 
 target/narrow/driver: tests/driver.c
 target/narrow/decide: examples/decide.c examples/load.h examples/fault.h
-target/narrow/takes: tests/takes.c tests/areas.h tests/random-tables.h bench/requests.h
 # Bound at the start, as pkg-config has it: else a first call pays for the dynamic linker on its own small stack.
-target/narrow/driver target/narrow/decide target/narrow/takes: tests/narrow.c $(HEADER) $(ARCHIVE)
+target/narrow/driver target/narrow/decide: tests/narrow.c $(HEADER) $(ARCHIVE)
 	mkdir -p $(@D)
 	$(X86_CC) -std=c99 $(STRICT) -pthread -Wl,-z,now \
-	    -Wl,--wrap=ndushavire_check,--wrap=ndushavire_check_vectors,--wrap=ndushavire_decide,--wrap=ndushavire_report,--wrap=ndushavire_take \
-	    -o $@ $(filter %.c,$^) $(ARCHIVE)
+	    $(foreach entry,check check_vectors decide report forward back take,-Wl,--wrap=ndushavire_$(entry)) -o $@ $(filter %.c,$^) $(ARCHIVE)
 
 target/c99/version: tests/version.c $(HEADER) $(ARCHIVE)
 	mkdir -p $(@D)

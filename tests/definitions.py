@@ -2,7 +2,8 @@
 """definitions.py REFERENCE SEED COUNT: do the definitions say what the independent program says?
 
 Takes calls that the independent program made and its outcomes of them, picks COUNT that show every refusal, every result,
-every assignment type, every step of an authentication, both editions and the rules of sets, and writes them as a crate with one statement, which antt computes from the definitions alone.
+every assignment type, every step of an authentication, both editions, the rules of sets and an area longer than its table, and writes them as a crate
+with one statement, which antt computes from the definitions alone.
 The crate stands in a folder outside the repository, beside copies of the crates that crates/worked_examples and crates/ndushavire stand on. What the
 cases open is read from crates/worked_examples/proofs/Sample.antt, so that there is one list of it.
 """
@@ -24,7 +25,7 @@ STEPS += ['B2001 in state %d, %s' % (state, name) for state in range(3) for name
 STEPS += ['B5005 %d' % code for code in (1, 601, 612, 607, 602)] + ['B5004 612', 'B5014 607']
 WANTED = {'refused %d' % n for n in range(1, 7)} | {'B' + n for n in BASE.split()} | {'X' + n for n in EXPERIMENTAL.split()} | {
     'type %d done' % n for n in range(12)} | {'MAR ' + step for step in STEPS} | {'over edition 1', 'over edition 2'} | {
-    'a set written whole', 'barred, another of its set free', 'a set that disagrees'}
+    'a set written whole', 'barred, another of its set free', 'a set that disagrees', 'over a longer area'}
 
 Case = collections.namedtuple('Case', 'request table profile vectors room word at changed vectorsAt vectorsChanged answer')
 
@@ -59,10 +60,6 @@ def steps(case, result, found):
     return many | {'B2001 as many as ' + ('asked' if sent == number else 'remain'), 'B2001 in state %d, %s' % (state, kept)}
 
 
-def blocks(table):
-    return [table[at:at + 512] for at in range(512, len(table) - 511, 512)]
-
-
 def one_set(a, b):
     return any(a[406:408]) and a[406:408] == b[406:408] and a[144:144 + a[14]] == b[144:144 + b[14]]
 
@@ -78,7 +75,7 @@ def set_shown(case, command, result):
         return {'a set written whole'} if case.at // 512 < (case.at + len(case.changed) - 1) // 512 else set()
     if command == 300 and (result[1] == '2' or result in ('X5003', 'X5004')):
         name = asked(case)[601, 10415]
-        return {'barred, another of its set free' for b in blocks(case.table) if b[16:16 + b[13]] == name and b[9] // 2 % 2}
+        return {'barred, another of its set free' for b in streams.records(case.table) if b[16:16 + b[13]] == name and b[9] // 2 % 2}
     return set()
 
 
@@ -86,14 +83,14 @@ def shows(case):
     """Of WANTED; and its kind, which has the command, the answer's AVPs and whether a record changed besides."""
     if case.word >> 48:
         shown, block = {'refused %d' % (case.word >> 48)}, case.word & 0xffffffff
-        if case.word >> 48 == 5 and 1 <= block <= len(blocks(case.table)) and any(
-                apart(a, blocks(case.table)[block - 1]) for a in blocks(case.table)[:block - 1]):
+        records = streams.records(case.table)
+        if case.word >> 48 == 5 and 1 <= block <= len(records) and any(apart(a, records[block - 1]) for a in records[:block - 1]):
             shown.add('a set that disagrees')
         return shown, frozenset(shown)
     found = dict(streams.avps(case.answer[20:]))
     result = 'B%d' % struct.unpack('>I', found[268, 0]) if (268, 0) in found else 'X%d' % struct.unpack('>I', found[297, 0][20:24])
     command = int.from_bytes(case.request[5:8], 'big')
-    shown = {result, 'over edition %d' % case.table[1]}
+    shown = {result, 'over edition %d' % case.table[1]} | ({'over a longer area'} if streams.past(case.table) else set())
     if command == 301 and (result[0] == 'X' or result in ('B2001', 'B5012')):  # decided, so all AVPs are sound
         done = 'done' if result in ('B2001', 'X2004') else result
         shown.add('type %d %s' % (asked(case)[614, 10415][3], done))
