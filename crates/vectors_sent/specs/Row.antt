@@ -10,7 +10,8 @@ use Rattle.calling.specs.Lent.{Lent, lent}
 use Rattle.calling.specs.Serve.{serveTable, serve}
 use Rattle.vectors_sent.specs.Sent.{sentBy}
 
--- what is lent to a call besides the vector file, and its terms. Any table may be: the one that the call before left, or another that the daemon has put in its place
+-- what is lent to a call besides the vector file, and its terms. Any table may be: the one that the call before
+-- left, or another that the daemon has put in its place
 pub record Turn : Type 0 where
   pub request : List ℕ
   pub table : List ℕ
