@@ -16,8 +16,7 @@
  * - ndushavire_report alters both as its requests do, one after the other, and nothing under 15.
  * - ndushavire_forward and ndushavire_back write to every block of a table that they move, the edition, the issue number and the check
  *   word, and nothing if they refuse.
- * - ndushavire_take writes the new table over its area, each block of it once, from block 0 up, and nothing behind it; and nothing if it
- *   refuses.
+ * - ndushavire_take writes the new table over the front of its area, and nothing behind it; and nothing if it refuses.
  * - ndushavire_check and ndushavire_check_vectors alter nothing.
  *
  * Threads. A call is reentrant; it sets no errno and raises no signal. Calls on different tables and vectors may run at
@@ -33,12 +32,9 @@
  * moves, and the new table of a take-over.
  *
  * Editions. A table is of edition 1, or of edition 2, which has an issue number in every block and in each record the number
- * of an implicit set, 0 for none. One that mixes editions or issue numbers is unsound. Every function reads both editions, and no
- * answer depends on edition or issue; ndushavire_forward and ndushavire_back move a table from one to the other.
- *
- * Working areas. The table that ndushavire_decide, ndushavire_check and ndushavire_report are lent may be longer than 512 x (its record
- * count + 1) bytes: blocks past the count, and a last piece under a block, are not looked at, do not matter, and stay as they are. A
- * shorter one has a bad block 0. The moves, and the new table of ndushavire_take, have the exact length.
+ * of an implicit set, 0 for none. One that mixes editions or issue numbers is unsound. Every function reads both editions, but for the new
+ * table of a take-over, which is of edition 2. No answer depends on edition or issue. ndushavire_forward and ndushavire_back move a table from
+ * one to the other.
  *
  * Sets. The records of one private identity with the same set number, other than 0, are an implicit set: what a request does to one
  * of them it does to all. A table is sound only if the records of each set agree in state, pending and server name; the later block
@@ -148,14 +144,14 @@ uint64_t ndushavire_forward(uint8_t *table, size_t table_len, const uint8_t *pro
 uint64_t ndushavire_back(uint8_t *table, size_t table_len, const uint8_t *profile, size_t profile_len);
 
 /* Takes a new table over: writes FRESH, which is sound beside PROFILE and of edition 2, over the working area, block by block from block 0 up,
- * each once. Whatever was in the area, an old table, one that was cut, or anything: while only some blocks are written, it is refused by 5.
+ * each once. It does not matter what was in the area: an old table, one that was cut, or anything.
  * - After the first k blocks of the new table, and nothing else, the area is as it was (k = 0), or is the new table (all of them), or its
  *   check gives 5 with block k. So a daemon that writes its stored table in this order, a block on disk before the next is begun, may be cut
- *   off at any moment, and no question gets an answer from half a table.
- * - If some disk lost that order, and any of the blocks are written and any not: with block 0 the area is the new table if all are written,
- *   and else its check gives 5 with the lowest that is not. Without block 0 it reads as before if none is within the old header's count, and
- *   else its check gives 5.
- * That rests on a block being written whole, and on a profile file that stays as it is.
+ *   off at any moment, and no request gets an answer from half a table.
+ * - Should a disk lose that order, some blocks are written and some are not. If block 0 is, the area is the new table if all others are too,
+ *   and else its check gives 5 with the lowest that is not. If block 0 is not, the area reads as before if none within the old header's
+ *   count is written, and else its check gives 5.
+ * All this is proved, provided that a block is written whole and that the profile file stays as it is.
  * After a success every request gets what it gets over the new table alone; blocks past its count, and a last piece, are as they were.
  * The word's number is 0 and its value the new record count; or, tried in this order, with value 0 and nothing written:
  * 9 the new table is unsound beside PROFILE, or longer or shorter than 512 x (count + 1), or of edition 1;
