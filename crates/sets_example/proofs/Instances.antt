@@ -113,7 +113,7 @@ none-early : anyHolds (earlyTrials asking room) ≡ false
 unfolding opened asking anyHolds wrongLength
 none-early = rw roomy
 
-met-blamed-call : serve (lent asking apart [] [] room underCx) .call ≡ Refused 5 2
+met-blamed-call : serveTable (lent asking apart [] [] room underCx) .call ≡ Refused 5 2
 unfolding opened asking
 met-blamed-call = sets.later-blamed-call (lent asking apart [] [] room underCx) 1 2 none-early disagreeing
 
