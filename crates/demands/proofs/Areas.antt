@@ -5,11 +5,11 @@ use Rattle.record.specs.Fields.{countOf}
 use Rattle.record.specs.HeaderBlock.{headerOf}
 use Rattle.blocks.specs.Blocks.{blockOf}
 use Rattle.blocks.specs.declared.Checked.the-variants.{Sound}
-use Rattle.table.specs.Area.{tableIn, checkArea}
+use Rattle.table.specs.Area.{tableIn}
 use Rattle.table.specs.Check.{checkTable}
 use Rattle.table.specs.Named.{privateAt}
 use Rattle.table.proofs.Areas.{in-first, in-block}
-use Rattle.table.proofs.Sound.{TableTests, table-says}
+use Rattle.table.proofs.Sound.{table-says}
 use Rattle.rewrite.specs.Keeps.{alterable}
 use Rattle.calling.specs.Lent.{Lent, tableOnly, dialectIn}
 use Rattle.calling.specs.Serve.{checkOf, serveTable, serve}

@@ -15,7 +15,6 @@ use Rattle.pen.specs.Groups.{failed}
 use Rattle.reading.specs.Kinds.{kindOf}
 use Rattle.reading.specs.Rules.{Seen, rule}
 use Rattle.reading.specs.declared.Dialect.{Dialect}
-use Rattle.reading.specs.declared.Outcome.{Outcome}
 use Rattle.reading.specs.declared.Outcome.the-variants.{Base}
 use Rattle.reading.specs.declared.Terms.{Terms}
 use Rattle.reading.specs.declared.Ruled.the-variants.{Taken, Skipped, Fault}
@@ -24,7 +23,7 @@ use Rattle.requests.specs.Request.{headerFault, firstOther}
 use Rattle.reply.specs.Pieces.{topBytes, headerBytes}
 use Rattle.answering.specs.Answer.{proxies}
 use Rattle.calling.specs.Lent.{Lent, dialectIn}
-use Rattle.calling.specs.Serve.{Served, checkOf, decision, checkValue}
+use Rattle.calling.specs.Serve.{Served}
 use Rattle.calling.specs.Call.{Answered}
 use Rattle.demands.specs.Call.{turnedAway}
 
