@@ -7,4 +7,4 @@ pub mod Members
 pub mod Moves
 pub mod Places
 pub mod Run
-pub mod Taking
+pub mod TakeOvers
