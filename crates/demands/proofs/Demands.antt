@@ -59,8 +59,8 @@ pub promised-alike : (a : Lent) (area : List ℕ) → take (sizeIn (a .table)) a
     → SameCall (serve (holding a area)) (serve a) × (tableIn (serve (holding a area) .table) ≡ tableIn (serve a .table))
 promised-alike a area same = (alike-call a area same, alike-table a area same)
 
--- The pages that speak of `serveTable`, the call over a table of its exact length, speak so of every call: it is `serveTable` over the table at the front of
--- the area, and over an area that is no longer than its table, as over every sound table lent alone, it is `serveTable`.
+-- Pages that speak of `serveTable`, the call over a table of its exact length, speak of the exported call by these two: it is `serveTable` over the table at
+-- the front of the area; and over an area as long as its table, as a sound table lent alone is, `serve` is `serveTable`.
 pub promised-table : (a : Lent) {r : ℕ} {t' v' o' : List ℕ} → DecidePromise a r t' v' o'
     → serveTable (tableOnly a) ≡ record { call = callIn r; table = tableIn t'; vectors = v'; buffer = o' }
 promised-table a p =
