@@ -78,7 +78,7 @@ unfolding cardsAll
 sent-comes = come (lent mar idle [] fresh room underCx) roomy idle-sound fresh-sound refl
 
 sent-roomy : smallBuffer sent ≡ false
-sent-roomy = stays (lent mar idle [] fresh room underCx) 336 named used sent sent-comes roomy
+sent-roomy = stays (lent mar idle [] fresh room underCx) 336 named used sent sent-comes idle-sound roomy
 
 denied-comes : serveTable (lent mar named [] used sent underCx) ≡ leaves 116 named used denied
 unfolding cardsAll

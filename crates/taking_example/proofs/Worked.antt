@@ -43,11 +43,11 @@ module _ (fresh : List ℕ) (n : ℕ) where
   unfolding unfit
   fits e f = rw (e, f)
 
-old-sound : checkTable (two 5) 0 ≡ Sound 2
+pub old-sound : checkTable (two 5) 0 ≡ Sound 2
 unfolding opened
 old-sound = refl
 
-three-sound : checkTable (three 6) 0 ≡ Sound 3
+pub three-sound : checkTable (three 6) 0 ≡ Sound 3
 unfolding opened
 three-sound = refl
 
@@ -76,11 +76,11 @@ unfolding opened
 greater-fit = refl
 
 -- An area reads as its table, whatever is behind; as a table it is too long. Shorter than its count says, or without a whole block, its block 0 is bad.
-roomy-table : tableIn roomy ≡ two 5
+pub roomy-table : tableIn roomy ≡ two 5
 unfolding opened
 roomy-table = refl
 
-roomy-reads : checkArea roomy 0 ≡ Sound 2
+pub roomy-reads : checkArea roomy 0 ≡ Sound 2
 unfolding checkArea
 roomy-reads = ap (λ (t : List ℕ). checkTable t 0) roomy-table ∙ old-sound
 
@@ -361,10 +361,10 @@ met-torn-checked : checkArea (tornAfter roomy (three 6) (λ (j : ℕ). false)) 0
 met-torn-checked = page.torn-checked roomy (three 6) 0 3 three-taken (λ (j : ℕ). false) (λ j l m. refl) ∙ roomy-reads
 
 -- block 1 alone is written, within the old count, and block 0 is not
-only-one : (j : ℕ) → j < 1 → eqb 1 j ≡ false
+pub only-one : (j : ℕ) → j < 1 → eqb 1 j ≡ false
 only-one j l = ne-eqb 1 j (omega arith)
 
-two-counted : 1 ≤ countOf (blockOf roomy 0)
+pub two-counted : 1 ≤ countOf (blockOf roomy 0)
 unfolding opened
 two-counted = lit≤ tt
 
