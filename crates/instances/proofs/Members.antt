@@ -81,12 +81,12 @@ c-member =
       front = front;
       other = named 0x61;
       back = named 0x62 ∷ own;
-      still = refl;
+      rest-is = refl;
       identity = refl;
-      block = 1;
-      member = 3;
-      block-is = record { from = lit≤ tt; to = lit≤ tt; name = refl };
-      member-is = record { from = lit≤ tt; to = lit≤ tt; name = refl };
+      other-block = 1;
+      one-block = 3;
+      other-stands = record { from = lit≤ tt; to = lit≤ tt; name = refl };
+      one-stands = record { from = lit≤ tt; to = lit≤ tt; name = refl };
       shares = record { nonzero = lit< tt; number = refl; subscription = refl };
     }
 
@@ -119,12 +119,12 @@ a-member =
       front = front ++ (named 0x62 ∷ []);
       other = named 0x63;
       back = own;
-      still = refl;
+      rest-is = refl;
       identity = refl;
-      block = 3;
-      member = 1;
-      block-is = record { from = lit≤ tt; to = lit≤ tt; name = refl };
-      member-is = record { from = lit≤ tt; to = lit≤ tt; name = refl };
+      other-block = 3;
+      one-block = 1;
+      other-stands = record { from = lit≤ tt; to = lit≤ tt; name = refl };
+      one-stands = record { from = lit≤ tt; to = lit≤ tt; name = refl };
       shares = record { nonzero = lit< tt; number = refl; subscription = refl };
     }
 
