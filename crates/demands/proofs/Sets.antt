@@ -1,6 +1,6 @@
 -- 02 [6], "Registering one registers the set, and the barring rule was wrong.", sentence by sentence: the statements alone, each by the law that has its
--- proof. What the words below mean is in specs/Sets; what the rules were before is in older_rules/specs/WithoutSets. A call is over an area, `a`, and goes by the
--- table at its front (`promised` in proofs/Demands): `tableIn (a .table)`, or all that is lent with it alone, `tableOnly a`.
+-- proof. What the words below mean is in specs/Sets; what the rules were before is in older_rules/specs/WithoutSets. A call is over an area, `a`, and goes by
+-- the table at its front (`promised` in proofs/Demands): `tableIn (a .table)`, or all that is lent with it alone, `tableOnly a`.
 use Rattle.octets.specs.Standard.{ℕ, _<_, _≤_, true, false, true≢false, _≡_, sym, ap, _∙_, _⊎_, _≢_, _↔_, List, _++_, length, getD}
 use Rattle.record.specs.Fields.{editionOf, bitsOf, barred}
 use Rattle.record.specs.Sets.{sameSet}
@@ -42,7 +42,7 @@ use Rattle.demands.proofs.Unable as unable
 
 -- A result here (`resultOf`) is that of the decision which `serve` answers with where it does not refuse: proofs/Demands, `demand-2`.
 -- "Document 01 rejects every barred identity in a UAR. The trade's rule is softer: one with a non-barred identity in its implicit set may go on.": it is not
--- rejected, and where the User-Name is its record's, the answer carries what it does for an identity that is not barred
+-- rejected, and where the User-Name is its record's, the answer carries what it does for an identity that is known (`true`) and not barred (`false`)
 module _ (a : Lent) (count : ℕ) (sound : checkOf (tableOnly a) ≡ Sound count) (uar : commandOf (a .request) ≡ 300) (seen : Seen)
     (read : readIn (dialectIn a) (a .request) ≡ fine seen) (k j : ℕ) (stands : Stands (tableIn (a .table)) count k (dataSeen seen publicIdentity))
     (from : 1 ≤ j) (to : j ≤ count) (shares : Shares (tableIn (a .table)) k j) (free : barred (bitsOf (blockOf (tableIn (a .table)) j)) ≡ false) where

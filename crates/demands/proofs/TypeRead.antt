@@ -71,7 +71,8 @@ taken-right d seen a r e = go (eqb (kindOf a) assignmentType) (ltb assignmentTyp
         let k : kindOf a ≡ assignmentType = eqb-true _ _ f in
         rw (k, getD-set-same seen assignmentType (some a) none (ltb-true _ _ g)) (number-right a (rw k at e))
     go true false f g =
-        let h : length (set seen (kindOf a) (some a)) ≤ assignmentType = omega (arith, length-set seen (kindOf a) (some a), ltb-false assignmentType (length seen) g) in
+        let h : length (set seen (kindOf a) (some a)) ≤ assignmentType =
+        omega (arith, length-set seen (kindOf a) (some a), ltb-false assignmentType (length seen) g) in
         rw (List·getD-eq-default (set seen (kindOf a) (some a)) none h) (omega arith)
 
 abbrev Rightly : Judged → Type 0

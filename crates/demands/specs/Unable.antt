@@ -19,8 +19,8 @@ use Rattle.requests.specs.Request.{readIn, given, dataSeen, valueSeen, schemeOf
 use Rattle.calling.specs.Lent.{Lent, dialectIn}
 use Rattle.demands.specs.Sets.{Stands}
 
--- "Type 0: stored name equal to the request's, B2001, else B5012": a SAR in which reading finds no fault, of type 0, of one identity, which has a record; that is
--- the User-Name's, if one is given; and the name that it stores, if any, is not the request's
+-- "Type 0: stored name equal to the request's, B2001, else B5012": a SAR in which reading finds no fault, of type 0, of one identity, which has a record; that
+-- is the User-Name's, if one is given; and the name that it stores, if any, is not the request's
 pub record StoresOther (x : Lent) (count : ℕ) : Type 0 where
   pub seen : Seen
   pub read : readIn (dialectIn x) (x .request) ≡ fine seen

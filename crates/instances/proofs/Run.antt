@@ -218,7 +218,8 @@ met-refused : (serve refused .vectors ≡ unused) × (sentBy (tableOnly refused)
 unfolding anyHolds
 met-refused = refusal-leaves refused refl
 
--- a SAR that succeeds, and a MAR without AVPs, are answered, with B2001 and B5005: the vectors stay, since the one is of another command, and the other an error
+-- a SAR that succeeds, and a MAR without AVPs, are answered, with B2001 and B5005: the vectors stay, since the one is of another command, and the other an
+-- error
 registered : serveTable registering
     ≡ record {
       call = Answered (record { length = 128; place = 0 });

@@ -51,8 +51,8 @@ pub report-meant : (x : Lent) (a : List ℕ) {r : ℕ} {t' v' o' a' : List ℕ} 
 report-meant x a p =
     (firm.report-table x a p, firm.report-besides x a p .0, firm.report-besides x a p .1)
 
--- Bytes past the table stay, and do not matter: two areas with the same table at the front get the same report (taking/proofs/Taking says which have, among them
--- the area after a take-over and the new table alone). The report's calls are those of `serve` over the area, each over what the one before left of it.
+-- Bytes past the table stay, and do not matter: two areas with the same table at the front get the same report (taking/proofs/Taking says which have, among
+-- them the area after a take-over and the new table alone). The report's calls are those of `serve` over the area, each over what the one before left of it.
 pub report-behind : (x : Lent) (a : List ℕ) → (length (reported x a .table) ≡ length (x .table))
     × (drop (length (tableIn (x .table))) (reported x a .table) ≡ drop (length (tableIn (x .table))) (x .table))
 report-behind x a = (over.reported-length x a, over.reported-rest x a)

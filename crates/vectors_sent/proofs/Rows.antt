@@ -81,7 +81,8 @@ unfolding isOne sentOver
 row-sent-unused v [] k e = absurd (true≢false (sym e))
 row-sent-unused v (c ∷ cs) k e =
     let after = serve (lending v c) .vectors in
-    sent-first v c cs k (usedAt v k ≡ 0) e (sent-unused (tableOnly (lending v c)) k) (λ f. call-unused (tableOnly (lending v c)) k (row-sent-unused after cs k f))
+    sent-first v c cs k (usedAt v k ≡ 0) e (sent-unused (tableOnly (lending v c)) k)
+    (λ f. call-unused (tableOnly (lending v c)) k (row-sent-unused after cs k f))
 
 pub row-sent-used : (v : List ℕ) (cs : List Turn) (k : ℕ) → isOne (sentOver v cs) k ≡ true → usedAt (leftBy v cs) k ≡ 1
 unfolding isOne sentOver leftBy
