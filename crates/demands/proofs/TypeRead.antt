@@ -1,8 +1,7 @@
 -- "Server-Assignment-Type 614 (0 to 11)": of a request that was read the number is one of these, and so its type is the asking one exactly for 0.
-use Rattle.octets.specs.Standard.{ℕ, zero, suc, _+_, _≤_, List, none, some, Option·none-ne-some, Option·some-injective, Bool, true, false, cond, not, _&&_}
-use Rattle.octets.specs.Standard.{true≢false, _≡_, refl, sym, ap, subst, _∙_, arith, length, getD, set, getD-set-other, getD-set-same, List·getD-eq-default}
+use Rattle.octets.specs.Standard.{ℕ, zero, suc, _+_, _≤_, List, none, some, Bool, true, false, cond, not, _&&_}
+use Rattle.octets.specs.Standard.{true≢false, _≡_, refl, sym, arith, length, getD, set, getD-set-other, getD-set-same, List·getD-eq-default}
 use Rattle.octets.specs.Standard.{length-set, eqb, leb, ltb, eqb-true, eqb-false, leb-true, ltb-true, ltb-false}
-use Rattle.octets.proofs.All.{and-right}
 use Rattle.diameter.specs.Avp.{padded, avpHead, avpFlags, valueOf, reserved, marked}
 use Rattle.diameter.specs.Message.{bodyOf}
 use Rattle.diameter.specs.AvpAt.{present}

@@ -2,10 +2,8 @@
 -- comes to B5003.
 use Rattle.octets.specs.Standard.{ℕ, List, [], _∷_, map, Bool, true, false, cond, not, _&&_, true≢false, _≡_, refl, sym, ap, _∙_, _⊎_, inl, inr, _≢_}
 use Rattle.octets.specs.Standard.{arith, length}
-use Rattle.octets.proofs.All.{and-left, and-right}
+use Rattle.octets.proofs.All.{and-left}
 use Rattle.octets.proofs.Names.{same-eq, same-refl, same-yes, same-no}
-use Rattle.record.specs.Fields.{serverOf}
-use Rattle.blocks.specs.Blocks.{blockOf}
 use Rattle.blocks.specs.Changed.{isOne}
 use Rattle.blocks.specs.declared.Checked.{Checked}
 use Rattle.blocks.specs.declared.Checked.the-variants.{Sound}
@@ -40,7 +38,6 @@ use Rattle.choices.specs.declared.plan.Finding.the-variants.{Denied, Fine}
 use Rattle.choices.specs.declared.plan.Plan.{Plan}
 use Rattle.assignment.specs.Assignment.{Assignment, meantBy, every, findAll, numbersOf, firstOf, found, ownAt, storesAt, surveyOf, userKnown, ownerBy}
 use Rattle.assignment.specs.Assignment.{namedSurvey, ownedSurvey, assignMeant, assign}
-use Rattle.assignment.specs.declared.Meant.the-variants.{Listed}
 use Rattle.deciding.specs.Plans.{assignmentOf, sarPlan, planRead}
 use Rattle.deciding.specs.Decide.{performedBy, judgedBy, decideBy}
 use Rattle.deciding.proofs.Tests.{either}

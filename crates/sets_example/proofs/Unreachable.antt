@@ -1,5 +1,5 @@
 -- The theorems of 02 [7] (demands/proofs/Unreachable) have instances: their hypotheses are met by a family, computed, in an area with two bytes behind it.
-use Rattle.octets.specs.Standard.{ℕ, _<_, _≡_, refl, ap, subst, true, _⊎_, inl, inr, _≢_, List, [], _∷_, _++_, arith, getD, take, lit≤, lit<}
+use Rattle.octets.specs.Standard.{ℕ, _<_, _≡_, refl, ap, subst, _⊎_, inl, inr, _≢_, List, [], _∷_, _++_, arith, getD, take, lit≤, lit<}
 use Rattle.record.specs.Fields.{serverSize}
 use Rattle.blocks.specs.Blocks.{blockOf}
 use Rattle.blocks.specs.declared.Checked.the-variants.{Sound}
