@@ -24,5 +24,8 @@ pub mod Sets
 pub mod TakingOver
 pub mod Together
 pub mod Trials
+pub mod TypeRead
 pub mod Unable
+pub mod UnableMar
+pub mod UnableSar
 pub mod Unreachable

@@ -1,6 +1,7 @@
 -- Each theorem of the numbers has an instance: its hypotheses are met by the small month, or by a part of it.
 use Rattle.octets.specs.Standard.{ℕ, _+_, _%_, _^_, _≤_, _<_, max, List, [], _∷_, _++_, _≡_, refl, sym, ap, _∙_, inl, inr, arith, length, getD, take}
 use Rattle.octets.specs.Standard.{drop, lit≤, lit<}
+use Rattle.octets.specs.Run.{over}
 use Rattle.blocks.specs.Blocks.{blockOf}
 use Rattle.table.specs.Check.{checkTable}
 use Rattle.blocks.specs.declared.Checked.{Checked}
@@ -21,10 +22,13 @@ use Rattle.reporting.specs.Row.{eventOf, row, left}
 use Rattle.reporting.specs.Report.{Reported, requestsOf, wordsOf, reportedTable, reported}
 use Rattle.reporting.proofs.Areas.{reported-sound}
 use Rattle.report_numbers.specs.Area.{wordIn, rowsIn, refusalsIn}
-use Rattle.report_numbers.specs.File.{endToEnd, BrokenOff}
+use Rattle.report_numbers.specs.File.{OneRequest, endToEnd, BrokenOff}
 use Rattle.report_numbers.specs.Turns.{eventsOf, InTurn, callAt, callLength, alteredOver, allIdle, goingOn}
-use Rattle.worked_examples.proofs.Sample.{block, room}
-use Rattle.report_example.proofs.Calls.{lir, removal, strayed, scrap, file, here, month, each, sound-here, counts, all, located-counts}
+use Rattle.pen.specs.Bytes.{avpBytes, vendorBytes, numberBytes, vendorNumber}
+use Rattle.worked_examples.proofs.Computed.{come, roomy, no-vectors}
+use Rattle.worked_examples.proofs.Sample.{block, room, request, reply, common, s}
+use Rattle.report_example.proofs.Calls.{lir, removal, strayed, scrap, file, here, month, each, sound-here, comes, counts, counted-from}
+use Rattle.report_example.proofs.Calls.{all, located-counts}
 use Rattle.report_example.proofs.Month.{area, enough, month-requests, month-stop, month-number, month-events, counting}
 use Rattle.report_numbers.proofs.Numbers as numbers
 
@@ -142,6 +146,39 @@ met-own-column = numbers.report-own-column alone taking both-first
 
 met-unable : (wordIn (reportedTable month area .area) 31 ≡ 0) × (wordIn (reportedTable month area .area) 81 ≡ 0)
 met-unable = numbers.report-unable month area enough
+
+-- the same of a file of one UAR, of type 1, which is answered with the server name: its row counts that, and no B5012
+uar : List ℕ
+uar = request 300 (common ++ (avpBytes 1 (0x70 ∷ []) ++ (vendorBytes 601 (0x61 ∷ []) ++ (vendorBytes 600 (0x76 ∷ []) ++ vendorNumber 623 1))))
+
+abbrev authorizing : Lent
+authorizing = lent uar here [] [] room underCx
+
+uar-one : OneRequest uar
+unfolding all uar
+uar-one = record { own = refl; least = lit≤ tt }
+
+uar-comes : serveTable authorizing ≡ comes 132 here (over (reply 300 (numberBytes 268 2001) (vendorBytes 602 s)) room)
+unfolding all uar
+uar-comes = come authorizing roomy sound-here no-vectors refl
+
+uar-counts : eventOf authorizing ≡ counts 300 (Base 2001) 132 0
+unfolding all uar
+uar-counts = counted-from authorizing 132 here [] _ uar-comes sound-here
+
+uar-events : eventsOf authorizing ≡ counts 300 (Base 2001) 132 0 ∷ []
+uar-events = numbers.report-one authorizing uar-one ∙ rw uar-counts
+
+uar-short : length uar < 2 ^ 64
+unfolding all uar
+uar-short = lit< tt
+
+met-authorized : wordIn (reportedTable authorizing area .area) 20 ≡ 1
+unfolding counting
+met-authorized = numbers.report-answered authorizing area enough uar-short 0 0 (omega arith) (omega arith) ∙ rw uar-events
+
+met-unable-uar : (wordIn (reportedTable authorizing area .area) 31 ≡ 0) × (wordIn (reportedTable authorizing area .area) 81 ≡ 0)
+met-unable-uar = numbers.report-unable authorizing area enough
 
 -- THE ENDS: no room for the words; two requests that are a whole file; and the 3 bytes
 met-15 : reportedTable month [] .number ≡ 15

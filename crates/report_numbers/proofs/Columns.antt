@@ -10,7 +10,7 @@ use Rattle.counting.proofs.Numbers.{word-other}
 use Rattle.calling.specs.Call.{Call, Answered, Refused}
 use Rattle.calling.specs.Lent.{Lent, asking, dialectIn}
 use Rattle.calling.specs.Serve.{checkOf, checkValue, resultOf, serveTable}
-use Rattle.demands.proofs.Unreachable.{taken-out}
+use Rattle.demands.proofs.Unable.{unable-never}
 use Rattle.reporting.specs.Row.{eventBy, eventOf, next, row}
 use Rattle.reporting.specs.Report.{requestsOf, reportedTable}
 use Rattle.deciding.proofs.Comes.{decide-carries}
@@ -45,7 +45,8 @@ module _ (r : ℕ) (two : (r ≡ 0) ⊎ (r ≡ 2)) where
   result-other : (x : Lent) → commandRow (commandOf (x .request)) ≡ r → columnOf (resultOf x) ≡ 11 → ⊥
   unfolding columnOf indexIn baseResults listed
   result-other x e f =
-      taken-out x (row-command r (commandOf (x .request)) two e) (columns-apart (resultOf x) (Base 5012) (result-listed x) refl f)
+      unable-never (dialectIn x) (x .request) (x .table) (checkValue (checkOf x)) (x .vectors) (row-command r (commandOf (x .request)) two e)
+      (columns-apart (resultOf x) (Base 5012) (result-listed x) refl f)
 
   event-other : (x : Lent) (c : Call) → answeredIn r 11 (eventBy x c) ≡ false
   event-other x (Answered a) = go (eqb (commandRow (commandOf (x .request))) r) (eqb (columnOf (resultOf x)) 11) refl refl
