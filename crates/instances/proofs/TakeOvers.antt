@@ -7,15 +7,20 @@ use Rattle.table.specs.Area.{checkArea}
 use Rattle.taking.specs.TakeOver.{takeOver}
 use Rattle.taking.specs.Torn.{lowerBad}
 use Rattle.taking.specs.Written.{cutAfter, tornAfter}
+use Rattle.taking.specs.declared.Taken.{Taken}
+use Rattle.taking.specs.declared.Taken.the-variants.{Took, Refused}
 use Rattle.requests.specs.Request.{underCx}
 use Rattle.calling.specs.Call.{Answered}
 use Rattle.calling.specs.Lent.{Lent, lent, holding}
 use Rattle.calling.specs.Serve.{Served, earlyTrials, serveTable, serve}
 use Rattle.calling.specs.Trial.{anyHolds}
 use Rattle.calling.proofs.Areas.{serve-sound}
+use Rattle.ndushavire.specs.Word.{word, takeWord}
+use Rattle.ndushavire.specs.Reads.{ReadsTake}
+use Rattle.demands.proofs.Demands.{taken-over}
 use Rattle.demands.proofs.TakingOver.{refusing, SameServed, refused-so, after, between, torn-missing, torn-within, torn-past}
-use Rattle.taking_example.proofs.Sample.{two, three, roomy, opened}
-use Rattle.taking_example.proofs.Worked.{old-sound, three-sound, roomy-table, roomy-reads, three-taken, only-one, two-counted}
+use Rattle.taking_example.proofs.Sample.{none, one, two, three, roomy, opened}
+use Rattle.taking_example.proofs.Worked.{old-sound, three-sound, roomy-table, roomy-reads, ten-next, answer, three-taken, only-one, two-counted}
 use Rattle.worked_examples.proofs.Computed as computed
 use Rattle.worked_examples.proofs.Sample.{room, s}
 use Rattle.instances.proofs.Asked.{sar, all}
@@ -42,6 +47,16 @@ old-call =
     ap (λ (x : Lent). serveTable x .call) (ap (holding (over roomy)) roomy-table)
     ∙ ap (λ (y : Served). y .call)
     (computed.come (over (two 5)) {y = computed.known false (Sound 2) (Sound 0) (over (two 5))} computed.roomy old-sound computed.no-vectors refl)
+
+-- out of the word of the take-over the caller reads 3 records; one of an issue number that is not greater is refusal 10
+reads-take : (area fresh : List ℕ) (m : Taken) → takeOver area fresh 0 .taken ≡ m → ReadsTake m (takeWord m)
+reads-take area fresh m e = rw e at (taken-over area fresh [] {area' = takeOver area fresh 0 .area} (record { word-is = refl; area-is = refl }))
+
+met-taken-over : ReadsTake (Took 3) 3
+met-taken-over = reads-take roomy (three 6) (Took 3) three-taken
+
+met-taken-refused : ReadsTake (Refused 10) (word 10 0 0)
+met-taken-refused = reads-take (none 2 6) (one 6) (Refused 10) (answer ten-next)
 
 -- AFTER: as over the new table alone
 met-after : SameServed (over (takeOver roomy (three 6) 0 .area)) (over (three 6))
