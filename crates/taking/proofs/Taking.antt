@@ -176,7 +176,7 @@ pub greatest : (area fresh : List ℕ) (file count : ℕ) → Fit fresh file cou
     → takeOver area fresh file ≡ refusing area 10
 greatest area fresh file count f bytes found = conditions.is-greatest area fresh file count f bytes found
 
--- Past the count that, or any too great an issue, is mended in place: while blocks there are zeroed, some or all of them in any order, the area reads as before,
+-- Past the count that, or any other issue, is mended in place: while blocks there are zeroed, some or all of them in any order, the area reads as before,
 pub zeroed-past : (area : List ℕ) (chosen : ℕ → Bool) → ((j : ℕ) → j ≤ countOf (blockOf area 0) → chosen j ≡ false)
     → tableIn (zeroedWhere area chosen) ≡ tableIn area
 zeroed-past area chosen h = zeros.where-reads area chosen h

@@ -12,8 +12,8 @@ use Rattle.blocks.specs.Changed.{changedIn, changedAll}
 unfoldable pub withBlock : List ℕ → List ℕ → ℕ → List ℕ
 withBlock area fresh k = changedIn area k (λ (b : List ℕ). blockOf fresh k)
 
--- the first k blocks are the new table's: asked where block k is written, so that it is written not before those before it. That none is written again, and none
--- before its turn, is not in this: it is in `cutAfter`, which the loop's invariant says of the area as it came.
+-- the first k blocks are the new table's: asked where block k is written, so that those before it are written before it. That the blocks behind it are still
+-- the old ones, so that each waits for its turn, is not said here but by `cutAfter`, in the loop's invariant. A block written again would leave the same bytes.
 abbrev pub Begun : List ℕ → List ℕ → ℕ → Type 0
 Begun area fresh k = take (512 * k) area ≡ take (512 * k) fresh
 
