@@ -100,7 +100,7 @@ longer-mixed =
 
 -- 9, edition 1: this keeps no cut out. A sound table of edition 1 has issue 0, so 10 refuses it wherever a kind 1 or 2 block stands, and where none does no old
 -- block completes a table.
-first-sound : checkTable first 0 ≡ Sound 2
+first-sound : checkTable first 0 ≡ Sound 1
 unfolding opened
 first-sound = refl
 
@@ -108,7 +108,7 @@ first-refused : notGreater roomy first ≡ true
 unfolding opened
 first-refused = refl
 
-first-over-zeros : checkArea (cutAfter (replicate 1536 0) first 1) 0 ≡ Bad 1
+first-over-zeros : checkArea (cutAfter (replicate 1024 0) first 1) 0 ≡ Bad 1
 unfolding opened
 first-over-zeros = refl
 

@@ -54,9 +54,9 @@ two issue = header 2 issue 2 ++ (line 2 issue 1 a ++ line 2 issue 2 b)
 unfoldable pub three : ℕ → List ℕ
 three issue = header 2 issue 3 ++ (line 2 issue 1 a ++ (line 2 issue 2 b ++ line 2 issue 3 c))
 
--- a table of edition 1 with two records
+-- a table of edition 1 with a record
 unfoldable pub first : List ℕ
-first = header 1 0 2 ++ (line 1 0 1 a ++ line 1 0 2 b)
+first = header 1 0 1 ++ line 1 0 1 b
 
 -- a block of some kind, of edition 0 and with no check word, that holds an issue number
 unfoldable pub rubbish : ℕ → ℕ → List ℕ

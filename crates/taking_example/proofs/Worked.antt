@@ -210,11 +210,11 @@ cut-shorter : checkArea (cutAfter roomy (one 6) 1) 0 ≡ Bad 1
 unfolding opened
 cut-shorter = refl
 
-first-taken : takeOver first (one 6) 0 ≡ came (Took 1) (one 6 ++ line 1 0 2 b)
+first-taken : takeOver first (one 6) 0 ≡ came (Took 1) (one 6)
 unfolding opened
 first-taken = by-none first (one 6) one-fit refl refl
 
-first-reads : checkArea (cutAfter first (one 6) 0) 0 ≡ Sound 2
+first-reads : checkArea (cutAfter first (one 6) 0) 0 ≡ Sound 1
 unfolding opened
 first-reads = refl
 
@@ -254,26 +254,25 @@ torn-behind : checkArea (tornAfter (spoilt 5 4) (three 6) (eqb 1)) 0 ≡ Bad 1
 unfolding opened spoilt
 torn-behind = refl
 
--- Cuts over an old area that is unsound: its block 1 is bad as it came and after the new header, then the first old block is, and at the end it is mended.
-spoilt-taken : takeOver (spoilt 4 5) (three 6) 0 ≡ came (Took 3) (three 6 ++ take 511 (rubbish 2 4294967295))
-unfolding opened spoilt
-spoilt-taken = by-none (spoilt 4 5) (three 6) three-fit refl refl
+-- Cuts over an old area that is unsound: its block 1 is bad as it came and after the new header, and at the end it is mended.
+unsound : List ℕ
+unsound = header 2 5 1 ++ line 2 4 1 a
 
-spoilt-none : checkArea (cutAfter (spoilt 4 5) (three 6) 0) 0 ≡ Bad 1
-unfolding opened spoilt
-spoilt-none = refl
+unsound-taken : takeOver unsound (one 6) 0 ≡ came (Took 1) (one 6)
+unfolding opened unsound
+unsound-taken = by-none unsound (one 6) one-fit refl refl
 
-spoilt-one : checkArea (cutAfter (spoilt 4 5) (three 6) 1) 0 ≡ Bad 1
-unfolding opened spoilt
-spoilt-one = refl
+unsound-reads : checkArea (cutAfter unsound (one 6) 0) 0 ≡ Bad 1
+unfolding opened unsound
+unsound-reads = refl
 
-spoilt-two : checkArea (cutAfter (spoilt 4 5) (three 6) 2) 0 ≡ Bad 2
-unfolding opened spoilt
-spoilt-two = refl
+unsound-cut : checkArea (cutAfter unsound (one 6) 1) 0 ≡ Bad 1
+unfolding opened unsound
+unsound-cut = refl
 
-spoilt-all : tableIn (cutAfter (spoilt 4 5) (three 6) 4) ≡ three 6
-unfolding opened spoilt
-spoilt-all = refl
+unsound-all : tableIn (cutAfter unsound (one 6) 2) ≡ one 6
+unfolding opened unsound
+unsound-all = refl
 
 -- A cut take-over cannot be repeated with the same issue; a greater one mends it, and so does the same table once the area is zeroed.
 again : takeOver (cutAfter roomy (three 6) 2) (three 6) 0 ≡ refusing (cutAfter roomy (three 6) 2) 10
