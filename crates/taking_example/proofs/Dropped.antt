@@ -88,7 +88,7 @@ unsound-all = refl
 longer : List ℕ
 longer = none 2 6 ++ line 2 6 1 a
 
-longer-mixed : Mixture (cutAfter roomy longer 1) roomy longer
+longer-mixed : Mixture (cutAfter (one 5) longer 1) (one 5) longer
 unfolding opened longer
 longer-mixed =
     record {

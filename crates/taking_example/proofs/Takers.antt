@@ -1,6 +1,6 @@
 -- Wrong takers: each is a function here, and at an input that is computed its outcome does not meet the promise.
 use Rattle.octets.specs.Standard.{ℕ, _+_, _/_, _<_, Bool, true, false, _||_, not, cond, true≢false, _≡_, refl, sym, _∙_, ap, _≢_, inl, List, _++_, arith, eqb}
-use Rattle.octets.specs.Standard.{leb, ltb, length, getD, take}
+use Rattle.octets.specs.Standard.{leb, ltb, length, getD}
 use Rattle.octets.specs.All.{allBelow}
 use Rattle.octets.specs.Run.{over}
 use Rattle.record.specs.Fields.{countOf, issueOf}
@@ -17,7 +17,7 @@ use Rattle.taking.specs.Written.{withBlock, cutAfter}
 use Rattle.taking.specs.declared.Taken.{Taken}
 use Rattle.taking.specs.declared.Taken.the-variants.{Took, Refused}
 use Rattle.taking_example.proofs.Sample.{none, one, three, rubbish, roomy, opened}
-use Rattle.taking_example.proofs.Worked.{one-fit, none-fit, equal, lower, past-count, ten-next, taken, answer, three-taken}
+use Rattle.taking_example.proofs.Worked.{one-fit, none-fit, equal, lower, past-count, past-count-greater, ten-next, answer, three-taken}
 use Rattle.taking.proofs.Taking as page
 
 -- What a taker leaves of an area, a new table and a profile file's length. The promise of `take` is this equality.
@@ -128,13 +128,15 @@ headed-fails =
     writing-fails headed (none 2 7) (none 2 6) 0 10 (answer lower)
     (λ e. six-seven (sym head-written ∙ sym (ap (λ (r : Taken). headLeft r (none 2 7) (none 2 6)) (answer lower)) ∙ e))
 
-headed-left : headLeft (Took 3) roomy (three 6) ≡ three 6 ++ take 511 (rubbish 2 4294967295)
+headed-left : headLeft (Took 0) (none 2 5 ++ rubbish 2 5) (none 2 6) ≡ none 2 6 ++ rubbish 2 5
 unfolding headLeft opened
 headed-left = refl
 
-headed-meets : Meets headed roomy (three 6) 0
+headed-meets : Meets headed (none 2 5 ++ rubbish 2 5) (none 2 6) 0
 unfolding headed
-headed-meets = ap (λ (r : Taken). came r (headLeft r roomy (three 6))) three-taken ∙ ap (came (Took 3)) headed-left ∙ sym taken
+headed-meets =
+    ap (λ (r : Taken). came r (headLeft r (none 2 5 ++ rubbish 2 5) (none 2 6))) (answer past-count-greater) ∙ ap (came (Took 0)) headed-left
+    ∙ sym past-count-greater
 
 -- 5. one that refuses where the new table is taken, by whatever number; such a one refuses everything
 isTook : Taken → Bool

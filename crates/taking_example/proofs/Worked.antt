@@ -98,7 +98,7 @@ unfolding opened
 piece-reads = refl
 
 -- Success, the issue greater by one: a block of another kind and a last piece are not looked at. A last piece and stale blocks past the new count stay.
-pub taken : takeOver roomy (three 6) 0 ≡ came (Took 3) (three 6 ++ take 511 (rubbish 2 4294967295))
+taken : takeOver roomy (three 6) 0 ≡ came (Took 3) (three 6 ++ take 511 (rubbish 2 4294967295))
 unfolding opened
 taken = by-none roomy (three 6) three-fit refl refl
 
@@ -146,7 +146,7 @@ pub past-count : takeOver (none 2 5 ++ rubbish 2 6) (none 2 6) 0 ≡ refusing (n
 unfolding opened
 past-count = by-ten (none 2 5 ++ rubbish 2 6) (none 2 6) none-fit refl
 
-past-count-greater : takeOver (none 2 5 ++ rubbish 2 5) (none 2 6) 0 ≡ came (Took 0) (none 2 6 ++ rubbish 2 5)
+pub past-count-greater : takeOver (none 2 5 ++ rubbish 2 5) (none 2 6) 0 ≡ came (Took 0) (none 2 6 ++ rubbish 2 5)
 unfolding opened
 past-count-greater = by-none (none 2 5 ++ rubbish 2 5) (none 2 6) none-fit refl refl
 
