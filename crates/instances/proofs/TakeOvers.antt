@@ -1,11 +1,11 @@
 -- Requests before, between and after a take-over: the theorems can be met by a removal over an area of two records and a new table of three, computed.
-use Rattle.octets.specs.Standard.{ℕ, false, _≡_, refl, ap, _∙_, List, [], arith, eqb, ltb, ne-eqb, lt-ltb, lit<, lit≤}
+use Rattle.octets.specs.Standard.{ℕ, true, false, _≡_, refl, ap, _∙_, List, [], arith, eqb, ltb, ne-eqb, lt-ltb, lit<, lit≤}
 use Rattle.record.specs.Fields.{countOf}
 use Rattle.blocks.specs.Blocks.{blockOf}
 use Rattle.blocks.specs.declared.Checked.the-variants.{Sound, Bad}
 use Rattle.table.specs.Area.{checkArea}
 use Rattle.taking.specs.TakeOver.{takeOver}
-use Rattle.taking.specs.Torn.{lowerBad}
+use Rattle.taking.specs.Torn.{lowerBlock}
 use Rattle.taking.specs.Written.{cutAfter, tornAfter}
 use Rattle.taking.specs.declared.Taken.{Taken}
 use Rattle.taking.specs.declared.Taken.the-variants.{Took, Refused}
@@ -18,7 +18,7 @@ use Rattle.calling.proofs.Areas.{serve-sound}
 use Rattle.ndushavire.specs.Word.{word, takeWord}
 use Rattle.ndushavire.specs.Reads.{ReadsTake}
 use Rattle.demands.proofs.Demands.{taken-over}
-use Rattle.demands.proofs.TakingOver.{refusing, SameServed, refused-so, after, between, torn-missing, torn-within, torn-past}
+use Rattle.demands.proofs.TakingOver.{refusing, SameServed, refused-so, after, between, torn-missing, torn-within, torn-all, torn-past}
 use Rattle.taking_example.proofs.Sample.{none, one, two, three, roomy, opened}
 use Rattle.taking_example.proofs.Worked.{old-sound, three-sound, roomy-table, roomy-reads, ten-next, answer, three-taken, only-one, two-counted}
 use Rattle.worked_examples.proofs.Computed as computed
@@ -75,13 +75,17 @@ met-torn-missing =
     torn-missing (over roomy) (three 6) 3 three-taken passes (λ (j : ℕ). ltb j 1) 1
     (record { from = lit< tt; to = lit≤ tt; here = refl; before = λ j l. lt-ltb j 1 l })
 
-one-bad : lowerBad 1 (checkArea roomy 0) ≡ Bad 1
-one-bad = ap (lowerBad 1) roomy-reads
+one-lower : lowerBlock 1 (checkArea roomy 0) ≡ 1
+one-lower = ap (lowerBlock 1) roomy-reads
 
 met-torn-within : serve (over (tornAfter roomy (three 6) (eqb 1))) ≡ refusing (over (tornAfter roomy (three 6) (eqb 1))) 1
 met-torn-within =
-    torn-within (over roomy) (three 6) 3 three-taken passes (eqb 1) 1 1
-    (record { from = lit< tt; to = lit≤ tt; within = two-counted; here = refl; before = only-one }) one-bad
+    torn-within (over roomy) (three 6) 3 three-taken passes (eqb 1) 1
+    (record { from = lit< tt; to = lit≤ tt; within = two-counted; here = refl; before = only-one })
+    ∙ ap (refusing (over (tornAfter roomy (three 6) (eqb 1)))) one-lower
+
+met-torn-all : SameServed (over (tornAfter roomy (three 6) (λ (j : ℕ). true))) (over (three 6))
+met-torn-all = torn-all (over roomy) (three 6) 3 three-taken (λ (j : ℕ). true) (λ j l. refl)
 
 two-there : countOf (blockOf roomy 0) ≡ 2
 unfolding opened
