@@ -162,7 +162,10 @@ def record(case):
     return 'record { %s }' % ';\n        '.join('%s = %s' % field for field in fields)
 
 
-OPENED_TAKES = 'greaterAt greaterThanAll unfit notGreater tooShort takeOver'.split()
+# What the cases open or name besides, by the module that has it: the area, the call, the take-over.
+OPENED = {'table.specs.Area': ['sizeIn', 'tableIn'], 'taking.specs.Found': ['greaterAt', 'greaterThanAll'],
+          'taking.specs.TakeOver': ['unfit', 'notGreater', 'tooShort', 'takeOver']}
+NAMED = {'calling.specs.Serve': ['serve'], 'taking.specs.TakeOver': ['came']}
 
 
 def opened():
@@ -170,10 +173,9 @@ def opened():
     text = open('crates/worked_examples/proofs/Sample.antt').read()
     uses = re.findall(r'^use .*', text, re.MULTILINE)
     brought = set(re.findall(r'[^\s{},]+', ' '.join(use[use.index('{'):] for use in uses)))
-    for path, own in (('calling.specs.Serve', ['serve']), ('taking.specs.Found', OPENED_TAKES[:2]), ('taking.specs.TakeOver', OPENED_TAKES[2:] + ['came'])):
-        uses += ['use Rattle.%s.{%s}' % (path, name) for name in own if name not in brought]
+    uses += ['use Rattle.%s.{%s}' % (path, name) for more in (OPENED, NAMED) for path, own in more.items() for name in own if name not in brought]
     names = re.search(r'^unfoldable pub opened : ℕ\nunfolding (.*?)^opened = ', text, re.MULTILINE | re.DOTALL).group(1).split()
-    return uses, [name for name in names if name in brought] + [name for name in OPENED_TAKES if name not in names]
+    return uses, [name for name in names if name in brought] + [name for own in OPENED.values() for name in own if name not in names]
 
 
 CASES = '''%s
