@@ -51,8 +51,8 @@ pub report-meant : (x : Lent) (a : List ℕ) {r : ℕ} {t' v' o' a' : List ℕ} 
     → (reported x a ≡ record { number = numberIn r; table = t'; vectors = v'; buffer = o'; area = a' }) × (placeIn r ≡ 0) × (valueIn r ≡ 0)
 report-meant x a p = (firm.report-is x a p, firm.report-besides x a p .0, firm.report-besides x a p .1)
 
--- It is `serve` over the requests in turn, the table's area, the vectors and the buffer carried along: it leaves what the calls leave. `row` and `left` are the
--- same over a table alone; a request is counted as it is over the table at the front of the area.
+-- It is `serve` over the requests in turn, the table's area, the vectors and the buffer carried along, and leaves what these calls leave; a request is counted
+-- as it is over the table alone (`row`).
 pub report-over-left : (x : Lent) (a : List ℕ) → 1160 ≤ length a
     → (reported x a .table ≡ leftOver x (requestsOf x) .table) × (reported x a .vectors ≡ leftOver x (requestsOf x) .vectors)
     × (reported x a .buffer ≡ leftOver x (requestsOf x) .buffer)
@@ -123,10 +123,10 @@ module _ (x : Lent) (a : List ℕ) (room : 1160 ≤ length a) where
 
     -- "for each refusal, how many", and "for each command (300 to 303, the rest as one) and each result, B and X apart, how many".
     pub report-refused : (n : ℕ) → 1 ≤ n → n ≤ 15 → wordIn (reported x a .area) (refusalWord n) ≡ howMany (refusedBy n) (eventsOf x)
-    report-refused n l h = area.refused-word (tableOnly x) a room short n l h ∙ ap (λ (es : List Event). howMany (refusedBy n) es) (sym (over.events-over x))
+    report-refused n l h = area.refused-word (tableOnly x) a room short n l h ∙ ap (howMany (refusedBy n)) (sym (over.events-over x))
 
     pub report-answered : (r c : ℕ) → r ≤ 4 → c < 25 → wordIn (reported x a .area) (cellWord r c) ≡ howMany (answeredIn r c) (eventsOf x)
-    report-answered r c h l = area.answered-word (tableOnly x) a room short r c h l ∙ ap (λ (es : List Event). howMany (answeredIn r c) es) (sym (over.events-over x))
+    report-answered r c h l = area.answered-word (tableOnly x) a room short r c h l ∙ ap (howMany (answeredIn r c)) (sym (over.events-over x))
 
     -- "THE ROW TOTALS ADD UP TO THE REQUESTS READ": the five rows and the refusals 1 to 15; the rows alone are the requests answered.
     pub report-totals : rowsIn (reported x a .area) + refusalsIn (reported x a .area) ≡ wordIn (reported x a .area) readWord
@@ -250,7 +250,8 @@ module _ (x : Lent) (a : List ℕ) where
   pub report-vectors : checkVectors (reported x a .vectors) ≡ checkVectors (x .vectors)
   report-vectors = kept.report-vectors (tableOnly x) a
 
-  -- Of an area with a sound table at its front only state, pending, server name and check word of records change, and of no block past the count any byte.
+  -- In an area with a sound table at its front only state, pending, server name and check word of records change, in every block of it (that those past the
+  -- count stay whole says `report-behind`).
   pub report-kept : (count : ℕ) → checkArea (x .table) (length (x .profile)) ≡ Sound count → (k i : ℕ) → i < 512 → alterable i ≡ false
       → getD (blockOf (reported x a .table) k) i 0 ≡ getD (blockOf (x .table) k) i 0
   report-kept = over.over-bytes x a
