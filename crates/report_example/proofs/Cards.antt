@@ -62,7 +62,7 @@ pub idle-sound : checkTable idle 0 ≡ Sound 1
 unfolding idle
 idle-sound = unregistered-sound
 
-named-sound : checkTable named 0 ≡ Sound 1
+pub named-sound : checkTable named 0 ≡ Sound 1
 unfolding cardsAll
 named-sound = refl
 

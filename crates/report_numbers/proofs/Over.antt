@@ -1,6 +1,6 @@
 -- The report over an area: what holds of the report over the table alone, said of the area in which the table is lent.
-use Rattle.octets.specs.Standard.{ℕ, _+_, _-_, _*_, _%_, _^_, _≤_, _<_, max, Bool, true, false, List, [], _∷_, _++_, _≡_, refl, sym, ap, _∙_, _⊎_, inl, inr, _≢_}
-use Rattle.octets.specs.Standard.{arith, leb, leb-true, leb-false, length, getD, set, take, drop, drop-drop, length-append}
+use Rattle.octets.specs.Standard.{ℕ, _+_, _-_, _*_, _%_, _^_, _≤_, _<_, max, Bool, true, false, List, [], _∷_, _++_, _≡_, refl, sym, ap, _∙_, _⊎_, inl, inr}
+use Rattle.octets.specs.Standard.{_≢_, arith, leb, leb-true, leb-false, length, getD, set, take, drop, drop-drop, length-append}
 use Rattle.blocks.specs.Blocks.{blockOf}
 use Rattle.blocks.specs.declared.Checked.the-variants.{Sound}
 use Rattle.table.specs.Area.{tableIn, checkArea}
@@ -166,7 +166,7 @@ module _ (x : Lent) (more area : List ℕ) where
         ap (λ (y : Lent). reportedTable y b) (sym going-over) in (
           l .0 ∙ ap (λ (r : Reported). r .number) same,
           ap (putBack (x .table)) (l .1 ∙ ap (λ (r : Reported). r .table) same)
-          ∙ sym (over-again x area (reportedTable (tableOnly (goingOn x area more)) b .table)),
+              ∙ sym (over-again x area (reportedTable (tableOnly (goingOn x area more)) b .table)),
           l .2 ∙ ap (λ (r : Reported). r .vectors) same,
           l .3 ∙ ap (λ (r : Reported). r .buffer) same,
         )
