@@ -16,7 +16,8 @@ use Rattle.reporting.specs.Report.{requestsOf, reportedTable}
 use Rattle.deciding.proofs.Comes.{decide-carries}
 use Rattle.reporting.proofs.Whole.{row-fits}
 use Rattle.report_numbers.specs.Area.{wordIn}
-use Rattle.report_numbers.specs.Turns.{eventsOf, answeredIn}
+use Rattle.report_numbers.specs.Turns.{answeredIn}
+use Rattle.report_numbers.proofs.Table.{tableEvents}
 use Rattle.report_numbers.proofs.Area.{report-word}
 use Rattle.report_numbers.proofs.Cells.{answered-count, columns-apart}
 
@@ -73,5 +74,5 @@ module _ (r : ℕ) (two : (r ≡ 0) ⊎ (r ≡ 2)) where
       go h =
           let l = few h in
           report-word x a room (20 + (25 * r + 11)) (omega arith) (omega arith)
-          ∙ word-other (eventsOf x) (20 + (25 * r + 11)) (omega arith)
-          ∙ ap (λ (n : ℕ). n % 2 ^ 64) (answered-count (eventsOf x) (row-fits x (requestsOf x)) r 11 (omega arith) ∙ row-other x (requestsOf x))
+          ∙ word-other (tableEvents x) (20 + (25 * r + 11)) (omega arith)
+          ∙ ap (λ (n : ℕ). n % 2 ^ 64) (answered-count (tableEvents x) (row-fits x (requestsOf x)) r 11 (omega arith) ∙ row-other x (requestsOf x))
