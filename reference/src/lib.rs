@@ -8,12 +8,14 @@ pub mod kinds;
 pub mod rng;
 pub mod slip;
 
-// What is lent: a message, the table with the moves between its editions, the vector file.
+// What is lent: a message, the table with the moves between its editions and the take-over of a new one, the vector file.
 pub mod message;
 pub mod table;
 
 pub mod moves;
 pub mod vectors;
+
+pub mod take;
 
 // What comes of a request, and how it does.
 pub mod verdict;
@@ -40,6 +42,7 @@ pub mod gen;
 pub mod streams;
 
 pub mod account;
+pub mod cuts;
 pub mod mutants;
 pub mod stats;
 

@@ -6,6 +6,7 @@ use std::process::ExitCode;
 
 use reference::cases::Case;
 use reference::compare;
+use reference::cuts;
 use reference::demand3;
 use reference::gen::{self, Stream};
 use reference::mutants;
@@ -25,7 +26,9 @@ reference compare  --kind K --seed S [--from F] --count N -- DRIVER [ARGUMENT ..
 reference stats    --kind K --seed S [--from F] --count N   histogram
 reference faults   [--silent]                               list the deliberate faults, or those that no case can show
 reference mutants  --seed S [--from F] --count N            whether each deliberate fault is noticed
-kinds: tables, vectors, calls, reports, moves; compare alone: demand3, runs";
+reference cuts     --seed S [--from F] --count N [--fault NAME]
+                                                            what the areas of cut take-overs read as
+kinds: tables, vectors, calls, reports, moves, takes; compare alone: demand3, runs";
 
 fn main() -> ExitCode {
     let arguments: Vec<String> = std::env::args().skip(1).collect();
@@ -72,6 +75,7 @@ fn run(arguments: &[String]) -> Result<bool, String> {
             .map_err(told)
         }
         "stats" => Ok(stats::stats(options.stream()?, options.seed, options.numbers()?)),
+        "cuts" => Ok(cuts::cuts(options.seed, options.numbers()?, options.slip)),
         "mutants" => Ok(mutants::mutants(options.seed, options.numbers()?)),
         "faults" => {
             let faults = if options.silent { slip::SILENT } else { slip::FAULTS };

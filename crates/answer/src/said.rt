@@ -15,7 +15,7 @@ fn put_said(out: &mut [u8], w: u64) -> usize
     if number == 0 {
         return word::value_in(w) as usize;
     }
-    lines::put_words(out, b"refused ", number, b"\n")
+    lines::put_words(out, b"refused ", number as u64, b"\n")
 }
 
 // What is said to a request, at the front of out.

@@ -18,8 +18,8 @@ use Rattle.deciding.specs.declared.Told.{Told}
 use Rattle.calling.specs.declared.Came.{Came}
 use Rattle.calling.specs.Lent.{Lent, lent}
 use Rattle.calling.specs.Trial.{tried}
-use Rattle.calling.specs.Serve.{refused, answered, smallBuffer, wrongSize, wrongLength, noRequest, checkOf, checkValue, serveFound, serveBy}
-use Rattle.calling.specs.Serve.{serve}
+use Rattle.calling.specs.Serve.{refused, answered, smallBuffer, wrongSize, wrongLength, noRequest, checkOf, checkValue, serveFound, serveTableBy}
+use Rattle.calling.specs.Serve.{serveTable}
 use Rattle.calling.specs.Leaves.{Leaves, early, serveChecked}
 use Rattle.calling.specs.declared.Came.the-variants as came
 
@@ -117,13 +117,13 @@ module _ (req t file v o : List ℕ) (terms : Terms) where
   abbrev x : Lent
   x = lent req t file v o terms
 
-  early-refuses : (count : ℕ) → 0 < early req o → Leaves x (serve x) count (came.Refused (early req o) 0) t v o
-  unfolding early serveBy serveFound tried refused
+  early-refuses : (count : ℕ) → 0 < early req o → Leaves x (serveTable x) count (came.Refused (early req o) 0) t v o
+  unfolding early serveTableBy serveFound tried refused
   early-refuses count h = go (smallBuffer o) (wrongSize req) (wrongLength req) (noRequest req) refl refl refl refl h
     where
       go : (a b c d : Bool) → smallBuffer o ≡ a → wrongSize req ≡ b → wrongLength req ≡ c → noRequest req ≡ d
           → 0 < cond a 1 (cond b 2 (cond c 3 (cond d 4 0)))
-          → Leaves x (serve x) count (came.Refused (cond a 1 (cond b 2 (cond c 3 (cond d 4 0)))) 0) t v o
+          → Leaves x (serveTable x) count (came.Refused (cond a 1 (cond b 2 (cond c 3 (cond d 4 0)))) 0) t v o
       go true b c d f g h i z = record { call-is = rw f; table-is = rw f; vectors-is = rw f; buffer-is = rw f; noted = tt }
       go false true c d f g h i z = record { call-is = rw (f, g); table-is = rw (f, g); vectors-is = rw (f, g); buffer-is = rw (f, g); noted = tt }
       go false false true d f g h i z =
@@ -132,7 +132,7 @@ module _ (req t file v o : List ℕ) (terms : Terms) where
           record { call-is = rw (f, g, h, i); table-is = rw (f, g, h, i); vectors-is = rw (f, g, h, i); buffer-is = rw (f, g, h, i); noted = tt }
       go false false false false f g h i z = absurd (omega (arith, z))
 
-  pub refuses : (count : ℕ) {n : ℕ} → n ≡ early req o → 0 < n → Leaves x (serve x) count (came.Refused n 0) t v o
+  pub refuses : (count : ℕ) {n : ℕ} → n ≡ early req o → 0 < n → Leaves x (serveTable x) count (came.Refused n 0) t v o
   refuses count e h = rw e (early-refuses count (rw (← e) h))
 
   -- The last two, and the answer.
@@ -166,13 +166,13 @@ module _ (req t file v o : List ℕ) (terms : Terms) where
         }
 
   pub rest-serves : (c d : Checked) {n count : ℕ} {r : Came} {t' v' o' : List ℕ} → n ≡ early req o → n ≤ 0 → c ≡ checkTable t (length file) → d ≡ checkVectors v
-      → Leaves x (serveChecked x c d) count r t' v' o' → Leaves x (serve x) count r t' v' o'
-  unfolding serveBy serveFound tried serveChecked
+      → Leaves x (serveChecked x c d) count r t' v' o' → Leaves x (serveTable x) count r t' v' o'
+  unfolding serveTableBy serveFound tried serveChecked
   rest-serves c d e z f g s =
       let l = lets req o (none e z) in
       rw (l .room, l .size, l .long, l .asks, ← f, ← g) s
 
   -- the same with the count that was found
   pub call-serves : (c d : Checked) {n : ℕ} {r : Came} {t' v' o' : List ℕ} → n ≡ early req o → n ≤ 0 → c ≡ checkTable t (length file) → d ≡ checkVectors v
-      → Leaves x (serveChecked x c d) (checkValue c) r t' v' o' → Leaves x (serve x) (checkValue (checkOf x)) r t' v' o'
+      → Leaves x (serveChecked x c d) (checkValue c) r t' v' o' → Leaves x (serveTable x) (checkValue (checkOf x)) r t' v' o'
   call-serves c d e z f g s = rw (← f) (rest-serves c d e z f g s)

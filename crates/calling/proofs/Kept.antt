@@ -11,7 +11,7 @@ use Rattle.deciding.proofs.Tests.{neither}
 use Rattle.calling.specs.Lent.{Lent, dialectIn}
 use Rattle.calling.specs.Trial.{Trial, anyHolds}
 use Rattle.calling.specs.Serve.{Served, smallBuffer, wrongSize, wrongLength, noRequest, isBad, checkOf, checkValue, trials, refused, answered}
-use Rattle.calling.specs.Serve.{decided, serveFound, serveBy, serve}
+use Rattle.calling.specs.Serve.{decided, serveFound, serveTableBy, serveTable}
 use Rattle.calling.proofs.Trials.{tried-by}
 
 -- a file that is not bad is sound
@@ -46,17 +46,19 @@ module _ (x : Lent) where
       }
 
   -- what holds of any refusal, and of the answer where none is given, holds of the call
-  pub serve-either : (P : Bool → Served → Type 0) → ((r : Trial) → P true (refused x r)) → P false (answered x (decided x)) → P (anyHolds (trials x)) (serve x)
-  unfolding serveBy serveFound
+  pub serve-either : (P : Bool → Served → Type 0) → ((r : Trial) → P true (refused x r)) → P false (answered x (decided x))
+      → P (anyHolds (trials x)) (serveTable x)
+  unfolding serveTableBy serveFound
   serve-either P f o =
       tried-by P (λ r. Unit) (refused x) (answered x (decided x)) (λ r q h. f r) o (trials x) (tt, (tt, (tt, (tt, (tt, (tt, tt))))))
 
-  pub answered-is : anyHolds (trials x) ≡ false → serve x ≡ answered x (decided x)
+  pub answered-is : anyHolds (trials x) ≡ false → serveTable x ≡ answered x (decided x)
   answered-is = serve-either (λ b s. b ≡ false → s ≡ answered x (decided x)) (λ r e. absurd (true≢false e)) (λ e. refl)
 
   -- what holds of refusals by 1 to 6, and of the answer over sound files, holds of the call
-  pub serve-by : (P : Served → Type 0) → ((r : Trial) → 1 ≤ r .number → r .number ≤ 6 → P (refused x r)) → (Taken → P (answered x (decided x))) → P (serve x)
-  unfolding serveBy serveFound
+  pub serve-by : (P : Served → Type 0) → ((r : Trial) → 1 ≤ r .number → r .number ≤ 6 → P (refused x r)) → (Taken → P (answered x (decided x)))
+      → P (serveTable x)
+  unfolding serveTableBy serveFound
   serve-by P f o =
       tried-by (λ (b : Bool) (s : Served). anyHolds (trials x) ≡ b → P s) (λ r. (1 ≤ r .number) × (r .number ≤ 6)) (refused x) (answered x (decided x))
       (λ r q h e. f r (q .0) (q .1)) (λ e. o (taken e)) (trials x) (
@@ -68,7 +70,7 @@ module _ (x : Lent) where
       )
       refl
 
-  pub table-checked : checkTable (serve x .table) (length (x .profile)) ≡ checkOf x
+  pub table-checked : checkTable (serveTable x .table) (length (x .profile)) ≡ checkOf x
   unfolding refused answered
   table-checked =
       serve-by (λ s. checkTable (s .table) (length (x .profile)) ≡ checkOf x) (λ r a b. refl)
@@ -78,7 +80,7 @@ module _ (x : Lent) where
       (decide-keeping (dialectIn x) (x .request) (x .table) (checkValue (checkOf x)) (x .vectors) sound) sound
       ∙ sym (k .table))
 
-  pub vectors-checked : checkVectors (serve x .vectors) ≡ checkVectors (x .vectors)
+  pub vectors-checked : checkVectors (serveTable x .vectors) ≡ checkVectors (x .vectors)
   unfolding refused answered
   vectors-checked =
       serve-by (λ s. checkVectors (s .vectors) ≡ checkVectors (x .vectors)) (λ r a b. refl)

@@ -1,5 +1,5 @@
 -- Laws of trials in order, by induction: what holds of each and of what is otherwise.
-use Rattle.octets.specs.Standard.{List, [], _∷_, Bool, true, false, cond, _||_, true≢false, _≡_, refl, sym}
+use Rattle.octets.specs.Standard.{List, [], _∷_, _++_, Bool, true, false, cond, _||_, true≢false, _≡_, refl, sym}
 use Rattle.diameter.specs.Put.{All}
 use Rattle.calling.specs.Trial.{Trial, tried, anyHolds}
 
@@ -24,4 +24,15 @@ tried-alike give o p (r ∷ rs) e = go (r .holds) e (tried-alike give o p rs)
     go : (x : Bool) → (x || anyHolds rs) ≡ true → (anyHolds rs ≡ true → tried give o rs ≡ tried give p rs)
         → cond x (give r) (tried give o rs) ≡ cond x (give r) (tried give p rs)
     go true h next = refl
+    go false h next = next h
+
+-- Trials of which none holds do not matter before others.
+pub tried-past : {X : Type 0} (give : Trial → X) (o : X) (rs ss : List Trial) → anyHolds rs ≡ false → tried give o (rs ++ ss) ≡ tried give o ss
+unfolding tried anyHolds
+tried-past give o [] ss e = refl
+tried-past give o (r ∷ rs) ss e = go (r .holds) e (tried-past give o rs ss)
+  where
+    go : (x : Bool) → (x || anyHolds rs) ≡ false → (anyHolds rs ≡ false → tried give o (rs ++ ss) ≡ tried give o ss)
+        → cond x (give r) (tried give o (rs ++ ss)) ≡ tried give o ss
+    go true h next = absurd (true≢false h)
     go false h next = next h

@@ -30,6 +30,13 @@ pub record Leaves (x : Lent) (s : Served) (count : ℕ) (r : Came) (table' vecto
   pub buffer-is : buffer' ≡ s .buffer
   pub noted : Noted x count table' r
 
+-- of a call over an area; nobody asks it for the records altered
+pub record Comes (s : Served) (r : Came) (table' vectors' buffer' : List ℕ) : Type 0 where
+  pub call-is : callOf r ≡ s .call
+  pub table-is : table' ≡ s .table
+  pub vectors-is : vectors' ≡ s .vectors
+  pub buffer-is : buffer' ≡ s .buffer
+
 -- the number of the first of four refusals that holds, 0 if none does
 unfoldable pub early : List ℕ → List ℕ → ℕ
 early req o = tried (λ r. r .number) 0 (earlyTrials req o)

@@ -2,6 +2,7 @@
 use Prim.Native.Nat.{ℕ, _%_}
 use mathlib.Core.List.{List, [], _∷_, _++_}
 use mathlib.Core.Bool.{Bool, true, false, not, _||_}
+use mathlib.Core.Path.{_≡_}
 use lib.ListN.{length, getD}
 use lib.Dec.{eqb, ltb}
 use Rattle.octets.specs.Number.{be24At}
@@ -14,7 +15,7 @@ use Rattle.deciding.specs.Decide.{Decision, decideBy}
 use Rattle.answering.specs.Answer.{answerBytes}
 use Rattle.reading.specs.declared.Outcome.{Outcome}
 use Rattle.calling.specs.Call.{Call, Answered, Refused}
-use Rattle.calling.specs.Lent.{Lent, dialectIn}
+use Rattle.calling.specs.Lent.{Lent, tableOnly, putBack, dialectIn}
 use Rattle.calling.specs.Trial.{Trial, tried}
 
 -- what comes of a call
@@ -90,19 +91,20 @@ answered x d =
       buffer = over (answerOf x d) (x .buffer);
     }
 
--- A call under some rules, where the check of the table answers so: "Tried in this order. .. Otherwise the call returns the answer's length"
+-- A call under some rules, over a table whose length must be exact, where its check answers so: "Tried in this order. .. Otherwise the call returns the
+-- answer's length"
 abbrev pub decisionBy : Rules → Lent → ℕ → Decision
 decisionBy r x count = decideBy r (dialectIn x) (x .request) (x .table) count (x .vectors)
 
 unfoldable pub serveFound : Rules → Lent → Checked → Served
 serveFound r x c = tried (refused x) (answered x (decisionBy r x (checkValue c))) (trialsOf x c)
 
-unfoldable pub serveBy : Rules → Lent → Served
-serveBy r x = serveFound r x (r .check (x .table) (length (x .profile)))
+unfoldable pub serveTableBy : Rules → Lent → Served
+serveTableBy r x = serveFound r x (r .check (x .table) (length (x .profile)))
 
 -- under the rules in force
-abbrev pub serve : Lent → Served
-serve = serveBy inForce
+abbrev pub serveTable : Lent → Served
+serveTable = serveTableBy inForce
 
 -- what the check of its table answers, its trials, the decision over a table that is sound, of so many records
 abbrev pub checkOf : Lent → Checked
@@ -120,3 +122,20 @@ decided x = decision x (checkValue (checkOf x))
 
 abbrev pub resultOf : Lent → Outcome
 resultOf x = decided x .given .verdict .result
+
+-- The call. "The working area may be longer than the table: when a request .. reads it, blocks past the count, and a last piece under 512 bytes, are not looked
+-- at": the table at the front of the area is served, and put back; every byte behind it stays as it came.
+abbrev pub overArea : List ℕ → Served → Served
+overArea area s = record { call = s .call; table = putBack area (s .table); vectors = s .vectors; buffer = s .buffer }
+
+abbrev pub serveBy : Rules → Lent → Served
+serveBy r x = overArea (x .table) (serveTableBy r (tableOnly x))
+
+abbrev pub serve : Lent → Served
+serve = serveBy inForce
+
+-- two calls come to the same: the answer or the refusal, the vectors and the buffer
+pub record SameCall (r s : Served) : Type 0 where
+  pub call : r .call ≡ s .call
+  pub vectors : r .vectors ≡ s .vectors
+  pub buffer : r .buffer ≡ s .buffer

@@ -1,8 +1,7 @@
 -- Refusals are trials: when one holds, its number, what it returns besides. "Tried in this order."
 use Prim.Native.Nat.{ℕ}
 use mathlib.Core.List.{List, [], _∷_}
-use mathlib.Core.Bool.{Bool, true, false, cond, not, _||_, _&&_}
-use lib.Dec.{eqb}
+use mathlib.Core.Bool.{Bool, false, cond, _||_}
 
 pub record Trial : Type 0 where
   pub holds : Bool

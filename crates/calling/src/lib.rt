@@ -13,8 +13,8 @@ ghost use Rattle.vectors.specs.VectorFile.{checkVectors};
 ghost use Rattle.requests.specs.Request.{dialectOf};
 ghost use Rattle.deciding.specs.Passed.{Passed};
 ghost use Rattle.calling.specs.Lent.{lent};
-ghost use Rattle.calling.specs.Serve.{wrongLength, checkOf, checkValue, serve};
-ghost use Rattle.calling.specs.Leaves.{Leaves, early, serveChecked};
+ghost use Rattle.calling.specs.Serve.{wrongLength, checkOf, checkValue, serveTable, serve};
+ghost use Rattle.calling.specs.Leaves.{Leaves, Comes, early, serveChecked};
 
 // The six refusals, by their numbers.
 const SMALL_BUFFER: u16 = 1;
@@ -147,7 +147,7 @@ pub fn call_over(
 ) -> Came
     requires { ⌜ (k .table ≡ checkTable (now t) (length (now file))) × (k .vectors ≡ checkVectors (now v)) ⌝ }
     ensures { λ r. ⌜ Leaves (lent (now (req .entry)) (now (t .entry)) (now (file .entry)) (now (v .entry)) (now (out .entry)) (k .terms))
-        (serve (lent (now (req .entry)) (now (t .entry)) (now (file .entry)) (now (v .entry)) (now (out .entry)) (k .terms)))
+        (serveTable (lent (now (req .entry)) (now (t .entry)) (now (file .entry)) (now (v .entry)) (now (out .entry)) (k .terms)))
         (checkValue (k .table)) r (now (t .exit)) (now (v .exit)) (now (out .exit)) ⌝ }
 {
     let number = early(req, out);
@@ -157,8 +157,8 @@ pub fn call_over(
     over_checked(k, req, t, file, v, out)
 }
 
-// "Five refusals of the call"; "Tried in this order."; "6 .. after 5"
-pub fn call(
+// "Five refusals of the call"; "Tried in this order."; "6 .. after 5": over a table whose length must be exact.
+fn call_table(
     req: &[u8],
     t: &mut [u8],
     file: &[u8],
@@ -167,7 +167,7 @@ pub fn call(
     terms: Terms,
 ) -> Came
     ensures { λ r. ⌜ Leaves (lent (now (req .entry)) (now (t .entry)) (now (file .entry)) (now (v .entry)) (now (out .entry)) terms)
-        (serve (lent (now (req .entry)) (now (t .entry)) (now (file .entry)) (now (v .entry)) (now (out .entry)) terms))
+        (serveTable (lent (now (req .entry)) (now (t .entry)) (now (file .entry)) (now (v .entry)) (now (out .entry)) terms))
         (checkValue (checkOf (lent (now (req .entry)) (now (t .entry)) (now (file .entry)) (now (v .entry)) (now (out .entry)) terms)))
         r (now (t .exit)) (now (v .exit)) (now (out .exit)) ⌝ }
 {
@@ -181,4 +181,21 @@ pub fn call(
         terms,
     };
     over_checked(k, req, t, file, v, out)
+}
+
+// The call over a working area: the table at its front alone is lent on, so that no byte past it can be looked at.
+pub fn call(
+    req: &[u8],
+    area: &mut [u8],
+    file: &[u8],
+    v: &mut [u8],
+    out: &mut [u8],
+    terms: Terms,
+) -> Came
+    ensures { λ r. ⌜ Comes
+        (serve (lent (now (req .entry)) (now (area .entry)) (now (file .entry)) (now (v .entry)) (now (out .entry)) terms))
+        r (now (area .exit)) (now (v .exit)) (now (out .exit)) ⌝ }
+{
+    let n = table::area::table_length(area);
+    call_table(req, &mut area[..n], file, v, out, terms)
 }

@@ -93,6 +93,19 @@ fn back(given: &[u8], w: &[u8; 64]) -> bool {
     outcome::put(word, 1) & outcome::put_change(table, &t)
 }
 
+fn take(given: &[u8], w: &[u8; 64]) -> bool {
+    let area = words::slice(given, w, 0);
+    let mut a = [0u8; 40000];
+    run::copy(&mut a, area);
+    let n = area.len();
+    let word = ndushavire::ndushavire_take(
+        &mut a[..n],
+        words::slice(given, w, 1),
+        words::slice(given, w, 2),
+    );
+    outcome::put(word, 1) & outcome::put_change(area, &a)
+}
+
 // Calls an entry by its number in the streams.
 pub fn call(entry: u8, given: &[u8], w: &[u8; 64]) -> bool {
     match entry {
@@ -102,6 +115,7 @@ pub fn call(entry: u8, given: &[u8], w: &[u8; 64]) -> bool {
         4 => report(given, w),
         5 => forward(given, w),
         6 => back(given, w),
+        7 => take(given, w),
         _ => false,
     }
 }

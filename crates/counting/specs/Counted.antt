@@ -43,7 +43,7 @@ unfoldable pub largestIn : List Event → ℕ
 largestIn [] = 0
 largestIn (e ∷ es) = max (answerLength e) (largestIn es)
 
--- the number of each word: what it counts, and of a refusal or a cell how many requests stand in it; where reading stopped is put in at the end
+-- the number in each word: what it counts; for a refusal or a cell, how many requests came to it. Where reading stopped is 0 here and written at the end
 unfoldable pub numberAt : List Event → ℕ → ℕ
 numberAt es i =
     cond (eqb i readWord) (length es)

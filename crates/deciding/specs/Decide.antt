@@ -24,7 +24,7 @@ pub record Decision : Type 0 where
 abbrev pub faulted : List ℕ → List ℕ → Verdict → Decision
 faulted t v f = record { given = givenFault f; place = f .place; table = t; vectors = v }
 
--- what a plan comes to once it is carried out. What a decision says is no AVP's fault, a SAR's second identity neither
+-- what a plan comes to once it is carried out. No AVP is at fault in what a plan gives, so its place is 0: where a SAR names too many identities, too
 unfoldable pub performedBy : Rules → List ℕ → List ℕ → ℕ → List ℕ → Seen → Plan → Decision
 performedBy r req t count v seen p =
     record { given = p .given; place = 0; table = r .carry req t count seen (p .deed); vectors = spentBy v (p .given .sent) (p .deed) }

@@ -1,9 +1,10 @@
 -- How firm the promise is: it leaves one return for each input, and the word returned decides the answer.
-use Rattle.octets.specs.Standard.{ℕ, zero, suc, _+_, _*_, _≤_, _<_, Bool, true, false, _&&_, cond, _≡_, refl, sym, _∙_, inl, inr, _≢_, List, arith}
+use Rattle.octets.specs.Standard.{ℕ, zero, suc, _+_, _*_, _≤_, _<_, Bool, true, false, _&&_, cond, _≡_, refl, sym, ap, _∙_, inl, inr, _≢_, List, arith}
 use Rattle.octets.specs.Standard.{length, leb, eqb, eq-eqb, ne-eqb}
 use Rattle.record.specs.HeaderBlock.{headerOf, soundHeader}
 use Rattle.record.proofs.Sound.{header-count}
 use Rattle.blocks.specs.Blocks.{blockOf, firstBad}
+use Rattle.table.specs.Area.{tableIn, checkArea}
 use Rattle.table.specs.Check.{soundAt, checkRecords, checkTable}
 use Rattle.blocks.specs.declared.Checked.{Checked}
 use Rattle.blocks.specs.declared.Checked.the-variants.{Sound, Bad}
@@ -12,15 +13,21 @@ use Rattle.vectors.proofs.Pieces.{piece-near}
 use Rattle.calling.specs.Call.{Answer, Answered, Refused}
 use Rattle.calling.specs.Lent.{Lent}
 use Rattle.calling.specs.Serve.{checkValue}
-use Rattle.ndushavire.specs.Word.{word, checkWord, callWord, moveWord}
-use Rattle.ndushavire.specs.Reads.{numberIn, Reads, ReadsCheck, ReadsMove}
+use Rattle.ndushavire.specs.Word.{word, checkWord, callWord, moveWord, takeWord}
+use Rattle.ndushavire.specs.Reads.{numberIn, takeNumber, Reads, ReadsCheck, ReadsMove, ReadsTake}
 use Rattle.ndushavire.proofs.Parts.{parts}
 use Rattle.moving.specs.Outcomes.{forward, back}
 use Rattle.moving.specs.Conditions.{ForwardRefuses, BackRefuses}
 use Rattle.moving.specs.declared.Move.{Move}
 use Rattle.moving.specs.declared.Move.the-variants.{Moved}
 use Rattle.moving.proofs.Moving.{forward-moved, forward-refuses, back-moved, back-refuses}
-use Rattle.ndushavire.specs.Promise.{CheckPromise, CheckVectorsPromise, DecidePromise, ForwardPromise, BackPromise, VersionPromise}
+use Rattle.taking.specs.Ended.{Ended}
+use Rattle.taking.specs.TakeOver.{takeOver}
+use Rattle.taking.specs.declared.Taken.{Taken}
+use Rattle.taking.specs.declared.Taken.the-variants.{Took}
+use Rattle.taking.specs.declared.Taken.the-variants as take
+use Rattle.taking.proofs.Taking.{only-takes, ended}
+use Rattle.ndushavire.specs.Promise.{CheckPromise, CheckVectorsPromise, DecidePromise, ForwardPromise, BackPromise, TakePromise, VersionPromise}
 use Rattle.moving.specs.declared.Move.the-variants as move
 
 -- Any two returns that meet the promise are equal.
@@ -95,6 +102,10 @@ check-most t file = go (leb 512 (length t)) (soundHeader (blockOf t 0)) (eqb (le
     go true false z e = omega arith
     go false y z e = omega arith
 
+area-most : (area : List ℕ) (file : ℕ) → checkValue (checkArea area file) ≤ 4096
+unfolding checkArea
+area-most area file = check-most (tableIn area) file
+
 -- Nor has a vector file more than 4,096 blocks before its first bad one.
 near-most : (good : ℕ → Bool) (most : ℕ) → ((j : ℕ) → good j ≡ true → j < most) → (count n k : ℕ) → count ≡ k + n → k ≤ most
     → checkValue (firstBad good count n k) ≤ most
@@ -112,16 +123,16 @@ unfolding checkVectors
 vectors-most v = near-most (soundPiece v) 4096 (piece-near v) (piecesOf v) (piecesOf v) 0 (omega arith) (omega arith)
 
 -- What each check is promised to return is read back, and so decides its answer.
-pub check-said : (table profile : List ℕ) {r : ℕ} → CheckPromise table profile r → ReadsCheck 5 (checkTable table (length profile)) r
+pub check-said : (table profile : List ℕ) {r : ℕ} → CheckPromise table profile r → ReadsCheck 5 (checkArea table (length profile)) r
 check-said table profile p =
-    rw (p .answer) (check-reads 5 (omega arith) (checkTable table (length profile)) (omega (arith, check-most table (length profile))))
+    rw (p .answer) (check-reads 5 (omega arith) (checkArea table (length profile)) (omega (arith, area-most table (length profile))))
 
 pub check-vectors-said : (vectors : List ℕ) {r : ℕ} → CheckVectorsPromise vectors r → ReadsCheck 6 (checkVectors vectors) r
 check-vectors-said vectors p = rw (p .answer) (check-reads 6 (omega arith) (checkVectors vectors) (omega (arith, vectors-most vectors)))
 
-pub check-decides : (t u : List ℕ) (file other : ℕ) → checkWord 5 (checkTable t file) ≡ checkWord 5 (checkTable u other)
-    → checkTable t file ≡ checkTable u other
-check-decides t u file other = word-decides 5 (omega arith) (checkTable t file) (checkTable u other) (check-most t file) (check-most u other)
+pub check-decides : (t u : List ℕ) (file other : ℕ) → checkWord 5 (checkArea t file) ≡ checkWord 5 (checkArea u other)
+    → checkArea t file ≡ checkArea u other
+check-decides t u file other = word-decides 5 (omega arith) (checkArea t file) (checkArea u other) (area-most t file) (area-most u other)
 
 pub check-vectors-decides : (v w : List ℕ) → checkWord 6 (checkVectors v) ≡ checkWord 6 (checkVectors w) → checkVectors v ≡ checkVectors w
 check-vectors-decides v w = word-decides 6 (omega arith) (checkVectors v) (checkVectors w) (vectors-most v) (vectors-most w)
@@ -187,6 +198,44 @@ forward-unique table profile issue r s t u p q = (p .word-is ∙ sym (q .word-is
 
 pub back-unique : (table profile : List ℕ) (r s : ℕ) (t u : List ℕ) → BackPromise table profile r t → BackPromise table profile s u → (r ≡ s) × (t ≡ u)
 back-unique table profile r s t u p q = (p .word-is ∙ sym (q .word-is), p .table-is ∙ sym (q .table-is))
+
+-- The take-over.
+took-reads : (count : ℕ) → count ≤ 4096 → ReadsTake (Took count) (takeWord (Took count))
+took-reads count h =
+    let p = parts 0 0 count (omega arith) (omega arith) in
+    record { number = p .number-is; place = p .place-is; value = p .value-is; take = rw (eq-eqb (numberIn (word 0 0 count)) 0 (p .number-is), p .value-is) }
+
+untaken-reads : (number : ℕ) → 1 ≤ number → ReadsTake (take.Refused number) (takeWord (take.Refused number))
+untaken-reads number l =
+    let p = parts number 0 0 (omega arith) (omega arith) in
+    let other : numberIn (word number 0 0) ≢ 0 = λ q. omega (arith, p .number-is, q) in
+    record {
+      number = p .number-is;
+      place = p .place-is;
+      value = p .value-is;
+      take = rw (ne-eqb (numberIn (word number 0 0)) 0 other, p .number-is);
+    }
+
+pub take-said : (area fresh profile : List ℕ) {r : ℕ} {a : List ℕ} → TakePromise area fresh profile r a
+    → ReadsTake (takeOver area fresh (length profile) .taken) r
+take-said area fresh profile p = rw (p .word-is) (go (takeOver area fresh file .taken) refl)
+  where
+    file : ℕ
+    file = length profile
+
+    refuses : (number : ℕ) → Ended area fresh file (take.Refused number) → ReadsTake (take.Refused number) (takeWord (take.Refused number))
+    refuses number (inl (e, u)) = untaken-reads number (omega (arith, ap takeNumber e))
+    refuses number (inr (inl (e, u))) = untaken-reads number (omega (arith, ap takeNumber e))
+    refuses number (inr (inr (inl (e, u)))) = untaken-reads number (omega (arith, ap takeNumber e))
+    refuses number (inr (inr (inr (count, e, u)))) = let z : _≡_ {A = ℕ} 0 1 = cc in absurd (omega arith)
+
+    go : (t : Taken) → takeOver area fresh file .taken ≡ t → ReadsTake t (takeWord t)
+    go (Took count) e = took-reads count (count-most fresh file count (only-takes area fresh file count e .fit .checked))
+    go (take.Refused number) e = refuses number (ended area fresh file (take.Refused number) e)
+
+pub take-unique : (area fresh profile : List ℕ) (r s : ℕ) (a b : List ℕ) → TakePromise area fresh profile r a → TakePromise area fresh profile s b
+    → (r ≡ s) × (a ≡ b)
+take-unique area fresh profile r s a b p q = (p .word-is ∙ sym (q .word-is), p .area-is ∙ sym (q .area-is))
 
 -- The version's number.
 pub version-unique : (r s : ℕ) → VersionPromise r → VersionPromise s → r ≡ s

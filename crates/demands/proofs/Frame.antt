@@ -17,7 +17,7 @@ use Rattle.diameter.specs.Message.{commandOf}
 use Rattle.blocks.specs.Changed.{isOne}
 use Rattle.deciding.specs.Decide.{Decision}
 use Rattle.calling.specs.Lent.{Lent, dialectIn}
-use Rattle.calling.specs.Serve.{checkOf, answered, decision, serve, checkValue}
+use Rattle.calling.specs.Serve.{checkOf, answered, decision, serveTable, checkValue}
 use Rattle.demands.specs.Call.{turnedAway}
 use Rattle.demands.specs.Frame.{succeeds, subscriptionOf}
 use Rattle.calling.proofs.Kept.{taken, table-checked}
@@ -72,7 +72,7 @@ module _ (x : Lent) (count : ℕ) (sound : checkOf x ≡ Sound count) where
   Wrote = Altered (commandOf (x .request)) t count v asked (decision x count)
 
   after-call : (P : List ℕ → List ℕ → Type 0) → P t v → (Wrote → P (decision x count .table) (decision x count .vectors))
-      → P (serve x .table) (serve x .vectors)
+      → P (serveTable x .table) (serveTable x .vectors)
   unfolding answered
   after-call P p q = go (turnedAway x) refl
     where
@@ -80,13 +80,13 @@ module _ (x : Lent) (count : ℕ) (sound : checkOf x ≡ Sound count) where
       decided (inl (e, f)) = rw (e, f) p
       decided (inr a) = q a
 
-      go : (y : Bool) → turnedAway x ≡ y → P (serve x .table) (serve x .vectors)
+      go : (y : Bool) → turnedAway x ≡ y → P (serveTable x .table) (serveTable x .vectors)
       go true e = rw (refused-kept x e .0, refused-kept x e .1) p
       go false e = rw (answered-is x count sound e) (decided (decide-does (dialectIn x) (x .request) t count v))
 
   -- where none is made, both are as they came
   abbrev Left : Type 0
-  Left = (serve x .table ≡ t) × (serve x .vectors ≡ v)
+  Left = (serveTable x .table ≡ t) × (serveTable x .vectors ≡ v)
 
   none-wrote : (Wrote → ⊥) → Left
   none-wrote n = after-call (λ y z. (y ≡ t) × (z ≡ v)) (refl, refl) (λ a. absurd (n a))
@@ -101,7 +101,7 @@ module _ (x : Lent) (count : ℕ) (sound : checkOf x ≡ Sound count) where
       go (inl (e, f)) = m e
       go (inr e) = n e
 
-  vectors-left : commandOf (x .request) ≢ 303 → serve x .vectors ≡ v
+  vectors-left : commandOf (x .request) ≢ 303 → serveTable x .vectors ≡ v
   vectors-left n = after-call (λ y z. z ≡ v) refl (λ a. go (a .by))
     where
       go : ((commandOf (x .request) ≡ 301) × (decision x count .vectors ≡ v)) ⊎ (commandOf (x .request) ≡ 303) → decision x count .vectors ≡ v
@@ -111,49 +111,49 @@ module _ (x : Lent) (count : ℕ) (sound : checkOf x ≡ Sound count) where
   abbrev says : SoundTable t count
   says = record { file = length (x .profile); checked = sound }
 
-  pub others-kept : (k : ℕ) → k ≤ count → some (privateAt t k) ≢ asked → blockOf (serve x .table) k ≡ blockOf t k
+  pub others-kept : (k : ℕ) → k ≤ count → some (privateAt t k) ≢ asked → blockOf (serveTable x .table) k ≡ blockOf t k
   others-kept k h n =
       after-call (λ y z. blockOf y k ≡ blockOf t k) refl (λ a. altered-others (commandOf (x .request)) t count v asked (decision x count) says a k h n)
 
   -- what every effect keeps is kept by every call
-  call-keeping : Keeping t (serve x .table) count
+  call-keeping : Keeping t (serveTable x .table) count
   call-keeping =
       after-call (λ y z. Keeping t y count) (keeping-same t count) (λ a. decide-keeping (dialectIn x) (x .request) t count v says)
 
-  pub sets-kept : (j k : ℕ) → sameSet (blockOf (serve x .table) j) (blockOf (serve x .table) k) ≡ sameSet (blockOf t j) (blockOf t k)
-  sets-kept = keeping-sets t (serve x .table) count call-keeping says
+  pub sets-kept : (j k : ℕ) → sameSet (blockOf (serveTable x .table) j) (blockOf (serveTable x .table) k) ≡ sameSet (blockOf t j) (blockOf t k)
+  sets-kept = keeping-sets t (serveTable x .table) count call-keeping says
 
-  pub header-kept : blockOf (serve x .table) 0 ≡ blockOf t 0
+  pub header-kept : blockOf (serveTable x .table) 0 ≡ blockOf t 0
   header-kept = call-keeping .header
 
-  block-kept : (k : ℕ) → k ≤ count → Kept (blockOf t k) (blockOf (serve x .table) k)
+  block-kept : (k : ℕ) → k ≤ count → Kept (blockOf t k) (blockOf (serveTable x .table) k)
   block-kept zero h = kept-same _ _ header-kept
   block-kept (suc k) h = call-keeping .each (suc k) (omega arith) h
 
-  pub bytes-kept : (k i : ℕ) → k ≤ count → i < 512 → alterable i ≡ false → getD (blockOf (serve x .table) k) i 0 ≡ getD (blockOf t k) i 0
+  pub bytes-kept : (k i : ℕ) → k ≤ count → i < 512 → alterable i ≡ false → getD (blockOf (serveTable x .table) k) i 0 ≡ getD (blockOf t k) i 0
   bytes-kept k i h l e = block-kept k h .others i l e
 
-  pub bits-kept : (k : ℕ) → k ≤ count → getD (blockOf (serve x .table) k) 9 0 / 2 ≡ getD (blockOf t k) 9 0 / 2
+  pub bits-kept : (k : ℕ) → k ≤ count → getD (blockOf (serveTable x .table) k) 9 0 / 2 ≡ getD (blockOf t k) 9 0 / 2
   bits-kept k h = block-kept k h .bits
 
-  pub size-kept : length (serve x .table) ≡ length t
+  pub size-kept : length (serveTable x .table) ≡ length t
   size-kept = call-keeping .size
 
-  pub sound-kept : checkTable (serve x .table) (length (x .profile)) ≡ Sound count
+  pub sound-kept : checkTable (serveTable x .table) (length (x .profile)) ≡ Sound count
   sound-kept = table-checked x ∙ sound
 
 -- whatever the table: a question alters nothing, and none but a MAR alters the vectors
 module _ (x : Lent) where
-  pub question-kept : commandOf (x .request) ≢ 301 → commandOf (x .request) ≢ 303 → (serve x .table ≡ x .table) × (serve x .vectors ≡ x .vectors)
+  pub question-kept : commandOf (x .request) ≢ 301 → commandOf (x .request) ≢ 303 → (serveTable x .table ≡ x .table) × (serveTable x .vectors ≡ x .vectors)
   question-kept m n = go (turnedAway x) refl
     where
-      go : (y : Bool) → turnedAway x ≡ y → (serve x .table ≡ x .table) × (serve x .vectors ≡ x .vectors)
+      go : (y : Bool) → turnedAway x ≡ y → (serveTable x .table ≡ x .table) × (serveTable x .vectors ≡ x .vectors)
       go true e = (refused-kept x e .0, refused-kept x e .1)
       go false e = question-left x (checkValue (checkOf x)) (taken x e .table) m n
 
-  pub vectors-kept : commandOf (x .request) ≢ 303 → serve x .vectors ≡ x .vectors
+  pub vectors-kept : commandOf (x .request) ≢ 303 → serveTable x .vectors ≡ x .vectors
   vectors-kept n = go (turnedAway x) refl
     where
-      go : (y : Bool) → turnedAway x ≡ y → serve x .vectors ≡ x .vectors
+      go : (y : Bool) → turnedAway x ≡ y → serveTable x .vectors ≡ x .vectors
       go true e = refused-kept x e .1
       go false e = vectors-left x (checkValue (checkOf x)) (taken x e .table) n

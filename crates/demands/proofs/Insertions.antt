@@ -21,13 +21,13 @@ use Rattle.deciding.specs.Rules.{inForce}
 use Rattle.deciding.specs.Decide.{faulted, judgedBy, decideBy, decide}
 use Rattle.answering.specs.Answer.{proxy, proxies}
 use Rattle.calling.specs.Lent.{Lent, asking}
-use Rattle.calling.specs.Serve.{checkOf, answered, decision, serve, checkValue}
+use Rattle.calling.specs.Serve.{checkOf, answered, decision, serveTable, checkValue}
 use Rattle.demands.specs.Call.{turnedAway}
 use Rattle.demands.specs.Insertion.{message, requestOf, Foreign, isMarked, Quiet, Inserted, ending, keep, put, FirstMarked, isFault, faultIn}
-use Rattle.demands.specs.Insertion.{putBefore, later, placeNow, placed, behindRow, unsupported}
+use Rattle.demands.specs.Insertion.{putBefore, later, placeNow, placed, behindRow}
 use Rattle.calling.proofs.Kept.{taken}
 use Rattle.demands.proofs.Refusals.{refused-kept, answered-is}
-use Rattle.demands.proofs.Blaming.{fault-answered}
+use Rattle.demands.proofs.Blaming.{blamingTable, fault-answered}
 use Rattle.demands.proofs.Moved.{Moved, faults, same, moved-as, moved-by, judge-amid, past-later, past-bytes, past-drop, failed-there}
 use Rattle.demands.proofs.Moved.{Row-moved, row-moved, ends-none, ends-same}
 use Rattle.demands.proofs.Messages.{message-dialect, message-length, message-drop, message-read, readBody, Fit, turned-same, refused-same}
@@ -219,14 +219,14 @@ module _ (head : List ℕ) (twenty : length head ≡ 20) (q : Piece) (qs rs : Li
     both-served : {from : ℕ} {more : ℕ → ℕ} → more 0 ≡ 0
         → Moved (message head long) (message head short) from more (readBody (dialectOf (x .terms) head) head (walk long))
         (readBody (dialectOf (x .terms) head) head (walk short))
-        → serve (asking x (message head long)) ≡ placed (later more) (serve (asking x (message head short)))
+        → serveTable (asking x (message head long)) ≡ placed (later more) (serveTable (asking x (message head short)))
     both-served z e = served-same x head twenty long short both-alike z e both-named long-fit short-fit
 
     turned : turnedAway (asking x (message head long)) ≡ turnedAway (asking x (message head short))
     turned = turned-same head twenty long short long-fit short-fit x
 
     pub both-refused : (f : ℕ → ℕ) → turnedAway (asking x (message head short)) ≡ true
-        → serve (asking x (message head long)) ≡ placed f (serve (asking x (message head short)))
+        → serveTable (asking x (message head long)) ≡ placed f (serveTable (asking x (message head short)))
     both-refused f e = refused-same head twenty long short long-fit short-fit x f e
 
   -- the verdict of reading: the place of the AVP at fault moves by what was put in before it
@@ -246,7 +246,7 @@ module _ (head : List ℕ) (twenty : length head ≡ 20) (q : Piece) (qs rs : Li
       (moved-as (omega arith) (λ p h. zero-add (putBefore (keep q j) 20 p)) m))
 
   pub unmarked-same : (j : Inserted (Quiet (dialectOf (x .terms) head)) qs rs)
-      → serve (asking x (message head long)) ≡ placed (placeNow (keep q j)) (serve (asking x (message head short)))
+      → serveTable (asking x (message head long)) ≡ placed (placeNow (keep q j)) (serveTable (asking x (message head short)))
   unmarked-same j = both-served (quiet-foreign j) (none-before q j) (unmarked-moved j)
 
 -- Some are marked: the row before the first marked one decides, or that one does.
@@ -354,10 +354,10 @@ module _ (head : List ℕ) (twenty : length head ≡ 20) (q : Piece) (qs rs : Li
     unfolding faultIn
     fault-moved e = rw (long-read, short-read) (fault-decides none dialect head headed (frontOther q (m .front)) _ _ front-more e)
 
-    pub fault-more : faultIn dialect head (q ∷ m .front) ≡ true → serve (asking x longer) ≡ placed (later more) (serve (asking x shorter))
+    pub fault-more : faultIn dialect head (q ∷ m .front) ≡ true → serveTable (asking x longer) ≡ placed (later more) (serveTable (asking x shorter))
     fault-more e = both-served head twenty q qs rs whole tail fours most x i none (fault-moved e)
 
-  pub fault-first : faultIn dialect head (q ∷ m .front) ≡ true → serve (asking x longer) ≡ placed (placeNow frontal) (serve (asking x shorter))
+  pub fault-first : faultIn dialect head (q ∷ m .front) ≡ true → serveTable (asking x longer) ≡ placed (placeNow frontal) (serveTable (asking x shorter))
   fault-first = fault-more (putBefore frontal 20) (none-before q (m .quiet)) (λ p l h. refl)
 
   -- else the marked one does: its place is where it stands
@@ -392,11 +392,11 @@ module _ (head : List ℕ) (twenty : length head ≡ 20) (q : Piece) (qs rs : Li
   mark-decides e t count v = rw (mark-read e)
 
   pub mark-answered : faultIn dialect head (q ∷ m .front) ≡ false → turnedAway (asking x shorter) ≡ false
-      → serve (asking x longer) ≡ unsupported (asking x longer) (m .mark) (behindRow (q ∷ m .before))
+      → serveTable (asking x longer) ≡ blamingTable (asking x longer) 5001 (m .mark .avp) (behindRow (q ∷ m .before))
   mark-answered e away =
       let f : turnedAway (asking x longer) ≡ false = turned head twenty q qs rs whole tail fours most x i ∙ away in
       fault-answered (asking x longer) 5001 markPlace (m .mark .avp) mark-failed (mark-read e) f
-      ∙ ap (unsupported (asking x longer) (m .mark)) (past-bytes 20 (q ∷ m .before) before-whole)
+      ∙ ap (blamingTable (asking x longer) 5001 (m .mark .avp)) (past-bytes 20 (q ∷ m .before) before-whole)
 
   long-decides : (t : List ℕ) (count : ℕ) (v : List ℕ) → decide (dialectOf (x .terms) longer) longer t count v
       ≡ judgedBy inForce dialect longer t count v longRead
@@ -404,18 +404,18 @@ module _ (head : List ℕ) (twenty : length head ≡ 20) (q : Piece) (qs rs : Li
   long-decides t count v =
       rw (message-dialect head twenty (bytesOf (q ∷ rs) ++ tail) (x .terms), message-read dialect head twenty (bytesOf (q ∷ rs) ++ tail), long-read)
 
-  pub marked-kept : (serve (asking x longer) .table ≡ x .table) × (serve (asking x longer) .vectors ≡ x .vectors)
+  pub marked-kept : (serveTable (asking x longer) .table ≡ x .table) × (serveTable (asking x longer) .vectors ≡ x .vectors)
   unfolding answered faultIn
   marked-kept = go (turnedAway (asking x longer)) refl (faultIn dialect head (q ∷ m .front)) refl
     where
       count : ℕ
       count = checkValue (checkOf x)
 
-      answers : turnedAway (asking x longer) ≡ false → serve (asking x longer) ≡ answered (asking x longer) (decision (asking x longer) count)
+      answers : turnedAway (asking x longer) ≡ false → serveTable (asking x longer) ≡ answered (asking x longer) (decision (asking x longer) count)
       answers e = answered-is (asking x longer) count (taken (asking x longer) e .table) e
 
       go : (y : Bool) → turnedAway (asking x longer) ≡ y → (z : Bool) → faultIn dialect head (q ∷ m .front) ≡ z
-          → (serve (asking x longer) .table ≡ x .table) × (serve (asking x longer) .vectors ≡ x .vectors)
+          → (serveTable (asking x longer) .table ≡ x .table) × (serveTable (asking x longer) .vectors ≡ x .vectors)
       go true e z f = let k = refused-kept (asking x longer) e in (k .0, k .1)
       go false e true f =
           rw (answers e, long-decides (x .table) count (x .vectors))

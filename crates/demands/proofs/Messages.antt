@@ -17,7 +17,7 @@ use Rattle.deciding.specs.Decide.{Decision, performedBy, judgedBy, decideBy, de
 use Rattle.reply.specs.Pieces.{topBytes, identityBytes, nameBytes, dataBytes, givenBytes, headerBytes}
 use Rattle.answering.specs.Answer.{proxies, endBytes, restBytes, bodyBytes, answerBytes}
 use Rattle.calling.specs.Lent.{Lent, asking}
-use Rattle.calling.specs.Serve.{wrongSize, wrongLength, noRequest, checkOf, answered, decision, serve, checkValue}
+use Rattle.calling.specs.Serve.{wrongSize, wrongLength, noRequest, checkOf, answered, decision, serveTable, checkValue}
 use Rattle.demands.specs.Call.{turnedAway}
 use Rattle.demands.specs.Insertion.{message, later, placed}
 use Rattle.demands.proofs.Refusals.{refused-alike, refused-placed, answer-is}
@@ -142,7 +142,7 @@ module _ (head : List ℕ) (twenty : length head ≡ 20) (b c : List ℕ) (f : F
   turned-same = rw (size-same, length-same, flags-same)
 
   pub refused-same : (h : ℕ → ℕ) → turnedAway (asking x (message head c)) ≡ true
-      → serve (asking x (message head b)) ≡ placed h (serve (asking x (message head c)))
+      → serveTable (asking x (message head b)) ≡ placed h (serveTable (asking x (message head c)))
   refused-same h e =
       refused-alike x (message head b) (message head c) size-same length-same flags-same e
       ∙ sym (refused-placed (asking x (message head c)) h e)
@@ -235,7 +235,7 @@ module _ (x : Lent) (head : List ℕ) (twenty : length head ≡ 20) (b c : List 
         )
         (judged-same t count v (message-read dialect head twenty c) read, judged-place t count v read)
 
-    pub served-same : Fit b → Fit c → serve (asking x (message head b)) ≡ placed (later more) (serve (asking x (message head c)))
+    pub served-same : Fit b → Fit c → serveTable (asking x (message head b)) ≡ placed (later more) (serveTable (asking x (message head c)))
     served-same f g = go (turnedAway (asking x short)) refl
       where
         k : ℕ
@@ -246,7 +246,7 @@ module _ (x : Lent) (head : List ℕ) (twenty : length head ≡ 20) (b c : List 
             let d = decide-same (x .table) k (x .vectors) in
             answered-same (later more) (decision (asking x long) k) (decision (asking x short) k) (d .0) (d .1)
 
-        go : (y : Bool) → turnedAway (asking x short) ≡ y → serve (asking x long) ≡ placed (later more) (serve (asking x short))
+        go : (y : Bool) → turnedAway (asking x short) ≡ y → serveTable (asking x long) ≡ placed (later more) (serveTable (asking x short))
         go true e = refused-same head twenty b c f g x (later more) e
         go false e =
             answer-is (asking x long) (turned-same head twenty b c f g x ∙ e) ∙ answers ∙ ap (placed (later more)) (sym (answer-is (asking x short) e))

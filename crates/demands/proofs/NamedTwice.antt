@@ -23,7 +23,7 @@ use Rattle.reading.specs.declared.Dialect.{Dialect}
 use Rattle.deciding.proofs.Cases.{Blameless}
 use Rattle.deciding.proofs.Comes.{plan-blameless}
 use Rattle.calling.specs.Lent.{Lent, asking, dialectIn}
-use Rattle.calling.specs.Serve.{checkOf, checkValue, answered, decision, serve}
+use Rattle.calling.specs.Serve.{checkOf, checkValue, answered, decision, serveTable}
 use Rattle.demands.specs.Call.{turnedAway}
 use Rattle.demands.specs.Insertion.{message}
 use Rattle.demands.specs.Sets.{Removes, OneFewer, Member}
@@ -141,7 +141,7 @@ module _ (head : List ℕ) (twenty : length head ≡ 20) (before : List Piece) (
           sym (identities-glue (avpsOf before) rest)
           ∙ ap identities (sym (glue-glue (avpsOf before) (avpsOf after) ended))
           ∙ ap (λ (l : List (List ℕ)). identities (glue l ended))
-          (sym (avps-joined before after) ∙ ap avpsOf (m .still) ∙ avps-joined (m .front) (m .other ∷ m .back))
+          (sym (avps-joined before after) ∙ ap avpsOf (m .rest-is) ∙ avps-joined (m .front) (m .other ∷ m .back))
           ∙ ap identities (glue-glue (avpsOf (m .front)) (m .other .avp ∷ avpsOf (m .back)) ended)
           ∙ identities-left (m .other .avp) (m .identity) (glue (avpsOf (m .back)) ended) (avpsOf (m .front))
 
@@ -197,10 +197,10 @@ module _ (head : List ℕ) (twenty : length head ≡ 20) (before : List Piece) (
       decided-same =
           decide-long
           ∙ rw (naming-says, leaving-says)
-          (named-twice t count sound (m .block) (m .member) (m .block-is .from) (m .block-is .to) (m .member-is .from) (m .member-is .to)
-          (shares-holds t (m .block) (m .member) (m .shares)) (numbersIn t (removes .seen)) (removes .removal) _ _
+          (named-twice t count sound (m .other-block) (m .one-block) (m .other-stands .from) (m .other-stands .to) (m .one-stands .from) (m .one-stands .to)
+          (shares-holds t (m .other-block) (m .one-block) (m .shares)) (numbersIn t (removes .seen)) (removes .removal) _ _
           (named before) (named after) (named (m .front)) (named (m .back)) (one .avp) (m .other .avp) still
-          (stands-found t count sound (m .member) _ (m .member-is)) (stands-found t count sound (m .block) _ (m .block-is))
+          (stands-found t count sound (m .one-block) _ (m .one-stands)) (stands-found t count sound (m .other-block) _ (m .other-stands))
           _ _ long-some short-some (message head long) (message head short) (removes .seen) (read-short .seen) naming-says leaving-says v)
           ∙ sym decide-short
 
@@ -232,10 +232,11 @@ module _ (head : List ℕ) (twenty : length head ≡ 20) (before : List Piece) (
           (answered-same x head twenty long short (copied begun) (λ (p : ℕ). p) _ _ (same-decision (x .table) count table m (x .vectors))
           (ap (λ (d : Decision). d .place) (decided-same (x .table) count table m (x .vectors))))
 
-      pub served-twice : serve (asking x (message head long)) ≡ serve (asking x (message head short))
+      pub served-twice : serveTable (asking x (message head long)) ≡ serveTable (asking x (message head short))
       served-twice = go (turnedAway (asking x (message head short))) refl
         where
-          go : (y : Bool) → turnedAway (asking x (message head short)) ≡ y → serve (asking x (message head long)) ≡ serve (asking x (message head short))
+          go : (y : Bool) → turnedAway (asking x (message head short)) ≡ y → serveTable (asking x (message head long))
+              ≡ serveTable (asking x (message head short))
           go true e =
               refused-same head twenty long short fit-long fit-short x (λ (p : ℕ). p) e ∙ refused-placed (asking x (message head short)) (λ (p : ℕ). p) e
           go false e =
@@ -245,10 +246,10 @@ module _ (head : List ℕ) (twenty : length head ≡ 20) (before : List Piece) (
 
 -- The same of any call and of the call with the request that names one fewer.
 pub twice-once : (x : Lent) (fewer : List ℕ) (count : ℕ) → checkOf x ≡ Sound count → length (x .request) ≤ 16384 → Removes (dialectIn x) (x .request)
-    → (f : OneFewer (x .request) fewer) → Member (x .table) count (f .before ++ f .after) (f .one) → serve x ≡ serve (asking x fewer)
+    → (f : OneFewer (x .request) fewer) → Member (x .table) count (f .before ++ f .after) (f .one) → serveTable x ≡ serveTable (asking x fewer)
 twice-once x fewer count sound most removes f m =
-    ap (λ (req : List ℕ). serve (asking x req)) (f .bytes)
+    ap (λ (req : List ℕ). serveTable (asking x req)) (f .bytes)
     ∙ served-twice (f .head) (f .twenty) (f .before) (f .one) (f .after) (f .whole) (f .identity) _
     (subst (λ (req : List ℕ). Removes (dialectOf (x .terms) req) req) (f .bytes) removes)
     (rw (f .bytes) at most) x count sound m (sym (message-dialect (f .head) (f .twenty) _ (x .terms)))
-    ∙ ap (λ (req : List ℕ). serve (asking x req)) (sym (f .shorter))
+    ∙ ap (λ (req : List ℕ). serveTable (asking x req)) (sym (f .shorter))

@@ -10,7 +10,7 @@ use Rattle.calling.specs.Call.{Answer, Call, Answered, Refused}
 use Rattle.calling.specs.Lent.{Lent, asking, dialectIn}
 use Rattle.calling.specs.Trial.{Trial, tried, anyHolds}
 use Rattle.calling.specs.Serve.{Served, smallBuffer, wrongSize, wrongLength, noRequest, isBad, earlyTrials, unsound, checkOf, trials, refused}
-use Rattle.calling.specs.Serve.{answered, decision, checkValue, serveFound, serveBy, serve}
+use Rattle.calling.specs.Serve.{answered, decision, checkValue, serveFound, serveTableBy, serveTable}
 use Rattle.ndushavire.specs.Word.{callWord}
 use Rattle.ndushavire.specs.Reads.{callNumber, callPlace, callValue, Reads}
 use Rattle.calling.proofs.Calls.{size-least, size-most}
@@ -52,16 +52,16 @@ module _ (x : Lent) where
 
   -- What holds of every refusal and of the answer holds of the call.
   call-by : (P : Bool → Served → Type 0) (Q : Trial → Type 0) → All Q (trials x) → ((r : Trial) → Q r → r .holds ≡ true → P true (refused x r))
-      → P false answer → P (turnedAway x) (serve x)
-  unfolding serveBy serveFound
+      → P false answer → P (turnedAway x) (serveTable x)
+  unfolding serveTableBy serveFound
   call-by P Q h f o = tried-by P Q (refused x) answer f o (trials x) h
 
   -- What holds of any refusal at all, and of the answer, does.
-  any-call : (P : Bool → Served → Type 0) → ((r : Trial) → P true (refused x r)) → P false answer → P (turnedAway x) (serve x)
+  any-call : (P : Bool → Served → Type 0) → ((r : Trial) → P true (refused x r)) → P false answer → P (turnedAway x) (serveTable x)
   any-call = serve-either x
 
-  pub refusals : Exactly (trials x) (callNumber (serve x .call))
-  unfolding serveBy serveFound refused answered
+  pub refusals : Exactly (trials x) (callNumber (serveTable x .call))
+  unfolding serveTableBy serveFound refused answered
   refusals =
       exactly (refused x) answer (λ (s : Served). callNumber (s .call)) (λ r. refl) refl (trials x) (
         refl,
@@ -73,7 +73,7 @@ module _ (x : Lent) where
         ),
       )
 
-  pub number-most : callNumber (serve x .call) ≤ 6
+  pub number-most : callNumber (serveTable x .call) ≤ 6
   unfolding refused answered
   number-most =
       call-by (λ b s. callNumber (s .call) ≤ 6) (λ r. r .number ≤ 6) (six (λ r. r .number ≤ 6) (λ h n a b c. b) (omega arith)) (λ r h e. h) (omega arith)
@@ -94,7 +94,7 @@ module _ (x : Lent) where
   fifth : Right (unsound (checkOf x))
   fifth = record { none = λ i. absurd (i refl); block = λ h e. bad-block (checkOf x) h }
 
-  besides : Besides (serve x .call)
+  besides : Besides (serveTable x .call)
   unfolding refused answered isAnswer
   besides =
       call-by (λ b s. Besides (s .call)) Right (six Right (λ h n a b c. other h n c) fifth)
@@ -110,35 +110,35 @@ module _ (x : Lent) where
         long = λ a e. sym (ap callValue e);
       })
 
-  pub besides-none : (n k : ℕ) → serve x .call ≡ Refused n k → n ≢ 5 → k ≡ 0
+  pub besides-none : (n k : ℕ) → serveTable x .call ≡ Refused n k → n ≢ 5 → k ≡ 0
   besides-none = besides .none
 
-  pub besides-block : (k : ℕ) → serve x .call ≡ Refused 5 k → checkOf x ≡ Bad k
+  pub besides-block : (k : ℕ) → serveTable x .call ≡ Refused 5 k → checkOf x ≡ Bad k
   besides-block = besides .block
 
-  pub answer-long : (a : Answer) → serve x .call ≡ Answered a → (count : ℕ) → checkOf x ≡ Sound count → a .length ≡ length (answerTo x count)
+  pub answer-long : (a : Answer) → serveTable x .call ≡ Answered a → (count : ℕ) → checkOf x ≡ Sound count → a .length ≡ length (answerTo x count)
   answer-long a e count s = besides .long a e ∙ ap (λ (c : Checked). length (answerTo x (checkValue c))) s
 
   -- What is refused leaves the table, the vectors and the buffer; what is not is answered.
-  pub refused-kept : turnedAway x ≡ true → (serve x .table ≡ x .table) × (serve x .vectors ≡ x .vectors) × (serve x .buffer ≡ x .buffer)
+  pub refused-kept : turnedAway x ≡ true → (serveTable x .table ≡ x .table) × (serveTable x .vectors ≡ x .vectors) × (serveTable x .buffer ≡ x .buffer)
   unfolding refused
   refused-kept =
       any-call (λ b s. b ≡ true → (s .table ≡ x .table) × (s .vectors ≡ x .vectors) × (s .buffer ≡ x .buffer)) (λ r e. (refl, refl, refl))
       (λ e. absurd (true≢false (sym e)))
 
   -- it has no place
-  pub refused-placed : (f : ℕ → ℕ) → turnedAway x ≡ true → placed f (serve x) ≡ serve x
+  pub refused-placed : (f : ℕ → ℕ) → turnedAway x ≡ true → placed f (serveTable x) ≡ serveTable x
   unfolding refused
   refused-placed f = any-call (λ b s. b ≡ true → placed f s ≡ s) (λ r e. refl) (λ e. absurd (true≢false (sym e)))
 
-  pub refused-nowhere : turnedAway x ≡ true → callPlace (serve x .call) ≡ 0
+  pub refused-nowhere : turnedAway x ≡ true → callPlace (serveTable x .call) ≡ 0
   unfolding refused
   refused-nowhere = any-call (λ b s. b ≡ true → callPlace (s .call) ≡ 0) (λ r e. refl) (λ e. absurd (true≢false (sym e)))
 
-  pub answer-is : turnedAway x ≡ false → serve x ≡ answer
+  pub answer-is : turnedAway x ≡ false → serveTable x ≡ answer
   answer-is = any-call (λ b s. b ≡ false → s ≡ answer) (λ r e. absurd (true≢false e)) (λ e. refl)
 
-  pub answered-is : (count : ℕ) → checkOf x ≡ Sound count → turnedAway x ≡ false → serve x ≡ answered x (decision x count)
+  pub answered-is : (count : ℕ) → checkOf x ≡ Sound count → turnedAway x ≡ false → serveTable x ≡ answered x (decision x count)
   answered-is count s e = answer-is e ∙ ap (λ (c : Checked). answered x (decision x (checkValue c))) s
 
   -- The word of a call is read back: what it carries is short.
@@ -146,7 +146,7 @@ module _ (x : Lent) where
     abbrev short : (turnedAway x ≡ false) → length (answerTo x (checkValue (checkOf x))) ≤ 36864
     short e = let h = taken x e in fits (h .size) (h .lengths) (checkValue (checkOf x)) (h .table) (h .vectors)
 
-    pub word-reads : Reads (serve x .call) (callWord (serve x .call))
+    pub word-reads : Reads (serveTable x .call) (callWord (serveTable x .call))
     unfolding refused answered
     word-reads =
         call-by (λ b s. turnedAway x ≡ b → Reads (s .call) (callWord (s .call))) (λ r. (1 ≤ r .number) × (r .besides ≤ 4096))
@@ -162,21 +162,21 @@ module _ (x : Lent) where
             let s = taken x e .size in
             omega (arith, size-most (x .request) s, decide-within (dialectIn x) (x .request) (x .table) count (x .vectors) (size-least (x .request) s))
 
-    pub answer-within : callNumber (serve x .call) ≡ 0 → callValue (serve x .call) ≤ length (x .buffer)
+    pub answer-within : callNumber (serveTable x .call) ≡ 0 → callValue (serveTable x .call) ≤ length (x .buffer)
     unfolding refused answered
     answer-within =
         call-by (λ b s. turnedAway x ≡ b → callNumber (s .call) ≡ 0 → callValue (s .call) ≤ length (x .buffer)) (λ r. 1 ≤ r .number)
         (six (λ r. 1 ≤ r .number) (λ h n a b c. a) (omega arith)) (λ r q h e z. absurd (omega (arith, q, z)))
         (λ e z. omega (arith, short e, taken x e .room)) refl
 
-    pub buffer-length : length (serve x .buffer) ≡ length (x .buffer)
+    pub buffer-length : length (serveTable x .buffer) ≡ length (x .buffer)
     unfolding refused answered
     buffer-length =
         any-call (λ b s. turnedAway x ≡ b → length (s .buffer) ≡ length (x .buffer)) (λ r e. refl)
         (λ e. over-length (answerTo x (checkValue (checkOf x))) (x .buffer) (omega (arith, short e, taken x e .room))) refl
 
   -- the buffer past the answer
-  pub buffer-past : drop (callValue (serve x .call)) (serve x .buffer) ≡ drop (callValue (serve x .call)) (x .buffer)
+  pub buffer-past : drop (callValue (serveTable x .call)) (serveTable x .buffer) ≡ drop (callValue (serveTable x .call)) (x .buffer)
   unfolding refused answered over
   buffer-past =
       let bytes = answerTo x (checkValue (checkOf x)) in
@@ -185,14 +185,14 @@ module _ (x : Lent) where
 
 -- Two requests of which the trials say the same are refused alike.
 pub refused-alike : (x : Lent) (req other : List ℕ) → wrongSize req ≡ wrongSize other → wrongLength req ≡ wrongLength other → noRequest req ≡ noRequest other
-    → turnedAway (asking x other) ≡ true → serve (asking x req) ≡ serve (asking x other)
-unfolding serveBy serveFound refused
+    → turnedAway (asking x other) ≡ true → serveTable (asking x req) ≡ serveTable (asking x other)
+unfolding serveTableBy serveFound refused
 refused-alike x req other a b c e =
     rw (a, b, c) (tried-alike (refused (asking x other)) (answer (asking x req)) (answer (asking x other)) (trials (asking x other)) e)
 
 -- what the first four let pass is refused by 5, over a table whose check answers a bad block
-pub unsound-refused : (x : Lent) (k : ℕ) → anyHolds (earlyTrials (x .request) (x .buffer)) ≡ false → checkOf x ≡ Bad k → serve x .call ≡ Refused 5 k
-unfolding serveBy serveFound anyHolds tried refused
+pub unsound-refused : (x : Lent) (k : ℕ) → anyHolds (earlyTrials (x .request) (x .buffer)) ≡ false → checkOf x ≡ Bad k → serveTable x .call ≡ Refused 5 k
+unfolding serveTableBy serveFound anyHolds tried refused
 unsound-refused x k none e =
     rw e
     (ap (λ (s : Served). s .call)

@@ -16,7 +16,7 @@ use Rattle.reading.specs.declared.Use.the-variants.{Unknown}
 use Rattle.reading.specs.Kinds.{useOf}
 use Rattle.requests.specs.Judged.{Judged, bad, fine, nothing, judge}
 use Rattle.requests.specs.Request.{dialectOf, headerFault, firstOther}
-use Rattle.calling.specs.Lent.{Lent, asking}
+use Rattle.calling.specs.Lent.{Lent, asking, tableOnly}
 use Rattle.calling.specs.Serve.{Served, serve}
 use Rattle.calling.specs.Call.{Call}
 use Rattle.calling.specs.Call.{Answered, Refused}
@@ -151,10 +151,10 @@ firstMark (put u f i) = cond (isMarked u) (some (record { front = []; before = [
 unfoldable pub newer : (x : Lent) → List ℕ → List ℕ → Piece → (ℕ → ℕ) → Option Mark → Served
 newer x longer head q now none = placed now (serve x)
 newer x longer head q now (some m) =
-    cond (turnedAway x || faultIn (dialectOf (x .terms) head) head (q ∷ m .front)) (placed now (serve x))
+    cond (turnedAway (tableOnly x) || faultIn (dialectOf (x .terms) head) head (q ∷ m .front)) (placed now (serve x))
     (unsupported (asking x longer) (m .mark) (behindRow (q ∷ m .before)))
 
--- and if one is marked, the table is as it was, and no vector is used
+-- and if one is marked, the whole area is as it was, and no vector is used
 pub record Newer (x : Lent) (longer : List ℕ) (l : Longer (x .terms) (x .request) longer) : Type 0 where
   pub comes : serve (asking x longer)
       ≡ newer x longer (l .cut .head) (l .cut .first) (placeNow (keep (l .cut .first) (l .inserted))) (firstMark (l .inserted))

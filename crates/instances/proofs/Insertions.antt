@@ -1,20 +1,25 @@
 -- Demand 3: its hypotheses can be met by a SAR and what is put into it, computed.
-use Rattle.octets.specs.Standard.{ℕ, _≡_, refl, ap, _∙_, List, [], _∷_, _++_, Option, none, _⊎_, lit≤}
+use Rattle.octets.specs.Standard.{ℕ, _≡_, refl, ap, _∙_, false, List, [], _∷_, _++_, Option, none, _⊎_, lit≤}
 use Rattle.octets.proofs.Numbers.{allBytes, are-bytes}
 use Rattle.diameter.specs.Put.{Piece}
 use Rattle.pen.specs.Bytes.{wordBytes, headBytes, vendorHead, numberBytes}
 use Rattle.pen.specs.Groups.{failed}
-use Rattle.calling.specs.Lent.{Lent}
+use Rattle.blocks.specs.declared.Checked.the-variants.{Sound}
+use Rattle.table.specs.Area.{sizeIn, tableIn}
+use Rattle.calling.specs.Lent.{Lent, tableOnly}
 use Rattle.calling.specs.Serve.{Served, serve}
-use Rattle.worked_examples.proofs.Computed.{come, held, roomy, no-vectors}
+use Rattle.calling.specs.Trial.{anyHolds}
+use Rattle.calling.proofs.Areas.{serve-sound}
+use Rattle.worked_examples.proofs.Computed.{knownTrials, come, held, roomy, no-vectors}
 use Rattle.worked_examples.proofs.Sample.{room, answer, s}
 use Rattle.requests.specs.Request.{dialectOf, underCx}
+use Rattle.demands.specs.Call.{turnedAway}
 use Rattle.demands.specs.Insertion.{requestOf, Foreign, Quiet, Inserted, ending, keep, put, putBefore, placeNow, placed, FirstMarked, Cut, Longer}
 use Rattle.demands.specs.Insertion.{Mark, firstMark, newer}
 use Rattle.demands.proofs.Demands.{demand-3, demand-3-unmarked, demand-3-table, demand-3-marked, demand-3-fault, demand-3-cases, demand-3-any}
 use Rattle.instances.proofs.Asked.{table, removed, vendor, head, session, application, common, own, rest, sar, asked, comesTo, comes, blamed}
-use Rattle.instances.proofs.Asked.{plain, zeroVendor, loud, all, isWhole, allWhole, all-whole, kept}
-use Rattle.instances.proofs.Calls.{sound-table, removal}
+use Rattle.instances.proofs.Asked.{plain, zeroVendor, loud, all, isWhole, allWhole, all-whole, kept, of-area}
+use Rattle.instances.proofs.Calls.{sound-table, removed-so}
 
 foreign-plain : Foreign (dialectOf underCx head) plain
 unfolding all
@@ -50,7 +55,7 @@ met-3-unmarked : serve (asked (requestOf head (session ∷ thrice) [])) ≡ come
 unfolding all isWhole allWhole thrice
 met-3-unmarked =
     demand-3-unmarked head refl session (rest s 5) thrice (all-whole (session ∷ rest s 5) refl) [] refl (lit≤ tt) (asked []) put-thrice
-    ∙ ap (placed (placeNow (keep session put-thrice))) removal
+    ∙ ap (placed (placeNow (keep session put-thrice))) removed-so
 
 -- the same before an AVP that says a length of 4, which is B5014: it stands at 176, and 12 bytes later with one put in
 cut : List ℕ
@@ -58,7 +63,9 @@ cut = 0 ∷ 0 ∷ 0 ∷ 1 ∷ 0 ∷ 0 ∷ 0 ∷ 4 ∷ []
 
 cut-answered : serve (asked (requestOf head (session ∷ rest s 5) cut)) ≡ blamed 176 (answer (numberBytes 268 5014) (failed (headBytes 1 0 8)))
 unfolding all cut
-cut-answered = come (asked (requestOf head (session ∷ rest s 5) cut)) roomy sound-table no-vectors refl
+cut-answered =
+    serve-sound (asked (requestOf head (session ∷ rest s 5) cut)) 2 sound-table
+    ∙ come (asked (requestOf head (session ∷ rest s 5) cut)) roomy sound-table no-vectors refl
 
 once : List Piece
 once = application ∷ plain ∷ common ++ own s 5
@@ -95,16 +102,20 @@ markedAt front back =
 met-3-cases : Inserted (Quiet (dialectOf underCx head)) common (plain ∷ common) ⊎ FirstMarked (dialectOf underCx head) common (plain ∷ common)
 met-3-cases = demand-3-cases (dialectOf underCx head) common (plain ∷ common) (put plain foreign-plain (kept common))
 
+-- a request that no refusal holds of
+let-pass : (req : List ℕ) → anyHolds (knownTrials false (Sound 2) (Sound 0) (asked req)) ≡ false → turnedAway (tableOnly (asked req)) ≡ false
+let-pass req e = of-area (asked req) 2 sound-table (λ y. turnedAway y ≡ false) (held (asked req) roomy sound-table no-vectors e)
+
 unsupported-answer : ℕ → Served
 unsupported-answer place = blamed place (answer (numberBytes 268 5001) (failed (loud .avp)))
 
 -- type 12 is bad content, B5004. The marked one before it: B5001, and the table is as it was
 met-3-marked : serve (asked (requestOf head (session ∷ application ∷ common ++ (loud ∷ own s 12)) [])) ≡ unsupported-answer 112
-unfolding all isWhole allWhole unsupported-answer markedAt
+unfolding all tableIn sizeIn isWhole allWhole unsupported-answer markedAt
 met-3-marked =
     demand-3-marked head refl session (rest s 12) (application ∷ common ++ (loud ∷ own s 12)) (all-whole (session ∷ rest s 12) refl) [] refl (lit≤ tt)
     (asked [])
-    (markedAt (application ∷ common) (own s 12)) refl (held (asked (sar s 12)) roomy sound-table no-vectors refl)
+    (markedAt (application ∷ common) (own s 12)) refl (let-pass (sar s 12) refl)
 
 -- the marked one behind it: the answer given without it; and one unmarked before it: it stands 12 bytes later
 behindIt : List Piece
@@ -129,7 +140,7 @@ markedBehind =
 
 wrong-type : serve (asked (sar s 12)) ≡ blamed 144 (answer (numberBytes 268 5004) (failed (vendorHead 614 16 ++ wordBytes 12)))
 unfolding all
-wrong-type = come (asked (sar s 12)) roomy sound-table no-vectors refl
+wrong-type = serve-sound (asked (sar s 12)) 2 sound-table ∙ come (asked (sar s 12)) roomy sound-table no-vectors refl
 
 met-3-fault : serve (asked (requestOf head (session ∷ behindIt ++ (loud ∷ [])) []))
     ≡ blamed 156 (answer (numberBytes 268 5004) (failed (vendorHead 614 16 ++ wordBytes 12)))
@@ -147,16 +158,16 @@ many : List Piece
 many = application ∷ common ++ (vendor 601 (0x62 ∷ []) ∷ own s 1)
 
 met-3-missing : serve (asked (requestOf head (session ∷ lacking624 ++ (loud ∷ [])) [])) ≡ unsupported-answer 160
-unfolding all isWhole allWhole unsupported-answer markedAt lacking624
+unfolding all tableIn sizeIn isWhole allWhole unsupported-answer markedAt lacking624
 met-3-missing =
     demand-3-marked head refl session lacking624 (lacking624 ++ (loud ∷ [])) (all-whole (session ∷ lacking624) refl) [] refl (lit≤ tt) (asked [])
-    (markedAt lacking624 []) refl (held (asked (requestOf head (session ∷ lacking624) [])) roomy sound-table no-vectors refl)
+    (markedAt lacking624 []) refl (let-pass (requestOf head (session ∷ lacking624) []) refl)
 
 met-3-many : serve (asked (requestOf head (session ∷ many ++ (loud ∷ [])) [])) ≡ unsupported-answer 192
-unfolding all isWhole allWhole unsupported-answer markedAt many
+unfolding all tableIn sizeIn isWhole allWhole unsupported-answer markedAt many
 met-3-many =
     demand-3-marked head refl session many (many ++ (loud ∷ [])) (all-whole (session ∷ many) refl) [] refl (lit≤ tt) (asked []) (markedAt many []) refl
-    (held (asked (requestOf head (session ∷ many) [])) roomy sound-table no-vectors refl)
+    (let-pass (requestOf head (session ∷ many) []) refl)
 
 met-3-table : serve (asked (requestOf head (session ∷ many ++ (loud ∷ [])) [])) .table ≡ table
 unfolding all isWhole allWhole many
@@ -226,10 +237,10 @@ met-3-quietly =
     demand-3 (asked (sar s 5)) (requestOf head (session ∷ quietly) []) longer-quietly .comes
     ∙ newer-none (asked (sar s 5)) (requestOf head (session ∷ quietly) []) (longer-quietly .cut .head) (longer-quietly .cut .first) _
     (firstMark (longer-quietly .inserted)) quietly-none
-    ∙ ap (placed _) removal
+    ∙ ap (placed _) removed-so
 
 met-3-loudly : serve (asked (requestOf head (session ∷ loudly) [])) ≡ unsupported-answer 76
-unfolding all room loudly longer-loudly cut-sar firstMark newer kept unsupported-answer
+unfolding all tableIn sizeIn room loudly longer-loudly cut-sar firstMark newer kept unsupported-answer
 met-3-loudly = demand-3 (asked (sar s 5)) (requestOf head (session ∷ loudly) []) longer-loudly .comes
 
 met-3-left : serve (asked (requestOf head (session ∷ loudly) [])) .table ≡ table

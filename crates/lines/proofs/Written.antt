@@ -6,21 +6,21 @@ use Rattle.octets.specs.Run.{Wrote}
 use Rattle.octets.proofs.Writes.{lent, back, then, named}
 use Rattle.lines.specs.Words.{Number, Words}
 
--- A number of 32 bits takes at most ten digits.
-pub ten-places : (n k : ℕ) → Fewest 10 1 n k → n < 4294967296 → k ≤ 10
-ten-places n k f h = go (leb k 10) refl
+-- A number of 64 bits takes at most twenty digits.
+pub twenty-places : (n k : ℕ) → Fewest 10 1 n k → n < 18446744073709551616 → k ≤ 20
+twenty-places n k f h = go (leb k 20) refl
   where
-    go : (x : Bool) → leb k 10 ≡ x → k ≤ 10
+    go : (x : Bool) → leb k 20 ≡ x → k ≤ 20
     go true e = leb-true _ _ e
     go false e =
-        let l : 10 < k = leb-false k 10 e in
-        let p : 10 ^ 10 ≤ 10 ^ (k - 1) = pow-le-pow-right (lit< tt) {i = 10} {j = k - 1} (omega arith) in
+        let l : 20 < k = leb-false k 20 e in
+        let p : 10 ^ 20 ≤ 10 ^ (k - 1) = pow-le-pow-right (lit< tt) {i = 20} {j = k - 1} (omega arith) in
         let q : 10 ^ (k - 1) ≤ n = f .2 (omega arith) in
         absurd (omega arith)
 
-pub number-room : (n k : ℕ) (text out : List ℕ) → Fewest 10 1 n k → n < 4294967296 → k ≡ length (take k text) → 10 ≤ length out
+pub number-room : (n k : ℕ) (text out : List ℕ) → Fewest 10 1 n k → n < 18446744073709551616 → k ≡ length (take k text) → 20 ≤ length out
     → length (take k text) ≤ length out
-number-room n k text out f h e r = omega (arith, ten-places n k f h)
+number-room n k text out f h e r = omega (arith, twenty-places n k f h)
 
 pub number-wrote : (n k : ℕ) (text : List ℕ) {b xs : List ℕ} → Fewest 10 1 n k → k ≡ length (take k text) → take k text ≡ digits 10 k n
     → Wrote (take k text) b xs (length (take k text)) → Number n b xs k

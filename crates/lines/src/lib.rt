@@ -5,20 +5,20 @@ ghost use lib.ListN.{length};
 ghost use Rattle.lines.specs.Words.{Number, Words};
 
 // The decimal digits of n.
-fn put_number(out: &mut [u8], n: u32) -> usize
-    requires { ⌜ 10 ≤ length (now out) ⌝ }
-    ensures { λ r. ⌜ (r ≤ 10) × Number n (now (out .entry)) (now (out .exit)) r ⌝ }
+fn put_number(out: &mut [u8], n: u64) -> usize
+    requires { ⌜ 20 ≤ length (now out) ⌝ }
+    ensures { λ r. ⌜ (r ≤ 20) × Number n (now (out .entry)) (now (out .exit)) r ⌝ }
 {
     let mut text = [0u8; 20];
-    let k = io::decimal(n as u64, &mut text);
+    let k = io::decimal(n, &mut text);
     run::copy(out, &text[..k]);
     k
 }
 
 // Words, the digits of n, and words.
-pub fn put_words(out: &mut [u8], before: &[u8], n: u32, after: &[u8]) -> usize
-    requires { ⌜ length (now before) + 10 + length (now after) ≤ length (now out) ⌝ }
-    ensures { λ r. ⌜ (r ≤ length (now (before .entry)) + 10 + length (now (after .entry)))
+pub fn put_words(out: &mut [u8], before: &[u8], n: u64, after: &[u8]) -> usize
+    requires { ⌜ length (now before) + 20 + length (now after) ≤ length (now out) ⌝ }
+    ensures { λ r. ⌜ (r ≤ length (now (before .entry)) + 20 + length (now (after .entry)))
         × Words (now (before .entry)) n (now (after .entry)) (now (out .entry)) (now (out .exit)) r ⌝ }
 {
     let a = before.len();

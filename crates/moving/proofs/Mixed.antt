@@ -1,15 +1,13 @@
 -- A sound table is of one edition and one issue number throughout; of one that mixes them the later block is blamed.
-use Rattle.octets.specs.Standard.{ℕ, _+_, _*_, _≤_, Bool, true, false, _≢_, _⊎_, inl, inr, _≡_, refl, List, [], _∷_, arith, eqb, length, eq-eqb}
-use Rattle.octets.specs.Standard.{le-leb, eqb-true}
-use Rattle.octets.proofs.Chains.{chain-says}
+use Rattle.octets.specs.Standard.{ℕ, _+_, _*_, _≤_, Bool, true, false, _≢_, _⊎_, inl, inr, _≡_, refl, List, arith, length, eq-eqb, le-leb}
 use Rattle.record.specs.Fields.{editionOf, issueOf}
 use Rattle.record.specs.HeaderBlock.{headerOf}
-use Rattle.record.specs.RecordBlock.{recordOf, soundRecord}
+use Rattle.record.specs.RecordBlock.{soundRecord}
 use Rattle.record.specs.declared.header.Header.{Header}
-use Rattle.record.proofs.Tests.{record-says}
 use Rattle.blocks.specs.Blocks.{blockOf}
 use Rattle.table.specs.Check.{standsAt, soundAt, checkRecords, checkTable}
 use Rattle.blocks.specs.declared.Checked.the-variants.{Sound, Bad}
+use Rattle.table.proofs.Heads.{record-edition, record-issue}
 use Rattle.table.proofs.Sound.{table-says}
 use Rattle.moving.specs.Conditions.{Mixes}
 use Rattle.blocks.proofs.First.{FirstNot, bad-holds}
@@ -22,22 +20,13 @@ throughout t file count k e h =
     (each-edition t file count was k h, each-issue t file count was k h)
 
 -- a record that has not its header's is bad itself
-module _ (b : List ℕ) (k : ℕ) (h : Header) (file : ℕ) where
-  record-edition : soundRecord b k h file ≡ true → editionOf b ≡ h .edition
-  unfolding recordOf
-  record-edition e = eqb-true _ _ (chain-says (eqb (recordOf b .kind) 2) (_ ∷ _ ∷ _ ∷ []) (record-says b k h file e .head) 1)
-
-  record-issue : soundRecord b k h file ≡ true → issueOf b ≡ h .issue
-  unfolding recordOf
-  record-issue e = eqb-true _ _ (chain-says (eqb (recordOf b .kind) 2) (_ ∷ _ ∷ _ ∷ []) (record-says b k h file e .head) 3)
-
-  record-bad : (editionOf b ≢ h .edition) ⊎ (issueOf b ≢ h .issue) → soundRecord b k h file ≡ false
-  record-bad other = go (soundRecord b k h file) refl other
-    where
-      go : (x : Bool) → soundRecord b k h file ≡ x → (editionOf b ≢ h .edition) ⊎ (issueOf b ≢ h .issue) → x ≡ false
-      go false e n = refl
-      go true e (inl n) = absurd (n (record-edition e))
-      go true e (inr n) = absurd (n (record-issue e))
+record-bad : (b : List ℕ) (k : ℕ) (h : Header) (file : ℕ) → (editionOf b ≢ h .edition) ⊎ (issueOf b ≢ h .issue) → soundRecord b k h file ≡ false
+record-bad b k h file other = go (soundRecord b k h file) refl other
+  where
+    go : (x : Bool) → soundRecord b k h file ≡ x → (editionOf b ≢ h .edition) ⊎ (issueOf b ≢ h .issue) → x ≡ false
+    go false e n = refl
+    go true e (inl n) = absurd (n (record-edition b k h file e))
+    go true e (inr n) = absurd (n (record-issue b k h file e))
 
 module _ (t : List ℕ) (file k : ℕ) (m : Mixes t file k) where
   abbrev h : Header

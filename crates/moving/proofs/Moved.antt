@@ -1,12 +1,11 @@
 -- A table that was moved, by its blocks: what it keeps, that it is as sound as it was, and there and back.
-use Rattle.octets.specs.Standard.{ℕ, suc, _+_, _*_, _^_, _<_, _≤_, Bool, true, false, _&&_, _||_, _≡_, refl, sym, _∙_, ap, List, [], _∷_, arith, eqb}
-use Rattle.octets.specs.Standard.{leb, length, eqb-true, leb-true, leb-false}
+use Rattle.octets.specs.Standard.{ℕ, suc, _+_, _*_, _^_, _<_, _≤_, Bool, true, false, _&&_, _||_, _≡_, refl, sym, _∙_, ap, List, arith, eqb, leb}
+use Rattle.octets.specs.Standard.{length, leb-true, leb-false}
 use Rattle.octets.specs.Sum.{sumWords}
-use Rattle.octets.proofs.Chains.{chain-says}
 use Rattle.octets.proofs.Numbers.{Bytes}
 use Rattle.record.specs.Fields.{editionOf, issueOf, setOf}
 use Rattle.record.specs.HeaderBlock.{headerOf, soundEdition, soundHeader}
-use Rattle.record.specs.RecordBlock.{recordOf, soundRecord}
+use Rattle.record.specs.RecordBlock.{soundRecord}
 use Rattle.record.specs.declared.header.Header.{Header}
 use Rattle.record.proofs.Alike.{SameFields, fields-same, member-same}
 use Rattle.record.proofs.OneSet.{SameMember}
@@ -18,7 +17,7 @@ use Rattle.blocks.specs.declared.Checked.the-variants.{Sound}
 use Rattle.table.proofs.Agreement.{agrees-alike}
 use Rattle.table.proofs.Rising.{rises-alike}
 use Rattle.blocks.proofs.Blocks.{block-length, block-bytes, table-is, table-same}
-use Rattle.table.proofs.Sound.{TableTests, table-holds, tests-record, tests-limits, tests-rises, tests-agrees}
+use Rattle.table.proofs.Sound.{TableTests, table-holds, tests-sound, tests-record, tests-limits, tests-rises, tests-agrees}
 use Rattle.blocks.specs.Changed.{changedAt}
 use Rattle.blocks.proofs.Changed.{all-length, all-block}
 use Rattle.moving.specs.Moves.{moved, movedAll}
@@ -26,6 +25,7 @@ use Rattle.moving.specs.Carried.{Carried, headerWith}
 use Rattle.moving.proofs.Bytes.{moved-whole, moved-edition, moved-issue, moved-sum, moved-twice}
 use Rattle.moving.proofs.Carried.{moved-carried, fields-run, set-same, header-same, record-kept, header-kept}
 use Rattle.moving.proofs.Same.{moved-same}
+use Rattle.table.proofs.Heads as heads
 
 -- What a sound table says of each block: its sum, and the header's edition and issue number.
 module _ (t : List ℕ) (file count : ℕ) (was : TableTests t file count) where
@@ -36,12 +36,12 @@ module _ (t : List ℕ) (file count : ℕ) (was : TableTests t file count) where
   header-tests = header-says first (was .header)
 
   record-edition : (k : ℕ) → 1 ≤ k → k ≤ count → editionOf (blockOf t k) ≡ editionOf first
-  unfolding recordOf headerOf
-  record-edition k a b = eqb-true _ _ (chain-says (eqb (recordOf (blockOf t k) .kind) 2) (_ ∷ _ ∷ _ ∷ []) (tests-record t file count was k a b .head) 1)
+  unfolding headerOf
+  record-edition k a b = heads.record-edition (blockOf t k) k (headerOf first) file (tests-sound t file count was k a b)
 
   record-issue : (k : ℕ) → 1 ≤ k → k ≤ count → issueOf (blockOf t k) ≡ issueOf first
-  unfolding recordOf headerOf
-  record-issue k a b = eqb-true _ _ (chain-says (eqb (recordOf (blockOf t k) .kind) 2) (_ ∷ _ ∷ _ ∷ []) (tests-record t file count was k a b .head) 3)
+  unfolding headerOf
+  record-issue k a b = heads.record-issue (blockOf t k) k (headerOf first) file (tests-sound t file count was k a b)
 
   -- of every block, the header too
   each-block : {A : Type 0} (of : List ℕ → A) (k : ℕ) → k ≤ count → ((j : ℕ) → 1 ≤ j → j ≤ count → of (blockOf t j) ≡ of first) → of (blockOf t k) ≡ of first

@@ -1,32 +1,35 @@
 -- The word of each answer, and the promise from its parts.
 use Rattle.octets.specs.Standard.{ℕ, _≡_, _∙_, ap, List, length}
-use Rattle.table.specs.Check.{checkTable}
+use Rattle.table.specs.Area.{checkArea}
 use Rattle.blocks.specs.declared.Checked.{Checked}
 use Rattle.vectors.specs.VectorFile.{checkVectors}
-use Rattle.calling.specs.Leaves.{callOf, Leaves}
+use Rattle.calling.specs.Leaves.{callOf, Comes}
 use Rattle.calling.specs.Lent.{Lent}
 use Rattle.calling.specs.Serve.{serve}
 use Rattle.calling.specs.declared.Came.{Came}
 use Rattle.moving.specs.Outcomes.{AfterMove, came, forward, back}
 use Rattle.moving.specs.declared.Move.{Move}
 use Rattle.reporting.specs.Counts.{Reports}
-use Rattle.ndushavire.specs.Word.{word, checkWord, callWord, moveWord}
-use Rattle.ndushavire.specs.Promise.{CheckPromise, CheckVectorsPromise, DecidePromise, ReportPromise, ForwardPromise, BackPromise}
+use Rattle.reporting.specs.Report.{reported}
+use Rattle.taking.specs.TakeOver.{AfterTake, takeOver}
+use Rattle.taking.specs.TakeOver as taking
+use Rattle.taking.specs.declared.Taken.{Taken}
+use Rattle.ndushavire.specs.Word.{word, checkWord, callWord, moveWord, takeWord}
+use Rattle.ndushavire.specs.Promise.{CheckPromise, CheckVectorsPromise, DecidePromise, ReportPromise, ForwardPromise, BackPromise, TakePromise}
 
-pub check-kept : (table profile : List ℕ) (c : Checked) (r : ℕ) → c ≡ checkTable table (length profile) → r ≡ checkWord 5 c → CheckPromise table profile r
+pub check-kept : (table profile : List ℕ) (c : Checked) (r : ℕ) → c ≡ checkArea table (length profile) → r ≡ checkWord 5 c → CheckPromise table profile r
 check-kept table profile c r e f = record { answer = f ∙ ap (checkWord 5) e }
 
 pub vectors-kept : (vectors : List ℕ) (c : Checked) (r : ℕ) → c ≡ checkVectors vectors → r ≡ checkWord 6 c → CheckVectorsPromise vectors r
 vectors-kept vectors c r e f = record { answer = f ∙ ap (checkWord 6) e }
 
 -- The call as a word.
-pub word-promised : (x : Lent) (count : ℕ) {c : Came} {w : ℕ} {t' v' o' : List ℕ} → Leaves x (serve x) count c t' v' o' → w ≡ callWord (callOf c)
-    → DecidePromise x w t' v' o'
-word-promised x count s e =
+pub word-promised : (x : Lent) {c : Came} {w : ℕ} {t' v' o' : List ℕ} → Comes (serve x) c t' v' o' → w ≡ callWord (callOf c) → DecidePromise x w t' v' o'
+word-promised x s e =
     record { word-is = e ∙ ap callWord (s .call-is); table-is = s .table-is; vectors-is = s .vectors-is; buffer-is = s .buffer-is }
 
 -- The report's number as a word.
-pub report-promised : (x : Lent) (area : List ℕ) {n w : ℕ} {t' v' o' area' : List ℕ} → Reports x area n t' v' o' area' → w ≡ word n 0 0
+pub report-promised : (x : Lent) (area : List ℕ) {n w : ℕ} {t' v' o' area' : List ℕ} → Reports (reported x area) n t' v' o' area' → w ≡ word n 0 0
     → ReportPromise x area w t' v' o' area'
 report-promised x area s e =
     record {
@@ -46,3 +49,8 @@ forward-promised table profile issue e f =
 pub back-promised : (table profile : List ℕ) {m : Move} {w : ℕ} {table' : List ℕ} → came m table' ≡ back table (length profile) → w ≡ moveWord m
     → BackPromise table profile w table'
 back-promised table profile e f = record { word-is = f ∙ ap (λ (o : AfterMove). moveWord (o .move)) e; table-is = ap (λ (o : AfterMove). o .table) e }
+
+-- The take-over.
+pub take-promised : (area fresh profile : List ℕ) {t : Taken} {w : ℕ} {area' : List ℕ} → taking.came t area' ≡ takeOver area fresh (length profile)
+    → w ≡ takeWord t → TakePromise area fresh profile w area'
+take-promised area fresh profile e f = record { word-is = f ∙ ap (λ (o : AfterTake). takeWord (o .taken)) e; area-is = ap (λ (o : AfterTake). o .area) e }

@@ -3,18 +3,19 @@ use Prim.Native.Nat.{ℕ}
 use mathlib.Core.Path.{_≡_}
 use mathlib.Core.List.{List}
 use lib.ListN.{length}
-use Rattle.table.specs.Check.{checkTable}
+use Rattle.table.specs.Area.{checkArea}
 use Rattle.vectors.specs.VectorFile.{checkVectors}
 use Rattle.calling.specs.Lent.{Lent}
 use Rattle.calling.specs.Serve.{serve}
 use Rattle.moving.specs.Outcomes.{forward, back}
 use Rattle.reporting.specs.Report.{reported}
+use Rattle.taking.specs.TakeOver.{takeOver}
 use Rattle.ndushavire.specs.Version.{version}
-use Rattle.ndushavire.specs.Word.{word, checkWord, callWord, moveWord}
+use Rattle.ndushavire.specs.Word.{word, checkWord, callWord, moveWord, takeWord}
 
--- the check of a table: "the exact count or first bad block"; of the profile file its length alone counts
+-- the check of the table at the front of its area: "the exact count or first bad block"; of the profile file its length alone counts
 pub record CheckPromise (table profile : List ℕ) (r : ℕ) : Type 0 where
-  pub answer : r ≡ checkWord 5 (checkTable table (length profile))
+  pub answer : r ≡ checkWord 5 (checkArea table (length profile))
 
 -- the check of a vector file: the number of blocks, or the first that is bad
 pub record CheckVectorsPromise (vectors : List ℕ) (r : ℕ) : Type 0 where
@@ -35,6 +36,11 @@ pub record ForwardPromise (table profile : List ℕ) (issue r : ℕ) (table' : L
 pub record BackPromise (table profile : List ℕ) (r : ℕ) (table' : List ℕ) : Type 0 where
   pub word-is : r ≡ moveWord (back table (length profile) .move)
   pub table-is : table' ≡ back table (length profile) .table
+
+-- taking over a new table: the word and the area at exit are those of `takeOver`
+pub record TakePromise (area fresh profile : List ℕ) (r : ℕ) (area' : List ℕ) : Type 0 where
+  pub word-is : r ≡ takeWord (takeOver area fresh (length profile) .taken)
+  pub area-is : area' ≡ takeOver area fresh (length profile) .area
 
 -- the report over a file of requests, lent as the request: its number, and the table, the vectors, the buffer and the area at exit are those of `reported`
 pub record ReportPromise (x : Lent) (area : List ℕ) (r : ℕ) (table' vectors' buffer' area' : List ℕ) : Type 0 where

@@ -10,6 +10,9 @@ use Rattle.calling.specs.Serve.{checkValue}
 use Rattle.moving.specs.declared.Move.{Move}
 use Rattle.moving.specs.declared.Move.the-variants as move
 use Rattle.moving.specs.declared.Move.the-variants.{Moved}
+use Rattle.taking.specs.declared.Taken.{Taken}
+use Rattle.taking.specs.declared.Taken.the-variants as take
+use Rattle.taking.specs.declared.Taken.the-variants.{Took}
 use Rattle.ndushavire.specs.Word.{numberUnit, placeUnit}
 
 -- read back: bits 48 to 63, 32 to 47 and 0 to 31
@@ -48,6 +51,15 @@ abbrev pub moveValue : Move → ℕ
 moveValue (Moved count) = count
 moveValue (move.Refused number block) = block
 
+-- a take-over: number 0 with the count of records; a refusal's number with 0
+abbrev pub takeNumber : Taken → ℕ
+takeNumber (Took count) = 0
+takeNumber (take.Refused number) = number
+
+abbrev pub takeValue : Taken → ℕ
+takeValue (Took count) = count
+takeValue (take.Refused number) = 0
+
 abbrev pub callBy : Bool → ℕ → ℕ → ℕ → Call
 callBy true number place value = Answered (record { length = value; place = place })
 callBy false number place value = Refused number value
@@ -69,7 +81,14 @@ moveBy false number value = move.Refused number value
 abbrev pub moveIn : ℕ → Move
 moveIn w = moveBy (eqb (numberIn w) 0) (numberIn w) (valueIn w)
 
--- so is a call read back, and so are the check's answer and what a move comes to
+abbrev pub takeBy : Bool → ℕ → ℕ → Taken
+takeBy true number value = take.Took value
+takeBy false number value = take.Refused number
+
+abbrev pub takeIn : ℕ → Taken
+takeIn w = takeBy (eqb (numberIn w) 0) (numberIn w) (valueIn w)
+
+-- so is a call read back, and so are the check's answer and what a move and a take-over come to
 pub record Reads (c : Call) (w : ℕ) : Type 0 where
   pub number : numberIn w ≡ callNumber c
   pub place : placeIn w ≡ callPlace c
@@ -87,3 +106,9 @@ pub record ReadsMove (m : Move) (w : ℕ) : Type 0 where
   pub place : placeIn w ≡ 0
   pub value : valueIn w ≡ moveValue m
   pub move : moveIn w ≡ m
+
+pub record ReadsTake (t : Taken) (w : ℕ) : Type 0 where
+  pub number : numberIn w ≡ takeNumber t
+  pub place : placeIn w ≡ 0
+  pub value : valueIn w ≡ takeValue t
+  pub take : takeIn w ≡ t

@@ -5,6 +5,9 @@ use Rattle.calling.specs.Call.{Answered, Refused}
 use Rattle.moving.specs.declared.Move.{Move}
 use Rattle.moving.specs.declared.Move.the-variants as move
 use Rattle.moving.specs.declared.Move.the-variants.{Moved}
+use Rattle.taking.specs.declared.Taken.{Taken}
+use Rattle.taking.specs.declared.Taken.the-variants as take
+use Rattle.taking.specs.declared.Taken.the-variants.{Took}
 use Rattle.blocks.specs.declared.Checked.{Checked}
 use Rattle.blocks.specs.declared.Checked.the-variants.{Sound, Bad}
 
@@ -29,3 +32,8 @@ callWord (Refused number besides) = word number 0 besides
 abbrev pub moveWord : Move → ℕ
 moveWord (Moved count) = word 0 0 count
 moveWord (move.Refused number block) = word number 0 block
+
+-- "9 .. 10 .. 11": 0 besides
+abbrev pub takeWord : Taken → ℕ
+takeWord (Took count) = word 0 0 count
+takeWord (take.Refused number) = word number 0 0

@@ -6,13 +6,14 @@ use calling::Came;
 use diameter::codes;
 use moving::Move;
 use reading::Terms;
+use taking::Taken;
 ghost use mathlib.Core.Path.{_≡_};
 ghost use Rattle.requests.specs.Request.{underCx};
 ghost use Rattle.calling.specs.Leaves.{callOf};
 ghost use Rattle.calling.specs.Lent.{lent};
-ghost use Rattle.ndushavire.specs.Word.{checkWord, callWord, moveWord};
+ghost use Rattle.ndushavire.specs.Word.{checkWord, callWord, moveWord, takeWord};
 ghost use Rattle.ndushavire.specs.Promise.{CheckPromise, CheckVectorsPromise, DecidePromise, ReportPromise};
-ghost use Rattle.ndushavire.specs.Promise.{ForwardPromise, BackPromise, VersionPromise};
+ghost use Rattle.ndushavire.specs.Promise.{ForwardPromise, BackPromise, TakePromise, VersionPromise};
 
 // The word of a check's answer: a bad block has the refusal's number.
 fn check_word(number: u16, c: Checked) -> u64
@@ -29,7 +30,10 @@ fn check_word(number: u16, c: Checked) -> u64
 pub extern "C" fn ndushavire_check(table: &[u8], profile: &[u8]) -> u64
     ensures { λ r. ⌜ CheckPromise (now (table .entry)) (now (profile .entry)) r ⌝ }
 {
-    check_word(calling::UNSOUND, table::check(table, profile.len()))
+    check_word(
+        calling::UNSOUND,
+        table::area::check_area(table, profile.len()),
+    )
 }
 
 // The check of a vector file, our own entry: refusal 6 of a call does not say which block is bad, and this does.
@@ -117,8 +121,26 @@ pub extern "C" fn ndushavire_back(table: &mut [u8], profile: &[u8]) -> u64
     move_word(moving::back(table, profile.len()))
 }
 
-// Which library was linked, so that a daemon can tell it from the header that it was compiled with: 0.9.1, as NDUSHAVIRE_VERSION_NUMBER has it.
-const VERSION: u32 = 901;
+// The word of a take-over.
+fn take_word(t: Taken) -> u64
+    ensures { λ r. ⌜ r ≡ takeWord t ⌝ }
+{
+    match t {
+        Taken::Took(count) => word::of(0, 0, count),
+        Taken::Refused(number) => word::of(number, 0, 0),
+    }
+}
+
+// "A new edition 2 table is written over the working area block by block from block 0"
+#[no_mangle]
+pub extern "C" fn ndushavire_take(area: &mut [u8], fresh: &[u8], profile: &[u8]) -> u64
+    ensures { λ r. ⌜ TakePromise (now (area .entry)) (now (fresh .entry)) (now (profile .entry)) r (now (area .exit)) ⌝ }
+{
+    take_word(taking::take(area, fresh, profile.len()))
+}
+
+// Which library was linked, so that a daemon can tell it from the header that it was compiled with: 0.10.0, as NDUSHAVIRE_VERSION_NUMBER has it.
+const VERSION: u32 = 1000;
 
 #[no_mangle]
 pub extern "C" fn ndushavire_version() -> u32

@@ -10,7 +10,7 @@ use Rattle.deciding.specs.Rules.{Rules}
 use Rattle.deciding.specs.Decide.{performedBy, judgedBy, decideBy}
 use Rattle.calling.specs.Lent.{Lent, dialectIn}
 use Rattle.calling.specs.Trial.{tried}
-use Rattle.calling.specs.Serve.{decisionBy, serveFound, serveBy}
+use Rattle.calling.specs.Serve.{decisionBy, serveFound, serveTableBy}
 
 module _ (r s : Rules) (x : Lent) where
   found-same : (c : Checked) → ((count : ℕ) → c ≡ Sound count → decisionBy r x count ≡ decisionBy s x count) → serveFound r x c ≡ serveFound s x c
@@ -20,8 +20,8 @@ module _ (r s : Rules) (x : Lent) where
 
   pub rules-same : r .check (x .table) (length (x .profile)) ≡ s .check (x .table) (length (x .profile))
       → ((count : ℕ) → s .check (x .table) (length (x .profile)) ≡ Sound count → decisionBy r x count ≡ decisionBy s x count)
-      → serveBy r x ≡ serveBy s x
-  unfolding serveBy
+      → serveTableBy r x ≡ serveTableBy s x
+  unfolding serveTableBy
   rules-same e h = rw e (found-same (s .check (x .table) (length (x .profile))) h)
 
   -- of one request that was read, by its plan and by what is written

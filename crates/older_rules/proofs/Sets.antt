@@ -1,4 +1,4 @@
--- Sets (02 [6]), as theorems about `serve`, the check and the decisions. What the rules were before them is in specs/WithoutSets.
+-- Sets (02 [6]), as theorems about `serveTable`, the check and the decisions. What the rules were before them is in specs/WithoutSets.
 use Rattle.octets.specs.Standard.{ℕ, _*_, _<_, _≤_, Bool, true, false, not, _&&_, _||_, true≢false, _≡_, refl, sym, _∙_, List, arith, eqb, leb}
 use Rattle.octets.specs.Standard.{length, drop-of-length-le, eqb-true, leb-true, leb-false}
 use Rattle.octets.specs.Number.{be16At}
@@ -21,7 +21,7 @@ use Rattle.choices.specs.declared.types.AssignmentType.{AssignmentType}
 use Rattle.assignment.specs.Assignment.{storesAt, fitsAt, rightAt}
 use Rattle.deciding.specs.Rules.{inForce}
 use Rattle.calling.specs.Lent.{Lent, dialectIn}
-use Rattle.calling.specs.Serve.{checkOf, serveBy, serve}
+use Rattle.calling.specs.Serve.{checkOf, serveTableBy, serveTable}
 use Rattle.calling.proofs.Kept.{table-checked}
 use Rattle.older_rules.specs.WithoutSets.{NoSets, beforeSets}
 use Rattle.older_rules.proofs.Rules.{rules-same, decided-same}
@@ -30,7 +30,7 @@ use Rattle.rewrite.proofs.Together as members
 use Rattle.assignment.proofs.Members as asked
 
 -- WITHOUT SETS. Over a table without sets every call comes to what it came to before, with the same table, vectors and buffer afterwards.
-pub without-sets : (x : Lent) → NoSets (x .table) → serveBy beforeSets x ≡ serve x
+pub without-sets : (x : Lent) → NoSets (x .table) → serveTableBy beforeSets x ≡ serveTable x
 without-sets x none =
     rules-same beforeSets inForce x (check-is (x .table) none (length (x .profile)))
     (λ count e.
@@ -67,10 +67,10 @@ module _ (t : List ℕ) (file count : ℕ) (checked : checkTable t file ≡ Soun
 
 -- AGREEMENT. Whatever a call comes to, the records of every set agree after it in state, pending and server name, if the table was sound.
 pub members-agree : (x : Lent) (count : ℕ) → checkOf x ≡ Sound count → (j k : ℕ) → 1 ≤ j → j < k → k ≤ count
-    → sameSet (blockOf (serve x .table) j) (blockOf (serve x .table) k) ≡ true
-    → agreeing (blockOf (serve x .table) j) (blockOf (serve x .table) k) ≡ true
+    → sameSet (blockOf (serveTable x .table) j) (blockOf (serveTable x .table) k) ≡ true
+    → agreeing (blockOf (serveTable x .table) j) (blockOf (serveTable x .table) k) ≡ true
 members-agree x count e j k a b c =
-    sound-agrees (serve x .table) count (record { file = length (x .profile); checked = table-checked x ∙ e }) j k a b c
+    sound-agrees (serveTable x .table) count (record { file = length (x .profile); checked = table-checked x ∙ e }) j k a b c
 
 -- BARRING. A UAR's answer to "barred" is yes exactly where the record is barred and so is every record of its set.
 module _ (t : List ℕ) (count k : ℕ) where

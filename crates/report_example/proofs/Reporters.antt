@@ -11,8 +11,10 @@ use Rattle.counting.specs.Counted.{wordAt, countsOf}
 use Rattle.counting.specs.Words.{wordsBytes}
 use Rattle.counting.specs.declared.Event.{Event}
 use Rattle.counting.proofs.Counts.{counts-length, counts-at}
-use Rattle.calling.specs.Lent.{Lent, asking, lent}
+use Rattle.requests.specs.Request.{underCx}
+use Rattle.calling.specs.Lent.{Lent, asking, lent, tableOnly}
 use Rattle.calling.specs.Serve.{Served, serve}
+use Rattle.calling.proofs.Areas.{only-sound, serve-sound}
 use Rattle.ndushavire.specs.Word.{word}
 use Rattle.ndushavire.specs.Reads.{numberIn}
 use Rattle.ndushavire.specs.Promise.{ReportPromise}
@@ -25,9 +27,10 @@ use Rattle.report_numbers.proofs.Numbers.{report-meant, report-word}
 use Rattle.report_numbers.proofs.Words.{area-word}
 use Rattle.worked_examples.proofs.Computed.{known, come, roomy, no-vectors}
 use Rattle.worked_examples.proofs.Sample.{answer, room}
-use Rattle.report_example.proofs.Calls.{removal, strayed, here, gone, month, sound-here, lending, counts, counted-from, located-counts, all}
-use Rattle.report_example.proofs.Cards.{fresh, used, cards, cards-requests, cards-events, cards-vectors, sent-comes, sent-counts, again-counts}
-use Rattle.report_example.proofs.Month.{area, enough, month-requests, month-events, month-number, month-table, counting}
+use Rattle.report_example.proofs.Calls.{lir, removal, strayed, here, gone, month, sound-here, lending, counts, counted-from, located-counts, all}
+use Rattle.report_example.proofs.Cards.{mar, fresh, used, idle, named, sent, cards, idle-sound, named-sound}
+use Rattle.report_example.proofs.Cards.{cards-requests, cards-events, cards-vectors, sent-comes, sent-counts, again-counts}
+use Rattle.report_example.proofs.Month.{area, enough, month-requests, month-events, month-number, month-table, month-only, counting}
 use Rattle.counting.specs.declared.Event.the-variants as event
 
 -- what a report leaves
@@ -72,7 +75,8 @@ module _ (row : Lent → List Event) (i n : ℕ) (small : i < 145) (other : i �
       let there : getD ws i 0 ≡ n = getD-set-other (countsOf (row x)) 1 i (stopOf (x .request)) 0 other ∙ counts-at (row x) i small ∙ e in
       area-word ws a l space i small (rw there short) ∙ there
 
-  other-fails : (x : Lent) (a : List ℕ) → 1160 ≤ length a → wordAt (row x) i ≡ n → wordAt (eventsOf x) i ≢ n → Meets (counting-by row) x a → ⊥
+  other-fails : (x : Lent) (a : List ℕ) → 1160 ≤ length a → wordAt (row x) i ≡ n → wordAt (eventsOf x) i ≢ n
+      → Meets (counting-by row) x a → ⊥
   unfolding counting-by truly
   other-fails x a space e differs p =
       differs (sym (report-word x a space i small other) ∙ ap (λ (b : List ℕ). wordIn b i) (sym (p .area-is)) ∙ word-of x a space e)
@@ -80,7 +84,7 @@ module _ (row : Lent → List Event) (i n : ℕ) (small : i < 145) (other : i �
 -- 1. one that does not carry the table along: each request is decided over the table as it came
 apart : Lent → List (List ℕ) → List Event
 apart x [] = []
-apart x (p ∷ ps) = eventOf (asking x p) ∷ apart x ps
+apart x (p ∷ ps) = eventOf (tableOnly (asking x p)) ∷ apart x ps
 
 forgetting : Reporter
 forgetting = counting-by (λ (x : Lent). apart x (requestsOf x))
@@ -101,7 +105,10 @@ strayed-apart =
 apart-month : apart month (requestsOf month)
     ≡ counts 302 (Base 2001) 132 0 ∷ counts 301 (Base 2001) 116 1 ∷ counts 302 (Base 2001) 132 0 ∷ event.Refused 4 ∷ []
 unfolding apart month
-apart-month = ap (apart month) month-requests ∙ rw (located-counts, removed-apart, strayed-apart)
+apart-month =
+    ap (apart month) month-requests
+    ∙ ap (λ (y : Lent). eventOf (asking y lir) ∷ eventOf (asking y removal) ∷ eventOf (asking y lir) ∷ eventOf (asking y strayed) ∷ []) month-only
+    ∙ rw (located-counts, removed-apart, strayed-apart)
 
 true-70 : wordAt (eventsOf month) 70 ≡ 1
 unfolding counting
@@ -123,8 +130,9 @@ unwriting-fails f e p =
 -- nor one that does not carry the vectors along: each request is decided over the vector file as it came
 unspent : Lent → List (List ℕ) → List Event
 unspent x [] = []
-unspent x (p ∷ ps) = eventOf (asking x p) ∷ unspent (lent (x .request) (serve (asking x p) .table) (x .profile) (x .vectors)
-    (serve (asking x p) .buffer) (x .terms)) ps
+unspent x (p ∷ ps) =
+    let s = serve (asking x p) in
+    eventOf (tableOnly (asking x p)) ∷ unspent (lent (x .request) (s .table) (x .profile) (x .vectors) (s .buffer) (x .terms)) ps
 
 sparing : Reporter
 sparing = counting-by (λ (x : Lent). unspent x (requestsOf x))
@@ -132,7 +140,13 @@ sparing = counting-by (λ (x : Lent). unspent x (requestsOf x))
 -- the second MAR would be sent the vector again: B2001 twice, where the definitions have it once
 unspent-cards : unspent cards (requestsOf cards) ≡ counts 303 (Base 2001) 336 1 ∷ counts 303 (Base 2001) 336 0 ∷ []
 unfolding unspent cards
-unspent-cards = ap (unspent cards) cards-requests ∙ rw (sent-counts, sent-comes, again-counts)
+unspent-cards =
+    let x = lent mar idle [] fresh room underCx in
+    ap (unspent cards) cards-requests
+    ∙ ap (λ (y : Lent). eventOf y ∷ eventOf (tableOnly (lent mar (serve x .table) [] fresh (serve x .buffer) underCx)) ∷ []) (only-sound x 1 idle-sound)
+    ∙ ap (λ (s : Served). eventOf x ∷ eventOf (tableOnly (lent mar (s .table) [] fresh (s .buffer) underCx)) ∷ []) (serve-sound x 1 idle-sound ∙ sent-comes)
+    ∙ ap (λ (y : Lent). eventOf x ∷ eventOf y ∷ []) (only-sound (lent mar named [] fresh sent underCx) 1 named-sound)
+    ∙ rw (sent-counts, again-counts)
 
 true-95 : wordAt (eventsOf cards) 95 ≡ 1
 unfolding counting
@@ -148,7 +162,8 @@ sparing-fails =
 unspending-fails : (f : Reporter) → f cards area .vectors ≡ fresh → Meets f cards area → ⊥
 unfolding all fresh used
 unspending-fails f e p =
-    let n : _≡_ {A = ℕ} 0 1 = ap (λ (v : List ℕ). getD v 1 0) (sym e ∙ p .vectors-is ∙ cards-vectors) in
+    let v : f cards area .vectors ≡ used = p .vectors-is ∙ cards-vectors in
+    let n : _≡_ {A = ℕ} 0 1 = ap (λ (v : List ℕ). getD v 1 0) (sym e ∙ v) in
     omega arith
 
 -- 2. one that counts a refused request under its command, as if it were answered by some result

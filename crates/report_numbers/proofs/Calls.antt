@@ -9,12 +9,13 @@ use Rattle.counting.proofs.Numbers.{largest-append}
 use Rattle.rewrite.proofs.Counts.{altered-none, altered-most}
 use Rattle.calling.specs.Call.{Call, Answered, Refused}
 use Rattle.calling.specs.Lent.{Lent, asking, dialectIn}
-use Rattle.calling.specs.Serve.{Served, checkOf, checkValue, refused, answered, serve}
+use Rattle.calling.specs.Serve.{Served, checkOf, checkValue, refused, answered, serveTable}
 use Rattle.calling.proofs.Calls.{size-least, size-most, length-even}
 use Rattle.calling.proofs.Kept.{serve-by}
 use Rattle.demands.proofs.Firm.{check-most}
 use Rattle.reporting.specs.Row.{recordsAltered, eventBy, eventOf, next, row, left}
-use Rattle.report_numbers.specs.Turns.{InTurn, callAt, callLength, alteredOver}
+use Rattle.report_numbers.specs.Turns.{InTurn, callLength}
+use Rattle.report_numbers.proofs.Table.{tableCall, tableAltered}
 use Rattle.counting.specs.Counted as counted
 
 -- Two rows of requests.
@@ -30,7 +31,7 @@ left-append x (p ∷ ps) qs = left-append (next x p) ps qs
 
 -- the call of a request in its place
 pub row-at : (x : Lent) (ps : List (List ℕ)) (p : InTurn ps)
-    → row x ps ≡ row x (p .before) ++ (eventOf (callAt x p) ∷ row (left x (p .before ++ (p .request ∷ []))) (p .after))
+    → row x ps ≡ row x (p .before) ++ (eventOf (tableCall x p) ∷ row (left x (p .before ++ (p .request ∷ []))) (p .after))
 unfolding row left
 row-at x ps p =
     let one : left x (p .before ++ (p .request ∷ [])) ≡ next (left x (p .before)) (p .request) = left-append x (p .before) (p .request ∷ []) in
@@ -63,45 +64,45 @@ left-profile x [] = refl
 left-profile x (p ∷ ps) = left-profile (next x p) ps
 
 -- Records altered: a refusal alters none.
-pub same-altered : (x : Lent) → serve x .table ≡ x .table → recordsAltered x ≡ 0
+pub same-altered : (x : Lent) → serveTable x .table ≡ x .table → recordsAltered x ≡ 0
 same-altered x e = ap (λ (t : List ℕ). alteredUpTo (x .table) t (checkValue (checkOf x))) e ∙ altered-none (x .table) (checkValue (checkOf x))
 
 event-altered : (x : Lent) → counted.alteredBy (eventOf x) ≡ recordsAltered x
 unfolding eventOf refused answered
 event-altered x =
-    serve-by x (λ (s : Served). serve x ≡ s → counted.alteredBy (eventBy x (s .call)) ≡ recordsAltered x)
+    serve-by x (λ (s : Served). serveTable x ≡ s → counted.alteredBy (eventBy x (s .call)) ≡ recordsAltered x)
     (λ r a b e. sym (same-altered x (ap (λ (s : Served). s .table) e)))
     (λ k e. refl)
     refl
 
-pub row-altered : (x : Lent) (ps : List (List ℕ)) → alteredIn (row x ps) ≡ alteredOver x ps
-unfolding row alteredIn alteredOver
+pub row-altered : (x : Lent) (ps : List (List ℕ)) → alteredIn (row x ps) ≡ tableAltered x ps
+unfolding row alteredIn tableAltered
 row-altered x [] = refl
 row-altered x (p ∷ ps) = omega (arith, event-altered (asking x p), row-altered (next x p) ps)
 
 -- at most all of 4,096 a call
-pub over-most : (x : Lent) (ps : List (List ℕ)) → alteredOver x ps ≤ 4096 * length ps
-unfolding alteredOver
+pub over-most : (x : Lent) (ps : List (List ℕ)) → tableAltered x ps ≤ 4096 * length ps
+unfolding tableAltered
 over-most x [] = omega arith
 over-most x (p ∷ ps) =
     let y = asking x p in
     omega (
       arith,
-      altered-most (x .table) (serve y .table) (checkValue (checkOf y)),
+      altered-most (x .table) (serveTable y .table) (checkValue (checkOf y)),
       check-most (x .table) (length (x .profile)),
       over-most (next x p) ps,
     )
 
 -- The largest answer.
-event-length : (x : Lent) → counted.answerLength (eventOf x) ≡ callLength (serve x .call)
+event-length : (x : Lent) → counted.answerLength (eventOf x) ≡ callLength (serveTable x .call)
 unfolding eventOf
-event-length x = go (serve x .call)
+event-length x = go (serveTable x .call)
   where
     go : (c : Call) → counted.answerLength (eventBy x c) ≡ callLength c
     go (Answered a) = refl
     go (Refused number besides) = refl
 
-call-most : (x : Lent) → callLength (serve x .call) ≤ 36864
+call-most : (x : Lent) → callLength (serveTable x .call) ≤ 36864
 unfolding refused answered
 call-most x =
     let req = x .request in
@@ -115,7 +116,7 @@ unfolding row largestIn
 largest-most x [] = omega arith
 largest-most x (p ∷ ps) = omega (arith, event-length (asking x p), call-most (asking x p), largest-most (next x p) ps)
 
-pub largest-least : (x : Lent) (ps : List (List ℕ)) (p : InTurn ps) → callLength (serve (callAt x p) .call) ≤ largestIn (row x ps)
+pub largest-least : (x : Lent) (ps : List (List ℕ)) (p : InTurn ps) → callLength (serveTable (tableCall x p) .call) ≤ largestIn (row x ps)
 unfolding row largestIn
 largest-least x ps p =
     let there : row x ps ≡ row x (p .before) ++ row (left x (p .before)) (p .request ∷ p .after) =
@@ -124,11 +125,11 @@ largest-least x ps p =
       arith,
       ap largestIn there,
       largest-append (row x (p .before)) (row (left x (p .before)) (p .request ∷ p .after)),
-      event-length (callAt x p),
+      event-length (tableCall x p),
     )
 
 pub largest-one : (x : Lent) (ps : List (List ℕ))
-    → (largestIn (row x ps) ≡ 0) ⊎ ((p : InTurn ps) × (callLength (serve (callAt x p) .call) ≡ largestIn (row x ps)))
+    → (largestIn (row x ps) ≡ 0) ⊎ ((p : InTurn ps) × (callLength (serveTable (tableCall x p) .call) ≡ largestIn (row x ps)))
 unfolding row left largestIn
 largest-one x [] = inl refl
 largest-one x (p ∷ ps) = go (leb rest first) refl (largest-one (next x p) ps)
@@ -140,8 +141,8 @@ largest-one x (p ∷ ps) = go (leb rest first) refl (largest-one (next x p) ps)
     rest = largestIn (row (next x p) ps)
 
     go : (b : Bool) → leb rest first ≡ b
-        → (rest ≡ 0) ⊎ ((q : InTurn ps) × (callLength (serve (callAt (next x p) q) .call) ≡ rest))
-        → (max first rest ≡ 0) ⊎ ((q : InTurn (p ∷ ps)) × (callLength (serve (callAt x q) .call) ≡ max first rest))
+        → (rest ≡ 0) ⊎ ((q : InTurn ps) × (callLength (serveTable (tableCall (next x p) q) .call) ≡ rest))
+        → (max first rest ≡ 0) ⊎ ((q : InTurn (p ∷ ps)) × (callLength (serveTable (tableCall x q) .call) ≡ max first rest))
     go true e more =
         inr (
           record { before = []; request = p; after = ps; is = refl },

@@ -5,15 +5,15 @@ use Rattle.counting.specs.Counted.{largestIn, numberAt}
 use Rattle.counting.specs.Layout.{stopWord, largestWord}
 use Rattle.counting.specs.declared.Event.{Event}
 use Rattle.counting.proofs.Numbers.{number-append, largest-append, word-other}
-use Rattle.calling.specs.Lent.{Lent, asking}
-use Rattle.calling.specs.Serve.{serve}
+use Rattle.calling.specs.Lent.{Lent, asking, tableOnly, putBack}
+use Rattle.calling.specs.Serve.{serveTable}
 use Rattle.ndushavire.specs.Promise.{DecidePromise, ReportPromise}
 use Rattle.reporting.specs.Pieces.{pieces, totalOf, stopOf}
 use Rattle.reporting.specs.Row.{eventOf, next, row, left}
-use Rattle.reporting.specs.Report.{requestsOf, ended, ran, reported}
+use Rattle.reporting.specs.Report.{requestsOf, ended, ran, reportedTable}
 use Rattle.report_numbers.specs.Area.{wordIn}
 use Rattle.report_numbers.specs.File.{OneRequest}
-use Rattle.report_numbers.specs.Turns.{eventsOf, goingOn}
+use Rattle.report_numbers.proofs.Table.{tableEvents, tableGoing}
 use Rattle.report_numbers.proofs.Area.{report-word, report-place, report-largest}
 use Rattle.report_numbers.proofs.Calls.{row-append, left-append, row-other, left-other, left-profile, left-terms}
 use Rattle.report_numbers.proofs.Cells.{same-test}
@@ -22,7 +22,7 @@ use Rattle.report_numbers.proofs.Ends.{area-long, stop-zero, zero-stop}
 
 -- One request.
 module _ (x : Lent) (one : OneRequest (x .request)) where
-  pub one-event : eventsOf x ≡ eventOf x ∷ []
+  pub one-event : tableEvents x ≡ eventOf x ∷ []
   unfolding row
   one-event = ap (row x) (one-piece (x .request) one)
 
@@ -31,25 +31,31 @@ module _ (x : Lent) (one : OneRequest (x .request)) where
   one-left = ap (left x) (one-piece (x .request) one)
 
   module _ (area : List ℕ) (room : 1160 ≤ length area) where
-    pub one-zero : reported x area .number ≡ 0
+    pub one-zero : reportedTable x area .number ≡ 0
     one-zero = stop-zero x area room (one-stop (x .request) one)
 
-    pub one-leaves : (reported x area .table ≡ serve x .table) × (reported x area .vectors ≡ serve x .vectors) × (reported x area .buffer ≡ serve x .buffer)
+    pub one-leaves : (reportedTable x area .table ≡ serveTable x .table) × (reportedTable x area .vectors ≡ serveTable x .vectors)
+        × (reportedTable x area .buffer ≡ serveTable x .buffer)
     unfolding ran next
     one-leaves = rw (area-long x area room, one-left) (refl, refl, refl)
 
-    pub one-decides : {r s : ℕ} {t u v w o q b : List ℕ} → DecidePromise x r t v o → ReportPromise x area s u w q b → (u ≡ t) × (w ≡ v) × (q ≡ o)
-    one-decides d p =
-        let l = one-leaves in
-        (p .table-is ∙ l .0 ∙ sym (d .table-is), p .vectors-is ∙ l .1 ∙ sym (d .vectors-is), p .buffer-is ∙ l .2 ∙ sym (d .buffer-is))
+-- .. over areas
+pub one-decides : (x : Lent) → OneRequest (x .request) → (area : List ℕ) → 1160 ≤ length area → {r s : ℕ} {t u v w o q b : List ℕ}
+    → DecidePromise x r t v o → ReportPromise x area s u w q b → (u ≡ t) × (w ≡ v) × (q ≡ o)
+one-decides x one area room d p =
+    let l = one-leaves (tableOnly x) one area room in (
+      p .table-is ∙ ap (putBack (x .table)) (l .0) ∙ sym (d .table-is),
+      p .vectors-is ∙ l .1 ∙ sym (d .vectors-is),
+      p .buffer-is ∙ l .2 ∙ sym (d .buffer-is),
+    )
 
 -- Two files, the first used up: the second report goes on where the first ended.
-module _ (x : Lent) (more area : List ℕ) (room : 1160 ≤ length area) (whole : reported x area .number ≡ 0) where
+module _ (x : Lent) (more area : List ℕ) (room : 1160 ≤ length area) (whole : reportedTable x area .number ≡ 0) where
   abbrev both : Lent
   both = asking x (x .request ++ more)
 
   abbrev second : Lent
-  second = goingOn x area more
+  second = tableGoing x area more
 
   used : stopOf (x .request) ≡ length (x .request)
   used = zero-stop x area room whole
@@ -61,12 +67,12 @@ module _ (x : Lent) (more area : List ℕ) (room : 1160 ≤ length area) (whole 
   unfolding ran
   goes-on = rw (area-long x area room, left-profile x (requestsOf x), left-terms x (requestsOf x))
 
-  pub two-events : eventsOf both ≡ eventsOf x ++ eventsOf second
+  pub two-events : tableEvents both ≡ tableEvents x ++ tableEvents second
   two-events =
       ap (row both) two-requests
       ∙ row-other x (x .request ++ more) (requestsOf x ++ requestsOf second)
       ∙ row-append x (requestsOf x) (requestsOf second)
-      ∙ ap (λ (es : List Event). eventsOf x ++ es)
+      ∙ ap (λ (es : List Event). tableEvents x ++ es)
       (sym (row-other (left x (requestsOf x)) more (requestsOf second)) ∙ ap (λ (y : Lent). row y (pieces more)) goes-on)
 
   two-left : asking (left both (requestsOf both)) more ≡ left second (requestsOf second)
@@ -95,10 +101,10 @@ module _ (x : Lent) (more area : List ℕ) (room : 1160 ≤ length area) (whole 
           (λ e. omega (arith, eqb-true (stopOf more) (length more) e)))
 
   module _ (again : List ℕ) (space : 1160 ≤ length again) where
-    pub two-leave : (reported both area .number ≡ reported second again .number)
-        × (reported both area .table ≡ reported second again .table)
-        × (reported both area .vectors ≡ reported second again .vectors)
-        × (reported both area .buffer ≡ reported second again .buffer)
+    pub two-leave : (reportedTable both area .number ≡ reportedTable second again .number)
+        × (reportedTable both area .table ≡ reportedTable second again .table)
+        × (reportedTable both area .vectors ≡ reportedTable second again .vectors)
+        × (reportedTable both area .buffer ≡ reportedTable second again .buffer)
     unfolding ran
     two-leave = rw (area-long both area room, area-long second again space) (
       two-ended,
@@ -108,25 +114,25 @@ module _ (x : Lent) (more area : List ℕ) (room : 1160 ≤ length area) (whole 
     )
 
     pub two-words : (i : ℕ) → i < 145 → i ≢ stopWord → i ≢ largestWord
-        → wordIn (reported both area .area) i ≡ (wordIn (reported x area .area) i + wordIn (reported second again .area) i) % 2 ^ 64
+        → wordIn (reportedTable both area .area) i ≡ (wordIn (reportedTable x area .area) i + wordIn (reportedTable second again .area) i) % 2 ^ 64
     two-words i h m n =
         report-word both area room i h m
-        ∙ word-other (eventsOf both) i n
+        ∙ word-other (tableEvents both) i n
         ∙ ap (λ (es : List Event). numberAt es i % 2 ^ 64) two-events
-        ∙ ap (λ (k : ℕ). k % 2 ^ 64) (number-append (eventsOf x) (eventsOf second) i n)
-        ∙ add-mod (numberAt (eventsOf x) i) (numberAt (eventsOf second) i) (2 ^ 64)
-        ∙ rw (report-word x area room i h m, report-word second again space i h m, word-other (eventsOf x) i n, word-other (eventsOf second) i n)
+        ∙ ap (λ (k : ℕ). k % 2 ^ 64) (number-append (tableEvents x) (tableEvents second) i n)
+        ∙ add-mod (numberAt (tableEvents x) i) (numberAt (tableEvents second) i) (2 ^ 64)
+        ∙ rw (report-word x area room i h m, report-word second again space i h m, word-other (tableEvents x) i n, word-other (tableEvents second) i n)
 
-    pub two-largest : wordIn (reported both area .area) largestWord
-        ≡ max (wordIn (reported x area .area) largestWord) (wordIn (reported second again .area) largestWord)
+    pub two-largest : wordIn (reportedTable both area .area) largestWord
+        ≡ max (wordIn (reportedTable x area .area) largestWord) (wordIn (reportedTable second again .area) largestWord)
     two-largest =
         report-largest both area room
         ∙ ap largestIn two-events
-        ∙ largest-append (eventsOf x) (eventsOf second)
+        ∙ largest-append (tableEvents x) (tableEvents second)
         ∙ rw (report-largest x area room, report-largest second again space)
 
     pub two-place : length (x .request ++ more) < 2 ^ 64
-        → wordIn (reported both area .area) stopWord ≡ wordIn (reported x area .area) stopWord + wordIn (reported second again .area) stopWord
+        → wordIn (reportedTable both area .area) stopWord ≡ wordIn (reportedTable x area .area) stopWord + wordIn (reportedTable second again .area) stopWord
     two-place l =
         let n : length (x .request ++ more) ≡ length (x .request) + length more = length-append (x .request) more in
         report-place both area room l

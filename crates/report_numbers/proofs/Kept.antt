@@ -11,15 +11,16 @@ use Rattle.deciding.proofs.Tests.{neither}
 use Rattle.counting.specs.declared.Event.{Event}
 use Rattle.calling.specs.Lent.{Lent, asking}
 use Rattle.calling.specs.Trial.{anyHolds}
-use Rattle.calling.specs.Serve.{smallBuffer, checkOf, checkValue, answered, resultOf, serve}
+use Rattle.calling.specs.Serve.{smallBuffer, checkOf, checkValue, answered, resultOf, serveTable}
 use Rattle.calling.proofs.Kept.{table-checked, vectors-checked, taken}
 use Rattle.demands.specs.Call.{turnedAway}
 use Rattle.demands.specs.Frame.{succeeds}
 use Rattle.demands.proofs.Refusals.{refused-kept, answered-is}
 use Rattle.demands.proofs.Frame.{failure-kept, question-kept, bytes-kept}
 use Rattle.reporting.specs.Row.{eventOf, next, row, left}
-use Rattle.reporting.specs.Report.{requestsOf, ran, reported}
-use Rattle.report_numbers.specs.Turns.{alteredOver, idle, allIdle}
+use Rattle.reporting.specs.Report.{requestsOf, ran, reportedTable}
+use Rattle.report_numbers.specs.Turns.{idle, allIdle}
+use Rattle.report_numbers.proofs.Table.{tableAltered}
 use Rattle.report_numbers.proofs.Calls.{same-altered}
 use Rattle.report_numbers.proofs.Ends.{area-short, area-long}
 
@@ -68,7 +69,7 @@ module _ (x : Lent) where
 
 -- What alters nothing: a call that is refused, or answered by an error, or neither a SAR nor a MAR.
 abbrev Left : Lent → Type 0
-Left x = (serve x .table ≡ x .table) × (serve x .vectors ≡ x .vectors)
+Left x = (serveTable x .table ≡ x .table) × (serveTable x .vectors ≡ x .vectors)
 
 idle-kept : (x : Lent) → idle (eventOf x) ≡ true → Left x
 unfolding eventOf answered
@@ -110,8 +111,8 @@ idle-left x (p ∷ ps) q =
     let more = idle-left (next x p) ps (both .1) in
     (more .0 ∙ one .0, more .1 ∙ one .1)
 
-pub idle-altered : (x : Lent) (ps : List (List ℕ)) → allIdle (row x ps) ≡ true → alteredOver x ps ≡ 0
-unfolding row alteredOver
+pub idle-altered : (x : Lent) (ps : List (List ℕ)) → allIdle (row x ps) ≡ true → tableAltered x ps ≡ 0
+unfolding row tableAltered
 idle-altered x [] q = refl
 idle-altered x (p ∷ ps) q =
     let both = idle-first (eventOf (asking x p)) (row (next x p) ps) q in
@@ -121,34 +122,34 @@ idle-altered x (p ∷ ps) q =
 module _ (x : Lent) (area : List ℕ) where
   report-by : (P : List ℕ → List ℕ → List ℕ → Type 0) → P (x .table) (x .vectors) (x .buffer)
       → P (left x (requestsOf x) .table) (left x (requestsOf x) .vectors) (left x (requestsOf x) .buffer)
-      → P (reported x area .table) (reported x area .vectors) (reported x area .buffer)
+      → P (reportedTable x area .table) (reportedTable x area .vectors) (reportedTable x area .buffer)
   unfolding ran
   report-by P came ran = go (ltb (length area) 1160) refl
     where
-      go : (b : Bool) → ltb (length area) 1160 ≡ b → P (reported x area .table) (reported x area .vectors) (reported x area .buffer)
+      go : (b : Bool) → ltb (length area) 1160 ≡ b → P (reportedTable x area .table) (reportedTable x area .vectors) (reportedTable x area .buffer)
       go true e = rw (area-short x area (ltb-true (length area) 1160 e)) came
       go false e = rw (area-long x area (ltb-false (length area) 1160 e)) ran
 
-  pub report-table : checkTable (reported x area .table) (length (x .profile)) ≡ checkOf x
+  pub report-table : checkTable (reportedTable x area .table) (length (x .profile)) ≡ checkOf x
   report-table = report-by (λ t v o. checkTable t (length (x .profile)) ≡ checkOf x) refl (left-table x (requestsOf x))
 
-  pub report-vectors : checkVectors (reported x area .vectors) ≡ checkVectors (x .vectors)
+  pub report-vectors : checkVectors (reportedTable x area .vectors) ≡ checkVectors (x .vectors)
   report-vectors = report-by (λ t v o. checkVectors v ≡ checkVectors (x .vectors)) refl (left-vectors x (requestsOf x))
 
   pub report-bytes : (count : ℕ) → checkOf x ≡ Sound count → (k i : ℕ) → k ≤ count → i < 512 → alterable i ≡ false
-      → getD (blockOf (reported x area .table) k) i 0 ≡ getD (blockOf (x .table) k) i 0
+      → getD (blockOf (reportedTable x area .table) k) i 0 ≡ getD (blockOf (x .table) k) i 0
   report-bytes count sound k i h l e =
       report-by (λ t v o. getD (blockOf t k) i 0 ≡ getD (blockOf (x .table) k) i 0) refl (left-bytes x (requestsOf x) count sound k i h l e)
 
   pub report-refused : ((p : List ℕ) → turnedAway (asking x p) ≡ true)
-      → (reported x area .table ≡ x .table) × (reported x area .vectors ≡ x .vectors) × (reported x area .buffer ≡ x .buffer)
+      → (reportedTable x area .table ≡ x .table) × (reportedTable x area .vectors ≡ x .vectors) × (reportedTable x area .buffer ≡ x .buffer)
   report-refused h =
       let e = left-refused x h (requestsOf x) in
       report-by (λ t v o. (t ≡ x .table) × (v ≡ x .vectors) × (o ≡ x .buffer)) (refl, refl, refl)
       (ap (λ (y : Lent). y .table) e, ap (λ (y : Lent). y .vectors) e, ap (λ (y : Lent). y .buffer) e)
 
   pub report-idle : allIdle (row x (requestsOf x)) ≡ true
-      → (reported x area .table ≡ x .table) × (reported x area .vectors ≡ x .vectors) × (alteredOver x (requestsOf x) ≡ 0)
+      → (reportedTable x area .table ≡ x .table) × (reportedTable x area .vectors ≡ x .vectors) × (tableAltered x (requestsOf x) ≡ 0)
   report-idle q =
       let l = idle-left x (requestsOf x) q in
       let both = report-by (λ t v o. (t ≡ x .table) × (v ≡ x .vectors)) (refl, refl) (l .0, l .1) in

@@ -7,7 +7,7 @@ use Rattle.counting.specs.Counting.{Fits, counted}
 use Rattle.counting.specs.declared.Event.{Event}
 use Rattle.deciding.proofs.Comes.{decide-carries}
 use Rattle.calling.specs.Lent.{Lent, lent, dialectIn}
-use Rattle.calling.specs.Serve.{Served, checkOf, checkValue, refused, answered, serve}
+use Rattle.calling.specs.Serve.{Served, checkOf, checkValue, refused, answered, serveTable}
 use Rattle.calling.specs.Leaves.{Leaves}
 use Rattle.calling.specs.declared.Came.{Came}
 use Rattle.calling.proofs.Kept.{serve-by}
@@ -24,14 +24,14 @@ event-fits x =
     (λ k. decide-carries (dialectIn x) (x .request) (x .table) (checkValue (checkOf x)) (x .vectors) .result)
 
 module _ (x : Lent) where
-  event-is : (r : Came) {t' v' o' : List ℕ} → Leaves x (serve x) (checkValue (checkOf x)) r t' v' o' → eventFrom r ≡ eventOf x
+  event-is : (r : Came) {t' v' o' : List ℕ} → Leaves x (serveTable x) (checkValue (checkOf x)) r t' v' o' → eventFrom r ≡ eventOf x
   unfolding eventOf
   event-is (came.Answered told) l = rw (← l .call-is, l .noted .0, l .noted .1, l .noted .2, l .table-is)
   event-is (came.Refused number besides) l = rw (← l .call-is)
 
 -- The same, as the code has it: the checks were made before.
 module _ (req t file v o : List ℕ) (terms : Terms) (c : Checked) (checked : c ≡ checkTable t (length file)) (r : Came)
-    {t' v' o' : List ℕ} (l : Leaves (lent req t file v o terms) (serve (lent req t file v o terms)) (checkValue c) r t' v' o') where
+    {t' v' o' : List ℕ} (l : Leaves (lent req t file v o terms) (serveTable (lent req t file v o terms)) (checkValue c) r t' v' o') where
   abbrev x : Lent
   x = lent req t file v o terms
 

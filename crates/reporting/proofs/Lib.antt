@@ -1,3 +1,4 @@
+pub mod Areas
 pub mod Cutting
 pub mod Events
 pub mod Turns

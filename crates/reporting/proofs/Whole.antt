@@ -7,7 +7,7 @@ use Rattle.counting.proofs.Counts.{all-length, none-length, counted-counts}
 use Rattle.reading.specs.declared.Terms.{Terms}
 use Rattle.calling.specs.Lent.{Lent, lent, asking}
 use Rattle.reporting.specs.Row.{next, row}
-use Rattle.reporting.specs.Report.{requestsOf, wordsOf, ended, ran, reported}
+use Rattle.reporting.specs.Report.{requestsOf, wordsOf, ended, ran, reportedTable}
 use Rattle.reporting.specs.Counts.{Runs, Reports}
 use Rattle.reporting.proofs.Events.{event-fits}
 
@@ -22,8 +22,8 @@ unfolding row
 row-fits x [] = tt
 row-fits x (p ∷ ps) = (event-fits (asking x p), row-fits (next x p) ps)
 
-pub area-short : (req t file v o area : List ℕ) (terms : Terms) → length area < 1160 → Reports (lent req t file v o terms) area 15 t v o area
-unfolding reported
+pub area-short : (req t file v o area : List ℕ) (terms : Terms) → length area < 1160 → Reports (reportedTable (lent req t file v o terms) area) 15 t v o area
+unfolding reportedTable
 area-short req t file v o area terms h =
     let q = lt-ltb (length area) 1160 h in
     record { number-is = rw q; table-is = rw q; vectors-is = rw q; buffer-is = rw q; area-is = rw q }
@@ -40,8 +40,8 @@ module _ (req t file v o : List ℕ) (terms : Terms) {c t' v' o' : List ℕ} {at
   words-are = rw (r .counts-is, counted-counts (row x (requestsOf x)) (row-fits x (requestsOf x)), r .stop-is)
 
   pub reports-all : (area : List ℕ) {n m : ℕ} {area' : List ℕ} → 1160 ≤ length area → Wrote (wordsBytes (set c 1 at)) area area' m
-      → n ≡ cond (eqb at (length req)) 0 7 → Reports x area n t' v' o' area'
-  unfolding reported ran ended
+      → n ≡ cond (eqb at (length req)) 0 7 → Reports (reportedTable x area) n t' v' o' area'
+  unfolding reportedTable ran ended
   reports-all area h w e =
       let q = le-ltb (length area) 1160 h in
       record {

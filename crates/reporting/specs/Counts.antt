@@ -4,17 +4,17 @@ use mathlib.Core.Path.{_≡_}
 use mathlib.Core.List.{List}
 use Rattle.counting.specs.Counting.{counted, countedAll}
 use Rattle.calling.specs.Lent.{Lent}
-use Rattle.calling.specs.Serve.{serve}
+use Rattle.calling.specs.Serve.{serveTable}
 use Rattle.reporting.specs.Pieces.{stopOf}
 use Rattle.reporting.specs.Row.{eventOf, row, left}
-use Rattle.reporting.specs.Report.{requestsOf, reported}
+use Rattle.reporting.specs.Report.{Reported, requestsOf}
 
 -- one request: counted, and the call made
 pub record Counts (x : Lent) (counts counts' table' vectors' buffer' : List ℕ) : Type 0 where
   pub counts-is : counts' ≡ counted counts (eventOf x)
-  pub table-is : table' ≡ serve x .table
-  pub vectors-is : vectors' ≡ serve x .vectors
-  pub buffer-is : buffer' ≡ serve x .buffer
+  pub table-is : table' ≡ serveTable x .table
+  pub vectors-is : vectors' ≡ serveTable x .vectors
+  pub buffer-is : buffer' ≡ serveTable x .buffer
 
 -- all of them, up to the byte where reading stops
 pub record Runs (x : Lent) (counts counts' table' vectors' buffer' : List ℕ) (at : ℕ) : Type 0 where
@@ -24,10 +24,10 @@ pub record Runs (x : Lent) (counts counts' table' vectors' buffer' : List ℕ) (
   pub vectors-is : vectors' ≡ left x (requestsOf x) .vectors
   pub buffer-is : buffer' ≡ left x (requestsOf x) .buffer
 
--- and the whole report
-pub record Reports (x : Lent) (area : List ℕ) (r : ℕ) (table' vectors' buffer' area' : List ℕ) : Type 0 where
-  pub number-is : r ≡ reported x area .number
-  pub table-is : table' ≡ reported x area .table
-  pub vectors-is : vectors' ≡ reported x area .vectors
-  pub buffer-is : buffer' ≡ reported x area .buffer
-  pub area-is : area' ≡ reported x area .area
+-- and the whole report, over a table or over an area
+pub record Reports (o : Reported) (r : ℕ) (table' vectors' buffer' area' : List ℕ) : Type 0 where
+  pub number-is : r ≡ o .number
+  pub table-is : table' ≡ o .table
+  pub vectors-is : vectors' ≡ o .vectors
+  pub buffer-is : buffer' ≡ o .buffer
+  pub area-is : area' ≡ o .area

@@ -8,11 +8,12 @@ use Rattle.octets.specs.Run.{over}
 use Rattle.counting.specs.Counted.{countsOf}
 use Rattle.counting.specs.Layout.{stopWord}
 use Rattle.counting.specs.Words.{wordsBytes}
-use Rattle.calling.specs.Lent.{Lent}
+use Rattle.calling.specs.Lent.{Lent, tableOnly, putBack}
 use Rattle.reporting.specs.Pieces.{pieces, stopOf}
 use Rattle.reporting.specs.Row.{row, left}
 
--- what comes of a report: its number, and what it leaves of the table, the vectors, the answer buffer and the area that it is written to
+-- what comes of a report: its number, and what it leaves of the table, the vectors, the answer buffer and `area`, which it is written to (a table's own is
+-- called its working area)
 pub record Reported : Type 0 where
   pub number : ℕ
   pub table : List ℕ
@@ -41,7 +42,15 @@ ran x area =
       area = over (wordsBytes (wordsOf x)) area;
     }
 
--- 15: the area has no room for the 145 words; nothing is run
-unfoldable pub reported : Lent → List ℕ → Reported
-reported x area =
+-- over a table whose length must be exact. 15: the area of the report has no room for the 145 words; nothing is run
+unfoldable pub reportedTable : Lent → List ℕ → Reported
+reportedTable x area =
     cond (ltb (length area) 1160) (record { number = 15; table = x .table; vectors = x .vectors; buffer = x .buffer; area = area }) (ran x area)
+
+-- The report: over the table at the front of its working area, which is put back; every byte behind it stays as it came.
+abbrev pub reportBack : List ℕ → Reported → Reported
+reportBack working r =
+    record { number = r .number; table = putBack working (r .table); vectors = r .vectors; buffer = r .buffer; area = r .area }
+
+abbrev pub reported : Lent → List ℕ → Reported
+reported x area = reportBack (x .table) (reportedTable (tableOnly x) area)

@@ -18,6 +18,7 @@ ghost use Rattle.calling.specs.Lent.{lent};
 ghost use Rattle.reporting.specs.Run.{firstLength};
 ghost use Rattle.reporting.specs.Run.{eventFrom};
 ghost use Rattle.reporting.specs.Counts.{Runs, Counts, Reports};
+ghost use Rattle.reporting.specs.Report.{reportedTable, reported};
 
 // The two ways in which a report does not end well, by their numbers.
 const STOPPED: u16 = 7;
@@ -112,8 +113,8 @@ fn ended(stop: usize, length: usize) -> u16
     if stop == length { 0 } else { STOPPED }
 }
 
-// The whole report: the table and the vectors are checked once, and the words are written once, at the end.
-pub fn report(
+// The whole report, over a table whose length must be exact: the table and the vectors are checked once, and the words are written once, at the end.
+fn report_table(
     requests: &[u8],
     t: &mut [u8],
     file: &[u8],
@@ -122,7 +123,8 @@ pub fn report(
     area: &mut [u8],
     terms: Terms,
 ) -> u16
-    ensures { λ r. ⌜ Reports (lent (now (requests .entry)) (now (t .entry)) (now (file .entry)) (now (v .entry)) (now (out .entry)) terms) (now (area .entry))
+    ensures { λ r. ⌜ Reports
+        (reportedTable (lent (now (requests .entry)) (now (t .entry)) (now (file .entry)) (now (v .entry)) (now (out .entry)) terms) (now (area .entry)))
         r (now (t .exit)) (now (v .exit)) (now (out .exit)) (now (area .exit)) ⌝ }
 {
     if area.len() < counting::BYTES {
@@ -138,4 +140,22 @@ pub fn report(
     counts[counting::STOPPED_AT] = stop as u64;
     words::put_words(area, &counts);
     ended(stop, requests.len())
+}
+
+// The report over a working area: the table at its front alone is lent on.
+pub fn report(
+    requests: &[u8],
+    t: &mut [u8],
+    file: &[u8],
+    v: &mut [u8],
+    out: &mut [u8],
+    area: &mut [u8],
+    terms: Terms,
+) -> u16
+    ensures { λ r. ⌜ Reports
+        (reported (lent (now (requests .entry)) (now (t .entry)) (now (file .entry)) (now (v .entry)) (now (out .entry)) terms) (now (area .entry)))
+        r (now (t .exit)) (now (v .exit)) (now (out .exit)) (now (area .exit)) ⌝ }
+{
+    let n = table::area::table_length(t);
+    report_table(requests, &mut t[..n], file, v, out, area, terms)
 }

@@ -41,9 +41,11 @@ module _ (s places : List ℕ) (dialect : Dialect) (at : ℕ) (whole : Judged) (
       abbrev placed : place ≡ at
       placed = ep ∙ read-begins at (drop at s) r e
 
-      pub turn-cut : (w : Walked) {p : ℕ} → at < length s → r ≡ read.Fault p → w ≡ walked.Fault (faultAt 5014 place) → judgedOf s places w ≡ whole
+      -- a fault says nothing of the places that were lent
+      pub turn-cut : (w : Walked) (held : List ℕ) {p : ℕ} → at < length s → r ≡ read.Fault p → w ≡ walked.Fault (faultAt 5014 place)
+          → judgedOf s held w ≡ whole
       unfolding judge judgedOf
-      turn-cut w h d f = rw (f, placed) (rw (read-fault-says s at r e d h) at left)
+      turn-cut w held h d f = rw (f, placed) (rw (read-fault-says s at r e d h) at left)
 
       module _ (a : Avp) (x : Ruled) (d : r ≡ read.Avp a) (ex : x ≡ rule dialect (seenOf s places) (ownOf s a)) where
         abbrev says : Says s at a
@@ -53,9 +55,9 @@ module _ (s places : List ℕ) (dialect : Dialect) (at : ℕ) (whole : Judged) (
         unfolding judge
         turned = rw (says .walked, says-next s at a says, ← ex) at left
 
-        pub turn-bad : (n : ℕ) (w : Walked) → x ≡ ruled.Fault n → w ≡ walked.Fault (faultAt n place) → judgedOf s places w ≡ whole
+        pub turn-bad : (n : ℕ) (w : Walked) (held : List ℕ) → x ≡ ruled.Fault n → w ≡ walked.Fault (faultAt n place) → judgedOf s held w ≡ whole
         unfolding judgedOf
-        turn-bad n w z f = rw (f, placed) (rw z at turned)
+        turn-bad n w held z f = rw (f, placed) (rw z at turned)
 
         pub turn-taken : (k : ℕ) → k ≡ kindOf (ownOf s a) → x ≡ ruled.Taken
             → judge dialect (a .next) (walk (drop (a .next) s)) (seenOf s (set places k place)) ≡ whole

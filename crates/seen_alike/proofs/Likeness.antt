@@ -14,11 +14,11 @@ use Rattle.reading.specs.declared.Terms.{Terms}
 use Rattle.answering.specs.Answer.{answerBytes}
 use Rattle.deciding.specs.Plans.{planRead}
 use Rattle.deciding.specs.Decide.{decide}
-use Rattle.calling.specs.Lent.{Lent, dialectIn}
+use Rattle.calling.specs.Lent.{Lent, holding, dialectIn}
 use Rattle.calling.specs.Trial.{Trial, tried}
-use Rattle.calling.specs.Serve.{Served, checkOf, checkValue, refused, answered, decision, resultOf, serveFound, serveBy, serve}
+use Rattle.calling.specs.Serve.{Served, SameCall, checkOf, checkValue, refused, answered, decision, resultOf, serveFound, serveTableBy, serveTable}
 use Rattle.deciding.proofs.Cases.{Within}
-use Rattle.seen_alike.specs.Alike.{AlikeTables, SameCall, holding}
+use Rattle.seen_alike.specs.Alike.{AlikeTables}
 use Rattle.seen_alike.specs.Shown.{SameTables}
 use Rattle.seen_alike.proofs.Fields.{tables-same}
 use Rattle.seen_alike.proofs.Plans.{plan-same, given-same, place-same, vectors-same}
@@ -83,13 +83,13 @@ module _ (x : Lent) (u : List ℕ) (count : ℕ) (first : checkOf x ≡ Sound co
 
   -- what holds of refusals and of the answers holds of the calls
   both-by : (P : Served → Served → Type 0) → ((r : Trial) → P (refused x r) (refused (holding x u) r))
-      → P (answered x (decision x count)) (answered (holding x u) (decision (holding x u) count)) → P (serve x) (serve (holding x u))
-  unfolding serveBy serveFound
+      → P (answered x (decision x count)) (answered (holding x u) (decision (holding x u) count)) → P (serveTable x) (serveTable (holding x u))
+  unfolding serveTableBy serveFound
   both-by P f h =
       rw (first, second)
       (tried-both P (refused x) (refused (holding x u)) (answered x (decision x count)) (answered (holding x u) (decision (holding x u) count)) f h _)
 
-  pub serve-alike : SameCall (serve x) (serve (holding x u))
+  pub serve-alike : SameCall (serveTable x) (serveTable (holding x u))
   unfolding refused answered
   serve-alike =
       let bytes = decision-alike (x .table) u count sound alike (dialectIn x) (x .request) (x .profile) (x .vectors) in
@@ -100,7 +100,7 @@ module _ (x : Lent) (u : List ℕ) (count : ℕ) (first : checkOf x ≡ Sound co
         buffer = rw bytes;
       })
 
-  pub serve-after : AlikeTables (serve x .table) (serve (holding x u) .table) count
+  pub serve-after : AlikeTables (serveTable x .table) (serveTable (holding x u) .table) count
   unfolding refused answered
   serve-after =
       both-by (λ r s. AlikeTables (r .table) (s .table) count) (λ r. alike)
@@ -113,7 +113,7 @@ module _ (x : Lent) (u : List ℕ) (count : ℕ) (first : checkOf x ≡ Sound co
       ∙ ap (λ (g : Given). g .verdict .result) (given-alike (x .table) u count sound alike (dialectIn x) (x .request) (x .vectors))
       ∙ sym (ap (λ (c : Checked). decision (holding x u) (checkValue c) .given .verdict .result) second)
 
-  pub serve-altered : Bytes (x .table) → Bytes u → alteredUpTo (x .table) (serve x .table) count ≡ alteredUpTo u (serve (holding x u) .table) count
+  pub serve-altered : Bytes (x .table) → Bytes u → alteredUpTo (x .table) (serveTable x .table) count ≡ alteredUpTo u (serveTable (holding x u) .table) count
   unfolding refused answered
   serve-altered bytes other-bytes =
       both-by (λ r s. alteredUpTo (x .table) (r .table) count ≡ alteredUpTo u (s .table) count)

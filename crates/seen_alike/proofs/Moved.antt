@@ -1,4 +1,5 @@
--- A move between editions shows in no answer: what it writes no request can see.
+-- A move between editions shows in no answer: what it writes no request can see. A table that was moved has its exact length, and a call over it as an area is
+-- one over the table.
 use Rattle.octets.specs.Standard.{ℕ, zero, suc, _^_, _<_, _≤_, _≡_, sym, false, List, arith, length, ne-eqb, lt-leb}
 use Rattle.blocks.specs.Blocks.{blockOf}
 use Rattle.table.specs.Check.{checkTable}
@@ -11,9 +12,10 @@ use Rattle.moving.specs.Outcomes.{forward, back}
 use Rattle.moving.specs.Conditions.{TableMoved}
 use Rattle.moving.specs.declared.Move.the-variants.{Moved}
 use Rattle.moving.proofs.Moving.{forward-sound, forward-keeps, forward-moved, back-sound, back-keeps, back-moved}
-use Rattle.calling.specs.Lent.{Lent}
-use Rattle.calling.specs.Serve.{checkOf, serve}
-use Rattle.seen_alike.specs.Alike.{AlikeTables, SameCall, holding}
+use Rattle.calling.specs.Lent.{Lent, holding}
+use Rattle.calling.specs.Serve.{SameCall, checkOf, serve}
+use Rattle.calling.proofs.Areas.{serve-sound}
+use Rattle.seen_alike.specs.Alike.{AlikeTables}
 use Rattle.seen_alike.proofs.Likeness.{serve-alike}
 
 -- the bytes that a request can see are none that a move may write
@@ -44,7 +46,7 @@ module _ (x : Lent) (y : List ℕ) (count edition issue : ℕ) (first : checkOf 
   }
 
   answers-same : SameCall (serve x) (serve (holding x y))
-  answers-same = serve-alike x y count first second alike
+  answers-same = rw (serve-sound x count first, serve-sound (holding x y) count second) (serve-alike x y count first second alike)
 
 -- "no answer depends on edition or issue": a request gets the same answer before and after a move
 pub forward-answers : (x : Lent) (issue count : ℕ) → issue < 2 ^ 32 → forward (x .table) (length (x .profile)) issue .move ≡ Moved count

@@ -5,8 +5,6 @@ use mathlib.Core.Path.{_≡_}
 use mathlib.Core.List.{List}
 use lib.ListN.{length, getD}
 use Rattle.blocks.specs.Blocks.{blockOf}
-use Rattle.calling.specs.Lent.{Lent}
-use Rattle.calling.specs.Serve.{Served}
 
 -- two blocks
 pub record Alike (b c : List ℕ) : Type 0 where
@@ -17,13 +15,3 @@ pub record Alike (b c : List ℕ) : Type 0 where
 -- two tables of so many records, the header too
 pub record AlikeTables (t u : List ℕ) (count : ℕ) : Type 0 where
   pub blocks : (k : ℕ) → k ≤ count → Alike (blockOf t k) (blockOf u k)
-
--- the same lent with another table
-abbrev pub holding : Lent → List ℕ → Lent
-holding x table = record { request = x .request; table = table; profile = x .profile; vectors = x .vectors; buffer = x .buffer; terms = x .terms }
-
--- two calls come to the same: the answer or the refusal, the vectors and the buffer
-pub record SameCall (r s : Served) : Type 0 where
-  pub call : r .call ≡ s .call
-  pub vectors : r .vectors ≡ s .vectors
-  pub buffer : r .buffer ≡ s .buffer

@@ -12,11 +12,13 @@ use Rattle.pen.specs.Bytes.{avpBytes, vendorBytes, numberBytes, vendorNumber}
 use Rattle.requests.specs.Request.{underCx}
 use Rattle.calling.specs.Lent.{Lent, lent}
 use Rattle.calling.specs.Call.{Answered}
-use Rattle.calling.specs.Serve.{Served, serveBy, serve}
+use Rattle.calling.specs.Serve.{Served, serveTableBy, serveTable, serve}
+use Rattle.calling.proofs.Areas.{serve-sound}
 use Rattle.ndushavire.specs.Promise.{DecidePromise}
 use Rattle.older_rules.specs.WithoutSets.{beforeSets}
 use Rattle.older_rules.proofs.Sets.{without-sets, first-edition, members-agree}
-use Rattle.older_rules.proofs.Unreachable.{withBranch, same-for-every-input}
+use Rattle.older_rules.specs.WithBranch.{withBranch}
+use Rattle.older_rules.proofs.Unreachable.{same-for-every-input}
 use Rattle.worked_examples.proofs.Computed.{known, come, roomy, no-vectors, registered-sound}
 use Rattle.worked_examples.proofs.Sample.{checked, header, subscriber, request, reply, answer, common, assignment, authentication, vector, room, one}
 use Rattle.worked_examples.proofs.Sample.{s, z, opened}
@@ -75,7 +77,7 @@ family-sound = refl
 abbrev pub registration : Lent
 registration = lent (assignment 1 s) (family 0 0 []) [] [] room underCx
 
-pub registered : serve registration
+pub registered : serveTable registration
     ≡ record {
       call = Answered (record { length = 128; place = 0 });
       table = family 0 1 s;
@@ -96,7 +98,7 @@ card-sound : checkVectors (vector 0 0x70 0x20) ≡ Sound 1
 unfolding opened
 card-sound = refl
 
-both-challenged : serve challenge .table ≡ challenged
+both-challenged : serveTable challenge .table ≡ challenged
 unfolding opened head line family challenged challenge
 both-challenged =
     ap (λ (y : Served). y .table) (come challenge {y = known false (Sound 3) (Sound 1) challenge} roomy family-sound card-sound refl)
@@ -112,7 +114,7 @@ pub barred-sound : checkTable (family 2 1 s) 0 ≡ Sound 3
 unfolding opened head line family
 barred-sound = refl
 
-going-on : serve admitted
+going-on : serveTable admitted
     ≡ record {
       call = Answered (record { length = 132; place = 0 });
       table = family 2 1 s;
@@ -129,7 +131,7 @@ pub shut-sound : checkTable shut 0 ≡ Sound 3
 unfolding opened head line shut
 shut-sound = refl
 
-turned-away : serve (lent asking shut [] [] room underCx)
+turned-away : serveTable (lent asking shut [] [] room underCx)
     ≡ record {
       call = Answered (record { length = 116; place = 0 });
       table = shut;
@@ -140,11 +142,11 @@ unfolding opened head line shut asking
 turned-away = come (lent asking shut [] [] room underCx) roomy shut-sound no-vectors refl
 
 -- The theorems have instances: the registered family's members agree; a first edition's table is served as it was before sets, and before 02 [7].
-one-set : sameSet (blockOf (serve registration .table) 1) (blockOf (serve registration .table) 2) ≡ true
+one-set : sameSet (blockOf (serveTable registration .table) 1) (blockOf (serveTable registration .table) 2) ≡ true
 unfolding opened head line family
 one-set = ap (λ (y : Served). sameSet (blockOf (y .table) 1) (blockOf (y .table) 2)) registered
 
-met-agreement : agreeing (blockOf (serve registration .table) 1) (blockOf (serve registration .table) 2) ≡ true
+met-agreement : agreeing (blockOf (serveTable registration .table) 1) (blockOf (serveTable registration .table) 2) ≡ true
 met-agreement = members-agree registration 3 family-sound 1 2 (omega arith) (omega arith) (omega arith) one-set
 
 alone : Lent
@@ -154,11 +156,11 @@ alone-first : editionOf (blockOf (one 0 1 s) 0) ≡ 1
 unfolding opened
 alone-first = refl
 
-met-without-sets : serveBy beforeSets alone ≡ serve alone
+met-without-sets : serveTableBy beforeSets alone ≡ serveTable alone
 unfolding alone
 met-without-sets = without-sets alone (first-edition (one 0 1 s) 0 1 registered-sound alone-first)
 
-met-every-input : serveBy withBranch admitted ≡ serve admitted
+met-every-input : serveTableBy withBranch admitted ≡ serveTable admitted
 met-every-input = same-for-every-input admitted
 
 -- WRONG SERVERS. Each is any function of what is lent; at an input above its outcome does not meet the promise.
@@ -168,6 +170,12 @@ record CallLeft : Type 0 where
   vectors : List ℕ
   buffer : List ℕ
 
+registered-table : serve registration .table ≡ family 0 1 s
+registered-table = ap (λ (y : Served). y .table) (serve-sound registration 3 family-sound ∙ registered)
+
+admitted-buffer : serve admitted .buffer ≡ over (reply 300 (numberBytes 268 2001) (vendorBytes 602 s)) room
+admitted-buffer = ap (λ (y : Served). y .buffer) (serve-sound admitted 3 barred-sound ∙ going-on)
+
 abbrev Meets : (Lent → CallLeft) → Lent → Type 0
 Meets f x = DecidePromise x (f x .word) (f x .table) (f x .vectors) (f x .buffer)
 
@@ -176,7 +184,7 @@ module _ (f : Lent → CallLeft) (only : getD (f registration .table) 1032 0 ≡
   named-only-fails : Meets f registration → ⊥
   unfolding opened head line family
   named-only-fails p =
-      let after : getD (f registration .table) 1032 0 ≡ 1 = ap (λ (t : List ℕ). getD t 1032 0) (p .table-is ∙ ap (λ (y : Served). y .table) registered) in
+      let after : getD (f registration .table) 1032 0 ≡ 1 = ap (λ (t : List ℕ). getD t 1032 0) (p .table-is ∙ registered-table) in
       omega (arith, after, only)
 
 -- 2. "an effect" on a line of the subscription that is in no set
@@ -184,7 +192,7 @@ module _ (f : Lent → CallLeft) (more : getD (f registration .table) 1544 0 ≡
   all-lines-fails : Meets f registration → ⊥
   unfolding opened head line family
   all-lines-fails p =
-      let after : getD (f registration .table) 1544 0 ≡ 0 = ap (λ (t : List ℕ). getD t 1544 0) (p .table-is ∙ ap (λ (y : Served). y .table) registered) in
+      let after : getD (f registration .table) 1544 0 ≡ 0 = ap (λ (t : List ℕ). getD t 1544 0) (p .table-is ∙ registered-table) in
       omega (arith, after, more)
 
 -- 3. "barred though a member is free": the last byte of 5003 is 139, that of 2001 is 209
@@ -192,5 +200,5 @@ module _ (f : Lent → CallLeft) (rejects : getD (f admitted .buffer) 75 0 ≡ 1
   rejecting-fails : Meets f admitted → ⊥
   unfolding opened
   rejecting-fails p =
-      let right : getD (f admitted .buffer) 75 0 ≡ 209 = ap (λ (o : List ℕ). getD o 75 0) (p .buffer-is ∙ ap (λ (y : Served). y .buffer) going-on) in
+      let right : getD (f admitted .buffer) 75 0 ≡ 209 = ap (λ (o : List ℕ). getD o 75 0) (p .buffer-is ∙ admitted-buffer) in
       omega (arith, right, rejects)

@@ -1,5 +1,7 @@
 pub mod Agreement
+pub mod Areas
 pub mod Hashes
+pub mod Heads
 pub mod Leading
 pub mod Padded
 pub mod Remembered

@@ -1,3 +1,4 @@
+pub mod Area
 pub mod Check
 pub mod Hash
 pub mod Leading

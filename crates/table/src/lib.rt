@@ -1,4 +1,5 @@
 // The check of a whole table, block by block.
+pub mod area;
 mod hash;
 mod members;
 

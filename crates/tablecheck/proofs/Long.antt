@@ -1,11 +1,14 @@
 -- A file that does not fit is judged by what was read of it: no table of more than 4,097 blocks is sound, nor a vector file of more than 4,096, and its
 -- first bad block is among the first 4,097.
-use Rattle.octets.specs.Standard.{ℕ, zero, suc, _+_, _*_, _≤_, _<_, Bool, true, false, _&&_, cond, true≢false, _≡_, refl, sym, _∙_, List, [], _∷_}
-use Rattle.octets.specs.Standard.{arith, leb, eqb, length, take, drop, length-take, eqb-true, eqb-false, le-leb, length-take-le, take-take}
+use Rattle.octets.specs.Standard.{ℕ, zero, suc, _+_, _*_, _≤_, _<_, Bool, true, false, _&&_, cond, true≢false, _≡_, refl, sym, ap, _∙_, List, [], _∷_}
+use Rattle.octets.specs.Standard.{arith, leb, eqb, length, take, drop, length-take, eqb-true, eqb-false, le-leb, leb-true, leb-false, length-take-le, take-take}
+use Rattle.record.specs.Fields.{countOf}
 use Rattle.record.specs.HeaderBlock.{headerOf, soundHeader}
 use Rattle.record.proofs.Sound.{header-count}
 use Rattle.blocks.specs.Blocks.{blockOf, firstBad}
+use Rattle.table.specs.Area.{sizeIn, tableIn, checkArea}
 use Rattle.table.specs.Check.{checkRecords, checkTable}
+use Rattle.table.proofs.Areas.{in-all, read-alike}
 use Rattle.blocks.specs.declared.Checked.the-variants.{Bad}
 use Rattle.vectors.specs.VectorFile.{piecesOf, soundPiece, checkVectors}
 
@@ -22,14 +25,39 @@ long-bad t file h = go (leb 512 (length t)) (soundHeader (blockOf t 0)) (eqb (le
     go true false z e f = refl
     go false y z e f = refl
 
-pub cut-alike : (t : List ℕ) (file room : ℕ) → 2097664 < room → 2097664 < length t → checkTable (take room t) file ≡ checkTable t file
-cut-alike t file room r h = long-bad (take room t) file (simp length-take (omega arith)) ∙ sym (long-bad t file h)
-
 part-front : (n at room : ℕ) (v : List ℕ) → at + n ≤ room → take n (drop at (take room v)) ≡ take n (drop at v)
 part-front n zero room v h = take-take n room v (omega arith)
 part-front n (suc at) zero v h = absurd (omega arith)
 part-front n (suc at) (suc room) [] h = refl
 part-front n (suc at) (suc room) (x ∷ v) h = part-front n at room v (omega arith)
+
+front-size : (t : List ℕ) (room : ℕ) → 512 ≤ room → sizeIn (take room t) ≡ sizeIn t
+unfolding sizeIn blockOf
+front-size t room h = ap (λ (b : List ℕ). 512 * (countOf b + 1)) (part-front 512 0 room t h)
+
+long-in : (t : List ℕ) → 2097664 < sizeIn t → 2097664 < length t → 2097664 < length (tableIn t)
+unfolding tableIn
+long-in t a b = simp length-take (omega arith)
+
+-- An area that does not fit, cut to the room that there is for it.
+module _ (t : List ℕ) (file room : ℕ) (r : 2097664 < room) (h : room ≤ length t) where
+  cut-room : length (take room t) ≡ room
+  cut-room = length-take-le room t h
+
+  pub cut-alike : checkArea (take room t) file ≡ checkArea t file
+  unfolding checkArea
+  cut-alike = go (leb (sizeIn t) room) refl
+    where
+      first : sizeIn (take room t) ≡ sizeIn t
+      first = front-size t room (omega arith)
+
+      go : (b : Bool) → leb (sizeIn t) room ≡ b → checkTable (tableIn (take room t)) file ≡ checkTable (tableIn t) file
+      go true e =
+          ap (λ (s : List ℕ). checkTable s file) (read-alike t (take room t) (take-take (sizeIn t) room t (leb-true (sizeIn t) room e)))
+      go false e =
+          let l : room < sizeIn t = leb-false (sizeIn t) room e in
+          let a : tableIn (take room t) ≡ take room t = in-all (take room t) (omega (arith, first, cut-room)) in
+          long-bad (tableIn (take room t)) file (rw a (omega (arith, cut-room))) ∙ sym (long-bad (tableIn t) file (long-in t (omega arith) (omega arith)))
 
 pieces-many : (v : List ℕ) → 2097664 ≤ length v → 4097 ≤ piecesOf v
 unfolding piecesOf

@@ -2,6 +2,7 @@
 // output, and never a file.
 mod line;
 
+use blocks::Checked;
 use files::Got;
 use libc::STDOUT_FILENO;
 ghost use mathlib.Core.Path.{_≡_};
@@ -21,21 +22,39 @@ fn say(said: &[u8]) {
     }
 }
 
-// The line of a table. Of the profile file only the length counts.
+// How many bytes of the file are past its table, where there are some. It is measured whole, since only its front was read.
+fn say_past(table: usize) -> bool {
+    let mut piece = io::large_buffer();
+    let Got::Bytes(size) = files::measure(b"table", &mut piece) else {
+        return false;
+    };
+    if table < size {
+        let mut out = [0u8; 70];
+        let n = line::put_past_line(&mut out, (size - table) as u64);
+        say(&out[..n]);
+    }
+    true
+}
+
+// The lines of a table. Of the profile file only the length counts.
 fn check_table(t: &[u8]) -> bool {
     let mut piece = io::large_buffer();
     let Got::Bytes(size) = files::measure(b"profile", &mut piece) else {
         return false;
     };
-    let mut out = [0u8; 40];
-    let n = line::put_line(&mut out, table::check(t, size));
+    let mut out = [0u8; 50];
+    let c = table::area::check_area(t, size);
+    let n = line::put_line(&mut out, c);
     say(&out[..n]);
-    true
+    match c {
+        Checked::Sound(_) => say_past(table::area::table_length(t)),
+        Checked::Bad(_) => true,
+    }
 }
 
 // The line of a vector file.
 fn check_vectors(v: &[u8]) {
-    let mut out = [0u8; 40];
+    let mut out = [0u8; 50];
     let n = line::put_vectors_line(&mut out, vectors::file::check(v));
     say(&out[..n]);
 }

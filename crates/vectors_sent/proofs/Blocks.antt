@@ -17,7 +17,7 @@ use Rattle.vectors.proofs.Sound.{whole-blocks, block-fits}
 use Rattle.vectors.proofs.Spent.{spent-kept, spent-marked, spent-sound}
 use Rattle.vectors.proofs.Unused.{ones-many, ones-rise, ones-hold, ones-first}
 use Rattle.calling.specs.Lent.{Lent}
-use Rattle.calling.specs.Serve.{serve}
+use Rattle.calling.specs.Serve.{serveTable}
 use Rattle.vectors_sent.specs.Sent.{sentBy, Challenges, userOf, askedBy, usedAt, remaining}
 use Rattle.vectors_sent.proofs.Calls.{Quiet, Sending, call-cases}
 
@@ -45,7 +45,7 @@ module _ (x : Lent) where
   v = x .vectors
 
   abbrev after : List ℕ
-  after = serve x .vectors
+  after = serveTable x .vectors
 
   abbrev count : ℕ
   count = length v / 512

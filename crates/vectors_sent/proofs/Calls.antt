@@ -5,7 +5,7 @@ use Rattle.vectors.specs.Marked.{spent}
 use Rattle.vectors.specs.VectorFile.{SoundVectors}
 use Rattle.calling.specs.Lent.{Lent, dialectIn}
 use Rattle.calling.specs.Trial.{anyHolds, Trial}
-use Rattle.calling.specs.Serve.{checkOf, trials, refused, answered, serve, checkValue, decided}
+use Rattle.calling.specs.Serve.{checkOf, trials, refused, answered, serveTable, checkValue, decided}
 use Rattle.calling.proofs.Kept.{taken, serve-either, answered-is}
 use Rattle.vectors_sent.specs.Sent.{sentBy, Challenges, userOf, askedBy}
 use Rattle.vectors_sent.proofs.Cases.{Cases, other, success, decide-cases}
@@ -14,7 +14,7 @@ module _ (x : Lent) where
   abbrev v : List ℕ
   v = x .vectors
 
-  pub refused-vectors : anyHolds (trials x) ≡ true → serve x .vectors ≡ v
+  pub refused-vectors : anyHolds (trials x) ≡ true → serveTable x .vectors ≡ v
   unfolding refused
   refused-vectors = serve-either x (λ b s. b ≡ true → s .vectors ≡ v) (λ r e. refl) (λ e. absurd (true≢false (sym e)))
 
@@ -23,7 +23,7 @@ module _ (x : Lent) where
 
   -- it leaves the file as it came
   pub record Quiet : Type 0 where
-    pub kept : serve x .vectors ≡ v
+    pub kept : serveTable x .vectors ≡ v
     pub none : sentBy x ≡ []
     pub apart : Challenges x → ⊥
 
@@ -33,14 +33,14 @@ module _ (x : Lent) where
     pub sound : SoundVectors v
     pub first : sentBy x ≡ unusedOf v (userOf x) (min (askedBy x) 16)
     pub some : 0 < length (sentBy x)
-    pub marks : serve x .vectors ≡ spent v (sentBy x)
+    pub marks : serveTable x .vectors ≡ spent v (sentBy x)
 
   module _ (none-holds : anyHolds (trials x) ≡ false) where
     sent-is : sentBy x ≡ sentOf (decided x .given .sent)
     unfolding sentBy
     sent-is = rw none-holds
 
-    vectors-are : serve x .vectors ≡ decided x .vectors
+    vectors-are : serveTable x .vectors ≡ decided x .vectors
     unfolding answered
     vectors-are = rw (answered-is x none-holds)
 

@@ -19,7 +19,7 @@ use Rattle.deciding.proofs.Read.{fails-most}
 use Rattle.calling.specs.Call.{Answered}
 use Rattle.calling.specs.Lent.{Lent, dialectIn}
 use Rattle.calling.specs.Trial.{anyHolds}
-use Rattle.calling.specs.Serve.{checkOf, trials, answerOf, answered, serve, checkValue, decided}
+use Rattle.calling.specs.Serve.{checkOf, trials, answerOf, answered, serveTable, checkValue, decided}
 use Rattle.vectors_sent.specs.Sent.{sentBy, itemsFrom, saidOf, answerWith}
 use Rattle.calling.proofs.Kept.{answered-is}
 use Rattle.vectors_sent.proofs.Calls.{answered-sound}
@@ -53,9 +53,9 @@ module _ (x : Lent) (taken : anyHolds (trials x) ≡ false) where
   unfolding answerBytes bodyBytes restBytes givenBytes sentBy
   answer-is = rw (taken, said-is (x .vectors) (decided x .given .sent) (omega (arith, sendable .few, sendable .room)))
 
-  pub answer-says : (serve x .call
+  pub answer-says : (serveTable x .call
       ≡ Answered (record { length = length (answerWith x (decided x .given) (saidOf (x .vectors) (sentBy x))); place = decided x .place }))
-      × (serve x .buffer ≡ over (answerWith x (decided x .given) (saidOf (x .vectors) (sentBy x))) (x .buffer))
+      × (serveTable x .buffer ≡ over (answerWith x (decided x .given) (saidOf (x .vectors) (sentBy x))) (x .buffer))
   unfolding answered
   answer-says = (
     rw (answered-is x taken) (ap (λ (b : List ℕ). Answered (record { length = length b; place = decided x .place })) answer-is),

@@ -5,11 +5,12 @@ use mathlib.Core.Bool.{false}
 use mathlib.Core.Path.{_≡_}
 use Rattle.blocks.specs.Changed.{isOne}
 use Rattle.reading.specs.declared.Terms.{Terms}
-use Rattle.calling.specs.Lent.{Lent, lent}
+use Rattle.calling.specs.Lent.{Lent, lent, tableOnly}
 use Rattle.calling.specs.Serve.{serve}
 use Rattle.vectors_sent.specs.Sent.{sentBy}
 
--- what is lent to a call besides the vector file, and its terms. Any table may be: the one that the call before left, or another that the daemon has put in its place
+-- what is lent to a call besides the vector file, and its terms. Any area may be: the one that the call before left, or another that the daemon has put in
+-- its place
 pub record Turn : Type 0 where
   pub request : List ℕ
   pub table : List ℕ
@@ -29,7 +30,7 @@ leftBy v (c ∷ cs) = leftBy (serve (lending v c) .vectors) cs
 -- the numbers of all the blocks that they send
 unfoldable pub sentOver : List ℕ → List Turn → List ℕ
 sentOver v [] = []
-sentOver v (c ∷ cs) = sentBy (lending v c) ++ sentOver (serve (lending v c) .vectors) cs
+sentOver v (c ∷ cs) = sentBy (tableOnly (lending v c)) ++ sentOver (serve (lending v c) .vectors) cs
 
 -- no number is there twice
 abbrev pub Once : List ℕ → Type 0

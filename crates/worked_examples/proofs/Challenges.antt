@@ -20,7 +20,7 @@ use Rattle.answering.specs.Answer.{answerBytes}
 use Rattle.requests.specs.Request.{dialectOf, underCx}
 use Rattle.calling.specs.Call.{Answered, Refused}
 use Rattle.calling.specs.Lent.{Lent, lent}
-use Rattle.calling.specs.Serve.{Served, serve}
+use Rattle.calling.specs.Serve.{Served, serveTable}
 use Rattle.worked_examples.proofs.Computed.{known, come, roomy, registered-sound}
 use Rattle.worked_examples.proofs.Sample.{block, header, person, subscriber, vector, room, request, reply, assignment, digest}
 use Rattle.worked_examples.proofs.Sample.{authenticationOf, authentication, item, challenges, one, s, z, opened}
@@ -101,7 +101,7 @@ unfolding opened stored unsent
 unsent-sound = refl
 
 to-the-byte :
-    serve (lent mar table [] unsent room underCx)
+    serveTable (lent mar table [] unsent room underCx)
     ≡ left (header 1 0 ++ line 1 1 0x73 (0xB9 ∷ 0xFC ∷ 0xFE ∷ 0xFE ∷ [])) (stored 1 (0x42 ∷ 0x98 ∷ 0x83 ∷ 0x7B ∷ [])) maa
 unfolding opened mar maa stored line table unsent
 to-the-byte = come (lent mar table [] unsent room underCx) roomy table-sound unsent-sound refl
@@ -122,7 +122,7 @@ abbrev calling : Files → List ℕ → Lent
 calling f req = lent req (f .table) [] (f .vectors) room underCx
 
 abbrev Comes : Row → Type 0
-Comes (row f req y) = serve (calling f req) ≡ y
+Comes (row f req y) = serveTable (calling f req) ≡ y
 
 -- what is to be computed of a row: the same with these answers
 abbrev Computes : Row → Type 0
@@ -201,24 +201,27 @@ unfolding opened mixed
 numbers-come = all-come numbers (refl, (refl, (refl, (refl, tt))))
 
 -- these four by name
-pub one-sent : serve (lent (authentication 1 s) (one 0 1 s) [] (vector 0 0x70 1) room underCx) ≡ left (one 0 1 s) (vector 1 0x70 1) (challenges 1 (item 1 1))
+pub one-sent : serveTable (lent (authentication 1 s) (one 0 1 s) [] (vector 0 0x70 1) room underCx)
+    ≡ left (one 0 1 s) (vector 1 0x70 1) (challenges 1 (item 1 1))
 one-sent = numbers-come .0
 
-pub two-left : serve (lent (authentication 3 s) (one 0 1 s) [] (mixed 0 0 0) room underCx)
+pub two-left : serveTable (lent (authentication 3 s) (one 0 1 s) [] (mixed 0 0 0) room underCx)
     ≡ left (one 0 1 s) (mixed 0 1 1) (challenges 2 (item 1 5 ++ item 2 9))
 two-left = numbers-come .1 .0
 
 pub none-asked :
-    serve (lent (authentication 0 s) (one 0 1 s) [] (vector 0 0x70 1) room underCx) ≡ left (one 0 1 s) (vector 0 0x70 1) (reply 303 (numberBytes 268 5012) [])
+    serveTable (lent (authentication 0 s) (one 0 1 s) [] (vector 0 0x70 1) room underCx)
+    ≡ left (one 0 1 s) (vector 0 0x70 1) (reply 303 (numberBytes 268 5012) [])
 none-asked = numbers-come .1 .1 .0
 
 pub none-unused :
-    serve (lent (authentication 1 s) (one 0 1 s) [] (vector 1 0x70 1) room underCx) ≡ left (one 0 1 s) (vector 1 0x70 1) (reply 303 (numberBytes 268 5012) [])
+    serveTable (lent (authentication 1 s) (one 0 1 s) [] (vector 1 0x70 1) room underCx)
+    ≡ left (one 0 1 s) (vector 1 0x70 1) (reply 303 (numberBytes 268 5012) [])
 none-unused = numbers-come .1 .1 .1 .0
 
 -- "No vector is ever sent twice": the same MAR again, over what the first call left
 abbrev again : List ℕ → Served → Served
-again req y = serve (lent req (y .table) [] (y .vectors) room underCx)
+again req y = serveTable (lent req (y .table) [] (y .vectors) room underCx)
 
 twice :
     again (authentication 1 s) (again (authentication 1 s) (left (one 0 1 s) (vector 0 0x70 1) []))

@@ -7,7 +7,7 @@ use Rattle.vectors.specs.VectorFile.{checkVectors}
 use Rattle.calling.specs.Lent.{Lent}
 use Rattle.calling.specs.Trial.{Trial, tried, anyHolds}
 use Rattle.calling.specs.Serve.{Served, smallBuffer, earlyTrials, fileTrials, checkValue, checkOf, trials, refused, answered, decision, serveFound}
-use Rattle.calling.specs.Serve.{serveBy, serve}
+use Rattle.calling.specs.Serve.{serveTableBy, serveTable}
 use Rattle.worked_examples.proofs.Sample.{room, one, s, opened}
 
 -- a call by what its buffer's length and its files' checks say: whether the buffer is too small, and the two answers
@@ -19,8 +19,8 @@ abbrev pub known : Bool → Checked → Checked → Lent → Served
 known small c d x = tried (refused x) (answered x (decision x (checkValue c))) (knownTrials small c d x)
 
 pub come : (x : Lent) {small : Bool} {c d : Checked} {y : Served} → smallBuffer (x .buffer) ≡ small → checkOf x ≡ c → checkVectors (x .vectors) ≡ d
-    → known small c d x ≡ y → serve x ≡ y
-unfolding serveBy serveFound
+    → known small c d x ≡ y → serveTable x ≡ y
+unfolding serveTableBy serveFound
 come x o e f g = rw (o, e, f) g
 
 -- whether it is refused, likewise

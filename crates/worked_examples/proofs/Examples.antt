@@ -11,7 +11,7 @@ use Rattle.pen.specs.Groups.{experimental, failed}
 use Rattle.requests.specs.Request.{underCx}
 use Rattle.calling.specs.Call.{Call, Answered, Refused}
 use Rattle.calling.specs.Lent.{lent}
-use Rattle.calling.specs.Serve.{serve}
+use Rattle.calling.specs.Serve.{serveTable}
 use Rattle.worked_examples.proofs.Computed.{known, come, sized, no-vectors, unregistered-sound}
 use Rattle.worked_examples.proofs.Sample.{block, header, answer, assignment, one, two, s, opened}
 
@@ -24,7 +24,7 @@ data Case : Type 0 where
 
 abbrev Right : Case → Type 0
 Right (call req table room comes after bytes) =
-    serve (lent req table [] [] (replicate room 0) underCx) ≡ record { call = comes; table = after; vectors = []; buffer = over bytes (replicate room 0) }
+    serveTable (lent req table [] [] (replicate room 0) underCx) ≡ record { call = comes; table = after; vectors = []; buffer = over bytes (replicate room 0) }
 Right (check table answer) = checkTable table 0 ≡ answer
 Right (sum b n) = sumWords b 128 ≡ n
 

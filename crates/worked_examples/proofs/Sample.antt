@@ -56,7 +56,7 @@ use Rattle.failed.specs.Failing.{headPart, alone, failedOf, sample, exampleOf, 
 use Rattle.reply.specs.Pieces.{resultBytes, frontBytes, originBytes, topBytes, identityBytes, nameBytes, dataBytes, givenBytes, flagsOf, headerBytes}
 use Rattle.answering.specs.Answer.{proxy, proxies, endBytes, restBytes, bodyBytes, answerBytes}
 use Rattle.calling.specs.Trial.{tried}
-use Rattle.calling.specs.Serve.{wrongLength, refused, answered, serveFound, serveBy}
+use Rattle.calling.specs.Serve.{wrongLength, refused, answered, serveFound, serveTableBy}
 
 -- `hss.isle` and `isle`
 unfoldable pub host : List ℕ
@@ -185,5 +185,5 @@ unfolding host realm block field wordsOf checked header subscriber person vector
     surveyOf userKnown ownerBy namedSurvey ownedSurvey assignMeant assign storedName plannedRecords carriedOut spentBy assignmentOf uarPlan sarPlan lirPlan
     marPlan planRead performedBy judgedBy decideBy numberOf resultBytes frontBytes originBytes topBytes identityBytes nameBytes dataBytes givenBytes proxy
     proxies endBytes challengeBytes keyBytes itemBytes itemsBytes numberedBytes sentBytes restBytes bodyBytes flagsOf headerBytes answerBytes tried
-    wrongLength refused answered serveFound serveBy
+    wrongLength refused answered serveFound serveTableBy
 opened = 0

@@ -1,21 +1,24 @@
--- "Try these against it": document 01's five wrong servers, four that break document 02 [1], and two that break [2]. Each is a function here, and at an input
--- that is computed its outcome does not meet the promise.
-use Rattle.octets.specs.Standard.{ℕ, zero, suc, _≤_, _≡_, refl, ap, _∙_, _≢_, List, [], _∷_, _++_, false, arith, getD, take}
+-- "Try these against it": document 01's five wrong servers, four that break document 02 [1], two that break [2], and three that break [8]. Each is a function
+-- here, and at an input that is computed its outcome does not meet the promise.
+use Rattle.octets.specs.Standard.{ℕ, zero, suc, _≤_, _≡_, refl, sym, ap, _∙_, _≢_, List, [], _∷_, _++_, false, arith, length, getD, take, drop}
 use Rattle.octets.specs.Run.{over}
-use Rattle.blocks.specs.declared.Checked.the-variants.{Sound}
+use Rattle.blocks.specs.declared.Checked.the-variants.{Sound, Bad}
+use Rattle.table.specs.Area.{sizeIn, tableIn, checkArea}
+use Rattle.table.proofs.Areas.{check-exact, sound-size-in}
 use Rattle.vectors.specs.VectorFile.{checkVectors}
 use Rattle.pen.specs.Bytes.{vendorHead, vendorBytes, numberBytes, vendorNumber}
 use Rattle.pen.specs.Groups.{failed}
 use Rattle.requests.specs.Request.{underCx}
-use Rattle.calling.specs.Lent.{Lent, lent}
-use Rattle.calling.specs.Serve.{Served, serve}
-use Rattle.calling.specs.Call.{Answered}
+use Rattle.calling.specs.Lent.{Lent, lent, holding}
+use Rattle.calling.specs.Serve.{Served, checkOf, serveTable, serve}
+use Rattle.calling.specs.Call.{Answered, Refused}
+use Rattle.calling.proofs.Areas.{served-rest, serve-sound, alike-call}
 use Rattle.ndushavire.specs.Word.{word, checkWord, callWord}
 use Rattle.ndushavire.specs.Reads.{placeIn}
 use Rattle.ndushavire.specs.Promise.{CheckPromise, CheckVectorsPromise, DecidePromise}
 use Rattle.worked_examples.proofs.Computed.{known, come, roomy, no-vectors, registered-sound, unregistered-sound}
 use Rattle.worked_examples.proofs.Sample.{room, request, reply, answer, common, assignment, authentication, vector, item, challenges, one, waiting}
-use Rattle.worked_examples.proofs.Sample.{two, s, z, opened}
+use Rattle.worked_examples.proofs.Sample.{person, two, s, z, opened}
 
 -- what a call leaves
 record CallLeft : Type 0 where
@@ -52,11 +55,11 @@ comes after bytes = record { call = Answered (record { length = 116; place = 0 }
 
 removal-served : serve removal ≡ comes (one 0 0 []) (answer (numberBytes 268 2001) [])
 unfolding opened removal
-removal-served = come removal roomy registered-sound no-vectors refl
+removal-served = serve-sound removal 1 registered-sound ∙ come removal roomy registered-sound no-vectors refl
 
 question-served : serve question ≡ comes (one 0 1 s) (answer (numberBytes 268 5012) [])
 unfolding opened question
-question-served = come question roomy registered-sound no-vectors refl
+question-served = serve-sound question 1 registered-sound ∙ come question roomy registered-sound no-vectors refl
 
 -- What the promise leaves of the removal: the word 116, state 0 in the record, and 2001, whose last byte is 209, in the answer; of the other 5012, whose last
 -- byte is 148.
@@ -150,10 +153,11 @@ abbrev Checker : Type 0
 Checker = List ℕ → List ℕ → ℕ
 
 count-fails : (f : Checker) → f (one 0 1 s) [] ≢ word 0 0 1 → CheckPromise (one 0 1 s) [] (f (one 0 1 s) []) → ⊥
-count-fails f h p = h (p .answer ∙ ap (checkWord 5) registered-sound)
+count-fails f h p =
+    h (p .answer ∙ ap (checkWord 5) (check-exact (one 0 1 s) 0 (sound-size-in (one 0 1 s) 0 1 registered-sound) ∙ registered-sound))
 
 block-fails : (f : Checker) → f two [] ≢ word 5 0 2 → CheckPromise two [] (f two []) → ⊥
-unfolding opened
+unfolding opened checkArea tableIn sizeIn
 block-fails f h p = h (p .answer)
 
 -- .. and of the check of vectors, any word but the number of blocks of a sound file, and any but the first bad block of another
@@ -183,7 +187,7 @@ challenge-served : serve challenge ≡ record {
   buffer = over (challenges 1 (item 1 1)) room;
 }
 unfolding opened challenge
-challenge-served = come challenge roomy unregistered-sound card-sound refl
+challenge-served = serve-sound challenge 1 unregistered-sound ∙ come challenge roomy unregistered-sound card-sound refl
 
 nought-served : serve nought ≡ record {
   call = Answered (record { length = 116; place = 0 });
@@ -192,7 +196,7 @@ nought-served : serve nought ≡ record {
   buffer = over (reply 303 (numberBytes 268 5012) []) room;
 }
 unfolding opened nought
-nought-served = come nought roomy unregistered-sound card-sound refl
+nought-served = serve-sound nought 1 unregistered-sound ∙ come nought roomy unregistered-sound card-sound refl
 
 -- Whether the vector is used, whether the record is pending, and the number that the answer says is sent.
 used : List ℕ → ℕ
@@ -252,7 +256,9 @@ second =
 
 faulty-call : serve faulty .call ≡ Answered (record { length = 140; place = 144 })
 unfolding opened faulty
-faulty-call = ap (λ (y : Served). y .call) (come faulty {y = known false (Sound 1) (Sound 0) faulty} roomy registered-sound no-vectors refl)
+faulty-call =
+    ap (λ (y : Served). y .call)
+    (serve-sound faulty 1 registered-sound ∙ come faulty {y = known false (Sound 1) (Sound 0) faulty} roomy registered-sound no-vectors refl)
 
 second-served : serve second ≡ record {
   call = Answered (record { length = 140; place = 0 });
@@ -261,7 +267,7 @@ second-served : serve second ≡ record {
   buffer = over (answer (numberBytes 268 5009) (failed (vendorHead 601 13 ++ (0x62 ∷ [])))) room;
 }
 unfolding opened second
-second-served = come second roomy registered-sound no-vectors refl
+second-served = serve-sound second 1 registered-sound ∙ come second roomy registered-sound no-vectors refl
 
 module _ (f : Server) (n : ℕ) where
   faulty-place : Meets f n faulty → placeIn (f n faulty .word) ≡ 144
@@ -277,3 +283,54 @@ misplaced-fails f n h p = h (faulty-place f n p)
 -- 11. one that says a place where a decision, and no reading rule, blames an AVP, though Failed-AVP holds it
 blaming-fails : (f : Server) (n : ℕ) → placeIn (f n second .word) ≢ 0 → Meets f n second → ⊥
 blaming-fails f n h p = h (second-place f n p)
+
+-- Document 02 [8]. The removal over an area that is longer than its table: behind the one record stand a record of the same line, and a last piece. As a table
+-- the area has not the length of its count.
+behind : List ℕ
+behind = person 1 0x61 0x70 1 s ++ (1 ∷ 2 ∷ 3 ∷ [])
+
+spacious : Lent
+spacious = holding removal (one 0 1 s ++ behind)
+
+spacious-alike : take (sizeIn (one 0 1 s ++ behind)) (one 0 1 s) ≡ take (sizeIn (one 0 1 s ++ behind)) (one 0 1 s ++ behind)
+unfolding opened behind sizeIn
+spacious-alike = refl
+
+-- the call is the one over the table alone, and what is behind the table stays
+spacious-call : serve spacious .call ≡ Answered (record { length = 116; place = 0 })
+unfolding spacious removal
+spacious-call = sym (alike-call spacious (one 0 1 s) spacious-alike .call) ∙ ap (λ (y : Served). y .call) removal-served
+
+spacious-size : length (tableIn (spacious .table)) ≡ 1024
+unfolding opened spacious behind tableIn sizeIn
+spacious-size = refl
+
+spacious-behind : drop 1024 (serve spacious .table) ≡ drop 1024 (spacious .table)
+spacious-behind =
+    ap (λ (m : ℕ). drop m (serve spacious .table)) (sym spacious-size) ∙ served-rest spacious ∙ ap (λ (m : ℕ). drop m (spacious .table)) spacious-size
+
+-- 12. one that looks past the count, and serves the whole area as if it were the table: it refuses by 5
+whole : Server
+whole n x =
+    record { word = callWord (serveTable x .call); table = serveTable x .table; vectors = serveTable x .vectors; buffer = serveTable x .buffer }
+
+spacious-long : checkOf spacious ≡ Bad 0
+unfolding opened spacious behind
+spacious-long = refl
+
+whole-refuses : serveTable spacious .call ≡ Refused 5 0
+unfolding opened spacious removal
+whole-refuses =
+    ap (λ (y : Served). y .call) (come spacious {y = known false (Bad 0) (Sound 0) spacious} roomy spacious-long no-vectors refl)
+
+whole-fails : (n : ℕ) → Meets whole n spacious → ⊥
+unfolding whole
+whole-fails n p = omega (arith, sym (ap callWord whole-refuses) ∙ p .word-is ∙ ap callWord spacious-call)
+
+-- 13. one whose word is another over the two areas with the same table at the front, whatever it looks at
+looking-fails : (f : Server) (n : ℕ) → f n spacious .word ≢ f n removal .word → Meets f n spacious → Meets f n removal → ⊥
+looking-fails f n h p q = h (p .word-is ∙ ap callWord spacious-call ∙ sym (removal-word f n q))
+
+-- 14. one that changes a byte behind the table, as one that rewrites every record of the line that the area holds
+spilling-fails : (f : Server) (n : ℕ) → drop 1024 (f n spacious .table) ≢ drop 1024 (spacious .table) → Meets f n spacious → ⊥
+spilling-fails f n h p = h (ap (drop 1024) (p .table-is) ∙ spacious-behind)

@@ -1,4 +1,4 @@
-use Rattle.calling.proofs.Calls.{refuses, passes, call-serves}
+use Rattle.calling.proofs.Areas.{area-front, area-serves}
 use Rattle.octets.specs.Standard.{needs}
 use Rattle.calling.proofs.call.Statement.{statement}
 use Rattle.calling.proofs.call.Tie as tie
@@ -9,11 +9,9 @@ call-spec =
     (tie.spec
     (λ c κs. search needs)
     (λ c. search needs)
-    (λ c. search (needs, refuses))
+    (λ c. search (needs, area-front))
     (λ c κs. search needs)
-    (λ c κs. search needs)
-    (λ c κs. search (needs, passes))
     (λ c. search needs)
     (λ c. search needs)
     (λ c. search needs)
-    (λ c. search (needs, call-serves)))
+    (λ c. search (needs, area-serves)))

@@ -1,4 +1,4 @@
-use Rattle.lines.proofs.Written.{ten-places, number-room, number-wrote}
+use Rattle.lines.proofs.Written.{twenty-places, number-room, number-wrote}
 use Rattle.octets.specs.Standard.{needs}
 use Rattle.lines.proofs.put_number.Statement.{statement}
 use Rattle.lines.proofs.put_number.Tie as tie
@@ -12,4 +12,4 @@ put-number-spec =
     (λ c. search needs)
     (λ c κs. search (needs, number-room))
     (λ c. search needs)
-    (λ c. search (needs, ten-places, number-wrote)))
+    (λ c. search (needs, twenty-places, number-wrote)))

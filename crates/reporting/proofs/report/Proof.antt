@@ -1,4 +1,5 @@
-use Rattle.reporting.proofs.Whole.{area-short, words-whole, reports-all}
+use Rattle.reporting.proofs.Areas.{area-reports}
+use Rattle.calling.proofs.Areas.{area-front}
 use Rattle.octets.specs.Standard.{needs}
 use Rattle.reporting.proofs.report.Statement.{statement}
 use Rattle.reporting.proofs.report.Tie as tie
@@ -7,15 +8,12 @@ pub report-spec : {M : Type 1} → statement M
 report-spec =
     tie.close
     (tie.spec
-    (λ c. search (needs, area-short))
-    (λ c κs. search needs)
-    (λ c κs. search needs)
     (λ c κs. search needs)
     (λ c. search needs)
-    (λ c κs. search (needs, words-whole))
+    (λ c. search (needs, area-front))
     (λ c κs. search needs)
     (λ c. search needs)
     (λ c. search needs)
     (λ c. search needs)
     (λ c. search needs)
-    (λ c. search (needs, reports-all)))
+    (λ c. search (needs, area-reports)))

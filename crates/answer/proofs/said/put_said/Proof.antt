@@ -13,6 +13,7 @@ put-said-spec =
     (λ c. search (needs, answer-within, said-answer))
     (λ c. search needs)
     (λ c. search needs)
+    (λ c. search needs)
     (λ c κs. search needs)
     (λ c. search needs)
     (λ c. search (needs, said-refusal)))

@@ -10,11 +10,11 @@ use Rattle.requests.proofs.walk.walk_message.Statement.{statement}
 use Rattle.requests.proofs.walk.walk_message.Tie as tie
 
 abbrev Inv-loop : tie.InvT-loop
-Inv-loop s dialect places₀ absent at₀ places at =
-    (length places ≡ kinds) × (judge dialect at (walk (drop at s)) (seenOf s places) ≡ judge dialect 20 (walk (drop 20 s)) nothing)
+Inv-loop s dialect places₀ absent found₀ at₀ found at =
+    (length found ≡ kinds) × (judge dialect at (walk (drop at s)) (seenOf s found) ≡ judge dialect 20 (walk (drop 20 s)) nothing)
 
 abbrev μ-loop : tie.MeasureT-loop
-μ-loop s dialect places₀ absent at₀ places at = length s - at
+μ-loop s dialect places₀ absent found₀ at₀ found at = length s - at
 
 pub walk-message-spec : {M : Type 1} → statement M
 walk-message-spec =

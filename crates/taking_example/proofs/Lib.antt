@@ -1,0 +1,4 @@
+pub mod Dropped
+pub mod Sample
+pub mod Takers
+pub mod Worked
