@@ -1,9 +1,10 @@
 -- Rows of block numbers that are like each other one by one: what a look-up finds first in them, and what is left of them by a test.
-use Rattle.octets.specs.Standard.{ℕ, zero, suc, _+_, _≤_, Bool, true, false, cond, _&&_, _≡_, refl, _∙_, List, [], _∷_, _++_, arith, add-suc}
+use Rattle.octets.specs.Standard.{ℕ, zero, suc, _+_, _≤_, Bool, true, false, cond, _&&_, _≡_, refl, sym, _∙_, List, [], _∷_, _++_, arith, add-suc}
 use Rattle.octets.specs.Standard.{suc-add}
 use Rattle.lookup.specs.Find.{firstFrom, isAt}
 use Rattle.lookup.specs.declared.Found.{Found}
 use Rattle.lookup.specs.declared.Found.the-variants.{At, Nothing}
+use Rattle.diameter.specs.Put.{All}
 use Rattle.assignment.specs.Assignment.{every, isEmpty}
 use Rattle.seen_alike.specs.Shown.{numbersUpTo, Each, FoundAlike}
 
@@ -43,6 +44,14 @@ first-head p (suc n) =
     go : (x : Bool) → orElse (firstFrom p n 1) (cond x (At (suc n)) Nothing) ≡ orElse (firstFrom p n 1) (headOf (cond x (suc n ∷ []) []))
     go true = refl
     go false = refl
+
+-- what holds of every number of a row holds of the one that is found
+head-all : (P : ℕ → Type 0) (ks : List ℕ) (k : ℕ) → All P ks → headOf ks ≡ At k → P k
+head-all P [] k a e = let z : _≡_ {A = ℕ} 0 1 = cc in absurd (omega arith)
+head-all P (j ∷ ks) k a e = let i : j ≡ k = cc in rw (← i) (a .0)
+
+pub first-all : (P : ℕ → Type 0) (p : ℕ → Bool) (n k : ℕ) → All P (numbersUpTo p n) → firstFrom p n 1 ≡ At k → P k
+first-all P p n k a e = head-all P (numbersUpTo p n) k a (sym (first-head p n) ∙ e)
 
 -- what a test leaves of a row
 kept : (ℕ → Bool) → List ℕ → List ℕ

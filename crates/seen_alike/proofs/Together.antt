@@ -61,7 +61,7 @@ module _ (count : ℕ) where
   all-append P [] ys a b = b
   all-append P (x ∷ xs) ys a b = (a .0, all-append P xs ys (a .1) b)
 
-  numbers-ranged : (p : ℕ → Bool) (n : ℕ) → n ≤ count → All (Ranged count) (numbersUpTo p n)
+  pub numbers-ranged : (p : ℕ → Bool) (n : ℕ) → n ≤ count → All (Ranged count) (numbersUpTo p n)
   unfolding numbersUpTo
   numbers-ranged p zero h = tt
   numbers-ranged p (suc n) h = all-append (Ranged count) (numbersUpTo p n) _ (numbers-ranged p n (omega arith)) (go (p (suc n)))

@@ -1,0 +1,4 @@
+pub mod Calls
+pub mod Lines
+pub mod Records
+pub mod Sights
