@@ -7,7 +7,7 @@ use Rattle.table.specs.SoundTable.{SoundTable}
 use Rattle.diameter.specs.Message.{commandOf}
 use Rattle.calling.specs.Call.{Answer, Answered}
 use Rattle.calling.specs.Lent.{Lent, tableOnly, dialectIn}
-use Rattle.calling.specs.Serve.{Served, checkOf, answerOf, decision, refused, answered, serveTable, serve}
+use Rattle.calling.specs.Serve.{Served, checkOf, checkValue, answerOf, decision, refused, answered, serveTable, serve}
 use Rattle.calling.proofs.Kept.{serve-by}
 use Rattle.seen_alike.proofs.Plans.{place-same}
 use Rattle.seen_alike.proofs.Answers.{bytes-same}
@@ -64,3 +64,11 @@ module _ (x y : Lent) (count many : ℕ) (first : checkArea (x .table) (length (
             l .told ∙ (λ i. record { length = length (bytes i); place = place i }) ∙ sym (r .told);
         bytes = l .bytes ∙ bytes ∙ sym (r .bytes);
       }
+
+-- a table that is answered for is sound
+pub is-sound : (x : Lent) (a : Answer) → serve x .call ≡ Answered a
+    → checkArea (x .table) (length (x .profile)) ≡ Sound (checkValue (checkArea (x .table) (length (x .profile))))
+unfolding refused checkArea
+is-sound x a =
+    serve-by (tableOnly x) (λ (s : Served). s .call ≡ Answered a → checkOf (tableOnly x) ≡ Sound (checkValue (checkOf (tableOnly x))))
+    (λ r f g e. let n : _≡_ {A = ℕ} 0 1 = cc in absurd (omega arith)) (λ k e. k .table)

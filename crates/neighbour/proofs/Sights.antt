@@ -77,16 +77,15 @@ module _ (x y : Lent) (count many : ℕ) (first : SoundTable (tableIn (x .table)
   is-public : (name : List ℕ) → SameHaving x y count many publicOf name
       → All (λ (b : List ℕ). SameHaving x y count many privateOf (privateOf b)) (having publicOf name (recordsOf x count)) → Public name
   unfolding findPublic publicIs publicAt privateAt
-  is-public name e own =
-      (
-        first-each Like (publicIs t name) (publicIs u name) count many (same-rows publicOf name e),
-        λ k f.
+  is-public name e own = (
+    first-each Like (publicIs t name) (publicIs u name) count many (same-rows publicOf name e),
+    λ k f.
         is-private (privateAt t k)
         (first-all (λ (j : ℕ). SameHaving x y count many privateOf (privateOf (blockOf t j))) (publicIs t name) count k
         (all-blocks (λ (b : List ℕ). SameHaving x y count many privateOf (privateOf b)) (numbersUpTo (publicIs t name) count)
         (rw (having-numbers publicOf name t count) at own))
         f),
-      )
+  )
 
   are-public : (avps : List (List ℕ)) → All (SameHaving x y count many publicOf) (map dataOf avps)
       → All (λ (name : List ℕ). All (λ (b : List ℕ). SameHaving x y count many privateOf (privateOf b)) (having publicOf name (recordsOf x count))) (map dataOf avps)

@@ -7,8 +7,9 @@ use mathlib.Core.Path.{_≡_}
 use Rattle.record.specs.Fields.{publicOf, privateOf}
 use Rattle.table.specs.Area.{tableIn}
 use Rattle.diameter.specs.Put.{All}
-use Rattle.calling.specs.Lent.{Lent, asking, dialectIn}
-use Rattle.reporting.specs.Row.{nextOver}
+use Rattle.reading.specs.declared.Terms.{Terms}
+use Rattle.calling.specs.Lent.{Lent, lent, dialectIn}
+use Rattle.calling.specs.Serve.{serve}
 use Rattle.demands.specs.Frame.{subscriptionOf}
 use Rattle.neighbour.specs.Seen.{SameLine, having, recordsOf, publicsOf, usersOf}
 
@@ -26,8 +27,25 @@ pub data OtherLines (file other mine : List ℕ) : List (List ℕ) → List (Lis
   changed : (b c : List ℕ) {bs cs : List (List ℕ)} → privateOf b ≢ mine → privateOf c ≢ mine → OtherLines file other mine bs cs
       → OtherLines file other mine (b ∷ bs) (c ∷ cs)
 
--- A row of calls about others: none of them asks about my subscription, as the table then is.
-abbrev pub AboutOthers : List ℕ → ℕ → Lent → List (List ℕ) → Type 0
+-- Calls before mine, each with a request, a buffer and terms of its own: they find the table and the vectors as the call before left them, and I find them as
+-- the last one did.
+pub record Turn : Type 0 where
+  pub request : List ℕ
+  pub buffer : List ℕ
+  pub terms : Terms
+
+abbrev pub turnOver : Lent → Turn → Lent
+turnOver x c = lent (c .request) (x .table) (x .profile) (x .vectors) (c .buffer) (c .terms)
+
+abbrev pub afterTurn : Lent → Turn → Lent
+afterTurn x c = lent (x .request) (serve (turnOver x c) .table) (x .profile) (serve (turnOver x c) .vectors) (x .buffer) (x .terms)
+
+unfoldable pub afterTurns : Lent → List Turn → Lent
+afterTurns x [] = x
+afterTurns x (c ∷ cs) = afterTurns (afterTurn x c) cs
+
+-- they are about others: none of them asks about my subscription, as the table then is
+abbrev pub AboutOthers : List ℕ → ℕ → Lent → List Turn → Type 0
 AboutOthers mine count x [] = Unit
-AboutOthers mine count x (p ∷ ps) =
-    (subscriptionOf (dialectIn (asking x p)) p (tableIn (x .table)) count ≢ some mine) × AboutOthers mine count (nextOver x p) ps
+AboutOthers mine count x (c ∷ cs) =
+    (subscriptionOf (dialectIn (turnOver x c)) (c .request) (tableIn (x .table)) count ≢ some mine) × AboutOthers mine count (afterTurn x c) cs
