@@ -1,0 +1,7 @@
+pub mod Before
+pub mod Calls
+pub mod Lines
+pub mod Neighbour
+pub mod Others
+pub mod Records
+pub mod Sights
