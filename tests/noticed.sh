@@ -29,7 +29,8 @@ for of in tables:EqualIdentitiesTaken tables:PrefixTaken vectors:XresOf3Taken ve
     demand3:MarkIgnored demand3:ReservedFlagsOfUnknownIgnored demand3:FaultyRequestUsesVector demand3:PlaceWithoutUnknown \
     tables:LongerAreaRefused calls:LongerAreaNotDecided reports:LongerAreaNotReported takes:EqualIssueTaken takes:FoundUpToOldCount \
     takes:FreshOfEdition1Taken takes:RefusedTakeWrites takes:RestOfAreaCleared runs:TakeWritesNothing \
-    neighbours:NameOfAnySubscription neighbours:FreeOfNumberCounts neighbours:StaleRecordsDecided neighbours:RestOfBufferCleared \
+    neighbours:NameOfAnySubscription neighbours:FreeOfNumberCounts neighbours:StaleRecordsDecided neighbours:LastRecordNotFound \
+    neighbours:IdentityWithoutCase neighbours:IdentityEndsAtZero neighbours:SessionIdAnywhere neighbours:RestOfBufferCleared \
     breaches:KeepTurned breaches:RoamingBitNotAsked breaches:LastNameOfSubscription \
     demand3:FirstUnknownPlaced demand3:LastMarkedPlaced runs:UsedSentAgain runs:RewritingFreesVectors; do
     ends 1 "${of%:*}" "$reference" outcomes --fault "${of#*:}"

@@ -17,7 +17,7 @@ use crate::message::Message;
 use crate::serve;
 use crate::slip::Slip;
 use crate::stats::{least, ROUNDS};
-use crate::table::{Table, EDITION, EDITION_2, ISSUE};
+use crate::table::{header, Table, EDITION, EDITION_2, ISSUE};
 use crate::verdict::{Decision, Why};
 
 /// What a call gave: the word, and the answer's bytes if it was answered.
@@ -239,6 +239,9 @@ pub fn stats(seed: u64, numbers: Range<u64>) -> bool {
     !tally.is_thin(least)
 }
 
+const OVER_256: &str = "decided: over 256 records or more on a side";
+const OVER_2048: &str = "decided: over 2,048 records or more on a side";
+
 /// What an answered pair is counted under: command and result, and what the two sides differ in.
 fn rows(calls: &[Case; 2], own: &[Given; 2], why: &Why) -> Vec<String> {
     if found(own) == Found::Aside {
@@ -251,8 +254,15 @@ fn rows(calls: &[Case; 2], own: &[Given; 2], why: &Why) -> Vec<String> {
     }];
     if let Why::Decided(decision) = why {
         rows.extend(asked(decision, &calls[0].held(Slice::Request)));
-        if (0..2).all(|side| Table(&calls[side].held(Slice::Table)).records().next().is_some()) {
-            rows.push(format!("decided: over edition {}, records on both sides", calls[0].held(Slice::Table)[EDITION]));
+        let counts = [0, 1].map(|side| word_at(&calls[side].held(Slice::Table), header::COUNT));
+        if counts.iter().all(|count| *count > 0) {
+            let edition = calls[0].held(Slice::Table)[EDITION];
+            rows.push(format!("decided: over edition {edition}, records on both sides"));
+        }
+        for (least, row) in [(256, OVER_256), (2048, OVER_2048)] {
+            if counts.iter().any(|count| *count >= least) {
+                rows.push(row.to_string());
+            }
         }
     }
     rows.extend(differences(calls).into_iter().map(|what| format!("differs: {what}")));
@@ -379,7 +389,10 @@ fn wanted() -> Vec<(String, u64)> {
         "what is past the count",
     ];
     wanted.extend(differences.map(|what| format!("differs: {what}")));
-    wanted.into_iter().map(|row| (row, 1000)).collect()
+    wanted.push(OVER_256.to_string());
+    let mut wanted: Vec<(String, u64)> = wanted.into_iter().map(|row| (row, 1000)).collect();
+    wanted.push((OVER_2048.to_string(), 10_000));
+    wanted
 }
 
 /// What came of the pairs of a breach: how many were answered on both sides, and in how many of them the answers differ.
