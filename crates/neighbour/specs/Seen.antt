@@ -52,7 +52,7 @@ having field name (b ∷ bs) = cond (same (field b) name) (b ∷ having field na
 abbrev pub recordsOf : Lent → ℕ → List (List ℕ)
 recordsOf x count = records (tableIn (x .table)) count
 
--- "every public identity in the request": of a SAR all that stand in it, of the others the one that reading takes; the private identity "that the request
+-- "every public identity in the request": of a SAR all that stand in it, of a UAR or LIR its one; the private identity "that the request
 -- names" is its User-Name, where the command has one. A request with a fault names none: nothing is looked up for it.
 abbrev pub publicsIn : Dialect → List ℕ → Judged → List (List ℕ)
 publicsIn d req (bad v) = []
