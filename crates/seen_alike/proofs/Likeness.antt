@@ -1,5 +1,6 @@
 -- Two sound tables of as many records that agree in every byte that a request can see: every call comes to the same, with the same vectors and the same
--- buffer, and leaves tables that are alike again. What `AlikeTables`, `holding` and `SameCall` mean is in specs/Alike.
+-- buffer, and leaves tables that are alike again. What `AlikeTables` means is in specs/Alike; `holding` and `SameCall`
+-- are calling's, in Lent and Serve.
 use Rattle.octets.specs.Standard.{ℕ, Bool, true, false, cond, _≡_, refl, sym, _∙_, ap, List, [], _∷_, length}
 use Rattle.octets.proofs.Numbers.{Bytes}
 use Rattle.table.specs.SoundTable.{SoundTable}

@@ -41,20 +41,21 @@ unfoldable pub numbersUpTo : (ℕ → Bool) → ℕ → List ℕ
 numbersUpTo p zero = []
 numbersUpTo p (suc n) = numbersUpTo p n ++ cond (p (suc n)) (suc n ∷ []) []
 
--- Two rows are like each other one by one; two look-ups are: both find nothing, or records that are like each other; two block numbers are: both are 0, which
--- is no record, or they are those of such records.
+-- two rows are like each other one by one
 abbrev pub Each : {X : Type 0} → (X → X → Type 0) → List X → List X → Type 0
 Each Like [] [] = Unit
 Each Like [] (y ∷ ys) = ⊥
 Each Like (x ∷ xs) [] = ⊥
 Each Like (x ∷ xs) (y ∷ ys) = Like x y × Each Like xs ys
 
+-- two look-ups find nothing, or records that are like each other
 abbrev pub FoundAlike : (ℕ → ℕ → Type 0) → Found → Found → Type 0
 FoundAlike Like (At j) (At k) = Like j k
 FoundAlike Like (At j) Nothing = ⊥
 FoundAlike Like Nothing (At k) = ⊥
 FoundAlike Like Nothing Nothing = Unit
 
+-- two block numbers are 0, which is no record, or those of such records
 abbrev pub BlockAlike : (ℕ → ℕ → Type 0) → ℕ → ℕ → Type 0
 BlockAlike Like j k = ((j ≡ 0) × (k ≡ 0)) ⊎ Like j k
 
