@@ -22,7 +22,14 @@ early i a b = rw (lt-leb i 7 (omega arith), lt-leb 408 i (omega arith), lt-leb 5
 
 late : (i : ℕ) → 404 ≤ i → i < 408 → recordApart i ≡ false
 late i a b =
-    rw (lt-leb i 7 (omega arith), lt-leb 408 i (omega arith), lt-leb 508 i (omega arith), lt-leb i 403 (omega arith), and-false (leb 4 i), and-false (leb 400 i))
+    rw (
+      lt-leb i 7 (omega arith),
+      lt-leb 408 i (omega arith),
+      lt-leb 508 i (omega arith),
+      lt-leb i 403 (omega arith),
+      and-false (leb 4 i),
+      and-false (leb 400 i),
+    )
 
 ahead : (i : ℕ) → 12 ≤ i → i < 400 → headerApart i ≡ false
 ahead i a b = rw (lt-leb i 11 (omega arith), lt-leb 408 i (omega arith), lt-leb 508 i (omega arith), and-false (leb 8 i))

@@ -1,6 +1,5 @@
 -- Two calls that have in common what 02 [9] asks see the same of their tables.
-use Rattle.octets.specs.Standard.{ℕ, true, false, _≡_, _≢_, List, [], _∷_, map, arith, eqb}
-use Rattle.octets.specs.Standard.{eq-eqb, ne-eqb}
+use Rattle.octets.specs.Standard.{ℕ, true, _≡_, List, [], _∷_, map, arith}
 use Rattle.octets.specs.Name.{same}
 use Rattle.record.specs.Fields.{publicOf, privateOf}
 use Rattle.blocks.specs.Blocks.{blockOf}
@@ -14,7 +13,7 @@ use Rattle.lookup.specs.declared.Found.the-variants.{At}
 use Rattle.diameter.specs.Avp.{dataOf}
 use Rattle.diameter.specs.Message.{bodyOf}
 use Rattle.diameter.specs.Put.{All}
-use Rattle.reading.specs.Kinds.{userName, publicIdentity}
+use Rattle.reading.specs.Kinds.{userName}
 use Rattle.reading.specs.Rules.{Seen}
 use Rattle.reading.specs.declared.Dialect.{Dialect}
 use Rattle.requests.specs.Judged.{fine}
@@ -24,9 +23,10 @@ use Rattle.seen_alike.specs.Shown.{SameSight, numbersUpTo, Each, FoundAlike}
 use Rattle.seen_alike.proofs.Rows.{first-each, first-all}
 use Rattle.seen_alike.proofs.Together.{Ranged, numbers-ranged}
 use Rattle.seen_alike.proofs.Plans.{Asks}
-use Rattle.neighbour.specs.Seen.{SameLine, having, recordsOf, publicsIn, usersIn, SameHaving, SameSeen}
+use Rattle.neighbour.specs.Seen.{SameLine, having, recordsOf, usersIn, SameHaving, SameSeen}
 use Rattle.neighbour.proofs.Records.{Roomy, having-numbers}
 use Rattle.neighbour.proofs.Lines.{line-shows, header-shows}
+use Rattle.neighbour.proofs.Named.{taken-among}
 
 module _ (x y : Lent) (count many : ℕ) (first : SoundTable (tableIn (x .table)) count) (second : SoundTable (tableIn (y .table)) many) where
   abbrev t : List ℕ
@@ -74,8 +74,11 @@ module _ (x y : Lent) (count many : ℕ) (first : SoundTable (tableIn (x .table)
   all-blocks P [] a = tt
   all-blocks P (k ∷ ks) a = (a .0, all-blocks P ks (a .1))
 
-  is-public : (name : List ℕ) → SameHaving x y count many publicOf name
-      → All (λ (b : List ℕ). SameHaving x y count many privateOf (privateOf b)) (having publicOf name (recordsOf x count)) → Public name
+  -- the owners of the records of a public identity
+  abbrev Owners : List ℕ → Type 0
+  Owners name = All (λ (b : List ℕ). SameHaving x y count many privateOf (privateOf b)) (having publicOf name (recordsOf x count))
+
+  is-public : (name : List ℕ) → SameHaving x y count many publicOf name → Owners name → Public name
   unfolding findPublic publicIs publicAt privateAt
   is-public name e own = (
     first-each Like (publicIs t name) (publicIs u name) count many (same-rows publicOf name e),
@@ -87,8 +90,7 @@ module _ (x y : Lent) (count many : ℕ) (first : SoundTable (tableIn (x .table)
         f),
   )
 
-  are-public : (avps : List (List ℕ)) → All (SameHaving x y count many publicOf) (map dataOf avps)
-      → All (λ (name : List ℕ). All (λ (b : List ℕ). SameHaving x y count many privateOf (privateOf b)) (having publicOf name (recordsOf x count))) (map dataOf avps)
+  are-public : (avps : List (List ℕ)) → All (SameHaving x y count many publicOf) (map dataOf avps) → All Owners (map dataOf avps)
       → All (λ (a : List ℕ). Public (dataOf a)) avps
   are-public [] p o = tt
   are-public (a ∷ avps) p o = (is-public (dataOf a) (p .0) (o .0), are-public avps (p .1) (o .1))
@@ -98,7 +100,9 @@ module _ (x y : Lent) (count many : ℕ) (first : SoundTable (tableIn (x .table)
     same-sight =
         record {
           header = header-shows t u count many first second (same .header);
-          shown = λ j k l. line-shows (x .profile) (y .profile) (blockOf t j) (blockOf u k) (l .2) (roomy t count first j (l .0)) (roomy u many second k (l .1));
+          shown =
+              λ j k l.
+              line-shows (x .profile) (y .profile) (blockOf t j) (blockOf u k) (l .2) (roomy t count first j (l .0)) (roomy u many second k (l .1));
           first = λ j k l. l .0 .0;
           second = λ j k l. l .1 .0;
           found = λ name p. p .0;
@@ -108,30 +112,16 @@ module _ (x y : Lent) (count many : ℕ) (first : SoundTable (tableIn (x .table)
 
     -- what the request asks for is what they have in common
     pub same-asks : (seen : Seen) → readIn (dialectIn x) (x .request) ≡ fine seen → Asks (dialectIn x) (x .request) seen Public Private
-    same-asks seen e = record { one = one; all = all; user = user }
+    same-asks seen e = record { one = λ n. taken-among d (x .request) seen e n Public publics; all = λ c. publics; user = user }
       where
         d : Dialect
         d = dialectIn x
 
-        publics : All (SameHaving x y count many publicOf) (publicsIn d (x .request) (fine seen))
-        publics = rw e at (same .publics)
-
-        owners : All (λ (name : List ℕ). All (λ (b : List ℕ). SameHaving x y count many privateOf (privateOf b)) (having publicOf name (recordsOf x count)))
-            (publicsIn d (x .request) (fine seen))
-        owners = rw e at (same .owners)
+        publics : All (λ (a : List ℕ). Public (dataOf a)) (identities (bodyOf (x .request)))
+        publics = are-public (identities (bodyOf (x .request))) (rw e at (same .publics)) (rw e at (same .owners))
 
         users : All (SameHaving x y count many privateOf) (usersIn (fine seen))
         users = rw e at (same .users)
-
-        one : d .command ≢ 301 → Public (dataSeen seen publicIdentity)
-        one n =
-            let f : eqb (d .command) 301 ≡ false = ne-eqb (d .command) 301 n in
-            is-public (dataSeen seen publicIdentity) ((rw f at publics) .0) ((rw f at owners) .0)
-
-        all : d .command ≡ 301 → All (λ (a : List ℕ). Public (dataOf a)) (identities (bodyOf (x .request)))
-        all c =
-            let f : eqb (d .command) 301 ≡ true = eq-eqb (d .command) 301 c in
-            are-public (identities (bodyOf (x .request))) (rw f at publics) (rw f at owners)
 
         user : given seen userName ≡ true → Private (dataSeen seen userName)
         user g = is-private (dataSeen seen userName) ((rw g at users) .0)

@@ -4,7 +4,6 @@ use mathlib.Core.List.{List, [], _∷_, _++_, map}
 use mathlib.Core.Bool.{Bool, false, cond, _||_}
 use mathlib.Core.Path.{_≡_}
 use lib.ListN.{getD, take}
-use lib.Dec.{eqb}
 use Rattle.octets.specs.Name.{same}
 use Rattle.record.specs.Fields.{publicOf, privateOf, profileOf}
 use Rattle.blocks.specs.Blocks.{blockOf}
@@ -12,8 +11,7 @@ use Rattle.table.specs.Area.{tableIn}
 use Rattle.diameter.specs.Avp.{dataOf}
 use Rattle.diameter.specs.Message.{bodyOf}
 use Rattle.diameter.specs.Put.{All}
-use Rattle.reading.specs.Kinds.{userName, publicIdentity}
-use Rattle.reading.specs.declared.Dialect.{Dialect}
+use Rattle.reading.specs.Kinds.{userName}
 use Rattle.requests.specs.Judged.{Judged, bad, fine}
 use Rattle.requests.specs.Request.{readIn, given, dataSeen, identities}
 use Rattle.choices.specs.Types.{between}
@@ -52,18 +50,18 @@ having field name (b ∷ bs) = cond (same (field b) name) (b ∷ having field na
 abbrev pub recordsOf : Lent → ℕ → List (List ℕ)
 recordsOf x count = records (tableIn (x .table)) count
 
--- "every public identity in the request": of a SAR all that stand in it, of a UAR or LIR its one; the private identity "that the request
--- names" is its User-Name, where the command has one. A request with a fault names none: nothing is looked up for it.
-abbrev pub publicsIn : Dialect → List ℕ → Judged → List (List ℕ)
-publicsIn d req (bad v) = []
-publicsIn d req (fine seen) = cond (eqb (d .command) 301) (map dataOf (identities (bodyOf req))) (dataSeen seen publicIdentity ∷ [])
+-- "every public identity in the request"; the private identity "that the request names" is its User-Name, where the command has one. A request with a fault
+-- names none: nothing is looked up for it.
+abbrev pub publicsIn : List ℕ → Judged → List (List ℕ)
+publicsIn req (bad v) = []
+publicsIn req (fine seen) = map dataOf (identities (bodyOf req))
 
 abbrev pub usersIn : Judged → List (List ℕ)
 usersIn (bad v) = []
 usersIn (fine seen) = cond (given seen userName) (dataSeen seen userName ∷ []) []
 
 abbrev pub publicsOf : Lent → List (List ℕ)
-publicsOf x = publicsIn (dialectIn x) (x .request) (readIn (dialectIn x) (x .request))
+publicsOf x = publicsIn (x .request) (readIn (dialectIn x) (x .request))
 
 abbrev pub usersOf : Lent → List (List ℕ)
 usersOf x = usersIn (readIn (dialectIn x) (x .request))
