@@ -1,5 +1,5 @@
--- None of the hypotheses of the neighbour's line is idle: for each a pair of calls that have all the others in common, both answered, and not with the same
--- bytes.
+-- No hypothesis of the neighbour's line is idle but two, that the tables are sound, which follows, and the edition, which no answer shows: for each of the
+-- others a pair of calls that have the rest in common, both answered, and not with the same bytes.
 use Rattle.octets.specs.Standard.{ℕ, true, false, _≡_, refl, sym, _∙_, ap, _≢_, List, [], _∷_, _++_, arith, length, getD, take, set}
 use Rattle.record.specs.Fields.{publicOf, privateOf}
 use Rattle.blocks.specs.Blocks.{blockOf}

@@ -14,7 +14,7 @@ use Rattle.calling.specs.Lent.{Lent, lent, holding, dialectIn}
 use Rattle.calling.specs.Serve.{Served, serveTable, serve}
 use Rattle.calling.proofs.Areas.{serve-sound}
 use Rattle.demands.specs.Frame.{firstOwner, askedIn, subscriptionOf}
-use Rattle.neighbour.specs.Seen.{records, having, recordsOf, publicsOf, usersOf, SameHaving, SameSeen, SameAnswer}
+use Rattle.neighbour.specs.Seen.{records, having, recordsOf, publicsOf, usersOf, SameHaving, SameSeen, bytesOf, SameAnswer}
 use Rattle.neighbour.specs.Mine.{AboutMine, OtherLines, none, stays, added, changed, Turn, turnOver, afterTurns, AboutOthers}
 use Rattle.neighbour.proofs.Neighbour.{neighbours-line, between-mine, other-lines, calls-before}
 use Rattle.worked_examples.proofs.Computed.{known, come, roomy, no-vectors}
@@ -336,5 +336,6 @@ after-call : serve (afterTurns (here uar) (turn ∷ [])) .call ≡ Answered (tol
 unfolding afterTurns
 after-call = rw (left-table, left-vectors) later-call
 
-met-calls-before : SameAnswer (serve (here uar)) (serve (afterTurns (here uar) (turn ∷ []))) (told 152) (told 152)
-met-calls-before = calls-before (here uar) 4 first-sound (0x70 ∷ []) about-here (turn ∷ []) about-b uar-apart (told 152) (told 152) uar-here after-call
+met-calls-before : (serve (afterTurns (here uar) (turn ∷ [])) .call ≡ Answered (told 152))
+    × (bytesOf (serve (afterTurns (here uar) (turn ∷ []))) (told 152) ≡ bytesOf (serve (here uar)) (told 152))
+met-calls-before = calls-before (here uar) 4 first-sound (0x70 ∷ []) about-here (turn ∷ []) about-b uar-apart (told 152) uar-here

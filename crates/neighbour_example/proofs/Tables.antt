@@ -46,7 +46,7 @@ mineC k issue start = line k issue 0x63 0x70 1 0 s 1 start 2
 unfoldable pub mineE : ℕ → ℕ → ℕ → List ℕ
 mineE k issue start = line k issue 0x65 0x70 1 0 s 1 start 0
 
--- one table has a neighbour's line `b` between mine; the other has three more lines, with `b` barred, in a set and registered, and something behind the table
+-- one table has a neighbour's line `b` between mine; the other has two lines more, `b` barred, in a set and in state 2, and something behind the table
 unfoldable pub first : List ℕ
 first = head 4 7 ++ (mineA 1 7 0 ++ (line 2 7 0x62 0x71 0 0 [] 0 0 0 ++ (mineC 3 7 2 ++ mineE 4 7 0)))
 
