@@ -13,7 +13,7 @@ endif
 .DELETE_ON_ERROR:
 export PYTHONDONTWRITEBYTECODE := 1
 .PHONY: help run test quick clean fmt kit pages header examples tables texts aims stores programs reference installs cited narrow bench stack installable install uninstall
-.PHONY: unsound reports moves recipes daemon peers differential noticed soak mutants stats definitions-check cases
+.PHONY: unsound reports moves takes cuts recipes daemon peers differential noticed soak mutants stats definitions-check cases
 
 MACHINE := $(shell uname -m)
 ifeq ($(MACHINE),x86_64)
@@ -38,7 +38,7 @@ HEADER := include/ndushavire.h
 BINARY := reference/target/release/reference
 PROVED := crates.txt $(shell find crates -name '*.rt' -o -name '*.antt' -o -type d)
 # Over the archive, which is x86-64 code, and nothing of theirs is static: these are installed on x86-64 alone. The other two are plain C.
-OVER_ARCHIVE := target/bin/answer target/bin/tablecheck target/c99/check target/c99/move target/c99/report
+OVER_ARCHIVE := target/bin/answer target/bin/tablecheck target/c99/check target/c99/move target/c99/report target/c99/take
 PROGRAMS := target/c/maketable target/c/showtable $(if $(filter x86_64,$(MACHINE)),$(OVER_ARCHIVE))
 REFERENCE := $(shell find reference -path reference/target -prune -o -name '*.rs' -print -o -name 'Cargo.*' -print)
 
@@ -69,7 +69,7 @@ target/bin/%: $(PROVED)
 	touch $@
 
 # The parts of make test, the longest first. What they need is made before, once, and what needs the archive waits for it alone.
-PARTS := stores differential daemon reference tables narrow texts examples installs recipes cited programs noticed pages kit fmt header aims unsound reports moves
+PARTS := stores differential daemon reference tables narrow texts examples installs recipes cited programs noticed takes pages kit fmt header aims unsound reports moves
 MADE := $(ARCHIVE) $(BINARY)
 JOBS := $(shell nproc)
 #: test               every test from fmt to noticed below, as many at a time as there are processors (JOBS=N): 3 to 5 minutes on two once all is proved
@@ -103,13 +103,14 @@ header: target/c/header target/c++/header target/c99/version
 	for header in target/c/header target/c++/header; do $$header; done
 	tests/version.sh $(RUN) target/c99/version
 
-#: examples           the C examples: worked answers, refusals, AVPs at fault, requests that real software sent, the month's numbers, moves
-examples: $(foreach mode,c99 cxx,$(addprefix target/$(mode)/,check decide move report)) target/c/fault target/c++/fault target/c/maketable target/c/showtable $(BINARY)
+#: examples           the C examples: worked answers, refusals, AVPs at fault, requests that real software sent, the month's numbers, moves, take-overs
+examples: $(foreach mode,c99 cxx,$(addprefix target/$(mode)/,check decide move report take)) target/c99/cut-take target/c/fault target/c++/fault target/c/maketable target/c/showtable $(BINARY)
 	for fault in target/c/fault target/c++/fault; do $$fault; done
 	RUN='$(RUN)' tests/decide.sh target/test/decide target/c/maketable target/c99/decide target/cxx/decide
 	RUN='$(RUN)' tests/captured.sh target/test/captured target/c/maketable $(BINARY) target/c99/decide target/cxx/decide
 	RUN='$(RUN)' tests/report.sh target/test/report target/c/maketable target/c99/report target/cxx/report
 	RUN='$(RUN)' tests/move.sh target/test/move target/c/maketable target/c/showtable target/c99/check target/c99/move target/cxx/move
+	RUN='$(RUN)' tests/take.sh target/test/take target/c/maketable target/c99/check target/c99/cut-take target/c99/take target/cxx/take
 
 #: tables             tables and vector files made from text, and damaged ones
 tables: target/c99/check target/cxx/check target/c/maketable target/c/showtable
@@ -152,6 +153,20 @@ COUNT_moved := 10000
 moves: target/c99/moves
 	$(RUN) $< $(SEED) $(COUNT_moved)
 
+COUNT_taken := 10000
+CUT = RUN='$(RUN)' tests/cuts.sh
+#: takes              take-overs beside a model in C, over 10,000 random areas; 30,000 sets of blocks written; SIGKILL at every block of 64 records; 10 seconds
+takes: target/c99/takes target/c99/cuts target/c99/take target/c99/cut-take
+	$(RUN) $< $(SEED) $(COUNT_taken)
+	$(CUT) '' target/c99/cuts target/c99/take target/c99/cut-take $(SEED) 50 20
+
+#: cuts               the whole of that, ten minutes: 1,000,000 sets of blocks, 1,000 kills within a table of 4,096, and some of it with files on disk
+cuts: target/c99/takes target/c99/cuts target/c99/take target/c99/cut-take
+	@echo "cuts: seed $(SEED)"
+	$(RUN) $< $(SEED) 500000
+	$(CUT) '' target/c99/cuts target/c99/take target/c99/cut-take $(SEED) 2000 1000
+	$(CUT) target/test/cuts target/c99/cuts target/c99/take target/c99/cut-take $(SEED) 100 20
+
 #: daemon             the daemon of the examples with a client of its own: cut frames, garbage, slow peers, new tables, kills; 1 to 3 minutes
 daemon: target/c/remember target/c/maketable $(ARCHIVE)
 	$< $(SEED) 20000
@@ -170,13 +185,15 @@ ifndef SEED
 SEED := $(shell od -An -N4 -tu4 /dev/urandom | tr -d ' ')
 endif
 DRIVER = $(RUN) target/c99/driver
-KINDS := tables vectors calls reports moves demand3 runs
+KINDS := tables vectors calls reports moves takes demand3 neighbours runs
 COUNT_tables := 200000
 COUNT_vectors := 100000
 COUNT_calls := 100000
 COUNT_reports := 20000
 COUNT_moves := 50000
+COUNT_takes := 50000
 COUNT_demand3 := 20000
+COUNT_neighbours := 100000
 COUNT_runs := 2000
 
 #: cited              whether what README and manual pages of an installation cite is installed, and its trial works
@@ -187,7 +204,7 @@ cited: $(ARCHIVE) $(PROGRAMS)
 recipes: $(ARCHIVE) $(PROGRAMS) $(OVER_ARCHIVE) target/c99/decide
 	RUN='$(RUN)' tests/recipes.sh target/test/recipes '$(PROGRAM)' $(X86_CC)
 
-#: differential       the library beside the independent program on 490,000 new cases and 2,000 runs of calls; SEED=N runs a seed again
+#: differential       the library beside the independent program on 640,000 new cases and 2,000 runs of calls; SEED=N runs a seed again
 differential: target/c99/driver $(BINARY)
 	@for of in $(foreach kind,$(KINDS),$(kind):$(COUNT_$(kind))); do \
 	    echo "differential run: seed $(SEED), $${of#*:} $${of%:*}"; \
@@ -195,14 +212,17 @@ differential: target/c99/driver $(BINARY)
 	done
 
 COUNT_narrow := 10000
-#: narrow             requests that real software sent, 10,000 calls and 1,000 reports on a thread whose stack is 16 KiB; half a minute
+#: narrow             requests that real software sent, 10,000 calls, and 1,000 reports, checks, moves and take-overs on a thread whose stack is 16 KiB; half a minute
 narrow: target/narrow/decide target/narrow/driver target/c/maketable $(BINARY)
 	RUN='$(RUN)' tests/captured.sh target/test/narrow target/c/maketable $(BINARY) target/narrow/decide
 	tests/narrow.sh $(BINARY) $(SEED) $(COUNT_narrow) $(RUN) target/narrow/driver
 
-#: noticed            whether such a comparison would fail
-noticed: target/c99/overstep $(BINARY)
+COUNT_breaches := 500
+#: noticed            whether such a comparison would fail; for each hypothesis of the neighbour's line, 500 pairs that break it
+noticed: target/c99/overstep target/c99/driver $(BINARY)
 	tests/noticed.sh $(BINARY) $(RUN) target/c99/overstep
+	@echo "breaches: seed $(SEED), $(COUNT_breaches) pairs of each"
+	$(BINARY) compare --kind breaches --seed $(SEED) --count $(COUNT_breaches) -- $(DRIVER)
 
 # 5,000,000 tables, and as many vector files and calls. Each round has the next seed: with SEED=N ROUNDS=M a run that was stopped goes on.
 ROUNDS := 50
@@ -222,7 +242,7 @@ peers: target/c99/daemon target/c/maketable
 
 # After how many cases each deliberate fault of the independent program shows; what the cases are made of.
 COUNT_mutants := 100000
-#: mutants            whether 746 deliberate faults would be noticed, and after how many cases
+#: mutants            whether 839 deliberate faults would be noticed, and after how many cases
 mutants: $(BINARY)
 	@echo "mutants: seed $(SEED)"
 	$(BINARY) mutants --seed $(SEED) --count $(COUNT_mutants)
@@ -235,6 +255,8 @@ stats: $(BINARY)
 	$(BINARY) stats --kind calls --seed $(SEED) --count $(COUNT_calls)
 	$(BINARY) stats --kind reports --seed $(SEED) --count $(COUNT_reports)
 	$(BINARY) stats --kind moves --seed $(SEED) --count $(COUNT_moves)
+	$(BINARY) stats --kind takes --seed $(SEED) --count $(COUNT_takes)
+	$(BINARY) stats --kind neighbours --seed $(SEED) --count $(COUNT_neighbours)
 
 # The definitions beside the independent program: antt computes each case, which takes seconds; 24 make a quick trial.
 COUNT_DEFINITIONS := 300
@@ -314,7 +336,7 @@ target/narrow/decide: examples/decide.c examples/load.h examples/fault.h
 target/narrow/driver target/narrow/decide: tests/narrow.c $(HEADER) $(ARCHIVE)
 	mkdir -p $(@D)
 	$(X86_CC) -std=c99 $(STRICT) -pthread -Wl,-z,now \
-	    -Wl,--wrap=ndushavire_check,--wrap=ndushavire_check_vectors,--wrap=ndushavire_decide,--wrap=ndushavire_report -o $@ $(filter %.c,$^) $(ARCHIVE)
+	    $(foreach entry,check check_vectors decide report forward back take,-Wl,--wrap=ndushavire_$(entry)) -o $@ $(filter %.c,$^) $(ARCHIVE)
 
 target/c99/version: tests/version.c $(HEADER) $(ARCHIVE)
 	mkdir -p $(@D)
@@ -328,16 +350,26 @@ target/c99/moves: tests/moves.c tests/random-tables.h bench/requests.h $(HEADER)
 	mkdir -p $(@D)
 	$(X86_CC) -std=c99 $(STRICT) -o $@ $< $(ARCHIVE)
 
+target/c99/takes: tests/takes.c
+target/c99/cuts: tests/cuts.c
+target/c99/takes target/c99/cuts: tests/areas.h tests/random-tables.h bench/requests.h $(HEADER) $(ARCHIVE)
+	mkdir -p $(@D)
+	$(X86_CC) -std=c99 $(STRICT) -o $@ $(filter %.c,$^) $(ARCHIVE)
+
+target/c99/cut-take: examples/take.c tests/cut.h $(addprefix examples/,area.h load.h store.h) $(HEADER) $(ARCHIVE)
+	mkdir -p $(@D)
+	$(X86_CC) -std=c99 $(STRICT) -include tests/cut.h -o $@ $< $(ARCHIVE)
+
 target/c99/month: tests/month.c bench/requests.h examples/load.h $(HEADER) $(ARCHIVE)
 	mkdir -p $(@D)
 	$(X86_CC) -std=c99 $(STRICT) -o $@ $< $(ARCHIVE)
 
-target/c99/daemon: $(addprefix examples/,base.h files.h log.h remember.h)
-target/c99/%: examples/%.c examples/load.h examples/fault.h examples/store.h $(HEADER) $(ARCHIVE)
+target/c99/daemon: $(addprefix examples/,base.h files.h log.h remember.h taking.h)
+target/c99/%: examples/%.c examples/load.h examples/fault.h examples/store.h examples/area.h $(HEADER) $(ARCHIVE)
 	mkdir -p $(@D)
 	$(X86_CC) -std=c99 $(STRICT) -o $@ $< $(ARCHIVE)
 
-target/cxx/%: examples/%.c examples/load.h examples/fault.h examples/store.h $(HEADER) $(ARCHIVE)
+target/cxx/%: examples/%.c examples/load.h examples/fault.h examples/store.h examples/area.h $(HEADER) $(ARCHIVE)
 	mkdir -p $(@D)
 	$(X86_CXX) $(STRICT) -o $@ -x c++ $< -x none $(ARCHIVE)
 
@@ -353,15 +385,17 @@ CHECKED := 1-short 16-short 300-short 4096-short 4096-ims 4096-long
 SECOND := 4096-short-2 4096-long-2 4096-short-2-1 4096-short-2-2 4096-short-2-4 4096-long-2-4 4096-alike-2-4 4096-alike-2-1
 DECIDED := 1-short 16-short 300-short 4096-short 1-tiny 16-tiny 300-tiny 4096-tiny
 REPORTED := 16-short 300-short 4096-short
+TAKEN := 16-short-2 300-short-2 4096-short-2 4096-long-2 4096-short-2-4
 # A program's arguments: each table, its profile file and how its names are. A table is named by its records, its names, for edition 2 by 2 and,
 # if it has sets, by how many records are in each.
 samples = $(foreach size,$(1),target/bench/$(size).table target/bench/$(size).profile $(word 2,$(subst -, ,$(size))))
 
 #: bench              times beside the aims, two minutes once their parts are made; a missed aim is marked
-bench: $(addprefix target/bench/,check vectors moves decide report) $(patsubst %,target/bench/%.table,$(sort $(CHECKED) $(SECOND) $(DECIDED)))
+bench: $(addprefix target/bench/,check vectors moves takes decide report) $(patsubst %,target/bench/%.table,$(sort $(CHECKED) $(SECOND) $(TAKEN) $(DECIDED)))
 	@{ $(CC) --version | head -n 1; \
 	   target/bench/check $(call samples,$(CHECKED) $(SECOND)); \
 	   target/bench/moves $(call samples,$(CHECKED)); \
+	   target/bench/takes $(call samples,$(TAKEN)); \
 	   target/bench/vectors $(call samples,$(CHECKED)); \
 	   target/bench/decide $(call samples,$(DECIDED)); \
 	   target/bench/report $(call samples,$(REPORTED)); } | tee target/bench/figures
@@ -398,7 +432,7 @@ target/bench/check target/bench/vectors: target/bench/%: bench/%.c $(TIMER) $(SU
 target/bench/decide: bench/decide.c $(TIMER)
 	$(CC) -std=c99 $(STRICT) -o $@ $< $(TIMED) target/bench/libreference_c.a -lpthread -ldl -lm
 
-target/bench/report target/bench/moves: target/bench/%: bench/%.c $(TIMER)
+target/bench/report target/bench/moves target/bench/takes: target/bench/%: bench/%.c $(TIMER)
 	$(CC) -std=c99 $(STRICT) -o $@ $< $(TIMED)
 
 # One program for both bindings: which it is says the environment that it is run in.

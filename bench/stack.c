@@ -34,6 +34,9 @@ static void report(void) {
                              sizeof answer, numbers, sizeof numbers);
 }
 
+static uint8_t fresh[NDUSHAVIRE_TABLE_MAX], area[NDUSHAVIRE_TABLE_MAX]; /* the table in edition 2, and nothing, or what was taken over before */
+static void take(void) { word = ndushavire_take(area, s->table_len, fresh, s->table_len, s->profile, s->profile_len); }
+
 static void forward(void) { word = ndushavire_forward(s->table, s->table_len, s->profile, s->profile_len, 7); }
 static void back(void) { word = ndushavire_back(s->table, s->table_len, s->profile, s->profile_len); }
 
@@ -43,7 +46,7 @@ static struct {
     const char *name;
     size_t most;
 } entries[] = {{check, "check", 0}, {check_vectors, "vector check", 0}, {forward, "move forward", 0},
-               {back, "move back", 0}, {decide, "decide", 0}, {report, "report", 0}};
+               {back, "move back", 0}, {take, "take-over", 0}, {decide, "decide", 0}, {report, "report", 0}};
 enum { ENTRIES = sizeof entries / sizeof entries[0] };
 static int lazily, sets; /* how memset and the like are bound; whether the table has sets, for which the check has more to call */
 static uint32_t due;     /* the number that the calls return */
@@ -112,11 +115,24 @@ static int measure_moves(void) {
     return passes;
 }
 
+/* Over nothing, and then over itself, which is refused. */
+static int measure_takes(void) {
+    memcpy(fresh, s->table, s->table_len);
+    memset(area, 0, s->table_len);
+    if (!sets) ndushavire_forward(fresh, s->table_len, s->profile, s->profile_len, 7);
+    int passes = within(take, "take-over");
+    due = NDUSHAVIRE_ISSUE_NOT_GREATER;
+    passes &= within(take, "take-over, 2nd");
+    due = NDUSHAVIRE_DONE;
+    return passes;
+}
+
 static int measure_all(const uint8_t *registered) {
     month_len = 0;
     int passes = within(check, "check");
     passes &= within(check_vectors, "vector check");
     passes &= measure_moves();
+    passes &= measure_takes();
     if (strcmp(s->names, "tiny") == 0) {
         ask_assignment(&request, s->table, s->records, registered, 6, 1);
         passes &= decides("removal of 1");

@@ -1,4 +1,5 @@
-/* check TABLE PROFILE [VECTORS]: says whether a table is sound, and a vector file, as a daemon asks before it serves from new ones.
+/* check TABLE PROFILE [VECTORS]: says whether a table is sound, and a vector file, as a daemon asks before it serves from new ones. TABLE may be a
+ * working area that is longer than its table: then a line of its own says how many bytes were not looked at.
  * It is installed as ndushavire-check, for scripts.
  * Exit status: 0 sound, 1 one is bad, 2 a file cannot be read, standard output cannot be written, or the arguments are others. */
 #include <ndushavire.h>
@@ -14,6 +15,12 @@ static int say(uint64_t word, const char *sound, const char *things, const char 
     else
         printf("%s %lu is bad\n", bad, (unsigned long)ndushavire_value(word));
     return ndushavire_sound(word);
+}
+
+/* Of a sound table in a longer working area: how much stands past it, which nobody looks at. */
+static void say_rest(uint64_t word, size_t length) {
+    const size_t looked_at = NDUSHAVIRE_BLOCK * ((size_t)ndushavire_value(word) + 1);
+    if (ndushavire_sound(word) && length > looked_at) printf("%lu bytes past the table were not looked at\n", (unsigned long)(length - looked_at));
 }
 
 int main(int argc, char **argv) {
@@ -35,8 +42,7 @@ int main(int argc, char **argv) {
 
     const uint64_t word = ndushavire_check(table, table_len, profile, profile_len);
     int sound = say(word, "sound", "records", "block");
-    const size_t past = sound ? table_len - NDUSHAVIRE_BLOCK * ((size_t)ndushavire_value(word) + 1) : 0;
-    if (past > 0) printf("%zu bytes past the table were not looked at\n", past);
+    say_rest(word, table_len);
     if (vectors != NULL)
         sound &= say(ndushavire_check_vectors(vectors, vectors_len), "vectors sound", "blocks", "vector block");
 

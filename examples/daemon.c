@@ -9,8 +9,9 @@
  *   and its answer is remembered (remember.h).
  * - What a call altered is stored and flushed before the answer is sent, the vector file and then the table (files.h, store.h). What cannot be
  *   stored is undone and not answered: the peer asks again. Only a SAR or a MAR that succeeds alters anything: that is proved.
- * - A table that is put in the live one's place is taken over if it is sound; if not, the log says why. Vectors are put in with the daemon
- *   stopped: while it runs it has locks on the table's folder and on CARDS/lock.
+ * - A table that is put in the live one's place is taken over if it is sound; if not, the log says why. One of edition 2 that is put beside it,
+ *   as table.next, is written over it block by block (taking.h). Vectors are put in with the daemon stopped: while it runs it has locks on the
+ *   table's folder and on CARDS/lock.
  * - It never stores over files that nobody may write to: those are a last good copy.
  *
  * Who may connect, TLS, failover and routing are a relay's in front of it; INTEROPERABILITY.md shows one.
@@ -30,6 +31,7 @@
 #include "files.h"
 #include "log.h"
 #include "remember.h"
+#include "taking.h"
 
 #ifndef QUIET
 #define QUIET 120 /* seconds without a whole message until a peer is hung up on; at half of them it is asked by a DWR */
@@ -247,7 +249,7 @@ static size_t take_message(Peer *peer, const uint8_t *message, size_t left) {
         return 0;
     }
     if (length > NDUSHAVIRE_REQUEST_MAX) return too_long(peer, message, left);
-    if (length > left) return 0;
+    if (length > left || (taking && may_alter(message, length))) return 0; /* what may alter waits for the new table */
     peer->heard = now;
     peer->asked = 0;
     if (length >= HEADER && base_command(message) != 0) serve_base(peer, message, length);
@@ -318,7 +320,7 @@ static int listen_at(const char *address, unsigned long port) {
     if (listening < 0 || setsockopt(listening, SOL_SOCKET, SO_REUSEADDR, &yes, sizeof yes) != 0 || fcntl(listening, F_SETFL, O_NONBLOCK) != 0 ||
         bind(listening, &at.any, size) != 0 || listen(listening, PEERS) != 0 || getsockname(listening, &at.any, &size) != 0)
         stop(address, strerror(errno));
-    say("listening on %s port %u, %lu records", address, ntohs(at.four.sin_port), (unsigned long)(table.length / NDUSHAVIRE_BLOCK - 1));
+    say("listening on %s port %u, %lu records", address, ntohs(at.four.sin_port), records_of(&table));
     return listening;
 }
 
@@ -358,8 +360,9 @@ static void attend(Peer *peer, short events) {
     if (peer->socket >= 0 && peer->ending && peer->out == 0) hang_up(peer, "as agreed");
 }
 
-/* Peers from which no whole message comes, be they slow or dead. */
+/* Peers from which no whole message comes, be they slow or dead. While a table is taken over, it is we who let messages wait. */
 static void mind_silence(Peer *peer) {
+    if (taking) peer->heard = now;
     const time_t silence = now - peer->heard;
     if (silence >= (peer->open ? QUIET : GREETING)) {
         hang_up(peer, "no whole message came");
@@ -377,8 +380,15 @@ static void wait_for(struct pollfd *events, int listening) {
     }
     events[PEERS].fd = free_place() != NULL ? listening : -1;
     events[PEERS].events = POLLIN;
-    if (poll(events, PEERS + 1, 1000) < 0 && errno != EINTR) stop("poll", strerror(errno));
+    if (poll(events, PEERS + 1, taking ? 0 : 1000) < 0 && errno != EINTR) stop("poll", strerror(errno));
     look_at_clock();
+}
+
+/* Goes on with a take-over, and then with what waited for it. */
+static void take_in_turn(void) {
+    go_on_taking(0);
+    for (int i = 0; i < PEERS && !taking; i++)
+        if (peers[i].socket >= 0) work(&peers[i]);
 }
 
 static void turn(int listening) {
@@ -389,7 +399,9 @@ static void turn(int listening) {
         if (peers[i].socket >= 0) mind_silence(&peers[i]);
     }
     if (listening >= 0) welcome(listening);
+    if (taking) take_in_turn();
     look_for_table();
+    look_for_next();
     forget_old(now);
 }
 
@@ -441,6 +453,7 @@ int main(int argc, char **argv) {
     for (int i = 0; i < PEERS; i++) peers[i].socket = -1;
     const int listening = listen_at(address, port);
     while (!told_to_end) turn(listening);
+    if (taking) go_on_taking(1);
     close(listening);
     say_farewell();
     return 0;

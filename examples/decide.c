@@ -65,7 +65,7 @@ static File load_twice(const char *path) {
 }
 
 static void print_changes(File file, const char *what, const char *how) {
-    for (size_t at = 0; at < file.length; at += NDUSHAVIRE_BLOCK)
+    for (size_t at = 0; at + NDUSHAVIRE_BLOCK <= file.length; at += NDUSHAVIRE_BLOCK) /* and not a last piece, which nobody writes to */
         if (memcmp(file.lent + at, file.before + at, NDUSHAVIRE_BLOCK) != 0)
             printf("%s %lu %s\n", what, (unsigned long)(at / NDUSHAVIRE_BLOCK), how);
 }

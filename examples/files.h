@@ -1,6 +1,7 @@
 /* files.h: the files of a daemon: table and profile, which are a pair in one folder, and the vector file in another. They are read when they are
  * on disk, lent to a call, and stored before what was decided over them is answered. A table that is put in the live one's place
- * is taken over if it is sound. Files that nobody may write to are a last good copy, and are never stored over. */
+ * is taken over if it is sound; one that is put beside it is taking.h's. The table's file may be longer than its table: what stands past it is
+ * lent and stored with it. Files that nobody may write to are a last good copy, and are never stored over. */
 #ifndef FILES_H
 #define FILES_H
 
@@ -94,8 +95,8 @@ static void keep(File *file) { memcpy(file->before, file->bytes, file->length); 
 static void put_back(File *file) { memcpy(file->bytes, file->before, file->length); }
 
 /* The same with a file that calls alter. */
-static const char *take_altered(File *file, int folder, const char *name, size_t most) {
-    const char *why = take(file, folder, name, most, NDUSHAVIRE_BLOCK);
+static const char *take_altered(File *file, int folder, const char *name, size_t most, size_t block) {
+    const char *why = take(file, folder, name, most, block);
     file->before = (uint8_t *)malloc(file->length + 1);
     if (why == NULL && file->before == NULL) why = "no memory";
     if (why == NULL) keep(file);
@@ -116,6 +117,9 @@ static const char *bad_block(uint64_t word, const char *more) {
     snprintf(text, sizeof text, "block %lu is bad%s", (unsigned long)ndushavire_value(word), more);
     return ndushavire_sound(word) ? NULL : text;
 }
+
+/* How many records a sound table has: its area may be longer. */
+static unsigned long records_of(const File *of_lines) { return four_bytes(of_lines->bytes + 8); }
 
 /* Which block of a table is bad, and whether that may be the profile's fault; or NULL. */
 static const char *unsound(const File *of_lines, const File *of_profiles) {
@@ -151,21 +155,26 @@ static const char *of(const char *name, const char *why) {
     return text;
 }
 
-/* Takes up table and profile of one folder, if they are sound, may be stored over, and are no other daemon's; or says why not. */
-static const char *take_pair(File *new_table, File *new_profile, int folder) {
+/* Takes up table and profile of one folder, if they may be stored over and are no other daemon's; or says why not. */
+static const char *read_pair(File *new_table, File *new_profile, int folder) {
     memset(new_table, 0, sizeof *new_table);
     memset(new_profile, 0, sizeof *new_profile);
     const char *why = of("table", read_only(folder, "table"));
     if (why == NULL) why = of("its folder", why_not_locked(folder));
-    if (why == NULL) why = of("table", take_altered(new_table, folder, "table", NDUSHAVIRE_TABLE_MAX));
+    if (why == NULL) why = of("table", take_altered(new_table, folder, "table", NDUSHAVIRE_TABLE_MAX, 1));
     if (why == NULL) why = of("profile", take(new_profile, folder, "profile", PROFILE_MAX, 1));
-    if (why == NULL) why = of("table", unsound(new_table, new_profile));
     return why;
+}
+
+/* The same, if they are sound. */
+static const char *take_pair(File *new_table, File *new_profile, int folder) {
+    const char *why = read_pair(new_table, new_profile, folder);
+    return why != NULL ? why : of("table", unsound(new_table, new_profile));
 }
 
 /* Unsound vectors are lent as none: then nobody is challenged, and all else is answered as ever. */
 static void take_vectors(int folder) {
-    const char *why = take_altered(&vectors, folder, "vectors", NDUSHAVIRE_VECTOR_FILE_MAX);
+    const char *why = take_altered(&vectors, folder, "vectors", NDUSHAVIRE_VECTOR_FILE_MAX, NDUSHAVIRE_BLOCK);
     if (why != NULL && why != size_said) stop("vectors", why);
     if (why == NULL) why = bad_block(ndushavire_check_vectors(vectors.bytes, vectors.length), "");
     if (why == NULL) return;
@@ -181,6 +190,16 @@ static void finish_laying_back(int folder) {
     if (fstatat(folder, "table", &found, AT_SYMLINK_NOFOLLOW) != 0 && errno == ENOENT) renameat(folder, "table.ours", folder, "table");
 }
 
+static const char *mend_table(const char *bad); /* taking.h's */
+
+/* The pair of the start: a table that is unsound may be mended by one that stands beside it. */
+static const char *take_first_pair(int folder) {
+    const char *why = read_pair(&table, &profile, folder);
+    if (why != NULL) return why;
+    const char *bad = unsound(&table, &profile);
+    return bad != NULL ? mend_table(bad) : NULL;
+}
+
 /* Before the first request. */
 static void take_all(const char *path, const char *cards) {
     const int here = open_folder(path);
@@ -191,7 +210,7 @@ static void take_all(const char *path, const char *cards) {
     const char *why = read_only(there, "vectors");
     if (why != NULL) stop("vectors", why);
     finish_laying_back(here);
-    why = take_pair(&table, &profile, here);
+    why = take_first_pair(here);
     if (why != NULL) stop(path, why);
     unlinkat(here, "table.ours", 0);
     lock_vectors(there);
@@ -237,6 +256,7 @@ static void set_vectors_aside(void) {
 static int altered(const File *file) { return memcmp(file->before, file->bytes, file->length) != 0; }
 
 static int laid_over; /* whether another table lies where ours should be, which could not be stored again */
+static int taking;    /* whether a new one is taken over just now, block by block: taking.h */
 
 typedef enum { UNALTERED, KEPT, UNDONE } Outcome;
 
@@ -280,13 +300,14 @@ static void lay_back(void) {
     static char told[LOG_LINE];
     if (laid_over && tried == now) return;
     tried = now;
-    laid_over = !(has_ours(table.folder, &table) ? on_disk(&table, table.before) : put_in_place());
+    const int still_there = has_ours(table.folder, &table);
+    laid_over = !(still_there ? on_disk(&table, table.before) : put_in_place());
     if (laid_over) {
         say_once(told, "table: ours is NOT STORED where another was laid over it, and nothing that alters is answered", strerror(errno));
         return;
     }
     told[0] = '\0';
-    say("table: ours is stored again; what was laid over it is table.declined");
+    say("table: ours is stored again%s", still_there ? "" : "; what was laid over it is table.declined");
 }
 
 static void take_over(const File *new_table, const File *new_profile) {
@@ -296,7 +317,7 @@ static void take_over(const File *new_table, const File *new_profile) {
     table = *new_table;
     profile = *new_profile;
     laid_over = 0;
-    say("a new table is taken over, %lu records", (unsigned long)(table.length / NDUSHAVIRE_BLOCK - 1));
+    say("a new table is taken over, %lu records", records_of(&table));
 }
 
 static char declined_told[LOG_LINE];
@@ -370,8 +391,9 @@ static void look_into(int folder) {
     consider(locked_already(folder, &found.about[FOLDER]));
 }
 
-/* Looks whether another table than ours stands where new ones come. */
+/* Looks whether another table than ours stands where new ones come; but ours is another at each block while one is taken over. */
 static void look_for_table(void) {
+    if (taking) return;
     const int folder = open_folder(live);
     if (folder < 0) {
         declined(of(live, strerror(errno)));

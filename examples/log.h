@@ -47,7 +47,7 @@ static inline int say(const char *format, ...) {
 enum { LOG_LINE = 400 };
 static inline void say_once(char *told, const char *what, const char *why) {
     char line[LOG_LINE];
-    snprintf(line, sizeof line, "%s: %s", what, why);
+    if (snprintf(line, sizeof line, "%s: %s", what, why) < 0) return; /* a line that is longer is cut */
     if (strcmp(line, told) != 0 && say("%s", line)) strcpy(told, line);
 }
 

@@ -57,12 +57,17 @@ static void store_at(int folder, const char *path, const char *name, const uint8
     }
 }
 
-/* Why a move was refused. Of a sound table of the other edition the library says block 0, and only a check tells it from a bad one. */
-static void print_refusal(uint64_t word, const uint8_t *table, int sound) {
+/* Why a move was refused. Of a sound table of the other edition, or in a longer area, the library says block 0, and only a check, whose word is
+ * CHECKED, tells it from a bad one. */
+static void print_refusal(uint64_t word, const uint8_t *table, size_t length, uint64_t checked) {
     const unsigned long number = ndushavire_number(word), block = ndushavire_value(word);
     const uint8_t *at = table + block * NDUSHAVIRE_BLOCK;
+    const int sound = ndushavire_sound(checked);
+    const size_t alone = NDUSHAVIRE_BLOCK * ((size_t)ndushavire_value(checked) + 1);
     if (number == NDUSHAVIRE_TABLE_HAS_SETS)
         printf("refused 8, block %lu has set %u\n", block, (unsigned)at[406] << 8 | at[407]);
+    else if (number == NDUSHAVIRE_TABLE_UNSOUND && sound && length > alone)
+        printf("refused 5, block %lu: %lu bytes stand past the table\n", block, (unsigned long)(length - alone));
     else if (number == NDUSHAVIRE_TABLE_UNSOUND && sound)
         printf("refused 5, block %lu: the table is of edition %u\n", block, (unsigned)ndushavire_edition(table));
     else if (number == NDUSHAVIRE_TABLE_UNSOUND)
@@ -93,9 +98,7 @@ int main(int argc, char **argv) {
     const char *name;
     const int folder = folder_of(names[2], &name);
 
-    /* The check lets bytes behind the table be; a move wants its exact length. */
     const uint64_t checked = ndushavire_check(table, table_len, profile, profile_len);
-    const int sound = ndushavire_sound(checked) && table_len == NDUSHAVIRE_BLOCK * ((size_t)ndushavire_value(checked) + 1);
     const uint64_t word = forward ? ndushavire_forward(table, table_len, profile, profile_len, issue)
                                   : ndushavire_back(table, table_len, profile, profile_len);
     if (ndushavire_moved(word)) {
@@ -104,7 +107,7 @@ int main(int argc, char **argv) {
         if (forward) printf(", issue %lu", (unsigned long)ndushavire_issue(table));
         printf("\n");
     } else {
-        print_refusal(word, table, sound);
+        print_refusal(word, table, table_len, checked);
     }
 
     close(folder);

@@ -73,7 +73,7 @@ static int make_fresh(int folder, const char *name, const char *fresh) {
 
 /* Writes NAME.new, flushes it, renames it to NAME and flushes the folder. The folder is open, and is the one that
  * the file was read from: a link that was switched since then does not matter. One call at a time for one name. */
-static Stored store(int folder, const char *name, const uint8_t *bytes, size_t length) {
+static inline Stored store(int folder, const char *name, const uint8_t *bytes, size_t length) {
     char fresh[256];
     const int letters = snprintf(fresh, sizeof fresh, "%s.new", name);
     if (letters < 0 || (size_t)letters >= sizeof fresh) {

@@ -3,9 +3,9 @@
  * Who owns what. The caller owns every byte. All slices (request, table, profile, vectors, answer, requests, report, area, fresh) are lent
  * for the length of the call and none is kept: the library has no state of its own, opens no file, takes no memory and
  * starts nothing. The slices of one call must not overlap. Every pointer is non-null, also where its length is 0.
- * Only ndushavire_decide and ndushavire_report write, to the answer, the table and the vectors, and the second to its report; and
- * ndushavire_forward and ndushavire_back, to their table, and ndushavire_take, to its area. What must outlive the process is for the
- * caller to store.
+ * Only ndushavire_decide and ndushavire_report write, to the answer, the table and the vectors, and the second to its report;
+ * ndushavire_forward and ndushavire_back, to their table; and ndushavire_take, to its area. What must outlive the process is for the caller
+ * to store.
  *
  * What a call can alter, of table and vectors; all of this is proved, so nobody has to compare files to see that nothing changed.
  * - ndushavire_decide alters the table only under a SAR (301) or a MAR (303) that is answered with a success, a result of 2xxx, B or X;
@@ -16,23 +16,25 @@
  * - ndushavire_report alters both as its requests do, one after the other, and nothing under 15.
  * - ndushavire_forward and ndushavire_back write to every block of a table that they move, the edition, the issue number and the check
  *   word, and nothing if they refuse.
- * - ndushavire_take writes a whole new table over the front of its area, and nothing if it refuses.
+ * - ndushavire_take writes the new table over the front of its area, and nothing behind it; and nothing if it refuses.
  * - ndushavire_check and ndushavire_check_vectors alter nothing.
  *
  * Threads. A call is reentrant; it sets no errno and raises no signal. Calls on different tables and vectors may run at
- * once and share one profile. While a call runs that writes, no one else may read or write its table, its vectors, its answer
+ * once and share one profile. While a call runs that writes, no one else may read or write its table or area, its vectors, its answer
  * or its report. Checks of one table, or of one vector file, may run beside each other.
  *
  * The profile file is what call servers are sent of each line: bytes without a structure of their own, into which the
  * table's records point. Table and profile file are a pair, made, checked and kept together.
  *
- * Editions. A table is of edition 1, or of edition 2, which has an issue number in every block and in each record the number
- * of an implicit set, 0 for none. One that mixes editions or issue numbers is unsound. Every function reads both editions, and no
- * answer depends on edition or issue; ndushavire_forward and ndushavire_back move a table from one to the other.
+ * The working area. A table may lie in an area that is longer than it: ndushavire_decide, ndushavire_check and ndushavire_report take one of at
+ * least 512 x (count + 1) bytes, and look at nothing past that, neither blocks nor a last piece of under 512 bytes. What stands there stays
+ * and does not matter. A shorter one has block 0 bad. Everything else that takes a table takes it alone, of its exact length: both
+ * moves, and the new table of a take-over.
  *
- * Working areas. The table that ndushavire_decide, ndushavire_check and ndushavire_report are lent may be longer than 512 x (its record
- * count + 1) bytes: blocks past the count, and a last piece under a block, are not looked at, do not matter, and stay as they are. A
- * shorter one has a bad block 0. The moves, and the new table of ndushavire_take, have the exact length.
+ * Editions. A table is of edition 1, or of edition 2, which has an issue number in every block and in each record the number
+ * of an implicit set, 0 for none. One that mixes editions or issue numbers is unsound. Every function reads both editions, but for the new
+ * table of a take-over, which is of edition 2. No answer depends on edition or issue. ndushavire_forward and ndushavire_back move a table from
+ * one to the other.
  *
  * Sets. The records of one private identity with the same set number, other than 0, are an implicit set: what a request does to one
  * of them it does to all. A table is sound only if the records of each set agree in state, pending and server name; the later block
@@ -68,8 +70,8 @@
 extern "C" {
 #endif
 
-#define NDUSHAVIRE_VERSION "0.10.0"
-#define NDUSHAVIRE_VERSION_NUMBER 1000 /* the same to compare: major x 10,000 + minor x 100 + patch */
+#define NDUSHAVIRE_VERSION "0.11.0"
+#define NDUSHAVIRE_VERSION_NUMBER 1100 /* the same to compare: major x 10,000 + minor x 100 + patch */
 
 #define NDUSHAVIRE_ANSWER_ROOM 36864       /* the least answer buffer, in bytes: no answer is longer */
 #define NDUSHAVIRE_REQUEST_MIN 20          /* the shortest request, a Diameter header alone */
@@ -84,19 +86,19 @@ extern "C" {
 /* Each function but ndushavire_version returns a word. Keep it in a uint64_t: an int loses the number, and a refusal then looks like a short
  * answer. Its number is 0, or why the call was refused; a refused call has written nothing, but for number 7, which comes
  * at a report's end. Later versions add numbers: every one but 0, known or not, is a refusal. */
-#define NDUSHAVIRE_DONE 0            /* answered; checked and sound; the requests reported to their end; moved; taken over */
-#define NDUSHAVIRE_ANSWER_SHORT 1    /* the answer buffer is under NDUSHAVIRE_ANSWER_ROOM */
-#define NDUSHAVIRE_REQUEST_SIZE 2    /* the request is under or over its limits */
-#define NDUSHAVIRE_REQUEST_LENGTH 3  /* its header's length is not its own, or no multiple of 4 */
-#define NDUSHAVIRE_NO_REQUEST 4      /* the R bit is clear */
-#define NDUSHAVIRE_TABLE_UNSOUND 5   /* the value is the first bad block; of a move, 0 for a sound table of the other edition */
-#define NDUSHAVIRE_VECTORS_UNSOUND 6 /* the value is 0; of ndushavire_check_vectors it is the first bad block */
-#define NDUSHAVIRE_REQUESTS_BROKEN 7 /* of a report, which has the numbers so far: the next request is cut off or out of step */
-#define NDUSHAVIRE_TABLE_HAS_SETS 8  /* of the move back: the value is the first block whose set number is not 0 */
-#define NDUSHAVIRE_FRESH_UNSOUND 9   /* of a take-over: the new table is unsound, not of its exact length, or of edition 1; the value is 0 */
-#define NDUSHAVIRE_FRESH_ISSUE 10    /* its issue number is not greater than every one found in the area; the value is 0 */
-#define NDUSHAVIRE_AREA_SHORT 11     /* the area is shorter than it; the value is 0 */
-#define NDUSHAVIRE_OUTPUT_SHORT 15   /* the report area is under NDUSHAVIRE_REPORT_ROOM */
+#define NDUSHAVIRE_DONE 0               /* answered; of a check, sound; of a report, the requests read to their end; moved; taken over */
+#define NDUSHAVIRE_ANSWER_SHORT 1       /* the answer buffer is under NDUSHAVIRE_ANSWER_ROOM */
+#define NDUSHAVIRE_REQUEST_SIZE 2       /* the request is under or over its limits */
+#define NDUSHAVIRE_REQUEST_LENGTH 3     /* its header's length is not its own, or no multiple of 4 */
+#define NDUSHAVIRE_NO_REQUEST 4         /* the R bit is clear */
+#define NDUSHAVIRE_TABLE_UNSOUND 5      /* the value is the first bad block; of a move, 0 for a sound table of the other edition */
+#define NDUSHAVIRE_VECTORS_UNSOUND 6    /* the value is 0; of ndushavire_check_vectors it is the first bad block */
+#define NDUSHAVIRE_REQUESTS_BROKEN 7    /* of a report, which has the numbers so far: the next request is cut off or out of step */
+#define NDUSHAVIRE_TABLE_HAS_SETS 8     /* of the move back: the value is the first block whose set number is not 0 */
+#define NDUSHAVIRE_NEW_UNSOUND 9        /* of a take-over: the new table is unsound, not of its exact length, or of edition 1 */
+#define NDUSHAVIRE_ISSUE_NOT_GREATER 10 /* of a take-over: a header or record in the area has the new table's issue, or a greater one */
+#define NDUSHAVIRE_AREA_SHORT 11        /* of a take-over: the area is shorter than the new table */
+#define NDUSHAVIRE_OUTPUT_SHORT 15      /* the report area is under NDUSHAVIRE_REPORT_ROOM */
 
 /* Answers one request, rewrites the records that it changes, those of their sets with them, and marks the vectors that it sends. The
  * word's value is the answer's length; the buffer's bytes past it stay as they were. Its place says which AVP of the request is at
@@ -107,7 +109,7 @@ uint64_t ndushavire_decide(const uint8_t *request, size_t request_len, uint8_t *
                            uint8_t *answer, size_t answer_len);
 
 /* Checks a table against its profile file. The word's number is 0 and its value the record count, or 5 and the first
- * bad block. */
+ * bad block. Of a sound table in a longer area the first 512 x (value + 1) bytes were looked at: they are the table. */
 uint64_t ndushavire_check(const uint8_t *table, size_t table_len, const uint8_t *profile, size_t profile_len);
 
 /* Checks a vector file. The word's number is 0 and its value the number of blocks, or 6 and the first bad block, from 0; a
@@ -141,16 +143,23 @@ uint64_t ndushavire_forward(uint8_t *table, size_t table_len, const uint8_t *pro
  * 8 and the first block whose set number is not 0. Under 5 and 8 nothing was written. */
 uint64_t ndushavire_back(uint8_t *table, size_t table_len, const uint8_t *profile, size_t profile_len);
 
-/* Takes over a new table of edition 2, made for this profile file: its blocks are written over the front of the working area one by
- * one, from block 0 up. Of the area nothing is asked: it may hold an older table, one whose take-over was cut, or anything.
- * The word's number is 0 and its value the new table's record count, and every request then gets what it gets over the new table
- * alone; blocks past its count, and a last piece, stay. Or it is 9, 10 or 11, in this order, and nothing was written. For 10 each
- * whole block of the area that begins with the byte 1 or 2 counts, by its bytes 408 to 411, past any count too.
- * Stored block by block in this order, a cut after any block leaves an area that reads as before (nothing stored), as the new table
- * (all of it stored), or whose check answers the first block that was not stored: every request is refused by 5. A new table with a
- * greater issue number mends it; so does the same one, once the area is zeroed from block 0 up. */
-uint64_t ndushavire_take(uint8_t *area, size_t area_len, const uint8_t *fresh, size_t fresh_len, const uint8_t *profile,
-                         size_t profile_len);
+/* Takes a new table over: writes FRESH, which is sound beside PROFILE and of edition 2, over the working area, block by block from block 0 up,
+ * each once. It does not matter what was in the area: an old table, one that was cut, or anything.
+ * - After the first k blocks of the new table, and nothing else, the area is as it was (k = 0), or is the new table (all of them), or its
+ *   check gives 5 with block k. So a daemon that writes its stored table in this order, a block on disk before the next is begun, may be cut
+ *   off at any moment, and no request gets an answer from half a table.
+ * - Should a disk lose that order, some blocks are written and some are not. If block 0 is, the area is the new table if all others are too,
+ *   and else its check gives 5 with the lowest that is not. If block 0 is not, the area reads as before if none within the old header's
+ *   count is written, and else its check gives 5.
+ * All this is proved, provided that a block is written whole and that the profile file stays as it is.
+ * After a success every request gets what it gets over the new table alone; blocks past its count, and a last piece, are as they were.
+ * The word's number is 0 and its value the new record count; or, tried in this order, with value 0 and nothing written:
+ * 9 the new table is unsound beside PROFILE, or longer or shorter than 512 x (count + 1), or of edition 1;
+ * 10 its issue number is not greater than every one found in the area: the number at bytes 408 to 411 of each whole block of it that begins
+ *    with 1 or 2, sound or not, past the table's count too. A take-over that was cut has left its own issue there, so it is not repeated with
+ *    that; it is mended by a table of a greater issue, or by zeroing the area from block 0 up, which then takes the same table;
+ * 11 the area is shorter than the new table. */
+uint64_t ndushavire_take(uint8_t *area, size_t area_len, const uint8_t *fresh, size_t fresh_len, const uint8_t *profile, size_t profile_len);
 
 /* The version of the library that was linked, as the number of NDUSHAVIRE_VERSION_NUMBER in the header that came with it. */
 uint32_t ndushavire_version(void);
@@ -197,7 +206,7 @@ static inline int ndushavire_sound(uint64_t word) { return ndushavire_number(wor
 /* Of ndushavire_forward and ndushavire_back: whether the table was moved. */
 static inline int ndushavire_moved(uint64_t word) { return ndushavire_number(word) == NDUSHAVIRE_DONE; }
 
-/* Of ndushavire_take: whether the new table was taken. */
+/* Of ndushavire_take: whether the new table was taken over. */
 static inline int ndushavire_taken(uint64_t word) { return ndushavire_number(word) == NDUSHAVIRE_DONE; }
 
 /* Of a sound table: its edition, 1 or 2, and its issue number, which is 0 in edition 1. */

@@ -49,7 +49,7 @@ list_files() { # ARCHIVE PROGRAM..
     for file in examples/* "${requests[@]}"; do goes "$file" "$docdir/examples/${file##*/}" 644; done
     for file in "${@:2}"; do
         name=${file##*/}
-        case $name in check | maketable | move | report | showtable) name=ndushavire-$name ;; esac
+        case $name in check | maketable | move | report | showtable | take) name=ndushavire-$name ;; esac
         goes "$file" "$bindir/$name" 755
     done
 }

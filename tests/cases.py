@@ -5,7 +5,7 @@ Both are the independent program's: it makes the cases and says their outcomes. 
 one that shows it; of each result one, and then more: a refusal with what it returns besides; a command with its result; of a SAR past the
 reading rules also its type, and where it succeeds or meets a wrong state also keep, the state, whether it names many identities and whether
 it is about a set; of a MAR that succeeds the state, whether it is about a set and whether the record changes; of a UAR whether it is about
-a set; of a report how it ends and what it counts; of all the table's edition. After them stand the requests of real software in captured/,
+a set; of a report how it ends and what it counts; of all the edition of the table or area. After them stand the requests of real software in captured/,
 each over the table and the vectors that their heads describe. Nothing here is random: a second run writes the same bytes."""
 import collections, pathlib, struct, sys
 
@@ -33,8 +33,9 @@ def month(case, outcome):
 
 
 def edition(case):
-    """Byte 1 of its table, if that is one of the two editions."""
-    said = streams.slices(case).get('table', b'')[1:2]
+    """Byte 1 of its table or area, if that is one of the two editions."""
+    held = streams.slices(case)
+    said = held.get('table', held.get('area', b''))[1:2]
     return said if said in (b'\1', b'\2') else b''
 
 
@@ -73,25 +74,32 @@ def row(case, outcome):
     return result, tuple(carried)
 
 
+TABLES = 'table', 'area', 'fresh'
+
+
+def longest(sizes, *names):
+    return max(sizes.get(name, 0) for name in names)
+
+
 def fits(case):
     """Whether the program has room for a case, 40,000 bytes for a slice and 65,536 for all, and records and vectors are few: 18 vectors show
     that at most 16 are sent."""
     sizes = streams.sizes(case)
-    few = sizes.get('table', 0) <= 4096 and sizes.get('vectors', 0) <= 18 * 512
+    few = longest(sizes, *TABLES) <= 4096 and sizes.get('vectors', 0) <= 18 * 512
     return max(sizes.values()) <= 40000 and sum(sizes.values()) <= 65536 and few
 
 
 def small(case):
     sizes = streams.sizes(case)
     request = sizes.get('request', sizes.get('requests', 0) // 4)  # some requests in a row
-    files = max(sizes.get('table', 0), sizes.get('vectors', 0)) <= 2048 and sizes.get('profile', 0) <= 700
+    files = longest(sizes, 'vectors', *TABLES) <= 2048 and sizes.get('profile', 0) <= 700
     return files and (request <= 900 or request > 16384)
 
 
 def fitting(reference):
     """Cases that fit, the smallest first."""
     found = []
-    few = [(kind, (1,), 4000) for kind in ('tables', 'vectors', 'reports', 'moves')]
+    few = [(kind, (1,), 4000) for kind in ('tables', 'vectors', 'reports', 'moves', 'takes')]
     for kind, seeds, count in (*few, ('calls', range(1, 6), 20000)):
         for seed in seeds:
             found += [case for case in streams.cases(made(reference, kind, seed, count)) if fits(case)]
@@ -99,26 +107,30 @@ def fitting(reference):
 
 
 def showing(reference, fault, found, told):
-    """The first case that shows a fault, if one does; most are shown by one of the first thousand."""
+    """The first case that shows a fault, with its outcome, if one does; most are shown by one of the first thousand."""
     at, count = 0, 1000
     while at < len(found):
         some = found[at:at + count]
         wrong = outcomes(run(reference, 'outcomes', '--fault', fault, given=b''.join(case.whole for case in some)))
         for case, right, other in zip(some, told[at:at + count], wrong):
             if right.whole != other.whole:
-                return case.whole
+                return case, right
         at, count = at + count, 2 * count
 
 
 def telling(reference, found, told):
-    """For each deliberate fault of the independent program the first case that shows it."""
+    """For each deliberate fault of the independent program the first case that shows it, unless one for a fault before does."""
+    kept = []
     for line in run(reference, 'faults').decode().splitlines():
         fault = line.split()[0]
+        if kept and showing(reference, fault, *zip(*kept)):
+            continue
         case = showing(reference, fault, found, told)
         if case is None:
             print(f'no case shows {fault}')
         else:
-            yield [case]
+            kept.append(case)
+            yield [case[0].whole]
 
 
 def chosen(reference):
@@ -136,10 +148,9 @@ def chosen(reference):
     taken, left = {}, MOST
     for groups in telling(reference, found, told), results.values(), editions.values(), rows.values(), (group[1:] for group in rows.values()):
         for group in groups:
-            case = group[0] if group else None
-            if case and case not in taken and len(case) <= left:
-                taken[case] = None
-                left -= len(case)
+            if group and len(group[0]) <= left and not any(case in taken for case in group):
+                taken[group[0]] = None
+                left -= len(group[0])
         print(f'{len(taken)} cases of {len(results)} results and {len(rows)} rows, room for {left} bytes more')
     return list(taken)
 

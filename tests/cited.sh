@@ -54,7 +54,7 @@ export PKG_CONFIG_PATH=$prefix/lib/pkgconfig PATH=$prefix/bin:$PATH
 sed -n '/^## Try it/,/^## /s/^    \$ //p' "$readme" >"$room/commands"
 [ "$(wc -l <"$room/commands")" -ge 8 ] || fail 'the README has no trial'
 cc=$*
-sed -e "s|PREFIX|$prefix|" -e "s|^cc \(.*pkg-config\)|$cc \1|" -e "s#^\./\(decide\|move\|report\)#${RUN:-} ./\1#" "$room/commands" >"$room/trial.sh"
+sed -e "s|PREFIX|$prefix|" -e "s|^cc \(.*pkg-config\)|$cc \1|" -e "s#^\./\(decide\|move\|report\|take\)#${RUN:-} ./\1#" "$room/commands" >"$room/trial.sh"
 (cd "$room/trial" && sh -eu ../trial.sh) >"$room/said" || fail 'the trial in the README fails'
 grep -q -x 'answered, 168 bytes' "$room/said" || fail 'the trial gives another answer'
 grep -q -x 'vector block 5 used' "$room/said" || fail 'the trial uses no vector'
@@ -65,5 +65,6 @@ report=$(sed -n '/^    \$ \.\/report/,/^    \$ /{/^    \$ /d; s/^    //p; /^$/p}
 grep -q -x 'public=sip:erin@isle private=erin@isle' "$room/said" || fail 'the trial shows no table'
 grep -q -x '3 unused, 0 used, private=erin@isle' "$room/said" || fail 'the trial counts no vectors'
 moved=$(sed -n 's/^    \(moved to edition .*\)/\1/p' "$readme")
-[ -n "$moved" ] && [ "$(tail -n 2 "$room/said")" = "$moved" ] || fail 'the trial moves no table'
+[ -n "$moved" ] && [ "$(tail -n 3 "$room/said" | head -n 2)" = "$moved" ] || fail 'the trial moves no table'
+[ "$(tail -n 1 "$room/said")" = "$(sed -n 's/^    \(taken over, .*\)/\1/p' "$readme")" ] || fail 'the trial takes no table over'
 echo "cited.sh: $cited citations of installed things, and the README's trial"

@@ -86,7 +86,7 @@ echo "daemon.sh: the page's daemon answers from what is on disk and logs an AVP 
 
 # The daemon of the examples. Two calls that fail are tried, and of the other ways each by itself: store.h is the same.
 mkdir "$room/whole"
-cp "$top"/examples/{daemon.c,base.h,fault.h,files.h,log.h,remember.h,store.h} "$room/whole/"
+cp "$top"/examples/{daemon.c,area.h,base.h,fault.h,files.h,log.h,remember.h,store.h,taking.h} "$room/whole/"
 cp "$tests/whole.c" "$room/whole/example.c"
 source=whole flags=(-DPAIRED=1) noticed=0
 build "$room/whole" "$room/whole/daemon"

@@ -2,7 +2,8 @@
 """definitions.py REFERENCE SEED COUNT: do the definitions say what the independent program says?
 
 Takes calls that the independent program made and its outcomes of them, picks COUNT that show every refusal, every result,
-every assignment type, every step of an authentication, both editions and the rules of sets, and writes them as a crate with one statement, which antt computes from the definitions alone.
+every assignment type, every step of an authentication, both editions, the rules of sets and an area longer than its table, and beside them a tenth as many
+take-overs, and writes them as a crate with one statement, which antt computes from the definitions alone.
 The crate stands in a folder outside the repository, beside copies of the crates that crates/worked_examples and crates/ndushavire stand on. What the
 cases open is read from crates/worked_examples/proofs/Sample.antt, so that there is one list of it.
 """
@@ -24,8 +25,12 @@ STEPS += ['B2001 in state %d, %s' % (state, name) for state in range(3) for name
 STEPS += ['B5005 %d' % code for code in (1, 601, 612, 607, 602)] + ['B5004 612', 'B5014 607']
 WANTED = {'refused %d' % n for n in range(1, 7)} | {'B' + n for n in BASE.split()} | {'X' + n for n in EXPERIMENTAL.split()} | {
     'type %d done' % n for n in range(12)} | {'MAR ' + step for step in STEPS} | {'over edition 1', 'over edition 2'} | {
-    'a set written whole', 'barred, another of its set free', 'a set that disagrees'}
+    'a set written whole', 'barred, another of its set free', 'a set that disagrees', 'over a longer area'}
 
+# Of a take-over.
+TAKES = {'refused 9', 'refused 10', 'refused 10, by a block past the count', 'refused 11', 'taken', 'taken, with bytes behind it'}
+
+Take = collections.namedtuple('Take', 'area fresh profile word at changed')
 Case = collections.namedtuple('Case', 'request table profile vectors room word at changed vectorsAt vectorsChanged answer')
 
 
@@ -34,6 +39,37 @@ def read(made, told):
         held, changes = streams.slices(case), streams.changes(case, outcome)
         yield Case(held['request'], held['table'], held['profile'], held['vectors'], len(held['buffer']), outcome.word, *changes['table'],
                    *changes['vectors'], streams.answer(case, outcome))
+
+
+def read_takes(made, told):
+    for case, outcome in zip(streams.cases(made), streams.outcomes(told)):
+        held = streams.slices(case)
+        yield Take(held['area'], held['fresh'], held['profile'], outcome.word, *streams.changes(case, outcome)['area'])
+
+
+def small_take(take):
+    return max(len(take.area), len(take.fresh)) <= MOST_TABLE and len(take.profile) <= MOST_PROFILE
+
+
+def shows_take(take):
+    number = take.word >> 48
+    if number == 10 and len(take.area) >= 512:
+        front = len(take.area) - len(streams.past(take.area))
+        found = [at for at in range(0, len(take.area) - 511, 512) if take.area[at] in (1, 2) and take.area[at + 408:at + 412] >= take.fresh[408:412]]
+        return 'refused 10, by a block past the count' if min(found) >= front else 'refused 10'
+    if number:
+        return 'refused %d' % number
+    return 'taken, with bytes behind it' if len(take.fresh) < len(take.area) else 'taken'
+
+
+def pick_takes(reference, seed, count):
+    """A take-over of each kind, and then others as they come."""
+    made = streams.made(reference, 'takes', seed, GENERATED // 10)
+    takes = [take for take in read_takes(made, streams.run(reference, 'outcomes', given=made)) if small_take(take)]
+    first = {shows_take(take): take for take in reversed(takes)}
+    if missing := TAKES - set(first):
+        sys.exit('definitions.py: this seed has no take-over that is %s' % ', '.join(sorted(missing)))
+    return (list(first.values()) + [take for take in takes if take not in first.values()])[:max(count, len(first))]
 
 
 def small(case):
@@ -59,10 +95,6 @@ def steps(case, result, found):
     return many | {'B2001 as many as ' + ('asked' if sent == number else 'remain'), 'B2001 in state %d, %s' % (state, kept)}
 
 
-def blocks(table):
-    return [table[at:at + 512] for at in range(512, len(table) - 511, 512)]
-
-
 def one_set(a, b):
     return any(a[406:408]) and a[406:408] == b[406:408] and a[144:144 + a[14]] == b[144:144 + b[14]]
 
@@ -78,7 +110,7 @@ def set_shown(case, command, result):
         return {'a set written whole'} if case.at // 512 < (case.at + len(case.changed) - 1) // 512 else set()
     if command == 300 and (result[1] == '2' or result in ('X5003', 'X5004')):
         name = asked(case)[601, 10415]
-        return {'barred, another of its set free' for b in blocks(case.table) if b[16:16 + b[13]] == name and b[9] // 2 % 2}
+        return {'barred, another of its set free' for b in streams.records(case.table) if b[16:16 + b[13]] == name and b[9] // 2 % 2}
     return set()
 
 
@@ -86,14 +118,14 @@ def shows(case):
     """Of WANTED; and its kind, which has the command, the answer's AVPs and whether a record changed besides."""
     if case.word >> 48:
         shown, block = {'refused %d' % (case.word >> 48)}, case.word & 0xffffffff
-        if case.word >> 48 == 5 and 1 <= block <= len(blocks(case.table)) and any(
-                apart(a, blocks(case.table)[block - 1]) for a in blocks(case.table)[:block - 1]):
+        records = streams.records(case.table)
+        if case.word >> 48 == 5 and 1 <= block <= len(records) and any(apart(a, records[block - 1]) for a in records[:block - 1]):
             shown.add('a set that disagrees')
         return shown, frozenset(shown)
     found = dict(streams.avps(case.answer[20:]))
     result = 'B%d' % struct.unpack('>I', found[268, 0]) if (268, 0) in found else 'X%d' % struct.unpack('>I', found[297, 0][20:24])
     command = int.from_bytes(case.request[5:8], 'big')
-    shown = {result, 'over edition %d' % case.table[1]}
+    shown = {result, 'over edition %d' % case.table[1]} | ({'over a longer area'} if streams.past(case.table) else set())
     if command == 301 and (result[0] == 'X' or result in ('B2001', 'B5012')):  # decided, so all AVPs are sound
         done = 'done' if result in ('B2001', 'X2004') else result
         shown.add('type %d %s' % (asked(case)[614, 10415][3], done))
@@ -130,15 +162,20 @@ def record(case):
     return 'record { %s }' % ';\n        '.join('%s = %s' % field for field in fields)
 
 
+# What the cases open or name besides, by the module that has it: the area, the call, the take-over.
+OPENED = {'table.specs.Area': ['sizeIn', 'tableIn'], 'taking.specs.Found': ['greaterAt', 'greaterThanAll'],
+          'taking.specs.TakeOver': ['unfit', 'notGreater', 'tooShort', 'takeOver']}
+NAMED = {'calling.specs.Serve': ['serve'], 'taking.specs.TakeOver': ['came']}
+
+
 def opened():
     """The `use` lines of what the worked examples share, and those of the names that they open which these lines bring."""
     text = open('crates/worked_examples/proofs/Sample.antt').read()
     uses = re.findall(r'^use .*', text, re.MULTILINE)
     brought = set(re.findall(r'[^\s{},]+', ' '.join(use[use.index('{'):] for use in uses)))
-    if 'serve' not in brought:
-        uses.append('use Rattle.calling.specs.Serve.{serve}')
+    uses += ['use Rattle.%s.{%s}' % (path, name) for more in (OPENED, NAMED) for path, own in more.items() for name in own if name not in brought]
     names = re.search(r'^unfoldable pub opened : ℕ\nunfolding (.*?)^opened = ', text, re.MULTILINE | re.DOTALL).group(1).split()
-    return uses, [name for name in names if name in brought]
+    return uses, [name for name in names if name in brought] + [name for own in OPENED.values() for name in own if name not in names]
 
 
 CASES = '''%s
@@ -146,7 +183,7 @@ use mathlib.Core.Path.{_≡_}
 use lib.Seq.{sets}
 use Rattle.requests.specs.Request.{underCx}
 use Rattle.calling.specs.Lent.{lent}
-use Rattle.ndushavire.specs.Reads.{callIn}
+use Rattle.ndushavire.specs.Reads.{callIn, takeIn}
 
 -- all that the cases open
 unfoldable pub opened : ℕ
@@ -176,11 +213,23 @@ Agrees c =
 abbrev pub Agree : List Case → Type 0
 Agree [] = Unit
 Agree (c ∷ cs) = Agrees c × Agree cs
+
+-- A take-over: its word, what changed in the area and where.
+pub record Take : Type 0 where
+  pub area : List ℕ
+  pub fresh : List ℕ
+  pub profile : List ℕ
+  pub word : ℕ
+  pub at : ℕ
+  pub changed : List ℕ
+
+abbrev pub Took : Take → Type 0
+Took c = takeOver (c .area) (c .fresh) (length (c .profile)) ≡ came (takeIn (c .word)) (sets (c .area) (c .at) (c .changed))
 '''
 PART = '''use mathlib.Core.Path.{refl}
 use mathlib.Core.List.{List, [], _∷_, _++_}
 use lib.ListN.{replicate}
-use Rattle.computed.proofs.Cases.{Case, Agrees, opened}
+use Rattle.computed.proofs.Cases.{Case, Agrees, Take, Took, opened}
 '''
 # A declaration for each case, since antt counts the steps of each.
 CASE = '''
@@ -190,6 +239,14 @@ case%(n)d = %(record)s
 pub agrees%(n)d : Agrees case%(n)d
 unfolding opened
 agrees%(n)d = refl
+'''
+TAKE = '''
+abbrev pub take%(n)d : Take
+take%(n)d = %(record)s
+
+pub took%(n)d : Took take%(n)d
+unfolding opened
+took%(n)d = refl
 '''
 ALL = '''use mathlib.Core.List.{List, [], _∷_}
 use Rattle.computed.proofs.Cases.{Case, Agree}
@@ -204,7 +261,7 @@ agree = %(proof)stt%(end)s
 '''
 
 
-def modules(cases):
+def modules(cases, takes):
     uses, names = opened()
     yield 'Cases', CASES % ('\n'.join(uses), ' '.join(names))
     numbers, uses = range(len(cases)), []
@@ -212,14 +269,15 @@ def modules(cases):
         some = numbers[part:part + IN_A_PART]
         yield 'Part%d' % part, PART + ''.join(CASE % {'n': n, 'record': record(cases[n])} for n in some)
         uses.append('use Rattle.computed.proofs.Part%d.{%s}' % (part, ', '.join('case%d, agrees%d' % (n, n) for n in some)))
+    yield 'Takes', PART + ''.join(TAKE % {'n': n, 'record': record(take)} for n, take in enumerate(takes))
     yield 'All', ALL % {'uses': '\n'.join(uses), 'cases': ''.join('case%d ∷ ' % n for n in numbers),
                         'proof': ''.join('(agrees%d, ' % n for n in numbers), 'end': ')' * len(cases)}
 
 
-def write(folder, cases):
+def write(folder, cases, takes):
     for part in ('src', 'specs', 'proofs'):
         os.makedirs('%s/%s' % (folder, part))
-    texts = dict(modules(cases))
+    texts = dict(modules(cases, takes))
     lib = ''.join('pub mod %s\n' % name for name in texts)
     for name, text in [('src/lib.rt', '// Generated cases.\n'), ('specs/Lib.antt', ''), ('proofs/Lib.antt', lib)] + [
             ('proofs/%s.antt' % name, text) for name, text in texts.items()]:
@@ -229,7 +287,7 @@ def write(folder, cases):
 def copy(folder):
     """What crates/worked_examples uses, and crates/ndushavire, as far as they are proved, and `computed` above them."""
     lines = dict(re.findall(r'^(\w+):(.*)', open('crates.txt').read(), re.MULTILINE))
-    used = lines['worked_examples'] + ' ndushavire'
+    used = lines['worked_examples'] + ' taking ndushavire'
     below = set(used.split())
     while more := {dep for name in below for dep in lines[name].split()} - below:
         below |= more
@@ -257,20 +315,21 @@ def gather(reference, seed, count):
 def main():
     reference, seed, count = sys.argv[1], sys.argv[2], int(sys.argv[3])
     cases, missing, kinds = gather(reference, seed, count)
-    print('definitions: seed %s, %d cases of %d kinds' % (seed, len(cases), kinds), flush=True)
+    takes = pick_takes(reference, seed, count // 10)
+    print('definitions: seed %s, %d cases of %d kinds, and %d take-overs' % (seed, len(cases), kinds, len(takes)), flush=True)
     if count < len(WANTED):
         print('too few to show every refusal, result, assignment type and step: a trial', flush=True)
     elif len(cases) < count or missing:
         sys.exit('definitions.py: this seed has %d cases, and none of: %s' % (len(cases), ', '.join(sorted(missing))))
     with tempfile.TemporaryDirectory() as folder:
         copy(folder)
-        write(folder + '/crates/computed', cases)
+        write(folder + '/crates/computed', cases, takes)
         status = subprocess.run(['rt', 'check', 'computed'], cwd=folder).returncode
         if status == 3:
             sys.exit('definitions.py: antt could not tell; nothing is known to differ')
         if status != 0:
             sys.exit('definitions.py: not agreed; SEED=%s shows it again' % seed)
-        print('the definitions and the independent program agree in %d cases of %d kinds' % (len(cases), kinds))
+        print('the definitions and the independent program agree in %d cases of %d kinds, and in %d take-overs' % (len(cases), kinds, len(takes)))
 
 
 if __name__ == '__main__':

@@ -68,6 +68,11 @@ static uint64_t back(const struct lent *lent)
     return ndushavire_back(SLICE(0), SLICE(1));
 }
 
+static uint64_t take(const struct lent *lent)
+{
+    return ndushavire_take(SLICE(0), SLICE(1), SLICE(2));
+}
+
 /* The entries by their number in the streams, from 1 on: a letter for each slice, r if it is lent to be read and w if
  * the entry may write to it; how many numbers; the call. */
 static const struct entry {
@@ -81,6 +86,7 @@ static const struct entry {
     {"rwrwww", 0, report},
     {"wr", 1, forward},
     {"wr", 0, back},
+    {"wrr", 0, take},
 };
 
 struct bytes {

@@ -18,7 +18,7 @@ fail() {
 }
 command -v pkg-config >/dev/null || fail 'pkg-config is missing (Debian: pkg-config)'
 programs=(bin/ndushavire-maketable bin/ndushavire-showtable)
-[ "$(uname -m)" != x86_64 ] || programs+=(bin/answer bin/ndushavire-check bin/ndushavire-move bin/ndushavire-report bin/tablecheck)
+[ "$(uname -m)" != x86_64 ] || programs+=(bin/answer bin/ndushavire-check bin/ndushavire-move bin/ndushavire-report bin/ndushavire-take bin/tablecheck)
 functions=$(sed -n -E '/^[a-z]/s/^[^(]* (ndushavire_[a-z_]+)\(.*/\1/p' "$top/include/ndushavire.h")
 [ "$(wc -l <<<"$functions")" -ge 18 ] || fail "the header has only $functions"
 for name in $functions; do
@@ -37,7 +37,7 @@ quiet() { make -s -C "$top" "$@"; }
     (cd "$top" && printf 'share/doc/ndushavire/%s\n' examples/* examples/{icscf-20-lir,scscf-12-sar,mar-33,mar-16}.hex)
     (cd "$top" && printf '%s\n' man/* | sed 's|^man/\(.*\)\.\(.\)$|share/man/man\2/\1.\2|')
 } | sed '/^$/d' | sort >"$room/expected"
-for name in share/man/man1/{answer,tablecheck,ndushavire-{check,maketable,move,report,showtable}}.1 share/man/man3/ndushavire{,_value}.3 \
+for name in share/man/man1/{answer,tablecheck,ndushavire-{check,maketable,move,report,showtable,take}}.1 share/man/man3/ndushavire{,_value}.3 \
     share/man/man7/ndushavire.7 share/doc/ndushavire/examples/{move.c,store.h}; do
     grep -q -x -F "$name" "$room/expected" || fail "the tree has no $name"
 done
@@ -96,10 +96,10 @@ uninstalled "$room/package/man" "PREFIX=$odd" DESTDIR=
 
 # The programs have their names and may be run, on whichever machine.
 mkdir "$room/made"
-touch "$room/made/"{answer,check,maketable,move,report,showtable}
+touch "$room/made/"{answer,check,maketable,move,report,showtable,take}
 PREFIX=$room/named DESTDIR='' "$top/packaging/install.sh" install "$top/target/staticlib/libndushavire.a" "$room/made/"*
-for name in answer ndushavire-{check,maketable,move,report,showtable}; do [ -x "$room/named/bin/$name" ] || fail "there is no $name to be run"; done
-[ "$(find "$room/named/bin" -type f | wc -l)" = 6 ] || fail 'other programs than the six given'
+for name in answer ndushavire-{check,maketable,move,report,showtable,take}; do [ -x "$room/named/bin/$name" ] || fail "there is no $name to be run"; done
+[ "$(find "$room/named/bin" -type f | wc -l)" = 7 ] || fail 'other programs than the seven given'
 uninstalled "$room/named" "PREFIX=$room/named" DESTDIR=
 
 # What is refused alters nothing: neither the tree nor what is installed.
@@ -159,6 +159,9 @@ if [ -e "$room/prefix/bin/answer" ]; then
         fail 'ndushavire-report does not read a file of no requests'
     [ "$("$room/prefix/bin/ndushavire-move" forward 7 table profile moved)" = 'moved to edition 2, 9 records, issue 7' ] && [ -f moved ] ||
         fail 'ndushavire-move does not move the sample'
+    [ "$("$room/prefix/bin/ndushavire-take" table moved profile)" = 'taken over, 9 records, issue 7' ] && cmp table moved >&2 ||
+        fail 'ndushavire-take does not take the moved sample over'
+    rm moved
     refused=$(head -c 19 /dev/zero | "$room/prefix/bin/answer")
     [ "$refused" = 'refused 2' ] || fail "answer says '$refused' of 19 bytes"
 fi

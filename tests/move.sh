@@ -121,7 +121,11 @@ truncate -s -512 "$table"
 refused 'refused 5, block 0 is bad' 'a table cut short' forward 7
 cp "$room/second" "$table"
 truncate -s +1 "$table"
-refused 'refused 5, block 0 is bad' 'a byte behind a table' back
+refused 'refused 5, block 0: 1 bytes stand past the table' 'a byte behind a table' back
+refused 'refused 5, block 0: 1 bytes stand past the table' 'a byte behind a table, forward' forward 7
+cp "$room/first" "$table"
+truncate -s +1024 "$table"
+refused 'refused 5, block 0: 1024 bytes stand past the table' 'two blocks behind a table' forward 7
 : >"$table"
 refused 'refused 5, block 0 is bad' 'no byte' back
 cp "$room/first" "$table"

@@ -32,12 +32,21 @@ uint64_t __real_ndushavire_report(const uint8_t *requests, size_t requests_len, 
 uint64_t __wrap_ndushavire_report(const uint8_t *requests, size_t requests_len, uint8_t *table, size_t table_len, const uint8_t *profile,
                                   size_t profile_len, uint8_t *vectors, size_t vectors_len, uint8_t *answer, size_t answer_len, uint8_t *report,
                                   size_t report_len);
+uint64_t __real_ndushavire_forward(uint8_t *table, size_t table_len, const uint8_t *profile, size_t profile_len, uint32_t issue);
+uint64_t __wrap_ndushavire_forward(uint8_t *table, size_t table_len, const uint8_t *profile, size_t profile_len, uint32_t issue);
+uint64_t __real_ndushavire_back(uint8_t *table, size_t table_len, const uint8_t *profile, size_t profile_len);
+uint64_t __wrap_ndushavire_back(uint8_t *table, size_t table_len, const uint8_t *profile, size_t profile_len);
+uint64_t __real_ndushavire_take(uint8_t *area, size_t area_len, const uint8_t *fresh, size_t fresh_len, const uint8_t *profile,
+                                size_t profile_len);
+uint64_t __wrap_ndushavire_take(uint8_t *area, size_t area_len, const uint8_t *fresh, size_t fresh_len, const uint8_t *profile,
+                                size_t profile_len);
 
 /* The call that is made next: what it is lent, in its order, and the word that it returned. */
 static struct {
     const uint8_t *read[6];
     uint8_t *written[6];
     size_t length[6];
+    uint32_t number;
     uint64_t word;
 } lent;
 
@@ -48,6 +57,9 @@ static void check(void) { lent.word = __real_ndushavire_check(READ(0), READ(1));
 static void check_vectors(void) { lent.word = __real_ndushavire_check_vectors(READ(0)); }
 static void decide(void) { lent.word = __real_ndushavire_decide(READ(0), WRITTEN(1), READ(2), WRITTEN(3), WRITTEN(4)); }
 static void report(void) { lent.word = __real_ndushavire_report(READ(0), WRITTEN(1), READ(2), WRITTEN(3), WRITTEN(4), WRITTEN(5)); }
+static void forward(void) { lent.word = __real_ndushavire_forward(WRITTEN(0), READ(1), lent.number); }
+static void back(void) { lent.word = __real_ndushavire_back(WRITTEN(0), READ(1)); }
+static void take(void) { lent.word = __real_ndushavire_take(WRITTEN(0), READ(1), READ(2)); }
 
 static void (*call)(void);
 static size_t spent;
@@ -167,4 +179,28 @@ uint64_t __wrap_ndushavire_report(const uint8_t *requests, size_t requests_len, 
     lend_written(4, answer, answer_len);
     lend_written(5, numbers, numbers_len);
     return narrow(report);
+}
+
+uint64_t __wrap_ndushavire_forward(uint8_t *table, size_t table_len, const uint8_t *profile, size_t profile_len, uint32_t issue)
+{
+    lend_written(0, table, table_len);
+    lend_read(1, profile, profile_len);
+    lent.number = issue;
+    return narrow(forward);
+}
+
+uint64_t __wrap_ndushavire_back(uint8_t *table, size_t table_len, const uint8_t *profile, size_t profile_len)
+{
+    lend_written(0, table, table_len);
+    lend_read(1, profile, profile_len);
+    return narrow(back);
+}
+
+uint64_t __wrap_ndushavire_take(uint8_t *area, size_t area_len, const uint8_t *fresh, size_t fresh_len, const uint8_t *profile,
+                                size_t profile_len)
+{
+    lend_written(0, area, area_len);
+    lend_read(1, fresh, fresh_len);
+    lend_read(2, profile, profile_len);
+    return narrow(take);
 }

@@ -1,5 +1,5 @@
 #!/usr/bin/env bash
-# narrow.sh REFERENCE SEED COUNT DRIVER..: so many calls, and a tenth as many reports and checks of each kind, by a DRIVER whose calls have the stack of the
+# narrow.sh REFERENCE SEED COUNT DRIVER..: so many calls, and a tenth as many of each other entry, by a DRIVER whose calls have the stack of the
 # little box (narrow.c), beside the independent program. A call that finds most of that stack used up must be told of.
 set -euo pipefail
 reference=$1 seed=$2 count=$3
@@ -9,12 +9,13 @@ compare() { # KIND COUNT
     "$reference" compare --kind "$1" --seed "$seed" --count "$2" -- "${driver[@]}"
 }
 
-echo "narrow.sh: seed $seed, $count calls, and $((count / 10)) reports and checks of each kind, on a stack of 16 KiB"
+others=(reports tables vectors moves takes)
+echo "narrow.sh: seed $seed, $count calls, and $((count / 10)) of each of ${others[*]}, on a stack of 16 KiB"
 compare calls "$count"
-for kind in reports tables vectors; do
+for kind in "${others[@]}"; do
     compare "$kind" $((count / 10))
 done
-for kind in calls reports tables vectors; do
+for kind in calls "${others[@]}"; do
     status=0
     said=$(SPENT=16000 compare "$kind" 1 2>&1) || status=$?
     [ "$status" = 1 ] && grep -q 'narrow: a call needs more than a stack of 16 KiB' <<<"$said" || {

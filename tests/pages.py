@@ -22,6 +22,7 @@ STATEMENTS = {
     'demands/Firm': ANY,
     'demands/Place': '02 [2]',
     'demands/Sets': '02 [6]',
+    'demands/TakingOver': '02 [8]',
     'demands/Together': '02 [6]',
     'demands/Unreachable': '02 [7]',
     'moving/Moving': '02 [5]',
@@ -32,13 +33,14 @@ STATEMENTS = {
     'rewrite/Reaching': '02 [6]',
     'seen_alike/Likeness': '02 [5]',
     'seen_alike/Moved': '02 [5]',
+    'taking/Taking': '02 [8]',
     'vectors_sent/Sending': '02 [1]',
 }
 WITH_STEPS = {'rewrite/Reaching', 'seen_alike/Likeness'}
 # Modules of proofs/, in whatever crate, that docs/PROVED.md cites under "Proved" and that are no such pages: examples, instances, wrong servers, single laws.
-NO_STATEMENTS = {'Challenges', 'Examples', 'Family', 'Members', 'Moves', 'Readings', 'Room', 'Servers', 'Sound', 'Worked'}
+NO_STATEMENTS = {'Areas', 'Challenges', 'Examples', 'Family', 'Members', 'Moves', 'Readings', 'Room', 'Servers', 'Sound', 'TakeOvers', 'Worked'}
 # The crates that have wrong servers or wrong reporters, each with a theorem `.. -fails`.
-WRONG = ('report_example', 'sets_example', 'wrong_servers')
+WRONG = ('report_example', 'sets_example', 'taking_example', 'wrong_servers')
 # What a cell of the column Theorem says where there is no theorem: it is the contract of a function of that row; or there is none, and why.
 MARKS = ('the contract', 'none:')
 

@@ -187,15 +187,14 @@ static void put_own_identity(uint8_t *record, uint32_t k) {
     put32(record + 16, k * 0x9E3779B1u);
 }
 
-/* A table of this edition, full or of some records, and its profile file. */
-static Bytes put_table(uint8_t edition, int full, Bytes *profile) {
-    const size_t wanted = full ? RECORDS : some();
+/* A table of this edition and of so many records, or a few fewer unless they are DISTINCT, and its profile file. */
+static Bytes put_table_of(uint8_t edition, size_t wanted, int distinct, Bytes *profile) {
     uint8_t *table = (uint8_t *)calloc(wanted + 1, BLOCK);
     if (table == NULL) stop("no memory");
     put_header(table, edition);
     for (size_t k = 1; k <= wanted; k++) {
         put_record(table + BLOCK * k, edition, table[15]);
-        if (full) put_own_identity(table + BLOCK * k, (uint32_t)k);
+        if (distinct) put_own_identity(table + BLOCK * k, (uint32_t)k);
     }
     qsort(table + BLOCK, wanted, BLOCK, by_identity);
     size_t count = 0;
@@ -212,6 +211,11 @@ static Bytes put_table(uint8_t edition, int full, Bytes *profile) {
     for (size_t k = 0; k <= count; k++) seal(table + BLOCK * k);
     const Bytes made = {table, BLOCK * (count + 1)};
     return made;
+}
+
+/* A table of this edition, full or of some records, and its profile file. */
+static inline Bytes put_table(uint8_t edition, int full, Bytes *profile) {
+    return put_table_of(edition, full ? RECORDS : some(), full, profile);
 }
 
 #endif

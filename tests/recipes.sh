@@ -19,9 +19,10 @@ room=$(cd "$room" && pwd)
 disk=$(mktemp -d) # to which nobody comes, also where the tree is closed to him
 chmod 755 "$disk"
 tree=$disk/tree bin=$disk/bin prefix=$disk/prefix here=$disk/here
-daemon='' memory='' ran=0 trials=0
+daemon='' daemon_alone='' memory='' ran=0 trials=0
 ended() {
     [ -z "$daemon" ] || kill -TERM -- "-$daemon" 2>/dev/null || true
+    [ -z "$daemon_alone" ] || kill -KILL "$daemon_alone" 2>/dev/null || true
     rm -rf "$disk" ${memory:+"$memory"}
 }
 trap ended EXIT
@@ -171,8 +172,8 @@ install=$(sed -n 's/^    \(make install PREFIX=\)[^ ]*.*/\1/p' "$top/README.md")
 PATH=$prefix/bin:$PATH
 export PKG_CONFIG_PATH=$prefix/lib/pkgconfig
 mkdir "$disk/made"
-cp "$top/target/c99/"{check,move,report} "$top/target/bin/"{answer,tablecheck} "$disk/made/"
-for name in check move report; do [ -e "$prefix/bin/ndushavire-$name" ] || wrap "$bin/ndushavire-$name" "${RUN-} '$disk/made/$name'"; done
+cp "$top/target/c99/"{check,move,report,take} "$top/target/bin/"{answer,tablecheck} "$disk/made/"
+for name in check move report take; do [ -e "$prefix/bin/ndushavire-$name" ] || wrap "$bin/ndushavire-$name" "${RUN-} '$disk/made/$name'"; done
 for name in answer tablecheck; do [ -e "$prefix/bin/$name" ] || wrap "$bin/$name" "$program '$disk/made/$name'"; done
 examples=$prefix/share/doc/ndushavire/examples
 built() { # FOLDER DAEMON COMMAND: the daemon, without arguments, says how it is used
@@ -282,6 +283,58 @@ indented docs/TABLE.md '## As text' | session 'TABLE.md, text and back' "$here"
 grep -q alicia "$here/live/table" || fail 'TABLE.md: the household is not altered'
 [ "$(stat -c '%s %a' "$here/cards/vectors")" = "$((512 * 8)) 600" ] || fail 'TABLE.md: the used vector is not taken out, or others may read the first vectors'
 
+# ---- ndushavire-take(1): the sample of issue 7 is live, and the mainland has sent it with issue 8, and with 9
+of_issue() { sed "s/^host=.*/& issue=$1/" "$top/examples/households.txt" >"$room/text" && ndushavire-maketable table "$room/text"; } # ISSUE
+isle() { # with the first CUT blocks of issue 8 over the live table
+    sample "$here"
+    mkdir "$here/sent"
+    of_issue 7 >"$here/live/table"
+    for issue in 8 9; do of_issue "$issue" >"$here/sent/$issue"; done
+    chmod a-w "$here/sent/"*
+    dd if="$here/sent/8" of="$here/live/table" bs=512 count="$1" conv=notrunc status=none
+}
+took() { cmp "$here/live/table" "$here/sent/$1" >&2 || fail "ndushavire-take(1): the live table is not of issue $1"; } # ISSUE
+taking() { displays ndushavire-take.1 "$1" | session "ndushavire-take(1), $1" "$here"; } # HEADING
+isle 0
+taking 'With the daemon stopped'
+took 8
+isle 0
+taking 'While the daemon serves'
+cmp "$here/live/table.next" "$here/sent/8" >&2 && [ ! -e "$here/live/table.part" ] || fail 'ndushavire-take(1): no table stands beside the live one'
+# The daemon, which then takes it over, says what the page says; cut, it does not start, and says which block is bad.
+next=$(displays ndushavire-take.1 'While the daemon serves' | grep '^daemon: ')
+run_daemon() { # STATUS: ends by itself, or by SIGTERM once it has taken the table over
+    local status=0 pid
+    (cd "$here" && exec ${RUN-} "$tree/service/daemon" -p 0 live cards 2>"$room/said") &
+    pid=$!
+    daemon_alone=$pid
+    for ((tries = 0; tries < 3000; tries++)); do
+        ! kill -0 "$pid" 2>/dev/null || grep -q 'is taken over' "$room/said" && break
+        sleep 0.02
+    done
+    kill -TERM "$pid" 2>/dev/null || true
+    wait "$pid" || status=$?
+    daemon_alone=''
+    [ "$status" = "$1" ] || fail "ndushavire-take(1): the daemon ends with status $status: $(cat "$room/said")"
+}
+run_daemon 0
+[ "$(grep -F table.next "$room/said")" = "$next" ] || fail "ndushavire-take(1): the daemon says '$(cat "$room/said")'"
+took 8
+isle 4
+run_daemon 1
+grep -q 'block 4 is bad' "$room/said" && grep -q 'greater than 8.*zero table, from block 0 up' "$room/said" || fail "the daemon says '$(cat "$room/said")' of a cut table"
+taking 'After a cut'
+took 8
+isle 0
+taking 'A longer area'
+cmp "$here/alone" <(of_issue 7) >&2 && [ -s "$here/text" ] || fail 'ndushavire-take(1): the table is not cut out of the area'
+# In a longer area the scripts work as they do in one that is exact.
+ndushavire-maketable table "$here/households.txt" >"$here/live/table"
+truncate -s +700 "$here/live/table"
+for words in 'vectors.sh unused' 'move.sh forward 7' 'month.sh 2026-11'; do
+    (cd "$here" && sh -c "./$words" >"$room/said" 2>&1) || fail "$words in a longer area: $(cat "$room/said")"
+done
+
 # ---- ndushavire-report(1): a month
 sample "$here"
 mkdir -p "$here/month.new/left"
@@ -300,7 +353,7 @@ state "$here" | diff "$room/before" - >&2 || fail 'a month that is begun twice l
 # ---- each command of each script fails in turn; in memory, if that can be, where a flush takes no time
 memory=$(mktemp -d -p /dev/shm recipes.XXXXXX 2>/dev/null) && here=$memory/here || memory=''
 mkdir "$disk/counted"
-for name in ndushavire-maketable ndushavire-showtable ndushavire-check ndushavire-move awk cat cp date flock head ln mkdir mv rm sync tail; do
+for name in ndushavire-maketable ndushavire-showtable ndushavire-check ndushavire-move awk cat cp date flock head ln mkdir mv od rm sync tail; do
     printf '#!/bin/sh\nread -r turn <"%s/turn"\necho $((turn - 1)) >"%s/turn"\n[ "$turn" != 1 ] || exit 7\nexec "%s" "$@"\n' \
         "$room" "$room" "$(command -v "$name")" >"$disk/counted/$name"
 done
@@ -357,7 +410,7 @@ sed 's/alice/alicia/g' "$top/examples/households.txt" >"$room/second"
 each_fails 1 switch.sh "$room/second"
 cmp "$here/live/table" <(ndushavire-maketable table "$room/second") >&2 || fail 'switch.sh: another table is live'
 refused 'keep' switch.sh "$room/wrong"
-printf '#!/bin/sh\n"%s" "$@" && echo spoilt\n' "$(command -v ndushavire-maketable)" >"$room/spoil"
+printf '#!/bin/sh\necho spoilt && "%s" "$@"\n' "$(command -v ndushavire-maketable)" >"$room/spoil"
 chmod +x "$room/spoil"
 cp "$disk/counted/ndushavire-maketable" "$room/kept"
 cp "$room/spoil" "$disk/counted/ndushavire-maketable"

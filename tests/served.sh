@@ -22,7 +22,7 @@ command -v python3 >/dev/null || fail 'python3 is missing (Debian: python3)'
 cp -r "$top/examples" "$room/source"
 
 # Three trials are about peers that wait in vain, and have a daemon with little patience; the others may run on a machine that is slow.
-hasty='greeting slow ending' others='cut many garbage replaced declined two_users laid_over sizes put_in timed_out last_good twice full kills'
+hasty='greeting slow ending' others='cut many garbage replaced declined two_users laid_over sizes taken taken_over_kills put_in timed_out last_good twice full kills'
 build() { # SOURCES PROGRAM TRIAL [OPTION]
     local flags=(-DLOOK_AGAIN=1 "${@:4}")
     [[ " $hasty " != *" $3 "* ]] || flags+=(-DQUIET=3 -DGREETING=1 -DFAREWELL=1)
@@ -100,7 +100,7 @@ with 'an answer that is sent again with the first Proxy-Info' twice remember.h '
 with 'a Route-Record that makes another request of it' twice remember.h 's/return is_proxy_info(avp) || .*/return is_proxy_info(avp); }/'
 with 'answers that altered nothing among those that did' crowded remember.h -e "$few" -e 's/^    Row \*row = &memory.row\[.*/    Row *row = \&memory.row[1];/'
 with 'answers that are forgotten without a word' crowded remember.h -e "$few" -e 's/^    return room;/    return 1;/'
-with 'an unsound table that is taken over' replaced files.h 's/^    if (why == NULL) why = of("table", unsound(.*//'
+with 'an unsound table that is taken over' replaced files.h 's/return why != NULL ? why : of("table", unsound(.*/return why;/'
 with 'a table that is never looked for' replaced files.h 's/^    consider(locked_already(.*/    close(folder);/'
 with 'a table that was laid over ours, and is left there' replaced files.h 's/^    if (laid_over || !has_ours(table.folder, &table)) lay_back();//'
 with 'a switch that does not happen, without a word' declined files.h 's/^        declined(of(live, strerror(errno)));/        ;/'
@@ -113,6 +113,19 @@ with 'a table renamed away before ours is stored' laid_over files.h \
     's/^    const int folder = table.folder;$/&\n    renameat(folder, "table", folder, "table.declined");/'
 with 'a mode that is taken from what was laid over ours' laid_over files.h 's/^    if (fchmodat(folder, "table.ours", .* || fstatat/    if (fstatat/'
 with 'a table that was left without its name' laid_over files.h 's/^    finish_laying_back(here);//'
+with 'a table beside ours that is never looked for' taken daemon.c 's/^    look_for_next();//'
+with 'what alters while a table is taken over' taken daemon.c 's/ || (taking \&\& may_alter(message, length))//'
+with 'what waited for a table, and is forgotten' taken daemon.c 's/^        if (peers\[i\].socket >= 0) work(&peers\[i\]);$/        ;/'
+with 'a table of which only half is ours, taken for one that was laid over it' taken files.h 's/^    if (taking) return;//'
+with 'a take-over that fails, and is left so' taken taking.h '/^static void give_up/,/^}/{s/^    laid_over = 1;//; s/^    lay_back();//}'
+with 'an end within a take-over' taken daemon.c 's/^    if (taking) go_on_taking(1);//'
+with 'a table that is refused and taken over' taken taking.h 's/^    return ndushavire_taken(word) ? NULL : refusal_of(word, &t);/    return NULL;/'
+with 'a new table that is taken over and stays beside ours' taken taking.h 's/^    unlinkat(table.folder, next_name, 0);//'
+with 'a table that is answered from before it is on disk' taken_over_kills taking.h -e 's/^    if (!ndushavire_taken(word)) stop(.*//' \
+    -e 's/^    written = 0;/&\n    ndushavire_take(table.bytes, table.length, next_table.bytes, next_table.length, profile.bytes, profile.length);/'
+with 'blocks that are written from the last one down' taken_over_kills taking.h 's/write_block(area_file, next_table.bytes, written)/write_block(area_file, next_table.bytes, blocks - 1 - written)/'
+with 'a take-over that was cut, and nobody is told what to do' taken_over_kills taking.h 's/^        say_what_to_do();//'
+with 'a take-over that was cut, and is not mended at a start' taken_over_kills files.h 's/return bad != NULL ? mend_table(bad) : NULL;/return of("table", bad);/'
 with 'sizes that are not asked' sizes files.h 's/^    if (size <= most \&\& size % block == 0) return NULL;/    if (size < 1ull << 40) return NULL;/'
 with 'vectors that are stored over without a word' put_in files.h 's/^    if (used \&\& !has_ours(vectors.folder, &vectors)) .*//'
 with 'a last good file that is stored over' last_good files.h 's/(file.st_mode & 0222) == 0 || (around.st_mode & 0222) == 0/0/'

@@ -1,5 +1,6 @@
 /* slow-disk.h: included before a daemon by its test. A flush takes a millisecond, so that a kill often comes before it; it fails where
- * the folder that SLOW_DISK names has a file disk-full, and that of a folder where it has a file folder-fails. The daemon is the user
+ * the folder that SLOW_DISK names has a file disk-full, that of a folder where it has a file folder-fails, and that of a block that is written in
+ * place where it has a file block-fails. The daemon is the user
  * whose number DAEMON_USER has: it may be started from a folder that this user cannot reach. */
 #ifndef SLOW_DISK_H
 #define SLOW_DISK_H
@@ -31,7 +32,16 @@ static int slow_fsync(int file) {
     return -1;
 }
 
+static inline int slow_fdatasync(int file) {
+    const struct timespec millisecond = {0, 1000000};
+    nanosleep(&millisecond, NULL);
+    if (!test_has("block-fails")) return fdatasync(file);
+    errno = EIO;
+    return -1;
+}
+
 #define fsync slow_fsync
+#define fdatasync slow_fdatasync
 
 int setgroups(size_t many, const gid_t *groups); /* which POSIX does not have */
 

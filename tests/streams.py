@@ -3,7 +3,8 @@ import collections, struct, subprocess
 
 # The slices that each entry takes, with a star behind those that it may write to.
 ENTRIES = {1: 'table profile'.split(), 2: 'request table* profile vectors* buffer*'.split(), 3: ['vectors'],
-           4: 'requests table* profile vectors* buffer* report*'.split(), 5: 'table* profile'.split(), 6: 'table* profile'.split()}
+           4: 'requests table* profile vectors* buffer* report*'.split(), 5: 'table* profile'.split(), 6: 'table* profile'.split(),
+           7: 'area* fresh profile'.split()}
 WRITTEN, NOISY = 1 << 31, 1 << 30  # beside a slice's length
 # What a slice of noise holds before the call, from any of its first 256 bytes on.
 NOISE = bytes(((n * 2654435761) & 0xFFFFFFFF) >> 24 for n in range(256 + 65536))
@@ -87,15 +88,25 @@ def answer(case, outcome):
     return after(case, outcome, 'buffer')[:length]
 
 
+def records(area):
+    """The blocks of the records of the table at the front of an area; none past its count."""
+    count = int.from_bytes(area[8:12], 'big')
+    return [area[at:at + 512] for at in range(512, min(512 * (count + 1), len(area) - 511), 512)]
+
+
+def past(area):
+    """What stands past that table."""
+    return area[512 * (int.from_bytes(area[8:12], 'big') + 1):]
+
+
 def state(table, public):
     """The state of a public identity's record."""
-    blocks = (table[at:at + 512] for at in range(512, len(table), 512))
-    return next((b[8] for b in blocks if b[16:16 + b[13]] == public), None)
+    return next((b[8] for b in records(table) if b[16:16 + b[13]] == public), None)
 
 
 def set_size(table, public):
     """How many records the set of a public identity has: 0 without a set, 1, or 2 for several."""
-    blocks = [table[at:at + 512] for at in range(512, len(table), 512)]
+    blocks = records(table)
     sets = [(b[144:144 + b[14]], b[406:408]) for b in blocks]
     own = next((s for b, s in zip(blocks, sets) if b[16:16 + b[13]] == public), None)
     return min(sets.count(own), 2) if own and own[1] != b'\0\0' else 0

@@ -35,18 +35,17 @@ says() { # EXPECTED ABOUT
     tried=$((tried + 1))
 }
 
-# Of an area that is longer than its table every CHECK says so, and showtable, which wants the exact length, refuses it.
-longer() { # RECORDS BYTES ABOUT
+# Every CHECK says this of a table in a longer area, and showtable, which wants the table alone, that its length is wrong.
+in_area() { # EXPECTED STATUS ABOUT
     local check said status
     for check in "${checks[@]}"; do
         status=0
         said=$("${run[@]}" "$check" "$table" "$profile") || status=$?
-        [ "$said" = "sound, $1 records"$'\n'"$2 bytes past the table were not looked at" ] || fail "$3: $check says '$said'"
-        [ "$status" = 0 ] || fail "$3: $check ends with status $status and should end with 0"
+        [ "$said" = "$1" ] && [ "$status" = "$2" ] || fail "$3: $check says '$said' and should say '$1', status $status"
     done
     status=0
-    said=$("$showtable" "$table" "$profile" 2>&1 >"$room/shown") || status=$?
-    [ "$status" = 1 ] && [ "$said" = "ndushavire-showtable: $table: block 0 is bad" ] && [ ! -s "$room/shown" ] || fail "$3: showtable says '$said'"
+    said=$("$showtable" "$table" "$profile" 2>&1) || status=$?
+    [ "$said" = "ndushavire-showtable: $table: block 0 is bad" ] && [ "$status" = 1 ] || fail "$3: showtable says '$said', status $status"
     tried=$((tried + 1))
 }
 
@@ -210,10 +209,23 @@ for length in 0 1 511 512 $((512 * (blocks - 1))) $((512 * blocks - 1)); do
     truncate -s "$length" "$table"
     says 'block 0 is bad' "the first $length bytes alone"
 done
-for more in 1 512; do
+# A working area may be longer than its table: what stands past it is not looked at, be it zeros or blocks of a table.
+tail -c +513 "$whole" >"$room/other"
+cat "$whole" >>"$room/other"
+for more in 1 511 512 513 5000; do
+    past="sound, $((blocks - 1)) records"$'\n'"$more bytes past the table were not looked at"
     fresh
     truncate -s "+$more" "$table"
-    longer $((blocks - 1)) "$more" "$more bytes more"
+    in_area "$past" 0 "$more zeros past the table"
+    fresh
+    head -c "$more" "$room/other" >>"$table"
+    in_area "$past" 0 "$more bytes of another table past the table"
+    for block in 0 1 $((blocks - 1)); do
+        fresh
+        head -c "$more" "$whole" >>"$table"
+        flip "$table" $((512 * block + 508)) 1
+        in_area "block $block is bad" 1 "$more bytes past a table of which block $block is bad"
+    done
 done
 fresh
 truncate -s -1 "$profile"
@@ -344,7 +356,7 @@ flip "$table" 408 255
 mend "$table" 0
 says 'sound, 0 records' 'another issue, and no record'
 truncate -s +512 "$table"
-longer 0 512 'edition 2, a block more'
+in_area $'sound, 0 records\n512 bytes past the table were not looked at' 0 'edition 2, and a block past it'
 
 # What cannot be read or written is reported, with nothing on standard output.
 ends() { # STATUS COMMAND..

@@ -24,6 +24,7 @@ pub fn word(entry: Entry, outcome: &Outcome) -> String {
         (Entry::CheckVectors, 6) => format!("vector block {value} is bad{place}"),
         (Entry::Decide, 0) => format!("answered with {value} bytes{place}"),
         (Entry::Forward | Entry::Back, 0) => format!("moved, {value} records{place}"),
+        (Entry::Take, 0) => format!("taken over, {value} records{place}"),
         (Entry::Report, 0) => format!("reported to the file's end, value {value}{place}"),
         (Entry::Report, 7) => format!("reported up to a broken piece, value {value}{place}"),
         (_, number) => format!("refused {number}, value {value}{place}"),
@@ -111,7 +112,7 @@ fn changed(name: &str, before: &[u8], own: &Change, given: &Change) {
             return;
         }
     };
-    let place = if ["table", "vectors"].contains(&name) {
+    let place = if ["table", "area", "vectors"].contains(&name) {
         format!(" (block {}, byte {})", at / BLOCK, at % BLOCK)
     } else {
         String::new()

@@ -3,12 +3,13 @@
 use std::borrow::Cow;
 
 use self::Lent::{Read, Written};
-use self::Slice::{Buffer, Profile, Report, Request, Requests, Table, Vectors};
+use self::Slice::{Area, Buffer, Fresh, Profile, Report, Request, Requests, Table, Vectors};
 use crate::moves;
 use crate::report;
 use crate::serve;
 use crate::slip::Slip;
 use crate::table;
+use crate::take;
 use crate::vectors;
 use crate::verdict::Why;
 
@@ -23,6 +24,8 @@ pub enum Entry {
     Forward = 5,
     /// And from edition 2 to 1.
     Back = 6,
+    /// Of a new table, into the working area.
+    Take = 7,
 }
 
 #[derive(Clone, Copy, PartialEq, Eq, Debug)]
@@ -30,7 +33,11 @@ pub enum Slice {
     Request,
     /// Laid end to end.
     Requests,
+    /// Of a decision, the table check and the report: the working area that it stands in front of.
     Table,
+    /// The working area that a new table is taken over into, and that table.
+    Area,
+    Fresh,
     Profile,
     Vectors,
     Buffer,
@@ -45,7 +52,7 @@ pub enum Lent {
 }
 
 /// Each entry, the slices that it takes, and how many numbers come behind them.
-const ENTRIES: [(Entry, &[Lent], usize); 6] = [
+const ENTRIES: [(Entry, &[Lent], usize); 7] = [
     (Entry::Check, &[Read(Table), Read(Profile)], 0),
     (Entry::Decide, &[Read(Request), Written(Table), Read(Profile), Written(Vectors), Written(Buffer)], 0),
     (Entry::CheckVectors, &[Read(Vectors)], 0),
@@ -56,6 +63,7 @@ const ENTRIES: [(Entry, &[Lent], usize); 6] = [
     ),
     (Entry::Forward, &[Written(Table), Read(Profile)], 1),
     (Entry::Back, &[Written(Table), Read(Profile)], 0),
+    (Entry::Take, &[Written(Area), Read(Fresh), Read(Profile)], 0),
 ];
 
 /// What a slice holds before the call.
@@ -237,6 +245,12 @@ impl Case {
         Case { entry, fill, slices, numbers: issue.into_iter().collect() }
     }
 
+    /// A take-over of a new table into an area.
+    pub fn take(fill: u8, area: Vec<u8>, fresh: Vec<u8>, profile: Vec<u8>) -> Case {
+        let slices = [area, fresh, profile].into_iter().map(Held::Bytes).collect();
+        Case { entry: Entry::Take, fill, slices, numbers: vec![] }
+    }
+
     fn place(&self, slice: Slice) -> Option<usize> {
         self.entry.lent().iter().position(|lent| lent.slice() == slice)
     }
@@ -259,6 +273,32 @@ impl Case {
         let change = self.entry.change(outcome, slice).filter(|change| change.fits(bytes.len()))?;
         change.apply(&mut bytes);
         Some(bytes)
+    }
+
+    /// How long the buffer is.
+    pub fn buffer(&self) -> usize {
+        self.place(Buffer).map_or(0, |place| self.slices[place].length())
+    }
+
+    /// The case with nothing in its other slices, of which the buffer after the call can still be told.
+    pub fn with_buffer_alone(&self) -> Case {
+        let slices = self.entry.lent().iter().zip(&self.slices);
+        let kept = slices.map(|(lent, held)| if lent.slice() == Buffer { held.clone() } else { Held::Bytes(vec![]) });
+        Case { slices: kept.collect(), numbers: self.numbers.clone(), ..*self }
+    }
+
+    /// The answer that an outcome tells of, empty if the call was refused; none if the buffer was changed past it.
+    pub fn answer(&self, outcome: &Outcome) -> Option<Vec<u8>> {
+        let (number, _, value) = outcome.parts();
+        let length = if number == 0 { value as usize } else { 0 };
+        let change =
+            self.entry.change(outcome, Buffer).filter(|change| change.fits(length) && length <= self.buffer())?;
+        let mut answer = match &self.slices[self.place(Buffer)?] {
+            Held::Noise(_) => Held::Noise(length).bytes(self.fill).into_owned(),
+            Held::Bytes(bytes) => bytes[..length].to_vec(),
+        };
+        change.apply(&mut answer);
+        Some(answer)
     }
 
     /// What this program does with the case.
@@ -296,6 +336,10 @@ impl Case {
                 moved(moves::forward(table.to_mut(), profile.len(), self.numbers[0], slip))
             }
             (Entry::Back, [table, profile]) => moved(moves::back(table.to_mut(), profile.len(), slip)),
+            (Entry::Take, [area, fresh, profile]) => {
+                let found = take::take(area.to_mut(), fresh, profile.len(), slip);
+                (serve::move_word(found), Why::TakenOver(found))
+            }
             _ => unreachable!("a case has the slices that its entry takes"),
         };
         let slices = self.entry.lent().iter().zip(before.iter().zip(&lent));

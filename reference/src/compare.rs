@@ -111,13 +111,14 @@ impl Figures {
             0 => self.done += 1,
             number => *self.refused.entry(number).or_insert(0) += 1,
         }
-        self.rewritten += expected.entry.changed(&expected.outcome, Slice::Table) as u64;
+        let rewritten = [Slice::Table, Slice::Area].iter().any(|it| expected.entry.changed(&expected.outcome, *it));
+        self.rewritten += rewritten as u64;
         self.marked += expected.entry.changed(&expected.outcome, Slice::Vectors) as u64;
     }
 
     fn print(&self, began: Instant) {
         println!(
-            "{} cases agree: {} sound, answered, reported or moved ({} with a table rewritten, {} with vectors sent), refused {:?}; \
+            "{} cases agree: {} sound, answered, reported, moved or taken over ({} with a table rewritten, {} with vectors sent), refused {:?}; \
              {} MiB of files; {:.1} s",
             self.cases,
             self.done,
@@ -163,7 +164,7 @@ pub fn compare(stream: Stream, seed: u64, numbers: Range<u64>, command: &[String
     Ok(true)
 }
 
-/// What is kept of each case: its entry, the length of table and vector file, and this program's outcome.
+/// What is kept of each case: its entry, the length of table or area and of the vector file, and this program's outcome.
 struct Expected {
     entry: Entry,
     files: usize,
@@ -173,7 +174,7 @@ struct Expected {
 fn start(stream: Stream, seed: u64, numbers: Range<u64>, command: &[String]) -> io::Result<Fed<Expected>> {
     Fed::start(command, numbers, move |number| {
         let case = gen::make(stream, seed, number).case;
-        let files = case.held(Slice::Table).len() + case.held(Slice::Vectors).len();
+        let files = [Slice::Table, Slice::Area, Slice::Vectors].iter().map(|it| case.held(*it).len()).sum();
         let expected = Expected { entry: case.entry, files, outcome: case.outcome(Slip::NONE) };
         (vec![case], expected)
     })

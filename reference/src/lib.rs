@@ -8,12 +8,14 @@ pub mod kinds;
 pub mod rng;
 pub mod slip;
 
-// What is lent: a message, the table with the moves between its editions, the vector file.
+// What is lent: a message, the table with the moves between its editions and the take-over of a new one, the vector file.
 pub mod message;
 pub mod table;
 
 pub mod moves;
 pub mod vectors;
+
+pub mod take;
 
 // What comes of a request, and how it does.
 pub mod verdict;
@@ -37,13 +39,16 @@ pub mod cases;
 
 // Cases as streams; their makers, and what is done with many of them.
 pub mod gen;
+pub mod hypotheses;
 pub mod streams;
 
 pub mod account;
+pub mod cuts;
 pub mod mutants;
 pub mod stats;
 
 pub mod compare;
 
 pub mod demand3;
+pub mod neighbours;
 pub mod runs;

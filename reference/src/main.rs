@@ -6,9 +6,11 @@ use std::process::ExitCode;
 
 use reference::cases::Case;
 use reference::compare;
+use reference::cuts;
 use reference::demand3;
 use reference::gen::{self, Stream};
 use reference::mutants;
+use reference::neighbours;
 use reference::program;
 use reference::runs;
 use reference::show;
@@ -25,7 +27,9 @@ reference compare  --kind K --seed S [--from F] --count N -- DRIVER [ARGUMENT ..
 reference stats    --kind K --seed S [--from F] --count N   histogram
 reference faults   [--silent]                               list the deliberate faults, or those that no case can show
 reference mutants  --seed S [--from F] --count N            whether each deliberate fault is noticed
-kinds: tables, vectors, calls, reports, moves; compare alone: demand3, runs";
+reference cuts     --seed S [--from F] --count N [--fault NAME]
+                                                            what the areas of cut take-overs read as
+kinds: tables, vectors, calls, reports, moves, takes; compare and stats alone: neighbours; compare alone: demand3, runs, breaches";
 
 fn main() -> ExitCode {
     let arguments: Vec<String> = std::env::args().skip(1).collect();
@@ -66,12 +70,18 @@ fn run(arguments: &[String]) -> Result<bool, String> {
             let (seed, numbers, command) = (options.seed, options.numbers()?, &options.command);
             match options.kind.as_deref() {
                 Some("demand3") => demand3::compare(seed, numbers, command),
+                Some("neighbours") => neighbours::compare(seed, numbers, command),
+                Some("breaches") => neighbours::breaches(seed, numbers, command),
                 Some("runs") => runs::compare(seed, numbers, command),
                 _ => compare::compare(options.stream()?, seed, numbers, command),
             }
             .map_err(told)
         }
+        "stats" if options.kind.as_deref() == Some("neighbours") => {
+            Ok(neighbours::stats(options.seed, options.numbers()?))
+        }
         "stats" => Ok(stats::stats(options.stream()?, options.seed, options.numbers()?)),
+        "cuts" => Ok(cuts::cuts(options.seed, options.numbers()?, options.slip)),
         "mutants" => Ok(mutants::mutants(options.seed, options.numbers()?)),
         "faults" => {
             let faults = if options.silent { slip::SILENT } else { slip::FAULTS };

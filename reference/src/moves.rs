@@ -2,10 +2,10 @@
 
 use crate::block::{mend, put_word, word_at, BLOCK};
 use crate::slip::{Fault, Slip};
-use crate::table::{check_with, header, record, EDITION, EDITION_1, EDITION_2, ISSUE, NOT_REGISTERED, PENDING};
+use crate::table::{check_exactly_with, header, record, EDITION, EDITION_1, EDITION_2, ISSUE, NOT_REGISTERED, PENDING};
 use crate::table::{Record, LONGEST_PROFILE, LONGEST_SERVER_NAME};
 
-/// Its number, and the block that it returns besides.
+/// Its number, and what it returns besides.
 pub type Refusal = (u32, u32);
 
 /// From edition 1 to 2, with this issue number and every set 0: the record count, or why not, and nothing is written.
@@ -64,20 +64,20 @@ fn sound(edition: u8, table: &[u8], profile_length: usize, slip: Slip) -> Result
     let needed = || (word_at(table, header::COUNT) as usize).saturating_add(1).saturating_mul(BLOCK);
     match slip.0 {
         Some(Fault::AgreementNotAskedForward) if edition == EDITION_1 => {
-            check_with(table, profile_length, Slip::of(Fault::SetsMayDisagree))
+            check_exactly_with(table, profile_length, Slip::of(Fault::SetsMayDisagree))
         }
         Some(Fault::AgreementAskedAfterSets) if edition == EDITION_2 => {
-            check_with(table, profile_length, Slip::of(Fault::SetsMayDisagree))
+            check_exactly_with(table, profile_length, Slip::of(Fault::SetsMayDisagree))
         }
-        Some(Fault::MoveWithoutProfile) => check_with(table, u32::MAX as usize + LONGEST_PROFILE, slip),
-        Some(Fault::MoveUnchecked) => match check_with(table, profile_length, slip) {
+        Some(Fault::MoveWithoutProfile) => check_exactly_with(table, u32::MAX as usize + LONGEST_PROFILE, slip),
+        Some(Fault::MoveUnchecked) => match check_exactly_with(table, profile_length, slip) {
             Err(block) if block > 0 => Ok(word_at(table, header::COUNT)),
             found => found,
         },
         Some(Fault::LongerTableMoved) if table.len() >= BLOCK && table.len() > needed() => {
-            check_with(&table[..needed()], profile_length, slip)
+            check_exactly_with(&table[..needed()], profile_length, slip)
         }
-        _ => check_with(table, profile_length, slip),
+        _ => check_exactly_with(table, profile_length, slip),
     }
 }
 

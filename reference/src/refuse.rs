@@ -15,6 +15,7 @@ pub const MOST_REQUEST: usize = 16_384;
 /// What is lent to a call.
 pub struct Lent<'a> {
     pub request: &'a [u8],
+    /// The working area, with the table at its front.
     pub table: &'a [u8],
     pub profile: &'a [u8],
     pub vectors: &'a [u8],
@@ -81,7 +82,10 @@ fn bad_block(lent: &Lent, slip: Slip) -> Option<u32> {
         Some(Fault::AgreementNotAskedInDecisions) => {
             table::check_with(lent.table, lent.profile.len(), Slip::of(Fault::SetsMayDisagree))
         }
-        Some(Fault::AgreementAskedInDecisionsAlone) => table::check(lent.table, lent.profile.len()),
+        Some(Fault::AgreementAskedInDecisionsAlone | Fault::LongerAreaNotChecked) => {
+            table::check(lent.table, lent.profile.len())
+        }
+        Some(Fault::LongerAreaNotDecided) => table::check_exactly(lent.table, lent.profile.len()),
         _ => table::check_with(lent.table, lent.profile.len(), slip),
     };
     let refused = match slip.0 {

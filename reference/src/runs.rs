@@ -24,7 +24,7 @@ struct Ledger {
 impl Ledger {
     /// Enters a call: what it sent was never sent and unused, is marked by a lawful change, and nothing else changed.
     fn enter(&mut self, case: &Case, outcome: &Outcome) -> Result<(), String> {
-        // A move is not given the vectors.
+        // A move and a take-over are not given the vectors.
         if case.entry != Entry::Decide {
             return Ok(());
         }
@@ -78,7 +78,8 @@ pub fn compare(seed: u64, numbers: Range<u64>, command: &[String]) -> io::Result
         let steps = gen::run(seed, number, Slip::NONE);
         (steps.iter().map(|step| step.made.case.clone()).collect(), steps)
     })?;
-    let (mut runs, mut calls, mut moves, mut sending, mut vectors) = (0u64, 0u64, 0u64, 0u64, 0u64);
+    let (mut runs, mut calls, mut moves, mut takes) = (0u64, 0u64, 0u64, 0u64);
+    let (mut sending, mut vectors) = (0u64, 0u64);
     for number in numbers.clone() {
         let steps: Vec<Step> = match fed.told.recv() {
             Ok(steps) => steps,
@@ -102,7 +103,8 @@ pub fn compare(seed: u64, numbers: Range<u64>, command: &[String]) -> io::Result
                 return Ok(false);
             }
             calls += 1;
-            moves += (made.case.entry != Entry::Decide) as u64;
+            moves += [Entry::Forward, Entry::Back].contains(&made.case.entry) as u64;
+            takes += (made.case.entry == Entry::Take) as u64;
             sending += (ledger.sent.len() > before) as u64;
         }
         runs += 1;
@@ -112,7 +114,7 @@ pub fn compare(seed: u64, numbers: Range<u64>, command: &[String]) -> io::Result
         return Ok(false);
     }
     println!(
-        "{runs} runs of {calls} calls agree: {moves} moves, {sending} sent {vectors} vectors, none twice; {:.1} s",
+        "{runs} runs of {calls} calls agree: {moves} moves, {takes} take-overs, {sending} sent {vectors} vectors, none twice; {:.1} s",
         began.elapsed().as_secs_f64()
     );
     Ok(true)

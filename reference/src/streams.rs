@@ -152,6 +152,11 @@ mod tests {
             assert_eq!(Case::read(&mut &stream[..]).unwrap(), Some(moved));
         }
 
+        let take = Case::take(9, vec![4; 512], vec![7; 5], vec![1, 2]);
+        let stream = written(&take);
+        assert_eq!(stream[..16], [7, 9, 3, 0, 0x80, 0, 2, 0, 0, 0, 0, 5, 0, 0, 0, 2]);
+        assert_eq!(Case::read(&mut &stream[..]).unwrap(), Some(take));
+
         let outcome = Outcome {
             word: 5 << 48 | 3,
             altered: 0,

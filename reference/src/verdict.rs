@@ -46,6 +46,7 @@ pub enum Why {
     Checked(Result<u32, u32>),
     CheckedVectors(Result<u32, u32>),
     Moved(Result<u32, Refusal>),
+    TakenOver(Result<u32, Refusal>),
     /// A report was made, to the end of its file or not.
     Reported,
     Refused(u32),

@@ -296,7 +296,7 @@ fn no_answer_depends_on_edition_issue_or_a_set_of_one() {
 #[test]
 fn no_report_depends_on_edition_issue_or_a_set_of_one() {
     let (mut rng, mut altered) = (Rng::new(9), 0);
-    for (number, case) in cases(Stream::Reports, 43, 60).enumerate() {
+    for (number, case) in cases(Stream::Reports, 43, 100).enumerate() {
         let held = |slice| case.held(slice).into_owned();
         let (requests, profile) = (held(Slice::Requests), held(Slice::Profile));
         let mut table = match in_edition_2(&mut rng, &held(Slice::Table), profile.len()) {

@@ -192,10 +192,12 @@ fn a_record_and_its_set_keep_all_but_name_pending_and_check_word_in_a_mar() {
         let public = find(&request, 601).unwrap();
         let table = case.held(Slice::Table);
         let is_named = |block: &[u8]| block[0] == 2 && block[16..][..block[13] as usize] == public[..];
-        let asked = table.chunks(512).find(|block| is_named(block)).unwrap();
+        let asked = table.chunks(512).take(1 + records(&table)).find(|block| is_named(block)).unwrap();
         // The private identity with its length, and the set number.
         let set = |block: &[u8]| [&block[14..15], &block[144..272], &block[406..408]].concat();
-        for (old, new) in table.chunks(512).zip(after(&case, &outcome, Slice::Table).chunks(512)) {
+        let (end, area) = (512 * (1 + records(&table)), after(&case, &outcome, Slice::Table));
+        assert!(table[end..] == area[end..], "past the table");
+        for (old, new) in table[..end].chunks(512).zip(area.chunks(512)) {
             let of_set = old[0] == 2 && asked[406..408] != [0, 0] && set(old) == set(asked);
             if !is_named(old) && !of_set {
                 assert_eq!(old, new, "another block");

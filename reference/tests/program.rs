@@ -63,6 +63,20 @@ fn a_vector_file_is_read_where_it_is_there_and_never_written() {
     assert_eq!(said(&folder, "answer", &request(302, &[])), b"refused 6\n");
 }
 
+/// The file may be longer than its table, as a working area is.
+#[test]
+fn a_longer_table_file_is_read_as_its_table() {
+    let folder = folder("longer");
+    let mut area = fs::read(folder.join("table")).unwrap();
+    let exact = said(&folder, "answer", &alice_asks());
+    area.extend([7; 700]);
+    fs::write(folder.join("table"), &area).unwrap();
+    assert_eq!(said(&folder, "check", b""), b"sound, 1 records\n");
+    assert_eq!(said(&folder, "answer", &alice_asks()), exact);
+    fs::write(folder.join("table"), &area[..1023]).unwrap();
+    assert_eq!(said(&folder, "check", b""), b"block 0 is bad\n");
+}
+
 /// The place of the AVP at fault is the call's; the program writes the answer alone.
 #[test]
 fn an_answer_to_an_avp_at_fault_is_written_alone() {

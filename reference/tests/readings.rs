@@ -17,7 +17,7 @@ fn spans(column: &str) -> impl Iterator<Item = &str> {
 }
 
 /// Each request's heading, and its readings that cases can show.
-fn requests() -> [(&'static str, Vec<u32>); 5] {
+fn requests() -> [(&'static str, Vec<u32>); 6] {
     [
         // 19 is about programs over files.
         ("The authentication request", (1..=25).filter(|number| *number != 19).collect()),
@@ -28,6 +28,7 @@ fn requests() -> [(&'static str, Vec<u32>); 5] {
         ("The second stored form", (1..=9).collect()),
         // 13 is about speed.
         ("Registering one registers the set", (1..=12).collect()),
+        ("Taking over a new table", (1..=12).collect()),
     ]
 }
 
@@ -63,8 +64,10 @@ fn every_fault_about_a_request_goes_against_a_reading() {
     let of_report = ["report", "piece", "counts", "counted", "largest answer", "word 1", "word 4", "left end"];
     let of_editions = ["edition", "issue", "set number", "move"];
     let of_sets = ["a set", "the set", "one set", "its set", "of sets", "sets ", "free identity"];
+    let of_areas =
+        ["area", "take-over", "new table", "past the count", "past the table", "refusal 9", "refusal 10", "refusal 11"];
     let is_about = |what: &str| {
-        let all = words.iter().chain(&of_place).chain(&of_report).chain(&of_editions).chain(&of_sets);
+        let all = words.iter().chain(&of_place).chain(&of_report).chain(&of_editions).chain(&of_sets).chain(&of_areas);
         all.into_iter().any(|word| what.contains(word))
     };
     for (fault, what) in FAULTS.iter().filter(|(_, what)| is_about(what)) {

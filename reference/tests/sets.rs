@@ -473,8 +473,9 @@ fn set_of(block: &[u8]) -> Option<(Vec<u8>, Vec<u8>)> {
         .then(|| (block[144..][..block[14] as usize].to_vec(), block[406..408].to_vec()))
 }
 
-fn blocks(table: &[u8]) -> impl Iterator<Item = &[u8]> {
-    table.chunks(512)
+/// Of the table at the front of an area.
+fn blocks(area: &[u8]) -> impl Iterator<Item = &[u8]> {
+    area.chunks(512).take(1 + records(area))
 }
 
 #[test]
@@ -573,7 +574,7 @@ fn every_table_made_is_sound() {
             disagreeing += (sound.is_err() && made.notes.iter().any(|note| note.starts_with("set: "))) as u32;
             let damaged = match stream {
                 Stream::Tables => !made.notes.contains(&"undamaged"),
-                _ => made.notes.contains(&"damaged table") || made.notes.contains(&"several refusals"),
+                _ => ["damaged table", "several refusals", "a cut take-over"].iter().any(|it| made.notes.contains(it)),
             };
             if damaged {
                 continue;

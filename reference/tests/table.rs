@@ -50,16 +50,17 @@ fn identities_rise_bytewise_with_a_prefix_first() {
 }
 
 #[test]
-fn any_other_length_is_the_fault_of_block_0() {
+fn a_shorter_length_is_the_fault_of_block_0_and_a_longer_one_none() {
     let whole = table(&[b"a", b"b"]);
     for cut in [0, 1, 511, 512, 513, 1024, 1535] {
         assert_eq!(check(&whole[..cut], 0), Err(0), "{cut}");
     }
     let mut longer = whole.clone();
-    longer.push(0);
-    assert_eq!(check(&longer, 0), Err(0));
-    longer.resize(4 * BLOCK, 0);
-    assert_eq!(check(&longer, 0), Err(0));
+    for length in [3 * BLOCK + 1, 4 * BLOCK - 1, 4 * BLOCK, 5 * BLOCK + 1] {
+        longer.resize(length, 0xA5);
+        assert_eq!(check(&longer, 0), Ok(2), "{length}");
+        assert_eq!(check_exactly(&longer, 0), Err(0), "{length}");
+    }
 }
 
 #[test]

@@ -1,7 +1,7 @@
 -- What is said of a word fits the buffer, and is the answer or the refusal.
 use Rattle.octets.specs.Standard.{ℕ, _≤_, List, [], _∷_, _≡_, refl, sym, _∙_, arith, length, eq-eqb, ne-eqb}
 use Rattle.lines.specs.Words.{Words}
-use Rattle.calling.specs.Lent.{Lent, tableOnly}
+use Rattle.calling.specs.Lent.{Lent}
 use Rattle.ndushavire.specs.Reads.{numberIn, valueIn}
 use Rattle.ndushavire.specs.Promise.{DecidePromise}
 use Rattle.demands.proofs.Demands.{demand-1-word, demand-1-within}
@@ -10,8 +10,8 @@ use Rattle.answer.specs.Said.{SaidFits, Said, SaidTo}
 -- An answer that a call says lies within the buffer that it leaves.
 pub promise-fits : (x : Lent) (w : ℕ) {t' v' o' : List ℕ} → DecidePromise x w t' v' o' → length o' ≡ length (x .buffer) → SaidFits w (length o')
 promise-fits x w p l =
-    let r = rw (← p .word-is) at (demand-1-word (tableOnly x)) in
-    record { within = λ e. (let h = demand-1-within (tableOnly x) (sym (r .number) ∙ e) in omega (arith, h, r .value, l)) }
+    let r = rw (← p .word-is) at (demand-1-word x) in
+    record { within = λ e. (let h = demand-1-within x (sym (r .number) ∙ e) in omega (arith, h, r .value, l)) }
 
 -- Of number 0 the answer stands; of any other the refusal is written.
 module _ (w : ℕ) {number : ℕ} (is : number ≡ numberIn w) where

@@ -81,7 +81,8 @@ module _ (t owner server : List ℕ) (kind : AssignmentType) (count : ℕ) (s : 
 find-kept : (x y : List ℕ) (count : ℕ) → SoundTable x count → Keeping x y count → (avps : List (List ℕ)) → findAll y count avps ≡ findAll x count avps
 unfolding findAll
 find-kept x y count sound keeping [] = refl
-find-kept x y count sound keeping (a ∷ avps) = rw (find-alike y x count (dataOf a) (keeping-public x y count keeping sound), find-kept x y count sound keeping avps)
+find-kept x y count sound keeping (a ∷ avps) =
+    rw (find-alike y x count (dataOf a) (keeping-public x y count keeping sound), find-kept x y count sound keeping avps)
 
 -- One that was found is reached with its set, and no header.
 found-later : (p : ℕ → Bool) (count : ℕ) (f : Found) → firstFrom p count 1 ≡ f → isOne (numbersOf (f ∷ [])) 0 ≡ false

@@ -30,7 +30,7 @@ pub record Leaves (x : Lent) (s : Served) (count : ℕ) (r : Came) (table' vecto
   pub buffer-is : buffer' ≡ s .buffer
   pub noted : Noted x count table' r
 
--- the same over an area
+-- of a call over an area; nobody asks it for the records altered
 pub record Comes (s : Served) (r : Came) (table' vectors' buffer' : List ℕ) : Type 0 where
   pub call-is : callOf r ≡ s .call
   pub table-is : table' ≡ s .table

@@ -25,10 +25,11 @@ abbrev pub asking : Lent → List ℕ → Lent
 asking x request =
     record { request = request; table = x .table; profile = x .profile; vectors = x .vectors; buffer = x .buffer; terms = x .terms }
 
--- the same with another table; with the table at the front of its area alone
+-- the same with another table, or with another area that a table is lent in
 abbrev pub holding : Lent → List ℕ → Lent
 holding x table = record { request = x .request; table = table; profile = x .profile; vectors = x .vectors; buffer = x .buffer; terms = x .terms }
 
+-- the same without what stands behind the table in its area
 abbrev pub tableOnly : Lent → Lent
 tableOnly x = holding x (tableIn (x .table))
 

@@ -91,7 +91,7 @@ answered x d =
       buffer = over (answerOf x d) (x .buffer);
     }
 
--- A call under some rules, over a table of its exact length, where the check of the table answers so: "Tried in this order. .. Otherwise the call returns the
+-- A call under some rules, over a table whose length must be exact, where its check answers so: "Tried in this order. .. Otherwise the call returns the
 -- answer's length"
 abbrev pub decisionBy : Rules → Lent → ℕ → Decision
 decisionBy r x count = decideBy r (dialectIn x) (x .request) (x .table) count (x .vectors)

@@ -157,7 +157,7 @@ pub fn call_over(
     over_checked(k, req, t, file, v, out)
 }
 
-// "Five refusals of the call"; "Tried in this order."; "6 .. after 5": over a table of its exact length.
+// "Five refusals of the call"; "Tried in this order."; "6 .. after 5": over a table whose length must be exact.
 fn call_table(
     req: &[u8],
     t: &mut [u8],

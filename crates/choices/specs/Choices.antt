@@ -8,9 +8,9 @@ use Rattle.choices.specs.declared.choice.Sought.{Sought}
 use Rattle.choices.specs.declared.choice.Choice.{Choice}
 use Rattle.choices.specs.declared.choice.Choice.the-variants.{Alone, Server, Capabilities, First}
 
--- "UAR. Either identity unknown: X5001. Not together in one record: X5002. Barred: B5003 (02 [6]: and no other of its set free). Type 0 or 2: the visited network is named in the header and its bit
--- set, else X5004. Type 2: B2001 with capabilities. State 1 or 2: the server name .. , with X2002 for type 0, B2001 for type 1. State 0,
--- type 1: X5003. State 0, type 0: the first server name in the subscription by table order with X2002; none, capabilities with X2001."
+-- "UAR. Either identity unknown: X5001. Not together in one record: X5002. Barred: B5003 (02 [6]: and no other of its set free). Type 0 or 2: the visited
+-- network is named in the header and its bit set, else X5004. Type 2: B2001 with capabilities. State 1 or 2: the server name .. , with X2002 for type 0, B2001
+-- for type 1. State 0, type 1: X5003. State 0, type 0: the first server name in the subscription by table order with X2002; none, capabilities with X2001."
 unfoldable pub authorization : Asked → ℕ → Choice
 authorization a kind =
     cond (not (a .known)) (Alone (Experimental 5001))

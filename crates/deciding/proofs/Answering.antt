@@ -126,7 +126,8 @@ module _ (dialect : Dialect) (req t : List ℕ) (count : ℕ) (v : List ℕ) (se
 
   pub plan-tells : (file before after : List ℕ) (n altered : ℕ) {y : List ℕ} → Wrote (answerBytes (dialect .terms) req t file v (p .given)) before after n
       → y ≡ carriedOut req t count seen (p .deed) → altered ≡ alteredUpTo t y count
-      → Tells dialect req t count file v before after (record { length = n; place = 0; command = dialect .command; result = p .given .verdict .result; altered = altered })
+      → Tells dialect req t count file v before after
+      (record { length = n; place = 0; command = dialect .command; result = p .given .verdict .result; altered = altered })
   unfolding decideBy judgedBy performedBy
   plan-tells file before after n altered w e a =
       record {

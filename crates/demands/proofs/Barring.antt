@@ -1,5 +1,5 @@
 -- "B5003 now exactly when the identity is barred and no non-barred one shares its nonzero set; its place is the same": the result of a UAR.
-use Rattle.octets.specs.Standard.{ℕ, _≤_, List, true, false, true≢false, _≡_, refl, sym, ap, subst, _∙_, _⊎_, inl, inr, _≢_, arith, length}
+use Rattle.octets.specs.Standard.{ℕ, _≤_, List, Bool, true, false, true≢false, _≡_, refl, sym, ap, subst, _∙_, _⊎_, inl, inr, _≢_, arith, length}
 use Rattle.octets.proofs.Names.{same-eq, same-yes, same-no}
 use Rattle.record.specs.Fields.{bitsOf, barred}
 use Rattle.record.specs.Sets.{sameSet}
@@ -29,7 +29,7 @@ use Rattle.questions.specs.Carried.{carried}
 use Rattle.deciding.specs.Plans.{uarPlan, planRead}
 use Rattle.deciding.specs.Decide.{performedBy, judgedBy, decideBy}
 use Rattle.calling.specs.Lent.{Lent, dialectIn}
-use Rattle.calling.specs.Serve.{checkOf, checkValue, decision, resultOf}
+use Rattle.calling.specs.Serve.{checkOf, checkValue, decision, decided, resultOf}
 use Rattle.older_rules.proofs.Sets.{AllBarred, barred-says, barred-holds}
 use Rattle.demands.specs.Sets.{Shares, BarredAlone, Stands, Belongs, Barred}
 use Rattle.demands.proofs.Results.{read-other, barred-asked, asked-unknown, asked-apart, asked-barred}
@@ -63,11 +63,11 @@ module _ (t : List ℕ) (count : ℕ) where
         alone = λ j a b q. one-block t count sound j k a (s .from) b (s .to) (q ∙ sym (s .name));
       })
 
-  belongs-known : (k : ℕ) (private : List ℕ) → Belongs t count k private → isAt (findPrivate t count private) ≡ true
+  pub belongs-known : (k : ℕ) (private : List ℕ) → Belongs t count k private → isAt (findPrivate t count private) ≡ true
   unfolding findPrivate privateIs
   belongs-known k private b = sym (first-some (privateIs t private) count k (b .from) (b .to) (same-yes _ _ (b .name)))
 
-  none-known : (private : List ℕ) → ((k : ℕ) → Belongs t count k private → ⊥) → isAt (findPrivate t count private) ≡ false
+  pub none-known : (private : List ℕ) → ((k : ℕ) → Belongs t count k private → ⊥) → isAt (findPrivate t count private) ≡ false
   unfolding findPrivate privateIs
   none-known private h =
       rw (first-none (privateIs t private) count 1
@@ -174,3 +174,22 @@ module _ (x : Lent) (count : ℕ) (sound : checkOf x ≡ Sound count) (uar : com
       let name : publicAt t k ≡ publicAt t (b .block) = s .name ∙ ap (λ (l : Seen). dataSeen l publicIdentity) same-seen ∙ sym (b .public .name) in
       let q : k ≡ b .block = one-block t count table k (b .block) (s .from) (b .public .from) (s .to) (b .public .to) name in
       b .alone .others j from to (subst (λ (i : ℕ). Shares t i j) q h)
+
+  -- and where one is not, the record is not barred alone: with the User-Name in it, the answer carries what it does where nothing is barred
+  pub free-given : (seen : Seen) → readIn (dialectIn x) (x .request) ≡ fine seen → (k j : ℕ) → Stands t count k (dataSeen seen publicIdentity)
+      → 1 ≤ j → j ≤ count → Shares t k j → barred (bitsOf (blockOf t j)) ≡ false → privateAt t k ≡ dataSeen seen userName
+      → decided x .given
+      ≡ carried t count (dataSeen seen userName) k
+      (authorization (askedAt (blockOf t 0) (blockOf t k) true false (dataSeen seen userName) (dataSeen seen visitedNetwork))
+      (valueSeen seen authorizationType))
+  unfolding decideBy judgedBy performedBy planRead uarPlan authorize authorizeFound askedOf
+  free-given seen read k j s from to h free p =
+      ap (λ (c : Checked). decision x (checkValue c) .given) sound
+      ∙ rw (read, uar, stands-found t count table k _ s, belongs-known t count k _ (record { from = s .from; to = s .to; name = p }), not-alone)
+    where
+      not-alone : barredAlone t count (blockOf t k) ≡ false
+      not-alone = go (barredAlone t count (blockOf t k)) refl
+        where
+          go : (y : Bool) → barredAlone t count (blockOf t k) ≡ y → y ≡ false
+          go true e = absurd (true≢false (sym (alone-says t count k e .others j from to h) ∙ free))
+          go false e = refl

@@ -1,6 +1,7 @@
 -- The answer to an AVP at fault, in which nothing is given but the verdict; and the place of a call, by what reading its request comes to.
 use Rattle.octets.specs.Standard.{ℕ, _+_, _≤_, _<_, List, some, Bool, true, false, _≡_, refl, sym, ap, _∙_, _≢_, arith, length, drop, eqb, eqb-true}
 use Rattle.octets.specs.Standard.{eqb-false}
+use Rattle.octets.specs.Run.{over}
 use Rattle.pen.specs.Bytes.{ifThere}
 use Rattle.pen.specs.Groups.{capabilities}
 use Rattle.items.specs.Items.{sentBytes}
@@ -17,9 +18,11 @@ use Rattle.reply.specs.Pieces.{identityBytes, nameBytes, dataBytes, givenBytes}
 use Rattle.answering.specs.Answer.{endBytes, restBytes, bodyBytes, answerBytes}
 use Rattle.deciding.specs.Rules.{inForce}
 use Rattle.deciding.specs.Decide.{Decision, faulted, performedBy, judgedBy, decideBy, decide}
-use Rattle.calling.specs.Lent.{Lent, dialectIn}
+use Rattle.calling.specs.Call.{Answered}
+use Rattle.calling.specs.Lent.{Lent, tableOnly, dialectIn}
 use Rattle.ndushavire.specs.Reads.{callPlace}
-use Rattle.calling.specs.Serve.{checkOf, answered, serveTable, checkValue, resultOf}
+use Rattle.calling.specs.Serve.{Served, checkOf, answered, serveTable, overArea, serve, checkValue, resultOf}
+use Rattle.calling.proofs.Areas.{put-same}
 use Rattle.calling.proofs.Calls.{size-most, length-even}
 use Rattle.demands.specs.Call.{turnedAway}
 use Rattle.demands.specs.Place.{Blames, faultBody, faultBytes, blaming}
@@ -27,6 +30,23 @@ use Rattle.calling.proofs.Kept.{taken}
 use Rattle.demands.proofs.Refusals.{refused-nowhere, answer-is}
 use Rattle.demands.proofs.Faults.{fine-bad, same-place, fault-read, read-fault, fault-least, fault-fours, fault-within}
 use Rattle.demands.proofs.Moved.{failed-there}
+
+-- such an answer over a table of its exact length; over an area it is `blaming`
+abbrev pub blamingTable : Lent → ℕ → List ℕ → ℕ → Served
+blamingTable x n shown place =
+    record {
+      call = Answered (record { length = length (faultBytes (x .terms) (x .request) (x .table) n shown); place = place });
+      table = x .table;
+      vectors = x .vectors;
+      buffer = over (faultBytes (x .terms) (x .request) (x .table) n shown) (x .buffer);
+    }
+
+pub blaming-over : (a : Lent) (n : ℕ) (shown : List ℕ) (place : ℕ) → overArea (a .table) (blamingTable (tableOnly a) n shown place) ≡ blaming a n shown place
+blaming-over a n shown place = rw (put-same (a .table))
+
+pub blamed-over : (a : Lent) (n : ℕ) (shown : List ℕ) (place : ℕ) → serveTable (tableOnly a) ≡ blamingTable (tableOnly a) n shown place
+    → serve a ≡ blaming a n shown place
+blamed-over a n shown place e = ap (overArea (a .table)) e ∙ blaming-over a n shown place
 
 module _ (terms : Terms) (req : List ℕ) (n place : ℕ) (shown : List ℕ) (is : failedBy req (faultAt n place) ≡ some shown) where
   fault-body : (t file v : List ℕ) → bodyBytes terms req t file v (givenFault (faultAt n place)) ≡ faultBody terms req t n shown
@@ -43,7 +63,7 @@ unfolding decideBy judgedBy
 fault-decides d req n place e t count v = rw e
 
 pub fault-answered : (x : Lent) (n place : ℕ) (shown : List ℕ) → failedBy (x .request) (faultAt n place) ≡ some shown
-    → readIn (dialectIn x) (x .request) ≡ bad (faultAt n place) → turnedAway x ≡ false → serveTable x ≡ blaming x n shown place
+    → readIn (dialectIn x) (x .request) ≡ bad (faultAt n place) → turnedAway x ≡ false → serveTable x ≡ blamingTable x n shown place
 unfolding answered
 fault-answered x n place shown is e away =
     let count = checkValue (checkOf x) in
@@ -72,7 +92,7 @@ module _ (x : Lent) where
   unfolding answered
   place-read e = rw (answer-is x e) (decide-place (dialectIn x) (x .request) (x .table) (checkValue (checkOf x)) (x .vectors))
 
-  pub blames-answer : (p : ℕ) (b : Blames x p) → serveTable x ≡ blaming x (b .result) (failedOf (b .result) (drop p (x .request))) p
+  pub blames-answer : (p : ℕ) (b : Blames x p) → serveTable x ≡ blamingTable x (b .result) (failedOf (b .result) (drop p (x .request))) p
   blames-answer p b =
       let n = b .result in
       let h : 0 < p = omega (arith, fault-least (dialectIn x) (x .request) n p (b .fault)) in

@@ -24,10 +24,10 @@ use Rattle.calling.specs.Lent.{Lent, asking}
 use Rattle.calling.specs.Serve.{checkOf, answered, decision, serveTable, checkValue}
 use Rattle.demands.specs.Call.{turnedAway}
 use Rattle.demands.specs.Insertion.{message, requestOf, Foreign, isMarked, Quiet, Inserted, ending, keep, put, FirstMarked, isFault, faultIn}
-use Rattle.demands.specs.Insertion.{putBefore, later, placeNow, placed, behindRow, unsupported}
+use Rattle.demands.specs.Insertion.{putBefore, later, placeNow, placed, behindRow}
 use Rattle.calling.proofs.Kept.{taken}
 use Rattle.demands.proofs.Refusals.{refused-kept, answered-is}
-use Rattle.demands.proofs.Blaming.{fault-answered}
+use Rattle.demands.proofs.Blaming.{blamingTable, fault-answered}
 use Rattle.demands.proofs.Moved.{Moved, faults, same, moved-as, moved-by, judge-amid, past-later, past-bytes, past-drop, failed-there}
 use Rattle.demands.proofs.Moved.{Row-moved, row-moved, ends-none, ends-same}
 use Rattle.demands.proofs.Messages.{message-dialect, message-length, message-drop, message-read, readBody, Fit, turned-same, refused-same}
@@ -392,11 +392,11 @@ module _ (head : List ℕ) (twenty : length head ≡ 20) (q : Piece) (qs rs : Li
   mark-decides e t count v = rw (mark-read e)
 
   pub mark-answered : faultIn dialect head (q ∷ m .front) ≡ false → turnedAway (asking x shorter) ≡ false
-      → serveTable (asking x longer) ≡ unsupported (asking x longer) (m .mark) (behindRow (q ∷ m .before))
+      → serveTable (asking x longer) ≡ blamingTable (asking x longer) 5001 (m .mark .avp) (behindRow (q ∷ m .before))
   mark-answered e away =
       let f : turnedAway (asking x longer) ≡ false = turned head twenty q qs rs whole tail fours most x i ∙ away in
       fault-answered (asking x longer) 5001 markPlace (m .mark .avp) mark-failed (mark-read e) f
-      ∙ ap (unsupported (asking x longer) (m .mark)) (past-bytes 20 (q ∷ m .before) before-whole)
+      ∙ ap (blamingTable (asking x longer) 5001 (m .mark .avp)) (past-bytes 20 (q ∷ m .before) before-whole)
 
   long-decides : (t : List ℕ) (count : ℕ) (v : List ℕ) → decide (dialectOf (x .terms) longer) longer t count v
       ≡ judgedBy inForce dialect longer t count v longRead

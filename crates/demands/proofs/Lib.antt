@@ -1,4 +1,5 @@
 pub mod Alike
+pub mod Areas
 pub mod Barring
 pub mod Blaming
 pub mod Cuts
@@ -23,5 +24,8 @@ pub mod Sets
 pub mod TakingOver
 pub mod Together
 pub mod Trials
+pub mod TypeRead
 pub mod Unable
+pub mod UnableMar
+pub mod UnableSar
 pub mod Unreachable

@@ -1,15 +1,17 @@
 -- Demand 3 about two requests as bytes: those put in are unmarked, or one of them is the first that is marked, and each case is a law.
-use Rattle.octets.specs.Standard.{ℕ, _+_, _%_, _≤_, _<_, List, [], _∷_, none, some, Option·none-ne-some, Bool, true, false, cond, _||_, _≡_, refl}
-use Rattle.octets.specs.Standard.{sym, ap, _∙_, fun-ext, _⊎_, inl, inr, arith, length, ltb, ltb-false}
+use Rattle.octets.specs.Standard.{ℕ, _+_, _%_, _≤_, _<_, List, [], _∷_, Option, none, some, Option·none-ne-some, Bool, true, false, cond, _||_, _≡_}
+use Rattle.octets.specs.Standard.{refl, sym, ap, _∙_, fun-ext, _⊎_, inl, inr, arith, length, ltb, ltb-false}
 use Rattle.diameter.specs.Put.{Piece, avpsOf, Whole, All}
 use Rattle.reading.specs.declared.Dialect.{Dialect}
 use Rattle.requests.specs.Request.{dialectOf}
 use Rattle.requests.proofs.Insert.{past}
-use Rattle.calling.specs.Lent.{Lent, asking}
-use Rattle.calling.specs.Serve.{serveTable}
+use Rattle.calling.specs.Lent.{Lent, asking, tableOnly}
+use Rattle.calling.specs.Serve.{Served, serveTable, overArea, serve}
+use Rattle.calling.proofs.Areas.{served-in, served-stays}
 use Rattle.demands.specs.Call.{turnedAway}
-use Rattle.demands.specs.Insertion.{requestOf, Foreign, isMarked, Quiet, Inserted, ending, keep, put, FirstMarked, faultIn, unsupported, Longer}
-use Rattle.demands.specs.Insertion.{Mark, sizeOf, putBefore, placeNow, placed, behindRow, behind, firstMark, newer, Newer}
+use Rattle.demands.specs.Insertion.{requestOf, Foreign, isMarked, Quiet, Inserted, ending, keep, put, FirstMarked, faultIn, unsupported}
+use Rattle.demands.specs.Insertion.{Longer, Mark, sizeOf, putBefore, placeNow, placed, behindRow, behind, firstMark, newer, Newer}
+use Rattle.demands.proofs.Blaming.{blamingTable, blaming-over}
 use Rattle.demands.proofs.Insertions.{none-before, unmarked-same, both-refused, marked-kept, mark-answered, fault-more}
 
 -- none is marked
@@ -116,6 +118,24 @@ marked-or-not {dialect} {qs} {rs} i = go (split i)
     go (inl n) = inl (n .quiet)
     go (inr f) = inr (f .first)
 
+-- what a call with them comes to over a table of its exact length; over an area it is `newer`
+unfoldable newerTable : (x : Lent) → List ℕ → List ℕ → Piece → (ℕ → ℕ) → Option Mark → Served
+newerTable x longer head q now none = placed now (serveTable x)
+newerTable x longer head q now (some m) =
+    cond (turnedAway x || faultIn (dialectOf (x .terms) head) head (q ∷ m .front)) (placed now (serveTable x))
+    (blamingTable (asking x longer) 5001 (m .mark .avp) (behindRow (q ∷ m .before)))
+
+newer-over : (a : Lent) (longer head : List ℕ) (q : Piece) (now : ℕ → ℕ) (m : Option Mark)
+    → overArea (a .table) (newerTable (tableOnly a) longer head q now m) ≡ newer a longer head q now m
+unfolding newer newerTable
+newer-over a longer head q now none = refl
+newer-over a longer head q now (some m) = go (turnedAway (tableOnly a) || faultIn (dialectOf (a .terms) head) head (q ∷ m .front))
+  where
+    go : (b : Bool) → overArea (a .table) (cond b (placed now (serveTable (tableOnly a))) (blamingTable (asking (tableOnly a) longer) 5001 (m .mark .avp)
+        (behindRow (q ∷ m .before)))) ≡ cond b (placed now (serve a)) (unsupported (asking a longer) (m .mark) (behindRow (q ∷ m .before)))
+    go true = refl
+    go false = blaming-over (asking a longer) 5001 (m .mark .avp) (behindRow (q ∷ m .before))
+
 -- A request, its AVPs after the first, the longer row, and what is behind it.
 module _ (head : List ℕ) (twenty : length head ≡ 20) (q : Piece) (qs rs : List Piece) (whole : All Whole (q ∷ qs)) (tail : List ℕ) (fours : length tail % 4 ≡ 0)
     (most : length (requestOf head (q ∷ rs) tail) ≤ 16384) (x : Lent) (i : Inserted (Foreign (dialectOf (x .terms) head)) qs rs) where
@@ -140,14 +160,14 @@ module _ (head : List ℕ) (twenty : length head ≡ 20) (q : Piece) (qs rs : Li
       go false e = f .before (20 + sizeOf q) p (ltb-false p (20 + sizeOf q) e) h
 
   marked-newer : (f : MarkFound i) (y z : Bool) → turnedAway short ≡ y → faultIn (dialectOf (x .terms) head) head (q ∷ f .first .front) ≡ z
-      → serveTable long ≡ cond (y || z) (placed now (serveTable short)) (unsupported long (f .first .mark) (behindRow (q ∷ f .first .before)))
+      → serveTable long ≡ cond (y || z) (placed now (serveTable short)) (blamingTable long 5001 (f .first .mark .avp) (behindRow (q ∷ f .first .before)))
   marked-newer f true z a b = both-refused head twenty q qs rs whole tail fours most x i now a
   marked-newer f false true a b =
       fault-more head twenty q qs rs whole tail fours most x (f .first) (putBefore (keep q i) 20) (none-before q i) (found-before f) b
   marked-newer f false false a b = mark-answered head twenty q qs rs whole tail fours most x (f .first) b a
 
-  row-newer : Split i → serveTable long ≡ newer short (long .request) head q now (firstMark i)
-  unfolding newer putBefore
+  row-newer : Split i → serveTable long ≡ newerTable short (long .request) head q now (firstMark i)
+  unfolding newerTable putBefore
   row-newer (inl n) =
       let same : (p : ℕ) → placeNow (keep q (n .quiet)) p ≡ now p = λ p. rw (n .before (20 + sizeOf q) p) in
       rw (n .is) (unmarked-same head twenty q qs rs whole tail fours most x (n .quiet) ∙ ap (λ (f : ℕ → ℕ). placed f (serveTable short)) (fun-ext same))
@@ -158,8 +178,14 @@ module _ (head : List ℕ) (twenty : length head ≡ 20) (q : Piece) (qs rs : Li
   row-kept (inr f) m g = marked-kept head twenty q qs rs whole tail fours most x (f .first)
 
 -- The same of the bytes.
-pub longer-newer : (x : Lent) (longer : List ℕ) (l : Longer (x .terms) (x .request) longer) → Newer x longer l
-longer-newer x longer l =
+record NewerTable (x : Lent) (longer : List ℕ) (l : Longer (x .terms) (x .request) longer) : Type 0 where
+  comes : serveTable (asking x longer)
+      ≡ newerTable x longer (l .cut .head) (l .cut .first) (placeNow (keep (l .cut .first) (l .inserted))) (firstMark (l .inserted))
+  table : (m : Mark) → firstMark (l .inserted) ≡ some m → serveTable (asking x longer) .table ≡ x .table
+  vectors : (m : Mark) → firstMark (l .inserted) ≡ some m → serveTable (asking x longer) .vectors ≡ x .vectors
+
+longer-table : (x : Lent) (longer : List ℕ) (l : Longer (x .terms) (x .request) longer) → NewerTable x longer l
+longer-table x longer l =
     let c = l .cut in
     let long = requestOf (c .head) (c .first ∷ l .row) (c .tail) in
     let most : length long ≤ 16384 = omega (arith, l .most, ap length (l .bytes)) in
@@ -172,8 +198,20 @@ longer-newer x longer l =
       comes =
           same
           ∙ row-newer (c .head) (c .twenty) (c .first) (c .rest) (l .row) (c .whole) (c .tail) (c .fours) most x (l .inserted) (split (l .inserted))
-          ∙ ap (λ (y : List ℕ). newer (asking x y) long (c .head) (c .first) now m) (sym (c .joined))
-          ∙ ap (λ (y : List ℕ). newer x y (c .head) (c .first) now m) (sym (l .bytes));
+          ∙ ap (λ (y : List ℕ). newerTable (asking x y) long (c .head) (c .first) now m) (sym (c .joined))
+          ∙ ap (λ (y : List ℕ). newerTable x y (c .head) (c .first) now m) (sym (l .bytes));
       table = λ n e. rw same (kept n e .0);
       vectors = λ n e. rw same (kept n e .1);
+    }
+
+-- And over an area.
+pub longer-newer : (a : Lent) (longer : List ℕ) (l : Longer (a .terms) (a .request) longer) → Newer a longer l
+longer-newer a longer l =
+    let n : NewerTable (tableOnly a) longer l = longer-table (tableOnly a) longer l in
+    record {
+      comes =
+          ap (overArea (a .table)) (n .comes)
+          ∙ newer-over a longer (l .cut .head) (l .cut .first) (placeNow (keep (l .cut .first) (l .inserted))) (firstMark (l .inserted));
+      table = λ m e. served-stays (asking a longer) (served-in (asking a longer) ∙ n .table m e);
+      vectors = λ m e. n .vectors m e;
     }

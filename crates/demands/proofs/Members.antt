@@ -290,7 +290,8 @@ module _ (t : List ℕ) (count : ℕ) (sound : SoundTable t count) (k j : ℕ) (
       go false = written-same t count sound k j a b c d one fs gs there change
 
   -- of two requests that say so
-  module _ (long short : List ℕ) (fuller fewer : Seen) (says-naming : assignmentOf long t fuller ≡ naming) (says-leaving : assignmentOf short t fewer ≡ leaving) where
+  module _ (long short : List ℕ) (fuller fewer : Seen) (says-naming : assignmentOf long t fuller ≡ naming)
+      (says-leaving : assignmentOf short t fewer ≡ leaving) where
     same-server : dataSeen fuller serverName ≡ dataSeen fewer serverName
     unfolding assignmentOf
     same-server = ap (λ (s : Assignment). s .server) says-naming ∙ sym (ap (λ (s : Assignment). s .server) says-leaving)

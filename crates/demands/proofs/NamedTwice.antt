@@ -141,7 +141,7 @@ module _ (head : List ℕ) (twenty : length head ≡ 20) (before : List Piece) (
           sym (identities-glue (avpsOf before) rest)
           ∙ ap identities (sym (glue-glue (avpsOf before) (avpsOf after) ended))
           ∙ ap (λ (l : List (List ℕ)). identities (glue l ended))
-          (sym (avps-joined before after) ∙ ap avpsOf (m .still) ∙ avps-joined (m .front) (m .other ∷ m .back))
+          (sym (avps-joined before after) ∙ ap avpsOf (m .rest-is) ∙ avps-joined (m .front) (m .other ∷ m .back))
           ∙ ap identities (glue-glue (avpsOf (m .front)) (m .other .avp ∷ avpsOf (m .back)) ended)
           ∙ identities-left (m .other .avp) (m .identity) (glue (avpsOf (m .back)) ended) (avpsOf (m .front))
 
@@ -197,10 +197,10 @@ module _ (head : List ℕ) (twenty : length head ≡ 20) (before : List Piece) (
       decided-same =
           decide-long
           ∙ rw (naming-says, leaving-says)
-          (named-twice t count sound (m .block) (m .member) (m .block-is .from) (m .block-is .to) (m .member-is .from) (m .member-is .to)
-          (shares-holds t (m .block) (m .member) (m .shares)) (numbersIn t (removes .seen)) (removes .removal) _ _
+          (named-twice t count sound (m .other-block) (m .one-block) (m .other-stands .from) (m .other-stands .to) (m .one-stands .from) (m .one-stands .to)
+          (shares-holds t (m .other-block) (m .one-block) (m .shares)) (numbersIn t (removes .seen)) (removes .removal) _ _
           (named before) (named after) (named (m .front)) (named (m .back)) (one .avp) (m .other .avp) still
-          (stands-found t count sound (m .member) _ (m .member-is)) (stands-found t count sound (m .block) _ (m .block-is))
+          (stands-found t count sound (m .one-block) _ (m .one-stands)) (stands-found t count sound (m .other-block) _ (m .other-stands))
           _ _ long-some short-some (message head long) (message head short) (removes .seen) (read-short .seen) naming-says leaving-says v)
           ∙ sym decide-short
 

@@ -180,6 +180,15 @@ location-without a =
     (either (Without 5012) (not (a .services)) refl
     (refl, refl)))
 
+-- 02 [6]: a LIR's result is never B5003.
+pub location-free : (a : Sought) → Without 5003 (location a)
+unfolding location
+location-free a =
+    either (Without 5003) (not (a .known)) refl
+    (either (Without 5003) (a .present) refl
+    (either (Without 5003) (not (a .services)) refl
+    (refl, refl)))
+
 -- a UAR's B5003: both identities are known and stand together in one record, which is barred.
 module _ (a : Asked) (kind : ℕ) where
   abbrev later : Choice

@@ -1,6 +1,6 @@
 -- 02 [8], "Taking over a new table, radio or no radio.", over the calls: what a request gets before, between and after. What is written, and how the area then
 -- checks, is in taking/proofs/Taking. A request that refusals 1 to 4 do not let pass is refused by them as ever.
-use Rattle.octets.specs.Standard.{ℕ, _<_, _≤_, Bool, false, _≡_, sym, ap, _∙_, List, arith, length}
+use Rattle.octets.specs.Standard.{ℕ, _<_, _≤_, Bool, false, _≡_, sym, ap, _∙_, subst, List, arith, length}
 use Rattle.blocks.specs.declared.Checked.the-variants.{Bad}
 use Rattle.table.specs.Area.{sizeIn, tableIn, checkArea}
 use Rattle.table.proofs.Areas.{in-all, sound-size-in}
@@ -10,7 +10,7 @@ use Rattle.calling.specs.Serve.{Served, SameCall, earlyTrials, serveTable, serv
 use Rattle.calling.specs.Trial.{anyHolds}
 use Rattle.calling.proofs.Areas.{bad-refused, served-in}
 use Rattle.taking.specs.TakeOver.{takeOver}
-use Rattle.taking.specs.Torn.{FirstMissing, NoneWithin, FirstWithin, lowerBad}
+use Rattle.taking.specs.Torn.{AllChosen, FirstMissing, NoneWithin, FirstWithin, lowerBlock}
 use Rattle.taking.specs.Written.{cutAfter, tornAfter}
 use Rattle.taking.specs.declared.Taken.the-variants.{Took}
 use Rattle.taking.proofs.Taking as taking
@@ -24,7 +24,7 @@ pub refused-so : (x : Lent) (k : ℕ) → anyHolds (earlyTrials (x .request) (x 
     → serve x ≡ refusing x k
 refused-so = bad-refused
 
--- two areas with the same table at the front: the same call, vectors and buffer, and the same table in them afterwards
+-- the same is served over both: call, vectors and buffer, and the table at the front of the area afterwards
 pub record SameServed (x y : Lent) : Type 0 where
   pub same : SameCall (serve x) (serve y)
   pub table : tableIn (serve x .table) ≡ tableIn (serve y .table)
@@ -66,13 +66,19 @@ module _ (x : Lent) (fresh : List ℕ) (count : ℕ) (e : takeOver (x .table) fr
         bad-refused (holding x (tornAfter (x .table) fresh chosen)) k passes
         (taking.torn-missing (x .table) fresh (length (x .profile)) count e chosen k m)
 
-    -- block 0 is old, and some block within its count is new: the lowest such, or the lower one that was bad before.
-    pub torn-within : (chosen : ℕ → Bool) (k j : ℕ) → FirstWithin (x .table) chosen count k
-        → lowerBad k (checkArea (x .table) (length (x .profile))) ≡ Bad j
-        → serve (holding x (tornAfter (x .table) fresh chosen)) ≡ refusing (holding x (tornAfter (x .table) fresh chosen)) j
-    torn-within chosen k j m q =
-        bad-refused (holding x (tornAfter (x .table) fresh chosen)) j passes
-        (taking.torn-within (x .table) fresh (length (x .profile)) count e chosen k m ∙ q)
+    -- block 0 is old, and some block within its count is new: the lower of the lowest such and of the block that was bad before, if any, is answered.
+    pub torn-within : (chosen : ℕ → Bool) (k : ℕ) → FirstWithin (x .table) chosen count k
+        → serve (holding x (tornAfter (x .table) fresh chosen))
+        ≡ refusing (holding x (tornAfter (x .table) fresh chosen)) (lowerBlock k (checkArea (x .table) (length (x .profile))))
+    torn-within chosen k m =
+        bad-refused (holding x (tornAfter (x .table) fresh chosen)) (lowerBlock k (checkArea (x .table) (length (x .profile)))) passes
+        (taking.torn-within (x .table) fresh (length (x .profile)) count e chosen k m)
+
+  -- All blocks are new, in whatever order they came: every request gets what it gets over the new table alone.
+  pub torn-all : (chosen : ℕ → Bool) → AllChosen chosen count → SameServed (holding x (tornAfter (x .table) fresh chosen)) (holding x fresh)
+  torn-all chosen h =
+      subst (λ (area : List ℕ). SameServed (holding x area) (holding x fresh))
+      (sym (taking.torn-all (x .table) fresh (length (x .profile)) count e chosen h)) after
 
   -- Block 0 is old, and no block within its count is new: every request gets what it got before.
   pub torn-past : (chosen : ℕ → Bool) → NoneWithin (x .table) chosen count → SameServed (holding x (tornAfter (x .table) fresh chosen)) x

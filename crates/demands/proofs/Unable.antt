@@ -1,4 +1,5 @@
--- B5012: no UAR and no LIR comes to it, under the rules in force or, over a sound table, under those that had the branch; so it is a SAR's or a MAR's.
+-- B5012: no UAR and no LIR comes to it, under the rules in force or, over a sound table, under those that had the branch; so it is a SAR's or a MAR's. B5003 is
+-- a UAR's.
 use Rattle.octets.specs.Standard.{ℕ, List, Bool, true, false, cond, true≢false, _≡_, refl, sym, ap, _∙_, _⊎_, inl, inr, _≢_, arith, eqb, eqb-true}
 use Rattle.octets.specs.Standard.{eqb-false}
 use Rattle.blocks.specs.Changed.{isOne}
@@ -18,8 +19,11 @@ use Rattle.deciding.proofs.Read.{read-command}
 use Rattle.reading.specs.declared.Dialect.{Dialect}
 use Rattle.calling.specs.Lent.{Lent, dialectIn}
 use Rattle.calling.specs.Serve.{checkOf, decisionBy}
-use Rattle.older_rules.proofs.Unreachable.{withBranch, decided-alike}
-use Rattle.demands.proofs.Results.{read-other, isBase, carried-without, authorization-without, location-without}
+use Rattle.older_rules.specs.WithBranch.{withBranch}
+use Rattle.older_rules.proofs.Unreachable.{decided-alike}
+use Rattle.demands.proofs.Results.{read-other, isBase, carried-without, authorization-without, location-without, location-free}
+use Rattle.demands.proofs.UnableMar.{mar-free}
+use Rattle.demands.proofs.UnableSar.{sar-free}
 
 -- a UAR's and a LIR's plan
 module _ (t : List ℕ) (count : ℕ) (seen : Seen) where
@@ -30,6 +34,10 @@ module _ (t : List ℕ) (count : ℕ) (seen : Seen) where
   lir-without : isBase 5012 (lirPlan t count seen .given .verdict .result) ≡ false
   unfolding lirPlan locate locateFound
   lir-without = carried-without 5012 t count _ _ _ (location-without _)
+
+  lir-free : isBase 5003 (lirPlan t count seen .given .verdict .result) ≡ false
+  unfolding lirPlan locate locateFound
+  lir-free = carried-without 5003 t count _ _ _ (location-free _)
 
 -- what a request comes to with B5012: it was read, and it is a SAR or a MAR
 module _ (d : Dialect) (req t : List ℕ) (count : ℕ) (v : List ℕ) where
@@ -65,6 +73,27 @@ module _ (d : Dialect) (req t : List ℕ) (count : ℕ) (v : List ℕ) where
       go (inl a) (inr b) = omega arith
       go (inr a) (inl b) = omega arith
       go (inr a) (inr b) = omega arith
+
+  -- B5003, likewise
+  pub barred-whose : decide d req t count v .given .verdict .result ≡ Base 5003 → d .command ≡ 300
+  unfolding decideBy judgedBy performedBy planRead isOne
+  barred-whose e = go (readIn d req) refl e
+    where
+      free : {A : Type 0} (p : Plan) → isBase 5003 (p .given .verdict .result) ≡ false → p .given .verdict .result ≡ Base 5003 → A
+      free p n e = absurd (true≢false (sym (ap (isBase 5003) e) ∙ n))
+
+      go : (j : Judged) → readIn d req ≡ j → judgedBy inForce d req t count v j .given .verdict .result ≡ Base 5003 → d .command ≡ 300
+      go (bad f) r e = absurd (read-other d req f (Base 5003) refl r e)
+      go (fine seen) r e = by (eqb (d .command) 300) (eqb (d .command) 301) (eqb (d .command) 302) refl e
+        where
+          by : (x y z : Bool) → eqb (d .command) 300 ≡ x
+              → cond x (uarPlan t count seen) (cond y (sarPlan req t count seen) (cond z (lirPlan t count seen) (marPlan t count v seen)))
+              .given .verdict .result ≡ Base 5003
+              → d .command ≡ 300
+          by true y z a e = eqb-true _ _ a
+          by false true z a e = free (sarPlan req t count seen) (sar-free req t count seen) e
+          by false false true a e = free (lirPlan t count seen) (lir-free t count seen) e
+          by false false false a e = free (marPlan t count v seen) (mar-free t count v seen) e
 
 -- with the branch, over a sound table
 pub branch-never : (x : Lent) (count : ℕ) → checkOf x ≡ Sound count → (commandOf (x .request) ≡ 300) ⊎ (commandOf (x .request) ≡ 302)

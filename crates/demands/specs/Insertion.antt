@@ -16,8 +16,8 @@ use Rattle.reading.specs.declared.Use.the-variants.{Unknown}
 use Rattle.reading.specs.Kinds.{useOf}
 use Rattle.requests.specs.Judged.{Judged, bad, fine, nothing, judge}
 use Rattle.requests.specs.Request.{dialectOf, headerFault, firstOther}
-use Rattle.calling.specs.Lent.{Lent, asking}
-use Rattle.calling.specs.Serve.{Served, serveTable}
+use Rattle.calling.specs.Lent.{Lent, asking, tableOnly}
+use Rattle.calling.specs.Serve.{Served, serve}
 use Rattle.calling.specs.Call.{Call}
 use Rattle.calling.specs.Call.{Answered, Refused}
 use Rattle.demands.specs.Call.{turnedAway}
@@ -149,14 +149,14 @@ firstMark (put u f i) = cond (isMarked u) (some (record { front = []; before = [
 -- what a call with them comes to: the same, the place of the AVP at fault moved with its AVP; but B5001 for the first marked one, unless the call is refused
 -- or the header or an AVP before that one breaks a reading rule
 unfoldable pub newer : (x : Lent) → List ℕ → List ℕ → Piece → (ℕ → ℕ) → Option Mark → Served
-newer x longer head q now none = placed now (serveTable x)
+newer x longer head q now none = placed now (serve x)
 newer x longer head q now (some m) =
-    cond (turnedAway x || faultIn (dialectOf (x .terms) head) head (q ∷ m .front)) (placed now (serveTable x))
+    cond (turnedAway (tableOnly x) || faultIn (dialectOf (x .terms) head) head (q ∷ m .front)) (placed now (serve x))
     (unsupported (asking x longer) (m .mark) (behindRow (q ∷ m .before)))
 
--- and if one is marked, the table is as it was, and no vector is used
+-- and if one is marked, the whole area is as it was, and no vector is used
 pub record Newer (x : Lent) (longer : List ℕ) (l : Longer (x .terms) (x .request) longer) : Type 0 where
-  pub comes : serveTable (asking x longer)
+  pub comes : serve (asking x longer)
       ≡ newer x longer (l .cut .head) (l .cut .first) (placeNow (keep (l .cut .first) (l .inserted))) (firstMark (l .inserted))
-  pub table : (m : Mark) → firstMark (l .inserted) ≡ some m → serveTable (asking x longer) .table ≡ x .table
-  pub vectors : (m : Mark) → firstMark (l .inserted) ≡ some m → serveTable (asking x longer) .vectors ≡ x .vectors
+  pub table : (m : Mark) → firstMark (l .inserted) ≡ some m → serve (asking x longer) .table ≡ x .table
+  pub vectors : (m : Mark) → firstMark (l .inserted) ≡ some m → serve (asking x longer) .vectors ≡ x .vectors

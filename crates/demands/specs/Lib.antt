@@ -3,3 +3,4 @@ pub mod Frame
 pub mod Insertion
 pub mod Place
 pub mod Sets
+pub mod Unable

@@ -7,6 +7,7 @@ use mathlib.Core.Path.{_≡_}
 use mathlib.Core.Logic.{_⊎_}
 use lib.ListN.{length, drop, set}
 use Rattle.octets.specs.Run.{over}
+use Rattle.table.specs.Area.{tableIn}
 use Rattle.diameter.specs.Avp.{padded, sound}
 use Rattle.diameter.specs.AvpAt.{avpAt}
 use Rattle.diameter.specs.Message.{bodyOf}
@@ -14,7 +15,6 @@ use Rattle.pen.specs.Groups.{failed}
 use Rattle.reading.specs.Kinds.{kindOf}
 use Rattle.reading.specs.Rules.{Seen, rule}
 use Rattle.reading.specs.declared.Dialect.{Dialect}
-use Rattle.reading.specs.declared.Outcome.{Outcome}
 use Rattle.reading.specs.declared.Outcome.the-variants.{Base}
 use Rattle.reading.specs.declared.Terms.{Terms}
 use Rattle.reading.specs.declared.Ruled.the-variants.{Taken, Skipped, Fault}
@@ -23,7 +23,7 @@ use Rattle.requests.specs.Request.{headerFault, firstOther}
 use Rattle.reply.specs.Pieces.{topBytes, headerBytes}
 use Rattle.answering.specs.Answer.{proxies}
 use Rattle.calling.specs.Lent.{Lent, dialectIn}
-use Rattle.calling.specs.Serve.{Served, checkOf, decision, checkValue}
+use Rattle.calling.specs.Serve.{Served}
 use Rattle.calling.specs.Call.{Answered}
 use Rattle.demands.specs.Call.{turnedAway}
 
@@ -63,7 +63,8 @@ pub record Blames (x : Lent) (place : ℕ) : Type 0 where
   pub result : ℕ
   pub fault : AtFault (dialectIn x) (x .request) result place
 
--- the answer of such a call, byte by byte: its result, and in Failed-AVP what is shown of the AVP; the table and the vectors are as they were
+-- the answer of such a call, byte by byte: its result, and in Failed-AVP what is shown of the AVP; it is made with the table at the front of the area, and
+-- the whole area and the vectors are as they were
 abbrev pub faultBody : Terms → List ℕ → List ℕ → ℕ → List ℕ → List ℕ
 faultBody terms req t n shown = topBytes terms req t (Base n) ++ (failed shown ++ proxies (bodyOf req))
 
@@ -73,8 +74,8 @@ faultBytes terms req t n shown = headerBytes req (Base n) (20 + length (faultBod
 abbrev pub blaming : Lent → ℕ → List ℕ → ℕ → Served
 blaming x n shown place =
     record {
-      call = Answered (record { length = length (faultBytes (x .terms) (x .request) (x .table) n shown); place = place });
+      call = Answered (record { length = length (faultBytes (x .terms) (x .request) (tableIn (x .table)) n shown); place = place });
       table = x .table;
       vectors = x .vectors;
-      buffer = over (faultBytes (x .terms) (x .request) (x .table) n shown) (x .buffer);
+      buffer = over (faultBytes (x .terms) (x .request) (tableIn (x .table)) n shown) (x .buffer);
     }

@@ -88,15 +88,16 @@ pub record OneFewer (req fewer : List ℕ) : Type 0 where
   pub bytes : req ≡ message head (bytesOf (before ++ (one ∷ after)))
   pub shorter : fewer ≡ message head (bytesOf (before ++ after))
 
--- the identity left out is of the set of another one, which is named still, before it or after it
+-- the identity left out, `one`, is of the set of another one, which is among the rest of the AVPs, before it or after it: the record of each, and that they
+-- share the set
 pub record Member (t : List ℕ) (count : ℕ) (rest : List Piece) (one : Piece) : Type 0 where
   pub front : List Piece
   pub other : Piece
   pub back : List Piece
-  pub still : rest ≡ front ++ (other ∷ back)
+  pub rest-is : rest ≡ front ++ (other ∷ back)
   pub identity : kindOf (other .avp) ≡ publicIdentity
-  pub block : ℕ
-  pub member : ℕ
-  pub block-is : Stands t count block (dataOf (other .avp))
-  pub member-is : Stands t count member (dataOf (one .avp))
-  pub shares : Shares t block member
+  pub other-block : ℕ
+  pub one-block : ℕ
+  pub other-stands : Stands t count other-block (dataOf (other .avp))
+  pub one-stands : Stands t count one-block (dataOf (one .avp))
+  pub shares : Shares t other-block one-block

@@ -1,1 +1,1 @@
-// The customer's demands as theorems about `serveTable`, proofs/Demands.antt. There is no code here.
+// The customer's demands as theorems about `serve`, proofs/Demands.antt. There is no code here.

@@ -1,15 +1,19 @@
 -- What the instances are of: a table of two subscriptions, a file of two vectors, a SAR and a MAR as rows of AVPs, and what is put into them.
-use Rattle.octets.specs.Standard.{ℕ, _+_, _≡_, List, [], _∷_, _++_, Bool, true, _&&_, length, eqb, eqb-true}
+use Rattle.octets.specs.Standard.{ℕ, _+_, _≡_, _∙_, List, [], _∷_, _++_, Bool, true, _&&_, length, eqb, eqb-true}
 use Rattle.octets.proofs.All.{and-left, and-right}
 use Rattle.octets.specs.Run.{over}
+use Rattle.blocks.specs.declared.Checked.the-variants.{Sound}
+use Rattle.table.specs.Area.{checkArea}
+use Rattle.table.proofs.Areas.{check-exact, sound-size-in}
 use Rattle.diameter.specs.Avp.{padded, avpLen, sound}
 use Rattle.diameter.specs.Put.{Piece, Whole, All, glue, bytesOf, avpsOf}
 use Rattle.pen.specs.Bytes.{wordBytes, headBytes, padding, vendorHead, numberBytes}
 use Rattle.requests.specs.Request.{underCx}
 use Rattle.calling.specs.Call.{Answered}
-use Rattle.calling.specs.Lent.{Lent, lent}
+use Rattle.calling.specs.Lent.{Lent, lent, tableOnly}
 use Rattle.calling.specs.Trial.{anyHolds}
-use Rattle.calling.specs.Serve.{Served}
+use Rattle.calling.specs.Serve.{Served, checkOf}
+use Rattle.calling.proofs.Areas.{only-sound}
 use Rattle.worked_examples.proofs.Sample.{header, person, vector, room, digest, s, opened}
 use Rattle.demands.specs.Frame.{firstOwner, askedIn, subscriptionOf}
 use Rattle.demands.specs.Insertion.{message, requestOf, Inserted, ending, keep, faultIn}
@@ -117,6 +121,14 @@ unfolding opened table removed vectors base vendor headOf head marHead session a
     plain zeroVendor loud
     message glue bytesOf avpsOf firstOwner askedIn subscriptionOf anyHolds faultIn
 all = 0
+
+-- A sound table lent alone is an area that checks so, and what holds over it holds over the table at the front of it.
+module _ (x : Lent) (count : ℕ) (sound : checkOf x ≡ Sound count) where
+  pub area-sound : checkArea (x .table) (length (x .profile)) ≡ Sound count
+  area-sound = check-exact (x .table) (length (x .profile)) (sound-size-in (x .table) (length (x .profile)) count sound) ∙ sound
+
+  pub of-area : (P : Lent → Type 0) → P x → P (tableOnly x)
+  of-area P p = rw (only-sound x count sound) p
 
 -- A row is whole if a test says so of each
 unfoldable pub isWhole : Piece → Bool

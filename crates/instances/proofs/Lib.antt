@@ -1,3 +1,4 @@
+pub mod Areas
 pub mod Asked
 pub mod Calls
 pub mod Challenges
@@ -6,3 +7,4 @@ pub mod Members
 pub mod Moves
 pub mod Places
 pub mod Run
+pub mod TakeOvers

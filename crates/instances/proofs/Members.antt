@@ -1,20 +1,23 @@
 -- "a removal naming two members of one set is like naming one" can be met: `a` and `c` share a set, `b` between them has none, and a removal names all three.
-use Rattle.octets.specs.Standard.{ℕ, _≤_, _≡_, refl, _∙_, List, [], _∷_, _++_, length, lit≤, lit<}
+use Rattle.octets.specs.Standard.{ℕ, _≤_, _≡_, refl, ap, _∙_, List, [], _∷_, _++_, length, lit≤, lit<}
 use Rattle.blocks.specs.declared.Checked.the-variants.{Sound}
+use Rattle.table.specs.Area.{tableIn}
 use Rattle.table.specs.Check.{checkTable}
 use Rattle.diameter.specs.Put.{Piece, bytesOf}
 use Rattle.pen.specs.Bytes.{wordBytes, numberBytes}
 use Rattle.reading.specs.Rules.{Seen}
 use Rattle.requests.specs.Judged.{Judged, bad, fine}
 use Rattle.requests.specs.Request.{dialectOf, underCx, readIn}
-use Rattle.calling.specs.Lent.{Lent, lent}
-use Rattle.calling.specs.Serve.{serveTable}
+use Rattle.calling.specs.Lent.{Lent, lent, tableOnly}
+use Rattle.calling.specs.Serve.{checkOf, serveTable, serve}
+use Rattle.calling.proofs.Areas.{only-sound, serve-sound}
 use Rattle.demands.specs.Insertion.{message}
 use Rattle.demands.specs.Sets.{Removes, OneFewer, Member}
 use Rattle.demands.proofs.Sets.{like-naming-one}
 use Rattle.worked_examples.proofs.Computed.{come, roomy, no-vectors}
 use Rattle.worked_examples.proofs.Sample.{room, answer, s}
 use Rattle.instances.proofs.Asked.{vendor, head, session, application, common, comes, all, isWhole, allWhole, all-whole}
+use Rattle.sets_example.proofs.Behind.{within, in-front, sound-front}
 use Rattle.sets_example.proofs.Family as family
 
 -- the three lines in a state, at a server
@@ -81,21 +84,34 @@ c-member =
       front = front;
       other = named 0x61;
       back = named 0x62 ∷ own;
-      still = refl;
+      rest-is = refl;
       identity = refl;
-      block = 1;
-      member = 3;
-      block-is = record { from = lit≤ tt; to = lit≤ tt; name = refl };
-      member-is = record { from = lit≤ tt; to = lit≤ tt; name = refl };
+      other-block = 1;
+      one-block = 3;
+      other-stands = record { from = lit≤ tt; to = lit≤ tt; name = refl };
+      one-stands = record { from = lit≤ tt; to = lit≤ tt; name = refl };
       shares = record { nonzero = lit< tt; number = refl; subscription = refl };
     }
+
+-- the table is the area
+only-lines : (req : List ℕ) → tableOnly (asked req) ≡ asked req
+only-lines req = only-sound (asked req) 3 lines-sound
+
+sound-lines : (req : List ℕ) → checkOf (tableOnly (asked req)) ≡ Sound 3
+sound-lines req = ap checkOf (only-lines req) ∙ lines-sound
+
+in-lines : tableIn (lines 1 s) ≡ lines 1 s
+in-lines = ap (λ (x : Lent). x .table) (only-lines [])
 
 two-comes : serveTable (asked (removing (named 0x61 ∷ named 0x62 ∷ []))) ≡ comes (lines 0 []) (answer (numberBytes 268 2001) [])
 unfolding all family.head family.line lines named front own removing
 two-comes = come (asked (removing (named 0x61 ∷ named 0x62 ∷ []))) roomy lines-sound no-vectors refl
 
-met-last : serveTable (asked (removing three)) ≡ comes (lines 0 []) (answer (numberBytes 268 2001) [])
-met-last = like-naming-one (asked (removing three)) (removing (named 0x61 ∷ named 0x62 ∷ [])) 3 lines-sound short removes without-c c-member ∙ two-comes
+met-last : serve (asked (removing three)) ≡ comes (lines 0 []) (answer (numberBytes 268 2001) [])
+met-last =
+    like-naming-one (asked (removing three)) (removing (named 0x61 ∷ named 0x62 ∷ [])) 3 (sound-lines (removing three)) short removes without-c
+    (rw in-lines c-member)
+    ∙ serve-sound (asked (removing (named 0x61 ∷ named 0x62 ∷ []))) 3 lines-sound ∙ two-comes
 
 without-a : OneFewer (removing three) (removing (named 0x62 ∷ named 0x63 ∷ []))
 unfolding all isWhole allWhole named front own removing
@@ -119,14 +135,17 @@ a-member =
       front = front ++ (named 0x62 ∷ []);
       other = named 0x63;
       back = own;
-      still = refl;
+      rest-is = refl;
       identity = refl;
-      block = 3;
-      member = 1;
-      block-is = record { from = lit≤ tt; to = lit≤ tt; name = refl };
-      member-is = record { from = lit≤ tt; to = lit≤ tt; name = refl };
+      other-block = 3;
+      one-block = 1;
+      other-stands = record { from = lit≤ tt; to = lit≤ tt; name = refl };
+      one-stands = record { from = lit≤ tt; to = lit≤ tt; name = refl };
       shares = record { nonzero = lit< tt; number = refl; subscription = refl };
     }
 
-met-first : serveTable (asked (removing three)) ≡ serveTable (asked (removing (named 0x62 ∷ named 0x63 ∷ [])))
-met-first = like-naming-one (asked (removing three)) (removing (named 0x62 ∷ named 0x63 ∷ [])) 3 lines-sound short removes without-a a-member
+-- in an area with two bytes behind the table
+met-first : serve (within (asked (removing three))) ≡ serve (within (asked (removing (named 0x62 ∷ named 0x63 ∷ []))))
+met-first =
+    like-naming-one (within (asked (removing three))) (removing (named 0x62 ∷ named 0x63 ∷ [])) 3 (sound-front (asked (removing three)) 3 lines-sound)
+    short removes without-a (rw (in-front (asked (removing three)) 3 lines-sound) a-member)

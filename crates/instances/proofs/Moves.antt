@@ -1,7 +1,7 @@
 -- The word of a move is read back, and no answer shows a move: the hypotheses can be met by the table in both editions and the removal, computed.
 use Rattle.octets.specs.Standard.{ℕ, _≡_, refl, sym, ap, _∙_, List, [], _++_, take, set, lit<}
 use Rattle.octets.specs.Run.{over}
-use Rattle.blocks.specs.declared.Checked.the-variants.{Sound}
+use Rattle.blocks.specs.declared.Checked.the-variants.{Sound, Bad}
 use Rattle.table.specs.Check.{checkTable}
 use Rattle.pen.specs.Bytes.{numberBytes}
 use Rattle.moving.specs.Moves.{moved, movedAll, noSet, firstSet}
@@ -10,7 +10,8 @@ use Rattle.moving.specs.declared.Move.{Move}
 use Rattle.moving.specs.declared.Move.the-variants.{Moved, Refused}
 use Rattle.calling.specs.Call.{Answered}
 use Rattle.calling.specs.Lent.{Lent, holding}
-use Rattle.calling.specs.Serve.{Served, SameCall, serveTable}
+use Rattle.calling.specs.Serve.{Served, SameCall, serveTable, serve}
+use Rattle.calling.proofs.Areas.{serve-sound}
 use Rattle.ndushavire.specs.Word.{word, moveWord}
 use Rattle.ndushavire.specs.Reads.{ReadsMove}
 use Rattle.demands.proofs.Demands.{moved-forward, moved-back}
@@ -64,6 +65,22 @@ with-set = ap (backChecked (family.family 0 0 [])) family.family-sound
 met-moved-refused : ReadsMove (Refused 8 1) (word 8 0 1)
 met-moved-refused = reads-back (family.family 0 0 []) (Refused 8 1) (ap (λ (o : AfterMove). o .move) with-set)
 
+-- refusal 5: the other edition's table, block 0; and an unsound one, its bad block
+met-moved-other : ReadsMove (Refused 5 0) (word 5 0 0)
+unfolding all backSound backChecked back
+met-moved-other = reads-back table (Refused 5 0) (ap (λ (o : AfterMove). o .move) (ap (backChecked table) sound-table))
+
+abbrev apart : List ℕ
+apart = family.pair 0x70 1 2 0 s
+
+bad-apart : checkTable apart 0 ≡ Bad 2
+unfolding all family.head family.line family.pair
+bad-apart = refl
+
+met-moved-unsound : ReadsMove (Refused 5 2) (word 5 0 2)
+unfolding backChecked back
+met-moved-unsound = reads-back apart (Refused 5 2) (ap (λ (o : AfterMove). o .move) (ap (backChecked apart) bad-apart))
+
 -- the removal, and the same over edition 2: its answer, computed, and the table afterwards, which keeps edition and issue number
 abbrev x : Lent
 x = asked (sar s 5)
@@ -75,22 +92,30 @@ computed : serveTable y ≡ comes remaining (answer (numberBytes 268 2001) [])
 unfolding all later second remaining
 computed = come y roomy sound-second no-vectors refl
 
+-- both are sound, so that a call over each as an area is one over the table
+serve-x : serve x ≡ serveTable x
+unfolding all
+serve-x = serve-sound x 2 sound-table
+
+serve-y : serve y ≡ serveTable y
+serve-y = serve-sound y 2 sound-second
+
 -- The theorems at them: over edition 2 it is answered as over edition 1, and over edition 1 as over edition 2.
-met-forward-answers : SameCall (serveTable x) (serveTable y)
+met-forward-answers : SameCall (serve x) (serve y)
 met-forward-answers = rw (← ap (λ (o : AfterMove). o .table) there) (forward-answers x 7 2 (lit< tt) (ap (λ (o : AfterMove). o .move) there))
 
-met-back-answers : SameCall (serveTable y) (serveTable x)
+met-back-answers : SameCall (serve y) (serve x)
 met-back-answers = rw (← ap (λ (o : AfterMove). o .table) again) (back-answers y 2 (ap (λ (o : AfterMove). o .move) again))
 
 -- and the one is read off the other: 116 bytes, and which
-forward-call : serveTable y .call ≡ Answered (record { length = 116; place = 0 })
+forward-call : serve y .call ≡ Answered (record { length = 116; place = 0 })
 unfolding all
-forward-call = sym (met-forward-answers .call) ∙ ap (λ (r : Served). r .call) removal
+forward-call = sym (met-forward-answers .call) ∙ ap (λ (r : Served). r .call) (serve-x ∙ removal)
 
-forward-buffer : serveTable y .buffer ≡ over (answer (numberBytes 268 2001) []) room
+forward-buffer : serve y .buffer ≡ over (answer (numberBytes 268 2001) []) room
 unfolding all
-forward-buffer = sym (met-forward-answers .buffer) ∙ ap (λ (r : Served). r .buffer) removal
+forward-buffer = sym (met-forward-answers .buffer) ∙ ap (λ (r : Served). r .buffer) (serve-x ∙ removal)
 
-back-call : serveTable x .call ≡ Answered (record { length = 116; place = 0 })
+back-call : serve x .call ≡ Answered (record { length = 116; place = 0 })
 unfolding all second remaining
-back-call = sym (met-back-answers .call) ∙ ap (λ (r : Served). r .call) computed
+back-call = sym (met-back-answers .call) ∙ ap (λ (r : Served). r .call) (serve-y ∙ computed)

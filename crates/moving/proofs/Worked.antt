@@ -54,8 +54,9 @@ reissued = header 2 0x01020304 ++ line 2 0x01020305 0
 -- all definitions that a computed case opens
 unfoldable opened : ℕ
 unfolding header line first second shared mixed reissued allBelow orderOf be16At be32At putBe32 zeros zeroBetween sumWords publicOf serverOf headerOf
-    soundHeader usedPlace soundPlace sameByte otherPlace newPlace soundNetworks recordOf soundRecord blockOf tableOf publicAt risesAt standsAt agreesWith agreesAt
-    soundAt firstBad checkRecords checkTable negated sealed changedAt changedAll moved movedAll noSet firstSet forwardSound backPast backSound forwardChecked backChecked
+    soundHeader usedPlace soundPlace sameByte otherPlace newPlace soundNetworks recordOf soundRecord blockOf tableOf publicAt risesAt standsAt agreesWith
+    agreesAt soundAt firstBad checkRecords checkTable negated sealed changedAt changedAll moved movedAll noSet firstSet forwardSound
+    backPast backSound forwardChecked backChecked
     forward back
 opened = 0
 

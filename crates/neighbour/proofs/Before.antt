@@ -15,8 +15,11 @@ use Rattle.table.specs.SoundTable.{SoundTable}
 use Rattle.table.proofs.Sound.{sound-block, sound-public}
 use Rattle.diameter.specs.Put.{All}
 use Rattle.calling.specs.Lent.{Lent, tableOnly, dialectIn}
-use Rattle.calling.specs.Serve.{checkOf, serveTable}
+use Rattle.vectors.specs.VectorFile.{checkVectors}
+use Rattle.calling.specs.Call.{Answer, Answered}
+use Rattle.calling.specs.Serve.{checkOf, serveTable, serve}
 use Rattle.calling.proofs.Areas.{served-in}
+use Rattle.calling.proofs.Kept.{vectors-checked}
 use Rattle.rewrite.specs.Keeps.{alterable}
 use Rattle.rewrite.proofs.Bytes.{kept-low}
 use Rattle.rewrite.proofs.Sound.{sound-private}
@@ -26,6 +29,7 @@ use Rattle.seen_alike.specs.Shown.{Each}
 use Rattle.neighbour.specs.Seen.{SameLine, records, having, recordsOf, publicsOf, usersOf, SameSeen}
 use Rattle.neighbour.specs.Mine.{AboutMine, Turn, turnOver, afterTurn, afterTurns, AboutOthers}
 use Rattle.neighbour.proofs.Records.{each-join}
+use Rattle.neighbour.proofs.Calls.{also-answered}
 use Rattle.neighbour.proofs.Others.{Owned, all-more, table-sound, mine-seen}
 
 -- A record afterwards has the identities that it had, and if it is mine it is as it was.
@@ -92,6 +96,8 @@ module _ (mine : List ℕ) where
       request : x .request ≡ y .request
       profile : x .profile ≡ y .profile
       terms : x .terms ≡ y .terms
+      buffer : x .buffer ≡ y .buffer
+      vectors : checkVectors (x .vectors) ≡ checkVectors (y .vectors)
       sound : checkArea (y .table) (length (y .profile)) ≡ Sound count
       header : blockOf (tableIn (x .table)) 0 ≡ blockOf (tableIn (y .table)) 0
       each : (k : ℕ) → 1 ≤ k → k ≤ count → Twin mine (blockOf (tableIn (x .table)) k) (blockOf (tableIn (y .table)) k)
@@ -110,6 +116,8 @@ module _ (mine : List ℕ) where
           request = a .request ∙ b .request;
           profile = a .profile ∙ b .profile;
           terms = a .terms ∙ b .terms;
+          buffer = a .buffer ∙ b .buffer;
+          vectors = a .vectors ∙ b .vectors;
           sound = b .sound;
           header = a .header ∙ b .header;
           each = λ k l h. twin-again _ _ _ (a .each k l h) (b .each k l h);
@@ -179,6 +187,8 @@ module _ (mine : List ℕ) where
             request = refl;
             profile = refl;
             terms = refl;
+            buffer = refl;
+            vectors = sym (vectors-checked z);
             sound = rw (served-in (turnOver x c)) left;
             header = rw (served-in (turnOver x c)) (sym (header-kept z count found));
             each = λ k l h. rw (served-in (turnOver x c)) (call-twin k l h);
@@ -193,6 +203,8 @@ module _ (mine : List ℕ) where
           request = refl;
           profile = refl;
           terms = refl;
+          buffer = refl;
+          vectors = refl;
           sound = sound;
           header = refl;
           each = λ k l h. record { public = refl; private = refl; same-one = λ e. refl };
@@ -212,6 +224,9 @@ module _ (mine : List ℕ) where
 
       twins : Each (Twin mine) (recordsOf x count) (recordsOf y count)
       twins = records-twin (tableIn (x .table)) (tableIn (y .table)) count (a .each) count (omega arith)
+
+      pub row-answered : (a : Answer) → serve x .call ≡ Answered a → (b : Answer) × (serve y .call ≡ Answered b)
+      row-answered = also-answered x y count sound (a .sound) (a .request) (a .buffer) (a .vectors)
 
       pub row-sound : checkArea (y .table) (length (y .profile)) ≡ Sound count
       row-sound = a .sound

@@ -1,5 +1,5 @@
 -- What a call that is answered says and writes; two such calls over tables of which the request sees the same.
-use Rattle.octets.specs.Standard.{ℕ, _≡_, refl, sym, _∙_, _≢_, List, arith, length, drop, take-at}
+use Rattle.octets.specs.Standard.{ℕ, Bool, false, _≡_, refl, sym, _∙_, ap, _≢_, List, arith, length, drop, take-at}
 use Rattle.octets.specs.Run.{over}
 use Rattle.blocks.specs.declared.Checked.the-variants.{Sound}
 use Rattle.table.specs.Area.{tableIn, checkArea}
@@ -8,7 +8,10 @@ use Rattle.diameter.specs.Message.{commandOf}
 use Rattle.calling.specs.Call.{Answer, Answered}
 use Rattle.calling.specs.Lent.{Lent, tableOnly, dialectIn}
 use Rattle.calling.specs.Serve.{Served, checkOf, checkValue, answerOf, decision, refused, answered, serveTable, serve}
-use Rattle.calling.proofs.Kept.{serve-by}
+use Rattle.vectors.specs.VectorFile.{checkVectors}
+use Rattle.calling.proofs.Kept.{serve-by, serve-either}
+use Rattle.demands.specs.Call.{turnedAway}
+use Rattle.demands.proofs.Refusals.{answered-is}
 use Rattle.seen_alike.proofs.Plans.{place-same}
 use Rattle.seen_alike.proofs.Answers.{bytes-same}
 use Rattle.neighbour.specs.Seen.{SameSeen, bytesOf, SameAnswer}
@@ -64,6 +67,33 @@ module _ (x y : Lent) (count many : ℕ) (first : checkArea (x .table) (length (
             l .told ∙ (λ i. record { length = length (bytes i); place = place i }) ∙ sym (r .told);
         bytes = l .bytes ∙ bytes ∙ sym (r .bytes);
       }
+
+-- Where the same is asked into the same buffer, and the checks of tables and vector files say the same, one is answered if the other is.
+turned-none : (z : Lent) (a : Answer) → serveTable z .call ≡ Answered a → turnedAway z ≡ false
+unfolding refused
+turned-none z a =
+    serve-either z (λ (b : Bool) (s : Served). s .call ≡ Answered a → b ≡ false) (λ r e. let n : _≡_ {A = ℕ} 0 1 = cc in absurd (omega arith)) (λ e. refl)
+
+module _ (x y : Lent) (count : ℕ) (first : checkArea (x .table) (length (x .profile)) ≡ Sound count)
+    (second : checkArea (y .table) (length (y .profile)) ≡ Sound count) (request : x .request ≡ y .request) (buffer : x .buffer ≡ y .buffer)
+    (vectors : checkVectors (x .vectors) ≡ checkVectors (y .vectors)) where
+  here : checkOf (tableOnly x) ≡ Sound count
+  unfolding checkArea
+  here = first
+
+  there : checkOf (tableOnly y) ≡ Sound count
+  unfolding checkArea
+  there = second
+
+  turned-alike : turnedAway (tableOnly x) ≡ turnedAway (tableOnly y)
+  turned-alike = rw (here, there, request, buffer, vectors)
+
+  pub also-answered : (a : Answer) → serve x .call ≡ Answered a → (b : Answer) × (serve y .call ≡ Answered b)
+  unfolding answered
+  also-answered a e = (
+    record { length = length (answerOf (tableOnly y) (decision (tableOnly y) count)); place = decision (tableOnly y) count .place },
+    ap (λ (s : Served). s .call) (answered-is (tableOnly y) count there (sym turned-alike ∙ turned-none (tableOnly x) a e)),
+  )
 
 -- a table that is answered for is sound
 pub is-sound : (x : Lent) (a : Answer) → serve x .call ≡ Answered a

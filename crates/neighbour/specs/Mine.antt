@@ -18,7 +18,8 @@ pub record AboutMine (x : Lent) (count : ℕ) (mine : List ℕ) : Type 0 where
   pub publics : All (λ (name : List ℕ). All (λ (b : List ℕ). privateOf b ≡ mine) (having publicOf name (recordsOf x count))) (publicsOf x)
   pub users : All (λ (name : List ℕ). (name ≡ mine) ⊎ (having privateOf name (recordsOf x count) ≡ [])) (usersOf x)
 
--- Lines of other subscriptions added, taken away and changed, as many as one likes and wherever they stand; all else stays as it is.
+-- Lines of other subscriptions added, taken away and changed, as many as one likes and wherever they stand; every other line stays, apart from block number,
+-- issue, check word and profile start.
 pub data OtherLines (file other mine : List ℕ) : List (List ℕ) → List (List ℕ) → Type 0 where
   none : OtherLines file other mine [] []
   stays : (b c : List ℕ) {bs cs : List (List ℕ)} → SameLine file other b c → OtherLines file other mine bs cs → OtherLines file other mine (b ∷ bs) (c ∷ cs)
@@ -28,7 +29,7 @@ pub data OtherLines (file other mine : List ℕ) : List (List ℕ) → List (Lis
       → OtherLines file other mine (b ∷ bs) (c ∷ cs)
 
 -- Calls before mine, each with a request, a buffer and terms of its own: they find the table and the vectors as the call before left them, and I find them as
--- the last one did.
+-- the last one left them.
 pub record Turn : Type 0 where
   pub request : List ℕ
   pub buffer : List ℕ
@@ -44,7 +45,8 @@ unfoldable pub afterTurns : Lent → List Turn → Lent
 afterTurns x [] = x
 afterTurns x (c ∷ cs) = afterTurns (afterTurn x c) cs
 
--- they are about others: none of them asks about my subscription, as the table then is
+-- they are about others: none of them asks about my subscription, as the table then is. One with a fault asks about nobody, and one that names a line of mine
+-- beside another's User-Name asks about the other
 abbrev pub AboutOthers : List ℕ → ℕ → Lent → List Turn → Type 0
 AboutOthers mine count x [] = Unit
 AboutOthers mine count x (c ∷ cs) =

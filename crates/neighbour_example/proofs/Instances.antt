@@ -4,7 +4,6 @@ use Rattle.octets.specs.Standard.{ℕ, false, _≡_, refl, sym, _∙_, ap, _≢
 use Rattle.record.specs.Fields.{publicOf, privateOf}
 use Rattle.blocks.specs.declared.Checked.the-variants.{Sound}
 use Rattle.table.specs.Area.{tableIn}
-use Rattle.table.specs.Check.{checkTable}
 use Rattle.diameter.specs.Message.{commandOf}
 use Rattle.diameter.specs.Put.{All}
 use Rattle.pen.specs.Bytes.{vendorBytes, vendorNumber}
@@ -14,7 +13,7 @@ use Rattle.calling.specs.Lent.{Lent, lent, holding, dialectIn}
 use Rattle.calling.specs.Serve.{Served, serveTable, serve}
 use Rattle.calling.proofs.Areas.{serve-sound}
 use Rattle.demands.specs.Frame.{firstOwner, askedIn, subscriptionOf}
-use Rattle.neighbour.specs.Seen.{records, having, recordsOf, publicsOf, usersOf, SameHaving, SameSeen, SameAnswer}
+use Rattle.neighbour.specs.Seen.{records, having, recordsOf, publicsOf, usersOf, SameHaving, SameSeen, bytesOf, SameAnswer}
 use Rattle.neighbour.specs.Mine.{AboutMine, OtherLines, none, stays, added, changed, Turn, turnOver, afterTurns, AboutOthers}
 use Rattle.neighbour.proofs.Neighbour.{neighbours-line, between-mine, other-lines, calls-before}
 use Rattle.worked_examples.proofs.Computed.{known, come, roomy, no-vectors}
@@ -315,26 +314,6 @@ left-table : serve before .table ≡ altered
 unfolding all registering altered
 left-table = ap (λ (y : Served). y .table) left-by
 
-left-vectors : serve before .vectors ≡ []
-unfolding all registering
-left-vectors = ap (λ (y : Served). y .vectors) left-by
-
-abbrev later : Lent
-later = lent uar altered profiles [] room underCx
-
-altered-exact : checkTable altered (length profiles) ≡ Sound 4
-unfolding all altered
-altered-exact = refl
-
-later-call : serve later .call ≡ Answered (told 152)
-unfolding all altered
-later-call =
-    ap (λ (y : Served). y .call)
-    (serve-sound later 4 altered-exact ∙ come later {y = known false (Sound 4) (Sound 0) later} roomy altered-exact no-vectors refl)
-
-after-call : serve (afterTurns (here uar) (turn ∷ [])) .call ≡ Answered (told 152)
-unfolding afterTurns
-after-call = rw (left-table, left-vectors) later-call
-
-met-calls-before : SameAnswer (serve (here uar)) (serve (afterTurns (here uar) (turn ∷ []))) (told 152) (told 152)
-met-calls-before = calls-before (here uar) 4 first-sound (0x70 ∷ []) about-here (turn ∷ []) about-b uar-apart (told 152) (told 152) uar-here after-call
+met-calls-before : (serve (afterTurns (here uar) (turn ∷ [])) .call ≡ Answered (told 152))
+    × (bytesOf (serve (afterTurns (here uar) (turn ∷ []))) (told 152) ≡ bytesOf (serve (here uar)) (told 152))
+met-calls-before = calls-before (here uar) 4 first-sound (0x70 ∷ []) about-here (turn ∷ []) about-b uar-apart (told 152) uar-here

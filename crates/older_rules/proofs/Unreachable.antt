@@ -1,88 +1,34 @@
--- 02 [7], "A branch nobody can reach.": the B5012 of UAR and LIR, as it stood in the two decisions, and that it is never given over a sound table. The old
--- decisions stand here and nowhere else.
+-- 02 [7], "A branch nobody can reach.": the B5012 of UAR and LIR, as it stood in the two decisions, is never given over a sound table. The decisions with it
+-- are in specs/WithBranch.
 use Rattle.octets.specs.Standard.{ℕ, Bool, true, false, cond, not, _&&_, _≡_, refl, List, eqb, ltb, length, ltb-true, lt-ltb}
 use Rattle.record.specs.Fields.{stateOf, serverSize}
 use Rattle.blocks.specs.Blocks.{blockOf}
-use Rattle.table.specs.Named.{privateAt}
 use Rattle.table.specs.Check.{checkTable}
 use Rattle.table.specs.SoundTable.{SoundTable}
 use Rattle.table.proofs.Sound.{sound-served}
-use Rattle.lookup.specs.Find.{findPublic, blockFound}
+use Rattle.lookup.specs.Find.{findPublic}
 use Rattle.lookup.specs.declared.Found.{Found}
 use Rattle.lookup.specs.declared.Found.the-variants.{At, Nothing}
 use Rattle.reading.specs.Kinds.{userName, publicIdentity, visitedNetwork, authorizationType}
 use Rattle.reading.specs.Rules.{Seen}
-use Rattle.reading.specs.declared.Outcome.{Outcome}
 use Rattle.reading.specs.declared.Outcome.the-variants.{Base, Experimental}
 use Rattle.reading.specs.declared.Dialect.{Dialect}
 use Rattle.requests.specs.Request.{dataSeen, valueSeen}
 use Rattle.choices.specs.Choices.{authorization, location}
-use Rattle.choices.specs.Plans.{only}
-use Rattle.choices.specs.declared.Given.{Given}
 use Rattle.choices.specs.declared.choice.Asked.{Asked}
 use Rattle.choices.specs.declared.choice.Sought.{Sought}
-use Rattle.choices.specs.declared.choice.Choice.{Choice}
 use Rattle.choices.specs.declared.choice.Choice.the-variants.{Alone, Server, Capabilities, First}
-use Rattle.choices.specs.declared.plan.Plan.{Plan}
 use Rattle.lookup.specs.Among.{Among}
 use Rattle.questions.specs.Authorization.{askedAt, askedOf, authorizeFound, authorize}
-use Rattle.questions.specs.Carried.{carried}
 use Rattle.questions.specs.Location.{soughtAt, soughtOf, locateFound, locate}
 use Rattle.lookup.proofs.Among.{public-among}
-use Rattle.deciding.specs.Plans.{uarPlan, sarPlan, lirPlan, marPlan, planRead}
-use Rattle.deciding.specs.Rules.{inForce, Rules}
-use Rattle.deciding.specs.Deeds.{carriedOut}
+use Rattle.deciding.specs.Plans.{uarPlan, lirPlan, planRead}
+use Rattle.deciding.specs.Rules.{inForce}
 use Rattle.blocks.specs.declared.Checked.the-variants.{Sound}
 use Rattle.calling.specs.Lent.{Lent, dialectIn}
 use Rattle.calling.specs.Serve.{decisionBy, decision, serveTableBy, serveTable}
+use Rattle.older_rules.specs.WithBranch.{serverIf, oldAuthorization, oldLocation, storedIn, oldAuthorize, oldLocate, oldPlan, withBranch}
 use Rattle.older_rules.proofs.Rules.{rules-same, decided-same}
-
--- "the server name (none stored: B5012)"
-unfoldable pub serverIf : Bool → Outcome → Choice
-serverIf stored r = cond stored (Server r) (Alone (Base 5012))
-
-unfoldable pub oldAuthorization : Bool → Asked → ℕ → Choice
-oldAuthorization stored a kind =
-    cond (not (a .known)) (Alone (Experimental 5001))
-    (cond (not (a .together)) (Alone (Experimental 5002))
-    (cond (a .barred) (Alone (Base 5003))
-    (cond (not (eqb kind 1) && not (a .roams)) (Alone (Experimental 5004))
-    (cond (eqb kind 2) (Capabilities (Base 2001))
-    (cond (a .present) (serverIf stored (cond (eqb kind 0) (Experimental 2002) (Base 2001)))
-    (cond (eqb kind 1) (Alone (Experimental 5003))
-    (First (Experimental 2002) (Experimental 2001))))))))
-
-unfoldable pub oldLocation : Bool → Sought → Choice
-oldLocation stored a =
-    cond (not (a .known)) (Alone (Experimental 5001))
-    (cond (a .present) (serverIf stored (Base 2001))
-    (cond (not (a .services)) (Alone (Experimental 5003))
-    (First (Base 2001) (Experimental 2003))))
-
--- whether the record that was found stores a server name
-abbrev pub storedIn : List ℕ → Found → Bool
-storedIn t (At k) = ltb 0 (serverSize (blockOf t k))
-storedIn t Nothing = false
-
-unfoldable pub oldAuthorize : List ℕ → ℕ → List ℕ → List ℕ → ℕ → Found → Given
-oldAuthorize t count user network kind f =
-    carried t count user (blockFound f) (oldAuthorization (storedIn t f) (askedOf t count user network f) kind)
-
-unfoldable pub oldLocate : List ℕ → ℕ → Found → Given
-oldLocate t count f = carried t count (privateAt t (blockFound f)) (blockFound f) (oldLocation (storedIn t f) (soughtOf t f))
-
-unfoldable pub oldPlan : Dialect → List ℕ → List ℕ → ℕ → List ℕ → Seen → Plan
-oldPlan d req t count v seen =
-    cond (eqb (d .command) 300)
-    (only
-    (oldAuthorize t count (dataSeen seen userName) (dataSeen seen visitedNetwork) (valueSeen seen authorizationType)
-    (findPublic t count (dataSeen seen publicIdentity))))
-    (cond (eqb (d .command) 301) (sarPlan req t count seen)
-    (cond (eqb (d .command) 302) (only (oldLocate t count (findPublic t count (dataSeen seen publicIdentity))))
-    (marPlan t count v seen)))
-
-abbrev pub withBranch : Rules
-withBranch = record { check = checkTable; plan = oldPlan; carry = carriedOut }
 
 -- Where a record in state 1 or 2 stores a name, the branch is not taken.
 authorization-same : (stored : Bool) (a : Asked) (kind : ℕ) → (a .present ≡ true → stored ≡ true) → oldAuthorization stored a kind ≡ authorization a kind

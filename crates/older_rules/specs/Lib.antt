@@ -1,1 +1,2 @@
+pub mod WithBranch
 pub mod WithoutSets

@@ -32,7 +32,8 @@ module _ (m : Member) where
   one-left (faulty t) o c = absurd (true≢false (sym o))
   one-left (avp a w) o c = go (fits m a) refl o c
     where
-      go : (x : Bool) → fits m a ≡ x → (not (not x) && onlyOf (m ∷ []) w) ≡ true → cond x (suc (membersFitting m w)) (membersFitting m w) ≡ 1 → Alone m (avp a w)
+      go : (x : Bool) → fits m a ≡ x → (not (not x) && onlyOf (m ∷ []) w) ≡ true → cond x (suc (membersFitting m w)) (membersFitting m w) ≡ 1
+          → Alone m (avp a w)
       go true e o c = record { own = a; walked = ap (avp a) (none-left w o (omega arith)); right = e }
       go false e o c = absurd (true≢false (sym o))
 

@@ -14,7 +14,8 @@ ghost use lib.ListN.{length, getD};
 ghost use Rattle.diameter.specs.Avp.{dataOf};
 ghost use Rattle.diameter.specs.Reader.{between, ownOf, Here};
 ghost use Rattle.diameter.specs.Walk.{walk};
-ghost use Rattle.reading.specs.Groups.{member, nobody, applicationMembers, itemMembers, membersOf, isOf, fits, isOther, onlyOf, membersFitting, enough, gathers};
+ghost use Rattle.reading.specs.Groups.{member, nobody, applicationMembers, itemMembers, membersOf};
+ghost use Rattle.reading.specs.Groups.{isOf, fits, isOther, onlyOf, membersFitting, enough, gathers};
 
 // The groups that a request's AVPs may be: 260 and 612.
 pub enum Group {

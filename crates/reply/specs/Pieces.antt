@@ -30,7 +30,7 @@ namedBytes code d = ifThere (ltb 0 (length d)) (avpBytes code d)
 abbrev pub vendorNamed : ℕ → List ℕ → List ℕ
 vendorNamed code d = ifThere (ltb 0 (length d)) (vendorBytes code d)
 
--- "Then Session-Id ..; 260 (266, 258); Result-Code 268 or Experimental-Result 297; 277 of 1; 264; 296": up to 277 here, then what the table's header block h names
+-- "Then Session-Id ..; 260 (266, 258); Result-Code 268 or Experimental-Result 297; 277 of 1; 264; 296": up to 277, then what the header block h names
 unfoldable pub frontBytes : Terms → List ℕ → Outcome → List ℕ
 frontBytes terms session result = copied session ++ vendorApplication (terms .application) ++ resultBytes result ++ numberBytes 277 1
 

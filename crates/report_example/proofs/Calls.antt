@@ -16,6 +16,7 @@ use Rattle.requests.specs.Request.{underCx}
 use Rattle.calling.specs.Call.{Answered, Refused}
 use Rattle.calling.specs.Lent.{Lent, lent}
 use Rattle.calling.specs.Serve.{Served, smallBuffer, checkOf, checkValue, decision, resultOf, serveTable}
+use Rattle.calling.proofs.Areas.{serve-sound}
 use Rattle.reporting.specs.Row.{eventBy, eventOf}
 use Rattle.report_numbers.specs.File.{OneRequest, endToEnd}
 use Rattle.demands.proofs.Demands.{demand-2-room}
@@ -97,31 +98,31 @@ abbrev pub comes : ℕ → List ℕ → List ℕ → Served
 comes length table buffer = leaves length table [] buffer
 
 -- a call leaves a buffer of the least room as long as it was
-pub stays : (x : Lent) (length : ℕ) (table vectors buffer : List ℕ) → serveTable x ≡ leaves length table vectors buffer → smallBuffer (x .buffer) ≡ false
-    → smallBuffer buffer ≡ false
-stays x length table vectors buffer e h =
-    ap (λ (y : Served). smallBuffer (y .buffer)) (sym e) ∙ ap (λ (n : ℕ). ltb n 36864) (demand-2-room x) ∙ h
+pub stays : (x : Lent) (length : ℕ) (table vectors buffer : List ℕ) → serveTable x ≡ leaves length table vectors buffer → checkOf x ≡ Sound 1
+    → smallBuffer (x .buffer) ≡ false → smallBuffer buffer ≡ false
+stays x length table vectors buffer e sound h =
+    ap (λ (y : Served). smallBuffer (y .buffer)) (sym (serve-sound x 1 sound ∙ e)) ∙ ap (λ (n : ℕ). ltb n 36864) (demand-2-room x) ∙ h
 
 pub located-comes : serveTable (lending lir here room) ≡ comes 132 here located
 unfolding all
 located-comes = come (lending lir here room) roomy sound-here no-vectors refl
 
 located-roomy : smallBuffer located ≡ false
-located-roomy = stays (lending lir here room) 132 here [] located located-comes roomy
+located-roomy = stays (lending lir here room) 132 here [] located located-comes sound-here roomy
 
 pub removed-comes : serveTable (lending removal here located) ≡ comes 116 gone removed
 unfolding all
 removed-comes = come (lending removal here located) located-roomy sound-here no-vectors refl
 
 removed-roomy : smallBuffer removed ≡ false
-removed-roomy = stays (lending removal here located) 116 gone [] removed removed-comes located-roomy
+removed-roomy = stays (lending removal here located) 116 gone [] removed removed-comes sound-here located-roomy
 
 pub sought-comes : serveTable (lending lir gone removed) ≡ comes 136 gone sought
 unfolding all
 sought-comes = come (lending lir gone removed) removed-roomy sound-gone no-vectors refl
 
 sought-roomy : smallBuffer sought ≡ false
-sought-roomy = stays (lending lir gone removed) 136 gone [] sought sought-comes removed-roomy
+sought-roomy = stays (lending lir gone removed) 136 gone [] sought sought-comes sound-gone removed-roomy
 
 pub strayed-comes : serveTable (lending strayed gone sought) ≡ record { call = Refused 4 0; table = gone; vectors = []; buffer = sought }
 unfolding all

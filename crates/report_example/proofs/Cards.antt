@@ -10,15 +10,17 @@ use Rattle.diameter.specs.Put.{All}
 use Rattle.pen.specs.Bytes.{numberBytes}
 use Rattle.reading.specs.declared.Outcome.the-variants.{Base}
 use Rattle.counting.specs.declared.Event.{Event}
-use Rattle.calling.specs.Lent.{Lent, lent}
+use Rattle.calling.specs.Lent.{Lent, lent, tableOnly}
+use Rattle.calling.proofs.Areas.{only-sound}
 use Rattle.calling.specs.Serve.{smallBuffer, serveTable}
 use Rattle.reporting.specs.Row.{eventOf, next, row, left}
-use Rattle.reporting.specs.Report.{Reported, requestsOf, ran, reportedTable}
+use Rattle.reporting.specs.Report.{Reported, requestsOf, ran, reported}
+use Rattle.reporting.proofs.Areas.{reported-sound}
 use Rattle.report_numbers.specs.Area.{wordIn}
 use Rattle.report_numbers.specs.File.{OneRequest, endToEnd}
 use Rattle.report_numbers.specs.Turns.{eventsOf}
 use Rattle.report_numbers.proofs.Ends.{area-long}
-use Rattle.report_numbers.proofs.Numbers.{report-0-whole, report-word}
+use Rattle.report_numbers.proofs.Numbers.{report-0-whole, report-over, report-word}
 use Rattle.worked_examples.proofs.Computed.{come, roomy, unregistered-sound}
 use Rattle.worked_examples.proofs.Sample.{room, reply, authentication, challenges, item, vector, one, waiting, s}
 use Rattle.report_example.proofs.Calls.{leaves, stays, counts, counted-from, all}
@@ -60,7 +62,7 @@ pub idle-sound : checkTable idle 0 ≡ Sound 1
 unfolding idle
 idle-sound = unregistered-sound
 
-named-sound : checkTable named 0 ≡ Sound 1
+pub named-sound : checkTable named 0 ≡ Sound 1
 unfolding cardsAll
 named-sound = refl
 
@@ -78,7 +80,7 @@ unfolding cardsAll
 sent-comes = come (lent mar idle [] fresh room underCx) roomy idle-sound fresh-sound refl
 
 sent-roomy : smallBuffer sent ≡ false
-sent-roomy = stays (lent mar idle [] fresh room underCx) 336 named used sent sent-comes roomy
+sent-roomy = stays (lent mar idle [] fresh room underCx) 336 named used sent sent-comes idle-sound roomy
 
 denied-comes : serveTable (lent mar named [] used sent underCx) ≡ leaves 116 named used denied
 unfolding cardsAll
@@ -106,7 +108,15 @@ each-mar : All OneRequest marks
 unfolding cardsAll
 each-mar = (record { own = refl; least = lit≤ tt }, (record { own = refl; least = lit≤ tt }, tt))
 
-cards-read : (requestsOf cards ≡ marks) × (reportedTable cards area .number ≡ 0)
+cards-only : tableOnly cards ≡ cards
+unfolding cards
+cards-only = only-sound cards 1 idle-sound
+
+cards-long : reported cards area ≡ ran cards area
+unfolding cards
+cards-long = reported-sound cards area 1 idle-sound ∙ area-long cards area enough
+
+cards-read : (requestsOf cards ≡ marks) × (reported cards area .number ≡ 0)
 unfolding cards
 cards-read = report-0-whole cards area enough marks each-mar refl
 
@@ -124,39 +134,41 @@ after-denied = rw denied-comes
 abbrev pub dealt : List Event
 dealt = counts 303 (Base 2001) 336 1 ∷ counts 303 (Base 5012) 116 0 ∷ []
 
-pub cards-events : eventsOf cards ≡ dealt
+cards-row : row cards (requestsOf cards) ≡ dealt
 unfolding row cards
-cards-events = ap (row cards) cards-requests ∙ rw (after-sent, sent-counts, denied-counts)
+cards-row = ap (row cards) cards-requests ∙ rw (after-sent, sent-counts, denied-counts)
+
+pub cards-events : eventsOf cards ≡ dealt
+cards-events = report-over cards (requestsOf cards) ∙ ap (λ (y : Lent). row y (requestsOf cards)) cards-only ∙ cards-row
 
 cards-left : left cards (requestsOf cards) ≡ lent (endToEnd marks) named [] used denied underCx
 unfolding left
 cards-left = ap (left cards) cards-requests ∙ rw (after-sent, after-denied)
 
-pub cards-vectors : reportedTable cards area .vectors ≡ used
+pub cards-vectors : reported cards area .vectors ≡ used
 unfolding ran
-cards-vectors = ap (λ (r : Reported). r .vectors) (area-long cards area enough) ∙ ap (λ (y : Lent). y .vectors) cards-left
+cards-vectors = ap (λ (r : Reported). r .vectors) cards-long ∙ ap (λ (y : Lent). y .vectors) cards-left
 
 -- one statement: 2 requests, 1 record altered, the largest answer of 336 bytes, a B2001 and a B5012 of the row 303; the table and the vectors afterwards
 record Cards : Type 0 where
-  number : reportedTable cards area .number ≡ 0
-  table : reportedTable cards area .table ≡ named
-  vectors : reportedTable cards area .vectors ≡ used
-  buffer : reportedTable cards area .buffer ≡ denied
-  requests : wordIn (reportedTable cards area .area) 0 ≡ 2
-  altered : wordIn (reportedTable cards area .area) 2 ≡ 1
-  largest : wordIn (reportedTable cards area .area) 3 ≡ 336
-  sends : wordIn (reportedTable cards area .area) 95 ≡ 1
-  denies : wordIn (reportedTable cards area .area) 106 ≡ 1
+  number : reported cards area .number ≡ 0
+  table : reported cards area .table ≡ named
+  vectors : reported cards area .vectors ≡ used
+  buffer : reported cards area .buffer ≡ denied
+  requests : wordIn (reported cards area .area) 0 ≡ 2
+  altered : wordIn (reported cards area .area) 2 ≡ 1
+  largest : wordIn (reported cards area .area) 3 ≡ 336
+  sends : wordIn (reported cards area .area) 95 ≡ 1
+  denies : wordIn (reported cards area .area) 106 ≡ 1
 
 reported-cards : Cards
 unfolding ran counting
 reported-cards =
-    let long = area-long cards area enough in
     record {
       number = cards-read .1;
-      table = rw (long, cards-left);
+      table = ap (λ (r : Reported). r .table) cards-long ∙ ap (λ (y : Lent). y .table) cards-left;
       vectors = cards-vectors;
-      buffer = rw (long, cards-left);
+      buffer = ap (λ (r : Reported). r .buffer) cards-long ∙ ap (λ (y : Lent). y .buffer) cards-left;
       requests = report-word cards area enough 0 (omega arith) (omega arith) ∙ rw cards-events;
       altered = report-word cards area enough 2 (omega arith) (omega arith) ∙ rw cards-events;
       largest = report-word cards area enough 3 (omega arith) (omega arith) ∙ rw cards-events;

@@ -7,15 +7,17 @@ use Rattle.counting.specs.Words.{longBytes, wordsBytes}
 use Rattle.counting.specs.declared.Event.{Event}
 use Rattle.reading.specs.declared.Outcome.the-variants.{Base, Experimental}
 use Rattle.requests.specs.Request.{underCx}
-use Rattle.calling.specs.Lent.{Lent, lent}
+use Rattle.calling.specs.Lent.{Lent, lent, tableOnly}
+use Rattle.calling.proofs.Areas.{only-sound}
 use Rattle.reporting.specs.Pieces.{stopOf}
 use Rattle.reporting.specs.Row.{next, row, left}
-use Rattle.reporting.specs.Report.{Reported, requestsOf, wordsOf, ran, reportedTable}
+use Rattle.reporting.specs.Report.{Reported, requestsOf, wordsOf, ran, reported}
+use Rattle.reporting.proofs.Areas.{reported-sound}
 use Rattle.report_numbers.specs.File.{endToEnd, BrokenOff}
 use Rattle.report_numbers.specs.Turns.{eventsOf}
 use Rattle.report_numbers.proofs.Ends.{area-long}
-use Rattle.report_numbers.proofs.Numbers.{report-7-broken}
-use Rattle.report_example.proofs.Calls.{lir, removal, strayed, messages, scrap, file, here, gone, located, removed, sought, month, each}
+use Rattle.report_numbers.proofs.Numbers.{report-7-broken, report-over}
+use Rattle.report_example.proofs.Calls.{lir, removal, strayed, messages, scrap, file, here, gone, located, removed, sought, month, each, sound-here}
 use Rattle.report_example.proofs.Calls.{counts, located-comes, removed-comes, sought-comes, strayed-comes, all, located-counts, removed-counts}
 use Rattle.report_example.proofs.Calls.{sought-counts, strayed-counts}
 use Rattle.counting.specs.declared.Event.the-variants as event
@@ -31,15 +33,24 @@ enough = lit≤ tt
 pub breaks : BrokenOff scrap
 breaks = record { some = lit≤ tt; by = inl (lit≤ tt) }
 
+-- nothing is behind the table
+pub month-only : tableOnly month ≡ month
+unfolding month
+month-only = only-sound month 1 sound-here
+
+month-long : reported month area ≡ ran month area
+unfolding month
+month-long = reported-sound month area 1 sound-here ∙ area-long month area enough
+
 -- the file is read up to the 3 bytes
-month-read : (requestsOf month ≡ messages) × (stopOf file ≡ length (endToEnd messages)) × (reportedTable month area .number ≡ 7)
+month-read : (requestsOf month ≡ messages) × (stopOf file ≡ length (endToEnd messages)) × (reported month area .number ≡ 7)
 unfolding month file
 month-read = report-7-broken month area enough messages each scrap refl breaks
 
 pub month-requests : requestsOf month ≡ messages
 month-requests = month-read .0
 
-pub month-number : reportedTable month area .number ≡ 7
+pub month-number : reported month area .number ≡ 7
 month-number = month-read .2
 
 pub month-stop : stopOf file ≡ 452
@@ -66,10 +77,13 @@ after-strayed = rw strayed-comes
 abbrev pub events : List Event
 events = counts 302 (Base 2001) 132 0 ∷ counts 301 (Base 2001) 116 1 ∷ counts 302 (Experimental 5003) 136 0 ∷ event.Refused 4 ∷ []
 
-pub month-events : eventsOf month ≡ events
+month-row : row month (requestsOf month) ≡ events
 unfolding row month
-month-events =
+month-row =
     ap (row month) month-requests ∙ rw (after-located, after-removed, after-sought, located-counts, removed-counts, sought-counts, strayed-counts)
+
+pub month-events : eventsOf month ≡ events
+month-events = report-over month (requestsOf month) ∙ ap (λ (y : Lent). row y (requestsOf month)) month-only ∙ month-row
 
 month-left : left month (requestsOf month) ≡ lent file gone [] [] sought underCx
 unfolding left
@@ -88,28 +102,27 @@ counting = 0
 
 month-words : wordsOf month ≡ words
 unfolding wordsOf counting month
-month-words = rw (month-events, month-stop)
+month-words = rw (month-row, month-stop)
 
-pub month-table : reportedTable month area .table ≡ gone
+pub month-table : reported month area .table ≡ gone
 unfolding ran
-month-table = ap (λ (r : Reported). r .table) (area-long month area enough) ∙ ap (λ (y : Lent). y .table) month-left
+month-table = ap (λ (r : Reported). r .table) month-long ∙ ap (λ (y : Lent). y .table) month-left
 
 -- one statement
 record Month : Type 0 where
-  number : reportedTable month area .number ≡ 7
-  table : reportedTable month area .table ≡ gone
-  vectors : reportedTable month area .vectors ≡ []
-  buffer : reportedTable month area .buffer ≡ sought
-  area : reportedTable month area .area ≡ wordsBytes words ++ (9 ∷ [])
+  number : reported month area .number ≡ 7
+  table : reported month area .table ≡ gone
+  vectors : reported month area .vectors ≡ []
+  buffer : reported month area .buffer ≡ sought
+  area : reported month area .area ≡ wordsBytes words ++ (9 ∷ [])
 
 reported-month : Month
 unfolding ran over wordsBytes longBytes area
 reported-month =
-    let long = area-long month area enough in
     record {
       number = month-number;
       table = month-table;
-      vectors = rw (long, month-left);
-      buffer = rw (long, month-left);
-      area = rw (long, month-words);
+      vectors = ap (λ (r : Reported). r .vectors) month-long ∙ ap (λ (y : Lent). y .vectors) month-left;
+      buffer = ap (λ (r : Reported). r .buffer) month-long ∙ ap (λ (y : Lent). y .buffer) month-left;
+      area = ap (λ (r : Reported). r .area) month-long ∙ rw month-words;
     }

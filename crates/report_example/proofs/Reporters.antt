@@ -11,26 +11,26 @@ use Rattle.counting.specs.Counted.{wordAt, countsOf}
 use Rattle.counting.specs.Words.{wordsBytes}
 use Rattle.counting.specs.declared.Event.{Event}
 use Rattle.counting.proofs.Counts.{counts-length, counts-at}
+use Rattle.requests.specs.Request.{underCx}
 use Rattle.calling.specs.Lent.{Lent, asking, lent, tableOnly}
-use Rattle.calling.specs.Serve.{Served, serveTable}
-use Rattle.calling.proofs.Areas.{only-sound}
+use Rattle.calling.specs.Serve.{Served, serve}
+use Rattle.calling.proofs.Areas.{only-sound, serve-sound}
 use Rattle.ndushavire.specs.Word.{word}
 use Rattle.ndushavire.specs.Reads.{numberIn}
 use Rattle.ndushavire.specs.Promise.{ReportPromise}
 use Rattle.reporting.specs.Pieces.{stopOf}
 use Rattle.reporting.specs.Row.{eventBy, eventOf, row}
-use Rattle.reporting.specs.Report.{Reported, requestsOf, reportedTable, reported}
-use Rattle.reporting.proofs.Areas.{reported-sound}
+use Rattle.reporting.specs.Report.{Reported, requestsOf, reported}
 use Rattle.report_numbers.specs.Area.{wordIn}
 use Rattle.report_numbers.specs.Turns.{eventsOf}
 use Rattle.report_numbers.proofs.Numbers.{report-meant, report-word}
 use Rattle.report_numbers.proofs.Words.{area-word}
 use Rattle.worked_examples.proofs.Computed.{known, come, roomy, no-vectors}
 use Rattle.worked_examples.proofs.Sample.{answer, room}
-use Rattle.report_example.proofs.Calls.{removal, strayed, here, gone, month, sound-here, lending, counts, counted-from, located-counts, all}
-use Rattle.report_example.proofs.Cards.{fresh, used, cards, idle-sound, cards-requests, cards-events, cards-vectors, sent-comes, sent-counts}
+use Rattle.report_example.proofs.Calls.{lir, removal, strayed, here, gone, month, sound-here, lending, counts, counted-from, located-counts, all}
+use Rattle.report_example.proofs.Cards.{mar, fresh, used, idle, named, sent, cards, idle-sound, named-sound, cards-requests, cards-events, cards-vectors, sent-comes, sent-counts}
 use Rattle.report_example.proofs.Cards.{again-counts}
-use Rattle.report_example.proofs.Month.{area, enough, month-requests, month-events, month-number, month-table, counting}
+use Rattle.report_example.proofs.Month.{area, enough, month-requests, month-events, month-number, month-table, month-only, counting}
 use Rattle.counting.specs.declared.Event.the-variants as event
 
 -- what a report leaves
@@ -75,26 +75,16 @@ module _ (row : Lent → List Event) (i n : ℕ) (small : i < 145) (other : i �
       let there : getD ws i 0 ≡ n = getD-set-other (countsOf (row x)) 1 i (stopOf (x .request)) 0 other ∙ counts-at (row x) i small ∙ e in
       area-word ws a l space i small (rw there short) ∙ there
 
-  other-fails : (x : Lent) → tableOnly x ≡ x → (a : List ℕ) → 1160 ≤ length a → wordAt (row x) i ≡ n → wordAt (eventsOf x) i ≢ n
+  other-fails : (x : Lent) (a : List ℕ) → 1160 ≤ length a → wordAt (row x) i ≡ n → wordAt (eventsOf x) i ≢ n
       → Meets (counting-by row) x a → ⊥
   unfolding counting-by truly
-  other-fails x exact a space e differs p =
-      differs
-      (sym (report-word x a space i small other) ∙ ap (λ (y : Lent). wordIn (reportedTable y a .area) i) (sym exact)
-      ∙ ap (λ (b : List ℕ). wordIn b i) (sym (p .area-is)) ∙ word-of x a space e)
-
-month-only : tableOnly month ≡ month
-unfolding month
-month-only = only-sound month 1 sound-here
-
-month-over : reported month area ≡ reportedTable month area
-unfolding month
-month-over = reported-sound month area 1 sound-here
+  other-fails x a space e differs p =
+      differs (sym (report-word x a space i small other) ∙ ap (λ (b : List ℕ). wordIn b i) (sym (p .area-is)) ∙ word-of x a space e)
 
 -- 1. one that does not carry the table along: each request is decided over the table as it came
 apart : Lent → List (List ℕ) → List Event
 apart x [] = []
-apart x (p ∷ ps) = eventOf (asking x p) ∷ apart x ps
+apart x (p ∷ ps) = eventOf (tableOnly (asking x p)) ∷ apart x ps
 
 forgetting : Reporter
 forgetting = counting-by (λ (x : Lent). apart x (requestsOf x))
@@ -115,7 +105,10 @@ strayed-apart =
 apart-month : apart month (requestsOf month)
     ≡ counts 302 (Base 2001) 132 0 ∷ counts 301 (Base 2001) 116 1 ∷ counts 302 (Base 2001) 132 0 ∷ event.Refused 4 ∷ []
 unfolding apart month
-apart-month = ap (apart month) month-requests ∙ rw (located-counts, removed-apart, strayed-apart)
+apart-month =
+    ap (apart month) month-requests
+    ∙ ap (λ (y : Lent). eventOf (asking y lir) ∷ eventOf (asking y removal) ∷ eventOf (asking y lir) ∷ eventOf (asking y strayed) ∷ []) month-only
+    ∙ rw (located-counts, removed-apart, strayed-apart)
 
 true-70 : wordAt (eventsOf month) 70 ≡ 1
 unfolding counting
@@ -124,21 +117,22 @@ true-70 = rw month-events
 forgetting-fails : Meets forgetting month area → ⊥
 unfolding forgetting counting
 forgetting-fails =
-    other-fails (λ (x : Lent). apart x (requestsOf x)) 70 2 (omega arith) (omega arith) (omega arith) month month-only area enough (rw apart-month)
+    other-fails (λ (x : Lent). apart x (requestsOf x)) 70 2 (omega arith) (omega arith) (omega arith) month area enough (rw apart-month)
     (λ e. omega (arith, true-70, e))
 
 -- nor does one that leaves the table as it came, whatever else it does
 unwriting-fails : (f : Reporter) → f month area .table ≡ here → Meets f month area → ⊥
 unfolding all
 unwriting-fails f e p =
-    let n : _≡_ {A = ℕ} 1 0 = ap (λ (t : List ℕ). getD t 520 0) (sym e ∙ p .table-is ∙ ap (λ (r : Reported). r .table) month-over ∙ month-table) in
+    let n : _≡_ {A = ℕ} 1 0 = ap (λ (t : List ℕ). getD t 520 0) (sym e ∙ p .table-is ∙ month-table) in
     omega arith
 
 -- nor one that does not carry the vectors along: each request is decided over the vector file as it came
 unspent : Lent → List (List ℕ) → List Event
 unspent x [] = []
-unspent x (p ∷ ps) = eventOf (asking x p) ∷ unspent (lent (x .request) (serveTable (asking x p) .table) (x .profile) (x .vectors)
-    (serveTable (asking x p) .buffer) (x .terms)) ps
+unspent x (p ∷ ps) =
+    let s = serve (asking x p) in
+    eventOf (tableOnly (asking x p)) ∷ unspent (lent (x .request) (s .table) (x .profile) (x .vectors) (s .buffer) (x .terms)) ps
 
 sparing : Reporter
 sparing = counting-by (λ (x : Lent). unspent x (requestsOf x))
@@ -146,11 +140,13 @@ sparing = counting-by (λ (x : Lent). unspent x (requestsOf x))
 -- the second MAR would be sent the vector again: B2001 twice, where the definitions have it once
 unspent-cards : unspent cards (requestsOf cards) ≡ counts 303 (Base 2001) 336 1 ∷ counts 303 (Base 2001) 336 0 ∷ []
 unfolding unspent cards
-unspent-cards = ap (unspent cards) cards-requests ∙ rw (sent-counts, sent-comes, again-counts)
-
-cards-only : tableOnly cards ≡ cards
-unfolding cards
-cards-only = only-sound cards 1 idle-sound
+unspent-cards =
+    let x = lent mar idle [] fresh room underCx in
+    ap (unspent cards) cards-requests
+    ∙ ap (λ (y : Lent). eventOf y ∷ eventOf (tableOnly (lent mar (serve x .table) [] fresh (serve x .buffer) underCx)) ∷ []) (only-sound x 1 idle-sound)
+    ∙ ap (λ (s : Served). eventOf x ∷ eventOf (tableOnly (lent mar (s .table) [] fresh (s .buffer) underCx)) ∷ []) (serve-sound x 1 idle-sound ∙ sent-comes)
+    ∙ ap (λ (y : Lent). eventOf x ∷ eventOf y ∷ []) (only-sound (lent mar named [] fresh sent underCx) 1 named-sound)
+    ∙ rw (sent-counts, again-counts)
 
 true-95 : wordAt (eventsOf cards) 95 ≡ 1
 unfolding counting
@@ -159,14 +155,14 @@ true-95 = rw cards-events
 sparing-fails : Meets sparing cards area → ⊥
 unfolding sparing counting
 sparing-fails =
-    other-fails (λ (x : Lent). unspent x (requestsOf x)) 95 2 (omega arith) (omega arith) (omega arith) cards cards-only area enough (rw unspent-cards)
+    other-fails (λ (x : Lent). unspent x (requestsOf x)) 95 2 (omega arith) (omega arith) (omega arith) cards area enough (rw unspent-cards)
     (λ e. omega (arith, true-95, e))
 
 -- nor does one that leaves the vectors as they came, whatever else it does
 unspending-fails : (f : Reporter) → f cards area .vectors ≡ fresh → Meets f cards area → ⊥
 unfolding all fresh used
 unspending-fails f e p =
-    let v : f cards area .vectors ≡ used = p .vectors-is ∙ ap (λ (y : Lent). reportedTable y area .vectors) cards-only ∙ cards-vectors in
+    let v : f cards area .vectors ≡ used = p .vectors-is ∙ cards-vectors in
     let n : _≡_ {A = ℕ} 0 1 = ap (λ (v : List ℕ). getD v 1 0) (sym e ∙ v) in
     omega arith
 
@@ -191,7 +187,7 @@ true-4 = rw month-events
 naming-fails : (o : Outcome) → Meets (naming o) month area → ⊥
 unfolding naming under underAll counting
 naming-fails o =
-    other-fails (λ (x : Lent). underAll o (requestsOf x) (eventsOf x)) 4 4 (omega arith) (omega arith) (omega arith) month month-only area enough
+    other-fails (λ (x : Lent). underAll o (requestsOf x) (eventsOf x)) 4 4 (omega arith) (omega arith) (omega arith) month area enough
     (rw (month-events, month-requests))
     (λ e. omega (arith, true-4, e))
 
@@ -206,12 +202,11 @@ true-0 = rw month-events
 scraping-fails : (last : Lent → Event) → Meets (scraping last) month area → ⊥
 unfolding scraping counting
 scraping-fails last =
-    other-fails (λ (x : Lent). eventsOf x ++ (last x ∷ [])) 0 5 (omega arith) (omega arith) (omega arith) month month-only area enough (rw month-events)
+    other-fails (λ (x : Lent). eventsOf x ++ (last x ∷ [])) 0 5 (omega arith) (omega arith) (omega arith) month area enough (rw month-events)
     (λ e. omega (arith, true-0, e))
 
 -- 4. one that ends by 0 though bytes are left, whatever else it does
 ending-fails : (f : Reporter) → numberIn (f month area .word) ≡ 0 → Meets f month area → ⊥
 ending-fails f e p =
-    let m : reportedTable (tableOnly month) area .number ≡ 7 = ap (λ (y : Lent). reportedTable y area .number) month-only ∙ month-number in
-    let n : numberIn (f month area .word) ≡ 7 = sym (ap (λ (r : Reported). r .number) (report-meant month area p .0)) ∙ m in
+    let n : numberIn (f month area .word) ≡ 7 = sym (ap (λ (r : Reported). r .number) (report-meant month area p .0)) ∙ month-number in
     omega (arith, e, n)

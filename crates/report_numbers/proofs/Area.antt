@@ -16,7 +16,8 @@ use Rattle.reporting.specs.Pieces.{stopOf}
 use Rattle.reporting.specs.Report.{Reported, requestsOf, wordsOf, ran, reportedTable}
 use Rattle.reporting.proofs.Whole.{row-fits}
 use Rattle.report_numbers.specs.Area.{wordIn, rowsIn, refusalsIn}
-use Rattle.report_numbers.specs.Turns.{eventsOf, InTurn, callAt, refusedBy, answeredIn, callLength, alteredOver}
+use Rattle.report_numbers.specs.Turns.{InTurn, refusedBy, answeredIn, callLength}
+use Rattle.report_numbers.proofs.Table.{tableEvents, tableCall, tableAltered}
 use Rattle.report_numbers.proofs.Cut.{stop-within, few-pieces}
 use Rattle.report_numbers.proofs.Calls.{row-length, row-altered, over-most, largest-most, largest-least, largest-one}
 use Rattle.report_numbers.proofs.Cells.{refused-count, answered-count}
@@ -26,24 +27,24 @@ use Rattle.report_numbers.proofs.Ends.{area-short, area-long}
 module _ (x : Lent) where
   words-length : length (wordsOf x) ≡ 145
   unfolding wordsOf
-  words-length = length-set (countsOf (eventsOf x)) stopWord (stopOf (x .request)) ∙ counts-length (eventsOf x)
+  words-length = length-set (countsOf (tableEvents x)) stopWord (stopOf (x .request)) ∙ counts-length (tableEvents x)
 
   words-place : getD (wordsOf x) stopWord 0 ≡ stopOf (x .request)
   unfolding wordsOf
-  words-place = getD-set-same (countsOf (eventsOf x)) stopWord (stopOf (x .request)) 0 (omega (arith, counts-length (eventsOf x)))
+  words-place = getD-set-same (countsOf (tableEvents x)) stopWord (stopOf (x .request)) 0 (omega (arith, counts-length (tableEvents x)))
 
-  words-at : (i : ℕ) → i < 145 → i ≢ stopWord → getD (wordsOf x) i 0 ≡ wordAt (eventsOf x) i
+  words-at : (i : ℕ) → i < 145 → i ≢ stopWord → getD (wordsOf x) i 0 ≡ wordAt (tableEvents x) i
   unfolding wordsOf
-  words-at i h n = getD-set-other (countsOf (eventsOf x)) stopWord i (stopOf (x .request)) 0 n ∙ counts-at (eventsOf x) i h
+  words-at i h n = getD-set-other (countsOf (tableEvents x)) stopWord i (stopOf (x .request)) 0 n ∙ counts-at (tableEvents x) i h
 
-  word-small : (i : ℕ) → wordAt (eventsOf x) i < 2 ^ 64
+  word-small : (i : ℕ) → wordAt (tableEvents x) i < 2 ^ 64
   word-small i = go (eqb i 3) refl
     where
-      go : (b : Bool) → eqb i 3 ≡ b → wordAt (eventsOf x) i < 2 ^ 64
-      go true e = rw (eqb-true i 3 e, word-largest (eventsOf x)) (omega (arith, largest-most x (requestsOf x)))
-      go false e = rw (word-other (eventsOf x) i (eqb-false i 3 e)) (mod-lt (numberAt (eventsOf x) i) {m = 2 ^ 64} (omega arith))
+      go : (b : Bool) → eqb i 3 ≡ b → wordAt (tableEvents x) i < 2 ^ 64
+      go true e = rw (eqb-true i 3 e, word-largest (tableEvents x)) (omega (arith, largest-most x (requestsOf x)))
+      go false e = rw (word-other (tableEvents x) i (eqb-false i 3 e)) (mod-lt (numberAt (tableEvents x) i) {m = 2 ^ 64} (omega arith))
 
-  pub few-requests : 20 * length (eventsOf x) ≤ length (x .request)
+  pub few-requests : 20 * length (tableEvents x) ≤ length (x .request)
   few-requests = omega (arith, row-length x (requestsOf x), few-pieces (x .request))
 
   pub report-length : (area : List ℕ) → length (reportedTable x area .area) ≡ length area
@@ -70,7 +71,7 @@ module _ (x : Lent) (area : List ℕ) (room : 1160 ≤ length area) where
   pub report-bytes : (i : ℕ) → i < 145 → take 8 (drop (8 * i) written) ≡ longBytes (getD (wordsOf x) i 0)
   report-bytes i h = rw written-is (area-bytes (wordsOf x) area (words-length x) room i h)
 
-  pub report-word : (i : ℕ) → i < 145 → i ≢ stopWord → wordIn written i ≡ wordAt (eventsOf x) i
+  pub report-word : (i : ℕ) → i < 145 → i ≢ stopWord → wordIn written i ≡ wordAt (tableEvents x) i
   report-word i h n =
       let e = words-at x i h n in
       rw written-is (area-word (wordsOf x) area (words-length x) room i h (rw e (word-small x i)) ∙ e)
@@ -82,31 +83,31 @@ module _ (x : Lent) (area : List ℕ) (room : 1160 ≤ length area) where
 
   -- no remainder
   pub report-exact : length (x .request) < 2 ^ 64 → (i : ℕ) → i < 145 → i ≢ stopWord → i ≢ alteredWord → i ≢ largestWord
-      → wordIn written i ≡ numberAt (eventsOf x) i
-  report-exact l i h n m k = report-word i h n ∙ exact (eventsOf x) (omega (arith, few-requests x)) i m k
+      → wordIn written i ≡ numberAt (tableEvents x) i
+  report-exact l i h n m k = report-word i h n ∙ exact (tableEvents x) (omega (arith, few-requests x)) i m k
 
-  pub report-altered : wordIn written alteredWord ≡ alteredOver x (requestsOf x) % 2 ^ 64
+  pub report-altered : wordIn written alteredWord ≡ tableAltered x (requestsOf x) % 2 ^ 64
   unfolding numberAt
   report-altered =
       report-word 2 (omega arith) (omega arith)
-      ∙ word-other (eventsOf x) 2 (omega arith)
+      ∙ word-other (tableEvents x) 2 (omega arith)
       ∙ ap (λ (n : ℕ). n % 2 ^ 64) (row-altered x (requestsOf x))
 
-  pub report-altered-exact : length (x .request) < 2 ^ 56 → wordIn written alteredWord ≡ alteredOver x (requestsOf x)
+  pub report-altered-exact : length (x .request) < 2 ^ 56 → wordIn written alteredWord ≡ tableAltered x (requestsOf x)
   report-altered-exact l =
       report-altered ∙ mod-eq-of-lt (omega (arith, over-most x (requestsOf x), few-pieces (x .request)))
 
-  pub report-largest : wordIn written largestWord ≡ largestIn (eventsOf x)
-  report-largest = report-word 3 (omega arith) (omega arith) ∙ word-largest (eventsOf x)
+  pub report-largest : wordIn written largestWord ≡ largestIn (tableEvents x)
+  report-largest = report-word 3 (omega arith) (omega arith) ∙ word-largest (tableEvents x)
 
   -- "the row totals add up to the requests read"
   module _ (l : length (x .request) < 2 ^ 64) where
-    part : (i n : ℕ) → 5 ≤ i → i + n ≤ 145 → sumFrom (wordIn written) i n ≡ sumFrom (numberAt (eventsOf x)) i n
+    part : (i n : ℕ) → 5 ≤ i → i + n ≤ 145 → sumFrom (wordIn written) i n ≡ sumFrom (numberAt (tableEvents x)) i n
     part i n a b =
-        sum-alike (wordIn written) (numberAt (eventsOf x)) i n
+        sum-alike (wordIn written) (numberAt (tableEvents x)) i n
         (λ k c d. report-exact l k (omega arith) (omega arith) (omega arith) (omega arith))
 
-    rows-are : rowsIn written ≡ rowTotals (eventsOf x)
+    rows-are : rowsIn written ≡ rowTotals (tableEvents x)
     rows-are =
         omega (
           arith,
@@ -124,7 +125,7 @@ module _ (x : Lent) (area : List ℕ) (room : 1160 ≤ length area) where
     pub report-rows : rowsIn written ≡ wordIn written answeredWord
     report-rows =
         rows-are
-        ∙ rows-answered (eventsOf x) (row-fits x (requestsOf x))
+        ∙ rows-answered (tableEvents x) (row-fits x (requestsOf x))
         ∙ sym (report-exact l 4 (omega arith) (omega arith) (omega arith) (omega arith))
 
     pub report-totals : rowsIn written + refusalsIn written ≡ wordIn written readWord
@@ -133,26 +134,26 @@ module _ (x : Lent) (area : List ℕ) (room : 1160 ≤ length area) where
           arith,
           rows-are,
           part 5 15 (omega arith) (omega arith),
-          totals-read (eventsOf x) (row-fits x (requestsOf x)),
+          totals-read (tableEvents x) (row-fits x (requestsOf x)),
           report-read,
           row-length x (requestsOf x),
         )
 
     -- from word 5 on
-    pub refused-word : (n : ℕ) → 1 ≤ n → n ≤ 15 → wordIn written (refusalWord n) ≡ howMany (refusedBy n) (eventsOf x)
+    pub refused-word : (n : ℕ) → 1 ≤ n → n ≤ 15 → wordIn written (refusalWord n) ≡ howMany (refusedBy n) (tableEvents x)
     refused-word n a h =
         report-exact l (refusalWord n) (omega arith) (omega arith) (omega arith) (omega arith)
-        ∙ refused-count (eventsOf x) (row-fits x (requestsOf x)) n a h
+        ∙ refused-count (tableEvents x) (row-fits x (requestsOf x)) n a h
 
-    pub answered-word : (r c : ℕ) → r ≤ 4 → c < 25 → wordIn written (cellWord r c) ≡ howMany (answeredIn r c) (eventsOf x)
+    pub answered-word : (r c : ℕ) → r ≤ 4 → c < 25 → wordIn written (cellWord r c) ≡ howMany (answeredIn r c) (tableEvents x)
     answered-word r c h a =
         report-exact l (cellWord r c) (omega arith) (omega arith) (omega arith) (omega arith)
-        ∙ answered-count (eventsOf x) (row-fits x (requestsOf x)) r c a
+        ∙ answered-count (tableEvents x) (row-fits x (requestsOf x)) r c a
 
   -- the largest answer
-  pub largest-word : (p : InTurn (requestsOf x)) → callLength (serveTable (callAt x p) .call) ≤ wordIn written largestWord
+  pub largest-word : (p : InTurn (requestsOf x)) → callLength (serveTable (tableCall x p) .call) ≤ wordIn written largestWord
   largest-word p = rw report-largest (largest-least x (requestsOf x) p)
 
   pub largest-word-one : (wordIn written largestWord ≡ 0)
-      ⊎ ((p : InTurn (requestsOf x)) × (callLength (serveTable (callAt x p) .call) ≡ wordIn written largestWord))
+      ⊎ ((p : InTurn (requestsOf x)) × (callLength (serveTable (tableCall x p) .call) ≡ wordIn written largestWord))
   largest-word-one = rw report-largest (largest-one x (requestsOf x))

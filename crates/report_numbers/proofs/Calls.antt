@@ -14,7 +14,8 @@ use Rattle.calling.proofs.Calls.{size-least, size-most, length-even}
 use Rattle.calling.proofs.Kept.{serve-by}
 use Rattle.demands.proofs.Firm.{check-most}
 use Rattle.reporting.specs.Row.{recordsAltered, eventBy, eventOf, next, row, left}
-use Rattle.report_numbers.specs.Turns.{InTurn, callAt, callLength, alteredOver}
+use Rattle.report_numbers.specs.Turns.{InTurn, callLength}
+use Rattle.report_numbers.proofs.Table.{tableCall, tableAltered}
 use Rattle.counting.specs.Counted as counted
 
 -- Two rows of requests.
@@ -30,7 +31,7 @@ left-append x (p ∷ ps) qs = left-append (next x p) ps qs
 
 -- the call of a request in its place
 pub row-at : (x : Lent) (ps : List (List ℕ)) (p : InTurn ps)
-    → row x ps ≡ row x (p .before) ++ (eventOf (callAt x p) ∷ row (left x (p .before ++ (p .request ∷ []))) (p .after))
+    → row x ps ≡ row x (p .before) ++ (eventOf (tableCall x p) ∷ row (left x (p .before ++ (p .request ∷ []))) (p .after))
 unfolding row left
 row-at x ps p =
     let one : left x (p .before ++ (p .request ∷ [])) ≡ next (left x (p .before)) (p .request) = left-append x (p .before) (p .request ∷ []) in
@@ -74,14 +75,14 @@ event-altered x =
     (λ k e. refl)
     refl
 
-pub row-altered : (x : Lent) (ps : List (List ℕ)) → alteredIn (row x ps) ≡ alteredOver x ps
-unfolding row alteredIn alteredOver
+pub row-altered : (x : Lent) (ps : List (List ℕ)) → alteredIn (row x ps) ≡ tableAltered x ps
+unfolding row alteredIn tableAltered
 row-altered x [] = refl
 row-altered x (p ∷ ps) = omega (arith, event-altered (asking x p), row-altered (next x p) ps)
 
 -- at most all of 4,096 a call
-pub over-most : (x : Lent) (ps : List (List ℕ)) → alteredOver x ps ≤ 4096 * length ps
-unfolding alteredOver
+pub over-most : (x : Lent) (ps : List (List ℕ)) → tableAltered x ps ≤ 4096 * length ps
+unfolding tableAltered
 over-most x [] = omega arith
 over-most x (p ∷ ps) =
     let y = asking x p in
@@ -115,7 +116,7 @@ unfolding row largestIn
 largest-most x [] = omega arith
 largest-most x (p ∷ ps) = omega (arith, event-length (asking x p), call-most (asking x p), largest-most (next x p) ps)
 
-pub largest-least : (x : Lent) (ps : List (List ℕ)) (p : InTurn ps) → callLength (serveTable (callAt x p) .call) ≤ largestIn (row x ps)
+pub largest-least : (x : Lent) (ps : List (List ℕ)) (p : InTurn ps) → callLength (serveTable (tableCall x p) .call) ≤ largestIn (row x ps)
 unfolding row largestIn
 largest-least x ps p =
     let there : row x ps ≡ row x (p .before) ++ row (left x (p .before)) (p .request ∷ p .after) =
@@ -124,11 +125,11 @@ largest-least x ps p =
       arith,
       ap largestIn there,
       largest-append (row x (p .before)) (row (left x (p .before)) (p .request ∷ p .after)),
-      event-length (callAt x p),
+      event-length (tableCall x p),
     )
 
 pub largest-one : (x : Lent) (ps : List (List ℕ))
-    → (largestIn (row x ps) ≡ 0) ⊎ ((p : InTurn ps) × (callLength (serveTable (callAt x p) .call) ≡ largestIn (row x ps)))
+    → (largestIn (row x ps) ≡ 0) ⊎ ((p : InTurn ps) × (callLength (serveTable (tableCall x p) .call) ≡ largestIn (row x ps)))
 unfolding row left largestIn
 largest-one x [] = inl refl
 largest-one x (p ∷ ps) = go (leb rest first) refl (largest-one (next x p) ps)
@@ -140,8 +141,8 @@ largest-one x (p ∷ ps) = go (leb rest first) refl (largest-one (next x p) ps)
     rest = largestIn (row (next x p) ps)
 
     go : (b : Bool) → leb rest first ≡ b
-        → (rest ≡ 0) ⊎ ((q : InTurn ps) × (callLength (serveTable (callAt (next x p) q) .call) ≡ rest))
-        → (max first rest ≡ 0) ⊎ ((q : InTurn (p ∷ ps)) × (callLength (serveTable (callAt x q) .call) ≡ max first rest))
+        → (rest ≡ 0) ⊎ ((q : InTurn ps) × (callLength (serveTable (tableCall (next x p) q) .call) ≡ rest))
+        → (max first rest ≡ 0) ⊎ ((q : InTurn (p ∷ ps)) × (callLength (serveTable (tableCall x q) .call) ≡ max first rest))
     go true e more =
         inr (
           record { before = []; request = p; after = ps; is = refl },

@@ -10,13 +10,14 @@ use Rattle.counting.proofs.Numbers.{word-other}
 use Rattle.calling.specs.Call.{Call, Answered, Refused}
 use Rattle.calling.specs.Lent.{Lent, asking, dialectIn}
 use Rattle.calling.specs.Serve.{checkOf, checkValue, resultOf, serveTable}
-use Rattle.demands.proofs.Unreachable.{taken-out}
+use Rattle.demands.proofs.Unable.{unable-never}
 use Rattle.reporting.specs.Row.{eventBy, eventOf, next, row}
 use Rattle.reporting.specs.Report.{requestsOf, reportedTable}
 use Rattle.deciding.proofs.Comes.{decide-carries}
 use Rattle.reporting.proofs.Whole.{row-fits}
 use Rattle.report_numbers.specs.Area.{wordIn}
-use Rattle.report_numbers.specs.Turns.{eventsOf, answeredIn}
+use Rattle.report_numbers.specs.Turns.{answeredIn}
+use Rattle.report_numbers.proofs.Table.{tableEvents}
 use Rattle.report_numbers.proofs.Area.{report-word}
 use Rattle.report_numbers.proofs.Cells.{answered-count, columns-apart}
 
@@ -45,7 +46,8 @@ module _ (r : ℕ) (two : (r ≡ 0) ⊎ (r ≡ 2)) where
   result-other : (x : Lent) → commandRow (commandOf (x .request)) ≡ r → columnOf (resultOf x) ≡ 11 → ⊥
   unfolding columnOf indexIn baseResults listed
   result-other x e f =
-      taken-out x (row-command r (commandOf (x .request)) two e) (columns-apart (resultOf x) (Base 5012) (result-listed x) refl f)
+      unable-never (dialectIn x) (x .request) (x .table) (checkValue (checkOf x)) (x .vectors) (row-command r (commandOf (x .request)) two e)
+      (columns-apart (resultOf x) (Base 5012) (result-listed x) refl f)
 
   event-other : (x : Lent) (c : Call) → answeredIn r 11 (eventBy x c) ≡ false
   event-other x (Answered a) = go (eqb (commandRow (commandOf (x .request))) r) (eqb (columnOf (resultOf x)) 11) refl refl
@@ -72,5 +74,5 @@ module _ (r : ℕ) (two : (r ≡ 0) ⊎ (r ≡ 2)) where
       go h =
           let l = few h in
           report-word x a room (20 + (25 * r + 11)) (omega arith) (omega arith)
-          ∙ word-other (eventsOf x) (20 + (25 * r + 11)) (omega arith)
-          ∙ ap (λ (n : ℕ). n % 2 ^ 64) (answered-count (eventsOf x) (row-fits x (requestsOf x)) r 11 (omega arith) ∙ row-other x (requestsOf x))
+          ∙ word-other (tableEvents x) (20 + (25 * r + 11)) (omega arith)
+          ∙ ap (λ (n : ℕ). n % 2 ^ 64) (answered-count (tableEvents x) (row-fits x (requestsOf x)) r 11 (omega arith) ∙ row-other x (requestsOf x))

@@ -13,7 +13,7 @@ use Rattle.reporting.specs.Row.{eventOf, next, row, left}
 use Rattle.reporting.specs.Report.{requestsOf, ended, ran, reportedTable}
 use Rattle.report_numbers.specs.Area.{wordIn}
 use Rattle.report_numbers.specs.File.{OneRequest}
-use Rattle.report_numbers.specs.Turns.{eventsOf, goingOn}
+use Rattle.report_numbers.proofs.Table.{tableEvents, tableGoing}
 use Rattle.report_numbers.proofs.Area.{report-word, report-place, report-largest}
 use Rattle.report_numbers.proofs.Calls.{row-append, left-append, row-other, left-other, left-profile, left-terms}
 use Rattle.report_numbers.proofs.Cells.{same-test}
@@ -22,7 +22,7 @@ use Rattle.report_numbers.proofs.Ends.{area-long, stop-zero, zero-stop}
 
 -- One request.
 module _ (x : Lent) (one : OneRequest (x .request)) where
-  pub one-event : eventsOf x ≡ eventOf x ∷ []
+  pub one-event : tableEvents x ≡ eventOf x ∷ []
   unfolding row
   one-event = ap (row x) (one-piece (x .request) one)
 
@@ -55,7 +55,7 @@ module _ (x : Lent) (more area : List ℕ) (room : 1160 ≤ length area) (whole 
   both = asking x (x .request ++ more)
 
   abbrev second : Lent
-  second = goingOn x area more
+  second = tableGoing x area more
 
   used : stopOf (x .request) ≡ length (x .request)
   used = zero-stop x area room whole
@@ -67,12 +67,12 @@ module _ (x : Lent) (more area : List ℕ) (room : 1160 ≤ length area) (whole 
   unfolding ran
   goes-on = rw (area-long x area room, left-profile x (requestsOf x), left-terms x (requestsOf x))
 
-  pub two-events : eventsOf both ≡ eventsOf x ++ eventsOf second
+  pub two-events : tableEvents both ≡ tableEvents x ++ tableEvents second
   two-events =
       ap (row both) two-requests
       ∙ row-other x (x .request ++ more) (requestsOf x ++ requestsOf second)
       ∙ row-append x (requestsOf x) (requestsOf second)
-      ∙ ap (λ (es : List Event). eventsOf x ++ es)
+      ∙ ap (λ (es : List Event). tableEvents x ++ es)
       (sym (row-other (left x (requestsOf x)) more (requestsOf second)) ∙ ap (λ (y : Lent). row y (pieces more)) goes-on)
 
   two-left : asking (left both (requestsOf both)) more ≡ left second (requestsOf second)
@@ -117,18 +117,18 @@ module _ (x : Lent) (more area : List ℕ) (room : 1160 ≤ length area) (whole 
         → wordIn (reportedTable both area .area) i ≡ (wordIn (reportedTable x area .area) i + wordIn (reportedTable second again .area) i) % 2 ^ 64
     two-words i h m n =
         report-word both area room i h m
-        ∙ word-other (eventsOf both) i n
+        ∙ word-other (tableEvents both) i n
         ∙ ap (λ (es : List Event). numberAt es i % 2 ^ 64) two-events
-        ∙ ap (λ (k : ℕ). k % 2 ^ 64) (number-append (eventsOf x) (eventsOf second) i n)
-        ∙ add-mod (numberAt (eventsOf x) i) (numberAt (eventsOf second) i) (2 ^ 64)
-        ∙ rw (report-word x area room i h m, report-word second again space i h m, word-other (eventsOf x) i n, word-other (eventsOf second) i n)
+        ∙ ap (λ (k : ℕ). k % 2 ^ 64) (number-append (tableEvents x) (tableEvents second) i n)
+        ∙ add-mod (numberAt (tableEvents x) i) (numberAt (tableEvents second) i) (2 ^ 64)
+        ∙ rw (report-word x area room i h m, report-word second again space i h m, word-other (tableEvents x) i n, word-other (tableEvents second) i n)
 
     pub two-largest : wordIn (reportedTable both area .area) largestWord
         ≡ max (wordIn (reportedTable x area .area) largestWord) (wordIn (reportedTable second again .area) largestWord)
     two-largest =
         report-largest both area room
         ∙ ap largestIn two-events
-        ∙ largest-append (eventsOf x) (eventsOf second)
+        ∙ largest-append (tableEvents x) (tableEvents second)
         ∙ rw (report-largest x area room, report-largest second again space)
 
     pub two-place : length (x .request ++ more) < 2 ^ 64

@@ -19,7 +19,8 @@ use Rattle.demands.proofs.Refusals.{refused-kept, answered-is}
 use Rattle.demands.proofs.Frame.{failure-kept, question-kept, bytes-kept}
 use Rattle.reporting.specs.Row.{eventOf, next, row, left}
 use Rattle.reporting.specs.Report.{requestsOf, ran, reportedTable}
-use Rattle.report_numbers.specs.Turns.{alteredOver, idle, allIdle}
+use Rattle.report_numbers.specs.Turns.{idle, allIdle}
+use Rattle.report_numbers.proofs.Table.{tableAltered}
 use Rattle.report_numbers.proofs.Calls.{same-altered}
 use Rattle.report_numbers.proofs.Ends.{area-short, area-long}
 
@@ -110,8 +111,8 @@ idle-left x (p ∷ ps) q =
     let more = idle-left (next x p) ps (both .1) in
     (more .0 ∙ one .0, more .1 ∙ one .1)
 
-pub idle-altered : (x : Lent) (ps : List (List ℕ)) → allIdle (row x ps) ≡ true → alteredOver x ps ≡ 0
-unfolding row alteredOver
+pub idle-altered : (x : Lent) (ps : List (List ℕ)) → allIdle (row x ps) ≡ true → tableAltered x ps ≡ 0
+unfolding row tableAltered
 idle-altered x [] q = refl
 idle-altered x (p ∷ ps) q =
     let both = idle-first (eventOf (asking x p)) (row (next x p) ps) q in
@@ -148,7 +149,7 @@ module _ (x : Lent) (area : List ℕ) where
       (ap (λ (y : Lent). y .table) e, ap (λ (y : Lent). y .vectors) e, ap (λ (y : Lent). y .buffer) e)
 
   pub report-idle : allIdle (row x (requestsOf x)) ≡ true
-      → (reportedTable x area .table ≡ x .table) × (reportedTable x area .vectors ≡ x .vectors) × (alteredOver x (requestsOf x) ≡ 0)
+      → (reportedTable x area .table ≡ x .table) × (reportedTable x area .vectors ≡ x .vectors) × (tableAltered x (requestsOf x) ≡ 0)
   report-idle q =
       let l = idle-left x (requestsOf x) q in
       let both = report-by (λ t v o. (t ≡ x .table) × (v ≡ x .vectors)) (refl, refl) (l .0, l .1) in

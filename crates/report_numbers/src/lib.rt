@@ -1,1 +1,1 @@
-// The report's numbers, as theorems about `reportedTable`: proofs/Numbers.antt. There is no code here.
+// The report's numbers, as theorems about `reported`: proofs/Numbers.antt. There is no code here.

@@ -12,7 +12,8 @@ use Rattle.calling.specs.Lent.{Lent, tableOnly, putBack}
 use Rattle.reporting.specs.Pieces.{pieces, stopOf}
 use Rattle.reporting.specs.Row.{row, left}
 
--- what comes of a report: its number, and what it leaves of the table, the vectors, the answer buffer and the area that it is written to
+-- what comes of a report: its number, and what it leaves of the table, the vectors, the answer buffer and `area`, which it is written to (a table's own is
+-- called its working area)
 pub record Reported : Type 0 where
   pub number : ℕ
   pub table : List ℕ
@@ -41,7 +42,7 @@ ran x area =
       area = over (wordsBytes (wordsOf x)) area;
     }
 
--- over a table of its exact length. 15: the area has no room for the 145 words; nothing is run
+-- over a table whose length must be exact. 15: the area of the report has no room for the 145 words; nothing is run
 unfoldable pub reportedTable : Lent → List ℕ → Reported
 reportedTable x area =
     cond (ltb (length area) 1160) (record { number = 15; table = x .table; vectors = x .vectors; buffer = x .buffer; area = area }) (ran x area)

@@ -113,7 +113,7 @@ fn ended(stop: usize, length: usize) -> u16
     if stop == length { 0 } else { STOPPED }
 }
 
-// The whole report, over a table of its exact length: the table and the vectors are checked once, and the words are written once, at the end.
+// The whole report, over a table whose length must be exact: the table and the vectors are checked once, and the words are written once, at the end.
 fn report_table(
     requests: &[u8],
     t: &mut [u8],

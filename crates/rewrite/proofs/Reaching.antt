@@ -74,23 +74,6 @@ module _ (t : List ℕ) where
   reaches-append [] ls j = refl
   reaches-append (k ∷ ks) ls j = rw (reaches-append ks ls j) (sym (or-assoc (one k j) (reaches t ks j) (reaches t ls j)))
 
-  -- "a removal naming two members of one set is like naming one"
-  pub named-twice : (k j : ℕ) (ks : List ℕ) → sameSet (blockOf t k) (blockOf t j) ≡ true → (i : ℕ) → reaches t (k ∷ (j ∷ ks)) i ≡ reaches t (k ∷ ks) i
-  unfolding reaches
-  named-twice k j ks s i = sym (or-assoc (one k i) (one j i) (reaches t ks i)) ∙ ap (λ (x : Bool). x || reaches t ks i) (go (one j i) refl)
-    where
-      covered : one j i ≡ true → one k i ≡ true
-      covered e = one-set k i (one-says j i e (λ q. rw q s) (λ f. set-trans (blockOf t k) (blockOf t j) (blockOf t i) s f))
-
-      go : (x : Bool) → one j i ≡ x → (one k i || one j i) ≡ one k i
-      go true e = rw (e, covered e)
-      go false e = rw e (or-false (one k i))
-
-  pub named-twice-after : (count k j : ℕ) (ks : List ℕ) (change : List ℕ → List ℕ) → sameSet (blockOf t k) (blockOf t j) ≡ true
-      → afterOf t count (reaches t (k ∷ (j ∷ ks))) change ≡ afterOf t count (reaches t (k ∷ ks)) change
-  named-twice-after count k j ks change s =
-      after-choice t count (reaches t (k ∷ (j ∷ ks))) (reaches t (k ∷ ks)) change (λ i l. named-twice k j ks s i)
-
   -- A record without a set, and one with a set.
   alone : (k j : ℕ) → setOf (blockOf t k) ≡ 0 → sameSet (blockOf t k) (blockOf t j) ≡ false
   alone k j e = sym (set-apart (blockOf t k) (blockOf t j) refl refl (rw e))

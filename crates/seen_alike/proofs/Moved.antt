@@ -1,4 +1,5 @@
--- A move between editions shows in no answer: what it writes no request can see.
+-- A move between editions shows in no answer: what it writes no request can see. A table that was moved has its exact length, and a call over it as an area is
+-- one over the table.
 use Rattle.octets.specs.Standard.{ℕ, zero, suc, _^_, _<_, _≤_, _≡_, sym, false, List, arith, length, ne-eqb, lt-leb}
 use Rattle.blocks.specs.Blocks.{blockOf}
 use Rattle.table.specs.Check.{checkTable}
@@ -12,7 +13,8 @@ use Rattle.moving.specs.Conditions.{TableMoved}
 use Rattle.moving.specs.declared.Move.the-variants.{Moved}
 use Rattle.moving.proofs.Moving.{forward-sound, forward-keeps, forward-moved, back-sound, back-keeps, back-moved}
 use Rattle.calling.specs.Lent.{Lent, holding}
-use Rattle.calling.specs.Serve.{SameCall, checkOf, serveTable}
+use Rattle.calling.specs.Serve.{SameCall, checkOf, serve}
+use Rattle.calling.proofs.Areas.{serve-sound}
 use Rattle.seen_alike.specs.Alike.{AlikeTables}
 use Rattle.seen_alike.proofs.Likeness.{serve-alike}
 
@@ -43,12 +45,12 @@ module _ (x : Lent) (y : List ℕ) (count edition issue : ℕ) (first : checkOf 
         };
   }
 
-  answers-same : SameCall (serveTable x) (serveTable (holding x y))
-  answers-same = serve-alike x y count first second alike
+  answers-same : SameCall (serve x) (serve (holding x y))
+  answers-same = rw (serve-sound x count first, serve-sound (holding x y) count second) (serve-alike x y count first second alike)
 
 -- "no answer depends on edition or issue": a request gets the same answer before and after a move
 pub forward-answers : (x : Lent) (issue count : ℕ) → issue < 2 ^ 32 → forward (x .table) (length (x .profile)) issue .move ≡ Moved count
-    → SameCall (serveTable x) (serveTable (holding x (forward (x .table) (length (x .profile)) issue .table)))
+    → SameCall (serve x) (serve (holding x (forward (x .table) (length (x .profile)) issue .table)))
 forward-answers x issue count small e =
     answers-same x (forward (x .table) (length (x .profile)) issue .table) count 2 issue
     (forward-moved (x .table) (length (x .profile)) issue count e .checked)
@@ -56,7 +58,7 @@ forward-answers x issue count small e =
     (forward-keeps (x .table) (length (x .profile)) issue count small e)
 
 pub back-answers : (x : Lent) (count : ℕ) → back (x .table) (length (x .profile)) .move ≡ Moved count
-    → SameCall (serveTable x) (serveTable (holding x (back (x .table) (length (x .profile)) .table)))
+    → SameCall (serve x) (serve (holding x (back (x .table) (length (x .profile)) .table)))
 back-answers x count e =
     answers-same x (back (x .table) (length (x .profile)) .table) count 1 0 (back-moved (x .table) (length (x .profile)) count e .checked)
     (back-sound (x .table) (length (x .profile)) count e) (back-keeps (x .table) (length (x .profile)) count e)

@@ -17,7 +17,8 @@ use Rattle.calling.proofs.Areas.{serve-sound}
 use Rattle.ndushavire.specs.Promise.{DecidePromise}
 use Rattle.older_rules.specs.WithoutSets.{beforeSets}
 use Rattle.older_rules.proofs.Sets.{without-sets, first-edition, members-agree}
-use Rattle.older_rules.proofs.Unreachable.{withBranch, same-for-every-input}
+use Rattle.older_rules.specs.WithBranch.{withBranch}
+use Rattle.older_rules.proofs.Unreachable.{same-for-every-input}
 use Rattle.worked_examples.proofs.Computed.{known, come, roomy, no-vectors, registered-sound}
 use Rattle.worked_examples.proofs.Sample.{checked, header, subscriber, request, reply, answer, common, assignment, authentication, vector, room, one}
 use Rattle.worked_examples.proofs.Sample.{s, z, opened}

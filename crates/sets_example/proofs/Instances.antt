@@ -1,47 +1,43 @@
--- The theorems of 02 [6] and [7] (demands/proofs/Sets and demands/proofs/Unreachable) have instances: their hypotheses are met by a family, computed.
-use Rattle.octets.specs.Standard.{ℕ, zero, suc, _<_, _≤_, _≡_, refl, ap, subst, _∙_, Bool, true, false, _&&_, _⊎_, inl, _≢_, List, [], _∷_, _++_}
-use Rattle.octets.specs.Standard.{arith, getD, ltb, lit≤, lit<, ltb-true}
+-- The theorems of 02 [6] (demands/proofs/Sets) have instances: their hypotheses are met by a family, computed, in an area with two bytes behind it.
+use Rattle.octets.specs.Standard.{ℕ, zero, suc, _<_, _≤_, _≡_, refl, ap, subst, _∙_, Bool, true, false, _&&_, inl, inr, _≢_, List, [], _∷_, _++_, arith}
+use Rattle.octets.specs.Standard.{length, getD, ltb, lit≤, lit<, ltb-true}
 use Rattle.octets.proofs.All.{and-left, and-right}
-use Rattle.record.specs.Fields.{serverSize}
+use Rattle.record.specs.Fields.{bitsOf, barred}
 use Rattle.record.specs.HeaderBlock.{headerOf}
 use Rattle.blocks.specs.Blocks.{blockOf}
-use Rattle.blocks.specs.declared.Checked.{Checked}
 use Rattle.blocks.specs.declared.Checked.the-variants.{Sound, Bad}
 use Rattle.table.specs.Area.{sizeIn, tableIn, checkArea}
 use Rattle.table.specs.Check.{soundAt, checkTable}
+use Rattle.table.specs.Named.{privateAt}
+use Rattle.table.proofs.Areas.{read-front}
 use Rattle.rewrite.specs.Change.{differ}
 use Rattle.diameter.specs.Message.{commandOf}
+use Rattle.reading.specs.Kinds.{userName, visitedNetwork, authorizationType}
 use Rattle.reading.specs.Rules.{Seen}
-use Rattle.reading.specs.declared.Outcome.{Outcome}
 use Rattle.reading.specs.declared.Outcome.the-variants.{Base, Experimental}
-use Rattle.requests.specs.Judged.{Judged, bad, fine}
-use Rattle.requests.specs.Request.{dialectOf, underCx, readIn}
+use Rattle.requests.specs.Judged.{fine}
+use Rattle.requests.specs.Request.{dialectOf, underCx, readIn, dataSeen, valueSeen}
+use Rattle.choices.specs.Choices.{authorization}
+use Rattle.choices.specs.Given.{givenServer}
+use Rattle.questions.specs.Authorization.{askedAt}
+use Rattle.questions.specs.Carried.{carried}
 use Rattle.calling.specs.Call.{Refused}
-use Rattle.calling.specs.Lent.{Lent, lent}
-use Rattle.calling.specs.Serve.{Served, wrongLength, earlyTrials, checkOf, checkValue, decisionBy, decision, resultOf, serveTable}
+use Rattle.calling.specs.Lent.{Lent, lent, tableOnly}
+use Rattle.calling.specs.Serve.{Served, wrongLength, earlyTrials, decided, resultOf, serveTable, serve}
+use Rattle.calling.specs.Trial.{anyHolds}
+use Rattle.calling.proofs.Areas.{served-in}
 use Rattle.ndushavire.specs.Word.{checkWord}
 use Rattle.ndushavire.specs.Reads.{ReadsCheck}
-use Rattle.demands.specs.Sets.{Shares, Agrees, Disagrees, Stands, Barred}
-use Rattle.older_rules.proofs.Unreachable.{withBranch}
-use Rattle.worked_examples.proofs.Computed.{known, come, roomy, no-vectors}
-use Rattle.calling.specs.Trial.{anyHolds}
+use Rattle.demands.specs.Sets.{Shares, Agrees, Disagrees, Stands, Belongs, Barred}
 use Rattle.pen.specs.Bytes.{avpBytes, vendorBytes, vendorNumber}
-use Rattle.worked_examples.proofs.Sample.{room, request, common, assignment, authentication, s, z, opened}
+use Rattle.worked_examples.proofs.Computed.{roomy}
+use Rattle.worked_examples.proofs.Sample.{room, request, common, s, opened}
+use Rattle.sets_example.proofs.Behind.{piece, within, in-front, only-front, sound-front, result-front, seenIn}
 use Rattle.sets_example.proofs.Family.{head, line, pair, family, asking, shut, registration, family-sound, registered, admitted, barred-sound}
 use Rattle.sets_example.proofs.Family.{shut-sound}
-use Rattle.calling.specs.Lent as lending
 use Rattle.demands.proofs.Sets as sets
-use Rattle.demands.proofs.Unreachable as unreachable
 
--- what a request that is read holds; the result of a call over a sound table
-abbrev seenIn : Judged → Seen
-seenIn (bad v) = []
-seenIn (fine seen) = seen
-
-result : (x : Lent) (count : ℕ) (r : Outcome) → checkOf x ≡ Sound count → decision x count .given .verdict .result ≡ r → resultOf x ≡ r
-result x count r e f = ap (λ (c : Checked). decision x (checkValue c) .given .verdict .result) e ∙ f
-
--- `a` and `b` share a set
+-- `a` and `b` share a set; `b` is not barred
 shared : Shares (family 2 1 s) 1 2
 unfolding opened head line family
 shared = sets.set-is (family 2 1 s) 1 2 .0 refl
@@ -50,19 +46,54 @@ a-stands : Stands (family 2 1 s) 3 1 (0x61 ∷ [])
 unfolding opened head line family
 a-stands = record { from = lit≤ tt; to = lit≤ tt; name = refl }
 
+a-private : privateAt (family 2 1 s) 1 ≡ 0x70 ∷ []
+unfolding opened head line family
+a-private = refl
+
+b-free : barred (bitsOf (blockOf (family 2 1 s) 2)) ≡ false
+unfolding opened head line family
+b-free = refl
+
 is-uar : commandOf asking ≡ 300
 unfolding opened asking
 is-uar = refl
 
-asks : readIn (dialectOf underCx asking) asking ≡ fine (seenIn (readIn (dialectOf underCx asking) asking))
-unfolding opened asking
+asked : Seen
+asked = seenIn (readIn (dialectOf underCx asking) asking)
+
+asks : readIn (dialectOf underCx asking) asking ≡ fine asked
+unfolding opened asking asked
 asks = refl
 
--- "one with a non-barred identity in its implicit set may go on": `a` is barred, and `b` is not
-met-going-on : resultOf admitted ≢ Base 5003
-unfolding opened head line family asking
-met-going-on = sets.going-on admitted 3 barred-sound is-uar (seenIn (readIn (dialectOf underCx asking) asking)) asks 1 2 a-stands (lit≤ tt)
-    (lit≤ tt) shared refl
+asked-public : dataSeen asked 8 ≡ 0x61 ∷ []
+unfolding opened asking asked
+asked-public = refl
+
+asked-user : dataSeen asked userName ≡ 0x70 ∷ []
+unfolding opened asking asked
+asked-user = refl
+
+-- "one with a non-barred identity in its implicit set may go on": `a` is barred, and `b` is not; the answer carries the server name of `a`, with B2001
+met-going-on : resultOf (tableOnly (within admitted)) ≢ Base 5003
+met-going-on =
+    sets.going-on (within admitted) 3 (sound-front admitted 3 barred-sound) is-uar asked asks 1 2
+    (rw (in-front admitted 3 barred-sound, asked-public) a-stands) (lit≤ tt) (lit≤ tt)
+    (rw (in-front admitted 3 barred-sound) shared) (rw (in-front admitted 3 barred-sound) b-free)
+
+as-free : carried (family 2 1 s) 3 (dataSeen asked userName) 1
+    (authorization (askedAt (blockOf (family 2 1 s) 0) (blockOf (family 2 1 s) 1) true false (dataSeen asked userName) (dataSeen asked visitedNetwork))
+    (valueSeen asked authorizationType))
+    ≡ givenServer (Base 2001) 1
+unfolding opened head line family asking asked
+as-free = refl
+
+met-going-on-as-free : decided (tableOnly (within admitted)) .given ≡ givenServer (Base 2001) 1
+met-going-on-as-free =
+    sets.going-on-as-free (within admitted) 3 (sound-front admitted 3 barred-sound) is-uar asked asks 1 2
+    (rw (in-front admitted 3 barred-sound, asked-public) a-stands) (lit≤ tt) (lit≤ tt)
+    (rw (in-front admitted 3 barred-sound) shared) (rw (in-front admitted 3 barred-sound) b-free)
+    (rw (in-front admitted 3 barred-sound, asked-user) a-private)
+    ∙ rw (in-front admitted 3 barred-sound) as-free
 
 -- the set's records agree; of a pair that does not, block 2 is blamed
 met-agree : Agrees (family 2 1 s) 1 2
@@ -96,54 +127,60 @@ disagreeing =
 met-blamed : checkTable apart 0 ≡ Bad 2
 met-blamed = sets.later-blamed apart 0 1 2 disagreeing
 
-apart-all : tableIn apart ≡ apart
-unfolding opened head line pair tableIn sizeIn
-apart-all = refl
+apart-size : length apart ≡ sizeIn apart
+unfolding opened head line pair sizeIn
+apart-size = refl
 
-met-blamed-check : ReadsCheck 5 (Bad 2) (checkWord 5 (checkArea apart 0))
-met-blamed-check = sets.later-blamed-check apart [] 1 2 (rw apart-all disagreeing) (record { answer = refl })
+apart-front : tableIn (apart ++ piece) ≡ apart
+apart-front = read-front apart piece apart-size
 
-blamed-call : serveTable (lent asking apart [] [] room underCx) .call ≡ Refused 5 2
-unfolding opened asking
-blamed-call =
-    let x = lent asking apart [] [] room underCx in
-    ap (λ (y : Served). y .call) (come x {y = known false (Bad 2) (Sound 0) x} roomy met-blamed no-vectors refl)
+met-blamed-check : ReadsCheck 5 (Bad 2) (checkWord 5 (checkArea (apart ++ piece) 0))
+met-blamed-check = sets.later-blamed-check (apart ++ piece) [] 1 2 (rw apart-front disagreeing) (record { answer = refl })
 
 none-early : anyHolds (earlyTrials asking room) ≡ false
 unfolding opened asking anyHolds wrongLength
 none-early = rw roomy
 
-met-blamed-call : serve (lent asking apart [] [] room underCx) .call ≡ Refused 5 2
-unfolding opened asking
-met-blamed-call = sets.later-blamed-call (lent asking apart [] [] room underCx) 1 2 none-early disagreeing
+met-blamed-call : serve (lent asking (apart ++ piece) [] [] room underCx) .call ≡ Refused 5 2
+met-blamed-call = sets.later-blamed-call (lent asking (apart ++ piece) [] [] room underCx) 1 2 none-early (rw apart-front disagreeing)
 
 -- B5003 where both are barred, before X5004: a UAR of type 0 asks for the network, of which the header names none, and with `b` free it comes to that
-unfoldable visiting : List ℕ
-visiting = request 300 (common ++ (avpBytes 1 (0x70 ∷ []) ++ (vendorBytes 601 (0x61 ∷ []) ++ (vendorBytes 600 (0x76 ∷ []) ++ vendorNumber 623 0))))
+unfoldable visitingAs : ℕ → List ℕ
+visitingAs user = request 300 (common ++ (avpBytes 1 (user ∷ []) ++ (vendorBytes 601 (0x61 ∷ []) ++ (vendorBytes 600 (0x76 ∷ []) ++ vendorNumber 623 0))))
+
+abbrev visiting : List ℕ
+visiting = visitingAs 0x70
 
 abbrev turnedOut : Lent
 turnedOut = lent visiting shut [] [] room underCx
 
 visits : commandOf visiting ≡ 300
-unfolding opened visiting
+unfolding opened visitingAs
 visits = refl
 
-no-network : resultOf (lent visiting (family 2 1 s) [] [] room underCx) ≡ Experimental 5004
-unfolding opened head line family visiting
-no-network = result (lent visiting (family 2 1 s) [] [] room underCx) 3 (Experimental 5004) barred-sound refl
+no-network : resultOf (tableOnly (within (lent visiting (family 2 1 s) [] [] room underCx))) ≡ Experimental 5004
+unfolding opened head line family visitingAs
+no-network = result-front (lent visiting (family 2 1 s) [] [] room underCx) 3 barred-sound (Experimental 5004) refl
 
-both-barred : Barred turnedOut 3
-unfolding opened head line shut visiting
-both-barred =
-    sets.barred-only turnedOut 3 shut-sound visits (result turnedOut 3 (Base 5003) shut-sound refl)
+out-result : resultOf (tableOnly (within turnedOut)) ≡ Base 5003
+unfolding opened head line shut visitingAs
+out-result = result-front turnedOut 3 shut-sound (Base 5003) refl
 
-met-given : resultOf turnedOut ≡ Base 5003
-met-given = sets.barred-given turnedOut 3 shut-sound visits both-barred
+both-barred : Barred (tableOnly (within turnedOut)) 3
+both-barred = sets.barred-only (within turnedOut) 3 (sound-front turnedOut 3 shut-sound) visits out-result
 
-met-before : resultOf turnedOut ≢ Experimental 5004
-met-before = sets.barred-before turnedOut 3 shut-sound visits both-barred
+met-given : resultOf (tableOnly (within turnedOut)) ≡ Base 5003
+met-given = sets.barred-given (within turnedOut) 3 (sound-front turnedOut 3 shut-sound) visits both-barred
 
--- .. after X5001, over a table of no record; and after X5002, where `a` is another's and `b` is of the User-Name
+met-before : resultOf (tableOnly (within turnedOut)) ≢ Experimental 5004
+met-before = sets.barred-before (within turnedOut) 3 (sound-front turnedOut 3 shut-sound) visits both-barred
+
+-- it is a UAR's
+met-uar : commandOf visiting ≡ 300
+met-uar = sets.barred-uar (within turnedOut) out-result
+
+-- .. after X5001, over a table of no record, and over one that bars `a` where the User-Name alone is unknown; and after X5002, where `a` is another's and `b`
+-- is of the User-Name
 abbrev unheard : Lent
 unheard = lent asking (head 0) [] [] room underCx
 
@@ -151,27 +188,71 @@ unheard-sound : checkTable (head 0) 0 ≡ Sound 0
 unfolding opened head
 unheard-sound = refl
 
-met-unknown : resultOf unheard ≡ Experimental 5001
-met-unknown = sets.barred-unknown unheard 0 unheard-sound is-uar (seenIn (readIn (dialectOf underCx asking) asking)) asks
-    (inl (λ k p. omega (arith, p .from, p .to)))
+met-unknown : resultOf (tableOnly (within unheard)) ≡ Experimental 5001
+met-unknown =
+    sets.barred-unknown (within unheard) 0 (sound-front unheard 0 unheard-sound) is-uar asked asks (inl (λ k p. omega (arith, p .from, p .to)))
 
-unfoldable strangers : List ℕ
+unfoldable lonely : List ℕ
+lonely = head 1 ++ line 1 0x61 0x70 1 1 2 s
+
+lonely-sound : checkTable lonely 0 ≡ Sound 1
+unfolding opened head line lonely
+lonely-sound = refl
+
+abbrev unnamed : Lent
+unnamed = lent (visitingAs 0x71) lonely [] [] room underCx
+
+unnamed-uar : commandOf (visitingAs 0x71) ≡ 300
+unfolding opened visitingAs
+unnamed-uar = refl
+
+unnamed-asked : Seen
+unnamed-asked = seenIn (readIn (dialectOf underCx (visitingAs 0x71)) (visitingAs 0x71))
+
+unnamed-asks : readIn (dialectOf underCx (visitingAs 0x71)) (visitingAs 0x71) ≡ fine unnamed-asked
+unfolding opened visitingAs unnamed-asked
+unnamed-asks = refl
+
+no-record : (k : ℕ) → Belongs lonely 1 k (dataSeen unnamed-asked userName) → ⊥
+unfolding opened head line lonely visitingAs unnamed-asked
+no-record k b =
+    let q : k ≡ 1 = omega (arith, b .from, b .to) in
+    let e : privateAt lonely 1 ≡ 0x71 ∷ [] = subst (λ (i : ℕ). privateAt lonely i ≡ 0x71 ∷ []) q (b .name) in
+    let n : _≡_ {A = ℕ} 0x70 0x71 = ap (λ (name : List ℕ). getD name 0 0) e in
+    omega arith
+
+met-unnamed : resultOf (tableOnly (within unnamed)) ≡ Experimental 5001
+met-unnamed =
+    sets.barred-unknown (within unnamed) 1 (sound-front unnamed 1 lonely-sound) unnamed-uar unnamed-asked unnamed-asks
+    (inr (rw (in-front unnamed 1 lonely-sound) no-record))
+
+unfoldable pub strangers : List ℕ
 strangers = head 2 ++ (line 1 0x61 0x71 1 1 2 s ++ line 2 0x62 0x70 1 1 2 s)
 
 abbrev stranger : Lent
 stranger = lent asking strangers [] [] room underCx
 
-strangers-sound : checkTable strangers 0 ≡ Sound 2
+pub strangers-sound : checkTable strangers 0 ≡ Sound 2
 unfolding opened head line strangers
 strangers-sound = refl
 
-met-apart : resultOf stranger ≡ Experimental 5002
-unfolding opened head line strangers asking
+pub a-another : Stands strangers 2 1 (0x61 ∷ [])
+unfolding opened head line strangers
+a-another = record { from = lit≤ tt; to = lit≤ tt; name = refl }
+
+pub b-user : Belongs strangers 2 2 (0x70 ∷ [])
+unfolding opened head line strangers
+b-user = record { from = lit≤ tt; to = lit≤ tt; name = refl }
+
+pub a-apart : privateAt strangers 1 ≢ 0x70 ∷ []
+unfolding opened head line strangers
+a-apart e = let n : _≡_ {A = ℕ} 0x71 0x70 = ap (λ (name : List ℕ). getD name 0 0) e in omega arith
+
+met-apart : resultOf (tableOnly (within stranger)) ≡ Experimental 5002
 met-apart =
-    sets.barred-apart stranger 2 strangers-sound is-uar (seenIn (readIn (dialectOf underCx asking) asking)) asks 1 2
-    (record { from = lit≤ tt; to = lit≤ tt; name = refl })
-    (record { from = lit≤ tt; to = lit≤ tt; name = refl })
-    (λ e. let n : _≡_ {A = ℕ} 0x71 0x70 = ap (λ (name : List ℕ). getD name 0 0) e in omega arith)
+    sets.barred-apart (within stranger) 2 (sound-front stranger 2 strangers-sound) is-uar asked asks 1 2
+    (rw (in-front stranger 2 strangers-sound, asked-public) a-another) (rw (in-front stranger 2 strangers-sound, asked-user) b-user)
+    (rw (in-front stranger 2 strangers-sound, asked-user) a-apart)
 
 -- "Every effect .. reaches the whole set": registering `a` alters both records of the set, which agree then
 allBytes : List ℕ → Bool
@@ -192,48 +273,24 @@ idle-shared : Shares (family 0 0 []) 1 2
 unfolding opened head line family
 idle-shared = record { nonzero = lit< tt; number = refl; subscription = refl }
 
-met-together : differ (blockOf (family 0 0 []) 1) (blockOf (serveTable registration .table) 1)
-    ≡ differ (blockOf (family 0 0 []) 2) (blockOf (serveTable registration .table) 2)
+-- what the call leaves in the area
+registered-front : tableIn (serve (within registration) .table) ≡ family 0 1 s
+registered-front =
+    served-in (within registration)
+    ∙ ap (λ (y : Lent). serveTable y .table) (only-front registration 3 family-sound) ∙ ap (λ (y : Served). y .table) registered
+
+met-together : differ (blockOf (tableIn (family 0 0 [] ++ piece)) 1) (blockOf (tableIn (serve (within registration) .table)) 1)
+    ≡ differ (blockOf (tableIn (family 0 0 [] ++ piece)) 2) (blockOf (tableIn (serve (within registration) .table)) 2)
 met-together =
-    sets.members-together registration 3 family-sound family-bytes 1 2 (lit≤ tt) (lit≤ tt) (lit≤ tt) (lit≤ tt) idle-shared
+    sets.members-together (within registration) 3 (sound-front registration 3 family-sound) 1 2
+    (rw (in-front registration 3 family-sound) idle-shared) (rw (in-front registration 3 family-sound) family-bytes) (lit≤ tt) (lit≤ tt) (lit≤ tt)
+    (lit≤ tt)
 
-first-altered : differ (blockOf (family 0 0 []) 1) (blockOf (serveTable registration .table) 1) ≡ 1
+first-altered : differ (blockOf (family 0 0 []) 1) (blockOf (tableIn (serve (within registration) .table)) 1) ≡ 1
 unfolding opened head line family differ
-first-altered = ap (λ (y : Served). differ (blockOf (family 0 0 []) 1) (blockOf (y .table) 1)) registered
+first-altered = ap (λ (t : List ℕ). differ (blockOf (family 0 0 []) 1) (blockOf t 1)) registered-front
 
-met-agreeing : Agrees (serveTable registration .table) 1 2
-unfolding opened head line family
+met-agreeing : Agrees (tableIn (serve (within registration) .table)) 1 2
 met-agreeing =
-    sets.members-agree registration 3 family-sound 1 2 (lit≤ tt) (lit< tt) (lit≤ tt) (record { nonzero = lit< tt; number = refl; subscription = refl })
-
--- 02 [7]
-met-served : 0 < serverSize (blockOf (family 2 1 s) 1)
-unfolding opened head line family
-met-served = unreachable.registered-served (family 2 1 s) 0 3 1 barred-sound (lit≤ tt) (lit≤ tt) (lit< tt)
-
-met-never : decisionBy withBranch admitted 3 .given .verdict .result ≢ Base 5012
-met-never = unreachable.never-given admitted 3 barred-sound (inl is-uar)
-
-met-taken-out : resultOf admitted ≢ Base 5012
-met-taken-out = unreachable.taken-out admitted (inl is-uar)
-
--- a SAR of type 0 for `a` with another server name, and a MAR for none
-abbrev question : Lent
-question = lent (assignment 0 z) (family 2 1 s) [] [] room underCx
-
-abbrev none-asked : Lent
-none-asked = lent (authentication 0 s) (family 2 1 s) [] [] room underCx
-
-question-result : resultOf question ≡ Base 5012
-unfolding opened head line family
-question-result = result question 3 (Base 5012) barred-sound refl
-
-none-result : resultOf none-asked ≡ Base 5012
-unfolding opened head line family
-none-result = result none-asked 3 (Base 5012) barred-sound refl
-
-met-whose : (commandOf (assignment 0 z) ≡ 301) ⊎ (commandOf (assignment 0 z) ≡ 303)
-met-whose = unreachable.whose-stays question question-result
-
-met-whose-mar : (commandOf (authentication 0 s) ≡ 301) ⊎ (commandOf (authentication 0 s) ≡ 303)
-met-whose-mar = unreachable.whose-stays none-asked none-result
+    sets.members-agree (within registration) 3 (sound-front registration 3 family-sound) 1 2 (rw (in-front registration 3 family-sound) idle-shared)
+    (lit≤ tt) (lit< tt) (lit≤ tt)

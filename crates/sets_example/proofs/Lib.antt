@@ -1,2 +1,4 @@
+pub mod Behind
 pub mod Family
 pub mod Instances
+pub mod Unreachable

@@ -1,5 +1,5 @@
 -- How an area reads: by its table alone, and as itself where it is as long as that.
-use Rattle.octets.specs.Standard.{ℕ, suc, _+_, _-_, _*_, _<_, _≤_, _&&_, and-false, _≡_, sym, _∙_, ap, List, _++_, arith, leb, length, take, drop}
+use Rattle.octets.specs.Standard.{ℕ, suc, _+_, _-_, _*_, _<_, _≤_, _&&_, and-false, _≡_, _≢_, sym, _∙_, ap, List, _++_, arith, leb, length, take, drop}
 use Rattle.octets.specs.Standard.{take-append-drop, take-all, take-at, take-append-le, take-take, length-take-le, ne-eqb}
 use Rattle.octets.specs.Number.{be32At}
 use Rattle.octets.proofs.All.{all-alike}
@@ -91,14 +91,15 @@ module _ (area : List ℕ) (file : ℕ) where
   unfolding checkArea
   check-exact h = ap (λ (t : List ℕ). checkTable t file) (in-all area (omega arith))
 
-  table-short : length area < sizeIn area → checkTable area file ≡ Bad 0
+  -- "elsewhere the length stays exact": a table of another length has a bad block 0
+  pub table-exact : length area ≢ sizeIn area → checkTable area file ≡ Bad 0
   unfolding checkTable sizeIn headerOf
-  table-short h =
-      rw (ne-eqb (length area) (512 * (countOf (blockOf area 0) + 1)) (omega arith), and-false (leb 512 (length area) && soundHeader (blockOf area 0)))
+  table-exact n =
+      rw (ne-eqb (length area) (512 * (countOf (blockOf area 0) + 1)) n, and-false (leb 512 (length area) && soundHeader (blockOf area 0)))
 
   pub check-short : length area < sizeIn area → checkArea area file ≡ Bad 0
   unfolding checkArea
-  check-short h = ap (λ (t : List ℕ). checkTable t file) (in-all area (omega arith)) ∙ table-short h
+  check-short h = ap (λ (t : List ℕ). checkTable t file) (in-all area (omega arith)) ∙ table-exact (λ e. omega (arith, e))
 
 -- What the function that finds its length says.
 module _ (area : List ℕ) where

@@ -12,7 +12,7 @@ use Rattle.table.specs.Check.{checkTable}
 unfoldable pub sizeIn : List ℕ → ℕ
 sizeIn area = 512 * (countOf (blockOf area 0) + 1)
 
--- the table at the front of an area; a shorter area is all there is of it, and as a table it has not the length of its count
+-- the table at the front of an area; an area that is shorter than its count says is taken whole, and its block 0 is bad for its length
 unfoldable pub tableIn : List ℕ → List ℕ
 tableIn area = take (sizeIn area) area
 

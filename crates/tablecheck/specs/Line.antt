@@ -1,5 +1,5 @@
--- The line of a table: `sound, N records` or `block K is bad`; that of the bytes past it, `N bytes past the table were not looked at`; and that of a vector file: `vectors sound, N blocks` or `vector block K is bad`; in
--- ASCII, with a newline.
+-- The line of a table: `sound, N records` or `block K is bad`; that of the bytes past it: `N bytes past the table were not looked at`; and that of a vector
+-- file: `vectors sound, N blocks` or `vector block K is bad`; in ASCII, with a newline.
 use Prim.Native.Nat.{ℕ}
 use mathlib.Core.List.{List, [], _∷_}
 use Rattle.lines.specs.Words.{Words}
@@ -15,8 +15,8 @@ Line (Bad block) before after r = Words (98 ∷ 108 ∷ 111 ∷ 99 ∷ 107 ∷ 3
 -- " bytes past the table were not looked at"
 abbrev pub PastLine : ℕ → List ℕ → List ℕ → ℕ → Type 0
 PastLine n before after r = Words [] n
-    (32 ∷ 98 ∷ 121 ∷ 116 ∷ 101 ∷ 115 ∷ 32 ∷ 112 ∷ 97 ∷ 115 ∷ 116 ∷ 32 ∷ 116 ∷ 104 ∷ 101 ∷ 32 ∷ 116 ∷ 97 ∷ 98 ∷ 108 ∷ 101 ∷ 32 ∷ 119 ∷ 101 ∷ 114 ∷ 101 ∷ 32 ∷ 110 ∷ 111 ∷ 116
-    ∷ 32 ∷ 108 ∷ 111 ∷ 111 ∷ 107 ∷ 101 ∷ 100 ∷ 32 ∷ 97 ∷ 116 ∷ 10 ∷ []) before after r
+    (32 ∷ 98 ∷ 121 ∷ 116 ∷ 101 ∷ 115 ∷ 32 ∷ 112 ∷ 97 ∷ 115 ∷ 116 ∷ 32 ∷ 116 ∷ 104 ∷ 101 ∷ 32 ∷ 116 ∷ 97 ∷ 98 ∷ 108 ∷ 101 ∷ 32 ∷ 119 ∷ 101 ∷ 114 ∷ 101
+    ∷ 32 ∷ 110 ∷ 111 ∷ 116 ∷ 32 ∷ 108 ∷ 111 ∷ 111 ∷ 107 ∷ 101 ∷ 100 ∷ 32 ∷ 97 ∷ 116 ∷ 10 ∷ []) before after r
 
 -- "vectors sound, " and " blocks"; "vector block " and " is bad"
 abbrev pub VectorsLine : Checked → List ℕ → List ℕ → ℕ → Type 0

@@ -1,14 +1,16 @@
 -- The trials as conditions: each test says what its sentence says, and the other way round.
-use Rattle.octets.specs.Standard.{ℕ, zero, suc, _+_, _*_, _/_, _<_, _≤_, Bool, true, false, _&&_, _||_, not, true≢false, _≡_, refl, sym, _∙_, ap, _⊎_}
+use Rattle.octets.specs.Standard.{ℕ, zero, suc, _+_, _*_, _/_, _^_, _<_, _≤_, Bool, true, false, _&&_, _||_, not, true≢false, _≡_, refl, sym, _∙_, ap, _⊎_}
 use Rattle.octets.specs.Standard.{inl, inr, List, arith, eqb, ltb, length, getD, eqb-true, eq-eqb, ne-eqb, ltb-true, ltb-false, lt-ltb, le-ltb}
 use mathlib.Core.Bool.{Bool·not-not}
 use Rattle.octets.specs.All.{allBelow}
 use Rattle.octets.specs.Run.{over}
 use Rattle.octets.proofs.All.{all-at, all-true}
+use Rattle.octets.proofs.Numbers.{Bytes, word-lt}
 use Rattle.record.specs.Fields.{editionOf, countOf, issueOf}
 use Rattle.record.specs.HeaderBlock.{headerOf}
 use Rattle.record.proofs.Tests.{HeaderTests, header-says}
 use Rattle.blocks.specs.Blocks.{blockOf}
+use Rattle.blocks.proofs.Blocks.{block-bytes}
 use Rattle.table.specs.Check.{checkTable}
 use Rattle.blocks.specs.declared.Checked.{Checked}
 use Rattle.blocks.specs.declared.Checked.the-variants.{Sound, Bad}
@@ -134,7 +136,13 @@ module _ (area fresh : List ℕ) (file : ℕ) where
       go false e = refl
       go true e =
           let l : u .found .issue < issueOf (blockOf fresh 0) = greater-says area (issueOf (blockOf fresh 0)) e (u .found .issue) (u .found .found) in
-          absurd (omega (arith, u .found .least))
+          absurd (omega (arith, u .found .at-least))
+
+  -- the greatest issue number that there is, found in the area: the new table's, of four bytes, is not greater
+  pub is-greatest : (count : ℕ) → Fit fresh file count → Bytes fresh → Found area 4294967295 → takeOver area fresh file ≡ refusing area 10
+  is-greatest count f bytes found =
+      let l : issueOf (blockOf fresh 0) < 2 ^ 32 = word-lt (blockOf fresh 0) 408 (block-bytes fresh bytes 0) in
+      is-unissued (record { count = count; fit = f; found = record { issue = 4294967295; found = found; at-least = omega arith } })
 
   pub is-short : Short area fresh file → takeOver area fresh file ≡ refusing area 11
   unfolding takeOver notGreater tooShort
@@ -169,7 +177,7 @@ module _ (area fresh : List ℕ) (file : ℕ) where
       next count f true e = inr (third count f (greater-says area (issueOf (blockOf fresh 0)) e) (ltb (length area) (length fresh)) refl)
       next count f false e =
           let w = greater-fails area (issueOf (blockOf fresh 0)) e in
-          inl (record { count = count; fit = f; found = record { issue = w .0; found = w .1; least = w .2 } })
+          inl (record { count = count; fit = f; found = record { issue = w .0; found = w .1; at-least = w .2 } })
 
       first : (x : Bool) → unfit fresh file ≡ x
           → Unfit fresh file ⊎ (Unissued area fresh file ⊎ (Short area fresh file ⊎ ((count : ℕ) × Takes area fresh file count)))

@@ -188,7 +188,7 @@ module _ (area fresh : List ℕ) (file count : ℕ) (t : Takes area fresh file c
         → issueOf (blockOf other 0) ≡ issueOf (blockOf fresh 0) → takeOver x other file ≡ refusing x 10
     not-again k l y other n f e =
         let g : Found x (issueOf (blockOf fresh 0)) = found-new area fresh file count t x chosen w k l y in
-        is-unissued x other file (record { count = n; fit = f; found = record { issue = issueOf (blockOf fresh 0); found = g; least = omega arith } })
+        is-unissued x other file (record { count = n; fit = f; found = record { issue = issueOf (blockOf fresh 0); found = g; at-least = omega arith } })
 
     -- and any that is fit, has a greater one, and has room
     pub mended : (other : List ℕ) (n : ℕ) → Fit other file n → issueOf (blockOf fresh 0) < issueOf (blockOf other 0) → 512 * (n + 1) ≤ length area

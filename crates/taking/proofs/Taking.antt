@@ -1,8 +1,10 @@
 -- What is proved of taking over a new table, on one page: the statements alone, each by the law that has its proof.
 -- Provided "that a block is written whole", so that an area after a cut is one of `cutAfter` or `tornAfter`; and that "the profile file stays": the check asks
 -- for its length alone, and `file` is that one length before, between and after.
-use Rattle.octets.specs.Standard.{ℕ, _+_, _*_, _/_, _<_, _≤_, Bool, true, _≡_, sym, _∙_, ap, List, _++_, ltb, length, take, drop}
+use Rattle.octets.specs.Standard.{ℕ, _+_, _*_, _/_, _<_, _≤_, Bool, true, false, _≡_, _≢_, sym, _∙_, ap, inl, List, _++_, ltb, length, take}
+use Rattle.octets.specs.Standard.{drop}
 use Rattle.octets.specs.Run.{over}
+use Rattle.octets.proofs.Numbers.{Bytes}
 use Rattle.record.specs.Fields.{countOf, issueOf}
 use Rattle.blocks.specs.Blocks.{blockOf}
 use Rattle.blocks.specs.Changed.{changedIn}
@@ -10,10 +12,10 @@ use Rattle.blocks.specs.declared.Checked.the-variants.{Sound, Bad}
 use Rattle.table.specs.Area.{sizeIn, tableIn, checkArea}
 use Rattle.table.specs.Check.{checkTable}
 use Rattle.taking.specs.Cut.{Cut}
-use Rattle.taking.specs.Ended.{Fit, Unfit, Unissued, Short, Takes, Ended}
+use Rattle.taking.specs.Ended.{Fit, Found, Unfit, Unissued, Short, Takes, Ended}
 use Rattle.taking.specs.TakeOver.{AfterTake, came, refusing, takeOver}
 use Rattle.taking.specs.Torn.{AllChosen, FirstMissing, NoneWithin, FirstWithin, lowerBad, Torn}
-use Rattle.taking.specs.Written.{withBlock, cutAfter, tornAfter, zeroedAfter}
+use Rattle.taking.specs.Written.{withBlock, cutAfter, tornAfter, zeroedAfter, zeroedWhere}
 use Rattle.taking.specs.declared.Taken.{Taken}
 use Rattle.taking.specs.declared.Taken.the-variants.{Took, Refused}
 use Rattle.table.proofs.Areas as areas
@@ -31,7 +33,7 @@ read-front t rest file count e = areas.read-front t rest (areas.sound-size-in t 
 pub read-alike : (area other : List ℕ) → take (sizeIn area) other ≡ take (sizeIn area) area → tableIn other ≡ tableIn area
 read-alike area other e = areas.read-alike area other e
 
--- a block past the count may be changed at any time, so that one with too great an issue number can be zeroed;
+-- a block past the count may be changed at any time;
 pub read-past : (area : List ℕ) (k : ℕ) (change : List ℕ → List ℕ) → countOf (blockOf area 0) < k → 512 * k ≤ length area
     → tableIn (changedIn area k change) ≡ tableIn area
 read-past area k change past fits = areas.read-past area k change past fits
@@ -43,11 +45,19 @@ read-exact area file h = areas.check-exact area file h
 pub read-short : (area : List ℕ) (file : ℕ) → length area < sizeIn area → checkArea area file ≡ Bad 0
 read-short area file h = areas.check-short area file h
 
+-- "A new edition 2 table is written over the working area block by block from block 0": nothing yet (a block more is `cut-more`, and all are `cut-all`).
+pub cut-none : (area fresh : List ℕ) → cutAfter area fresh 0 ≡ area
+cut-none area fresh = sym (turns.cut-none area fresh)
+
 module _ (area fresh : List ℕ) (file : ℕ) where
   -- "Refusals: 9, new table unsound or edition 1; 10, issue number not greater than every issue found in kind 1 or 2 blocks of the area; 11, area too short;
   -- in this order, nothing written." Each under its condition, which says that none before it holds,
   pub nine : Unfit fresh file → takeOver area fresh file ≡ refusing area 9
   nine u = conditions.is-unfit area fresh file u
+
+  -- (and "elsewhere the length stays exact": a new table that is longer or shorter than its count says is unsound)
+  pub nine-exact : length fresh ≢ sizeIn fresh → takeOver area fresh file ≡ refusing area 9
+  nine-exact n = nine (inl (0, areas.table-exact fresh file n))
 
   pub ten : Unissued area fresh file → takeOver area fresh file ≡ refusing area 10
   ten u = conditions.is-unissued area fresh file u
@@ -79,7 +89,7 @@ module _ (area fresh : List ℕ) (file : ℕ) where
   pub leaves : (number : ℕ) → takeOver area fresh file .taken ≡ Refused number → takeOver area fresh file .area ≡ area
   leaves number e = outcomes.leaves area fresh file number e
 
-  -- where the new table is taken; of the old area nothing is supposed, it may be unsound, cut before, or rubbish
+  -- What holds where the new table is taken. Of the old area nothing is supposed: it may be unsound, cut before, or rubbish.
   module _ (count : ℕ) (e : takeOver area fresh file .taken ≡ Took count) where
     t : Takes area fresh file count
     t = outcomes.took area fresh file count e
@@ -97,10 +107,7 @@ module _ (area fresh : List ℕ) (file : ℕ) where
     pub as-long : length (takeOver area fresh file .area) ≡ length area
     as-long = rw (outcomes.done area fresh file count t) (outcomes.done-length area fresh file count t)
 
-    -- "A new edition 2 table is written over the working area block by block from block 0": nothing yet, a block more, and all.
-    pub cut-none : cutAfter area fresh 0 ≡ area
-    cut-none = sym (turns.cut-none area fresh)
-
+    -- ".. block by block from block 0": behind none (`cut-none`) a block more, and all.
     pub cut-more : (k : ℕ) → k ≤ count → withBlock (cutAfter area fresh k) fresh k ≡ cutAfter area fresh (k + 1)
     cut-more k h = outcomes.cut-turn area fresh file count t k h
 
@@ -163,6 +170,23 @@ pub zeroed : (area fresh : List ℕ) (file count : ℕ) → Fit fresh file count
     → takeOver (zeroedAfter area (length area / 512)) fresh file ≡ came (Took count) (over fresh (zeroedAfter area (length area / 512)))
 zeroed area fresh file count f h =
     conditions.is-taken (zeroedAfter area (length area / 512)) fresh file count (zeros.zeroed area fresh file count f h)
+
+-- An issue number of 4,294,967,295 in a kind 1 or 2 block of the area refuses every new table of bytes that is fit, by 10 (the others are refused by 9).
+pub greatest : (area fresh : List ℕ) (file count : ℕ) → Fit fresh file count → Bytes fresh → Found area 4294967295
+    → takeOver area fresh file ≡ refusing area 10
+greatest area fresh file count f bytes found = conditions.is-greatest area fresh file count f bytes found
+
+-- Past the count that, or any other issue, is mended in place: while blocks there are zeroed, some or all of them in any order, the area reads as before,
+pub zeroed-past : (area : List ℕ) (chosen : ℕ → Bool) → ((j : ℕ) → j ≤ countOf (blockOf area 0) → chosen j ≡ false)
+    → tableIn (zeroedWhere area chosen) ≡ tableIn area
+zeroed-past area chosen h = zeros.where-reads area chosen h
+
+-- and a fit table is taken that it has room for, once its issue number is greater than every one found in the other blocks.
+pub zeroed-where : (area fresh : List ℕ) (file count : ℕ) (chosen : ℕ → Bool) → Fit fresh file count → 512 * (count + 1) ≤ length area
+    → ((issue : ℕ) (f : Found area issue) → chosen (f .block) ≡ false → issue < issueOf (blockOf fresh 0))
+    → takeOver (zeroedWhere area chosen) fresh file ≡ came (Took count) (over fresh (zeroedWhere area chosen))
+zeroed-where area fresh file count chosen f room rest =
+    conditions.is-taken (zeroedWhere area chosen) fresh file count (zeros.where-takes area chosen fresh file count f room rest)
 
 -- One outcome for each input: whatever the function leaves, as its contract says, it leaves nothing else.
 pub unique : (o : AfterTake) {r s : Taken} {x y : List ℕ} → came r x ≡ o → came s y ≡ o → (r ≡ s) × (x ≡ y)

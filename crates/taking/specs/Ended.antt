@@ -23,14 +23,15 @@ pub record Found (area : List ℕ) (issue : ℕ) : Type 0 where
   pub kind : (getD (blockOf area block) 0 0 ≡ 1) ⊎ (getD (blockOf area block) 0 0 ≡ 2)
   pub here : issueOf (blockOf area block) ≡ issue
 
--- the new table's is greater than every one found; it is not
+-- the new table's issue number is greater than every issue found
 abbrev pub Greater : List ℕ → List ℕ → Type 0
 Greater area fresh = (issue : ℕ) → Found area issue → issue < issueOf (blockOf fresh 0)
 
+-- it is not: an issue is found that is at least as great
 pub record NotGreater (area fresh : List ℕ) : Type 0 where
   pub issue : ℕ
   pub found : Found area issue
-  pub least : issueOf (blockOf fresh 0) ≤ issue
+  pub at-least : issueOf (blockOf fresh 0) ≤ issue
 
 -- 9: the new table is unsound, or of edition 1
 abbrev pub Unfit : List ℕ → ℕ → Type 0

@@ -87,7 +87,8 @@ fn write_block(area: &mut [u8], fresh: &[u8], k: usize)
     run::copy(&mut area[at..at + BLOCK], b);
 }
 
-// Writes every block in turn: wherever it stops, the first blocks are the new table's and all others as they were.
+// Writes every block in turn, one call each. The contract says what the area is at the end; that after k turns the first k blocks are the new table's and all
+// others are as they came is the loop's invariant, in proofs/write_all.
 fn write_all(area: &mut [u8], fresh: &[u8], blocks: usize)
     requires { ⌜ (length (now fresh) ≡ 512 * blocks) × (length (now fresh) ≤ length (now area)) ⌝ }
     ensures { λ _. ⌜ now (area .exit) ≡ over (now (fresh .entry)) (now (area .entry)) ⌝ }

@@ -1,11 +1,14 @@
 -- What each condition keeps out: without it a cut leaves an area that is sound and neither table, or another block is blamed, or the new table does not read.
-use Rattle.octets.specs.Standard.{ℕ, _≡_, refl, List, [], _∷_, _++_, arith, take, drop, length, getD, set}
+-- One keeps no cut out: that the new table is not of edition 1.
+use Rattle.octets.specs.Standard.{ℕ, true, _≡_, refl, List, [], _∷_, _++_, arith, eqb, take, drop, length, getD, set, replicate}
 use Rattle.blocks.specs.Sealed.{sealed}
 use Rattle.blocks.specs.declared.Checked.the-variants.{Sound, Bad}
 use Rattle.table.specs.Area.{tableIn, checkArea}
 use Rattle.table.specs.Check.{checkTable}
-use Rattle.taking.specs.Written.{cutAfter}
-use Rattle.taking_example.proofs.Sample.{header, line, a, b, none, one, three, roomy, opened}
+use Rattle.taking.specs.TakeOver.{notGreater, refusing, takeOver}
+use Rattle.taking.specs.Written.{cutAfter, tornAfter}
+use Rattle.taking_example.proofs.Sample.{header, line, a, b, none, one, three, first, roomy, opened}
+use Rattle.taking_example.proofs.Worked.{by-ten, one-fit}
 
 -- An area that is sound, and reads neither as the old table nor as the new one: a byte of its table is not theirs.
 record Mixture (x old new : List ℕ) : Type 0 where
@@ -45,6 +48,29 @@ past-mixed =
       not-new = differs 528 {m = 0x62} {n = 0x61} refl refl (omega arith);
     }
 
+past-refused : takeOver stale (one 6) 0 ≡ refusing stale 10
+unfolding opened stale
+past-refused = by-ten stale (one 6) one-fit refl
+
+-- 10, a block of kind 1: in an area that was cut behind its header, the header alone has the new issue. A disk writes the record of another table of that issue
+-- first, and it completes the table. Where blocks are written in order no header can do so.
+headOnly : List ℕ
+headOnly = cutAfter (one 5) keeping 1
+
+head-mixed : Mixture (tornAfter headOnly (one 6) (eqb 1)) headOnly (one 6)
+unfolding opened keeping headOnly
+head-mixed =
+    record {
+      count = 1;
+      sound = refl;
+      not-old = differs 923 {m = 6} {n = 5} refl refl (omega arith);
+      not-new = differs 12 {m = 1} {n = 0} refl refl (omega arith);
+    }
+
+head-refused : takeOver headOnly (one 6) 0 ≡ refusing headOnly 10
+unfolding opened keeping headOnly
+head-refused = by-ten headOnly (one 6) one-fit refl
+
 -- 11, an area too short: block 0 is blamed after one block, and not block 1.
 short-blamed : checkArea (cutAfter (none 2 5) (one 6) 1) 0 ≡ Bad 0
 unfolding opened
@@ -58,7 +84,35 @@ unsound-all : checkArea (cutAfter roomy unsound 3) 0 ≡ Bad 1
 unfolding opened unsound
 unsound-all = refl
 
--- k up to the count and one: past it there is nothing to write, and a block of the area would be lost.
+-- 9, a new table longer than its count says: after the first of its two blocks the area is sound, and reads neither as it was nor as the whole of it.
+longer : List ℕ
+longer = none 2 6 ++ line 2 6 1 a
+
+longer-mixed : Mixture (cutAfter (one 5) longer 1) (one 5) longer
+unfolding opened longer
+longer-mixed =
+    record {
+      count = 0;
+      sound = refl;
+      not-old = differs 411 {m = 6} {n = 5} refl refl (omega arith);
+      not-new = differs 512 {m = 0} {n = 2} refl refl (omega arith);
+    }
+
+-- 9, edition 1: this keeps no cut out. A sound table of edition 1 has issue 0, so 10 refuses it wherever a kind 1 or 2 block stands, and where none does no old
+-- block completes a table.
+first-sound : checkTable first 0 ≡ Sound 1
+unfolding opened
+first-sound = refl
+
+first-refused : notGreater roomy first ≡ true
+unfolding opened
+first-refused = refl
+
+first-over-zeros : checkArea (cutAfter (replicate 1024 0) first 1) 0 ≡ Bad 1
+unfolding opened
+first-over-zeros = refl
+
+-- k up to the count and one: past it there is nothing to write, and `cutAfter` would lose the area's last piece of 511 bytes.
 beyond : length (cutAfter roomy (three 6) 5) ≡ 2048
 unfolding opened
 beyond = refl

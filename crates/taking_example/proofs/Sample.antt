@@ -11,13 +11,14 @@ use Rattle.record.specs.Networks.{usedPlace, soundPlace, sameByte, otherPlace, 
 use Rattle.record.specs.RecordBlock.{recordOf, soundRecord}
 use Rattle.record.specs.Sets.{sameSet}
 use Rattle.blocks.specs.Blocks.{blockOf, tableOf, firstBad}
+use Rattle.blocks.specs.Changed.{changedIn, changedAt, changedAll}
 use Rattle.blocks.specs.Sealed.{negated, sealed}
 use Rattle.table.specs.Area.{sizeIn, tableIn, checkArea}
 use Rattle.table.specs.Check.{risesAt, standsAt, agreesWith, agreesAt, soundAt, checkRecords, checkTable}
 use Rattle.table.specs.Named.{publicAt}
 use Rattle.taking.specs.Found.{greaterAt, greaterThanAll}
 use Rattle.taking.specs.TakeOver.{unfit, notGreater, tooShort}
-use Rattle.taking.specs.Written.{cutAfter, tornAt, tornAfter, zeroedAfter}
+use Rattle.taking.specs.Written.{withBlock, cutAfter, tornAt, tornAfter, zeroedAfter, zeroedWhere}
 
 -- A header of so many records with host `h` and realm `r`; record k with a public identity, private identity `p`, in state 1 at `s`; both of an edition and an
 -- issue number.
@@ -53,6 +54,10 @@ two issue = header 2 issue 2 ++ (line 2 issue 1 a ++ line 2 issue 2 b)
 unfoldable pub three : ℕ → List ℕ
 three issue = header 2 issue 3 ++ (line 2 issue 1 a ++ (line 2 issue 2 b ++ line 2 issue 3 c))
 
+-- a table of edition 1 with a record
+unfoldable pub first : List ℕ
+first = header 1 0 1 ++ line 1 0 1 b
+
 -- a block of some kind, of edition 0 and with no check word, that holds an issue number
 unfoldable pub rubbish : ℕ → ℕ → List ℕ
 rubbish kind issue = putBe32 (set (replicate 512 0) 0 kind) 408 issue
@@ -64,10 +69,14 @@ behind = rubbish 3 4294967295 ++ take 511 (rubbish 2 4294967295)
 unfoldable pub roomy : List ℕ
 roomy = two 5 ++ behind
 
+-- an old table of issue 5, and past its count a block of kind 1 with the greatest issue number
+unfoldable pub stuck : List ℕ
+stuck = none 2 5 ++ rubbish 1 4294967295
+
 -- all definitions that a computed case opens
 unfoldable pub opened : ℕ
-unfolding header line none one two three rubbish behind roomy allBelow orderOf be16At be32At putBe32 zeros zeroBetween over sumWords publicOf serverOf headerOf
-    soundHeader usedPlace soundPlace sameByte otherPlace newPlace soundNetworks recordOf soundRecord sameSet blockOf tableOf publicAt risesAt standsAt
-    agreesWith agreesAt soundAt firstBad checkRecords checkTable negated sealed sizeIn tableIn checkArea greaterAt greaterThanAll unfit notGreater tooShort
-    cutAfter tornAt tornAfter zeroedAfter
+unfolding header line none one two three first rubbish behind roomy stuck allBelow orderOf be16At be32At putBe32 zeros zeroBetween over sumWords publicOf
+    serverOf headerOf soundHeader usedPlace soundPlace sameByte otherPlace newPlace soundNetworks recordOf soundRecord sameSet blockOf tableOf publicAt risesAt
+    standsAt agreesWith agreesAt soundAt firstBad checkRecords checkTable negated sealed sizeIn tableIn checkArea greaterAt greaterThanAll unfit notGreater
+    tooShort changedIn changedAt changedAll withBlock cutAfter tornAt tornAfter zeroedAfter zeroedWhere
 opened = 0

@@ -1,8 +1,9 @@
 -- Take-overs computed by the definitions: each refusal at its edge, the order of the three, what a success leaves, cuts and torn writes; and each theorem of
 -- the page at them.
 use Rattle.octets.specs.Standard.{ℕ, _/_, _<_, _≤_, Bool, true, false, _||_, List, [], _++_, _≡_, refl, sym, ap, _∙_, eqb, ltb, lit<, lit≤, take}
-use Rattle.octets.specs.Standard.{drop, length, replicate, arith, lt-ltb, ne-eqb}
+use Rattle.octets.specs.Standard.{drop, length, replicate, arith, lt-ltb, ne-eqb, eqb-false, _≢_, inl}
 use Rattle.octets.specs.Run.{over}
+use Rattle.octets.proofs.Numbers.{Bytes, allBytes, are-bytes}
 use Rattle.record.specs.Fields.{editionOf, countOf, issueOf}
 use Rattle.blocks.specs.Blocks.{blockOf}
 use Rattle.blocks.specs.Changed.{changedIn}
@@ -10,12 +11,12 @@ use Rattle.blocks.specs.declared.Checked.the-variants.{Sound, Bad}
 use Rattle.table.specs.Area.{sizeIn, tableIn, checkArea}
 use Rattle.table.specs.Check.{checkTable}
 use Rattle.taking.specs.Cut.{Cut}
-use Rattle.taking.specs.Ended.{Fit, Unfit, Unissued, Short, Takes, Ended}
+use Rattle.taking.specs.Ended.{Fit, Found, Unfit, Unissued, Short, Takes, Ended}
 use Rattle.taking.specs.TakeOver.{unfit, notGreater, tooShort, AfterTake, came, refusing, taking, takeOver}
 use Rattle.taking.specs.Torn.{lowerBad, Torn}
-use Rattle.taking.specs.Written.{withBlock, cutAfter, tornAfter, zeroedAfter}
+use Rattle.taking.specs.Written.{withBlock, cutAfter, tornAfter, zeroedAfter, zeroedWhere}
 use Rattle.taking.specs.declared.Taken.the-variants.{Took, Refused}
-use Rattle.taking_example.proofs.Sample.{header, line, a, b, none, one, two, three, rubbish, behind, roomy, opened}
+use Rattle.taking_example.proofs.Sample.{header, line, a, b, none, one, two, three, first, rubbish, behind, roomy, stuck, opened}
 use Rattle.taking.proofs.Taking as page
 
 -- The trials by their tests: the new table's check is computed once, and then serves every area.
@@ -43,11 +44,11 @@ module _ (fresh : List ℕ) (n : ℕ) where
   unfolding unfit
   fits e f = rw (e, f)
 
-old-sound : checkTable (two 5) 0 ≡ Sound 2
+pub old-sound : checkTable (two 5) 0 ≡ Sound 2
 unfolding opened
 old-sound = refl
 
-three-sound : checkTable (three 6) 0 ≡ Sound 3
+pub three-sound : checkTable (three 6) 0 ≡ Sound 3
 unfolding opened
 three-sound = refl
 
@@ -76,11 +77,11 @@ unfolding opened
 greater-fit = refl
 
 -- An area reads as its table, whatever is behind; as a table it is too long. Shorter than its count says, or without a whole block, its block 0 is bad.
-roomy-table : tableIn roomy ≡ two 5
+pub roomy-table : tableIn roomy ≡ two 5
 unfolding opened
 roomy-table = refl
 
-roomy-reads : checkArea roomy 0 ≡ Sound 2
+pub roomy-reads : checkArea roomy 0 ≡ Sound 2
 unfolding checkArea
 roomy-reads = ap (λ (t : List ℕ). checkTable t 0) roomy-table ∙ old-sound
 
@@ -131,12 +132,13 @@ short-new : takeOver roomy (take 1023 (one 6)) 0 ≡ refusing roomy 9
 unfolding opened
 short-new = by-nine roomy (take 1023 (one 6)) refl
 
--- 10: the issue equal, or lower. One found past the old count, in the last whole block, whatever edition and check word say; there too one less is taken.
+-- 10: the issue equal, or lower. One found past the old count, in the last whole block, whatever edition and check word say; if that one is lower by one, the
+-- new table is taken. The greatest issue number there refuses, until its block is zeroed: the old table reads as before, and the new one is taken.
 pub equal : takeOver (none 2 6) (none 2 6) 0 ≡ refusing (none 2 6) 10
 unfolding opened
 equal = by-ten (none 2 6) (none 2 6) none-fit refl
 
-lower : takeOver (none 2 7) (none 2 6) 0 ≡ refusing (none 2 7) 10
+pub lower : takeOver (none 2 7) (none 2 6) 0 ≡ refusing (none 2 7) 10
 unfolding opened
 lower = by-ten (none 2 7) (none 2 6) none-fit refl
 
@@ -144,13 +146,21 @@ pub past-count : takeOver (none 2 5 ++ rubbish 2 6) (none 2 6) 0 ≡ refusing (n
 unfolding opened
 past-count = by-ten (none 2 5 ++ rubbish 2 6) (none 2 6) none-fit refl
 
-past-count-greater : takeOver (none 2 5 ++ rubbish 2 5) (none 2 6) 0 ≡ came (Took 0) (none 2 6 ++ rubbish 2 5)
+pub past-count-greater : takeOver (none 2 5 ++ rubbish 2 5) (none 2 6) 0 ≡ came (Took 0) (none 2 6 ++ rubbish 2 5)
 unfolding opened
 past-count-greater = by-none (none 2 5 ++ rubbish 2 5) (none 2 6) none-fit refl refl
 
-greatest : takeOver (none 2 5 ++ rubbish 1 4294967295) (none 2 6) 0 ≡ refusing (none 2 5 ++ rubbish 1 4294967295) 10
+greatest : takeOver stuck (none 2 6) 0 ≡ refusing stuck 10
 unfolding opened
-greatest = by-ten (none 2 5 ++ rubbish 1 4294967295) (none 2 6) none-fit refl
+greatest = by-ten stuck (none 2 6) none-fit refl
+
+freed-reads : tableIn (zeroedWhere stuck (eqb 1)) ≡ none 2 5
+unfolding opened
+freed-reads = refl
+
+freed : takeOver (zeroedWhere stuck (eqb 1)) (none 2 6) 0 ≡ came (Took 0) (none 2 6 ++ replicate 512 0)
+unfolding opened
+freed = by-none (zeroedWhere stuck (eqb 1)) (none 2 6) none-fit refl refl
 
 -- 11: a byte too short. The last block of the area is then a last piece, and no issue is found in it, though it is the new table's own.
 byte-short : takeOver (take 1023 (header 2 5 1 ++ line 2 6 1 a)) (one 6) 0 ≡ refusing (take 1023 (header 2 5 1 ++ line 2 6 1 a)) 11
@@ -195,6 +205,27 @@ cut-after-all : checkArea (cutAfter roomy (three 6) 4) 0 ≡ Sound 3
 unfolding checkArea
 cut-after-all = ap (λ (t : List ℕ). checkTable t 0) all-table ∙ three-sound
 
+-- A new table that is the shorter one, after one of its two blocks; the same over a table of edition 1, which is what the first take-over meets.
+cut-shorter : checkArea (cutAfter roomy (one 6) 1) 0 ≡ Bad 1
+unfolding opened
+cut-shorter = refl
+
+first-taken : takeOver first (one 6) 0 ≡ came (Took 1) (one 6)
+unfolding opened
+first-taken = by-none first (one 6) one-fit refl refl
+
+first-reads : checkArea (cutAfter first (one 6) 0) 0 ≡ Sound 1
+unfolding opened
+first-reads = refl
+
+first-cut : checkArea (cutAfter first (one 6) 1) 0 ≡ Bad 1
+unfolding opened
+first-cut = refl
+
+first-all : tableIn (cutAfter first (one 6) 2) ≡ one 6
+unfolding opened
+first-all = refl
+
 -- Torn writes: the header and block 2; block 1 under the old header; block 3, which nobody reads there.
 zeroAndTwo : ℕ → Bool
 zeroAndTwo j = eqb 0 j || eqb 2 j
@@ -222,6 +253,26 @@ torn-before = refl
 torn-behind : checkArea (tornAfter (spoilt 5 4) (three 6) (eqb 1)) 0 ≡ Bad 1
 unfolding opened spoilt
 torn-behind = refl
+
+-- Cuts over an old area that is unsound: its block 1 is bad as it came and after the new header, and at the end it is mended.
+unsound : List ℕ
+unsound = header 2 5 1 ++ line 2 4 1 a
+
+unsound-taken : takeOver unsound (one 6) 0 ≡ came (Took 1) (one 6)
+unfolding opened unsound
+unsound-taken = by-none unsound (one 6) one-fit refl refl
+
+unsound-reads : checkArea (cutAfter unsound (one 6) 0) 0 ≡ Bad 1
+unfolding opened unsound
+unsound-reads = refl
+
+unsound-cut : checkArea (cutAfter unsound (one 6) 1) 0 ≡ Bad 1
+unfolding opened unsound
+unsound-cut = refl
+
+unsound-all : tableIn (cutAfter unsound (one 6) 2) ≡ one 6
+unfolding opened unsound
+unsound-all = refl
 
 -- A cut take-over cannot be repeated with the same issue; a greater one mends it, and so does the same table once the area is zeroed.
 again : takeOver (cutAfter roomy (three 6) 2) (three 6) 0 ≡ refusing (cutAfter roomy (three 6) 2) 10
@@ -286,6 +337,18 @@ met-unfit = page.only-nine roomy (none 1 0) 0 (answer first-edition)
 met-nine : takeOver roomy (none 1 0) 0 ≡ refusing roomy 9
 met-nine = page.nine roomy (none 1 0) 0 met-unfit
 
+-- a block more than its header counts
+one-more : length (none 2 6 ++ line 2 6 1 a) ≡ 1024
+unfolding opened
+one-more = refl
+
+none-counted : sizeIn (none 2 6 ++ line 2 6 1 a) ≡ 512
+unfolding opened
+none-counted = refl
+
+met-nine-exact : takeOver roomy (none 2 6 ++ line 2 6 1 a) 0 ≡ refusing roomy 9
+met-nine-exact = page.nine-exact roomy (none 2 6 ++ line 2 6 1 a) 0 (λ e. omega (arith, e, one-more, none-counted))
+
 met-unissued : Unissued (none 2 6) (none 2 6) 0
 met-unissued = page.only-ten (none 2 6) (none 2 6) 0 (answer equal)
 
@@ -326,7 +389,7 @@ met-as-long : length (takeOver roomy (three 6) 0 .area) ≡ length roomy
 met-as-long = page.as-long roomy (three 6) 0 3 three-taken
 
 met-cut-none : cutAfter roomy (three 6) 0 ≡ roomy
-met-cut-none = page.cut-none roomy (three 6) 0 3 three-taken
+met-cut-none = page.cut-none roomy (three 6)
 
 met-cut-more : withBlock (cutAfter roomy (three 6) 1) (three 6) 1 ≡ cutAfter roomy (three 6) 2
 met-cut-more = page.cut-more roomy (three 6) 0 3 three-taken 1 (lit≤ tt)
@@ -361,10 +424,10 @@ met-torn-checked : checkArea (tornAfter roomy (three 6) (λ (j : ℕ). false)) 0
 met-torn-checked = page.torn-checked roomy (three 6) 0 3 three-taken (λ (j : ℕ). false) (λ j l m. refl) ∙ roomy-reads
 
 -- block 1 alone is written, within the old count, and block 0 is not
-only-one : (j : ℕ) → j < 1 → eqb 1 j ≡ false
+pub only-one : (j : ℕ) → j < 1 → eqb 1 j ≡ false
 only-one j l = ne-eqb 1 j (omega arith)
 
-two-counted : 1 ≤ countOf (blockOf roomy 0)
+pub two-counted : 1 ≤ countOf (blockOf roomy 0)
 unfolding opened
 two-counted = lit≤ tt
 
@@ -402,6 +465,50 @@ roomy-blocks = lit≤ tt
 
 met-zeroed : takeOver (zeroedAfter roomy (length roomy / 512)) (three 6) 0 ≡ came (Took 3) (over (three 6) (zeroedAfter roomy (length roomy / 512)))
 met-zeroed = page.zeroed roomy (three 6) 0 3 six roomy-blocks
+
+six-none : Fit (none 2 6) 0 0
+six-none = page.only-takes (zeroedWhere stuck (eqb 1)) (none 2 6) 0 0 (answer freed) .fit
+
+six-bytes : Bytes (none 2 6)
+unfolding allBytes opened
+six-bytes = are-bytes (none 2 6) refl
+
+stuck-found : Found stuck 4294967295
+unfolding opened
+stuck-found = record { block = 1; whole = lit≤ tt; kind = inl refl; here = refl }
+
+met-greatest : takeOver stuck (none 2 6) 0 ≡ refusing stuck 10
+met-greatest = page.greatest stuck (none 2 6) 0 0 six-none six-bytes stuck-found
+
+-- only block 1 of the two is zeroed, and the header is of issue 5
+stuck-past : (j : ℕ) → j ≤ countOf (blockOf stuck 0) → eqb 1 j ≡ false
+unfolding opened
+stuck-past j l = ne-eqb 1 j (omega arith)
+
+met-zeroed-past : tableIn (zeroedWhere stuck (eqb 1)) ≡ tableIn stuck
+met-zeroed-past = page.zeroed-past stuck (eqb 1) stuck-past
+
+stuck-length : length stuck ≡ 1024
+unfolding opened
+stuck-length = refl
+
+stuck-issue : issueOf (blockOf stuck 0) ≡ 5
+unfolding opened
+stuck-issue = refl
+
+six-issue : issueOf (blockOf (none 2 6) 0) ≡ 6
+unfolding opened
+six-issue = refl
+
+stuck-rest : (issue : ℕ) (f : Found stuck issue) → eqb 1 (f .block) ≡ false → issue < issueOf (blockOf (none 2 6) 0)
+stuck-rest issue f e =
+    let n : 1 ≢ f .block = eqb-false 1 (f .block) e in
+    let z : f .block ≡ 0 = omega (arith, f .whole, stuck-length, n) in
+    let q : issue ≡ 5 = sym (f .here) ∙ ap (λ (k : ℕ). issueOf (blockOf stuck k)) z ∙ stuck-issue in
+    omega (arith, six-issue)
+
+met-zeroed-where : takeOver (zeroedWhere stuck (eqb 1)) (none 2 6) 0 ≡ came (Took 0) (over (none 2 6) (zeroedWhere stuck (eqb 1)))
+met-zeroed-where = page.zeroed-where stuck (none 2 6) 0 0 (eqb 1) six-none (omega (arith, stuck-length)) stuck-rest
 
 met-unique : (Took 3 ≡ Took 3) × (over (three 6) roomy ≡ over (three 6) roomy)
 met-unique = page.unique (takeOver roomy (three 6) 0) (sym met-taken) (sym met-taken)

@@ -1,14 +1,14 @@
 -- Rows of calls: what is used stays used, what is sent was unused, and so nothing is sent twice.
 use Rattle.octets.specs.Standard.{ℕ, suc, _<_, List, [], _∷_, _++_, Bool, true, false, _||_, true≢false, _≡_, refl, sym, ap, _∙_, arith, length, getD}
-use Rattle.octets.specs.Standard.{map, eqb, eq-eqb, ne-eqb}
+use Rattle.octets.specs.Standard.{eqb, eq-eqb, ne-eqb}
 use Rattle.vectors.specs.Sendable.{Rising}
 use Rattle.blocks.specs.Changed.{isOne}
 use Rattle.vectors.specs.VectorFile.{checkVectors}
-use Rattle.calling.specs.Lent.{Lent}
+use Rattle.calling.specs.Lent.{Lent, tableOnly}
 use Rattle.calling.specs.Serve.{serveTable, serve}
 use Rattle.blocks.proofs.Changed.{one-append}
 use Rattle.vectors_sent.specs.Sent.{sentBy, usedAt}
-use Rattle.vectors_sent.specs.Row.{Turn, lending, leftBy, leftByAreas, inTable, sentOver, Once}
+use Rattle.vectors_sent.specs.Row.{Turn, lending, leftBy, sentOver, Once}
 use Rattle.vectors_sent.proofs.Blocks.{unsent-kept, sent-unused, sent-used, length-kept, check-kept, rising}
 
 -- Numbers that rise are there once; so are those of two rows that have none in common.
@@ -54,28 +54,23 @@ module _ (x : Lent) (k : ℕ) where
       go true f = sent-unused x k f
       go false f = ap (λ (b : List ℕ). getD b 1 0) (sym (unsent-kept x k f)) ∙ e
 
--- Rows of them.
-pub row-areas : (v : List ℕ) (cs : List Turn) → leftByAreas v cs ≡ leftBy v (map inTable cs)
-unfolding leftBy leftByAreas
-row-areas v [] = refl
-row-areas v (c ∷ cs) = row-areas (serve (lending v c) .vectors) cs
-
+-- Rows of them, over areas: each call is the one over the table at the front.
 pub row-used : (v : List ℕ) (cs : List Turn) (k : ℕ) → usedAt v k ≡ 1 → usedAt (leftBy v cs) k ≡ 1
 unfolding leftBy
 row-used v [] k e = e
-row-used v (c ∷ cs) k e = row-used (serveTable (lending v c) .vectors) cs k (call-used (lending v c) k e)
+row-used v (c ∷ cs) k e = row-used (serve (lending v c) .vectors) cs k (call-used (tableOnly (lending v c)) k e)
 
 -- of a row that begins with a call: sent by it, or by those after it
 sent-first : (v : List ℕ) (c : Turn) (cs : List Turn) (k : ℕ) (P : Type 0) → isOne (sentOver v (c ∷ cs)) k ≡ true
-    → (isOne (sentBy (lending v c)) k ≡ true → P) → (isOne (sentOver (serveTable (lending v c) .vectors) cs) k ≡ true → P) → P
+    → (isOne (sentBy (tableOnly (lending v c))) k ≡ true → P) → (isOne (sentOver (serve (lending v c) .vectors) cs) k ≡ true → P) → P
 unfolding sentOver
 sent-first v c cs k P e f g = go (isOne is k) refl (sym (one-append is js k) ∙ e)
   where
     is : List ℕ
-    is = sentBy (lending v c)
+    is = sentBy (tableOnly (lending v c))
 
     js : List ℕ
-    js = sentOver (serveTable (lending v c) .vectors) cs
+    js = sentOver (serve (lending v c) .vectors) cs
 
     go : (x : Bool) → isOne is k ≡ x → (x || isOne js k) ≡ true → P
     go true a b = f a
@@ -85,15 +80,16 @@ pub row-sent-unused : (v : List ℕ) (cs : List Turn) (k : ℕ) → isOne (sentO
 unfolding isOne sentOver
 row-sent-unused v [] k e = absurd (true≢false (sym e))
 row-sent-unused v (c ∷ cs) k e =
-    let after = serveTable (lending v c) .vectors in
-    sent-first v c cs k (usedAt v k ≡ 0) e (sent-unused (lending v c) k) (λ f. call-unused (lending v c) k (row-sent-unused after cs k f))
+    let after = serve (lending v c) .vectors in
+    sent-first v c cs k (usedAt v k ≡ 0) e (sent-unused (tableOnly (lending v c)) k)
+    (λ f. call-unused (tableOnly (lending v c)) k (row-sent-unused after cs k f))
 
 pub row-sent-used : (v : List ℕ) (cs : List Turn) (k : ℕ) → isOne (sentOver v cs) k ≡ true → usedAt (leftBy v cs) k ≡ 1
 unfolding isOne sentOver leftBy
 row-sent-used v [] k e = absurd (true≢false (sym e))
 row-sent-used v (c ∷ cs) k e =
-    let after = serveTable (lending v c) .vectors in
-    sent-first v c cs k (usedAt (leftBy after cs) k ≡ 1) e (λ f. row-used after cs k (sent-used (lending v c) k f)) (row-sent-used after cs k)
+    let after = serve (lending v c) .vectors in
+    sent-first v c cs k (usedAt (leftBy after cs) k ≡ 1) e (λ f. row-used after cs k (sent-used (tableOnly (lending v c)) k f)) (row-sent-used after cs k)
 
 -- what is used is not sent
 pub row-never : (v : List ℕ) (cs : List Turn) (k : ℕ) → usedAt v k ≡ 1 → isOne (sentOver v cs) k ≡ false
@@ -107,22 +103,22 @@ pub row-once : (v : List ℕ) (cs : List Turn) → Once (sentOver v cs)
 unfolding sentOver
 row-once v [] = tt
 row-once v (c ∷ cs) =
-    let x = lending v c in
-    once-join (sentBy x) (sentOver (serveTable x .vectors) cs) (rising-once 0 (sentBy x) (rising x)) (row-once (serveTable x .vectors) cs)
-    (λ k e. row-never (serveTable x .vectors) cs k (sent-used x k e))
+    let x = tableOnly (lending v c) in
+    let after = serve (lending v c) .vectors in
+    once-join (sentBy x) (sentOver after cs) (rising-once 0 (sentBy x) (rising x)) (row-once after cs) (λ k e. row-never after cs k (sent-used x k e))
 
 -- the file over a row
 pub row-check : (v : List ℕ) (cs : List Turn) → checkVectors (leftBy v cs) ≡ checkVectors v
 unfolding leftBy
 row-check v [] = refl
-row-check v (c ∷ cs) = row-check (serveTable (lending v c) .vectors) cs ∙ check-kept (lending v c)
+row-check v (c ∷ cs) = row-check (serve (lending v c) .vectors) cs ∙ check-kept (tableOnly (lending v c))
 
 pub row-length : (v : List ℕ) (cs : List Turn) → length (leftBy v cs) ≡ length v
 unfolding leftBy
 row-length v [] = refl
-row-length v (c ∷ cs) = row-length (serveTable (lending v c) .vectors) cs ∙ length-kept (lending v c)
+row-length v (c ∷ cs) = row-length (serve (lending v c) .vectors) cs ∙ length-kept (tableOnly (lending v c))
 
 pub left-join : (v : List ℕ) (cs ds : List Turn) → leftBy v (cs ++ ds) ≡ leftBy (leftBy v cs) ds
 unfolding leftBy
 left-join v [] ds = refl
-left-join v (c ∷ cs) ds = left-join (serveTable (lending v c) .vectors) cs ds
+left-join v (c ∷ cs) ds = left-join (serve (lending v c) .vectors) cs ds

@@ -4,13 +4,13 @@ use mathlib.Core.List.{List, [], _∷_, _++_}
 use mathlib.Core.Bool.{false}
 use mathlib.Core.Path.{_≡_}
 use Rattle.blocks.specs.Changed.{isOne}
-use Rattle.table.specs.Area.{tableIn}
 use Rattle.reading.specs.declared.Terms.{Terms}
-use Rattle.calling.specs.Lent.{Lent, lent}
-use Rattle.calling.specs.Serve.{serveTable, serve}
+use Rattle.calling.specs.Lent.{Lent, lent, tableOnly}
+use Rattle.calling.specs.Serve.{serve}
 use Rattle.vectors_sent.specs.Sent.{sentBy}
 
--- what is lent to a call besides the vector file, and its terms. Any table may be: the one that the call before left, or another that the daemon has put in its place
+-- what is lent to a call besides the vector file, and its terms. Any area may be: the one that the call before left, or another that the daemon has put in
+-- its place
 pub record Turn : Type 0 where
   pub request : List ℕ
   pub table : List ℕ
@@ -25,20 +25,12 @@ lending v c = lent (c .request) (c .table) (c .profile) v (c .buffer) (c .terms)
 -- the file after a row of calls, each over what the one before left of it
 unfoldable pub leftBy : List ℕ → List Turn → List ℕ
 leftBy v [] = v
-leftBy v (c ∷ cs) = leftBy (serveTable (lending v c) .vectors) cs
-
--- the same over areas, of which each call reads the table at the front
-unfoldable pub leftByAreas : List ℕ → List Turn → List ℕ
-leftByAreas v [] = v
-leftByAreas v (c ∷ cs) = leftByAreas (serve (lending v c) .vectors) cs
-
-abbrev pub inTable : Turn → Turn
-inTable c = record { request = c .request; table = tableIn (c .table); profile = c .profile; buffer = c .buffer; terms = c .terms }
+leftBy v (c ∷ cs) = leftBy (serve (lending v c) .vectors) cs
 
 -- the numbers of all the blocks that they send
 unfoldable pub sentOver : List ℕ → List Turn → List ℕ
 sentOver v [] = []
-sentOver v (c ∷ cs) = sentBy (lending v c) ++ sentOver (serveTable (lending v c) .vectors) cs
+sentOver v (c ∷ cs) = sentBy (tableOnly (lending v c)) ++ sentOver (serve (lending v c) .vectors) cs
 
 -- no number is there twice
 abbrev pub Once : List ℕ → Type 0

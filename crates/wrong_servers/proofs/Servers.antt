@@ -1,24 +1,24 @@
--- "Try these against it": document 01's five wrong servers, four that break document 02 [1], and two that break [2]. Each is a function here, and at an input
--- that is computed its outcome does not meet the promise.
-use Rattle.octets.specs.Standard.{ℕ, zero, suc, _≤_, _≡_, refl, ap, _∙_, _≢_, List, [], _∷_, _++_, false, arith, getD, take}
+-- "Try these against it": document 01's five wrong servers, four that break document 02 [1], two that break [2], and three that break [8]. Each is a function
+-- here, and at an input that is computed its outcome does not meet the promise.
+use Rattle.octets.specs.Standard.{ℕ, zero, suc, _≤_, _≡_, refl, sym, ap, _∙_, _≢_, List, [], _∷_, _++_, false, arith, length, getD, take, drop}
 use Rattle.octets.specs.Run.{over}
-use Rattle.blocks.specs.declared.Checked.the-variants.{Sound}
+use Rattle.blocks.specs.declared.Checked.the-variants.{Sound, Bad}
 use Rattle.table.specs.Area.{sizeIn, tableIn, checkArea}
 use Rattle.table.proofs.Areas.{check-exact, sound-size-in}
 use Rattle.vectors.specs.VectorFile.{checkVectors}
 use Rattle.pen.specs.Bytes.{vendorHead, vendorBytes, numberBytes, vendorNumber}
 use Rattle.pen.specs.Groups.{failed}
 use Rattle.requests.specs.Request.{underCx}
-use Rattle.calling.specs.Lent.{Lent, lent}
-use Rattle.calling.specs.Serve.{Served, serve}
-use Rattle.calling.specs.Call.{Answered}
-use Rattle.calling.proofs.Areas.{serve-sound}
+use Rattle.calling.specs.Lent.{Lent, lent, holding}
+use Rattle.calling.specs.Serve.{Served, checkOf, serveTable, serve}
+use Rattle.calling.specs.Call.{Answered, Refused}
+use Rattle.calling.proofs.Areas.{served-rest, serve-sound, alike-call}
 use Rattle.ndushavire.specs.Word.{word, checkWord, callWord}
 use Rattle.ndushavire.specs.Reads.{placeIn}
 use Rattle.ndushavire.specs.Promise.{CheckPromise, CheckVectorsPromise, DecidePromise}
 use Rattle.worked_examples.proofs.Computed.{known, come, roomy, no-vectors, registered-sound, unregistered-sound}
 use Rattle.worked_examples.proofs.Sample.{room, request, reply, answer, common, assignment, authentication, vector, item, challenges, one, waiting}
-use Rattle.worked_examples.proofs.Sample.{two, s, z, opened}
+use Rattle.worked_examples.proofs.Sample.{person, two, s, z, opened}
 
 -- what a call leaves
 record CallLeft : Type 0 where
@@ -283,3 +283,54 @@ misplaced-fails f n h p = h (faulty-place f n p)
 -- 11. one that says a place where a decision, and no reading rule, blames an AVP, though Failed-AVP holds it
 blaming-fails : (f : Server) (n : ℕ) → placeIn (f n second .word) ≢ 0 → Meets f n second → ⊥
 blaming-fails f n h p = h (second-place f n p)
+
+-- Document 02 [8]. The removal over an area that is longer than its table: behind the one record stand a record of the same line, and a last piece. As a table
+-- the area has not the length of its count.
+behind : List ℕ
+behind = person 1 0x61 0x70 1 s ++ (1 ∷ 2 ∷ 3 ∷ [])
+
+spacious : Lent
+spacious = holding removal (one 0 1 s ++ behind)
+
+spacious-alike : take (sizeIn (one 0 1 s ++ behind)) (one 0 1 s) ≡ take (sizeIn (one 0 1 s ++ behind)) (one 0 1 s ++ behind)
+unfolding opened behind sizeIn
+spacious-alike = refl
+
+-- the call is the one over the table alone, and what is behind the table stays
+spacious-call : serve spacious .call ≡ Answered (record { length = 116; place = 0 })
+unfolding spacious removal
+spacious-call = sym (alike-call spacious (one 0 1 s) spacious-alike .call) ∙ ap (λ (y : Served). y .call) removal-served
+
+spacious-size : length (tableIn (spacious .table)) ≡ 1024
+unfolding opened spacious behind tableIn sizeIn
+spacious-size = refl
+
+spacious-behind : drop 1024 (serve spacious .table) ≡ drop 1024 (spacious .table)
+spacious-behind =
+    ap (λ (m : ℕ). drop m (serve spacious .table)) (sym spacious-size) ∙ served-rest spacious ∙ ap (λ (m : ℕ). drop m (spacious .table)) spacious-size
+
+-- 12. one that looks past the count, and serves the whole area as if it were the table: it refuses by 5
+whole : Server
+whole n x =
+    record { word = callWord (serveTable x .call); table = serveTable x .table; vectors = serveTable x .vectors; buffer = serveTable x .buffer }
+
+spacious-long : checkOf spacious ≡ Bad 0
+unfolding opened spacious behind
+spacious-long = refl
+
+whole-refuses : serveTable spacious .call ≡ Refused 5 0
+unfolding opened spacious removal
+whole-refuses =
+    ap (λ (y : Served). y .call) (come spacious {y = known false (Bad 0) (Sound 0) spacious} roomy spacious-long no-vectors refl)
+
+whole-fails : (n : ℕ) → Meets whole n spacious → ⊥
+unfolding whole
+whole-fails n p = omega (arith, sym (ap callWord whole-refuses) ∙ p .word-is ∙ ap callWord spacious-call)
+
+-- 13. one whose word is another over the two areas with the same table at the front, whatever it looks at
+looking-fails : (f : Server) (n : ℕ) → f n spacious .word ≢ f n removal .word → Meets f n spacious → Meets f n removal → ⊥
+looking-fails f n h p q = h (p .word-is ∙ ap callWord spacious-call ∙ sym (removal-word f n q))
+
+-- 14. one that changes a byte behind the table, as one that rewrites every record of the line that the area holds
+spilling-fails : (f : Server) (n : ℕ) → drop 1024 (f n spacious .table) ≢ drop 1024 (spacious .table) → Meets f n spacious → ⊥
+spilling-fails f n h p = h (ap (drop 1024) (p .table-is) ∙ spacious-behind)

@@ -15,9 +15,12 @@ pub enum Stream {
     Reports,
     /// The moves of a table forward and back.
     Moves,
+    /// The take-over of a new table into a working area.
+    Takes,
 }
 
-pub const STREAMS: [Stream; 5] = [Stream::Tables, Stream::Vectors, Stream::Calls, Stream::Reports, Stream::Moves];
+pub const STREAMS: [Stream; 6] =
+    [Stream::Tables, Stream::Vectors, Stream::Calls, Stream::Reports, Stream::Moves, Stream::Takes];
 
 impl Stream {
     pub fn by_name(name: &str) -> Option<Stream> {
@@ -31,6 +34,7 @@ impl Stream {
             Stream::Calls => "calls",
             Stream::Reports => "reports",
             Stream::Moves => "moves",
+            Stream::Takes => "takes",
         }
     }
 }

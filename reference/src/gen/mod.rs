@@ -1,5 +1,6 @@
 //! Seeded makers of cases.
 
+mod areas;
 mod asks;
 mod calls;
 mod checks;
@@ -8,15 +9,18 @@ mod made;
 pub mod model;
 pub mod moves;
 mod names;
+pub mod neighbours;
 pub mod reports;
 pub mod request;
 mod runs;
 mod sets;
 mod tables;
+pub mod takes;
 pub mod twists;
 pub mod vectors;
 
 pub use calls::{MIXED, OF_SETS};
+pub use checks::CUTS;
 pub use made::{Made, Stream, STREAMS};
 pub use runs::{run, Step};
 pub use tables::FAR;
@@ -32,5 +36,6 @@ pub fn make(stream: Stream, seed: u64, number: u64) -> Made {
         Stream::Calls => calls::case(&mut rng),
         Stream::Reports => reports::case(&mut rng),
         Stream::Moves => moves::case(&mut rng),
+        Stream::Takes => takes::case(&mut rng),
     }
 }

@@ -1,5 +1,6 @@
 //! Cases of the moves between the editions.
 
+use super::areas;
 use super::damage;
 use super::made::Made;
 use super::model::TableModel;
@@ -12,10 +13,18 @@ use crate::slip::Slip;
 use crate::table::MOST_RECORDS;
 
 /// What a case may be noted as.
-pub const NOTES: [&str; 7] =
-    ["forward", "back", "there and back", "back and there", "another issue", "the other edition", "damaged table"];
+pub const NOTES: [&str; 8] = [
+    "forward",
+    "back",
+    "there and back",
+    "back and there",
+    "another issue",
+    "the other edition",
+    "damaged table",
+    "a longer table",
+];
 
-/// Mostly a sound table of the edition moved from; now and then one of the other, or a damaged one.
+/// Mostly a sound table of the edition moved from; now and then one of the other, a damaged one, or one with something past it.
 pub fn case(rng: &mut Rng) -> Made {
     let size = match rng.below(2000) {
         0 => MOST_RECORDS as usize,
@@ -42,6 +51,10 @@ pub fn case(rng: &mut Rng) -> Made {
     if rng.once_in(4) {
         notes.push("damaged table");
         damaged = damage::damage(rng, &mut subject, &mut notes);
+    }
+    if rng.once_in(12) {
+        notes.push("a longer table");
+        subject.bytes = areas::lengthened(rng, subject.bytes);
     }
     Made { case: Case::moved(rng.byte(), subject.bytes, subject.profile, issue), notes, damaged }
 }

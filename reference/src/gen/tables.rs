@@ -31,6 +31,12 @@ pub fn many(rng: &mut Rng) -> usize {
 /// A sound table of so many records.
 pub fn sound(rng: &mut Rng, records: usize) -> Sound {
     let profile = profile(rng);
+    let model = over(rng, records, &profile);
+    Sound { model, profile }
+}
+
+/// A sound table of so many records for a profile file.
+pub fn over(rng: &mut Rng, records: usize, profile: &[u8]) -> TableModel {
     let mut model = TableModel {
         issue: rng.coin().then(|| issue(rng)),
         keep: rng.coin(),
@@ -42,7 +48,7 @@ pub fn sound(rng: &mut Rng, records: usize) -> Sound {
     let subscriptions = pool(rng, 1 + records / 3, LONGEST_IDENTITY);
     let servers = pool(rng, 2, LONGEST_SERVER_NAME);
     for public in identities(rng, records) {
-        let mut record = record(rng, model.networks.len(), &profile);
+        let mut record = record(rng, model.networks.len(), profile);
         record.public = public;
         record.private = rng.pick(&subscriptions).clone();
         if record.state != NOT_REGISTERED || record.is_pending() {
@@ -53,7 +59,7 @@ pub fn sound(rng: &mut Rng, records: usize) -> Sound {
     if model.issue.is_some() && rng.below(3) > 0 {
         sets::put(rng, &mut model.records);
     }
-    Sound { model, profile }
+    model
 }
 
 /// An issue number, at an edge as often as not.

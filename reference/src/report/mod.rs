@@ -67,6 +67,7 @@ fn decided(lent: &mut Lent, piece: &[u8], at: usize, slip: Slip) -> Done {
     let piece = if slip.is(Fault::PieceWithRest) { &lent.requests[at..] } else { piece };
     let slip = match slip.0 {
         Some(Fault::AgreementNotAskedInReports) => Slip::of(Fault::AgreementNotAskedInDecisions),
+        Some(Fault::LongerAreaNotReported) => Slip::of(Fault::LongerAreaNotDecided),
         _ => slip,
     };
     astray::refused(lent, slip)
@@ -90,7 +91,7 @@ fn altered(before: &Files, lent: &Lent, piece: &[u8], done: &Done, ever: &mut BT
         Some(Fault::NamedTwiceCountedTwice) if !records.is_empty() => astray::identities(piece).max(records.len()),
         Some(Fault::AlteredIn8Bits) => records.len() & 0xFF,
         Some(Fault::LastRecordNotCompared) => {
-            records.iter().filter(|block| (**block + 1) * BLOCK != lent.table.len()).count()
+            records.iter().filter(|block| **block != Table(lent.table).records().count()).count()
         }
         Some(Fault::SetCountedOnce) => {
             let of = |block: usize| Table(lent.table).record(block).implicit_set().ok_or(block);

@@ -7,6 +7,7 @@ mod reports;
 mod required;
 mod sets;
 mod sizes;
+mod takes;
 
 use std::collections::{BTreeMap, BTreeSet};
 use std::ops::Range;
@@ -18,12 +19,12 @@ use crate::kinds::{Command, Kind, EXPERIMENTAL_RESULT, FAILED_AVP, RESULT_CODE, 
 use crate::message::{Avp, Message};
 use crate::read::read_header;
 use crate::slip::Slip;
-use crate::table::LONGEST_PROFILE;
+use crate::table::{Table, LONGEST_PROFILE};
 use crate::verdict::{Code, Decision, Why};
 use sizes::size;
 
 /// How many times as many cases are counted, where a row has too few, before it is told of.
-const ROUNDS: u64 = 10;
+pub const ROUNDS: u64 = 10;
 
 #[derive(Default)]
 pub struct Histogram {
@@ -39,6 +40,7 @@ impl Histogram {
             (Stream::Vectors, Why::CheckedVectors(found)) => self.count_vectors(made, *found),
             (Stream::Reports, _) => self.count_report(made, outcome),
             (Stream::Moves, _) => self.count_move(made, outcome),
+            (Stream::Takes, _) => self.count_take(made, outcome),
             _ => self.count_call(made, outcome, why),
         }
     }
@@ -53,6 +55,10 @@ impl Histogram {
             let table = made.case.held(Slice::Table);
             moves::of_table(&table).into_iter().for_each(|row| self.add(format!("sound table, {row}")));
             sets::of_table(&table).into_iter().for_each(|row| self.add(format!("sound table, {row}")));
+            takes::of_area(&table).into_iter().for_each(|row| self.add(format!("sound table, {row}")));
+            if takes::is_past_the_most(&table) {
+                self.add("sound table, more than 4,097 blocks".to_string());
+            }
             if made.case.held(Slice::Profile).len() > FAR {
                 self.add("sound table, profile over 65,536 bytes".to_string());
             }
@@ -96,21 +102,28 @@ impl Histogram {
         moves::rows(&made.case, outcome).into_iter().for_each(|row| self.add(row));
     }
 
+    fn count_take(&mut self, made: &Made, outcome: &Outcome) {
+        made.notes.iter().for_each(|note| self.add(format!("made by: {note}")));
+        takes::rows(&made.case, outcome).into_iter().for_each(|row| self.add(row));
+    }
+
     fn count_call(&mut self, made: &Made, outcome: &Outcome, why: &Why) {
         for note in &made.notes {
             self.add(format!("made by: {note}"));
         }
         let row = match why {
-            Why::Checked(_) | Why::CheckedVectors(_) | Why::Reported | Why::Moved(_) => return,
+            Why::Checked(_) | Why::CheckedVectors(_) | Why::Reported | Why::Moved(_) | Why::TakenOver(_) => return,
             Why::Refused(6) => format!("refused 6 to {}", asker(&made.case.held(Slice::Request))),
             Why::Refused(5) if disagrees(&made.case) => "refused 5, a set disagrees".to_string(),
+            Why::Refused(5) if made.notes.contains(&"a cut take-over") => "refused 5, a cut take-over".to_string(),
             Why::Refused(number) => format!("refused {number}"),
             Why::Header(code) => format!("header: B{code}"),
             Why::Rule(letter, what) => format!("rule ({letter}): {what}"),
             Why::Missing(kind) => format!("missing: {}", kind.name()),
             Why::Decided(decision) => {
                 let table = made.case.held(Slice::Table);
-                self.add(format!("decided over {} records", size(table.len() / BLOCK - 1)));
+                self.add(format!("decided over {} records", size(Table(&table).records().count())));
+                takes::of_area(&table).into_iter().for_each(|row| self.add(format!("decided over {row}")));
                 moves::of_table(&table).into_iter().for_each(|row| self.add(format!("decided over {row}")));
                 sets::of_table(&table).into_iter().for_each(|row| self.add(format!("decided over {row}")));
                 sets::of_decision(&made.case, outcome, decision).into_iter().for_each(|row| self.add(row));
@@ -235,7 +248,7 @@ impl Histogram {
 
 /// The fewest of a row that comes once in so many cases: six standard deviations below what is expected, and at least
 /// one. So a seed has fewer by bad luck only where hardly any are expected; for these `stats` goes on.
-fn least(cases: u64, one_in: u64) -> u64 {
+pub fn least(cases: u64, one_in: u64) -> u64 {
     let expected = cases as f64 / one_in as f64;
     (expected - 6.0 * expected.sqrt()).floor().max(1.0) as u64
 }

@@ -16,7 +16,7 @@ pub fn rows(case: &Case, outcome: &Outcome) -> Vec<String> {
         (0, count) => vec![format!("{which}: {} records", size(count as usize))],
         (8, 1) => vec![format!("{which}: refused 8, block 1")],
         (8, _) => vec![format!("{which}: refused 8, a later block")],
-        (_, 0) if table::check(&table, case.held(Slice::Profile).len()).is_ok() => {
+        (_, 0) if table::check_exactly(&table, case.held(Slice::Profile).len()).is_ok() => {
             vec![format!("{which}: refused 5, the other edition")]
         }
         (_, block) => vec![format!("{which}: refused 5, {}", if block == 0 { "block 0" } else { "a record" })],
@@ -34,6 +34,10 @@ pub fn rows(case: &Case, outcome: &Outcome) -> Vec<String> {
     }
     if number == 5 && sets::disagrees(&table, case.held(Slice::Profile).len()) {
         rows.push(format!("{which}: refused 5, a set disagrees"));
+    }
+    let at_front = || table::check(&table, case.held(Slice::Profile).len());
+    if number == 5 && at_front().map_or(false, |count| table.len() > BLOCK * (count as usize + 1)) {
+        rows.push(format!("{which}: refused 5, a longer table"));
     }
     if number == 5 && has_sets(&table) {
         rows.push(format!("{which}: refused 5, though a set is there"));
@@ -113,7 +117,9 @@ pub fn wanted() -> Vec<(String, u64)> {
             wanted.push((format!("{which}: {size} records"), times));
         }
         wanted.extend(ISSUES.map(|issue| (format!("{which}: {issue}"), 1)));
-        for what in ["the other edition", "block 0", "a record", "though a set is there", "a set disagrees"] {
+        for what in
+            ["the other edition", "block 0", "a record", "though a set is there", "a set disagrees", "a longer table"]
+        {
             wanted.push((format!("{which}: refused 5, {what}"), 1));
         }
     }

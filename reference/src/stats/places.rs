@@ -21,7 +21,7 @@ pub fn row(place: u64, request: &[u8], why: &Why) -> Option<String> {
 
 fn unplaced(request: &[u8], why: &Why) -> Option<&'static str> {
     Some(match why {
-        Why::Checked(_) | Why::CheckedVectors(_) | Why::Reported | Why::Moved(_) => return None,
+        Why::Checked(_) | Why::CheckedVectors(_) | Why::Reported | Why::Moved(_) | Why::TakenOver(_) => return None,
         // Only with these is there a request to read.
         Why::Refused(5 | 6) => match read(Message(request), Slip::NONE) {
             Err(finding) if finding.place != 0 => "a refusal, though an AVP is at fault",

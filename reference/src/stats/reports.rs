@@ -4,6 +4,7 @@ use std::collections::BTreeSet;
 
 use super::moves;
 use super::sets;
+use super::takes;
 use crate::block::word_at;
 use crate::cases::{Case, Outcome, Slice};
 use crate::gen::reports::NOTES;
@@ -35,6 +36,7 @@ pub fn rows(case: &Case, outcome: &Outcome) -> Vec<String> {
     if table::check(&table, case.held(Slice::Profile).len()).is_ok() {
         rows.extend(moves::of_table(&table).into_iter().map(|row| format!("over {row}")));
         rows.extend(sets::of_table(&table).into_iter().map(|row| format!("over {row}")));
+        rows.extend(takes::of_area(&table).into_iter().map(|row| format!("over {row}")));
     }
     if words[word::ANSWERED + 5] > 0 && sets::disagrees(&table, case.held(Slice::Profile).len()) {
         rows.push("refused 5 in it, a set disagrees".to_string());
@@ -150,6 +152,7 @@ pub fn wanted() -> Vec<(String, u64)> {
         wanted.push((format!("a request: {what}"), 1));
     }
     wanted.extend(moves::editions().into_iter().map(|row| (format!("over {row}"), 1)));
+    wanted.extend(takes::areas().map(|row| (format!("over {row}"), 1)));
     wanted.extend(sets::of_tables_wanted().into_iter().map(|(row, times)| (format!("over {row}"), times)));
     wanted.push(("refused 5 in it, a set disagrees".to_string(), 1));
     wanted.extend(NOTES.map(|note| (format!("made by: {note}"), 1)));

@@ -5,10 +5,11 @@ use super::moves;
 use super::places;
 use super::reports;
 use super::sets;
+use super::takes;
 use crate::gen::damage::damages;
 use crate::gen::twists::twists;
 use crate::gen::vectors::damage::{DAMAGES, OVER_THE_MOST};
-use crate::gen::{Stream, MIXED, OF_SETS};
+use crate::gen::{Stream, CUTS, MIXED, OF_SETS};
 use crate::kinds::{needed, Command, Kind, COMMANDS, KINDS};
 
 /// A row has at least one case in so many, but for chance; where a stream is short, at least one.
@@ -22,6 +23,7 @@ pub fn rows(stream: Stream) -> Vec<(String, u64)> {
         Stream::Calls => of_calls(),
         Stream::Reports => reports::wanted().into_iter().map(|(row, times)| (row, times * ONE_IN)).collect(),
         Stream::Moves => moves::wanted().into_iter().map(|(row, times)| (row, times * ONE_IN)).collect(),
+        Stream::Takes => takes::wanted().into_iter().map(|(row, times)| (row, times * ONE_IN)).collect(),
     }
 }
 
@@ -38,6 +40,11 @@ fn of_tables() -> Vec<(String, u64)> {
     wanted.extend(
         sets::of_tables_wanted().into_iter().map(|(row, times)| (format!("sound table, {row}"), times * ONE_IN)),
     );
+    wanted.extend(takes::areas().map(|row| (format!("sound table, {row}"), ONE_IN)));
+    wanted.push(("sound table, more than 4,097 blocks".to_string(), 10 * ONE_IN));
+    for cut in CUTS {
+        wanted.extend(["sound", "the damaged block"].map(|outcome| (format!("{cut} -> {outcome}"), ONE_IN)));
+    }
     for (damage, outcome) in DAMAGED_SETS {
         wanted.push((format!("set: {damage} -> {outcome}"), ONE_IN));
     }
@@ -87,6 +94,8 @@ fn of_calls() -> Vec<(String, u64)> {
     let mut wanted = Vec::new();
     wanted.extend((1..=6).map(|number| format!("refused {number}")));
     wanted.push("refused 5, a set disagrees".to_string());
+    wanted.push("refused 5, a cut take-over".to_string());
+    wanted.extend(takes::areas().map(|row| format!("decided over {row}")));
     wanted.extend([5011, 3008, 3001, 3007].map(|code| format!("header: B{code}")));
     rules(&mut wanted);
     missing(&mut wanted);

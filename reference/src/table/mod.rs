@@ -7,4 +7,4 @@ mod soundness;
 
 pub use layout::*;
 pub use sets::Set;
-pub use soundness::{check, check_with};
+pub use soundness::{check, check_exactly, check_exactly_with, check_with};

@@ -2,44 +2,68 @@
 
 use super::editions::{header_rest_is_zero, is_an_edition, is_like_header, mixing_blames, record_rest_is_zero};
 use super::layout::{
-    header, record, Header, Record, BARRED, LONGEST_HOST, LONGEST_IDENTITY, LONGEST_PROFILE, LONGEST_SERVER_NAME,
-    MOST_CAPABILITIES, MOST_NETWORKS, MOST_RECORDS, NETWORK_PLACE, NOT_REGISTERED, PENDING, UNREGISTERED,
-    UNREGISTERED_SERVICES,
+    header, record, Header, Record, BARRED, EDITION, EDITION_1, EDITION_2, LONGEST_HOST, LONGEST_IDENTITY,
+    LONGEST_PROFILE, LONGEST_SERVER_NAME, MOST_CAPABILITIES, MOST_NETWORKS, MOST_RECORDS, NETWORK_PLACE,
+    NOT_REGISTERED, PENDING, UNREGISTERED, UNREGISTERED_SERVICES,
 };
 use super::sets::Sets;
 use crate::block::{sum, word_at, zero, BLOCK};
 use crate::slip::{Fault, Slip};
 
-/// The record count of a sound table, or the number of the first bad block.
-pub fn check(table: &[u8], profile_length: usize) -> Result<u32, u32> {
-    checked(table, profile_length, Slip::NONE)
+/// The record count of the sound table at the front of an area, or the number of the first bad block. What is past the table is not
+/// looked at.
+pub fn check(area: &[u8], profile_length: usize) -> Result<u32, u32> {
+    checked(area, profile_length, Length::Least, Slip::NONE)
 }
 
 /// `check`, or as a program with a deliberate fault does it.
-pub fn check_with(table: &[u8], profile_length: usize, slip: Slip) -> Result<u32, u32> {
+pub fn check_with(area: &[u8], profile_length: usize, slip: Slip) -> Result<u32, u32> {
     match slip.0 {
-        None => check(table, profile_length),
-        Some(_) => checked(table, profile_length, slip),
+        None => check(area, profile_length),
+        Some(_) => checked(area, profile_length, Length::Least, slip),
     }
+}
+
+/// The check where the length stays exact: nothing may stand past the table.
+pub fn check_exactly(table: &[u8], profile_length: usize) -> Result<u32, u32> {
+    checked(table, profile_length, Length::Exact, Slip::NONE)
+}
+
+/// `check_exactly`, or as a program with a deliberate fault does it.
+pub fn check_exactly_with(table: &[u8], profile_length: usize, slip: Slip) -> Result<u32, u32> {
+    match slip.0 {
+        None => check_exactly(table, profile_length),
+        Some(_) => checked(table, profile_length, Length::Exact, slip),
+    }
+}
+
+/// Whether 512 x (count + 1) is the least length, or the only one.
+#[derive(Clone, Copy, PartialEq)]
+enum Length {
+    Least,
+    Exact,
 }
 
 /// Inlined with all that it calls, so that the true check has no trace of the faults.
 #[inline(always)]
-fn checked(table: &[u8], profile_length: usize, slip: Slip) -> Result<u32, u32> {
+fn checked(table: &[u8], profile_length: usize, length: Length, slip: Slip) -> Result<u32, u32> {
     if table.len() < BLOCK {
         return Err(0);
     }
     let head = &table[..BLOCK];
     let count = count_of(head, table.len(), slip);
-    if !length_fits(table.len(), count, slip) || !header_is_sound(head, slip) {
+    let fits = match length {
+        Length::Least => is_long_enough(head, table.len(), count, slip),
+        Length::Exact => table.len() as u64 == needed(count),
+    };
+    if !fits || !count_fits(count, slip) || !header_is_sound(head, slip) {
         return Err(0);
     }
     let networks = head[header::NETWORKS] as usize;
     let mut before: &[u8] = &[];
     let mut sets = Sets::default();
     let mut last_bad = None;
-    for number in 1..=count {
-        let block = &table[number as usize * BLOCK..][..BLOCK];
+    for (number, block) in (1..=count).zip(table.chunks_exact(BLOCK).skip(1)) {
         let sound = record_is_sound(block, number, networks, profile_length, slip);
         let alike = is_like_header(table, block, slip);
         let public = Record(block).public();
@@ -59,7 +83,39 @@ fn checked(table: &[u8], profile_length: usize, slip: Slip) -> Result<u32, u32> 
         }
         before = public;
     }
+    if slip.0.is_some() && length == Length::Least && last_bad.is_none() {
+        last_bad = bad_past(table, count, networks, profile_length, sets, slip);
+    }
     last_bad.map_or(Ok(count), Err)
+}
+
+/// The first bad block past the count, which only a faulty program looks for.
+#[inline(never)]
+fn bad_past<'a>(
+    area: &'a [u8],
+    count: u32,
+    networks: usize,
+    profile_length: usize,
+    mut sets: Sets<'a>,
+    slip: Slip,
+) -> Option<u32> {
+    let blocks = area.chunks_exact(BLOCK);
+    if slip.is(Fault::LastPieceZero) {
+        return (!zero(blocks.remainder())).then_some(0);
+    }
+    let sound = |block, number, slip| record_is_sound(block, number, networks, profile_length, slip);
+    let mut past = (0..).zip(blocks).skip(count as usize + 1);
+    let bad = past.find(|(number, block)| match slip.0 {
+        Some(Fault::BlocksPastCountSummed) => sum(block) != 0,
+        Some(Fault::BlocksPastCountZero) => !zero(block),
+        Some(Fault::StaleIssueMixes) => [1, 2].contains(&block[0]) && !is_like_header(area, block, slip),
+        Some(Fault::StaleRecordsChecked) => block[0] == 2 && !sound(block, *number, slip),
+        Some(Fault::StaleRecordsMustAgree) => {
+            sound(block, word_at(block, 4), slip) && sets.agree(*number, Record(block), slip).is_err()
+        }
+        _ => false,
+    });
+    bad.map(|(number, _)| number)
 }
 
 #[inline(always)]
@@ -72,15 +128,35 @@ fn count_of(head: &[u8], length: usize, slip: Slip) -> u32 {
     }
 }
 
+fn needed(count: u32) -> u64 {
+    BLOCK as u64 * (u64::from(count) + 1)
+}
+
 #[inline(always)]
-fn length_fits(length: usize, count: u32, slip: Slip) -> bool {
-    let needed = BLOCK as u64 * (u64::from(count) + 1);
-    let few = match slip.0 {
+fn count_fits(count: u32, slip: Slip) -> bool {
+    match slip.0 {
         Some(Fault::CountNotLimited) => true,
         Some(Fault::MostRecordsRefused) => count < MOST_RECORDS,
         _ => count <= MOST_RECORDS,
-    };
-    few && (length as u64 == needed || (slip.is(Fault::AppendedTaken) && length as u64 > needed))
+    }
+}
+
+/// An area holds the table; it may be longer.
+#[inline(always)]
+fn is_long_enough(head: &[u8], length: usize, count: u32, slip: Slip) -> bool {
+    let (length, block, needed) = (length as u64, BLOCK as u64, needed(count));
+    match slip.0 {
+        Some(Fault::LongerAreaRefused | Fault::LongerAreaNotChecked) => length == needed,
+        Some(Fault::LongerAreaOfEdition1Refused) if head[EDITION] == EDITION_1 => length == needed,
+        Some(Fault::LongerAreaOfEdition2Refused) if head[EDITION] == EDITION_2 => length == needed,
+        Some(Fault::LastPieceRefused) => length >= needed && length % block == 0,
+        Some(Fault::LastPieceAloneTaken) => length / block == needed / block,
+        Some(Fault::LongAreaRefused) => length >= needed && length / block <= u64::from(MOST_RECORDS) + 1,
+        Some(Fault::BlockPastTableNeeded) => length >= needed + block,
+        Some(Fault::BlockTooFewTaken) => length + block >= needed,
+        Some(Fault::CutLastRecordTaken) => length + block > needed,
+        _ => length >= needed,
+    }
 }
 
 #[inline(always)]

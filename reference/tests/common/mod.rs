@@ -134,6 +134,11 @@ pub fn vector(used: u8, private: &str, rand_and_autn: u8, xres: &[u8]) -> Vec<u8
     summed(block)
 }
 
+/// How many records a table says that it has.
+pub fn records(table: &[u8]) -> usize {
+    u32::from_be_bytes([table[8], table[9], table[10], table[11]]) as usize
+}
+
 /// The block with the check word that makes its words sum to zero.
 pub fn summed(mut block: Vec<u8>) -> Vec<u8> {
     let words = block[..508].chunks(4).map(|word| u32::from_be_bytes([word[0], word[1], word[2], word[3]]));

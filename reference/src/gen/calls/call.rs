@@ -1,6 +1,7 @@
 //! A call in the making, and right ones.
 
 use crate::cases::Case;
+use crate::gen::areas;
 use crate::gen::asks;
 use crate::gen::made::Made;
 use crate::gen::request::RequestModel;
@@ -55,7 +56,7 @@ impl Call {
     }
 
     pub fn with_request(self, rng: &mut Rng, request: Vec<u8>) -> Made {
-        let table = self.sound.model.encode();
+        let table = areas::of(rng, &self.sound.model, 5);
         let vectors = vectors::model::encode(&self.vectors);
         let case = Case::decide(rng.byte(), request, table, self.sound.profile, vectors, self.buffer_length);
         Made { case, notes: self.notes, damaged: None }

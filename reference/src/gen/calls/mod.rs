@@ -36,6 +36,7 @@ pub fn case(rng: &mut Rng) -> Made {
         68..=71 => refused::damaged_vectors(rng),
         72..=73 => long::far_fault(rng),
         74..=85 => sets::case(rng),
+        86..=88 => refused::cut(rng),
         _ => plain(rng),
     }
 }

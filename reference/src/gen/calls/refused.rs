@@ -3,6 +3,7 @@
 use super::call::{right, right_over, Call};
 use crate::block::BLOCK;
 use crate::cases::Slice;
+use crate::gen::areas;
 use crate::gen::damage;
 use crate::gen::made::Made;
 use crate::gen::tables::FAR;
@@ -126,9 +127,28 @@ fn damage_table(rng: &mut Rng, mut call: Call, request: Vec<u8>) -> Made {
     let profile = std::mem::take(&mut call.sound.profile);
     let mut subject = damage::Subject { bytes: model.encode(), profile, model };
     let damaged = damage::damage(rng, &mut subject, &mut call.notes);
+    if rng.once_in(4) {
+        subject.bytes = areas::lengthened(rng, subject.bytes);
+    }
     let mut made = call.with_request(rng, request);
     made.case.put(Slice::Table, subject.bytes);
     made.case.put(Slice::Profile, subject.profile);
     made.damaged = damaged;
+    made
+}
+
+/// A right request over an area that a take-over was cut in.
+pub fn cut(rng: &mut Rng) -> Made {
+    let call = right(rng).noted("a cut take-over");
+    let old = call.sound.model.clone();
+    let mut area = old.encode();
+    let fresh = areas::successor(rng, &old, &call.sound.profile, &area).encode();
+    let mut made = call.finish(rng);
+    area.resize(area.len().max(fresh.len()), 0);
+    made.damaged = match rng.coin() {
+        true => areas::cut(rng, &mut area, &fresh),
+        false => areas::scattered(rng, &mut area, &fresh),
+    };
+    made.case.put(Slice::Table, area);
     made
 }

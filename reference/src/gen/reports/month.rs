@@ -1,5 +1,6 @@
 //! A month in the making: the files as they came, and as the requests so far left them.
 
+use crate::gen::areas;
 use crate::gen::model::{RecordModel, TableModel};
 use crate::gen::sets;
 use crate::gen::tables::{self, Sound};
@@ -30,7 +31,7 @@ pub struct Month {
 }
 
 impl Month {
-    /// Sound files of so many records.
+    /// Sound files of so many records, now and then with something past the table.
     pub fn new(rng: &mut Rng, records: usize) -> Month {
         let sound = tables::sound(rng, records);
         let vectors = match records {
@@ -39,7 +40,8 @@ impl Month {
         };
         let most = if rng.coin() { vectors.len() } else { 6 };
         let vectors = &vectors[..vectors.len().min(most)];
-        Month::over(Files { table: sound.model.encode(), profile: sound.profile, vectors: model::encode(vectors) })
+        let table = areas::of(rng, &sound.model, 4);
+        Month::over(Files { table, profile: sound.profile, vectors: model::encode(vectors) })
     }
 
     /// Some hundred records of one subscription, all of which a removal can leave; no vectors.

@@ -1,16 +1,17 @@
 //! One call of the library: refused, or answered with what it does to the files.
 
+mod astray;
+
 use crate::answer::answer;
-use crate::block::{mend, BLOCK, CHECK_WORD};
+use crate::block::{mend, BLOCK};
 use crate::decide::{decide, Files};
-use crate::kinds::Command;
 use crate::message::Message;
 use crate::moves::Refusal;
 use crate::place;
 use crate::read::read;
 use crate::refuse::{refusal, Lent};
 use crate::slip::{Fault, Slip};
-use crate::table::{record, rewrite, Table, EDITION};
+use crate::table::{rewrite, Table, EDITION};
 use crate::vectors::{mark, vector, Vectors};
 use crate::verdict::{Code, Verdict, Why};
 
@@ -27,7 +28,7 @@ pub fn check_word(number: u64, found: Result<u32, u32>) -> u64 {
     }
 }
 
-/// The return word of a move: 0 with the record count, or the refusal.
+/// The return word of a move or a take-over: 0 with the record count, or the refusal.
 pub fn move_word(found: Result<u32, Refusal>) -> u64 {
     match found {
         Ok(count) => u64::from(count),
@@ -58,7 +59,7 @@ pub fn serve(
     (done.word, done.why)
 }
 
-/// One call. Table, vectors and buffer are changed only if the request is answered.
+/// One call. Table, vectors and buffer are changed only if the request is answered. What is past the table in its area stays.
 pub fn call(
     request: &[u8],
     table: &mut [u8],
@@ -72,6 +73,9 @@ pub fn call(
         match slip.0 {
             Some(Fault::RefusalTouchesBuffer) => buffer.iter_mut().take(1).for_each(|byte| *byte = 1),
             Some(Fault::RefusalTouchesVectors) => vectors.iter_mut().take(1).for_each(|byte| *byte = 0),
+            Some(Fault::UnsoundAreaCleared) if number == 5 => {
+                table.iter_mut().skip(value as usize * BLOCK).take(BLOCK).for_each(|byte| *byte = 0);
+            }
             _ => {}
         }
         let place = place::of_refusal(request, number, value, slip);
@@ -79,10 +83,11 @@ pub fn call(
         return Done { word, result: None, rewritten: 0, why: Why::Refused(number) };
     }
     let message = Message(request);
-    let files = Files { table: Table(table), profile, vectors: Vectors(vectors) };
+    let seen = astray::seen(table, profile.len(), slip);
+    let files = Files { table: Table(seen.as_deref().unwrap_or(table)), profile, vectors: Vectors(vectors) };
     let verdict = match read(message, slip) {
         Ok(request) => decide(&request, files, slip),
-        Err(finding) => Verdict { marked: astray_marks(message, files.vectors, slip), ..Verdict::of_finding(finding) },
+        Err(finding) => Verdict { marked: astray::marks(message, files.vectors, slip), ..Verdict::of_finding(finding) },
     };
     let answer = answer(message, files.table.header(), &verdict, slip);
     let place = place::of_answer(message, &verdict, slip);
@@ -100,29 +105,15 @@ pub fn call(
         let before = table[block * BLOCK..][..BLOCK].to_vec();
         rewrite(&mut table[block * BLOCK..][..BLOCK], rewriting, slip);
         if place > 0 {
-            astray_member(table, rewritings[0].0, *block, &before, slip);
+            astray::member(table, rewritings[0].0, *block, &before, slip);
         }
     }
     if slip.is(Fault::RewritingFreesVectors) && message.command() == 301 && !rewritings.is_empty() {
-        vectors.chunks_exact_mut(BLOCK).for_each(free);
+        vectors.chunks_exact_mut(BLOCK).for_each(astray::free);
     }
+    astray::past(table, &rewritings, slip);
     put(buffer, &answer, slip);
     Done { word: place | answer.len() as u64, result: Some(result), rewritten: rewritings.len(), why }
-}
-
-/// What a faulty program does to a rewritten record that is not the first.
-fn astray_member(table: &mut [u8], first: usize, block: usize, before: &[u8], slip: Slip) {
-    let of_one_set = Table(table).record(first).implicit_set() == Table(table).record(block).implicit_set();
-    let bits = table[first * BLOCK + record::BITS];
-    let this = &mut table[block * BLOCK..][..BLOCK];
-    match slip.0 {
-        Some(Fault::OneCheckWordWritten) => this[CHECK_WORD..].copy_from_slice(&before[CHECK_WORD..]),
-        Some(Fault::SetTakesBits) if of_one_set => {
-            this[record::BITS] = bits;
-            mend(this);
-        }
-        _ => {}
-    }
 }
 
 /// Only a faulty answer may have no room.
@@ -132,15 +123,4 @@ fn put(buffer: &mut [u8], answer: &[u8], slip: Slip) {
     if slip.is(Fault::RestOfBufferCleared) {
         buffer[end..].fill(0);
     }
-}
-
-/// What a faulty program marks for a MAR that has a fault: the first unused vector.
-fn astray_marks(message: Message, vectors: Vectors, slip: Slip) -> Vec<usize> {
-    let uses = slip.is(Fault::FaultyRequestUsesVector) && message.command() == Command::MultimediaAuth.code();
-    vectors.all().filter(|(_, vector)| uses && !vector.is_used()).map(|(block, _)| block).take(1).collect()
-}
-
-fn free(block: &mut [u8]) {
-    block[vector::USED] = 0;
-    mend(block);
 }
