@@ -90,11 +90,10 @@ module _ (x y : Lent) (count : ℕ) (first : checkArea (x .table) (length (x .pr
 
   pub also-answered : (a : Answer) → serve x .call ≡ Answered a → (b : Answer) × (serve y .call ≡ Answered b)
   unfolding answered
-  also-answered a e =
-      (
-        record { length = length (answerOf (tableOnly y) (decision (tableOnly y) count)); place = decision (tableOnly y) count .place },
-        ap (λ (s : Served). s .call) (answered-is (tableOnly y) count there (sym turned-alike ∙ turned-none (tableOnly x) a e)),
-      )
+  also-answered a e = (
+    record { length = length (answerOf (tableOnly y) (decision (tableOnly y) count)); place = decision (tableOnly y) count .place },
+    ap (λ (s : Served). s .call) (answered-is (tableOnly y) count there (sym turned-alike ∙ turned-none (tableOnly x) a e)),
+  )
 
 -- a table that is answered for is sound
 pub is-sound : (x : Lent) (a : Answer) → serve x .call ≡ Answered a

@@ -111,8 +111,7 @@ asking-b-call = ap (λ (y : Served). y .call) (by asking-b 1 0 registered-sound 
 
 request-rest : (plain .terms ≡ asking-b .terms) × Headers plain asking-b × Publics plain asking-b 1 1 × Users plain asking-b 1 1 × Owners plain asking-b 1 1
 request-rest =
-    let l = one-table lir unknown (one 0 1 s) [] [] [] room underCx underCx 1 in
-    (
+    let l = one-table lir unknown (one 0 1 s) [] [] [] room underCx underCx 1 in (
       refl,
       one-header lir unknown (one 0 1 s) [] [] [] room underCx underCx 1,
       publics-of plain asking-b 1 l,
@@ -136,8 +135,7 @@ foreign-call = ap (λ (y : Served). y .call) (by foreign 1 0 registered-sound no
 
 terms-rest : (plain .request ≡ foreign .request) × Headers plain foreign × Publics plain foreign 1 1 × Users plain foreign 1 1 × Owners plain foreign 1 1
 terms-rest =
-    let l = one-table lir lir (one 0 1 s) [] [] [] room underCx elsewhere 1 in
-    (
+    let l = one-table lir lir (one 0 1 s) [] [] [] room underCx elsewhere 1 in (
       refl,
       one-header lir lir (one 0 1 s) [] [] [] room underCx elsewhere 1,
       publics-of plain foreign 1 l,
@@ -273,14 +271,13 @@ a-owner = refl
 
 users-rest : (without-q .request ≡ with-q .request) × (without-q .terms ≡ with-q .terms) × Headers without-q with-q × Publics without-q with-q 1 2
     × Owners without-q with-q 1 2
-users-rest =
-    (
-      refl,
-      refl,
-      apart-says headerApart _ _ pair-heads,
-      rw (unmatched-publics, one-a, pair-a) ((same-line [] (person 1 0x61 0x70 1 s), tt), tt),
-      rw (unmatched-publics, one-a, a-owner, one-p, pair-p) (((same-line [] (person 1 0x61 0x70 1 s), tt), tt), tt),
-    )
+users-rest = (
+  refl,
+  refl,
+  apart-says headerApart _ _ pair-heads,
+  rw (unmatched-publics, one-a, pair-a) ((same-line [] (person 1 0x61 0x70 1 s), tt), tt),
+  rw (unmatched-publics, one-a, a-owner, one-p, pair-p) (((same-line [] (person 1 0x61 0x70 1 s), tt), tt), tt),
+)
 
 users-apart : SameAnswer (serve without-q) (serve with-q) (told 136) (told 136) → ⊥
 users-apart = byte (serve without-q) (serve with-q) 136 136 95 without-byte with-byte (λ e. omega arith)
@@ -336,14 +333,13 @@ served-a = refl
 
 owners-rest : (unserved-lent .request ≡ served-lent .request) × (unserved-lent .terms ≡ served-lent .terms) × Headers unserved-lent served-lent
     × Publics unserved-lent served-lent 1 2 × Users unserved-lent served-lent 1 2
-owners-rest =
-    (
-      refl,
-      refl,
-      apart-says headerApart _ _ served-heads,
-      rw (served-publics, alone-a, served-a) ((same-line [] (subscriber 1 0x61 0x70 0 4 []), tt), tt),
-      rw served-users tt,
-    )
+owners-rest = (
+  refl,
+  refl,
+  apart-says headerApart _ _ served-heads,
+  rw (served-publics, alone-a, served-a) ((same-line [] (subscriber 1 0x61 0x70 0 4 []), tt), tt),
+  rw served-users tt,
+)
 
 owners-apart : SameAnswer (serve unserved-lent) (serve served-lent) (told 136) (told 132) → ⊥
 owners-apart = long (serve unserved-lent) (serve served-lent) 136 132 (λ e. omega arith)

@@ -4,7 +4,6 @@ use Rattle.octets.specs.Standard.{ℕ, false, _≡_, refl, sym, _∙_, ap, _≢
 use Rattle.record.specs.Fields.{publicOf, privateOf}
 use Rattle.blocks.specs.declared.Checked.the-variants.{Sound}
 use Rattle.table.specs.Area.{tableIn}
-use Rattle.table.specs.Check.{checkTable}
 use Rattle.diameter.specs.Message.{commandOf}
 use Rattle.diameter.specs.Put.{All}
 use Rattle.pen.specs.Bytes.{vendorBytes, vendorNumber}
@@ -314,27 +313,6 @@ left-by = serve-sound before 4 first-exact ∙ come before {y = known false (Sou
 left-table : serve before .table ≡ altered
 unfolding all registering altered
 left-table = ap (λ (y : Served). y .table) left-by
-
-left-vectors : serve before .vectors ≡ []
-unfolding all registering
-left-vectors = ap (λ (y : Served). y .vectors) left-by
-
-abbrev later : Lent
-later = lent uar altered profiles [] room underCx
-
-altered-exact : checkTable altered (length profiles) ≡ Sound 4
-unfolding all altered
-altered-exact = refl
-
-later-call : serve later .call ≡ Answered (told 152)
-unfolding all altered
-later-call =
-    ap (λ (y : Served). y .call)
-    (serve-sound later 4 altered-exact ∙ come later {y = known false (Sound 4) (Sound 0) later} roomy altered-exact no-vectors refl)
-
-after-call : serve (afterTurns (here uar) (turn ∷ [])) .call ≡ Answered (told 152)
-unfolding afterTurns
-after-call = rw (left-table, left-vectors) later-call
 
 met-calls-before : (serve (afterTurns (here uar) (turn ∷ [])) .call ≡ Answered (told 152))
     × (bytesOf (serve (afterTurns (here uar) (turn ∷ []))) (told 152) ≡ bytesOf (serve (here uar)) (told 152))
