@@ -160,13 +160,6 @@ takes: target/c99/takes target/c99/cuts target/c99/take target/c99/cut-take
 	$(RUN) $< $(SEED) $(COUNT_taken)
 	$(CUT) '' target/c99/cuts target/c99/take target/c99/cut-take $(SEED) 50 20
 
-#: cuts               the whole of that, ten minutes: 1,000,000 sets of blocks, 1,000 kills within a table of 4,096, and some of it with files on disk
-cuts: target/c99/takes target/c99/cuts target/c99/take target/c99/cut-take
-	@echo "cuts: seed $(SEED)"
-	$(RUN) $< $(SEED) 500000
-	$(CUT) '' target/c99/cuts target/c99/take target/c99/cut-take $(SEED) 2000 1000
-	$(CUT) target/test/cuts target/c99/cuts target/c99/take target/c99/cut-take $(SEED) 100 20
-
 #: daemon             the daemon of the examples with a client of its own: cut frames, garbage, slow peers, new tables, kills; 1 to 3 minutes
 daemon: target/c/remember target/c/maketable $(ARCHIVE)
 	$< $(SEED) 20000
@@ -223,6 +216,13 @@ noticed: target/c99/overstep target/c99/driver $(BINARY)
 	tests/noticed.sh $(BINARY) $(RUN) target/c99/overstep
 	@echo "breaches: seed $(SEED), $(COUNT_breaches) pairs of each"
 	$(BINARY) compare --kind breaches --seed $(SEED) --count $(COUNT_breaches) -- $(DRIVER)
+
+#: cuts               the whole of that, ten minutes: 1,000,000 sets of blocks, 1,000 kills within a table of 4,096, and some of it with files on disk
+cuts: target/c99/takes target/c99/cuts target/c99/take target/c99/cut-take
+	@echo "cuts: seed $(SEED)"
+	$(RUN) $< $(SEED) 500000
+	$(CUT) '' target/c99/cuts target/c99/take target/c99/cut-take $(SEED) 2000 1000
+	$(CUT) target/test/cuts target/c99/cuts target/c99/take target/c99/cut-take $(SEED) 100 20
 
 # 5,000,000 tables, and as many vector files and calls. Each round has the next seed: with SEED=N ROUNDS=M a run that was stopped goes on.
 ROUNDS := 50

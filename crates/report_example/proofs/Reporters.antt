@@ -28,8 +28,8 @@ use Rattle.report_numbers.proofs.Words.{area-word}
 use Rattle.worked_examples.proofs.Computed.{known, come, roomy, no-vectors}
 use Rattle.worked_examples.proofs.Sample.{answer, room}
 use Rattle.report_example.proofs.Calls.{lir, removal, strayed, here, gone, month, sound-here, lending, counts, counted-from, located-counts, all}
-use Rattle.report_example.proofs.Cards.{mar, fresh, used, idle, named, sent, cards, idle-sound, named-sound, cards-requests, cards-events, cards-vectors, sent-comes, sent-counts}
-use Rattle.report_example.proofs.Cards.{again-counts}
+use Rattle.report_example.proofs.Cards.{mar, fresh, used, idle, named, sent, cards, idle-sound, named-sound}
+use Rattle.report_example.proofs.Cards.{cards-requests, cards-events, cards-vectors, sent-comes, sent-counts, again-counts}
 use Rattle.report_example.proofs.Month.{area, enough, month-requests, month-events, month-number, month-table, month-only, counting}
 use Rattle.counting.specs.declared.Event.the-variants as event
 
