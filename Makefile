@@ -178,7 +178,7 @@ ifndef SEED
 SEED := $(shell od -An -N4 -tu4 /dev/urandom | tr -d ' ')
 endif
 DRIVER = $(RUN) target/c99/driver
-KINDS := tables vectors calls reports moves takes demand3 runs
+KINDS := tables vectors calls reports moves takes demand3 neighbours runs
 COUNT_tables := 200000
 COUNT_vectors := 100000
 COUNT_calls := 100000
@@ -186,6 +186,7 @@ COUNT_reports := 20000
 COUNT_moves := 50000
 COUNT_takes := 50000
 COUNT_demand3 := 20000
+COUNT_neighbours := 100000
 COUNT_runs := 2000
 
 #: cited              whether what README and manual pages of an installation cite is installed, and its trial works
@@ -196,7 +197,7 @@ cited: $(ARCHIVE) $(PROGRAMS)
 recipes: $(ARCHIVE) $(PROGRAMS) $(OVER_ARCHIVE) target/c99/decide
 	RUN='$(RUN)' tests/recipes.sh target/test/recipes '$(PROGRAM)' $(X86_CC)
 
-#: differential       the library beside the independent program on 540,000 new cases and 2,000 runs of calls; SEED=N runs a seed again
+#: differential       the library beside the independent program on 640,000 new cases and 2,000 runs of calls; SEED=N runs a seed again
 differential: target/c99/driver $(BINARY)
 	@for of in $(foreach kind,$(KINDS),$(kind):$(COUNT_$(kind))); do \
 	    echo "differential run: seed $(SEED), $${of#*:} $${of%:*}"; \
@@ -209,9 +210,12 @@ narrow: target/narrow/decide target/narrow/driver target/c/maketable $(BINARY)
 	RUN='$(RUN)' tests/captured.sh target/test/narrow target/c/maketable $(BINARY) target/narrow/decide
 	tests/narrow.sh $(BINARY) $(SEED) $(COUNT_narrow) $(RUN) target/narrow/driver
 
-#: noticed            whether such a comparison would fail
-noticed: target/c99/overstep $(BINARY)
+COUNT_breaches := 500
+#: noticed            whether such a comparison would fail; for each hypothesis of the neighbour's line, 500 pairs that break it
+noticed: target/c99/overstep target/c99/driver $(BINARY)
 	tests/noticed.sh $(BINARY) $(RUN) target/c99/overstep
+	@echo "breaches: seed $(SEED), $(COUNT_breaches) pairs of each"
+	$(BINARY) compare --kind breaches --seed $(SEED) --count $(COUNT_breaches) -- $(DRIVER)
 
 #: cuts               the whole of that, ten minutes: 1,000,000 sets of blocks, 1,000 kills within a table of 4,096, and some of it with files on disk
 cuts: target/c99/takes target/c99/cuts target/c99/take target/c99/cut-take
@@ -252,6 +256,7 @@ stats: $(BINARY)
 	$(BINARY) stats --kind reports --seed $(SEED) --count $(COUNT_reports)
 	$(BINARY) stats --kind moves --seed $(SEED) --count $(COUNT_moves)
 	$(BINARY) stats --kind takes --seed $(SEED) --count $(COUNT_takes)
+	$(BINARY) stats --kind neighbours --seed $(SEED) --count $(COUNT_neighbours)
 
 # The definitions beside the independent program: antt computes each case, which takes seconds; 24 make a quick trial.
 COUNT_DEFINITIONS := 300

@@ -70,8 +70,8 @@
 extern "C" {
 #endif
 
-#define NDUSHAVIRE_VERSION "0.10.0"
-#define NDUSHAVIRE_VERSION_NUMBER 1000 /* the same to compare: major x 10,000 + minor x 100 + patch */
+#define NDUSHAVIRE_VERSION "0.11.0"
+#define NDUSHAVIRE_VERSION_NUMBER 1100 /* the same to compare: major x 10,000 + minor x 100 + patch */
 
 #define NDUSHAVIRE_ANSWER_ROOM 36864       /* the least answer buffer, in bytes: no answer is longer */
 #define NDUSHAVIRE_REQUEST_MIN 20          /* the shortest request, a Diameter header alone */

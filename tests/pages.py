@@ -26,6 +26,7 @@ STATEMENTS = {
     'demands/Together': '02 [6]',
     'demands/Unreachable': '02 [7]',
     'moving/Moving': '02 [5]',
+    'neighbour/Neighbour': '02 [9]',
     'older_rules/Sets': '02 [6]',
     'older_rules/Unreachable': '02 [7]',
     'report_numbers/Numbers': '02 [3]',

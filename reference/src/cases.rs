@@ -275,6 +275,32 @@ impl Case {
         Some(bytes)
     }
 
+    /// How long the buffer is.
+    pub fn buffer(&self) -> usize {
+        self.place(Buffer).map_or(0, |place| self.slices[place].length())
+    }
+
+    /// The case with nothing in its other slices, of which the buffer after the call can still be told.
+    pub fn with_buffer_alone(&self) -> Case {
+        let slices = self.entry.lent().iter().zip(&self.slices);
+        let kept = slices.map(|(lent, held)| if lent.slice() == Buffer { held.clone() } else { Held::Bytes(vec![]) });
+        Case { slices: kept.collect(), numbers: self.numbers.clone(), ..*self }
+    }
+
+    /// The answer that an outcome tells of, empty if the call was refused; none if the buffer was changed past it.
+    pub fn answer(&self, outcome: &Outcome) -> Option<Vec<u8>> {
+        let (number, _, value) = outcome.parts();
+        let length = if number == 0 { value as usize } else { 0 };
+        let change =
+            self.entry.change(outcome, Buffer).filter(|change| change.fits(length) && length <= self.buffer())?;
+        let mut answer = match &self.slices[self.place(Buffer)?] {
+            Held::Noise(_) => Held::Noise(length).bytes(self.fill).into_owned(),
+            Held::Bytes(bytes) => bytes[..length].to_vec(),
+        };
+        change.apply(&mut answer);
+        Some(answer)
+    }
+
     /// What this program does with the case.
     pub fn outcome(&self, slip: Slip) -> Outcome {
         self.outcome_and_why(slip).0

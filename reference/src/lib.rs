@@ -39,6 +39,7 @@ pub mod cases;
 
 // Cases as streams; their makers, and what is done with many of them.
 pub mod gen;
+pub mod hypotheses;
 pub mod streams;
 
 pub mod account;
@@ -49,4 +50,5 @@ pub mod stats;
 pub mod compare;
 
 pub mod demand3;
+pub mod neighbours;
 pub mod runs;

@@ -10,6 +10,7 @@ use reference::cuts;
 use reference::demand3;
 use reference::gen::{self, Stream};
 use reference::mutants;
+use reference::neighbours;
 use reference::program;
 use reference::runs;
 use reference::show;
@@ -28,7 +29,7 @@ reference faults   [--silent]                               list the deliberate 
 reference mutants  --seed S [--from F] --count N            whether each deliberate fault is noticed
 reference cuts     --seed S [--from F] --count N [--fault NAME]
                                                             what the areas of cut take-overs read as
-kinds: tables, vectors, calls, reports, moves, takes; compare alone: demand3, runs";
+kinds: tables, vectors, calls, reports, moves, takes; compare and stats alone: neighbours; compare alone: demand3, runs, breaches";
 
 fn main() -> ExitCode {
     let arguments: Vec<String> = std::env::args().skip(1).collect();
@@ -69,10 +70,15 @@ fn run(arguments: &[String]) -> Result<bool, String> {
             let (seed, numbers, command) = (options.seed, options.numbers()?, &options.command);
             match options.kind.as_deref() {
                 Some("demand3") => demand3::compare(seed, numbers, command),
+                Some("neighbours") => neighbours::compare(seed, numbers, command),
+                Some("breaches") => neighbours::breaches(seed, numbers, command),
                 Some("runs") => runs::compare(seed, numbers, command),
                 _ => compare::compare(options.stream()?, seed, numbers, command),
             }
             .map_err(told)
+        }
+        "stats" if options.kind.as_deref() == Some("neighbours") => {
+            Ok(neighbours::stats(options.seed, options.numbers()?))
         }
         "stats" => Ok(stats::stats(options.stream()?, options.seed, options.numbers()?)),
         "cuts" => Ok(cuts::cuts(options.seed, options.numbers()?, options.slip)),

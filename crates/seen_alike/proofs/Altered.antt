@@ -38,11 +38,9 @@ use Rattle.deciding.specs.Deeds.{carriedOut}
 use Rattle.deciding.specs.DeedFits.{DeedFits}
 use Rattle.deciding.proofs.Deeds.{plan-fits}
 use Rattle.seen_alike.specs.Alike.{Alike, AlikeTables}
-use Rattle.seen_alike.specs.Shown.{SameTables}
-use Rattle.seen_alike.proofs.Fields.{server-alike, tables-same}
-use Rattle.seen_alike.proofs.Assignments.{planned-same, planned-ranged}
+use Rattle.seen_alike.proofs.Fields.{server-alike}
 use Rattle.seen_alike.proofs.Effects.{reaches-same}
-use Rattle.seen_alike.proofs.Plans.{assignment-same, plan-same}
+use Rattle.seen_alike.proofs.Together.{planned-same, planned-ranged, numbers-alike, plan-same}
 
 -- Of two sound blocks both or neither get other bytes.
 module _ (b c : List ℕ) (alike : Alike b c) (bytes : Bytes b) (other-bytes : Bytes c) (zeros : sumWords b 128 ≡ 0) (other-zeros : sumWords c 128 ≡ 0)
@@ -86,9 +84,6 @@ module _ (b c : List ℕ) (alike : Alike b c) (bytes : Bytes b) (other-bytes : B
 
 module _ (t u : List ℕ) (count : ℕ) (sound : SoundTable t count) (other : SoundTable u count) (alike : AlikeTables t u count) (bytes : Bytes t)
     (other-bytes : Bytes u) where
-  like : SameTables [] t u count
-  like = tables-same [] t u count sound alike
-
   -- the same change of the same records
   after-altered : (chosen picked : ℕ → Bool) (change : List ℕ → List ℕ) → Keeps change → ((k : ℕ) → k ≤ count → chosen k ≡ picked k)
       → ((k : ℕ) → 1 ≤ k → k ≤ count → differ (blockOf t k) (change (blockOf t k)) ≡ differ (blockOf u k) (change (blockOf u k)))
@@ -132,18 +127,18 @@ module _ (t u : List ℕ) (count : ℕ) (sound : SoundTable t count) (other : So
     challenged-at name most =
         challenged-differ (blockOf t k) (blockOf u k) (alike .blocks k b) (block-bytes t bytes k) (block-bytes u other-bytes k) zeros other-zeros room name most
 
-  deed-altered : (req v : List ℕ) (seen : Seen) (d : Deed) → DeedFits count (dataSeen seen serverName) d
+  deed-altered : (dialect : Dialect) (req v : List ℕ) (seen : Seen) (d : Deed) → DeedFits count (dataSeen seen serverName) d
       → alteredUpTo t (carriedOut req t count seen d) count ≡ alteredUpTo u (carriedOut req u count seen d) count
   unfolding carriedOut assignmentOf
-  deed-altered req v seen Leave f = altered-none t count ∙ sym (altered-none u count)
-  deed-altered req v seen (Settle w) f =
+  deed-altered dialect req v seen Leave f = altered-none t count ∙ sym (altered-none u count)
+  deed-altered dialect req v seen (Settle w) f =
       let s = assignmentOf req t seen in
       let ks = plannedRecords t count s (w .owned) in
-      rw (← assignment-same [] t u count like req v seen, ← planned-same [] t u count like s (w .owned))
+      rw (← numbers-alike t u count sound alike dialect req v seen, ← planned-same t u count sound alike s (w .owned))
       (after-altered (reaches t ks) (reaches u ks) _ (settled-keeps _ _ f)
-      (reaches-same t u count sound other alike ks (planned-ranged [] t u count like s (w .owned)))
+      (reaches-same t u count sound other alike ks (planned-ranged t u count sound alike s (w .owned)))
       (λ k a b. settled-at k a b _ (f .most) (w .state)) count (omega arith))
-  deed-altered req v seen (Challenge k) (a, b, least, most) =
+  deed-altered dialect req v seen (Challenge k) (a, b, least, most) =
       let server = dataSeen seen serverName in
       after-altered (reaches t (k ∷ [])) (reaches u (k ∷ [])) _ (challenged-keeps server least most)
       (reaches-same t u count sound other alike (k ∷ []) ((a, b), tt))
@@ -158,5 +153,5 @@ module _ (t u : List ℕ) (count : ℕ) (sound : SoundTable t count) (other : So
           → alteredUpTo t (judgedBy inForce dialect req t count v j .table) count ≡ alteredUpTo u (judgedBy inForce dialect req u count v j .table) count
       go (bad f) e = altered-none t count ∙ sym (altered-none u count)
       go (fine seen) e =
-          rw (← plan-same [] t u count like req v dialect seen)
-          (deed-altered req v seen (planRead dialect req t count v seen .deed) (plan-fits dialect req t count v seen e))
+          rw (← plan-same t u count sound alike dialect req v seen e)
+          (deed-altered dialect req v seen (planRead dialect req t count v seen .deed) (plan-fits dialect req t count v seen e))

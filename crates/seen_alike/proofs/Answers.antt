@@ -1,70 +1,108 @@
--- An answer takes the same of tables that show the same, if it names none but their records.
-use Rattle.octets.specs.Standard.{ℕ, _≤_, Bool, true, false, cond, _≡_, refl, ap, _∙_, List, [], arith, eqb, eqb-false}
+-- An answer takes the same of like records, so that decisions which give alike are answered with the same bytes.
+use Rattle.octets.specs.Standard.{ℕ, Bool, true, false, _≡_, refl, ap, inl, inr, List, arith, eqb, eqb-true, eqb-false, ne-eqb}
 use Rattle.record.specs.Fields.{privateOf, publicOf, serverOf, mandatoryOf, optionalOf, profileOf}
 use Rattle.blocks.specs.Blocks.{blockOf, ofBlock}
+use Rattle.vectors.specs.Chosen.{noneSent}
+use Rattle.vectors.specs.declared.choice.Sent.{Sent}
+use Rattle.items.specs.Items.{sentBytes}
+use Rattle.pen.specs.Bytes.{ifThere}
+use Rattle.reading.specs.Rules.{Seen}
 use Rattle.reading.specs.declared.Outcome.{Outcome}
+use Rattle.requests.specs.Judged.{fine}
+use Rattle.requests.specs.Request.{readIn}
 use Rattle.choices.specs.declared.Given.{Given}
+use Rattle.choices.specs.declared.plan.Plan.{Plan}
 use Rattle.parts.specs.Profile.{profileAt}
 use Rattle.reading.specs.declared.Dialect.{Dialect}
 use Rattle.reading.specs.declared.Terms.{Terms}
 use Rattle.reply.specs.Pieces.{originBytes, topBytes, identityBytes, nameBytes, dataBytes, givenBytes}
 use Rattle.answering.specs.Answer.{restBytes, bodyBytes, answerBytes}
-use Rattle.deciding.specs.Decide.{decide}
-use Rattle.deciding.proofs.Cases.{Within}
-use Rattle.deciding.proofs.Comes.{decide-carries}
-use Rattle.seen_alike.specs.Shown.{SameTables}
-use Rattle.seen_alike.proofs.Plans.{given-same}
+use Rattle.deciding.specs.Decide.{performedBy, decide}
+use Rattle.deciding.proofs.Cases.{Comes, tells, settles, challenges}
+use Rattle.deciding.proofs.Comes.{decide-by}
+use Rattle.seen_alike.specs.Shown.{SameSight, BlockAlike}
+use Rattle.seen_alike.proofs.Decisions.{GivenAlike}
+use Rattle.seen_alike.proofs.Plans.{Asks, given-alike}
 
-module _ (file t u : List ℕ) (count : ℕ) (like : SameTables file t u count) where
+-- none but a MAR sends vectors, and where none is sent the vector file does not matter
+none-sent : (dialect : Dialect) (req t : List ℕ) (count : ℕ) (v : List ℕ) → (dialect .command ≡ 303 → ⊥) → decide dialect req t count v .given .sent ≡ noneSent
+unfolding performedBy
+none-sent dialect req t count v n =
+    decide-by dialect req t count v (λ d. d .given .sent ≡ noneSent) (λ f e b. refl) (λ seen e p c. go seen p c)
+  where
+    go : (seen : Seen) (p : Plan) → Comes dialect req t count v seen p → p .given .sent ≡ noneSent
+    go seen p (tells g x) = x .none
+    go seen p (settles g w x) = x .none
+    go seen p (challenges k x) = absurd (n (x .command))
+
+no-vectors : (v w : List ℕ) → sentBytes v noneSent ≡ sentBytes w noneSent
+unfolding sentBytes ifThere
+no-vectors v w = refl
+
+sent-same : (dialect : Dialect) (req t : List ℕ) (count : ℕ) (v w : List ℕ) → (dialect .command ≡ 303 → v ≡ w)
+    → sentBytes v (decide dialect req t count v .given .sent) ≡ sentBytes w (decide dialect req t count v .given .sent)
+sent-same dialect req t count v w same = go (eqb (dialect .command) 303) refl
+  where
+    sent : Sent
+    sent = decide dialect req t count v .given .sent
+
+    go : (x : Bool) → eqb (dialect .command) 303 ≡ x → sentBytes v sent ≡ sentBytes w sent
+    go true e = ap (λ (z : List ℕ). sentBytes z sent) (same (eqb-true (dialect .command) 303 e))
+    go false e = rw (none-sent dialect req t count v (eqb-false (dialect .command) 303 e)) (no-vectors v w)
+
+module _ {file other t u : List ℕ} {count many : ℕ} {Like : ℕ → ℕ → Type 0} {Public Private : List ℕ → Type 0}
+    (sight : SameSight file other t u count many Like Public Private) where
   -- something of a record, nothing where there is none
-  of-same : (f : List ℕ → List ℕ) (k : ℕ) → k ≤ count → ((j : ℕ) → 1 ≤ j → j ≤ count → f (blockOf t j) ≡ f (blockOf u j)) → ofBlock f t k ≡ ofBlock f u k
-  of-same f k h each = go (eqb k 0) refl
-    where
-      go : (x : Bool) → eqb k 0 ≡ x → cond x [] (f (blockOf t k)) ≡ cond x [] (f (blockOf u k))
-      go true e = refl
-      go false e = let n : (k ≡ 0 → ⊥) = eqb-false k 0 e in each k (omega arith) h
+  of-same : (f g : List ℕ → List ℕ) → ((j k : ℕ) → Like j k → f (blockOf t j) ≡ g (blockOf u k)) → (j k : ℕ) → BlockAlike Like j k
+      → ofBlock f t j ≡ ofBlock g u k
+  of-same f g each j k (inl (a, b)) = rw (a, b)
+  of-same f g each j k (inr l) = rw (ne-eqb j 0 (omega (arith, sight .first j k l)), ne-eqb k 0 (omega (arith, sight .second j k l))) (each j k l)
 
-  module _ (g : Given) (within : Within count g) where
-    identity-same : identityBytes t g ≡ identityBytes u g
+  module _ (g h : Given) (a : GivenAlike Like g h) where
+    identity-same : identityBytes t g ≡ identityBytes u h
     unfolding identityBytes
     identity-same =
         rw (
-          of-same privateOf (g .user) (within .user) (λ j a b. like .each j a b .private),
-          of-same publicOf (g .public) (within .public) (λ j a b. like .each j a b .public),
+          of-same privateOf privateOf (λ j k l. sight .shown j k l .private) (g .user) (h .user) (a .user),
+          of-same publicOf publicOf (λ j k l. sight .shown j k l .public) (g .public) (h .public) (a .public),
         )
 
-    name-same : nameBytes t g ≡ nameBytes u g
+    name-same : nameBytes t g ≡ nameBytes u h
     unfolding nameBytes
-    name-same = rw (identity-same, of-same serverOf (g .server) (within .server) (λ j a b. like .each j a b .server))
+    name-same = rw (identity-same, of-same serverOf serverOf (λ j k l. sight .shown j k l .server) (g .server) (h .server) (a .server))
 
-    profile-same : profileAt t file (g .profile) ≡ profileAt u file (g .profile)
-    profile-same = of-same (λ (b : List ℕ). profileOf b file) (g .profile) (within .profile) (λ j a b. like .each j a b .profile)
+    profile-same : profileAt t file (g .profile) ≡ profileAt u other (h .profile)
+    profile-same =
+        of-same (λ (b : List ℕ). profileOf b file) (λ (b : List ℕ). profileOf b other) (λ j k l. sight .shown j k l .profile) (g .profile) (h .profile)
+        (a .profile)
 
-    data-same : dataBytes t file g ≡ dataBytes u file g
+    data-same : dataBytes t file g ≡ dataBytes u other h
     unfolding dataBytes
     data-same =
         rw (
-          of-same mandatoryOf (g .capable) (within .capable) (λ j a b. like .each j a b .mandatory),
-          of-same optionalOf (g .capable) (within .capable) (λ j a b. like .each j a b .optional),
+          of-same mandatoryOf mandatoryOf (λ j k l. sight .shown j k l .mandatory) (g .capable) (h .capable) (a .capable),
+          of-same optionalOf optionalOf (λ j k l. sight .shown j k l .optional) (g .capable) (h .capable) (a .capable),
           profile-same,
         )
 
     top-same : (terms : Terms) (req : List ℕ) (r : Outcome) → topBytes terms req t r ≡ topBytes terms req u r
     unfolding topBytes originBytes
-    top-same terms req r = rw (like .header .host, like .header .realm)
+    top-same terms req r = rw (sight .header .host, sight .header .realm)
 
-    body-same : (terms : Terms) (req v : List ℕ) → bodyBytes terms req t file v g ≡ bodyBytes terms req u file v g
-    unfolding bodyBytes restBytes givenBytes
-    body-same terms req v = rw (top-same terms req (g .verdict .result), name-same, data-same)
+    module _ (terms : Terms) (req v w : List ℕ) (sent : sentBytes v (g .sent) ≡ sentBytes w (g .sent)) where
+      body-same : bodyBytes terms req t file v g ≡ bodyBytes terms req u other w h
+      unfolding bodyBytes restBytes givenBytes
+      body-same = rw (top-same terms req (g .verdict .result), name-same, data-same, sent, a .verdict, a .sent)
 
-    pub answer-same : (terms : Terms) (req v : List ℕ) → answerBytes terms req t file v g ≡ answerBytes terms req u file v g
-    unfolding answerBytes
-    answer-same terms req v = rw (body-same terms req v)
+      pub answer-same : answerBytes terms req t file v g ≡ answerBytes terms req u other w h
+      unfolding answerBytes
+      answer-same = rw (body-same, a .verdict)
 
   -- the answer of the decision
-  pub bytes-same : (dialect : Dialect) (req v : List ℕ)
+  pub bytes-same : (dialect : Dialect) (req v w : List ℕ) → (dialect .command ≡ 303 → v ≡ w)
+      → ((seen : Seen) → readIn dialect req ≡ fine seen → Asks dialect req seen Public Private)
       → answerBytes (dialect .terms) req t file v (decide dialect req t count v .given)
-      ≡ answerBytes (dialect .terms) req u file v (decide dialect req u count v .given)
-  bytes-same dialect req v =
-      answer-same (decide dialect req t count v .given) (decide-carries dialect req t count v .within) (dialect .terms) req v
-      ∙ ap (answerBytes (dialect .terms) req u file v) (given-same file t u count like req v dialect)
+      ≡ answerBytes (dialect .terms) req u other w (decide dialect req u many w .given)
+  bytes-same dialect req v w same asks =
+      answer-same (decide dialect req t count v .given) (decide dialect req u many w .given) (given-alike sight dialect req v w same asks) (dialect .terms) req
+      v w (sent-same dialect req t count v w same)

@@ -1,154 +1,212 @@
--- A SAR means the same records of tables that show the same, sees the same of them, and has one plan.
-use Rattle.octets.specs.Standard.{ℕ, zero, suc, _≤_, Bool, true, false, cond, _&&_, _≡_, refl, sym, List, [], _∷_, _++_, arith}
+-- A SAR means like records of tables of which it sees the same, sees the same of them, and plans alike.
+use Rattle.octets.specs.Standard.{ℕ, zero, suc, Bool, true, false, cond, _&&_, _≡_, refl, inr, List, [], _∷_, arith, eqb, ltb}
+use Rattle.record.specs.Fields.{stateOf}
 use Rattle.blocks.specs.Blocks.{blockOf}
 use Rattle.table.specs.Named.{privateAt}
-use Rattle.lookup.specs.Find.{isAt, findPublic}
+use Rattle.lookup.specs.Find.{isAt, privateIs}
 use Rattle.lookup.specs.declared.Found.{Found}
 use Rattle.lookup.specs.declared.Found.the-variants.{At, Nothing}
 use Rattle.diameter.specs.Avp.{dataOf}
 use Rattle.diameter.specs.Put.{All}
-use Rattle.choices.specs.Plans.{findingOf}
-use Rattle.choices.specs.Types.{isRemoval}
-use Rattle.choices.specs.declared.types.AssignmentType.{AssignmentType}
+use Rattle.reading.specs.declared.Outcome.{Outcome}
+use Rattle.choices.specs.Given.{blameless, givenFault, givenPlain, givenUser}
+use Rattle.choices.specs.Plans.{findingOf, grant, deedOf, planOf}
+use Rattle.choices.specs.Types.{isRemoval, carriesUser, effectOf}
+use Rattle.choices.specs.declared.plan.Deed.{Deed}
+use Rattle.choices.specs.declared.plan.Deed.the-variants.{Leave, Settle}
+use Rattle.choices.specs.declared.plan.Finding.{Finding}
+use Rattle.choices.specs.declared.plan.Finding.the-variants.{Denied, Fine}
+use Rattle.choices.specs.declared.plan.Sar.{Sar}
 use Rattle.choices.specs.declared.plan.Survey.{Survey}
-use Rattle.lookup.proofs.Among.{public-among}
+use Rattle.choices.specs.declared.types.AssignmentType.{AssignmentType}
+use Rattle.choices.specs.declared.types.Effect.{Effect}
 use Rattle.assignment.specs.Assignment.{Assignment, meantBy, every, findAll, numbersOf, firstOf, ownedHere, ownedUpTo, ownAt, storesAt, fitsAt}
 use Rattle.assignment.specs.Assignment.{rightAt, surveyOf, userKnown, ownerBy, namedSurvey, ownedSurvey, assignMeant, assign, plannedRecords}
 use Rattle.assignment.specs.declared.Meant.{Meant}
 use Rattle.assignment.specs.declared.Meant.the-variants.{Fault, Owned, Listed}
-use Rattle.seen_alike.specs.Shown.{SameRecord, SameTables}
-use Rattle.seen_alike.proofs.Lookups.{public-same, private-same}
+use Rattle.seen_alike.specs.Shown.{SameSight, numbersUpTo, Each, FoundAlike, BlockAlike}
+use Rattle.seen_alike.proofs.Rows.{numbers-each, at-each, every-each, empty-each}
+use Rattle.seen_alike.proofs.Lookups.{private-known}
+use Rattle.seen_alike.proofs.Decisions.{GivenAlike, PlanAlike, DeedAlike, none-alike, of-alike, fault-alike, only-alike}
 
--- one of so many records
-abbrev pub Ranged : ℕ → ℕ → Type 0
-Ranged count k = (1 ≤ k) × (k ≤ count)
+-- a SAR means the User-Name's records only if a User-Name is given
+meant-named : (removal named : Bool) (ps : List ℕ) → meantBy removal named ps ≡ Owned → named ≡ true
+unfolding meantBy
+meant-named removal true ps e = refl
+meant-named true false [] e = let z : _≡_ {A = ℕ} 0 1 = cc in absurd (omega arith)
+meant-named false false [] e = let z : _≡_ {A = ℕ} 0 1 = cc in absurd (omega arith)
+meant-named removal false (p ∷ []) e = let z : _≡_ {A = ℕ} 0 1 = cc in absurd (omega arith)
+meant-named true false (p ∷ (q ∷ ps)) e = let z : _≡_ {A = ℕ} 0 1 = cc in absurd (omega arith)
+meant-named false false (p ∷ (q ∷ ps)) e = let z : _≡_ {A = ℕ} 0 1 = cc in absurd (omega arith)
 
--- tests that agree of all records hold of the same rows of them
-every-same : (count : ℕ) (p q : ℕ → Bool) (ks : List ℕ) → All (Ranged count) ks → ((k : ℕ) → 1 ≤ k → k ≤ count → p k ≡ q k) → every p ks ≡ every q ks
-unfolding every
-every-same count p q [] a h = refl
-every-same count p q (k ∷ ks) a h = rw (h k (a .0 .0) (a .0 .1), every-same count p q ks (a .1) h)
+-- the User-Name's records not in state 0 are a part of its records
+abbrev present : List ℕ → ℕ → Bool
+present t k = ltb 0 (stateOf (blockOf t k))
 
--- the records that a SAR means are records
-named-ranged : (t : List ℕ) (count : ℕ) (avps : List (List ℕ)) → All (Ranged count) (numbersOf (findAll t count avps))
-unfolding findAll numbersOf
-named-ranged t count [] = tt
-named-ranged t count (a ∷ avps) = go (findPublic t count (dataOf a)) refl (named-ranged t count avps)
-  where
-    go : (f : Found) → findPublic t count (dataOf a) ≡ f → All (Ranged count) (numbersOf (findAll t count avps))
-        → All (Ranged count) (numbersOf (f ∷ findAll t count avps))
-    go Nothing e next = next
-    go (At k) e next = ((public-among t count (dataOf a) (sym e) .from k refl, public-among t count (dataOf a) (sym e) .to k refl), next)
+owned-row : (t user : List ℕ) (n : ℕ) → ownedUpTo t user n ≡ numbersUpTo (λ k. present t k && privateIs t user k) n
+unfolding ownedUpTo ownedHere numbersUpTo privateIs privateAt
+owned-row t user zero = refl
+owned-row t user (suc n) = rw (owned-row t user n)
 
-all-append : (P : ℕ → Type 0) (xs ys : List ℕ) → All P xs → All P ys → All P (xs ++ ys)
-all-append P [] ys a b = b
-all-append P (x ∷ xs) ys a b = (a .0, all-append P xs ys (a .1) b)
+module _ (Like : ℕ → ℕ → Type 0) where
+  numbers-found : (fs gs : List Found) → Each (FoundAlike Like) fs gs → Each Like (numbersOf fs) (numbersOf gs)
+  unfolding numbersOf
+  numbers-found [] [] e = tt
+  numbers-found [] (g ∷ gs) e = absurd e
+  numbers-found (f ∷ fs) [] e = absurd e
+  numbers-found (At j ∷ fs) (At k ∷ gs) (l, e) = (l, numbers-found fs gs e)
+  numbers-found (At j ∷ fs) (Nothing ∷ gs) (l, e) = absurd l
+  numbers-found (Nothing ∷ fs) (At k ∷ gs) (l, e) = absurd l
+  numbers-found (Nothing ∷ fs) (Nothing ∷ gs) (l, e) = numbers-found fs gs e
 
-owned-ranged : (t user : List ℕ) (count n : ℕ) → n ≤ count → All (Ranged count) (ownedUpTo t user n)
-unfolding ownedUpTo
-owned-ranged t user count zero h = tt
-owned-ranged t user count (suc n) h =
-    all-append (Ranged count) (ownedUpTo t user n) _ (owned-ranged t user count n (omega arith)) (go (ownedHere (blockOf t (suc n)) user))
-  where
-    go : (x : Bool) → All (Ranged count) (cond x (suc n ∷ []) [])
-    go true = ((omega arith, h), tt)
-    go false = tt
+  all-found : (fs gs : List Found) → Each (FoundAlike Like) fs gs → every isAt fs ≡ every isAt gs
+  unfolding every
+  all-found [] [] e = refl
+  all-found [] (g ∷ gs) e = absurd e
+  all-found (f ∷ fs) [] e = absurd e
+  all-found (f ∷ fs) (g ∷ gs) (l, e) = rw (at-each Like f g l, all-found fs gs e)
 
-module _ (file t u : List ℕ) (count : ℕ) (like : SameTables file t u count) where
+  first-found : (fs gs : List Found) → Each (FoundAlike Like) fs gs → BlockAlike Like (firstOf fs) (firstOf gs)
+  first-found [] [] e = none-alike Like
+  first-found [] (g ∷ gs) e = absurd e
+  first-found (f ∷ fs) [] e = absurd e
+  first-found (At j ∷ fs) (At k ∷ gs) (l, e) = inr l
+  first-found (At j ∷ fs) (Nothing ∷ gs) (l, e) = absurd l
+  first-found (Nothing ∷ fs) (At k ∷ gs) (l, e) = absurd l
+  first-found (Nothing ∷ fs) (Nothing ∷ gs) (l, e) = none-alike Like
+
+  -- the plan of a finding
+  grant-alike : (s : Sar) (j k : ℕ) (r : Outcome) → BlockAlike Like j k → GivenAlike Like (grant s j r) (grant s k r)
+  unfolding grant
+  grant-alike s j k r l = go (carriesUser (s .kind)) (eqb (s .already) 0)
+    where
+      go : (x y : Bool) → GivenAlike Like (cond x (givenUser r j (cond y j 0)) (givenPlain r)) (cond x (givenUser r k (cond y k 0)) (givenPlain r))
+      go true true = of-alike Like (blameless r) j 0 0 j k 0 0 k l (none-alike Like) (none-alike Like) l
+      go true false = of-alike Like (blameless r) j 0 0 0 k 0 0 0 l (none-alike Like) (none-alike Like) (none-alike Like)
+      go false y = fault-alike Like (blameless r)
+
+  deed-alike : (e : Effect) (owned : Bool) → DeedAlike Like (deedOf e owned) (deedOf e owned)
+  unfolding deedOf
+  deed-alike e owned = go (e .write)
+    where
+      deed : Deed
+      deed = Settle (record { owned = owned; state = e .state; named = e .named })
+
+      go : (x : Bool) → DeedAlike Like (cond x deed Leave) (cond x deed Leave)
+      go true = refl
+      go false = tt
+
+  plan-alike : (f : Finding) (s : Sar) (j k : ℕ) (owned : Bool) → BlockAlike Like j k → PlanAlike Like (planOf f s j owned) (planOf f s k owned)
+  unfolding planOf
+  plan-alike (Denied r) s j k owned l = only-alike Like (givenPlain r) (givenPlain r) (fault-alike Like (blameless r))
+  plan-alike Fine s j k owned l =
+      let e = effectOf (s .kind) (s .keep) in
+      record { given = grant-alike s j k (e .result) l; deed = deed-alike e owned }
+
+module _ {file other t u : List ℕ} {count many : ℕ} {Like : ℕ → ℕ → Type 0} {Public Private : List ℕ → Type 0}
+    (sight : SameSight file other t u count many Like Public Private) where
   -- the records that it means
-  found-all : (avps : List (List ℕ)) → findAll t count avps ≡ findAll u count avps
+  found-each : (avps : List (List ℕ)) → All (λ (a : List ℕ). Public (dataOf a)) avps → Each (FoundAlike Like) (findAll t count avps) (findAll u many avps)
   unfolding findAll
-  found-all [] = refl
-  found-all (a ∷ avps) = rw (public-same file t u count like (dataOf a), found-all avps)
+  found-each [] all = tt
+  found-each (a ∷ avps) (p, all) = (sight .found (dataOf a) p, found-each avps all)
 
-  owned-same : (user : List ℕ) (n : ℕ) → n ≤ count → ownedUpTo t user n ≡ ownedUpTo u user n
-  unfolding ownedUpTo ownedHere
-  owned-same user zero h = refl
-  owned-same user (suc n) h =
-      let s : SameRecord file (blockOf t (suc n)) (blockOf u (suc n)) = like .each (suc n) (omega arith) h in
-      rw (owned-same user n (omega arith), s .state, s .private)
-
-  pub planned-same : (s : Assignment) (owned : Bool) → plannedRecords t count s owned ≡ plannedRecords u count s owned
-  unfolding plannedRecords
-  planned-same s true = owned-same (s .user) count (omega arith)
-  planned-same s false = rw (found-all (s .identities))
-
-  pub planned-ranged : (s : Assignment) (owned : Bool) → All (Ranged count) (plannedRecords t count s owned)
-  unfolding plannedRecords
-  planned-ranged s true = owned-ranged t (s .user) count count (omega arith)
-  planned-ranged s false = named-ranged t count (s .identities)
+  owned-each : (user : List ℕ) → Private user → Each Like (ownedUpTo t user count) (ownedUpTo u user many)
+  owned-each user a =
+      rw (owned-row t user count, owned-row u user many)
+      (numbers-each Like (present t) (present u) (privateIs t user) (privateIs u user) count many (λ j k l. rw (sight .shown j k l .state))
+      (sight .owned user a))
 
   -- what it sees of them
-  survey-same : (owner server : List ℕ) (kind : AssignmentType) (known : Bool) (ks : List ℕ) → All (Ranged count) ks
-      → surveyOf t owner server kind known ks ≡ surveyOf u owner server kind known ks
+  survey-alike : (owner server : List ℕ) (kind : AssignmentType) (known : Bool) (js ks : List ℕ) → Each Like js ks
+      → surveyOf t owner server kind known js ≡ surveyOf u owner server kind known ks
   unfolding surveyOf ownAt storesAt fitsAt rightAt privateAt
-  survey-same owner server kind known ks all =
+  survey-alike owner server kind known js ks e =
       rw (
-        every-same count (ownAt t owner) (ownAt u owner) ks all (λ k a b. rw (like .each k a b .private)),
-        every-same count (storesAt t server) (storesAt u server) ks all (λ k a b. rw (like .each k a b .server)),
-        every-same count (fitsAt t server) (fitsAt u server) ks all (λ k a b. rw (like .each k a b .size, like .each k a b .server)),
-        every-same count (rightAt t kind) (rightAt u kind) ks all (λ k a b. rw (like .each k a b .state)),
+        empty-each Like js ks e,
+        every-each Like (ownAt t owner) (ownAt u owner) (λ j k l. rw (sight .shown j k l .private)) js ks e,
+        every-each Like (storesAt t server) (storesAt u server) (λ j k l. rw (sight .shown j k l .server)) js ks e,
+        every-each Like (fitsAt t server) (fitsAt u server) (λ j k l. rw (sight .shown j k l .size, sight .shown j k l .server)) js ks e,
+        every-each Like (rightAt t kind) (rightAt u kind) (λ j k l. rw (sight .shown j k l .state)) js ks e,
       )
 
-  known-same : (named : Bool) (user : List ℕ) → userKnown t count named user ≡ userKnown u count named user
+  known-alike : (named : Bool) (user : List ℕ) → (named ≡ true → Private user) → userKnown t count named user ≡ userKnown u many named user
   unfolding userKnown
-  known-same named user = rw (private-same file t u count like user)
+  known-alike true user a = rw (private-known sight user (a refl))
+  known-alike false user a = refl
 
-  owned-survey : (s : Assignment) → ownedSurvey t count s ≡ ownedSurvey u count s
-  unfolding ownedSurvey
-  owned-survey s =
-      rw (known-same (s .numbers .named) (s .user), ← owned-same (s .user) count (omega arith))
-      (survey-same (s .user) (s .server) (s .numbers .kind) _ (ownedUpTo t (s .user) count) (owned-ranged t (s .user) count count (omega arith)))
+  module _ (s : Assignment) (all : All (λ (a : List ℕ). Public (dataOf a)) (s .identities)) (mine : s .numbers .named ≡ true → Private (s .user)) where
+    pub planned-each : (owned : Bool) → (owned ≡ true → Private (s .user)) → Each Like (plannedRecords t count s owned) (plannedRecords u many s owned)
+    unfolding plannedRecords
+    planned-each true a = owned-each (s .user) (a refl)
+    planned-each false a = numbers-found Like (findAll t count (s .identities)) (findAll u many (s .identities)) (found-each (s .identities) all)
 
-  -- of the named records, by what was found; where the first identity is unknown it does not matter whose they should be
-  module _ (s : Assignment) where
-    abbrev seenOf : List ℕ → List Found → Survey
-    seenOf x fs =
-        surveyOf x (ownerBy x (firstOf fs) (s .numbers .named) (s .user)) (s .server) (s .numbers .kind)
-        (every isAt fs && userKnown u count (s .numbers .named) (s .user)) (numbersOf fs)
+    owned-survey : s .numbers .named ≡ true → ownedSurvey t count s ≡ ownedSurvey u many s
+    unfolding ownedSurvey
+    owned-survey n =
+        rw (known-alike (s .numbers .named) (s .user) mine)
+        (survey-alike (s .user) (s .server) (s .numbers .kind) _ (ownedUpTo t (s .user) count) (ownedUpTo u (s .user) many) (owned-each (s .user) (mine n)))
 
-    abbrev FindsSame : List Found → Type 0
-    FindsSame fs = findingOf (seenOf t fs) (s .numbers .kind) ≡ findingOf (seenOf u fs) (s .numbers .kind)
+    -- of the named records, by what was found; where the first identity is unknown it does not matter whose they should be
+    abbrev seenOf : List ℕ → Bool → List Found → Survey
+    seenOf x known fs =
+        surveyOf x (ownerBy x (firstOf fs) (s .numbers .named) (s .user)) (s .server) (s .numbers .kind) (every isAt fs && known) (numbersOf fs)
 
-    none-named : FindsSame []
+    abbrev FindsSame : Bool → List Found → List Found → Type 0
+    FindsSame known fs gs = findingOf (seenOf t known fs) (s .numbers .kind) ≡ findingOf (seenOf u known gs) (s .numbers .kind)
+
+    none-named : (known : Bool) → FindsSame known [] []
     unfolding surveyOf every numbersOf
-    none-named = refl
+    none-named known = refl
 
-    first-unknown : (fs : List Found) → FindsSame (Nothing ∷ fs)
+    first-unknown : (known : Bool) (fs gs : List Found) → FindsSame known (Nothing ∷ fs) (Nothing ∷ gs)
     unfolding surveyOf every findingOf
-    first-unknown fs = refl
+    first-unknown known fs gs = refl
 
-    first-owner : (k : ℕ) → 1 ≤ k → k ≤ count → ownerBy t k (s .numbers .named) (s .user) ≡ ownerBy u k (s .numbers .named) (s .user)
+    first-owner : (j k : ℕ) → Like j k → ownerBy t j (s .numbers .named) (s .user) ≡ ownerBy u k (s .numbers .named) (s .user)
     unfolding ownerBy privateAt
-    first-owner k a b = rw (like .each k a b .private)
+    first-owner j k l = rw (sight .shown j k l .private)
 
-    first-known : (k : ℕ) (fs : List Found) → 1 ≤ k → k ≤ count → All (Ranged count) (numbersOf (At k ∷ fs)) → FindsSame (At k ∷ fs)
-    first-known k fs a b all =
+    first-known : (known : Bool) (j k : ℕ) (fs gs : List Found) → Like j k → Each (FoundAlike Like) (At j ∷ fs) (At k ∷ gs)
+        → FindsSame known (At j ∷ fs) (At k ∷ gs)
+    first-known known j k fs gs l e =
         rw (
-          first-owner k a b,
-          survey-same (ownerBy u k (s .numbers .named) (s .user)) (s .server) (s .numbers .kind)
-              (every isAt (At k ∷ fs) && userKnown u count (s .numbers .named) (s .user)) (numbersOf (At k ∷ fs)) all,
+          first-owner j k l,
+          all-found Like (At j ∷ fs) (At k ∷ gs) e,
+          survey-alike (ownerBy u k (s .numbers .named) (s .user)) (s .server) (s .numbers .kind) (every isAt (At k ∷ gs) && known) (numbersOf (At j ∷ fs))
+              (numbersOf (At k ∷ gs)) (numbers-found Like (At j ∷ fs) (At k ∷ gs) e),
         )
 
-    by-found : (fs : List Found) → All (Ranged count) (numbersOf fs) → FindsSame fs
-    unfolding numbersOf
-    by-found [] all = none-named
-    by-found (Nothing ∷ fs) all = first-unknown fs
-    by-found (At k ∷ fs) all = first-known k fs (all .0 .0) (all .0 .1) all
+    by-found : (known : Bool) (fs gs : List Found) → Each (FoundAlike Like) fs gs → FindsSame known fs gs
+    by-found known [] [] e = none-named known
+    by-found known [] (g ∷ gs) e = absurd e
+    by-found known (f ∷ fs) [] e = absurd e
+    by-found known (At j ∷ fs) (At k ∷ gs) e = first-known known j k fs gs (e .0) e
+    by-found known (At j ∷ fs) (Nothing ∷ gs) e = absurd (e .0)
+    by-found known (Nothing ∷ fs) (At k ∷ gs) e = absurd (e .0)
+    by-found known (Nothing ∷ fs) (Nothing ∷ gs) e = first-unknown known fs gs
 
-    named-finding : findingOf (namedSurvey t count s) (s .numbers .kind) ≡ findingOf (namedSurvey u count s) (s .numbers .kind)
+    named-finding : findingOf (namedSurvey t count s) (s .numbers .kind) ≡ findingOf (namedSurvey u many s) (s .numbers .kind)
     unfolding namedSurvey
     named-finding =
-        rw (known-same (s .numbers .named) (s .user), ← found-all (s .identities))
-        (by-found (findAll t count (s .identities)) (named-ranged t count (s .identities)))
+        rw (known-alike (s .numbers .named) (s .user) mine)
+        (by-found (userKnown u many (s .numbers .named) (s .user)) (findAll t count (s .identities)) (findAll u many (s .identities))
+        (found-each (s .identities) all))
 
-  -- the plan
-  meant-same : (s : Assignment) (m : Meant) → assignMeant t count s m ≡ assignMeant u count s m
-  unfolding assignMeant
-  meant-same s (Fault v) = refl
-  meant-same s Owned = rw (owned-survey s)
-  meant-same s (Listed place) = rw (named-finding s, found-all (s .identities))
+    -- the plan
+    meant-alike : (m : Meant) → meantBy (isRemoval (s .numbers .kind)) (s .numbers .named) (s .places) ≡ m
+        → PlanAlike Like (assignMeant t count s m) (assignMeant u many s m)
+    unfolding assignMeant
+    meant-alike (Fault v) e = only-alike Like (givenFault v) (givenFault v) (fault-alike Like v)
+    meant-alike Owned e =
+        rw (owned-survey (meant-named (isRemoval (s .numbers .kind)) (s .numbers .named) (s .places) e))
+        (plan-alike Like (findingOf (ownedSurvey u many s) (s .numbers .kind)) (s .numbers) 0 0 true (none-alike Like))
+    meant-alike (Listed place) e =
+        rw named-finding
+        (plan-alike Like (findingOf (namedSurvey u many s) (s .numbers .kind)) (s .numbers) (firstOf (findAll t count (s .identities)))
+        (firstOf (findAll u many (s .identities))) false
+        (first-found Like (findAll t count (s .identities)) (findAll u many (s .identities)) (found-each (s .identities) all)))
 
-  pub assign-same : (s : Assignment) → assign t count s ≡ assign u count s
-  unfolding assign
-  assign-same s = meant-same s (meantBy (isRemoval (s .numbers .kind)) (s .numbers .named) (s .places))
+    pub assign-alike : PlanAlike Like (assign t count s) (assign u many s)
+    unfolding assign
+    assign-alike = meant-alike (meantBy (isRemoval (s .numbers .kind)) (s .numbers .named) (s .places)) refl

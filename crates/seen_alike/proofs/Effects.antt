@@ -32,11 +32,8 @@ use Rattle.deciding.specs.Deeds.{carriedOut}
 use Rattle.deciding.specs.DeedFits.{DeedFits}
 use Rattle.deciding.proofs.Deeds.{plan-fits}
 use Rattle.seen_alike.specs.Alike.{Alike, AlikeTables}
-use Rattle.seen_alike.specs.Shown.{SameTables}
-use Rattle.seen_alike.proofs.Fields.{server-alike, tables-same}
-use Rattle.seen_alike.proofs.Assignments.{Ranged, planned-same, planned-ranged}
-use Rattle.seen_alike.proofs.Lookups.{set-same}
-use Rattle.seen_alike.proofs.Plans.{assignment-same, plan-same}
+use Rattle.seen_alike.proofs.Fields.{server-alike}
+use Rattle.seen_alike.proofs.Together.{Ranged, set-same, planned-same, planned-ranged, numbers-alike, plan-same}
 
 module _ (b c : List ℕ) (alike : Alike b c) (name : List ℕ) where
   -- the same state, bits and name written into both
@@ -90,9 +87,6 @@ module _ (b c : List ℕ) (alike : Alike b c) (name : List ℕ) where
       go false = alike
 
 module _ (t u : List ℕ) (count : ℕ) (sound : SoundTable t count) (other : SoundTable u count) (alike : AlikeTables t u count) where
-  like : SameTables [] t u count
-  like = tables-same [] t u count sound alike
-
   -- the same change of the same records
   after-alike : (chosen picked : ℕ → Bool) (change : List ℕ → List ℕ) → Keeps change → chosen 0 ≡ false
       → ((k : ℕ) → k ≤ count → chosen k ≡ picked k)
@@ -129,7 +123,7 @@ module _ (t u : List ℕ) (count : ℕ) (sound : SoundTable t count) (other : So
   record-reached : (ks : List ℕ) → All (Ranged count) ks → (j : ℕ) → 1 ≤ j → j ≤ count → reaches t ks j ≡ reaches u ks j
   unfolding reaches
   record-reached [] all j a b = refl
-  record-reached (k ∷ ks) all j a b = rw (set-same [] t u count like k j (all .0 .0) (all .0 .1) a b, record-reached ks (all .1) j a b)
+  record-reached (k ∷ ks) all j a b = rw (set-same t u count sound alike k j (all .0 .0) (all .0 .1) a b, record-reached ks (all .1) j a b)
 
   pub reaches-same : (ks : List ℕ) → All (Ranged count) ks → (j : ℕ) → j ≤ count → reaches t ks j ≡ reaches u ks j
   reaches-same ks all zero h = reaches-none ks all ∙ sym (reaches-zero u count other ks ∙ none-first ks all)
@@ -139,18 +133,18 @@ module _ (t u : List ℕ) (count : ℕ) (sound : SoundTable t count) (other : So
   unfolding recordOf
   room k a b = sound-limits t count sound k a b .server
 
-  deed-alike : (req v : List ℕ) (seen : Seen) (d : Deed) → DeedFits count (dataSeen seen serverName) d
+  deed-alike : (dialect : Dialect) (req v : List ℕ) (seen : Seen) (d : Deed) → DeedFits count (dataSeen seen serverName) d
       → AlikeTables (carriedOut req t count seen d) (carriedOut req u count seen d) count
   unfolding carriedOut assignmentOf
-  deed-alike req v seen Leave f = alike
-  deed-alike req v seen (Settle w) f =
+  deed-alike dialect req v seen Leave f = alike
+  deed-alike dialect req v seen (Settle w) f =
       let s = assignmentOf req t seen in
       let ks = plannedRecords t count s (w .owned) in
-      let all : All (Ranged count) ks = planned-ranged [] t u count like s (w .owned) in
-      rw (← assignment-same [] t u count like req v seen, ← planned-same [] t u count like s (w .owned))
+      let all : All (Ranged count) ks = planned-ranged t u count sound alike s (w .owned) in
+      rw (← numbers-alike t u count sound alike dialect req v seen, ← planned-same t u count sound alike s (w .owned))
       (after-alike (reaches t ks) (reaches u ks) _ (settled-keeps _ _ f) (reaches-none ks all) (reaches-same ks all)
       (λ k a h. settled-alike (blockOf t k) (blockOf u k) (alike .blocks k h) _ (w .state)))
-  deed-alike req v seen (Challenge k) (a, b, least, most) =
+  deed-alike dialect req v seen (Challenge k) (a, b, least, most) =
       let server = dataSeen seen serverName in
       after-alike (reaches t (k ∷ [])) (reaches u (k ∷ [])) _ (challenged-keeps server least most) (reaches-none (k ∷ []) ((a, b), tt))
       (reaches-same (k ∷ []) ((a, b), tt))
@@ -164,5 +158,5 @@ module _ (t u : List ℕ) (count : ℕ) (sound : SoundTable t count) (other : So
           (judgedBy inForce dialect req u count v j .table) count
       go (bad f) e = alike
       go (fine seen) e =
-          rw (← plan-same [] t u count like req v dialect seen)
-          (deed-alike req v seen (planRead dialect req t count v seen .deed) (plan-fits dialect req t count v seen e))
+          rw (← plan-same t u count sound alike dialect req v seen e)
+          (deed-alike dialect req v seen (planRead dialect req t count v seen .deed) (plan-fits dialect req t count v seen e))

@@ -1,17 +1,13 @@
 -- What a request can see of a block is the same of one that is alike, as long as the names keep to their places; in a sound table they do.
-use Rattle.octets.specs.Standard.{ℕ, _<_, _≤_, _≡_, refl, sym, _∙_, List, arith, getD}
+use Rattle.octets.specs.Standard.{ℕ, _<_, _≤_, _≡_, sym, _∙_, List, arith, getD}
 use Rattle.record.specs.Fields.{hostSize, realmSize, networksOf, serverSize, serverOf}
-use Rattle.record.specs.HeaderBlock.{headerOf}
 use Rattle.record.specs.Networks.{placeAt}
 use Rattle.record.specs.RecordBlock.{recordOf}
 use Rattle.record.proofs.Alike.{SameRun, run-within, run-half, SameFields, fields-same, server-same, profile-same, host-same, realm-same}
 use Rattle.record.proofs.Alike.{network-same}
 use Rattle.record.proofs.Tests.{Limits}
-use Rattle.blocks.specs.Blocks.{blockOf}
-use Rattle.table.specs.SoundTable.{SoundTable}
-use Rattle.table.proofs.Sound.{sound-header, sound-networks, sound-place, sound-limits}
-use Rattle.seen_alike.specs.Alike.{Alike, AlikeTables}
-use Rattle.seen_alike.specs.Shown.{SameHeader, SameRecord, SameTables}
+use Rattle.seen_alike.specs.Alike.{Alike}
+use Rattle.seen_alike.specs.Shown.{SameHeader, SameRecord}
 
 module _ (b c : List ℕ) (alike : Alike b c) where
   run : SameRun b c 2 408
@@ -33,7 +29,7 @@ module _ (b c : List ℕ) (alike : Alike b c) where
         names = λ i l. sym (network-same b c fields i (omega arith) (room i l));
       }
 
-  pub record-same : (file : List ℕ) → Limits (recordOf b) → SameRecord file b c
+  pub record-same : (file : List ℕ) → Limits (recordOf b) → SameRecord file file b c
   record-same file l =
       let f : SameFields b c = fields-same b c fields l in
       record {
@@ -49,14 +45,3 @@ module _ (b c : List ℕ) (alike : Alike b c) where
         profile = sym (profile-same b c (run-within b c run 400 406 (omega arith) (omega arith)) file);
         set = sym (run-half b c run 406 (omega arith) (omega arith));
       }
-
--- Tables: one of the two is sound.
-pub tables-same : (file t u : List ℕ) (count : ℕ) → SoundTable t count → AlikeTables t u count → SameTables file t u count
-unfolding headerOf
-tables-same file t u count sound alike =
-    record {
-      header =
-          header-same (blockOf t 0) (blockOf u 0) (alike .blocks 0 (omega arith)) (sound-header t count sound .host) (sound-header t count sound .realm)
-          (sound-networks t count sound refl) (sound-place t count sound refl);
-      each = λ k a b. record-same (blockOf t k) (blockOf u k) (alike .blocks k b) file (sound-limits t count sound k a b);
-    }

@@ -8,3 +8,5 @@ pub mod Likeness
 pub mod Lookups
 pub mod Moved
 pub mod Plans
+pub mod Rows
+pub mod Together

@@ -1,5 +1,6 @@
 -- Two sound tables of as many records that agree in every byte that a request can see: every call comes to the same, with the same vectors and the same
--- buffer, and leaves tables that are alike again. What `AlikeTables`, `holding` and `SameCall` mean is in specs/Alike.
+-- buffer, and leaves tables that are alike again. What `AlikeTables` means is in specs/Alike; `holding` and `SameCall`
+-- are calling's, in Lent and Serve.
 use Rattle.octets.specs.Standard.{ℕ, Bool, true, false, cond, _≡_, refl, sym, _∙_, ap, List, [], _∷_, length}
 use Rattle.octets.proofs.Numbers.{Bytes}
 use Rattle.table.specs.SoundTable.{SoundTable}
@@ -8,48 +9,43 @@ use Rattle.blocks.specs.declared.Checked.the-variants.{Sound}
 use Rattle.rewrite.specs.Change.{alteredUpTo}
 use Rattle.rewrite.proofs.Counts.{altered-none}
 use Rattle.reading.specs.Rules.{Seen}
+use Rattle.requests.specs.Judged.{fine}
+use Rattle.requests.specs.Request.{readIn}
 use Rattle.choices.specs.declared.Given.{Given}
 use Rattle.reading.specs.declared.Dialect.{Dialect}
-use Rattle.reading.specs.declared.Terms.{Terms}
 use Rattle.answering.specs.Answer.{answerBytes}
 use Rattle.deciding.specs.Plans.{planRead}
 use Rattle.deciding.specs.Decide.{decide}
 use Rattle.calling.specs.Lent.{Lent, holding, dialectIn}
 use Rattle.calling.specs.Trial.{Trial, tried}
 use Rattle.calling.specs.Serve.{Served, SameCall, checkOf, checkValue, refused, answered, decision, resultOf, serveFound, serveTableBy, serveTable}
-use Rattle.deciding.proofs.Cases.{Within}
 use Rattle.seen_alike.specs.Alike.{AlikeTables}
-use Rattle.seen_alike.specs.Shown.{SameTables}
-use Rattle.seen_alike.proofs.Fields.{tables-same}
-use Rattle.seen_alike.proofs.Plans.{plan-same, given-same, place-same, vectors-same}
-use Rattle.seen_alike.proofs.Answers.{answer-same, bytes-same}
+use Rattle.seen_alike.proofs.Together.{tables-sight, asks-any, plan-same, given-same, vectors-same}
+use Rattle.seen_alike.proofs.Plans.{place-same}
+use Rattle.seen_alike.proofs.Answers.{bytes-same}
 use Rattle.seen_alike.proofs.Effects.{tables-alike}
 use Rattle.seen_alike.proofs.Altered.{altered-same}
 
 -- What is planned, decided and answered; one of the tables is sound.
 module _ (t u : List ℕ) (count : ℕ) (sound : SoundTable t count) (alike : AlikeTables t u count) where
-  like : (file : List ℕ) → SameTables file t u count
-  like file = tables-same file t u count sound alike
-
-  pub plan-alike : (dialect : Dialect) (req v : List ℕ) (seen : Seen) → planRead dialect req t count v seen ≡ planRead dialect req u count v seen
-  plan-alike dialect req v seen = plan-same [] t u count (like []) req v dialect seen
+  pub plan-alike : (dialect : Dialect) (req v : List ℕ) (seen : Seen) → readIn dialect req ≡ fine seen
+      → planRead dialect req t count v seen ≡ planRead dialect req u count v seen
+  plan-alike dialect req v seen e = plan-same t u count sound alike dialect req v seen e
 
   pub given-alike : (dialect : Dialect) (req v : List ℕ) → decide dialect req t count v .given ≡ decide dialect req u count v .given
-  given-alike dialect req v = given-same [] t u count (like []) req v dialect
+  given-alike dialect req v = given-same t u count sound alike dialect req v
 
   pub place-alike : (dialect : Dialect) (req v : List ℕ) → decide dialect req t count v .place ≡ decide dialect req u count v .place
-  place-alike dialect req v = place-same [] t u count (like []) req v dialect
+  place-alike dialect req v = place-same t u count count dialect req v v
 
   pub vectors-alike : (dialect : Dialect) (req v : List ℕ) → decide dialect req t count v .vectors ≡ decide dialect req u count v .vectors
-  vectors-alike dialect req v = vectors-same [] t u count (like []) req v dialect
-
-  pub answer-alike : (terms : Terms) (req file v : List ℕ) (g : Given) → Within count g → answerBytes terms req t file v g ≡ answerBytes terms req u file v g
-  answer-alike terms req file v g within = answer-same file t u count (like file) g within terms req v
+  vectors-alike dialect req v = vectors-same t u count sound alike dialect req v
 
   pub decision-alike : (dialect : Dialect) (req file v : List ℕ)
       → answerBytes (dialect .terms) req t file v (decide dialect req t count v .given)
       ≡ answerBytes (dialect .terms) req u file v (decide dialect req u count v .given)
-  decision-alike dialect req file v = bytes-same file t u count (like file) dialect req v
+  decision-alike dialect req file v =
+      bytes-same (tables-sight t u count sound alike file) dialect req v v (λ e. refl) (λ seen e. asks-any dialect req seen)
 
   -- the tables afterwards, if both are sound
   pub table-alike : SoundTable u count → (dialect : Dialect) (req v : List ℕ)

@@ -1,15 +1,15 @@
--- Tables that show the same give one answer to every look-up.
-use Rattle.octets.specs.Standard.{ℕ, zero, suc, _+_, _<_, _≤_, Bool, _≡_, refl, ap, List, arith}
+-- Tables of which a request sees the same give like answers to its look-ups.
+use Rattle.octets.specs.Standard.{ℕ, zero, suc, _+_, _<_, _≤_, Bool, true, false, _&&_, not, true≢false, _≡_, refl, sym, _∙_, ap, List, arith, eqb, ltb}
 use Rattle.octets.specs.Name.{same}
-use Rattle.record.specs.Fields.{networksOf}
+use Rattle.octets.proofs.Names.{same-eq, same-yes, same-no}
+use Rattle.record.specs.Fields.{networksOf, bitsOf, privateOf, serverSize, setOf, barred}
 use Rattle.record.specs.Sets.{sameSet}
 use Rattle.blocks.specs.Blocks.{blockOf}
-use Rattle.table.specs.Named.{publicAt, privateAt}
-use Rattle.lookup.specs.Find.{findPublic, privateIs, findPrivate, serverHere, servesAt, findServer, freeHere, freeAt, findFree, barredAlone}
+use Rattle.table.specs.Named.{privateAt}
+use Rattle.lookup.specs.Find.{isAt, privateIs, findPrivate, serverHere, servesAt, findServer, freeHere, freeAt, findFree, barredAlone}
 use Rattle.lookup.specs.Network.{networkIs, seek, networkNumber, mayRoam}
-use Rattle.lookup.proofs.First.{first-same}
-use Rattle.lookup.proofs.Halves.{find-alike}
-use Rattle.seen_alike.specs.Shown.{SameHeader, SameRecord, SameTables}
+use Rattle.seen_alike.specs.Shown.{SameHeader, SameRecord, SameSight, numbersUpTo, Each, FoundAlike}
+use Rattle.seen_alike.proofs.Rows.{numbers-same, numbers-each, first-each, at-each}
 
 -- Visited networks.
 seek-same : (p q : ℕ → Bool) (n i : ℕ) → ((j : ℕ) → i ≤ j → j < i + n → p j ≡ q j) → seek p n i ≡ seek q n i
@@ -23,44 +23,76 @@ number-same h g name like =
     rw (← like .networks)
     (seek-same (networkIs h name) (networkIs g name) (networksOf h) 0 (λ j a b. ap (λ (l : List ℕ). same l name) (like .names j (omega arith))))
 
-pub roam-same : (file h g b c name : List ℕ) → SameHeader h g → SameRecord file b c → mayRoam h b name ≡ mayRoam g c name
+pub roam-same : (file other h g b c name : List ℕ) → SameHeader h g → SameRecord file other b c → mayRoam h b name ≡ mayRoam g c name
 unfolding mayRoam
-roam-same file h g b c name header like = rw (number-same h g name header, header .networks, like .roaming)
+roam-same file other h g b c name header like = rw (number-same h g name header, header .networks, like .roaming)
 
--- Records.
-module _ (file t u : List ℕ) (count : ℕ) (like : SameTables file t u count) where
-  pub public-same : (name : List ℕ) → findPublic t count name ≡ findPublic u count name
-  unfolding publicAt
-  public-same name = find-alike t u count name (λ k a b. like .each k a b .public)
+-- The set of a record is in its subscription: the others of it that are not barred, among the records of its private identity.
+same-turned : (s t : List ℕ) → same s t ≡ same t s
+same-turned s t = go (same s t) refl
+  where
+    go : (x : Bool) → same s t ≡ x → x ≡ same t s
+    go true e = sym (same-yes t s (sym (same-eq s t e)))
+    go false e = sym (same-no t s (λ q. true≢false (sym (same-yes s t (sym q)) ∙ e)))
 
-  pub private-same : (name : List ℕ) → findPrivate t count name ≡ findPrivate u count name
-  unfolding findPrivate privateIs privateAt
-  private-same name =
-      first-same (privateIs t name) (privateIs u name) count 1
-      (λ j a b. ap (λ (l : List ℕ). same l name) (like .each j a (omega arith) .private))
+abbrev freeOf : List ℕ → List ℕ → Bool
+freeOf b c = ltb 0 (setOf b) && eqb (setOf b) (setOf c) && not (barred (bitsOf c))
 
-  pub server-same : (name : List ℕ) → findServer t count name ≡ findServer u count name
-  unfolding findServer servesAt serverHere
-  server-same name =
-      first-same (servesAt t name) (servesAt u name) count 1
-      (λ j a b.
-      let s : SameRecord file (blockOf t j) (blockOf u j) = like .each j a (omega arith) in
-      rw (s .size, s .private))
+and-turned : (a b s n : Bool) → (a && b && s && n) ≡ (a && b && n && s)
+and-turned false b s n = refl
+and-turned true false s n = refl
+and-turned true true true true = refl
+and-turned true true true false = refl
+and-turned true true false true = refl
+and-turned true true false false = refl
+
+free-here : (t b : List ℕ) (k : ℕ) → freeAt t b k ≡ (freeOf b (blockOf t k) && privateIs t (privateOf b) k)
+unfolding freeAt freeHere sameSet privateIs privateAt
+free-here t b k =
+    rw (same-turned (privateOf (blockOf t k)) (privateOf b))
+    (and-turned (ltb 0 (setOf b)) (eqb (setOf b) (setOf (blockOf t k))) (same (privateOf b) (privateOf (blockOf t k))) (not (barred (bitsOf (blockOf t k)))))
+
+module _ {file other t u : List ℕ} {count many : ℕ} {Like : ℕ → ℕ → Type 0} {Public Private : List ℕ → Type 0}
+    (sight : SameSight file other t u count many Like Public Private) where
+  pub private-alike : (name : List ℕ) → Private name → FoundAlike Like (findPrivate t count name) (findPrivate u many name)
+  unfolding findPrivate
+  private-alike name a = first-each Like (privateIs t name) (privateIs u name) count many (sight .owned name a)
+
+  pub private-known : (name : List ℕ) → Private name → isAt (findPrivate t count name) ≡ isAt (findPrivate u many name)
+  private-known name a = at-each Like (findPrivate t count name) (findPrivate u many name) (private-alike name a)
+
+  abbrev named : List ℕ → ℕ → Bool
+  named x k = ltb 0 (serverSize (blockOf x k))
+
+  pub server-alike : (name : List ℕ) → Private name → FoundAlike Like (findServer t count name) (findServer u many name)
+  unfolding findServer servesAt serverHere privateIs privateAt
+  server-alike name a =
+      first-each Like (servesAt t name) (servesAt u name) count many
+      (numbers-each Like (named t) (named u) (privateIs t name) (privateIs u name) count many (λ j k l. ap (ltb 0) (sight .shown j k l .size))
+      (sight .owned name a))
 
   -- sets
-  pub set-same : (j k : ℕ) → 1 ≤ j → j ≤ count → 1 ≤ k → k ≤ count → sameSet (blockOf t j) (blockOf t k) ≡ sameSet (blockOf u j) (blockOf u k)
+  pub set-alike : (j k m n : ℕ) → Like j m → Like k n → sameSet (blockOf t j) (blockOf t k) ≡ sameSet (blockOf u m) (blockOf u n)
   unfolding sameSet
-  set-same j k a b c d =
-      let x : SameRecord file (blockOf t j) (blockOf u j) = like .each j a b in
-      let y : SameRecord file (blockOf t k) (blockOf u k) = like .each k c d in
+  set-alike j k m n l r =
+      let x : SameRecord file other (blockOf t j) (blockOf u m) = sight .shown j m l in
+      let y : SameRecord file other (blockOf t k) (blockOf u n) = sight .shown k n r in
       rw (x .set, x .private, y .set, y .private)
 
-  free-same : (k : ℕ) → 1 ≤ k → k ≤ count → findFree t count (blockOf t k) ≡ findFree u count (blockOf u k)
-  unfolding findFree freeAt freeHere
-  free-same k a b =
-      first-same (freeAt t (blockOf t k)) (freeAt u (blockOf u k)) count 1
-      (λ j h l. rw (set-same k j a b h (omega arith), like .each j h (omega arith) .bits))
+  free-alike : (b c : List ℕ) → SameRecord file other b c → Private (privateOf b) → isAt (findFree t count b) ≡ isAt (findFree u many c)
+  unfolding findFree
+  free-alike b c s a = at-each Like (findFree t count b) (findFree u many c) (first-each Like (freeAt t b) (freeAt u c) count many row)
+    where
+      row : Each Like (numbersUpTo (freeAt t b) count) (numbersUpTo (freeAt u c) many)
+      row =
+          rw (
+            numbers-same (freeAt t b) (λ k. freeOf b (blockOf t k) && privateIs t (privateOf b) k) count (λ k x y. free-here t b k),
+            numbers-same (freeAt u c) (λ k. freeOf c (blockOf u k) && privateIs u (privateOf c) k) many (λ k x y. free-here u c k),
+            ← s .private,
+          )
+          (numbers-each Like (λ k. freeOf b (blockOf t k)) (λ k. freeOf c (blockOf u k)) (privateIs t (privateOf b)) (privateIs u (privateOf b)) count many
+          (λ j k l. rw (s .set, sight .shown j k l .set, sight .shown j k l .bits)) (sight .owned (privateOf b) a))
 
-  pub barred-same : (k : ℕ) → 1 ≤ k → k ≤ count → barredAlone t count (blockOf t k) ≡ barredAlone u count (blockOf u k)
+  pub barred-alike : (b c : List ℕ) → SameRecord file other b c → Private (privateOf b) → barredAlone t count b ≡ barredAlone u many c
   unfolding barredAlone
-  barred-same k a b = rw (free-same k a b, like .each k a b .bits)
+  barred-alike b c s a = rw (free-alike b c s a, s .bits)

@@ -37,7 +37,7 @@ pub fn with_lesser_count(rng: &mut Rng, model: &TableModel) -> Vec<u8> {
     area
 }
 
-fn another_registration(rng: &mut Rng, record: &mut RecordModel) {
+pub fn another_registration(rng: &mut Rng, record: &mut RecordModel) {
     record.state = rng.below(3) as u8;
     record.server_name = names::any(rng, LONGEST_SERVER_NAME);
     if record.state == NOT_REGISTERED {

@@ -9,6 +9,7 @@ mod made;
 pub mod model;
 pub mod moves;
 mod names;
+pub mod neighbours;
 pub mod reports;
 pub mod request;
 mod runs;

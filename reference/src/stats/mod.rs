@@ -24,7 +24,7 @@ use crate::verdict::{Code, Decision, Why};
 use sizes::size;
 
 /// How many times as many cases are counted, where a row has too few, before it is told of.
-const ROUNDS: u64 = 10;
+pub const ROUNDS: u64 = 10;
 
 #[derive(Default)]
 pub struct Histogram {
@@ -248,7 +248,7 @@ impl Histogram {
 
 /// The fewest of a row that comes once in so many cases: six standard deviations below what is expected, and at least
 /// one. So a seed has fewer by bad luck only where hardly any are expected; for these `stats` goes on.
-fn least(cases: u64, one_in: u64) -> u64 {
+pub fn least(cases: u64, one_in: u64) -> u64 {
     let expected = cases as f64 / one_in as f64;
     (expected - 6.0 * expected.sqrt()).floor().max(1.0) as u64
 }

@@ -1,0 +1,2 @@
+pub mod Mine
+pub mod Seen

@@ -1,0 +1,1 @@
+// Two tables that differ in all that neighbours may do, and calls over them, computed: proofs/. There is no code here.

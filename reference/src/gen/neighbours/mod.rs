@@ -1,0 +1,172 @@
+//! Pairs of calls, the same request over two tables that agree in what it is about and in little else; and pairs that break one hypothesis of
+//! document 02's request 9.
+
+mod breach;
+mod side;
+
+pub use breach::{Breach, BREACHES, SILENT};
+
+use super::asks;
+use super::calls;
+use super::model::{RecordModel, TableModel};
+use super::request::{Piece, RequestModel};
+use super::sets;
+use super::tables::{self, Sound};
+use super::twists;
+use crate::cases::{Case, Slice};
+use crate::kinds::{Command, Kind};
+use crate::message::Message;
+use crate::read::read;
+use crate::refuse::MOST_REQUEST;
+use crate::rng::Rng;
+use crate::slip::Slip;
+use crate::table::{Table, BARRED};
+use side::{beside, call, Asked};
+
+/// Pair `number` of a seed: two calls that every hypothesis holds of, but that some are refused.
+pub fn pair(seed: u64, number: u64) -> [Case; 2] {
+    let mut rng = Rng::for_case(seed ^ 0x9999, number);
+    let (one, request) = loop {
+        if let Some(made) = any(&mut rng) {
+            break made;
+        }
+    };
+    let asked = Asked::of(&request);
+    let other = beside(&mut rng, &one, &asked);
+    calls_over(&mut rng, [one, other], [request.clone(), request], true)
+}
+
+/// Pair `number` of a seed that breaks one hypothesis.
+pub fn broken(breach: Breach, seed: u64, number: u64) -> [Case; 2] {
+    let mut rng = Rng::for_case(seed ^ 0xAAAA ^ (breach as u64) << 40, number);
+    loop {
+        let (one, request) = suited(&mut rng, breach);
+        let asked = Asked::of(&request);
+        let mut other = beside(&mut rng, &one, &asked);
+        let mut another = request.clone();
+        if breach::done(&mut rng, breach, &one, &mut other, &mut another, &asked).is_some() {
+            let mut calls = calls_over(&mut rng, [one, other], [request, another], false);
+            if breach == Breach::Unsound {
+                breach::unsound(&mut rng, &mut calls[0]);
+            }
+            return calls;
+        }
+    }
+}
+
+/// Either side may be the first.
+fn calls_over(rng: &mut Rng, sides: [Sound; 2], requests: [Vec<u8>; 2], few: bool) -> [Case; 2] {
+    let [one, other] = sides;
+    let [request, another] = requests;
+    let mut calls = [call(rng, &one, request, few), call(rng, &other, another, few)];
+    if rng.coin() {
+        calls.reverse();
+    }
+    calls
+}
+
+/// A table and a request, right or with a fault; none if it is a MAR or would be refused.
+fn any(rng: &mut Rng) -> Option<(Sound, Vec<u8>)> {
+    if rng.once_in(16) {
+        return of_calls(rng);
+    }
+    let (sound, mut request) = right(rng, None);
+    if rng.once_in(3) {
+        twists::twist_once(rng, &mut request);
+        if rng.once_in(4) {
+            twists::twist_once(rng, &mut request);
+        }
+    }
+    let mut bytes = request.encode();
+    if rng.once_in(3) {
+        add_stranger(rng, &mut bytes, &sound.model);
+    }
+    let is_refused = bytes.len() > MOST_REQUEST || request.told_length.is_some() || request.flags & 0x80 == 0;
+    (Message(&bytes).command() != Command::MultimediaAuth.code() && !is_refused).then_some((sound, bytes))
+}
+
+/// One of the kind `calls`.
+fn of_calls(rng: &mut Rng) -> Option<(Sound, Vec<u8>)> {
+    let case = calls::case(rng).case;
+    let request = case.held(Slice::Request);
+    if request.len() < 20 || Message(&request).command() == Command::MultimediaAuth.code() {
+        return None;
+    }
+    if case.outcome(Slip::NONE).parts().0 != 0 {
+        return None;
+    }
+    let model = TableModel::of(Table(&case.held(Slice::Table)));
+    Some((Sound { model, profile: case.held(Slice::Profile).into_owned() }, request.into_owned()))
+}
+
+/// A table and a right request over it, of this command or of any but a MAR. Often most records are of two subscriptions, in sets.
+fn right(rng: &mut Rng, of: Option<Command>) -> (Sound, RequestModel) {
+    let size = match rng.below(400) {
+        0 => tables::many(rng),
+        1..=12 => rng.between(13, 40),
+        13..=17 => 0,
+        _ => rng.between(1, 9),
+    };
+    let mut sound = tables::sound(rng, size);
+    if size > 1 && rng.once_in(3) {
+        in_sets(rng, &mut sound.model);
+    }
+    loop {
+        let table = &mut sound.model;
+        let request = match of {
+            Some(Command::MultimediaAuth) => asks::authentication(rng, table),
+            Some(Command::UserAuthorization) => asks::authorization(rng, table),
+            Some(Command::ServerAssignment) => asks::one_assignment(rng, table),
+            _ => asks::any(rng, table),
+        };
+        match of {
+            Some(wanted) if request.command != wanted.code() => {}
+            None if request.command == Command::MultimediaAuth.code() => {}
+            _ => return (sound, request),
+        }
+    }
+}
+
+fn in_sets(rng: &mut Rng, table: &mut TableModel) {
+    table.issue = Some(tables::issue(rng));
+    let privates = [table.records[0].private.clone(), table.records[1].private.clone()];
+    table.records.iter_mut().for_each(|record| record.private = rng.pick(&privates).clone());
+    if rng.coin() {
+        table.records.iter_mut().filter(|_| rng.below(3) > 0).for_each(|record| record.bits |= BARRED);
+    }
+    sets::put(rng, &mut table.records);
+}
+
+/// A request in which the hypothesis has something to say, over a table that it is mostly about.
+fn suited(rng: &mut Rng, breach: Breach) -> (Sound, Vec<u8>) {
+    let (sound, request) = right(rng, breach.command());
+    let bytes = request.encode();
+    (sound, bytes)
+}
+
+/// Puts in somebody whom the request is not about: in an AVP that the command does not name, of an unknown kind, or in a group.
+fn add_stranger(rng: &mut Rng, request: &mut Vec<u8>, table: &TableModel) {
+    let is_decided = read(Message(request), Slip::NONE).is_ok();
+    if table.records.is_empty() || !is_decided {
+        return;
+    }
+    let RecordModel { public, private, server_name, .. } = rng.pick(&table.records).clone();
+    let command = Command::of(Message(request).command());
+    let piece = match (rng.below(5), command) {
+        (0 | 1, Some(Command::LocationInfo)) => Piece::of(rng, Kind::UserName, private),
+        (0 | 1, Some(Command::UserAuthorization)) => Piece::of(rng, Kind::ServerName, server_name),
+        (2, _) => Piece::new(rng, None, Kind::PublicIdentity.code(), 0, public),
+        (3, _) => {
+            let mut group = Vec::new();
+            Piece::of(rng, Kind::PublicIdentity, public).encode(&mut group);
+            Piece::of(rng, Kind::UserName, private).encode(&mut group);
+            Piece::of(rng, Kind::ProxyInfo, group)
+        }
+        _ => Piece::of(rng, Kind::RouteRecord, public),
+    };
+    if request.len() + piece.padded() <= MOST_REQUEST {
+        piece.encode(request);
+        let length = request.len() as u32;
+        request[1..4].copy_from_slice(&length.to_be_bytes()[1..]);
+    }
+}
