@@ -217,7 +217,7 @@ noticed: target/c99/overstep target/c99/driver $(BINARY)
 	@echo "breaches: seed $(SEED), $(COUNT_breaches) pairs of each"
 	$(BINARY) compare --kind breaches --seed $(SEED) --count $(COUNT_breaches) -- $(DRIVER)
 
-#: cuts               the whole of that, ten minutes: 1,000,000 sets of blocks, 1,000 kills within a table of 4,096, and some of it with files on disk
+#: cuts               the whole of that, two minutes: 1,000,000 sets of blocks, 1,000 kills within a table of 4,096, and some of it with files on disk
 cuts: target/c99/takes target/c99/cuts target/c99/take target/c99/cut-take
 	@echo "cuts: seed $(SEED)"
 	$(RUN) $< $(SEED) 500000

@@ -73,15 +73,17 @@ module _ (t : List ℕ) (count : ℕ) where
       rw (first-none (privateIs t private) count 1
       (λ j a b. same-no _ _ (λ q. h j (record { from = a; to = omega arith; name = q }))))
 
+-- the table that is lent is sound, and the result of the call is that over as many records as it has
+module _ (x : Lent) (count : ℕ) (sound : checkOf x ≡ Sound count) where
+  pub lent-sound : SoundTable (x .table) count
+  lent-sound = record { file = length (x .profile); checked = sound }
+
+  pub result-counted : resultOf x ≡ decision x count .given .verdict .result
+  result-counted = ap (λ (c : Checked). decision x (checkValue c) .given .verdict .result) sound
+
 module _ (x : Lent) (count : ℕ) (sound : checkOf x ≡ Sound count) (uar : commandOf (x .request) ≡ 300) where
   abbrev t : List ℕ
   t = x .table
-
-  table : SoundTable t count
-  table = record { file = length (x .profile); checked = sound }
-
-  counted : resultOf x ≡ decision x count .given .verdict .result
-  counted = ap (λ (c : Checked). decision x (checkValue c) .given .verdict .result) sound
 
   module _ (seen : Seen) (read : readIn (dialectIn x) (x .request) ≡ fine seen) where
     abbrev user : List ℕ
@@ -101,7 +103,7 @@ module _ (x : Lent) (count : ℕ) (sound : checkOf x ≡ Sound count) (uar : com
     decided-is = rw (read, uar)
 
     result-is : resultOf x ≡ resultAt (findPublic t count public)
-    result-is = counted ∙ decided-is
+    result-is = result-counted x count sound ∙ decided-is
 
     found-result : (f : Found) → findPublic t count public ≡ f → resultOf x ≡ resultAt f
     found-result f e = result-is ∙ ap resultAt e
@@ -111,7 +113,7 @@ module _ (x : Lent) (count : ℕ) (sound : checkOf x ≡ Sound count) (uar : com
     found-barred Nothing e r = absurd (true≢false (sym (barred-asked (asked Nothing) _ t count user 0 r .0)))
     found-barred (At k) e r =
         let a = barred-asked (asked (At k)) _ t count user k r in
-        let o : Only t count public k = found-only t count public table k e in
+        let o : Only t count public k = found-only t count public (lent-sound x count sound) k e in
         record {
           seen = seen;
           read = read;
@@ -135,7 +137,7 @@ module _ (x : Lent) (count : ℕ) (sound : checkOf x ≡ Sound count) (uar : com
     apart : (k j : ℕ) → Stands t count k public → Belongs t count j user → privateAt t k ≢ user → resultOf x ≡ Experimental 5002
     unfolding askedOf askedAt privateAt
     apart k j s b n =
-        found-result (At k) (stands-found t count table k public s)
+        found-result (At k) (stands-found t count (lent-sound x count sound) k public s)
         ∙ asked-apart (asked (At k)) _ t count user k (belongs-known t count j user b) (same-no _ _ n)
 
   pub barred-only : resultOf x ≡ Base 5003 → Barred x count
@@ -143,14 +145,14 @@ module _ (x : Lent) (count : ℕ) (sound : checkOf x ≡ Sound count) (uar : com
   barred-only r = go (readIn (dialectIn x) (x .request)) refl
     where
       go : (j : Judged) → readIn (dialectIn x) (x .request) ≡ j → Barred x count
-      go (bad v) e = absurd (read-other (dialectIn x) (x .request) v (Base 5003) refl e (sym (counted ∙ rw e) ∙ r))
+      go (bad v) e = absurd (read-other (dialectIn x) (x .request) v (Base 5003) refl e (sym (result-counted x count sound ∙ rw e) ∙ r))
       go (fine seen) e = found-barred seen e (findPublic t count (dataSeen seen publicIdentity)) refl (sym (result-is seen e) ∙ r)
 
   pub barred-given : Barred x count → resultOf x ≡ Base 5003
   unfolding askedOf askedAt privateAt
   barred-given b =
       let f = asked (b .seen) (b .read) (At (b .block)) in
-      found-result (b .seen) (b .read) (At (b .block)) (stands-found t count table (b .block) _ (b .public))
+      found-result (b .seen) (b .read) (At (b .block)) (stands-found t count (lent-sound x count sound) (b .block) _ (b .public))
       ∙ asked-barred f _ t count _ (b .block)
       (belongs-known t count (b .block) _ (record { from = b .public .from; to = b .public .to; name = b .private }))
       (same-yes _ _ (b .private)) (alone-holds t count (b .block) (b .alone))
@@ -172,7 +174,7 @@ module _ (x : Lent) (count : ℕ) (sound : checkOf x ≡ Sound count) (uar : com
       let e : fine seen ≡ fine (b .seen) = sym read ∙ b .read in
       let same-seen : seen ≡ b .seen = cc in
       let name : publicAt t k ≡ publicAt t (b .block) = s .name ∙ ap (λ (l : Seen). dataSeen l publicIdentity) same-seen ∙ sym (b .public .name) in
-      let q : k ≡ b .block = one-block t count table k (b .block) (s .from) (b .public .from) (s .to) (b .public .to) name in
+      let q : k ≡ b .block = one-block t count (lent-sound x count sound) k (b .block) (s .from) (b .public .from) (s .to) (b .public .to) name in
       b .alone .others j from to (subst (λ (i : ℕ). Shares t i j) q h)
 
   -- and where one is not, the record is not barred alone: with the User-Name in it, the answer carries what it does where nothing is barred
@@ -185,7 +187,7 @@ module _ (x : Lent) (count : ℕ) (sound : checkOf x ≡ Sound count) (uar : com
   unfolding decideBy judgedBy performedBy planRead uarPlan authorize authorizeFound askedOf
   free-given seen read k j s from to h free p =
       ap (λ (c : Checked). decision x (checkValue c) .given) sound
-      ∙ rw (read, uar, stands-found t count table k _ s, belongs-known t count k _ (record { from = s .from; to = s .to; name = p }), not-alone)
+      ∙ rw (read, uar, stands-found t count (lent-sound x count sound) k _ s, belongs-known t count k _ (record { from = s .from; to = s .to; name = p }), not-alone)
     where
       not-alone : barredAlone t count (blockOf t k) ≡ false
       not-alone = go (barredAlone t count (blockOf t k)) refl

@@ -13,22 +13,15 @@ use Rattle.taking.specs.TakeOver.{takeOver}
 use Rattle.taking.specs.Torn.{AllChosen, FirstMissing, NoneWithin, FirstWithin, lowerBlock}
 use Rattle.taking.specs.Written.{cutAfter, tornAfter}
 use Rattle.taking.specs.declared.Taken.the-variants.{Took}
+use Rattle.demands.specs.TakingOver.{refusing, SameServed}
 use Rattle.taking.proofs.Taking as taking
-
--- refusal 5 with a block, and everything as it came
-abbrev pub refusing : Lent → ℕ → Served
-refusing x k = record { call = Refused 5 k; table = x .table; vectors = x .vectors; buffer = x .buffer }
 
 -- "or is refused": a request over an area whose check answers a bad block
 pub refused-so : (x : Lent) (k : ℕ) → anyHolds (earlyTrials (x .request) (x .buffer)) ≡ false → checkArea (x .table) (length (x .profile)) ≡ Bad k
     → serve x ≡ refusing x k
 refused-so = bad-refused
 
--- the same is served over both: call, vectors and buffer, and the table at the front of the area afterwards
-pub record SameServed (x y : Lent) : Type 0 where
-  pub same : SameCall (serve x) (serve y)
-  pub table : tableIn (serve x .table) ≡ tableIn (serve y .table)
-
+-- two areas with the same table at the front
 same-served : (x : Lent) (area other : List ℕ) → tableIn area ≡ tableIn other → SameServed (holding x area) (holding x other)
 same-served x area other e =
     let q : tableOnly (holding x area) ≡ tableOnly (holding x other) = ap (holding x) e in

@@ -39,7 +39,7 @@ use Rattle.calling.specs.Lent.{Lent, dialectIn}
 use Rattle.calling.specs.Serve.{checkOf, checkValue, decision, resultOf}
 use Rattle.demands.specs.Sets.{Stands, Belongs}
 use Rattle.demands.specs.Unable.{AllUsed, NoneToSend}
-use Rattle.demands.proofs.Barring.{stands-found, belongs-known, none-known}
+use Rattle.demands.proofs.Barring.{stands-found, belongs-known, none-known, lent-sound, result-counted}
 use Rattle.demands.proofs.Results.{read-other, isBase}
 
 -- The steps, by the answers to their questions.
@@ -150,12 +150,6 @@ module _ (x : Lent) (count : ℕ) (sound : checkOf x ≡ Sound count) (mar : com
   abbrev t : List ℕ
   t = x .table
 
-  table : SoundTable t count
-  table = record { file = length (x .profile); checked = sound }
-
-  counted : resultOf x ≡ decision x count .given .verdict .result
-  counted = ap (λ (c : Checked). decision x (checkValue c) .given .verdict .result) sound
-
   module _ (seen : Seen) (read : readIn (dialectIn x) (x .request) ≡ fine seen) where
     abbrev user : List ℕ
     user = dataSeen seen userName
@@ -177,14 +171,14 @@ module _ (x : Lent) (count : ℕ) (sound : checkOf x ≡ Sound count) (mar : com
     decided-is = rw (read, mar)
 
     found-result : (f : Found) → findPublic t count public ≡ f → resultOf x ≡ resultAt f
-    found-result f e = counted ∙ decided-is ∙ ap resultAt e
+    found-result f e = result-counted x count sound ∙ decided-is ∙ ap resultAt e
 
     found-none : (f : Found) → findPublic t count public ≡ f → resultAt f ≡ Base 5012 → NoneToSend x count
     unfolding claimedOf claimedAt privateAt
     found-none Nothing e r = absurd (true≢false (sym (claim-unable (claimed Nothing) 0 sending r .0)))
     found-none (At k) e r =
         let c = claim-unable (claimed (At k)) k sending r in
-        let o : Only t count public k = found-only t count public table k e in
+        let o : Only t count public k = found-only t count public (lent-sound x count sound) k e in
         record {
           seen = seen;
           read = read;
@@ -209,7 +203,7 @@ module _ (x : Lent) (count : ℕ) (sound : checkOf x ≡ Sound count) (mar : com
     apart : (k j : ℕ) → Stands t count k public → Belongs t count j user → privateAt t k ≢ user → resultOf x ≡ Experimental 5002
     unfolding claimedOf claimedAt privateAt
     apart k j s b n =
-        found-result (At k) (stands-found t count table k public s)
+        found-result (At k) (stands-found t count (lent-sound x count sound) k public s)
         ∙ apart-claim (claimed (At k)) k sending (belongs-known t count j user b) (same-no _ _ n)
 
     -- the two identities stand together in block k
@@ -220,13 +214,13 @@ module _ (x : Lent) (count : ℕ) (sound : checkOf x ≡ Sound count) (mar : com
       unserved : schemeOf seen ≢ scheme → resultOf x ≡ Experimental 5006
       unfolding claimedOf claimedAt privateAt
       unserved n =
-          found-result (At k) (stands-found t count table k public s)
+          found-result (At k) (stands-found t count (lent-sound x count sound) k public s)
           ∙ unserved-claim (claimed (At k)) k sending user-known (same-yes _ _ p) (same-no _ _ n)
 
       none-given : schemeOf seen ≡ scheme → (valueSeen seen numberAuthItems ≡ 0) ⊎ AllUsed (x .vectors) user → resultOf x ≡ Base 5012
       unfolding claimedOf claimedAt privateAt
       none-given q n =
-          found-result (At k) (stands-found t count table k public s)
+          found-result (At k) (stands-found t count (lent-sound x count sound) k public s)
           ∙ unable-claim (claimed (At k)) k sending user-known (same-yes _ _ p) (same-yes _ _ q)
           (none-sent (x .vectors) user (valueSeen seen numberAuthItems) n)
 
@@ -235,7 +229,7 @@ module _ (x : Lent) (count : ℕ) (sound : checkOf x ≡ Sound count) (mar : com
   challenge-only r = go (readIn (dialectIn x) (x .request)) refl
     where
       go : (j : Judged) → readIn (dialectIn x) (x .request) ≡ j → NoneToSend x count
-      go (bad v) e = absurd (read-other (dialectIn x) (x .request) v (Base 5012) refl e (sym (counted ∙ rw e) ∙ r))
+      go (bad v) e = absurd (read-other (dialectIn x) (x .request) v (Base 5012) refl e (sym (result-counted x count sound ∙ rw e) ∙ r))
       go (fine seen) e =
           let f = findPublic t count (dataSeen seen publicIdentity) in
           found-none seen e f refl (sym (found-result seen e f refl) ∙ r)

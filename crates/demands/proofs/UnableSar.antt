@@ -45,7 +45,7 @@ use Rattle.calling.specs.Lent.{Lent, dialectIn}
 use Rattle.calling.specs.Serve.{checkOf, checkValue, decision, resultOf}
 use Rattle.demands.specs.Sets.{Stands, Belongs}
 use Rattle.demands.specs.Unable.{StoresOther}
-use Rattle.demands.proofs.Barring.{stands-found, belongs-known, none-known}
+use Rattle.demands.proofs.Barring.{stands-found, belongs-known, none-known, lent-sound, result-counted}
 use Rattle.demands.proofs.Results.{read-other, isBase}
 use Rattle.demands.proofs.TypeRead.{type-read, asks-zero}
 
@@ -212,12 +212,6 @@ module _ (x : Lent) (count : ℕ) (sound : checkOf x ≡ Sound count) (sar : com
   abbrev t : List ℕ
   t = x .table
 
-  table : SoundTable t count
-  table = record { file = length (x .profile); checked = sound }
-
-  counted : resultOf x ≡ decision x count .given .verdict .result
-  counted = ap (λ (c : Checked). decision x (checkValue c) .given .verdict .result) sound
-
   module _ (seen : Seen) (read : readIn (dialectIn x) (x .request) ≡ fine seen) where
     abbrev says : Assignment
     says = assignmentOf (x .request) t seen
@@ -227,7 +221,7 @@ module _ (x : Lent) (count : ℕ) (sound : checkOf x ≡ Sound count) (sar : com
 
     result-is : resultOf x ≡ assign t count says .given .verdict .result
     unfolding decideBy judgedBy performedBy planRead sarPlan
-    result-is = counted ∙ rw (read, sar)
+    result-is = result-counted x count sound ∙ rw (read, sar)
 
     -- one identity is named
     module _ (a : List ℕ) (named : identities (bodyOf (x .request)) ≡ a ∷ []) where
@@ -302,13 +296,13 @@ module _ (x : Lent) (count : ℕ) (sound : checkOf x ≡ Sound count) (sar : com
       → (k j : ℕ) → Stands t count k (dataOf identity) → given seen userName ≡ true → Belongs t count j (dataSeen seen userName)
       → privateAt t k ≢ dataSeen seen userName → resultOf x ≡ Experimental 5002
   stored-apart seen read a named k j s g b n =
-      apart-result seen read a named k (stands-found t count table k (dataOf a) s) g (belongs-known t count j (dataSeen seen userName) b) n
+      apart-result seen read a named k (stands-found t count (lent-sound x count sound) k (dataOf a) s) g (belongs-known t count j (dataSeen seen userName) b) n
 
   pub stored-given : StoresOther x count → resultOf x ≡ Base 5012
   unfolding assignmentOf typeOf storesAt
   stored-given o =
       let k = o .block in
-      let at : findPublic t count (dataOf (o .identity)) ≡ At k = stands-found t count table k _ (o .public) in
+      let at : findPublic t count (dataOf (o .identity)) ≡ At k = stands-found t count (lent-sound x count sound) k _ (o .public) in
       let p = one-place (x .request) (o .identity) (o .named) in
       result-is (o .seen) (o .read)
       ∙ asks-plan t count (says (o .seen) (o .read))
@@ -339,7 +333,7 @@ module _ (x : Lent) (count : ℕ) (sound : checkOf x ≡ Sound count) (sar : com
       go a named Nothing e = absurd (true≢false (sym (rw (named, e) at (a .asked .1))))
       go a named (At k) e =
           let identity = avpAt (x .request) (a .place) in
-          let o : Only t count (dataOf identity) k = found-only t count (dataOf identity) table k e in
+          let o : Only t count (dataOf identity) k = found-only t count (dataOf identity) (lent-sound x count sound) k e in
           record {
             seen = seen;
             read = read;
@@ -357,5 +351,5 @@ module _ (x : Lent) (count : ℕ) (sound : checkOf x ≡ Sound count) (sar : com
   stored-only r = go (readIn (dialectIn x) (x .request)) refl
     where
       go : (j : Judged) → readIn (dialectIn x) (x .request) ≡ j → StoresOther x count
-      go (bad v) e = absurd (read-other (dialectIn x) (x .request) v (Base 5012) refl e (sym (counted ∙ rw e) ∙ r))
+      go (bad v) e = absurd (read-other (dialectIn x) (x .request) v (Base 5012) refl e (sym (result-counted x count sound ∙ rw e) ∙ r))
       go (fine seen) e = stored-found seen e r

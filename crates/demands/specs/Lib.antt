@@ -3,4 +3,5 @@ pub mod Frame
 pub mod Insertion
 pub mod Place
 pub mod Sets
+pub mod TakingOver
 pub mod Unable

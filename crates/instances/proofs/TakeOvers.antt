@@ -18,7 +18,8 @@ use Rattle.calling.proofs.Areas.{serve-sound}
 use Rattle.ndushavire.specs.Word.{word, takeWord}
 use Rattle.ndushavire.specs.Reads.{ReadsTake}
 use Rattle.demands.proofs.Demands.{taken-over}
-use Rattle.demands.proofs.TakingOver.{refusing, SameServed, refused-so, after, between, torn-missing, torn-within, torn-all, torn-past}
+use Rattle.demands.specs.TakingOver.{refusing, SameServed}
+use Rattle.demands.proofs.TakingOver.{refused-so, after, between, torn-missing, torn-within, torn-all, torn-past}
 use Rattle.taking_example.proofs.Sample.{none, one, two, three, roomy, opened}
 use Rattle.taking_example.proofs.Worked.{old-sound, three-sound, roomy-table, roomy-reads, ten-next, answer, three-taken, only-one, two-counted}
 use Rattle.worked_examples.proofs.Computed as computed

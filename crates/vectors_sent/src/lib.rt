@@ -1,1 +1,1 @@
-// What becomes of the vector file, as theorems about `serveTable`: proofs/Sending.antt. There is no code here.
+// What becomes of the vector file, as theorems about `serve`: proofs/Sending.antt. There is no code here.

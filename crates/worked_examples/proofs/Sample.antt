@@ -170,20 +170,21 @@ z = 0x7A ∷ []
 
 -- all that a case opens
 unfoldable pub opened : ℕ
-unfolding host realm block field wordsOf checked header subscriber person vector request reply answer common assignment digest authenticationOf authentication item challenges
-    one waiting two s z allBelow orderOf alikeAt same be16At be24At be32At putBe24 putBe32 zeros zeroBetween putName over sumWords hostOf realmOf publicOf
-    privateOf serverOf headerOf soundHeader networkOf usedPlace soundPlace sameByte otherPlace newPlace soundNetworks recordOf soundRecord blockOf tableOf
-    publicAt privateAt sameSet agreeing risesAt standsAt agreesWith agreesAt soundAt firstBad checkRecords checkTable firstFrom publicIs findPublic privateIs findPrivate serverHere servesAt findServer freeHere freeAt findFree barredAlone
-    networkIs seek networkNumber roamsIn negated sealed renewed settled challenged changedAt changedAll afterOf reaches vectorOf soundVector cardOf randAutnOf
-    xresOf confidentialityOf integrityOf piecesOf soundPiece checkVectors firstOnes unusedHere unusedAt unusedOf packed isOne markedUsed spent padded headOf
-    vendorOf valueOf sound walkFrom walk avpOf padding vendorHead copied avpBytes vendorBytes numberBytes vendorNumber group vendorGroup ifThere
-    vendorApplication experimental failed vendorNumbers capabilities known kindFrom kindBy rowOf useIn numberFault plainFault applicationMembers itemMembers
-    membersOf isOf fits unlike onlyOf membersFitting enough enoughAt gathers contentFault nothing ruleBy rule judge headerFault headPart alone failedOf sample
-    exampleOf failedBy missingFrom missing complete readWalk readIn identities placesFrom mandatoryOf optionalOf profileOf mayRoam authorization
-    location findingOf grant deedOf planOf claimOf challengeOf typeOf carried askedAt askedOf authorizeFound authorize soughtAt soughtOf locateFound locate
-    claimedAt claimedOf toSend authenticateFound authenticate meantBy every findAll numbersOf ownedHere ownedUpTo ownAt storesAt fitsAt rightAt
-    surveyOf userKnown ownerBy namedSurvey ownedSurvey assignMeant assign storedName plannedRecords carriedOut spentBy assignmentOf uarPlan sarPlan lirPlan
-    marPlan planRead performedBy judgedBy decideBy numberOf resultBytes frontBytes originBytes topBytes identityBytes nameBytes dataBytes givenBytes proxy
-    proxies endBytes challengeBytes keyBytes itemBytes itemsBytes numberedBytes sentBytes restBytes bodyBytes flagsOf headerBytes answerBytes tried
-    wrongLength refused answered serveFound serveTableBy
+unfolding host realm block field wordsOf checked header subscriber person vector request reply answer common assignment digest authenticationOf
+    authentication item challenges one waiting two s z allBelow orderOf alikeAt same be16At be24At be32At putBe24 putBe32 zeros zeroBetween putName over
+    sumWords hostOf realmOf publicOf privateOf serverOf headerOf soundHeader networkOf usedPlace soundPlace sameByte otherPlace newPlace soundNetworks
+    recordOf soundRecord blockOf tableOf publicAt privateAt sameSet agreeing risesAt standsAt agreesWith agreesAt soundAt firstBad checkRecords checkTable
+    firstFrom publicIs findPublic privateIs findPrivate serverHere servesAt findServer freeHere freeAt findFree barredAlone networkIs seek networkNumber
+    roamsIn negated sealed renewed settled challenged changedAt changedAll afterOf reaches vectorOf soundVector cardOf randAutnOf xresOf confidentialityOf
+    integrityOf piecesOf soundPiece checkVectors firstOnes unusedHere unusedAt unusedOf packed isOne markedUsed spent padded headOf vendorOf valueOf sound
+    walkFrom walk avpOf padding vendorHead copied avpBytes vendorBytes numberBytes vendorNumber group vendorGroup ifThere vendorApplication experimental
+    failed vendorNumbers capabilities known kindFrom kindBy rowOf useIn numberFault plainFault applicationMembers itemMembers membersOf isOf fits unlike
+    onlyOf membersFitting enough enoughAt gathers contentFault nothing ruleBy rule judge headerFault headPart alone failedOf sample exampleOf failedBy
+    missingFrom missing complete readWalk readIn identities placesFrom mandatoryOf optionalOf profileOf mayRoam authorization location findingOf grant
+    deedOf planOf claimOf challengeOf typeOf carried askedAt askedOf authorizeFound authorize soughtAt soughtOf locateFound locate claimedAt claimedOf
+    toSend authenticateFound authenticate meantBy every findAll numbersOf ownedHere ownedUpTo ownAt storesAt fitsAt rightAt surveyOf userKnown ownerBy
+    namedSurvey ownedSurvey assignMeant assign storedName plannedRecords carriedOut spentBy assignmentOf uarPlan sarPlan lirPlan marPlan planRead
+    performedBy judgedBy decideBy numberOf resultBytes frontBytes originBytes topBytes identityBytes nameBytes dataBytes givenBytes proxy proxies endBytes
+    challengeBytes keyBytes itemBytes itemsBytes numberedBytes sentBytes restBytes bodyBytes flagsOf headerBytes answerBytes tried wrongLength refused
+    answered serveFound serveTableBy
 opened = 0
