@@ -96,6 +96,10 @@ module _ (a : Lent) where
   unfolding anyHolds
   peer-exactly = demand-1 a .given [] _ (record { holds = unknownPeer (a .terms); number = 12; besides = 0 }) refl
 
+  pub peer-call : unknownPeer (a .terms) ≡ true → serveTable a .call ≡ Refused 12 0
+  unfolding serveTableBy serveFound tried refused
+  peer-call e = rw e
+
   pub peer-refused : unknownPeer (a .terms) ≡ true
       → serve a ≡ record { call = Refused 12 0; table = a .table; vectors = a .vectors; buffer = a .buffer }
   unfolding serveTableBy serveFound tried refused
