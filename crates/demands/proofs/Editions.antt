@@ -11,7 +11,7 @@ use Rattle.diameter.proofs.Walks.{walk-nil}
 use Rattle.reading.specs.Groups.{vendorId, applicationMembers, membersOf, isOf, fits, membersFitting, gathers, rfc3588, rfc6733, tooOften, groupFault}
 use Rattle.reading.specs.Kinds.{known, unknown, application, kindOf, rowOf, useIn, useOf, isNeeded}
 use Rattle.reading.specs.Rules.{Seen, contentFault, ofUse, ruleBy, rule}
-use Rattle.reading.specs.Verdicts.{faultOf}
+use Rattle.reading.specs.Verdicts.{lackOf}
 use Rattle.reading.specs.declared.Content.{Content}
 use Rattle.reading.specs.declared.Content.the-variants.{Free, Number, Sized, Members}
 use Rattle.reading.specs.declared.Dialect.{Dialect}
@@ -30,7 +30,7 @@ use Rattle.demands.specs.Peers.{vendorIds, OneVendor, Second}
 use Rattle.demands.proofs.Faults.{avp-least, avp-within, judge-taken, judge-skipped, judge-breaks}
 
 -- The kinds that are no 260 hold no such group.
-isApplication : Content → Bool
+abbrev isApplication : Content → Bool
 isApplication Free = false
 isApplication (Number least most) = false
 isApplication (Sized least most) = false
@@ -59,7 +59,7 @@ vendors-fit (faulty t) = omega arith
 vendors-fit (avp a w) = go (fits vendorId a) (isOf 266 0 a) refl refl (vendors-fit w)
   where
     is : fits vendorId a ≡ true → isOf 266 0 a ≡ true
-    is e = and-left (isOf 266 0 a) _ (and-right (eqb (reserved (avpFlags a)) 0) _ e)
+    is e = and-right (eqb (reserved (avpFlags a)) 0) _ (and-left (eqb (reserved (avpFlags a)) 0 && isOf 266 0 a) _ e)
 
     go : (x y : Bool) → fits vendorId a ≡ x → isOf 266 0 a ≡ y → membersFitting vendorId w ≤ vendorIds w
         → cond x (suc (membersFitting vendorId w)) (membersFitting vendorId w) ≤ cond y (suc (vendorIds w)) (vendorIds w)
@@ -98,7 +98,7 @@ module _ (command app : ℕ) where
           → (fault newer a ≡ fault older a) ⊎ (Second app a × (fault newer a ≡ 5009))
       here k false y e f = inl (rw (k, e))
       here k true false e f = inl (rw (k, e, f))
-      here k true true e f = inr (record { kind = k; right = e; two = omega (arith, ltb-true _ _ f) }, rw (k, e, f))
+      here k true true e f = inr (record { kind = k; right = e; two = omega (arith, ltb-true 1 (membersFitting vendorId w) f) }, rw (k, e, f))
 
       go : (x : Bool) → eqb (kindOf a) application ≡ x → (fault newer a ≡ fault older a) ⊎ (Second app a × (fault newer a ≡ 5009))
       go true e = here (eqb-true _ _ e) (gathers (applicationMembers app) w) (ltb 1 (membersFitting vendorId w)) refl refl
@@ -149,17 +149,16 @@ module _ (command app : ℕ) where
   unfolding judge
   walk-same at ended seen o = refl
   walk-same at (faulty t) seen o = refl
-  walk-same at (avp a w) seen o = go (rule-cases seen a)
+  walk-same at (avp a w) seen o =
+      go (rule-cases seen a) (on-same (rule older seen a) seen a at _ _ (λ s. walk-same (at + padded (length a)) w s (o .1)))
     where
-      rest : onRule (rule older seen a) seen a at (judge newer (at + padded (length a)) w)
-          ≡ onRule (rule older seen a) seen a at (judge older (at + padded (length a)) w)
-      rest = on-same (rule older seen a) seen a at _ _ (λ s. walk-same (at + padded (length a)) w s (o .1))
-
       go : (rule newer seen a ≡ rule older seen a) ⊎ (Second app a × (rule newer seen a ≡ Fault 5009))
+          → onRule (rule older seen a) seen a at (judge newer (at + padded (length a)) w)
+          ≡ onRule (rule older seen a) seen a at (judge older (at + padded (length a)) w)
           → onRule (rule newer seen a) seen a at (judge newer (at + padded (length a)) w)
           ≡ onRule (rule older seen a) seen a at (judge older (at + padded (length a)) w)
-      go (inl e) = rw e rest
-      go (inr s) = absurd (omega (arith, s .0 .two, vendors-fit (walk (dataOf a)), o .0 (s .0 .kind)))
+      go (inl e) rest = rw e rest
+      go (inr s) rest = absurd (omega (arith, s .0 .two, vendors-fit (walk (dataOf a)), o .0 (s .0 .kind)))
 
   -- WHAT IS MISSING, and the header
   missing-same : (seen : Seen) (ks : List Kind) (n : ℕ) → missingFrom newer seen ks n ≡ missingFrom older seen ks n
@@ -171,7 +170,7 @@ module _ (command app : ℕ) where
   complete-same : (j : Judged) → complete newer j ≡ complete older j
   unfolding complete missing
   complete-same (bad v) = refl
-  complete-same (fine seen) = ap (λ (n : ℕ). cond (eqb n 0) (fine seen) (bad (record { result = _; place = 0; lacks = n }))) (missing-same seen known 1)
+  complete-same (fine seen) = ap (λ (n : ℕ). cond (eqb n 0) (fine seen) (bad (lackOf n))) (missing-same seen known 1)
 
   header-same : (req : List ℕ) → headerFault newer req ≡ headerFault older req
   unfolding headerFault

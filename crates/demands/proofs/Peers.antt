@@ -30,11 +30,12 @@ tried-same : (give other : Trial → Served) (o p : Served) → ((r : Trial) →
     → tried give o rs ≡ tried other p rs
 unfolding tried anyHolds
 tried-same give other o p same [] h = h refl
-tried-same give other o p same (r ∷ rs) h = go (r .holds) h
+tried-same give other o p same (r ∷ rs) h = go (r .holds) h (λ k. tried-same give other o p same rs k)
   where
-    go : (x : Bool) → ((x || anyHolds rs) ≡ false → o ≡ p) → cond x (give r) (tried give o rs) ≡ cond x (other r) (tried other p rs)
-    go true k = same r
-    go false k = tried-same give other o p same rs k
+    go : (x : Bool) → ((x || anyHolds rs) ≡ false → o ≡ p) → ((anyHolds rs ≡ false → o ≡ p) → tried give o rs ≡ tried other p rs)
+        → cond x (give r) (tried give o rs) ≡ cond x (other r) (tried other p rs)
+    go true k next = same r
+    go false k next = next k
 
 module _ (x : Lent) where
   refused-same : (r : Trial) → refused (byPeer x rfc6733) r ≡ refused (byPeer x rfc3588) r
@@ -60,6 +61,13 @@ module _ (x : Lent) where
 
   away-same : turnedAway (byPeer x rfc6733) ≡ true → serveTable (byPeer x rfc6733) ≡ serveTable (byPeer x rfc3588)
   away-same t = calls-same (λ e. absurd (true≢false (sym t ∙ e)))
+
+  peer-served : unknownPeer (x .terms) ≡ true → serveTable x ≡ record { call = Refused 12 0; table = x .table; vectors = x .vectors; buffer = x .buffer }
+  unfolding serveTableBy serveFound tried refused
+  peer-served e = rw e
+
+  pub peer-call : unknownPeer (x .terms) ≡ true → serveTable x .call ≡ Refused 12 0
+  peer-call e = ap (λ (s : Served). s .call) (peer-served e)
 
 module _ (a : Lent) where
   -- "A MESSAGE WITH JUST ONE IS TREATED ALIKE UNDER BOTH". If none of the 260s among the request's AVPs up to its first length fault has two Vendor-Ids, the call
@@ -96,11 +104,6 @@ module _ (a : Lent) where
   unfolding anyHolds
   peer-exactly = demand-1 a .given [] _ (record { holds = unknownPeer (a .terms); number = 12; besides = 0 }) refl
 
-  pub peer-call : unknownPeer (a .terms) ≡ true → serveTable a .call ≡ Refused 12 0
-  unfolding serveTableBy serveFound tried refused
-  peer-call e = rw e
-
   pub peer-refused : unknownPeer (a .terms) ≡ true
       → serve a ≡ record { call = Refused 12 0; table = a .table; vectors = a .vectors; buffer = a .buffer }
-  unfolding serveTableBy serveFound tried refused
-  peer-refused e = ap (overArea (a .table)) (rw e refl) ∙ rw (put-same (a .table))
+  peer-refused e = ap (overArea (a .table)) (peer-served (tableOnly a) e) ∙ rw (put-same (a .table))

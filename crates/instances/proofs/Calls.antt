@@ -108,7 +108,7 @@ met-checked-vectors = reads-vectors vectors (Sound 2) sound-vectors
 met-checked-cut : ReadsCheck 6 (Bad 1) (word 6 0 1)
 met-checked-cut = reads-vectors cutOff (Bad 1) cut-off-bad
 
--- DEMAND 1: a request of 19 bytes is refusal 2, the second trial; the SAR is number 0 with the answer's length; two records of one public identity are
+-- DEMAND 1: a request of 19 bytes is refusal 2, the third trial; the SAR is number 0 with the answer's length; two records of one public identity are
 -- refusal 5; a vector file that has no whole block is refusal 6, which comes after 5
 abbrev tooShort : Lent
 tooShort = asked (take 19 (sar s 5))
@@ -116,7 +116,7 @@ tooShort = asked (take 19 (sar s 5))
 met-1 : eqb (callNumber (serve tooShort .call)) 2 ≡ true
 unfolding all room
 met-1 =
-    demand-1 tooShort .given (take 1 (trials (tableOnly tooShort))) (drop 2 (trials (tableOnly tooShort)))
+    demand-1 tooShort .given (take 2 (trials (tableOnly tooShort))) (drop 3 (trials (tableOnly tooShort)))
     (record { holds = true; number = 2; besides = 0 }) refl
 
 met-1-within : 116 ≤ length room
@@ -174,7 +174,7 @@ spoilt-sound = sound-empty
 met-1-sixth : eqb (callNumber (serve spoilt .call)) 6 ≡ true
 unfolding all room short spoilt tableIn sizeIn
 met-1-sixth =
-    demand-1 spoilt .given (take 5 (trials (tableOnly spoilt))) [] (record { holds = true; number = 6; besides = 0 }) refl
+    demand-1 spoilt .given (take 6 (trials (tableOnly spoilt))) [] (record { holds = true; number = 6; besides = 0 }) refl
 
 spoilt-refused : serve spoilt .call ≡ Refused 6 0
 unfolding all spoilt

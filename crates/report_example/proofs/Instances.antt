@@ -307,6 +307,18 @@ met-small : reported cramped area .buffer ≡ []
 unfolding cramped
 met-small = numbers.report-small cramped area (lit< tt) .2
 
+-- a peer of another edition: every request that is read is counted under 12
+unheard : Lent
+unheard = lent file here [] [] room (underCx 6734)
+
+met-peer : reported unheard area .table ≡ here
+unfolding unheard
+met-peer = numbers.report-peer unheard area refl .0
+
+met-peer-counts : wordIn (reported unheard area .area) 16 ≡ length (requestsOf unheard)
+unfolding unheard month
+met-peer-counts = numbers.report-peer-counts unheard area refl enough short
+
 -- a question alone
 met-idle : (reported alone area .table ≡ here) × (alteredOver alone (requestsOf alone) ≡ 0)
 unfolding alone allIdle numberOf
