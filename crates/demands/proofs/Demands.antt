@@ -107,7 +107,7 @@ module _ (a : Lent) where
   pub demand-1-number : callNumber (serve a .call) ≤ 12
   demand-1-number = number-most (tableOnly a)
 
-  -- Refusals 1 to 4 and 6 return 0 besides, refusal 5 the first bad block, and an answer returns its length.
+  -- Refusals 12, 1 to 4 and 6 return 0 besides, refusal 5 the first bad block, and an answer returns its length.
   pub demand-1-none : (n k : ℕ) → serve a .call ≡ Refused n k → n ≢ 5 → k ≡ 0
   demand-1-none = besides-none (tableOnly a)
 
