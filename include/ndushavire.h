@@ -70,8 +70,8 @@
 extern "C" {
 #endif
 
-#define NDUSHAVIRE_VERSION "0.11.0"
-#define NDUSHAVIRE_VERSION_NUMBER 1100 /* the same to compare: major x 10,000 + minor x 100 + patch */
+#define NDUSHAVIRE_VERSION "0.12.0"
+#define NDUSHAVIRE_VERSION_NUMBER 1200 /* the same to compare: major x 10,000 + minor x 100 + patch */
 
 #define NDUSHAVIRE_ANSWER_ROOM 36864       /* the least answer buffer, in bytes: no answer is longer */
 #define NDUSHAVIRE_REQUEST_MIN 20          /* the shortest request, a Diameter header alone */
@@ -82,6 +82,11 @@ extern "C" {
 #define NDUSHAVIRE_VECTORS_MAX 4096        /* the most vectors of a vector file */
 #define NDUSHAVIRE_VECTOR_FILE_MAX 2097152 /* the longest vector file, in bytes */
 #define NDUSHAVIRE_REPORT_ROOM 1160        /* the least report area, in bytes: its 145 words of 64 bits */
+
+/* The editions of the base standard, one of which the daemon states for each peer. Under RFC 6733 a Vendor-Specific-Application-Id (260) holds one
+ * Vendor-Id: one with more, otherwise right, gets B5009 with the whole of it in Failed-AVP. RFC 3588 allows several. */
+#define NDUSHAVIRE_RFC_3588 3588
+#define NDUSHAVIRE_RFC_6733 6733
 
 /* Each function but ndushavire_version returns a word. Keep it in a uint64_t: an int loses the number, and a refusal then looks like a short
  * answer. Its number is 0, or why the call was refused; a refused call has written nothing, but for number 7, which comes
@@ -98,6 +103,7 @@ extern "C" {
 #define NDUSHAVIRE_NEW_UNSOUND 9        /* of a take-over: the new table is unsound, not of its exact length, or of edition 1 */
 #define NDUSHAVIRE_ISSUE_NOT_GREATER 10 /* of a take-over: a header or record in the area has the new table's issue, or a greater one */
 #define NDUSHAVIRE_AREA_SHORT 11        /* of a take-over: the area is shorter than the new table */
+#define NDUSHAVIRE_PEER_UNKNOWN 12      /* the peer's edition is neither NDUSHAVIRE_RFC_3588 nor NDUSHAVIRE_RFC_6733 */
 #define NDUSHAVIRE_OUTPUT_SHORT 15      /* the report area is under NDUSHAVIRE_REPORT_ROOM */
 
 /* Answers one request, rewrites the records that it changes, those of their sets with them, and marks the vectors that it sends. The
@@ -106,7 +112,7 @@ extern "C" {
  * or none: half of a set on disk is an unsound table. */
 uint64_t ndushavire_decide(const uint8_t *request, size_t request_len, uint8_t *table, size_t table_len,
                            const uint8_t *profile, size_t profile_len, uint8_t *vectors, size_t vectors_len,
-                           uint8_t *answer, size_t answer_len);
+                           uint8_t *answer, size_t answer_len, uint32_t peer);
 
 /* Checks a table against its profile file. The word's number is 0 and its value the record count, or 5 and the first
  * bad block. Of a sound table in a longer area the first 512 x (value + 1) bytes were looked at: they are the table. */
@@ -127,7 +133,7 @@ uint64_t ndushavire_check_vectors(const uint8_t *vectors, size_t vectors_len);
  * value is 0, and no request's refusal ends the report: it is counted. */
 uint64_t ndushavire_report(const uint8_t *requests, size_t requests_len, uint8_t *table, size_t table_len,
                            const uint8_t *profile, size_t profile_len, uint8_t *vectors, size_t vectors_len,
-                           uint8_t *answer, size_t answer_len, uint8_t *report, size_t report_len);
+                           uint8_t *answer, size_t answer_len, uint8_t *report, size_t report_len, uint32_t peer);
 
 /* Moves a sound table of edition 1 to edition 2, in place: every block gets the edition, the issue number, which is any, and its new
  * check word; every set number is 0. Nothing else of it changes, and every request gets the answer that it got.

@@ -206,7 +206,7 @@ pub record Case : Type 0 where
 
 abbrev pub Agrees : Case → Type 0
 Agrees c =
-    serve (lent (c .request) (c .table) (c .profile) (c .vectors) (replicate (c .room) 0) underCx)
+    serve (lent (c .request) (c .table) (c .profile) (c .vectors) (replicate (c .room) 0) (underCx 3588))
     ≡ record { call = callIn (c .word); table = sets (c .table) (c .at) (c .changed);
                vectors = sets (c .vectors) (c .vectorsAt) (c .vectorsChanged); buffer = over (c .answer) (replicate (c .room) 0) }
 

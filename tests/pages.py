@@ -20,6 +20,7 @@ ANY = ''
 STATEMENTS = {
     'demands/Demands': ANY,
     'demands/Firm': ANY,
+    'demands/Peers': '02 [10]',
     'demands/Place': '02 [2]',
     'demands/Sets': '02 [6]',
     'demands/TakingOver': '02 [8]',

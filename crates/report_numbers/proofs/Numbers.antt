@@ -19,7 +19,7 @@ use Rattle.counting.specs.Counted.{howMany, numberAt, wordAt}
 use Rattle.counting.specs.Layout.{readWord, stopWord, alteredWord, largestWord, answeredWord, refusalWord, cellWord}
 use Rattle.counting.specs.Words.{longBytes}
 use Rattle.calling.specs.Lent.{Lent, asking, holding, tableOnly}
-use Rattle.calling.specs.Serve.{serve, resultOf}
+use Rattle.calling.specs.Serve.{unknownPeer, serve, resultOf}
 use Rattle.calling.proofs.Areas.{check-in}
 use Rattle.ndushavire.specs.Reads.{numberIn, placeIn, valueIn}
 use Rattle.ndushavire.specs.Promise.{DecidePromise, ReportPromise}
@@ -269,6 +269,18 @@ module _ (x : Lent) (a : List ℕ) where
   pub report-small : length (x .buffer) < 36864
       → (reported x a .table ≡ x .table) × (reported x a .vectors ≡ x .vectors) × (reported x a .buffer ≡ x .buffer)
   report-small h = over.over-refused x a (kept.short-refused (tableOnly x) h)
+
+  -- "a peer edition other than the two is number 12, before 1": every request read is counted under 12, the report itself is not refused, and all is left as
+  -- it came.
+  pub report-peer : unknownPeer (x .terms) ≡ true
+      → (reported x a .table ≡ x .table) × (reported x a .vectors ≡ x .vectors) × (reported x a .buffer ≡ x .buffer)
+  report-peer e = over.over-refused x a (kept.peer-refused (tableOnly x) e)
+
+  pub report-peer-counts : unknownPeer (x .terms) ≡ true → 1160 ≤ length a → length (x .request) < 2 ^ 64
+      → wordIn (reported x a .area) (refusalWord 12) ≡ length (requestsOf x)
+  report-peer-counts e room short =
+      report-refused x a room short 12 (omega arith) (omega arith) ∙ ap (howMany (refusedBy 12)) (report-over x (requestsOf x))
+      ∙ kept.peer-counts (tableOnly x) e (requestsOf x)
 
   -- Where every request is refused, or answered by an error, or neither a SAR nor a MAR, no byte of the area and no vector is altered.
   pub report-idle : allIdle (eventsOf x) ≡ true
