@@ -26,7 +26,8 @@ typedef struct {
 static uint64_t decide(const void *call) {
     const Call *c = (const Call *)call;
     const uint64_t word = ndushavire_decide(c->request->bytes, c->request->length, c->table, c->of->table_len, c->of->profile,
-                                            c->of->profile_len, c->vectors.bytes, c->vectors.length, c->answer, NDUSHAVIRE_ANSWER_ROOM);
+                                            c->of->profile_len, c->vectors.bytes, c->vectors.length, c->answer, NDUSHAVIRE_ANSWER_ROOM,
+                                            NDUSHAVIRE_RFC_6733);
     unmark(&c->vectors);
     return word;
 }

@@ -38,5 +38,5 @@ pub unsafe extern "C" fn reference_serve(
     let profile = from_raw_parts(profile, profile_len);
     let vectors = from_raw_parts_mut(vectors, vectors_len);
     let answer = from_raw_parts_mut(answer, answer_len);
-    reference::serve::serve(request, table, profile, vectors, answer, Stated::OLDER, Slip::NONE).0
+    reference::serve::serve(request, table, profile, vectors, answer, Stated::NEWER, Slip::NONE).0
 }
