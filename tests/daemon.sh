@@ -102,7 +102,7 @@ without 'a table that is stored before the vectors' files.h \
     's/(used \&\& !durable(&vectors)) || (rewritten \&\& !durable(&table))/(rewritten \&\& !durable(\&table)) || (used \&\& !durable(\&vectors))/'
 without 'vectors that are unsound and lent as they are' files.h 's/vectors.length = 0;/;/'
 without 'vectors of a MAR that are not looked at' files.h 's/= is_mar \&\& altered(&vectors)/= is_mar \&\& 0/'
-without 'an edition that is not the peer'"'"'s' daemon.c 's/sizeof answer, peer->edition)/sizeof answer, NDUSHAVIRE_RFC_3588)/'
+without 'an edition that is not the peer'"'"'s' daemon.c 's/sizeof answer, peer->edition)/sizeof answer, peer != NULL ? NDUSHAVIRE_RFC_3588 : 0)/'
 without 'a success that is taken for an error' daemon.c 's/ \/ 1000 == 2; }/ \/ 1000 == 3; }/'
 without 'a table renamed away before ours is stored' files.h \
     's/^    const int folder = table.folder;$/&\n    renameat(folder, "table", folder, "table.declined");/'
