@@ -1,7 +1,8 @@
 /* decide TABLE PROFILE NAMES ..: times one decision on each table, beside the checks that are part of it and the
  * reference's decision in Rust. Over a table with tiny names, of which a request can hold 1,000, removals
  * are timed. Every request leaves the table as the first call made it, and what it marks in the vector file, which is empty
- * but for a MAR, is unmarked again, so that each call does the same work. */
+ * but for a MAR, is unmarked again, so that each call does the same work. As in all benchmarks the peer follows RFC 6733, by which one rule more is
+ * asked. */
 #define _POSIX_C_SOURCE 199309L
 #include "aims.h"
 #include "timing.h"

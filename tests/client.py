@@ -943,13 +943,13 @@ def editions(room):
         clients = [(gateway, of_gateway)] + [(host, of_others) for host in others]
         clients = [(Client(room, host=host), host.decode(), edition) for host, edition in clients]  # all are open at once
         for client, host, edition in clients:
-            room.logged("peer %s: open, RFC %d\n" % (re.escape(host), edition))
             for ask, alone in (lir, "X2003"), (uar, "X2001"), (lambda user, **more: sar(user, 0, **more), "B5012"):
                 want(result(client.ask(ask(1))) == alone, "with one Vendor-Id, %s of %s" % (alone, host))
                 answer = client.ask(ask(1, vendors=2))
                 want(result(answer) == ("B5009" if edition == 6733 else alone), "a second Vendor-Id by RFC %d of %s" % (edition, host))
                 want(edition == 3588 or all_of(answer, 279) == [application(2)], "Failed-AVP has not the whole 260")
             want((edition == 6733) == ("peer %s: B5009 at byte " % host in room.log()), "the log, by RFC %d of %s" % (edition, host))
+            room.logged("peer %s: open, RFC %d\\b" % (re.escape(host), edition))
         # The name that a peer gives last is its own.
         client = clients[1][0]
         client.ask(cer(host=gateway))
