@@ -31,7 +31,7 @@ static inline int is_statement(const char *statement) {
 }
 
 /* The edition that a peer follows, by the Origin-Host of its CER. What is stated of it goes before what is stated of all, and the last
- * word on either counts. Names of hosts are the same in any case. */
+ * word on either counts. Names of hosts are the same in upper and lower case. */
 static inline uint32_t edition_followed(char *const *statements, size_t count, const uint8_t *name, size_t length) {
     uint32_t of_all = NDUSHAVIRE_RFC_3588, of_peer = 0;
     for (size_t i = 0; i < count; i++) {
