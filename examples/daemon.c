@@ -193,7 +193,8 @@ static void log_challenge(const Peer *peer, const uint8_t *request, size_t reque
 /* A result 2xxx, B or X. */
 static int succeeded(size_t length) { return (base_result(answer, length) + experimental_result(answer, length)) / 1000 == 2; }
 
-/* What may alter something if it comes a second time is remembered. */
+/* What may alter something if it comes a second time is remembered. A request with an AVP at fault is not: it altered nothing, and whoever brings
+ * it again is answered by his own edition. */
 static void remember_for_twice(int has_altered, const uint8_t *request, size_t length, size_t answer_len) {
     static time_t said;
     if (remember(now, has_altered, request, length, answer, answer_len) || !has_altered || (said != 0 && now - said < 60)) return;
@@ -213,7 +214,7 @@ static void serve_new(Peer *peer, const uint8_t *request, size_t length) {
     log_challenge(peer, request, length, answer_len);
     if (may_alter(request, length) && succeeded(answer_len)) outcome = keep_altered(command_of(request) == MULTIMEDIA_AUTH);
     if (outcome == UNDONE) return;
-    if (may_alter(request, length)) remember_for_twice(outcome == KEPT, request, length, answer_len);
+    if (may_alter(request, length) && ndushavire_place(word) == 0) remember_for_twice(outcome == KEPT, request, length, answer_len);
     send_later(peer, answer, answer_len);
 }
 

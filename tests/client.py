@@ -950,6 +950,10 @@ def editions(room):
                 want(edition == 3588 or all_of(answer, 279) == [application(2)], "Failed-AVP has not the whole 260")
             want((edition == 6733) == ("peer %s: B5009 at byte " % host in room.log()), "the log, by RFC %d of %s" % (edition, host))
             room.logged("peer %s: open, RFC %d\\b" % (re.escape(host), edition))
+        # One request that comes by several peers, those by RFC 6733 first: nobody is turned away by another's edition.
+        asked = sar(1, 0, vendors=2)
+        for client, host, edition in sorted(clients, key=lambda one: -one[2]):
+            want(result(client.ask(asked)) == ("B5009" if edition == 6733 else "B5012"), "a request that comes again, by RFC %d of %s" % (edition, host))
         # The name that a peer gives last is its own.
         client = clients[1][0]
         client.ask(cer(host=gateway))

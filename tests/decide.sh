@@ -197,26 +197,30 @@ painless 'a MAR for no vectors' B5012 "$(message 303 $cx "$(mar bob@isle sip:bob
 
 # ---- the peer's edition: a second Vendor-Id in 260, and all else of it right, is at fault by RFC 6733 alone
 vendor=$(avp 266 40 - 000028AF)
-twice() { avp 260 "${2-40}" - "$1"; } # MEMBERS [FLAGS]
+group() { avp 260 "${2-40}" - "$1"; } # MEMBERS [FLAGS]
 behind_it=$stateless$from$(avp 283 40 - "$(text isle)")$(public sip:bob@isle)
 for members in "$vendor$both" "$both$vendor" "$vendor$vendor$both" "$(avp 266 00 - 000028AF)$(avp 258 20 - $cx)$(avp 266 60 - 000028AF)"; do
     editions=('' '-e 3588')
-    painless 'several Vendor-Ids by RFC 3588' B2001 "$(message 302 $cx "$session$(twice "$members")$behind_it")"
+    painless 'several Vendor-Ids by RFC 3588' B2001 "$(message 302 $cx "$session$(group "$members")$behind_it")"
     editions=('-e 6733')
-    hurts 'several Vendor-Ids by RFC 6733' 302 "B5009 at byte PLACE: AVP 260 flags 0x40 length $((8 + ${#members} / 2))" 8 "$session" "$(twice "$members")" "$behind_it"
-    [[ $bytes = *"$(avp 279 40 - "$(twice "$members")")"* ]] || { echo "decide.sh: Failed-AVP has not the whole 260: $bytes" >&2; exit 1; }
+    hurts 'several Vendor-Ids by RFC 6733' 302 "B5009 at byte PLACE: AVP 260 flags 0x40 length $((8 + ${#members} / 2))" 8 "$session" "$(group "$members")" "$behind_it"
+    [[ $bytes = *"$(avp 279 40 - "$(group "$members")")"* ]] || { echo "decide.sh: Failed-AVP has not the whole 260: $bytes" >&2; exit 1; }
 done
 # An AVP before it that is at fault goes before, and so does its own reserved flag; what is missing comes behind.
-hurts 'an unknown AVP before several Vendor-Ids' 302 'B5001 at byte PLACE: AVP 999 flags 0x40 length 8' 8 "$session" "$(avp 999 40 - '')" "$(twice "$vendor$both")"
-hurts 'several Vendor-Ids and a reserved flag' 302 'B3009 at byte PLACE: AVP 260 flags 0x41 length 44' 8 "$session" "$(twice "$vendor$both" 41)" "$behind_it"
-hurts 'several Vendor-Ids, and nothing else' 302 'B5009 at byte PLACE: AVP 260 flags 0x40 length 44' 8 "$session" "$(twice "$vendor$both")"
-painless 'several Vendor-Ids under another application' B3007 "$(message 302 01000001 "$session$(twice "$vendor$both")")"
-# What is wrong by either edition.
+hurts 'an unknown AVP before several Vendor-Ids' 302 'B5001 at byte PLACE: AVP 999 flags 0x40 length 8' 8 "$session" "$(avp 999 40 - '')" "$(group "$vendor$both")"
+hurts 'several Vendor-Ids and a reserved flag' 302 'B3009 at byte PLACE: AVP 260 flags 0x41 length 44' 8 "$session" "$(group "$vendor$both" 41)" "$behind_it"
+hurts 'several Vendor-Ids, and nothing else' 302 'B5009 at byte PLACE: AVP 260 flags 0x40 length 44' 8 "$session" "$(group "$vendor$both")"
+painless 'several Vendor-Ids under another application' B3007 "$(message 302 01000001 "$session$(group "$vendor$both")")"
+# What is right, and what is wrong, by either edition.
 editions=('' '-e 3588' '-e 6733')
-for members in "$both$(avp 266 40 - 00000032)" "$both$(avp 258 40 - $cx)" "$vendor$vendor" "$vendor$both$(avp 259 40 - 00000003)" "$both$(avp 266 41 - 000028AF)"; do
-    hurts 'several members, and one is wrong' 302 "B5004 at byte PLACE: AVP 260 flags 0x40 length $((8 + ${#members} / 2))" 8 "$session" "$(twice "$members")" "$behind_it"
+for members in "$both" "$(avp 258 40 - $cx)$vendor" "$(avp 266 00 - 000028AF)$(avp 258 60 - $cx)" "$(avp 258 20 - $cx)$(avp 266 20 - 000028AF)"; do
+    painless 'one Vendor-Id' B2001 "$(message 302 $cx "$session$(group "$members")$behind_it")"
+    painless 'one Vendor-Id, and 260 without M' B2001 "$(message 302 $cx "$session$(group "$members" 00)$behind_it")"
 done
-hurts 'a second 260' 302 'B5009 at byte PLACE: AVP 260 flags 0x40 length 44' 8 "$session$application" "$(twice "$vendor$both")" "$behind_it"
+for members in "$both$(avp 266 40 - 00000032)" "$both$(avp 258 40 - $cx)" "$vendor$vendor" "$vendor$both$(avp 259 40 - 00000003)" "$both$(avp 266 41 - 000028AF)"; do
+    hurts 'several members, and one is wrong' 302 "B5004 at byte PLACE: AVP 260 flags 0x40 length $((8 + ${#members} / 2))" 8 "$session" "$(group "$members")" "$behind_it"
+done
+hurts 'a second 260' 302 'B5009 at byte PLACE: AVP 260 flags 0x40 length 44' 8 "$session$application" "$(group "$vendor$both")" "$behind_it"
 : >"$vectors"
 uses mar-33
 # ---- a family in one set, blocks 1, 3 and 4, and a line beside it, as TABLE.md has them
