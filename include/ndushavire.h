@@ -54,7 +54,7 @@
  * archive has no unwind tables: a debugger's backtrace ends at the call.
  *
  * The peer. RFC 3588 and RFC 6733 are editions of the base standard that differ here in one point: by the newer one a
- * Vendor-Specific-Application-Id (260) holds one Vendor-Id, and by the older one any number. The daemon states for each peer which of the two
+ * Vendor-Specific-Application-Id (260) holds one Vendor-Id, and by the older one it may hold several. The daemon states for each peer which of the two
  * it follows, at each call; nothing in a message says it. Where nobody has told the daemon, NDUSHAVIRE_RFC_3588 is right: it turns away nothing
  * that the other one takes. A request in which no 260 has a second Vendor-Id gets the same answer under both, to the byte, and alters the same:
  * this is proved.
