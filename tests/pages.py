@@ -48,7 +48,7 @@ MARKS = ('the contract', 'none:')
 # Names that are not this tree's: words of Rattle, of C, of other software, of protocols; and samples.
 OTHERS = set('''
     Bool abbrev ensures false match none not pub requires true unfoldable use mod zero wrapping_add wrapping_sub memcpy memset strict_mbit cxdx_forced_peer
-    AKAv1-MD5 Digest-AKAv1-MD5 unknown nonce= response= axioms= libraries-built=trusted logic-built=trusted
+    diameter_gen_base_rfc3588 diameter_gen_base_rfc6733 AKAv1-MD5 Digest-AKAv1-MD5 unknown nonce= response= axioms= libraries-built=trusted logic-built=trusted
     Bob a aa bob isle r key=value
 '''.split()) | {
     r'a\0', '#', r'\"', r'\\', r'\xHH', 't .entry', 'refused 2', 'installed', 'number << 48', 'number << 48 | place << 32 | value', 'N passed, 0 failed',
