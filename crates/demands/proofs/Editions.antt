@@ -1,6 +1,6 @@
 -- Reading under the two editions of the base standard: the same, or the newer one blames a 260 for its second Vendor-Id.
 use Rattle.octets.specs.Standard.{ℕ, zero, suc, _+_, _≤_, _<_, List, [], _∷_, none, some, Bool, true, false, cond, not, _&&_, _||_, true≢false, _≡_, refl, sym}
-use Rattle.octets.specs.Standard.{ap, _∙_, _⊎_, inl, inr, _≢_, arith, length, getD, drop, set, length-drop, eqb, ltb, eqb-true, eqb-false, ltb-true}
+use Rattle.octets.specs.Standard.{ap, _∙_, _⊎_, inl, inr, _≢_, arith, length, getD, drop, set, length-drop, eqb, ltb, eqb-true, eqb-false, ltb-true, lt-ltb}
 use Rattle.octets.proofs.All.{and-left, and-right}
 use Rattle.diameter.specs.Avp.{padded, avpFlags, dataOf, reserved, sound}
 use Rattle.diameter.specs.AvpAt.{present, avpAt}
@@ -87,7 +87,7 @@ module _ (command app : ℕ) where
   abbrev fault : Dialect → List ℕ → ℕ
   fault d a = contentFault d (rowOf (kindOf a) .content) a
 
-  content-cases : (a : List ℕ) → (fault newer a ≡ fault older a) ⊎ (Second app a × (fault newer a ≡ 5009))
+  content-cases : (a : List ℕ) → (fault newer a ≡ fault older a) ⊎ Second app a
   unfolding contentFault groupFault tooOften membersOf rowOf known
   content-cases a = go (eqb (kindOf a) application) refl
     where
@@ -95,12 +95,12 @@ module _ (command app : ℕ) where
       w = walk (dataOf a)
 
       here : kindOf a ≡ application → (x y : Bool) → gathers (applicationMembers app) w ≡ x → ltb 1 (membersFitting vendorId w) ≡ y
-          → (fault newer a ≡ fault older a) ⊎ (Second app a × (fault newer a ≡ 5009))
+          → (fault newer a ≡ fault older a) ⊎ Second app a
       here k false y e f = inl (rw (k, e))
       here k true false e f = inl (rw (k, e, f))
-      here k true true e f = inr (record { kind = k; right = e; two = omega (arith, ltb-true 1 (membersFitting vendorId w) f) }, rw (k, e, f))
+      here k true true e f = inr (record { kind = k; right = e; two = omega (arith, ltb-true 1 (membersFitting vendorId w) f) })
 
-      go : (x : Bool) → eqb (kindOf a) application ≡ x → (fault newer a ≡ fault older a) ⊎ (Second app a × (fault newer a ≡ 5009))
+      go : (x : Bool) → eqb (kindOf a) application ≡ x → (fault newer a ≡ fault older a) ⊎ Second app a
       go true e = here (eqb-true _ _ e) (gathers (applicationMembers app) w) (ltb 1 (membersFitting vendorId w)) refl refl
       go false e = inl (content-same (rowOf (kindOf a) .content) a (row-other (kindOf a) (eqb-false _ _ e)))
 
@@ -119,24 +119,35 @@ module _ (command app : ℕ) where
       go false false true = refl
       go false false false = refl
 
-  too-often : (seen : Seen) (a : List ℕ) → Second app a → fault newer a ≡ 5009
-      → (rule newer seen a ≡ rule older seen a) ⊎ (Second app a × (rule newer seen a ≡ Fault 5009))
+  -- Such a 260 is at fault by the newer edition, whatever was seen before it: a second one by (f), with the same result.
+  second-fault : (a : List ℕ) → Second app a → fault newer a ≡ 5009
+  unfolding contentFault groupFault tooOften membersOf rowOf known
+  second-fault a s = rw (s .kind, s .right, lt-ltb 1 (membersFitting vendorId (walk (dataOf a))) (omega (arith, s .two)))
+
+  pub second-rule : (seen : Seen) (a : List ℕ) → Second app a → eqb (reserved (avpFlags a)) 0 ≡ true → rule newer seen a ≡ Fault 5009
   unfolding rule ruleBy
-  too-often seen a s e = go (eqb (reserved (avpFlags a)) 0) (present (getD seen (kindOf a) none)) refl refl
+  second-rule seen a s f = go (present (getD seen (kindOf a) none)) refl
     where
-      go : (x y : Bool) → eqb (reserved (avpFlags a)) 0 ≡ x → present (getD seen (kindOf a) none) ≡ y
+      go : (y : Bool) → present (getD seen (kindOf a) none) ≡ y → rule newer seen a ≡ Fault 5009
+      go true g = rw (f, needed a (s .kind), g)
+      go false g = rw (f, needed a (s .kind), g, second-fault a s)
+
+  too-often : (seen : Seen) (a : List ℕ) → Second app a → (rule newer seen a ≡ rule older seen a) ⊎ (Second app a × (rule newer seen a ≡ Fault 5009))
+  unfolding rule ruleBy
+  too-often seen a s = go (eqb (reserved (avpFlags a)) 0) refl
+    where
+      go : (x : Bool) → eqb (reserved (avpFlags a)) 0 ≡ x
           → (rule newer seen a ≡ rule older seen a) ⊎ (Second app a × (rule newer seen a ≡ Fault 5009))
-      go false y f g = inl (rw f)
-      go true true f g = inr (s, rw (f, needed a (s .kind), g))
-      go true false f g = inr (s, rw (f, needed a (s .kind), g, e))
+      go false f = inl (rw f)
+      go true f = inr (s, second-rule seen a s f)
 
   rule-cases : (seen : Seen) (a : List ℕ) → (rule newer seen a ≡ rule older seen a) ⊎ (Second app a × (rule newer seen a ≡ Fault 5009))
   rule-cases seen a = go (content-cases a)
     where
-      go : (fault newer a ≡ fault older a) ⊎ (Second app a × (fault newer a ≡ 5009))
+      go : (fault newer a ≡ fault older a) ⊎ Second app a
           → (rule newer seen a ≡ rule older seen a) ⊎ (Second app a × (rule newer seen a ≡ Fault 5009))
       go (inl e) = inl (rule-same seen a e)
-      go (inr s) = too-often seen a (s .0) (s .1)
+      go (inr s) = too-often seen a s
 
   -- A WALK on which no 260 has two
   on-same : (r : Ruled) (seen : Seen) (a : List ℕ) (at : ℕ) (next other : Seen → Judged) → ((s : Seen) → next s ≡ other s)

@@ -2,26 +2,28 @@
 -- proofs/Demands), for anything lent. What the words below mean is in specs/Peers. Demand 3 (proofs/Demands) is over whatever the terms of the call are, and
 -- so once over the edition.
 use Rattle.octets.specs.Standard.{ℕ, List, [], _∷_, Bool, true, false, cond, _||_, true≢false, _≡_, refl, sym, ap, _∙_, _⊎_, inl, inr, eqb, drop}
+use Rattle.diameter.specs.Avp.{avpFlags, reserved, sound}
 use Rattle.diameter.specs.AvpAt.{avpOf, avpAt}
 use Rattle.diameter.specs.Message.{bodyOf, commandOf}
 use Rattle.reading.specs.Groups.{rfc3588, rfc6733}
-use Rattle.requests.specs.Request.{readIn}
+use Rattle.reading.specs.Rules.{Seen}
+use Rattle.requests.specs.Request.{headerFault, firstOther, readIn}
 use Rattle.failed.specs.Failing.{failedOf}
 use Rattle.reply.specs.Pieces.{frontBytes, topBytes}
 use Rattle.answering.specs.Answer.{bodyBytes, answerBytes}
 use Rattle.deciding.specs.Decide.{Decision}
 use Rattle.calling.specs.Call.{Refused}
-use Rattle.calling.specs.Lent.{Lent, tableOnly}
+use Rattle.calling.specs.Lent.{Lent, tableOnly, dialectIn}
 use Rattle.calling.specs.Trial.{Trial, tried, anyHolds}
 use Rattle.calling.specs.Serve.{Served, unknownPeer, checkOf, checkValue, trials, refused, answered, decision, serveFound, serveTableBy, serveTable}
 use Rattle.calling.specs.Serve.{overArea, serve}
 use Rattle.calling.proofs.Areas.{put-same}
 use Rattle.ndushavire.specs.Reads.{callNumber}
 use Rattle.demands.specs.Call.{turnedAway}
-use Rattle.demands.specs.Place.{AtFault}
-use Rattle.demands.specs.Peers.{byPeer, OneVendor, ToldApart}
+use Rattle.demands.specs.Place.{ReadingReaches, ruleFault, AtFault, blaming}
+use Rattle.demands.specs.Peers.{byPeer, OneVendor, Second, ToldApart}
 use Rattle.demands.proofs.Demands.{demand-1}
-use Rattle.demands.proofs.Editions.{older, newer, Apart, walk-same, read-same, read-cases, decide-same}
+use Rattle.demands.proofs.Editions.{older, newer, Apart, walk-same, read-same, read-cases, second-rule, decide-same}
 use Rattle.demands.proofs.Faults.{avp-own}
 use Rattle.demands.proofs.Place.{place-answer}
 
@@ -98,6 +100,19 @@ module _ (a : Lent) where
           → (serve (byPeer a rfc6733) ≡ serve (byPeer a rfc3588)) ⊎ ToldApart a
       go (inl e) = inl (ap (overArea (a .table)) (reads-same (tableOnly a) e))
       go (inr f) = apart f (turnedAway (tableOnly (byPeer a rfc6733))) refl
+
+  -- .. and it is that answer wherever reading by RFC 6733 comes to such a 260 with no fault before it and finds no reserved flag in it.
+  pub second-told : (place : ℕ) (seen : Seen) → turnedAway (tableOnly (byPeer a rfc6733)) ≡ false
+      → headerFault (dialectIn (byPeer a rfc6733)) (a .request) ≡ 0 → firstOther (bodyOf (a .request)) ≡ false
+      → ReadingReaches (dialectIn (byPeer a rfc6733)) (a .request) place seen → sound (drop place (a .request)) ≡ true
+      → reserved (avpFlags (avpAt (a .request) place)) ≡ 0 → Second (a .terms .application) (avpAt (a .request) place)
+      → serve (byPeer a rfc6733) ≡ blaming (byPeer a rfc6733) 5009 (avpAt (a .request) place) place
+  unfolding failedOf
+  second-told place seen t h f r w c s =
+      let broken = ruleFault 5009 w (second-rule (commandOf (a .request)) (a .terms .application) seen (avpAt (a .request) place) s (rw c)) in
+      let fault : AtFault (dialectIn (byPeer a rfc6733)) (a .request) 5009 place
+      = record { header = h; session = f; seen = seen; reached = r; breaks = broken } in
+      rw (avp-own (a .request) place w) (place-answer (byPeer a rfc6733) place (record { taken = t; result = 5009; fault = fault }))
 
   -- "A PEER EDITION OTHER THAN THE TWO IS NUMBER 12, BEFORE 1": exactly then, whatever else is lent, and nothing is altered.
   pub peer-exactly : eqb (callNumber (serve a .call)) 12 ≡ unknownPeer (a .terms)
