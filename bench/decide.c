@@ -1,7 +1,8 @@
 /* decide TABLE PROFILE NAMES ..: times one decision on each table, beside the checks that are part of it and the
  * reference's decision in Rust. Over a table with tiny names, of which a request can hold 1,000, removals
  * are timed. Every request leaves the table as the first call made it, and what it marks in the vector file, which is empty
- * but for a MAR, is unmarked again, so that each call does the same work. */
+ * but for a MAR, is unmarked again, so that each call does the same work. As in all benchmarks the peer follows RFC 6733, by which one rule more is
+ * asked. */
 #define _POSIX_C_SOURCE 199309L
 #include "aims.h"
 #include "timing.h"
@@ -26,7 +27,8 @@ typedef struct {
 static uint64_t decide(const void *call) {
     const Call *c = (const Call *)call;
     const uint64_t word = ndushavire_decide(c->request->bytes, c->request->length, c->table, c->of->table_len, c->of->profile,
-                                            c->of->profile_len, c->vectors.bytes, c->vectors.length, c->answer, NDUSHAVIRE_ANSWER_ROOM);
+                                            c->of->profile_len, c->vectors.bytes, c->vectors.length, c->answer, NDUSHAVIRE_ANSWER_ROOM,
+                                            NDUSHAVIRE_RFC_6733);
     unmark(&c->vectors);
     return word;
 }

@@ -1,6 +1,7 @@
 //! The reference's checks and its decision for C to call, so that one program times all.
 
 use reference::slip::Slip;
+use reference::stated::Stated;
 use std::slice::{from_raw_parts, from_raw_parts_mut};
 
 /// # Safety
@@ -37,5 +38,5 @@ pub unsafe extern "C" fn reference_serve(
     let profile = from_raw_parts(profile, profile_len);
     let vectors = from_raw_parts_mut(vectors, vectors_len);
     let answer = from_raw_parts_mut(answer, answer_len);
-    reference::serve::serve(request, table, profile, vectors, answer, Slip::NONE).0
+    reference::serve::serve(request, table, profile, vectors, answer, Stated::NEWER, Slip::NONE).0
 }

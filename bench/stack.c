@@ -24,14 +24,14 @@ static void check_vectors(void) { word = ndushavire_check_vectors(vectors.bytes,
 static void decide(void) {
     static uint8_t answer[NDUSHAVIRE_ANSWER_ROOM];
     word = ndushavire_decide(request.bytes, request.length, s->table, s->table_len, s->profile, s->profile_len, vectors.bytes,
-                             vectors.length, answer, sizeof answer);
+                             vectors.length, answer, sizeof answer, NDUSHAVIRE_RFC_6733);
 }
 
 static uint8_t numbers[NDUSHAVIRE_REPORT_ROOM];
 static void report(void) {
     static uint8_t answer[NDUSHAVIRE_ANSWER_ROOM];
     word = ndushavire_report(month, month_len, s->table, s->table_len, s->profile, s->profile_len, vectors.bytes, vectors.length, answer,
-                             sizeof answer, numbers, sizeof numbers);
+                             sizeof answer, numbers, sizeof numbers, NDUSHAVIRE_RFC_6733);
 }
 
 static uint8_t fresh[NDUSHAVIRE_TABLE_MAX], area[NDUSHAVIRE_TABLE_MAX]; /* the table in edition 2, and nothing, or what was taken over before */

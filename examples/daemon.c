@@ -1,4 +1,5 @@
-/* daemon [-a ADDRESS] [-p PORT] LIVE CARDS: the smallest whole daemon over the library, to be copied: what ndushavire(3) tells, running.
+/* daemon [-a ADDRESS] [-p PORT] [-e EDITION[=HOST]].. LIVE CARDS: the smallest whole daemon over the library, to be copied: what
+ * ndushavire(3) tells, running.
  * LIVE is the folder of table and profile, or a link to it; CARDS is that of the vector file, vectors. It listens on 127.0.0.1, port 3868,
  * unless it is told otherwise, and stays in the foreground. Its log goes to standard error, which somebody must read, or it is a file: a
  * pipe that is full would be waited for.
@@ -13,6 +14,8 @@
  *   as table.next, is written over it block by block (taking.h). Vectors are put in with the daemon stopped: while it runs it has locks on the
  *   table's folder and on CARDS/lock.
  * - It never stores over files that nobody may write to: those are a last good copy.
+ * - Each peer follows RFC 3588, or RFC 6733, as -e says: -e 6733 is for all peers, -e 6733=gw.mainland.example for the one that has this
+ *   Origin-Host in its CER, and goes before it. Without -e it is RFC 3588. The log says it of each peer that comes (peers.h).
  *
  * Who may connect, TLS, failover and routing are a relay's in front of it; INTEROPERABILITY.md shows one.
  * Exit status: 0 ended by SIGTERM or SIGINT, or --help; 1 it cannot start or go on; 2 the arguments are others. */
@@ -30,6 +33,7 @@
 #include "fault.h"
 #include "files.h"
 #include "log.h"
+#include "peers.h"
 #include "remember.h"
 #include "taking.h"
 
@@ -42,12 +46,13 @@
 #ifndef FAREWELL
 #define FAREWELL 3 /* seconds that peers have to answer our DPR */
 #endif
-enum { PEERS = 64, NAME_ROOM = 80, OUT_ROOM = 2 * NDUSHAVIRE_ANSWER_ROOM, BASE_ROOM = 512 };
+enum { PEERS = 64, STATEMENTS = 64, NAME_ROOM = 80, OUT_ROOM = 2 * NDUSHAVIRE_ANSWER_ROOM, BASE_ROOM = 512 };
 
 typedef struct {
     int socket;             /* -1: nobody */
     int open, ending;       /* whether it has its CEA; whether it is hung up on once all is written */
     int asked;              /* whether a DWR of ours is out */
+    uint32_t edition;       /* of the base standard, from its CER on */
     time_t heard;           /* when its last whole message came */
     char name[NAME_ROOM];   /* for the log */
     size_t have, over, out; /* bytes that were read; that are yet to be read over; that are yet to be written */
@@ -56,6 +61,8 @@ typedef struct {
 
 static Peer peers[PEERS];
 static uint8_t answer[NDUSHAVIRE_ANSWER_ROOM];
+static char *statements[STATEMENTS]; /* what -e says of peers */
+static size_t stated;
 
 static void hang_up(Peer *peer, const char *why) {
     say("peer %s: hung up: %s", peer->name, why);
@@ -113,13 +120,15 @@ static void greet(Peer *peer, const uint8_t *request, size_t length) {
         return;
     }
     write_name(peer->name, sizeof peer->name, host + 8, avp_length(host) - 8);
+    peer->edition = edition_followed(statements, stated, host + 8, avp_length(host) - 8);
     const int common = names_cx(request + HEADER, length - HEADER);
     put_answer(reply, request, table.bytes, common ? SUCCESS : NO_COMMON_APPLICATION);
     put_capabilities(reply, address, own_address(peer, address));
     send_later(peer, reply, message_length(reply));
     peer->open = common;
     peer->ending = !common;
-    say("peer %s: %s", peer->name, common ? "open" : "it does not speak Cx");
+    if (common) say("peer %s: open, RFC %lu", peer->name, (unsigned long)peer->edition);
+    else say("peer %s: it does not speak Cx", peer->name);
 }
 
 /* CER, DWR, DPR, and the answers to ours. */
@@ -143,17 +152,17 @@ static int may_alter(const uint8_t *request, size_t length) {
     return length >= HEADER && (command_of(request) == SERVER_ASSIGNMENT || command_of(request) == MULTIMEDIA_AUTH);
 }
 
-static uint64_t decide_once(const uint8_t *request, size_t length) {
+static uint64_t decide_once(const Peer *peer, const uint8_t *request, size_t length) {
     return ndushavire_decide(request, length, table.bytes, table.length, profile.bytes, profile.length, vectors.bytes, vectors.length, answer,
-                             sizeof answer);
+                             sizeof answer, peer->edition);
 }
 
-static uint64_t decide(const uint8_t *request, size_t length) {
-    const uint64_t word = decide_once(request, length);
+static uint64_t decide(const Peer *peer, const uint8_t *request, size_t length) {
+    const uint64_t word = decide_once(peer, request, length);
     const uint32_t number = ndushavire_number(word);
     if (number != NDUSHAVIRE_TABLE_UNSOUND && number != NDUSHAVIRE_VECTORS_UNSOUND) return word;
     read_again(number);
-    return decide_once(request, length);
+    return decide_once(peer, request, length);
 }
 
 /* A refusal has no answer. A stream that is out of step is hung up on; anything else is dropped. */
@@ -184,7 +193,8 @@ static void log_challenge(const Peer *peer, const uint8_t *request, size_t reque
 /* A result 2xxx, B or X. */
 static int succeeded(size_t length) { return (base_result(answer, length) + experimental_result(answer, length)) / 1000 == 2; }
 
-/* What may alter something if it comes a second time is remembered. */
+/* What may alter something if it comes a second time is remembered, and whichever peer brings it again is sent the answer as it was, by whatever base
+ * standard: it was done once. A request with an AVP at fault is not: it altered nothing, and the peer that brings it again is answered by its own. */
 static void remember_for_twice(int has_altered, const uint8_t *request, size_t length, size_t answer_len) {
     static time_t said;
     if (remember(now, has_altered, request, length, answer, answer_len) || !has_altered || (said != 0 && now - said < 60)) return;
@@ -193,7 +203,7 @@ static void remember_for_twice(int has_altered, const uint8_t *request, size_t l
 
 /* Decides a request. What it altered is on disk before its answer is put where it is sent from; if it cannot be stored, nothing is sent. */
 static void serve_new(Peer *peer, const uint8_t *request, size_t length) {
-    const uint64_t word = decide(request, length);
+    const uint64_t word = decide(peer, request, length);
     const size_t answer_len = ndushavire_value(word);
     Outcome outcome = UNALTERED;
     if (!ndushavire_answered(word)) {
@@ -204,7 +214,7 @@ static void serve_new(Peer *peer, const uint8_t *request, size_t length) {
     log_challenge(peer, request, length, answer_len);
     if (may_alter(request, length) && succeeded(answer_len)) outcome = keep_altered(command_of(request) == MULTIMEDIA_AUTH);
     if (outcome == UNDONE) return;
-    if (may_alter(request, length)) remember_for_twice(outcome == KEPT, request, length, answer_len);
+    if (may_alter(request, length) && ndushavire_place(word) == 0) remember_for_twice(outcome == KEPT, request, length, answer_len);
     send_later(peer, answer, answer_len);
 }
 
@@ -428,15 +438,25 @@ static unsigned long port_of(const char *digits) {
     return length >= 1 && length <= 5 && strspn(digits, "0123456789") == length ? strtoul(digits, NULL, 10) : 65536;
 }
 
+/* Takes what -e says; 0 if it says nothing. */
+static int state(char *statement) {
+    const int right = is_statement(statement) && stated < STATEMENTS;
+    if (right) statements[stated++] = statement;
+    else fprintf(stderr, "daemon: -e: 3588 or 6733 for all peers, or followed by =HOST for one; at most %d\n", STATEMENTS);
+    return right;
+}
+
 int main(int argc, char **argv) {
-    static const char usage[] = "usage: daemon [-a ADDRESS] [-p PORT] LIVE CARDS\n";
+    static const char usage[] = "usage: daemon [-a ADDRESS] [-p PORT] [-e EDITION[=HOST]].. LIVE CARDS\n"
+                                "EDITION: the base standard that the peers follow, or the one with the Origin-Host HOST: 3588, unless it is given, or 6733.\n";
     const char *address = "127.0.0.1";
     unsigned long port = 3868;
     int option, wrong = 0;
     if (argc == 2 && strcmp(argv[1], "--help") == 0) return fputs(usage, stdout) < 0 || fclose(stdout) != 0;
-    while ((option = getopt(argc, argv, "a:p:")) != -1) {
+    while ((option = getopt(argc, argv, "a:p:e:")) != -1) {
         if (option == 'a') address = optarg;
         if (option == 'p') port = port_of(optarg);
+        if (option == 'e') wrong |= !state(optarg);
         wrong |= option == '?';
     }
     if (port > 65535) fprintf(stderr, "daemon: -p: a port is 0 to 65535\n");

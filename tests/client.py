@@ -87,8 +87,8 @@ def fresh_end():
     return ends
 
 
-def base(command, avps=b"", flags=0x80, **more):
-    return message(command, avp(264, b"scscf1.isle") + avp(296, b"isle") + avps, application=0, flags=flags, **more)
+def base(command, avps=b"", flags=0x80, host=b"scscf1.isle", **more):
+    return message(command, avp(264, host) + avp(296, b"isle") + avps, application=0, flags=flags, **more)
 
 
 def cer(application=CX, **more):
@@ -96,10 +96,14 @@ def cer(application=CX, **more):
                 avp(260, avp(266, 10415) + avp(258, application)), **more)
 
 
-def request(command, own, end=None, hop=None, route=b"", flags=0xC0, host=b"scscf1.isle"):
+def application(vendors=1):
+    return avp(260, avp(266, 10415) * vendors + avp(258, CX))
+
+
+def request(command, own, end=None, hop=None, route=b"", flags=0xC0, host=b"scscf1.isle", vendors=1):
     end = fresh_end() if end is None else end
     head = avp(263, b"scscf1.isle;1;%d" % end) + avp(264, host) + avp(296, b"isle") + avp(283, b"isle")
-    head += avp(260, avp(266, 10415) + avp(258, CX)) + avp(277, 1)
+    head += application(vendors) + avp(277, 1)
     return message(command, head + own + route, end=end, hop=end if hop is None else hop, flags=flags)
 
 
@@ -161,11 +165,11 @@ class Room:
         self.link("first")
         self.make("vectors", cards(), self.at("cards", "vectors"))
 
-    def start(self, ready=True, live="live", cards="cards", **environment):
+    def start(self, ready=True, live="live", cards="cards", options=(), **environment):
         self.logs += 1
         self.log_path = self.at("log%d" % self.logs)
         with open(self.log_path, "w") as log:
-            self.process = subprocess.Popen(self.command + ["-p", "0", self.at(live), self.at(cards)], stderr=log,
+            self.process = subprocess.Popen(self.command + ["-p", "0", *options, self.at(live), self.at(cards)], stderr=log,
                                             env=dict(os.environ, SLOW_DISK=self.path, **environment))
         self.processes.append(self.process)
         if ready:
@@ -225,14 +229,14 @@ def cards():
 
 
 class Client:
-    def __init__(self, room, greet=True):
+    def __init__(self, room, greet=True, host=b"scscf1.isle"):
         self.socket = socket.create_connection(("127.0.0.1", room.port), PATIENCE)
         self.socket.setsockopt(socket.IPPROTO_TCP, socket.TCP_NODELAY, 1)
         self.rest = b""
         self.watchdogs = 0
         room.clients.append(self)
         if greet:
-            self.greeting = self.ask(cer())
+            self.greeting = self.ask(cer(host=host))
             want(result(self.greeting) == "B2001", "a CER is not answered with success")
 
     def send(self, data):
@@ -927,6 +931,43 @@ def taken_over_kills(room):
           (sum(tally.values()) - tally["answers"], tally["old"], tally["cut"], tally["new"], tally["answers"]))
 
 
+def editions(room):
+    """Each peer has the edition that was stated of its Origin-Host, or of all; a second Vendor-Id tells which it is, and nothing else does."""
+    gateway, others = b"gw.mainland.example", [b"scscf1.isle", b"gw.mainland.exampl", b"gw.mainland.example.isle", b"w.mainland.example"]
+    for options, of_gateway, of_others in (
+            ("", 3588, 3588), ("-e 3588", 3588, 3588), ("-e 6733", 6733, 6733), ("-e 6733=gw.mainland.example", 6733, 3588),
+            ("-e 6733=GW.Mainland.example", 6733, 3588), ("-e 3588=gw.mainland.example -e 6733", 3588, 6733),
+            ("-e 6733 -e 3588", 3588, 3588), ("-e 3588=gw.mainland.example -e 6733=gw.mainland.example", 6733, 3588),
+            ("-e 6733=gw2.mainland.example -e 6733=gw.mainland.example -e 6733=gw3.mainland.example", 6733, 3588)):
+        room.start(options=options.split())
+        clients = [(gateway, of_gateway)] + [(host, of_others) for host in others]
+        clients = [(Client(room, host=host), host.decode(), edition) for host, edition in clients]  # all are open at once
+        for client, host, edition in clients:
+            for ask, alone in (lir, "X2003"), (uar, "X2001"), (lambda user, **more: sar(user, 0, **more), "B5012"):
+                want(result(client.ask(ask(1))) == alone, "with one Vendor-Id, %s of %s" % (alone, host))
+                answer = client.ask(ask(1, vendors=2))
+                want(result(answer) == ("B5009" if edition == 6733 else alone), "a second Vendor-Id by RFC %d of %s" % (edition, host))
+                want(edition == 3588 or all_of(answer, 279) == [application(2)], "Failed-AVP has not the whole 260")
+            want((edition == 6733) == ("peer %s: B5009 at byte " % host in room.log()), "the log, by RFC %d of %s" % (edition, host))
+            room.logged("peer %s: open, RFC %d\\b" % (re.escape(host), edition))
+        # One request that comes by several peers, those by RFC 6733 first, and then those by RFC 3588. Nobody is turned away by another's edition: B5009
+        # is not remembered. What was done by RFC 3588 is: it is not done again, and everybody is sent that answer.
+        for order in -1, 1:
+            want(result(client.ask(sar(2, 1))) == "B2001", "no registration")
+            asked, done = sar(2, 5, vendors=2), None
+            for client, host, edition in sorted(clients, key=lambda one: order * one[2]):
+                answer = client.ask(asked)
+                want(answer == done if done else result(answer) == ("B5009" if edition == 6733 else "B2001"),
+                     "a request that comes again, by RFC %d of %s" % (edition, host))
+                done = answer if edition == 3588 else done
+            want(room.lines()[b"sip:user2@isle"][0] == (0 if done else 1), "a removal with two Vendor-Ids, on disk")
+        # The name that a peer gives last is its own.
+        client = clients[1][0]
+        client.ask(cer(host=gateway))
+        want(result(client.ask(lir(1, vendors=2))) == ("B5009" if of_gateway == 6733 else "X2003"), "a second CER")
+        room.end()
+
+
 def timed_out(room):
     """A success that is an X result alters the table too, and so does its repeat not."""
     room.pair("first", households(keep=0))
@@ -1181,7 +1222,7 @@ def kills(room):
 
 
 TRIALS = {trial.__name__: trial for trial in (greeting, cut, many, garbage, slow, replaced, declined, two_users, laid_over, sizes, taken,
-                                              taken_over_kills, put_in, timed_out,
+                                              taken_over_kills, put_in, timed_out, editions,
                                               last_good, ending, twice, crowded, full, kills, spoilt)}
 
 

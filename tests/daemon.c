@@ -1,8 +1,9 @@
 /* daemon FOLDER TABLE PROFILE VECTORS QUESTION ASSIGNMENT CHALLENGE RUBBISH: example.c, which is the daemon of ndushavire(3) or that of the
  * examples, on a disk that fails. Its system calls fail, or are its last, or the last before a power cut, one by one and two by two; it is
  * started again, and its peer asks until it is answered. No answer may go out while a power cut could bring back another table or vector
- * file than it was given from, and no vector twice. To RUBBISH, which has an AVP at fault, its log says where it hurts. A daemon that looks for new
- * tables has an unsound one laid over its own: until its own is stored again that one stays, and what alters is not answered.
+ * file than it was given from, and no vector twice. To RUBBISH, which has an AVP at fault, its log says where it hurts. Each peer gets the
+ * answer by the base standard that is stated of it. A daemon that looks for new tables has an unsound one laid over its own: until its own is
+ * stored again that one stays, and what alters is not answered.
  * The disk is a model: what is in the folders is what every reader sees, and only what was flushed is on disk. */
 #define _GNU_SOURCE /* memmem, MAP_ANONYMOUS */
 #include <stdarg.h>
@@ -252,7 +253,7 @@ static int disk_close(int file) {
 
 /* ---- the peer */
 
-static Bytes old_file[NAMES], old_profile, question, assignment, challenge, rubbish;
+static Bytes old_file[NAMES], old_profile, question, assignment, challenge, rubbish, doubled;
 
 /* A line that nobody has registered is challenged, assigned, challenged anew; the last assignment finds its work done. */
 static const Bytes *const asked[REQUESTS] = {&question, &challenge, &assignment, &challenge, &question, &assignment};
@@ -272,6 +273,8 @@ int refused(int peer, uint64_t word) {
     broken("a request was refused");
     return 0;
 }
+
+uint32_t edition_stated(int peer) { return peer == ANOTHER ? NDUSHAVIRE_RFC_6733 : NDUSHAVIRE_RFC_3588; }
 
 static int used_on_disk(size_t block) { return model->on_disk[VECTORS].length > 512 * block && model->on_disk[VECTORS].bytes[512 * block + 1] == 1; }
 
@@ -402,7 +405,7 @@ static int expect(void) {
         Bytes *to = &expected[i + 1];
         *to = expected[i];
         if (!ndushavire_answered(ndushavire_decide(asked[i]->bytes, asked[i]->length, to->bytes, to->length, old_profile.bytes,
-                                                   old_profile.length, lent.bytes, lent.length, answer, sizeof answer)))
+                                                   old_profile.length, lent.bytes, lent.length, answer, sizeof answer, NDUSHAVIRE_RFC_3588)))
             return 0;
     }
     return !same(&expected[2], expected[3].bytes, expected[3].length) && (rotten || !same(&expected[1], expected[2].bytes, expected[2].length));
@@ -514,14 +517,10 @@ static unsigned try_all_covered(void) {
 static unsigned try_all_covered(void) { return 1; }
 #endif
 
-/* A request with an AVP at fault is answered, and the log says where it hurts; of others it says nothing. */
-static int try_rubbish(void) {
-    static const char fault[] = "daemon: peer 6: B5004 at byte 208: AVP 612 vendor 10415 flags 0xc0 length 84\n"
-                                "    192: 0000025F C0000010 000028AF 00000001\n"
-                                "    208:[00000264 C0000054 000028AF]00000260\n"
-                                "    224: C000001C 000028AF 44696765 73742D41\n" MORE_LOGGED;
+/* What a peer asks is answered and nothing is logged of it; then another's request is, and the log has this. */
+static int logs(int peer, const Bytes *asks, const Bytes *anothers, const char *fault) {
     const Fault none = {0, FAILS};
-    char logged[2 * sizeof fault];
+    char logged[1000];
     int status;
     FILE *log = tmpfile();
     if (log == NULL || !prepare(none, none, 0)) return 0;
@@ -529,7 +528,7 @@ static int try_rubbish(void) {
     if (child == 0) {
         dup2(fileno(log), STDERR_FILENO);
         start("live", ".");
-        _exit(serve(ANOTHER, question.bytes, question.length) && serve(ANOTHER, rubbish.bytes, rubbish.length) ? 0 : 2);
+        _exit(serve(peer, asks->bytes, asks->length) && serve(ANOTHER, anothers->bytes, anothers->length) ? 0 : 2);
     }
     if (child < 0 || waitpid(child, &status, 0) != child) return 0;
     rewind(log);
@@ -538,6 +537,33 @@ static int try_rubbish(void) {
     if (WIFEXITED(status) && WEXITSTATUS(status) == 0 && strcmp(logged, fault) == 0) return 1;
     fprintf(stderr, "daemon: %s; the log has '%s' and should have '%s'\n", model->broken != NULL ? model->broken : "an AVP at fault", logged, fault);
     return 0;
+}
+
+/* Of a request with an AVP at fault the log says where it hurts. */
+static int try_rubbish(void) {
+    return logs(ANOTHER, &question, &rubbish,
+                "daemon: peer 6: B5004 at byte 208: AVP 612 vendor 10415 flags 0xc0 length 84\n"
+                "    192: 0000025F C0000010 000028AF 00000001\n"
+                "    208:[00000264 C0000054 000028AF]00000260\n"
+                "    224: C000001C 000028AF 44696765 73742D41\n" MORE_LOGGED);
+}
+
+/* The question with its Vendor-Id, the first member of 260, a second time: right by RFC 3588, and at fault by RFC 6733. */
+static int try_doubled(void) {
+    static const uint8_t group[] = {0, 0, 1, 4, 0x40, 0, 0, 32, 0, 0, 1, 10};
+    const uint8_t *at = (const uint8_t *)memmem(question.bytes, question.length, group, sizeof group);
+    if (at == NULL) return 0;
+    const size_t first = (size_t)(at - question.bytes) + 8;
+    memcpy(doubled.bytes, question.bytes, first + 12);
+    memcpy(doubled.bytes + first + 12, question.bytes + first, question.length - first);
+    doubled.length = question.length + 12;
+    doubled.bytes[3] = (uint8_t)(doubled.bytes[3] + 12);
+    doubled.bytes[first - 1] += 12;
+    return logs(0, &doubled, &doubled,
+                "daemon: peer 6: B5009 at byte 96: AVP 260 flags 0x40 length 44\n"
+                "     80: 69736C65 0000011B 4000000C 69736C65\n"
+                "     96:[00000104 4000002C]0000010A 4000000C\n"
+                "    112: 000028AF 0000010A 4000000C 000028AF\n");
 }
 
 int main(int argc, char **argv) {
@@ -566,6 +592,7 @@ int main(int argc, char **argv) {
         fprintf(stderr, "daemon: the assignment or the challenge alters nothing\n");
         return 2;
     }
+    if (!try_doubled()) return 1;
     if (try_all_covered() == 0 || !try_faults(none, none, 0) || !prepare(none, none, 0)) return 1;
     live(); /* not forked, so that an emulator has translated it all */
     if (fchdir(folders[VECTORS]) != 0) return 2;

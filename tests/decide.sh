@@ -1,7 +1,8 @@
 #!/usr/bin/env bash
 # decide.sh ROOM MAKETABLE DECIDE..: each DECIDE gives the worked answer over the sample, the refusals that a request, a table
 # or a vector file can bring about, and says which vectors were used, and which AVP of a request is at fault; and over the family of
-# docs/TABLE.md what a set shares. RUN, if set, is the emulator that runs a DECIDE.
+# docs/TABLE.md what a set shares. Peers of both editions get the same, byte by byte, but for a second Vendor-Id. RUN, if set, is the emulator
+# that runs a DECIDE.
 set -euo pipefail
 shopt -s lastpipe
 room=$1 maketable=$2
@@ -16,6 +17,7 @@ table=$room/table profile=$room/profile vectors=$room/vectors request=$room/requ
 "$maketable" profile "$examples/households.txt" >"$profile"
 "$maketable" vectors "$examples/vectors.txt" >"$vectors"
 tried=0
+peer=() # the option -e, if it is given
 
 # The request on standard input gets what the file EXPECTED has, and DECIDE ends with STATUS.
 gets() { # EXPECTED STATUS ABOUT
@@ -23,7 +25,7 @@ gets() { # EXPECTED STATUS ABOUT
     cat >"$request"
     for decide in "${decides[@]}"; do
         status=0
-        "${run[@]}" "$decide" "$table" "$profile" "$vectors" "$request" >"$room/said" 2>"$room/errors" || status=$?
+        "${run[@]}" "$decide" "${peer[@]}" "$table" "$profile" "$vectors" "$request" >"$room/said" 2>"$room/errors" || status=$?
         cmp -s "$room/said" "$1" || { echo "decide.sh: $3: $decide says"; cat "$room/said"; echo 'and should say'; cat "$1"; exit 1; } >&2
         [ "$status" = "$2" ] || { echo "decide.sh: $3: $decide ends with status $status instead of $2"; cat "$room/errors"; exit 1; } >&2
     done
@@ -54,6 +56,24 @@ for decide in "${decides[@]}"; do
         { echo "decide.sh: $decide with nowhere to write ends with status $status" >&2; exit 1; }
     tried=$((tried + 1))
 done
+# A peer that follows neither edition: whatever else is wrong, refusal 12 goes before it. Half an option is wrong use.
+for edition in '' 0 1 2 3587 3589 6732 6734 35880 03588 -3588 6733x 3588=hss.isle 4294970884; do
+    peer=(-e "$edition")
+    refused 12 "the edition '$edition'" <"$examples/no-avps.hex"
+    : | refused 12 "the edition '$edition', and no byte"
+done
+mv "$vectors" "$room/whole"
+echo rotten >"$vectors"
+refused 12 'the edition 4294970884, and rotten vectors' <"$examples/no-avps.hex"
+mv "$room/whole" "$vectors"
+for edition in 3588 6733; do
+    peer=(-e $edition)
+    gets "$examples/no-avps.answer" 0 "a header alone by RFC $edition" <"$examples/no-avps.hex"
+    : | refused 2 "no byte by RFC $edition"
+done
+peer=(-e)
+unread 'an option without its edition' <"$examples/no-avps.hex"
+peer=()
 # A MAR for erin: one vector is asked for and used, and her record gets the call server's name. Of bob's, who asks for twenty and has
 # a used one, both that are left go out. What the answer carries is compared in captured.sh.
 uses() { # NAME LINE..
@@ -76,12 +96,18 @@ uses icscf-20-lir
 uar=$front$(private bob@isle)$(public sip:bob@isle)
 unknown=$(avp 999 00 - "$(many 30)")
 
-# In $behind what each DECIDE says behind the bytes of its answer, and in $bytes these.
+# In $behind what each DECIDE says behind the bytes of its answer, and in $bytes these: alike for the peers of all $editions.
+editions=('' '-e 3588' '-e 6733')
 decided() { # MESSAGE ABOUT
-    local decide length lines said
+    local decide edition length lines said
     echo "$1" >"$request"
     for decide in "${decides[@]}"; do
-        "${run[@]}" "$decide" "$table" "$profile" "$vectors" "$request" >"$room/said" || { echo "decide.sh: $2: $decide does not answer" >&2; exit 1; }
+        for edition in "${editions[@]}"; do
+            "${run[@]}" "$decide" $edition "$table" "$profile" "$vectors" "$request" >"$room/said" ||
+                { echo "decide.sh: $2: $decide $edition does not answer" >&2; exit 1; }
+            [ "$edition" = "${editions[0]}" ] || cmp "$room/first" "$room/said" >&2 || { echo "decide.sh: $2: $decide $edition does otherwise" >&2; exit 1; }
+            cp "$room/said" "$room/first"
+        done
         length=$(sed -n '1s/^answered, \([0-9]*\) bytes$/\1/p' "$room/said")
         lines=$(((length + 31) / 32))
         bytes=$(sed "1d; $((1 + lines))q" "$room/said" | tr -d ' \n')
@@ -169,6 +195,37 @@ painless 'a barred line' B5003 "$(message 300 $cx "$front$(private bob@isle)$(pu
 painless 'a MAR' B2001 "$(message 303 $cx "$(mar bob@isle sip:bob@isle "$item" 1)")"
 painless 'a MAR with another scheme' X5006 "$(message 303 $cx "$(mar bob@isle sip:bob@isle "$(avp 612 C0 $third "$(avp 608 C0 $third FF)")" 1)")"
 painless 'a MAR for no vectors' B5012 "$(message 303 $cx "$(mar bob@isle sip:bob@isle "$item" 0)")"
+
+# ---- the peer's edition: a second Vendor-Id in 260, and all else of it right, is at fault by RFC 6733 alone
+vendor=$(avp 266 40 - 000028AF)
+group() { avp 260 "${2-40}" - "$1"; } # MEMBERS [FLAGS]
+behind_it=$stateless$from$(avp 283 40 - "$(text isle)")$(public sip:bob@isle)
+for members in "$vendor$both" "$both$vendor" "$vendor$vendor$both" "$(avp 266 00 - 000028AF)$(avp 258 20 - $cx)$(avp 266 60 - 000028AF)"; do
+    editions=('' '-e 3588')
+    painless 'several Vendor-Ids by RFC 3588' B2001 "$(message 302 $cx "$session$(group "$members")$behind_it")"
+    editions=('-e 6733')
+    hurts 'several Vendor-Ids by RFC 6733' 302 "B5009 at byte PLACE: AVP 260 flags 0x40 length $((8 + ${#members} / 2))" 8 \
+        "$session" "$(group "$members")" "$behind_it"
+    [[ $bytes = *"$(avp 279 40 - "$(group "$members")")"* ]] || { echo "decide.sh: Failed-AVP has not the whole 260: $bytes" >&2; exit 1; }
+done
+# An AVP before it that is at fault goes before, and so does its own reserved flag; what is missing comes behind.
+hurts 'an unknown AVP before several Vendor-Ids' 302 'B5001 at byte PLACE: AVP 999 flags 0x40 length 8' 8 \
+    "$session" "$(avp 999 40 - '')" "$(group "$vendor$both")"
+hurts 'several Vendor-Ids and a reserved flag' 302 'B3009 at byte PLACE: AVP 260 flags 0x41 length 44' 8 "$session" "$(group "$vendor$both" 41)" "$behind_it"
+hurts 'several Vendor-Ids, and nothing else' 302 'B5009 at byte PLACE: AVP 260 flags 0x40 length 44' 8 "$session" "$(group "$vendor$both")"
+painless 'several Vendor-Ids under another application' B3007 "$(message 302 01000001 "$session$(group "$vendor$both")")"
+# What is right, and what is wrong, by either edition.
+editions=('' '-e 3588' '-e 6733')
+for members in "$both" "$(avp 258 40 - $cx)$vendor" "$(avp 266 00 - 000028AF)$(avp 258 60 - $cx)" "$(avp 258 20 - $cx)$(avp 266 20 - 000028AF)"; do
+    painless 'one Vendor-Id' B2001 "$(message 302 $cx "$session$(group "$members")$behind_it")"
+    painless 'one Vendor-Id, and 260 without M' B2001 "$(message 302 $cx "$session$(group "$members" 00)$behind_it")"
+done
+for members in "$both$(avp 266 40 - 00000032)" "$both$(avp 258 40 - $cx)" "$vendor$vendor" "$vendor$both$(avp 259 40 - 00000003)" \
+    "$both$(avp 266 41 - 000028AF)"; do
+    hurts 'several members, and one is wrong' 302 "B5004 at byte PLACE: AVP 260 flags 0x40 length $((8 + ${#members} / 2))" 8 \
+        "$session" "$(group "$members")" "$behind_it"
+done
+hurts 'a second 260' 302 'B5009 at byte PLACE: AVP 260 flags 0x40 length 44' 8 "$session$application" "$(group "$vendor$both")" "$behind_it"
 : >"$vectors"
 uses mar-33
 # ---- a family in one set, blocks 1, 3 and 4, and a line beside it, as TABLE.md has them

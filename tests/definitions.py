@@ -2,8 +2,8 @@
 """definitions.py REFERENCE SEED COUNT: do the definitions say what the independent program says?
 
 Takes calls that the independent program made and its outcomes of them, picks COUNT that show every refusal, every result,
-every assignment type, every step of an authentication, both editions, the rules of sets and an area longer than its table, and beside them a tenth as many
-take-overs, and writes them as a crate with one statement, which antt computes from the definitions alone.
+every assignment type, every step of an authentication, both editions of a table and both of the base standard, the rules of sets and an area longer than its
+table, and beside them a tenth as many take-overs, and writes them as a crate with one statement, which antt computes from the definitions alone.
 The crate stands in a folder outside the repository, beside copies of the crates that crates/worked_examples and crates/ndushavire stand on. What the
 cases open is read from crates/worked_examples/proofs/Sample.antt, so that there is one list of it.
 """
@@ -23,22 +23,23 @@ EXPERIMENTAL = '2001 2002 2003 2004 5001 5002 5003 5004 5005 5006 5007'
 STEPS = ['X5001', 'X5002', 'X5006', 'B5012 zero asked', 'B5012 none unused', 'B2001 as many as asked', 'B2001 as many as remain', 'B2001 two or more']
 STEPS += ['B2001 in state %d, %s' % (state, name) for state in range(3) for name in ('the name stored', 'the record as it was')]
 STEPS += ['B5005 %d' % code for code in (1, 601, 612, 607, 602)] + ['B5004 612', 'B5014 607']
-WANTED = {'refused %d' % n for n in range(1, 7)} | {'B' + n for n in BASE.split()} | {'X' + n for n in EXPERIMENTAL.split()} | {
+WANTED = {'refused %d' % n for n in (1, 2, 3, 4, 5, 6, 12)} | {'B' + n for n in BASE.split()} | {'X' + n for n in EXPERIMENTAL.split()} | {
     'type %d done' % n for n in range(12)} | {'MAR ' + step for step in STEPS} | {'over edition 1', 'over edition 2'} | {
-    'a set written whole', 'barred, another of its set free', 'a set that disagrees', 'over a longer area'}
+    'a set written whole', 'barred, another of its set free', 'a set that disagrees', 'over a longer area'} | {
+    'by RFC 3588', 'by RFC 6733', 'B5009 for the second Vendor-Id', 'a second Vendor-Id goes on', 'B5004 beside a second Vendor-Id by RFC 6733'}
 
 # Of a take-over.
 TAKES = {'refused 9', 'refused 10', 'refused 10, by a block past the count', 'refused 11', 'taken', 'taken, with bytes behind it'}
 
 Take = collections.namedtuple('Take', 'area fresh profile word at changed')
-Case = collections.namedtuple('Case', 'request table profile vectors room word at changed vectorsAt vectorsChanged answer')
+Case = collections.namedtuple('Case', 'request table profile vectors room peer word at changed vectorsAt vectorsChanged answer')
 
 
 def read(made, told):
     for case, outcome in zip(streams.cases(made), streams.outcomes(told)):
         held, changes = streams.slices(case), streams.changes(case, outcome)
-        yield Case(held['request'], held['table'], held['profile'], held['vectors'], len(held['buffer']), outcome.word, *changes['table'],
-                   *changes['vectors'], streams.answer(case, outcome))
+        yield Case(held['request'], held['table'], held['profile'], held['vectors'], len(held['buffer']), case.numbers[0], outcome.word,
+                   *changes['table'], *changes['vectors'], streams.answer(case, outcome))
 
 
 def read_takes(made, told):
@@ -114,6 +115,20 @@ def set_shown(case, command, result):
     return set()
 
 
+def peer_shown(case, result, found):
+    """What a call shows of the peer's edition; of several Vendor-Ids only where one 260 is read and no more."""
+    shown, groups = {'by RFC %d' % case.peer}, [data for kind, data in streams.avps(case.request[20:]) if kind == (260, 0)]
+    if len(groups) == 1 and sum(kind == (266, 0) for kind, _ in streams.avps(groups[0])) > 1:
+        blamed = found.get((279, 0), b'')[:4] == struct.pack('>I', 260)
+        if result == 'B5009' and blamed:
+            shown.add('B5009 for the second Vendor-Id')
+        if result == 'B5004' and blamed and case.peer == 6733:
+            shown.add('B5004 beside a second Vendor-Id by RFC 6733')
+        if result == 'B2001' or result[0] == 'X':
+            shown.add('a second Vendor-Id goes on')
+    return shown
+
+
 def shows(case):
     """Of WANTED; and its kind, which has the command, the answer's AVPs and whether a record changed besides."""
     if case.word >> 48:
@@ -131,7 +146,7 @@ def shows(case):
         shown.add('type %d %s' % (asked(case)[614, 10415][3], done))
     if command == 303:
         shown |= {'MAR ' + step for step in steps(case, result, found)}
-    shown |= set_shown(case, command, result)
+    shown |= set_shown(case, command, result) | peer_shown(case, result, found)
     missing = found[279, 0][:4] if result == 'B5005' else None
     return shown, (frozenset(shown), min(command, 304), missing, frozenset(found), case.changed == b'', case.vectorsChanged == b'')
 
@@ -197,6 +212,7 @@ pub record Case : Type 0 where
   pub profile : List ℕ
   pub vectors : List ℕ
   pub room : ℕ
+  pub peer : ℕ
   pub word : ℕ
   pub at : ℕ
   pub changed : List ℕ
@@ -206,7 +222,7 @@ pub record Case : Type 0 where
 
 abbrev pub Agrees : Case → Type 0
 Agrees c =
-    serve (lent (c .request) (c .table) (c .profile) (c .vectors) (replicate (c .room) 0) underCx)
+    serve (lent (c .request) (c .table) (c .profile) (c .vectors) (replicate (c .room) 0) (underCx (c .peer)))
     ≡ record { call = callIn (c .word); table = sets (c .table) (c .at) (c .changed);
                vectors = sets (c .vectors) (c .vectorsAt) (c .vectorsChanged); buffer = over (c .answer) (replicate (c .room) 0) }
 

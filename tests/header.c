@@ -57,7 +57,8 @@ int main(void) {
     holds(NDUSHAVIRE_VECTOR_FILE_MAX == NDUSHAVIRE_BLOCK * NDUSHAVIRE_VECTORS_MAX, "NDUSHAVIRE_VECTOR_FILE_MAX is not the most vectors");
 #if NDUSHAVIRE_VERSION_NUMBER < 800 || NDUSHAVIRE_TABLE_MAX < 2 || NDUSHAVIRE_VECTOR_FILE_MAX < 2 || NDUSHAVIRE_REPORT_ROOM != 1160 || \
     NDUSHAVIRE_VECTORS_UNSOUND != 6 || NDUSHAVIRE_REQUESTS_BROKEN != 7 || NDUSHAVIRE_TABLE_HAS_SETS != 8 || NDUSHAVIRE_NEW_UNSOUND != 9 || \
-    NDUSHAVIRE_ISSUE_NOT_GREATER != 10 || NDUSHAVIRE_AREA_SHORT != 11 || NDUSHAVIRE_OUTPUT_SHORT != 15
+    NDUSHAVIRE_ISSUE_NOT_GREATER != 10 || NDUSHAVIRE_AREA_SHORT != 11 || NDUSHAVIRE_PEER_UNKNOWN != 12 || NDUSHAVIRE_OUTPUT_SHORT != 15 || \
+    NDUSHAVIRE_RFC_3588 != 3588 || NDUSHAVIRE_RFC_6733 != 6733
     holds(0, "a number is no number to the preprocessor");
 #endif
     const uint64_t word = (uint64_t)5 << 48 | (uint64_t)0xFFFF << 32 | 0x89ABCDEFu;
@@ -68,6 +69,7 @@ int main(void) {
     holds(ndushavire_moved(NDUSHAVIRE_RECORDS_MAX) && ndushavire_moved(0), "a move taken for a refusal");
     holds(ndushavire_taken(NDUSHAVIRE_RECORDS_MAX) && !ndushavire_taken((uint64_t)NDUSHAVIRE_NEW_UNSOUND << 48), "a take-over taken for a refusal");
     holds(!ndushavire_answered((uint64_t)0xFFFF << 48), "a number that is not known taken for an answer");
+    holds(!ndushavire_answered((uint64_t)NDUSHAVIRE_PEER_UNKNOWN << 48), "an unknown edition taken for an answer");
     const uint64_t faulty = (uint64_t)(NDUSHAVIRE_REQUEST_MAX - 4) << 32 | NDUSHAVIRE_ANSWER_ROOM; /* the last place that there is */
     holds(ndushavire_answered(faulty) && ndushavire_place(faulty) == 16380 && ndushavire_value(faulty) == NDUSHAVIRE_ANSWER_ROOM,
           "an answer with a place");

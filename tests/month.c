@@ -1,7 +1,8 @@
 /* month TABLE PROFILE VECTORS SEED COUNT: the report beside as many decisions. COUNT files of random requests about the table's lines, laid
  * end to end, of which some end in a broken one: the report returns and counts what calls of ndushavire_decide in turn return and answer, and leaves
  * their table, vectors and answer buffer; bytes behind each slice stay. Some lend a table of edition 2, a short answer buffer, an unsound table
- * or vector file, a longer report area, or one that is too short, under which nothing may be written.
+ * or vector file, a longer report area, or one that is too short, under which nothing may be written. Peers follow RFC 3588, RFC 6733, or
+ * neither, and of some requests the 260 has a second Vendor-Id.
  * Exit status: 0 all alike, 1 not so, or too little was tried, 2 wrong use. */
 #include <stdio.h>
 
@@ -23,13 +24,14 @@ static uint64_t below(uint64_t n) {
 typedef struct {
     uint8_t table[TABLE_ROOM + BEHIND], vectors[VECTORS_ROOM + BEHIND], answer[NDUSHAVIRE_ANSWER_ROOM + BEHIND], report[NDUSHAVIRE_REPORT_ROOM + BEHIND];
     size_t table_len, vectors_len, answer_len, report_len;
+    uint32_t peer;
 } Lent;
 
 static uint8_t *table, *profile, *vectors;
 static size_t table_len, profile_len, vectors_len;
 static uint8_t laid[LAID_MOST];
 static size_t laid_len;
-static uint64_t seen[NDUSHAVIRE_REPORT_WORDS], several, stopped, short_areas, second;
+static uint64_t seen[NDUSHAVIRE_REPORT_WORDS], several, stopped, short_areas, second, told_apart;
 
 static const uint8_t *some_record(void) { return table + (1 + below(table_len / NDUSHAVIRE_BLOCK - 1)) * NDUSHAVIRE_BLOCK; }
 
@@ -56,6 +58,16 @@ static void ask(Request *r) {
     }
 }
 
+/* The first member of 260, its Vendor-Id, a second time. */
+static void double_vendor(Request *r) {
+    static const uint8_t group[] = {0, 0, 1, 4, 0x40, 0, 0, 32};
+    size_t at = 20;
+    while (memcmp(r->bytes + at, group, sizeof group) != 0) at += 4;
+    memmove(r->bytes + at + 20, r->bytes + at + 8, r->length - at - 8);
+    r->bytes[at + 7] += 12;
+    r->length += 12;
+}
+
 /* Most requests stay as they are. A length that is altered here is still that of the bytes that are laid. */
 static void spoil(Request *r) {
     switch (below(16)) {
@@ -66,6 +78,7 @@ static void spoil(Request *r) {
     case 4: r->length = NDUSHAVIRE_REQUEST_MIN + below(16); break;
     case 5: r->length += 1 + below(3); break;
     case 6: r->bytes[11] ^= 1; return; /* the application */
+    case 7: double_vendor(r); break;
     default: return;
     }
     for (int i = 1; i < 4; i++) r->bytes[i] = (uint8_t)(r->length >> (24 - 8 * i));
@@ -109,6 +122,7 @@ static Lent lend(void) {
     lent.vectors_len = below(16) == 0 ? vectors_len - 1 - below(NDUSHAVIRE_BLOCK - 1) : below(16) == 0 ? 0 : vectors_len;
     lent.answer_len = NDUSHAVIRE_ANSWER_ROOM - (below(16) == 0 ? 1 + below(NDUSHAVIRE_ANSWER_ROOM) : 0);
     lent.report_len = below(8) == 0 ? below(NDUSHAVIRE_REPORT_ROOM) : NDUSHAVIRE_REPORT_ROOM + below(BEHIND);
+    lent.peer = below(16) == 0 ? (uint32_t)below(10000) : below(2) == 0 ? NDUSHAVIRE_RFC_3588 : NDUSHAVIRE_RFC_6733;
     if (below(4) == 0) second += ndushavire_moved(ndushavire_forward(lent.table, lent.table_len, profile, profile_len, (uint32_t)below(9)));
     return lent;
 }
@@ -139,12 +153,14 @@ static void decide(Lent *l, const uint8_t *request, size_t length, uint64_t *wor
     static uint8_t before[TABLE_ROOM];
     memcpy(before, l->table, l->table_len);
     const uint64_t word = ndushavire_decide(request, length, l->table, l->table_len, profile, profile_len, l->vectors, l->vectors_len,
-                                            l->answer, l->answer_len);
+                                            l->answer, l->answer_len, l->peer);
     words[NDUSHAVIRE_REPORT_READ]++;
     words[NDUSHAVIRE_REPORT_REFUSED + ndushavire_number(word)]++; /* by 0: answered */
     if (!ndushavire_answered(word)) return;
     const uint32_t command = four(request + 4) & 0xFFFFFFu, row = command >= 300 && command <= 303 ? command - 300 : 4;
-    words[NDUSHAVIRE_REPORT_RESULTS + NDUSHAVIRE_REPORT_COLUMNS * row + column_of(l->answer, ndushavire_value(word))]++;
+    const uint32_t column = column_of(l->answer, ndushavire_value(word)), place = ndushavire_place(word);
+    words[NDUSHAVIRE_REPORT_RESULTS + NDUSHAVIRE_REPORT_COLUMNS * row + column]++;
+    told_apart += place != 0 && four(request + place) == 260 && ndushavire_report_result(column) == 5009;
     const uint64_t records = altered(before, l->table, l->table_len);
     words[NDUSHAVIRE_REPORT_ALTERED] += records;
     several += records > 1;
@@ -189,21 +205,22 @@ static int alike(void) {
     given = expected = lend();
     const uint64_t wanted = expect(&expected);
     const uint64_t word = ndushavire_report(laid, laid_len, given.table, given.table_len, profile, profile_len, given.vectors, given.vectors_len,
-                                            given.answer, given.answer_len, given.report, given.report_len);
+                                            given.answer, given.answer_len, given.report, given.report_len, given.peer);
     return word == wanted && memcmp(&given, &expected, sizeof given) == 0 &&
            (ndushavire_number(word) == NDUSHAVIRE_OUTPUT_SHORT || adds_up(given.report));
 }
 
-/* Whether the files had something of everything: refusals 1 to 6, some forty cells of the table, records altered, also several by one
- * request, broken ends, short areas, tables of edition 2. */
+/* Whether the files had something of everything: refusals 1 to 6 and 12, some forty cells of the table, records altered, also several by one
+ * request, broken ends, short areas, tables of edition 2, second Vendor-Ids under RFC 6733. */
 static int enough(void) {
     int cells = 0, refusals = 0;
     for (size_t k = NDUSHAVIRE_REPORT_RESULTS; k < NDUSHAVIRE_REPORT_WORDS; k++) cells += seen[k] > 0;
-    for (size_t number = 1; number <= 6; number++) refusals += seen[NDUSHAVIRE_REPORT_REFUSED + number] > 0;
-    printf("month: %lu requests, %d cells, %d refusals, %lu records altered, several by %lu requests, %lu broken ends, %lu short areas, %lu of edition 2\n",
+    for (size_t number = 1; number <= NDUSHAVIRE_PEER_UNKNOWN; number++) refusals += seen[NDUSHAVIRE_REPORT_REFUSED + number] > 0;
+    printf("month: %lu requests, %d cells, %d refusals, %lu records altered, several by %lu requests, %lu broken ends, %lu short areas, %lu of edition 2, "
+           "%lu with a second Vendor-Id\n",
            (unsigned long)seen[NDUSHAVIRE_REPORT_READ], cells, refusals, (unsigned long)seen[NDUSHAVIRE_REPORT_ALTERED], (unsigned long)several,
-           (unsigned long)stopped, (unsigned long)short_areas, (unsigned long)second);
-    return cells >= 40 && refusals == 6 && several > 0 && stopped > 0 && short_areas > 0 && second > 0;
+           (unsigned long)stopped, (unsigned long)short_areas, (unsigned long)second, (unsigned long)told_apart);
+    return cells >= 40 && refusals == 7 && told_apart > 0 && several > 0 && stopped > 0 && short_areas > 0 && second > 0;
 }
 
 int main(int argc, char **argv) {

@@ -32,6 +32,8 @@ for of in tables:EqualIdentitiesTaken tables:PrefixTaken vectors:XresOf3Taken ve
     neighbours:NameOfAnySubscription neighbours:FreeOfNumberCounts neighbours:StaleRecordsDecided neighbours:LastRecordNotFound \
     neighbours:IdentityWithoutCase neighbours:IdentityEndsAtZero neighbours:SessionIdAnywhere neighbours:RestOfBufferCleared \
     breaches:KeepTurned breaches:RoamingBitNotAsked breaches:LastNameOfSubscription \
+    calls:UnknownPeerIsOlder calls:PeerAfterBuffer calls:SeveralVendorsTaken calls:SeveralVendorsRefusedByOlder calls:SecondVendorPlaced \
+    reports:UnknownPeerRefusesReport reports:ReportOfOlderPeers runs:PeersTurned demand3:SeveralVendorsFirst \
     demand3:FirstUnknownPlaced demand3:LastMarkedPlaced runs:UsedSentAgain runs:RewritingFreesVectors; do
     ends 1 "${of%:*}" "$reference" outcomes --fault "${of#*:}"
 done

@@ -20,6 +20,7 @@ ANY = ''
 STATEMENTS = {
     'demands/Demands': ANY,
     'demands/Firm': ANY,
+    'demands/Peers': '02 [10]',
     'demands/Place': '02 [2]',
     'demands/Sets': '02 [6]',
     'demands/TakingOver': '02 [8]',
@@ -38,7 +39,7 @@ STATEMENTS = {
 }
 WITH_STEPS = {'rewrite/Reaching', 'seen_alike/Likeness'}
 # Modules of proofs/, in whatever crate, that docs/PROVED.md cites under "Proved" and that are no such pages: examples, instances, wrong servers, single laws.
-NO_STATEMENTS = {'Areas', 'Challenges', 'Examples', 'Family', 'Members', 'Moves', 'Readings', 'Room', 'Servers', 'Sound', 'TakeOvers', 'Worked'}
+NO_STATEMENTS = {'Areas', 'Challenges', 'Editions', 'Examples', 'Family', 'Members', 'Moves', 'Peers', 'Readings', 'Room', 'Servers', 'Sound', 'TakeOvers', 'Worked'}
 # The crates that have wrong servers or wrong reporters, each with a theorem `.. -fails`.
 WRONG = ('report_example', 'sets_example', 'taking_example', 'wrong_servers')
 # What a cell of the column Theorem says where there is no theorem: it is the contract of a function of that row; or there is none, and why.
@@ -47,7 +48,7 @@ MARKS = ('the contract', 'none:')
 # Names that are not this tree's: words of Rattle, of C, of other software, of protocols; and samples.
 OTHERS = set('''
     Bool abbrev ensures false match none not pub requires true unfoldable use mod zero wrapping_add wrapping_sub memcpy memset strict_mbit cxdx_forced_peer
-    AKAv1-MD5 Digest-AKAv1-MD5 unknown nonce= response= axioms= libraries-built=trusted logic-built=trusted
+    diameter_gen_base_rfc3588 diameter_gen_base_rfc6733 AKAv1-MD5 Digest-AKAv1-MD5 unknown nonce= response= axioms= libraries-built=trusted logic-built=trusted
     Bob a aa bob isle r key=value
 '''.split()) | {
     r'a\0', '#', r'\"', r'\\', r'\xHH', 't .entry', 'refused 2', 'installed', 'number << 48', 'number << 48 | place << 32 | value', 'N passed, 0 failed',

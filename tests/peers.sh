@@ -142,10 +142,10 @@ for _ in $(seq 20); do
 done >cards.txt
 "$maketable" profile lines.txt >live/profile
 daemon_pid=
-daemon_up() { # ABOUT: over fresh registrations; vectors are never put back
+daemon_up() { # ABOUT [OPTION]..: over fresh registrations; vectors are never put back
     "$maketable" table lines.txt >live/table
     [ -e cards/vectors ] || "$maketable" vectors cards.txt >cards/vectors
-    start "daemon-$1.log" "${daemon[@]}" -a 127.0.0.1 -p 3868 live cards
+    start "daemon-$1.log" "${daemon[@]}" -a 127.0.0.1 -p 3868 "${@:2}" live cards
     daemon_pid=$last_pid
     says "daemon-$1.log" 'listening on'
 }
@@ -210,11 +210,11 @@ phones() { # ABOUT NAME LOG: Kamailio asks NAME, whose log says when it is open
     for who in "${pids[@]}"; do finish "$who" || true; done
 }
 
-# ---- straight at the daemon
-daemon_up direct
+# ---- straight at the daemon, by RFC 6733; through the relay it is RFC 3588
+daemon_up direct -e 6733
 erlang direct 127.0.0.1
 daemon_down direct
-daemon_up kamailio
+daemon_up kamailio -e 6733
 phones kamailio hss.isle daemon-kamailio.log
 daemon_down kamailio
 

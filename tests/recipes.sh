@@ -129,6 +129,7 @@ start=$(sed -n 's/^\$ \(.*\.\/daemon .*\)/\1/p' "$room/copy") shown=$(sed -n '/\
 ran=$((ran + 1))
 # It has a process group of its own, to be ended by, and a port that is free.
 serve() {
+    rm -f "$room/log"
     (cd "$tree" && exec setsid sh -c "$(sed "s|-p 3868|-p 0|; s|\./daemon|${RUN:+$RUN }&|" <<<"$start")" 2>"$room/log") &
     daemon=$!
     await "$room/log" 'listening on ' 'the daemon does not start'
@@ -254,6 +255,21 @@ flock -w 60 8 || fail 'the daemon does not give its lock back'
 refuses 'with the lock taken'
 exec 8>&-
 
+# ---- a gateway by the newer base standard, as ndushavire(7) states it: README's daemon with that option, and the gateway connects
+stated=$(displays ndushavire.7 'Gateways by the newer base standard' | sed -n 's/^\$ daemon \(.*\) live cards$/\1/p')
+[[ $stated = '-e 6733='* ]] || fail 'ndushavire(7) states no gateway'
+older=$start other=$from
+start=${start/% live cards)/ $stated live cards)} from=$(avp 264 40 - "$(text "${stated#*=}")")$(avp 296 40 - "$(text mainland.example)")
+serve
+asks
+await "$room/log" "peer ${stated#*=}: open, RFC 6733" 'ndushavire(7): the daemon says nothing of the gateway'
+from=$other
+asks
+await "$room/log" 'peer scscf1.isle: open, RFC 3588' 'ndushavire(7): the daemon says nothing of others'
+end_daemon
+start=$older
+ran=$((ran + 1))
+
 # ---- tables and vectors, as the pages of the programs have it. Each begins with the sample, to which DAMAGE may be done.
 damage=''
 sample() { # FOLDER
@@ -345,6 +361,12 @@ for file in live/table live/profile cards/vectors; do cmp "$here/$file" "$here/m
 for name in icscf-20-lir scscf-12-sar mar-33; do sed '/^#/d' "$tests/captured/$name.hex" | bytes; done >>"$here/month-2026-11/requests"
 displays ndushavire-report.1 EXAMPLES | sed -n '/^\$ cd /,/^$/p' | session "the month's end" "$here"
 grep -q '^read  *3$' "$here/month-2026-11/numbers" || fail "the month's numbers are others: $(cat "$here/month-2026-11/numbers")"
+# What a gateway sends, by either base standard: alike, until it sends a second Vendor-Id.
+displays ndushavire-report.1 EXAMPLES | grep '^\$ ndushavire-report -e ' | session 'a month by both base standards' "$here/month-2026-11"
+cmp "$room/session/1.said" "$room/session/2.said" >&2 || fail 'ndushavire-report(1): by both base standards the numbers are others'
+message 302 $cx "${front/$application/$(avp 260 40 - "$(avp 266 40 - 000028AF)$both")}$(public sip:bob@isle)" | bytes >>"$here/month-2026-11/requests"
+(cd "$here/month-2026-11" && sh -eu "$room/session/all") || fail 'ndushavire-report(1): a second Vendor-Id stops it'
+! cmp -s "$room/session/1.said" "$room/session/2.said" || fail 'ndushavire-report(1): a second Vendor-Id does not show'
 state "$here" >"$room/before"
 ! (cd "$here" && sh ./month.sh 2026-11 2>/dev/null) || fail 'a month is begun twice'
 rm -rf "$here/month.new"

@@ -10,7 +10,7 @@ top=$(cd "$(dirname "$0")/.." && pwd)
 rm -rf "$room"
 mkdir -p "$room"
 table=$room/table profile=$room/profile vectors=$room/vectors requests=$room/requests
-tried=0
+tried=0 peer=() # the option -e, if it is given
 . "$(dirname "$0")/messages.sh"
 
 fail() {
@@ -31,7 +31,7 @@ says() { # STATUS ABOUT
     cksum "$table" "$profile" "$vectors" >"$room/before"
     for report in "${reports[@]}"; do
         status=0
-        "${run[@]}" "$report" "$table" "$profile" "$vectors" "$requests" >"$room/said" 2>"$room/errors" || status=$?
+        "${run[@]}" "$report" "${peer[@]}" "$table" "$profile" "$vectors" "$requests" >"$room/said" 2>"$room/errors" || status=$?
         diff "$room/expected" "$room/said" >&2 && [ ! -s "$room/errors" ] || fail "$2: $report does not say (<) but says (>): $(cat "$room/errors")"
         [ "$status" = "$1" ] || fail "$2: $report ends with status $status instead of $1"
     done
@@ -163,6 +163,29 @@ records altered: 5
 largest answer: 368 bytes
 the file was read to its end, $(stat -c %s "$requests") bytes
 END
+# Peers by RFC 6733 get the same but for a second Vendor-Id.
+doubled=$(message 302 $cx "${front/$application/$(avp 260 40 - "$(avp 266 40 - 000028AF)$both")}$(public sip:bob@isle)")
+lay "$lir" "$doubled"
+for edition in '' 3588 6733; do
+    peer=(${edition:+-e "$edition"})
+    if [ "$edition" = 6733 ]; then
+        counts='B2001           .      .      1      .      .      1  success
+B5009           .      .      1      .      .      1  AVP occurs too many times' largest=180
+    else
+        counts='B2001           .      .      2      .      .      2  success' largest=160
+    fi
+    says 0 "a second Vendor-Id, by '$edition'" <<END
+              UAR    SAR    LIR    MAR  other    all
+$counts
+answered        .      .      2      .      .      2
+read                                               2
+
+records altered: 0
+largest answer: $largest bytes
+the file was read to its end, $(stat -c %s "$requests") bytes
+END
+done
+peer=()
 # Under another policy a server's name is not kept. Columns are as wide as the count needs.
 sed 's/keep=1/keep=0/' "$top/examples/households.txt" >"$room/text"
 "$maketable" table "$room/text" >"$table"
@@ -268,7 +291,7 @@ for report in "${reports[@]}"; do
     of() { "${run[@]}" "$report" "$@" >"$room/said" 2>"$room/errors"; }
     version=$(sed -n 's/^#define NDUSHAVIRE_VERSION "\(.*\)"$/\1/p' "$top/include/ndushavire.h")
     of --version && [ "$(cat "$room/said")" = "ndushavire-report $version" ] || fail "$report --version says '$(cat "$room/said")'"
-    of --help && grep -q '^usage: ndushavire-report TABLE' "$room/said" || fail "$report --help says '$(cat "$room/said")'"
+    of --help && grep -q '^usage: ndushavire-report \[-e EDITION\] TABLE' "$room/said" || fail "$report --help says '$(cat "$room/said")'"
     # A pipe, and no vectors.
     "${run[@]}" "$report" "$table" "$profile" /dev/null <(cat "$requests") >"$room/said" || fail "$report of a pipe: status $?"
     [ "$(tail -n 1 "$room/said")" = "the file was read to its end, $((${#lir} / 2)) bytes" ] || fail "$report of a pipe says '$(cat "$room/said")'"
@@ -283,6 +306,10 @@ for report in "${reports[@]}"; do
     fails "$table" "$profile" "$vectors"
     fails "$table" "$profile" "$vectors" "$requests" "$requests"
     fails --help "$table"
+    fails -e "$table" "$profile" "$vectors" "$requests"
+    fails -e 6733 "$table" "$profile" "$vectors"
+    fails "$table" "$profile" "$vectors" "$requests" -e 6733
+    for edition in '' 0 1 3589 6733x 06733 6733=gw; do fails -e "$edition" "$table" "$profile" "$vectors" "$requests"; done
     fails "$room/none" "$profile" "$vectors" "$requests"
     fails "$table" "$room/none" "$vectors" "$requests"
     fails "$table" "$profile" "$room/none" "$requests"

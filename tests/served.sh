@@ -22,7 +22,7 @@ command -v python3 >/dev/null || fail 'python3 is missing (Debian: python3)'
 cp -r "$top/examples" "$room/source"
 
 # Three trials are about peers that wait in vain, and have a daemon with little patience; the others may run on a machine that is slow.
-hasty='greeting slow ending' others='cut many garbage replaced declined two_users laid_over sizes taken taken_over_kills put_in timed_out last_good twice full kills'
+hasty='greeting slow ending' others='cut many garbage replaced declined two_users laid_over sizes taken taken_over_kills put_in timed_out editions last_good twice full kills'
 build() { # SOURCES PROGRAM TRIAL [OPTION]
     local flags=(-DLOOK_AGAIN=1 "${@:4}")
     [[ " $hasty " != *" $3 "* ]] || flags+=(-DQUIET=3 -DGREETING=1 -DFAREWELL=1)
@@ -43,6 +43,12 @@ for port in '' 65536 12x -1 ' 1'; do
     ends 2 -p "$port" live cards
     grep -q -e '-p: a port is 0 to 65535' "$room/complaint" || fail "a port '$port' is not complained of"
 done
+for edition in '' 6734 06733 6733x 6733= =gw.mainland.example 3588,6733; do
+    ends 2 -e "$edition" live cards
+    grep -q -e '-e: 3588 or 6733' "$room/complaint" || fail "an edition '$edition' is not complained of"
+done
+ends 2 $(printf -- '-e 6733=gw%s ' $(seq 65)) live cards
+ends 1 $(printf -- '-e 6733=gw%s ' $(seq 64)) "$room/none" "$room/none"
 kills=40
 [ ${#run[@]} = 0 ] || kills=15 # an emulator takes long to start
 client() { # TRIALS PROGRAM
@@ -82,6 +88,17 @@ with() { # ABOUT TRIAL FILE SED..
     started=$((started + 1))
 }
 with 'files that are damaged in memory and not read again' spoilt daemon.c -e "$spoil" -e 's/^    read_again(number);//'
+with 'an edition that is not the peer'"'"'s' editions daemon.c 's/sizeof answer, peer->edition)/sizeof answer, NDUSHAVIRE_RFC_3588)/'
+with 'an edition of one peer, taken for all' editions peers.h 's/^        else if (strlen(host) == length .*) of_peer = /        else of_peer = /'
+with 'an edition of all, taken before that of one peer' editions peers.h 's/return of_peer != 0 ? of_peer : of_all;/return of_all != NDUSHAVIRE_RFC_3588 ? of_all : of_peer != 0 ? of_peer : of_all;/'
+with 'a host by the beginning of its name' editions peers.h 's/strlen(host) == length \&\& strncasecmp(host, (const char \*)name, length)/strncasecmp(host, (const char *)name, length)/'
+with 'a host in another case, taken for another' editions peers.h 's/strncasecmp/strncmp/'
+with 'the first word on a peer, and not the last' editions peers.h 's/ \&\& strncasecmp(/ \&\& of_peer == 0&/'
+with 'a fault by one edition, remembered for another' editions daemon.c 's/ \&\& ndushavire_place(word) == 0) remember_for_twice/) remember_for_twice/'
+with 'what was done by one edition, decided again by another' editions daemon.c \
+    's/may_alter(request, length) ? recall(/may_alter(request, length) \&\& peer->edition == NDUSHAVIRE_RFC_3588 ? recall(/'
+with 'an edition that the log does not say' editions daemon.c 's/open, RFC %lu", peer->name, (unsigned long)peer->edition)/open", peer->name)/'
+with 'a peer that follows RFC 6733 unless something is stated' editions peers.h 's/uint32_t of_all = NDUSHAVIRE_RFC_3588/uint32_t of_all = NDUSHAVIRE_RFC_6733/'
 with 'an answer that is sent before its work is stored' kills daemon.c \
     -e 's/^    if (may_alter(request, length) \&\& succeeded.*/    send_later(peer, answer, answer_len);\n    write_some(peer);\n&/' \
     -e '/remember_for_twice(outcome/,/^}/s/^    send_later.*//' -e 's/^static void hang_up(Peer/static void write_some(Peer *peer);\n&/'

@@ -5,6 +5,8 @@ import collections, struct, subprocess
 ENTRIES = {1: 'table profile'.split(), 2: 'request table* profile vectors* buffer*'.split(), 3: ['vectors'],
            4: 'requests table* profile vectors* buffer* report*'.split(), 5: 'table* profile'.split(), 6: 'table* profile'.split(),
            7: 'area* fresh profile'.split()}
+# The numbers behind them, where a case is given none: the peer's edition of the base standard.
+NUMBERS = {2: (3588,), 4: (3588,)}
 WRITTEN, NOISY = 1 << 31, 1 << 30  # beside a slice's length
 # What a slice of noise holds before the call, from any of its first 256 bytes on.
 NOISE = bytes(((n * 2654435761) & 0xFFFFFFFF) >> 24 for n in range(256 + 65536))
@@ -47,8 +49,9 @@ def outcomes(stream):
         yield Outcome(stream[start:at], word, changes)
 
 
-def case(entry, fill, *slices, numbers=()):
+def case(entry, fill, *slices, numbers=None):
     """The bytes of a case: of a slice its bytes, or how many of noise it holds."""
+    numbers = NUMBERS.get(entry, ()) if numbers is None else numbers
     words = [(slice | NOISY if isinstance(slice, int) else len(slice)) | (WRITTEN if '*' in name else 0)
              for name, slice in zip(ENTRIES[entry], slices)]
     head = struct.pack('>BBBB%dI' % (len(words) + len(numbers)), entry, fill, len(words), len(numbers), *words, *numbers)

@@ -91,7 +91,8 @@ static void make_requests(void)
 
 static uint64_t decide(const Request *request, size_t table_length, size_t length)
 {
-    return ndushavire_decide(request->bytes, request->length, table, table_length, table, 0, vectors, length, answer, sizeof answer);
+    return ndushavire_decide(request->bytes, request->length, table, table_length, table, 0, vectors, length, answer, sizeof answer,
+                             NDUSHAVIRE_RFC_3588);
 }
 
 static void keep(void)

@@ -20,6 +20,7 @@
 
 int send_all(int peer, const uint8_t *bytes, size_t length);
 int refused(int peer, uint64_t word);
+uint32_t edition_stated(int peer);
 
 static void start(const char *folder, const char *cards) { take_all(folder, cards); }
 
@@ -27,6 +28,7 @@ static int serve(int peer, const uint8_t *request, size_t length) {
     static Peer one;
     one.out = 0;
     snprintf(one.name, sizeof one.name, "%d", peer);
+    one.edition = edition_stated(peer);
     serve_new(&one, request, length);
     return one.out == 0 || send_all(peer, one.to_write, one.out);
 }

@@ -8,6 +8,7 @@ use crate::moves;
 use crate::report;
 use crate::serve;
 use crate::slip::Slip;
+use crate::stated::Stated;
 use crate::table;
 use crate::take;
 use crate::vectors;
@@ -54,12 +55,12 @@ pub enum Lent {
 /// Each entry, the slices that it takes, and how many numbers come behind them.
 const ENTRIES: [(Entry, &[Lent], usize); 7] = [
     (Entry::Check, &[Read(Table), Read(Profile)], 0),
-    (Entry::Decide, &[Read(Request), Written(Table), Read(Profile), Written(Vectors), Written(Buffer)], 0),
+    (Entry::Decide, &[Read(Request), Written(Table), Read(Profile), Written(Vectors), Written(Buffer)], 1),
     (Entry::CheckVectors, &[Read(Vectors)], 0),
     (
         Entry::Report,
         &[Read(Requests), Written(Table), Read(Profile), Written(Vectors), Written(Buffer), Written(Report)],
-        0,
+        1,
     ),
     (Entry::Forward, &[Written(Table), Read(Profile)], 1),
     (Entry::Back, &[Written(Table), Read(Profile)], 0),
@@ -220,10 +221,11 @@ impl Case {
         profile: Vec<u8>,
         vectors: Vec<u8>,
         buffer: usize,
+        stated: Stated,
     ) -> Case {
         let mut slices: Vec<Held> = [request, table, profile, vectors].into_iter().map(Held::Bytes).collect();
         slices.push(Held::Noise(buffer));
-        Case { entry: Entry::Decide, fill, slices, numbers: vec![] }
+        Case { entry: Entry::Decide, fill, slices, numbers: stated.numbers() }
     }
 
     pub fn check_vectors(fill: u8, vectors: Vec<u8>) -> Case {
@@ -231,11 +233,18 @@ impl Case {
     }
 
     /// A report over these files, with so many bytes for answers and for the report.
-    pub fn report(fill: u8, requests: Vec<u8>, files: [Vec<u8>; 3], buffer: usize, report: usize) -> Case {
+    pub fn report(
+        fill: u8,
+        requests: Vec<u8>,
+        files: [Vec<u8>; 3],
+        buffer: usize,
+        report: usize,
+        stated: Stated,
+    ) -> Case {
         let [table, profile, vectors] = files;
         let mut slices: Vec<Held> = [requests, table, profile, vectors].into_iter().map(Held::Bytes).collect();
         slices.extend([Held::Noise(buffer), Held::Noise(report)]);
-        Case { entry: Entry::Report, fill, slices, numbers: vec![] }
+        Case { entry: Entry::Report, fill, slices, numbers: stated.numbers() }
     }
 
     /// A move forward, with an issue number, or back.
@@ -249,6 +258,11 @@ impl Case {
     pub fn take(fill: u8, area: Vec<u8>, fresh: Vec<u8>, profile: Vec<u8>) -> Case {
         let slices = [area, fresh, profile].into_iter().map(Held::Bytes).collect();
         Case { entry: Entry::Take, fill, slices, numbers: vec![] }
+    }
+
+    /// What a decision or a report is told of its peer.
+    pub fn stated(&self) -> Stated {
+        Stated::of(&self.numbers)
     }
 
     fn place(&self, slice: Slice) -> Option<usize> {
@@ -315,7 +329,8 @@ impl Case {
                 (serve::check_word(5, found), Why::Checked(found))
             }
             (Entry::Decide, [request, table, profile, vectors, buffer]) => {
-                serve::serve(request, table.to_mut(), profile, vectors.to_mut(), buffer.to_mut(), slip)
+                let (table, vectors, buffer) = (table.to_mut(), vectors.to_mut(), buffer.to_mut());
+                serve::serve(request, table, profile, vectors, buffer, self.stated(), slip)
             }
             (Entry::CheckVectors, [vectors]) => {
                 let found = vectors::check_with(vectors, slip);
@@ -329,6 +344,7 @@ impl Case {
                     vectors: vectors.to_mut(),
                     buffer: buffer.to_mut(),
                     report: report.to_mut(),
+                    stated: self.stated(),
                 },
                 slip,
             ),

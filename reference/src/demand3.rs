@@ -249,7 +249,7 @@ fn relation(with: &Case, first_marked: Option<usize>) -> Relation {
     let request = with.held(Slice::Request);
     let message = Message(&request);
     let before = Received { at: HEADER, bytes: &request[HEADER..at] };
-    if read_header(message, Slip::NONE).and_then(|command| walk(before, command, Slip::NONE)).is_err() {
+    if read_header(message, Slip::NONE).and_then(|command| walk(before, command, with.stated(), Slip::NONE)).is_err() {
         return Relation::FaultBefore;
     }
     let avp = Received { at, bytes: &request[at..] }.sound(Slip::NONE)[0];
@@ -258,5 +258,5 @@ fn relation(with: &Case, first_marked: Option<usize>) -> Relation {
     let finding = Finding { result: 5001, failed, place: at, why };
     let table = with.held(Slice::Table);
     let header = Table(&table[..BLOCK]).header();
-    Relation::Marked(answer(message, header, &Verdict::of_finding(finding), Slip::NONE), at)
+    Relation::Marked(answer(message, header, &Verdict::of_finding(finding), with.stated(), Slip::NONE), at)
 }

@@ -7,6 +7,7 @@ use crate::kinds::Command;
 use crate::message::Message;
 use crate::read::read;
 use crate::slip::Slip;
+use crate::stated::Stated;
 use crate::table::check;
 
 #[derive(Clone, Copy, PartialEq, Eq, PartialOrd, Ord, Debug)]
@@ -15,6 +16,8 @@ pub enum Hypothesis {
     Request,
     /// It is no MAR.
     Command,
+    /// The same is stated of the peer.
+    Stated,
     /// Both tables are sound.
     Sound,
     /// The headers have the same edition.
@@ -100,6 +103,9 @@ pub fn broken(calls: &[Case; 2]) -> BTreeSet<Hypothesis> {
     if Message(&request).command() == Command::MultimediaAuth.code() {
         broken.insert(Hypothesis::Command);
     }
+    if one.stated() != other.stated() {
+        broken.insert(Hypothesis::Stated);
+    }
     let tables = [one.held(Slice::Table), other.held(Slice::Table)];
     let profiles = [one.held(Slice::Profile), other.held(Slice::Profile)];
     if (0..2).any(|side| check(&tables[side], profiles[side].len()).is_err()) {
@@ -122,7 +128,7 @@ pub fn broken(calls: &[Case; 2]) -> BTreeSet<Hypothesis> {
             broken.insert(Hypothesis::Profile);
         }
     };
-    let (publics, mut privates) = asked(&request);
+    let (publics, mut privates) = asked(&request, [one.stated(), other.stated()]);
     for public in &publics {
         let found = [sides[0].of_public(public), sides[1].of_public(public)];
         privates.extend(found.iter().flatten().map(|block| private(block).to_vec()));
@@ -135,10 +141,10 @@ pub fn broken(calls: &[Case; 2]) -> BTreeSet<Hypothesis> {
 }
 
 /// The public and the private identities that a request names: every 601 of vendor 10415, and every 1 but in a LIR. In one that has no fault
-/// in reading these are those that the walk keeps; of one that has, none is looked up.
-fn asked(request: &[u8]) -> (BTreeSet<Vec<u8>>, BTreeSet<Vec<u8>>) {
+/// in reading these are those that the walk keeps; of one that has on both sides, none is looked up.
+fn asked(request: &[u8], stated: [Stated; 2]) -> (BTreeSet<Vec<u8>>, BTreeSet<Vec<u8>>) {
     let (mut publics, mut privates) = (BTreeSet::new(), BTreeSet::new());
-    if read(Message(request), Slip::NONE).is_err() {
+    if stated.iter().all(|stated| read(Message(request), *stated, Slip::NONE).is_err()) {
         return (publics, privates);
     }
     let mut at = 20;

@@ -8,8 +8,9 @@ pub mod kinds;
 pub mod rng;
 pub mod slip;
 
-// What is lent: a message, the table with the moves between its editions and the take-over of a new one, the vector file.
+// What is lent and stated: a message, the peer's edition, the table with the moves between its editions and the take-over of a new one, the vector file.
 pub mod message;
+pub mod stated;
 pub mod table;
 
 pub mod moves;

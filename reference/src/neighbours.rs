@@ -14,6 +14,7 @@ use crate::gen::neighbours::{broken, pair, Breach, BREACHES, SILENT};
 use crate::hypotheses::{self, Hypothesis};
 use crate::kinds::{Command, Kind};
 use crate::message::Message;
+use crate::read::{vendors_of, SEVERAL};
 use crate::serve;
 use crate::slip::Slip;
 use crate::stats::{least, ROUNDS};
@@ -75,7 +76,8 @@ fn own(calls: &[Case; 2]) -> ([Given; 2], [Why; 2]) {
         let mut buffer = vec![0; case.buffer()];
         let (mut table, mut vectors) = (case.held(Slice::Table).into_owned(), case.held(Slice::Vectors).into_owned());
         let (request, profile) = (case.held(Slice::Request), case.held(Slice::Profile));
-        let (word, why) = serve::serve(&request, &mut table, &profile, &mut vectors, &mut buffer, Slip::NONE);
+        let (word, why) =
+            serve::serve(&request, &mut table, &profile, &mut vectors, &mut buffer, case.stated(), Slip::NONE);
         let (number, _, value) = serve::parts(word);
         buffer.truncate(if number == 0 { value as usize } else { 0 });
         (Given { word, answer: buffer }, why)
@@ -266,7 +268,21 @@ fn rows(calls: &[Case; 2], own: &[Given; 2], why: &Why) -> Vec<String> {
         }
     }
     rows.extend(differences(calls).into_iter().map(|what| format!("differs: {what}")));
+    rows.push(peer(&calls[0], why));
     rows
+}
+
+/// The peer's edition, and what comes of several Vendor-Ids.
+fn peer(call: &Case, why: &Why) -> String {
+    let request = call.held(Slice::Request);
+    let all = Message(&request).avps().sound(Slip::NONE);
+    let is_several = all.iter().any(|avp| avp.code == 260 && avp.vendor.is_none() && vendors_of(*avp).len() > 1);
+    let came = match why {
+        Why::Rule('h', SEVERAL) => ", several Vendor-Ids: B5009",
+        Why::Decided(_) if is_several => ", several Vendor-Ids: decided",
+        _ => "",
+    };
+    format!("peer: RFC {}{came}", call.stated().peer)
 }
 
 fn decided(decision: &Decision) -> String {
@@ -389,6 +405,8 @@ fn wanted() -> Vec<(String, u64)> {
         "what is past the count",
     ];
     wanted.extend(differences.map(|what| format!("differs: {what}")));
+    let of_peers = ["3588", "6733", "3588, several Vendor-Ids: decided", "6733, several Vendor-Ids: B5009"];
+    wanted.extend(of_peers.map(|what| format!("peer: RFC {what}")));
     wanted.push(OVER_256.to_string());
     let mut wanted: Vec<(String, u64)> = wanted.into_iter().map(|row| (row, 1000)).collect();
     wanted.push((OVER_2048.to_string(), 10_000));
@@ -443,6 +461,7 @@ fn breaks(breach: Breach, broken: &BTreeSet<Hypothesis>) -> bool {
     match breach {
         Breach::Request => broken.contains(&Hypothesis::Request),
         Breach::Vectors => alone(Hypothesis::Command),
+        Breach::Peer => alone(Hypothesis::Stated),
         Breach::Unsound => alone(Hypothesis::Sound),
         Breach::Edition => alone(Hypothesis::Edition),
         Breach::Keep | Breach::Host | Breach::Realm | Breach::Network => alone(Hypothesis::Header),

@@ -2,8 +2,9 @@
 
 use crate::kinds::{Command, Kind};
 use crate::message::{padded, Avp, Message, HEADER};
-use crate::read::read;
+use crate::read::{read, vendors_of, SEVERAL};
 use crate::slip::{Fault, Slip};
+use crate::stated::Stated;
 use crate::verdict::Code::{Base, Experimental};
 use crate::verdict::{Failed, Verdict, Why};
 
@@ -15,12 +16,13 @@ pub fn of_answer(message: Message, verdict: &Verdict, slip: Slip) -> u64 {
 }
 
 /// The word's part for a refusal with this value.
-pub fn of_refusal(request: &[u8], number: u32, value: u32, slip: Slip) -> u64 {
+pub fn of_refusal(request: &[u8], number: u32, value: u32, stated: Stated, slip: Slip) -> u64 {
     let astray = match slip.0 {
         Some(Fault::BadBlockInPlace) if number == 5 => value as usize,
+        Some(Fault::UnknownPeerInPlace) if number == 12 => stated.peer as usize & 0xFFFF,
         // The others are given before there is a request to read.
-        Some(Fault::RefusalPlaced) if number >= 5 => {
-            read(Message(request), slip).err().map_or(0, |finding| finding.place)
+        Some(Fault::RefusalPlaced) if matches!(number, 5 | 6) => {
+            read(Message(request), stated, slip).err().map_or(0, |finding| finding.place)
         }
         _ => 0,
     };
@@ -84,6 +86,8 @@ fn astray_rule(avps: &[Avp], verdict: &Verdict, fault: Fault) -> Option<usize> {
         }
         (Fault::FourBytesUnplaced, 'g') => Some(0),
         (Fault::ContentUnplaced, 'h') => Some(0),
+        (Fault::SeveralVendorsUnplaced, 'h') => (what == SEVERAL).then_some(0),
+        (Fault::SecondVendorPlaced, 'h') if what == SEVERAL => vendors_of(*at_fault?).get(1).map(|second| second.at),
         (Fault::MemberOf260Placed, 'h') if kind == Some(Kind::VendorSpecificApplicationId) => first_member(),
         (Fault::MemberOf612Placed, 'h') if kind == Some(Kind::SipAuthDataItem) => first_member(),
         _ => None,

@@ -7,6 +7,7 @@ use std::path::Path;
 use crate::refuse::LEAST_BUFFER;
 use crate::serve::{parts, serve};
 use crate::slip::Slip;
+use crate::stated::Stated;
 use crate::table;
 use crate::vectors;
 
@@ -50,7 +51,7 @@ pub fn answer(request: &[u8]) -> Result<Vec<u8>, String> {
         }
     }
     let mut buffer = vec![0; LEAST_BUFFER];
-    let (word, _) = serve(request, &mut table, &profile, &mut vectors, &mut buffer, Slip::NONE);
+    let (word, _) = serve(request, &mut table, &profile, &mut vectors, &mut buffer, Stated::OLDER, Slip::NONE);
     match parts(word) {
         (0, _, length) => buffer.truncate(length as usize),
         (number, ..) => buffer = format!("refused {number}\n").into_bytes(),

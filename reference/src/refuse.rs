@@ -1,12 +1,14 @@
-//! The six refusals of a call.
+//! The refusals of a call.
 
 use crate::block::BLOCK;
 use crate::kinds::Command;
-use crate::message::{Message, R};
-use crate::read::{read, read_header};
+use crate::message::{Message, HEADER, R};
+use crate::read::{read, read_header, SEVERAL};
 use crate::slip::{Fault, Slip};
+use crate::stated::Stated;
 use crate::table::{self, Table, EDITION, EDITION_1, EDITION_2};
 use crate::vectors::{self, vector, Vector, Vectors};
+use crate::verdict::Why;
 
 pub const LEAST_BUFFER: usize = 36_864;
 pub const LEAST_REQUEST: usize = 20;
@@ -20,19 +22,28 @@ pub struct Lent<'a> {
     pub profile: &'a [u8],
     pub vectors: &'a [u8],
     pub buffer: &'a [u8],
+    pub stated: Stated,
 }
 
 /// The first refusal in their order: its number, and what is returned besides.
 pub fn refusal(lent: &Lent, slip: Slip) -> Option<(u32, u32)> {
     let order = match slip.0 {
-        Some(Fault::RequestBeforeBuffer) => [2, 1, 3, 4, 5, 6],
-        Some(Fault::TableBeforeRequest) => [1, 5, 2, 3, 4, 6],
-        Some(Fault::RequestBitBeforeLength) => [1, 2, 4, 3, 5, 6],
-        Some(Fault::VectorsBeforeTable) => [1, 2, 3, 4, 6, 5],
-        Some(Fault::VectorsBeforeRequest) => [1, 6, 2, 3, 4, 5],
-        _ => [1, 2, 3, 4, 5, 6],
+        Some(Fault::RequestBeforeBuffer) => [12, 2, 1, 3, 4, 5, 6],
+        Some(Fault::TableBeforeRequest) => [12, 1, 5, 2, 3, 4, 6],
+        Some(Fault::RequestBitBeforeLength) => [12, 1, 2, 4, 3, 5, 6],
+        Some(Fault::VectorsBeforeTable) => [12, 1, 2, 3, 4, 6, 5],
+        Some(Fault::VectorsBeforeRequest) => [12, 1, 6, 2, 3, 4, 5],
+        Some(Fault::PeerAfterBuffer) => [1, 12, 2, 3, 4, 5, 6],
+        Some(Fault::PeerAfterRequest) => [1, 2, 3, 4, 12, 5, 6],
+        Some(Fault::PeerAfterTable) => [1, 2, 3, 4, 5, 12, 6],
+        Some(Fault::PeerLast) => [1, 2, 3, 4, 5, 6, 12],
+        _ => [12, 1, 2, 3, 4, 5, 6],
     };
-    let told = |number| if number == 6 && slip.is(Fault::UnsoundVectorsAreFive) { 5 } else { number };
+    let told = |number| match (slip.0, number) {
+        (Some(Fault::UnsoundVectorsAreFive), 6) => 5,
+        (Some(Fault::UnknownPeerIsOne), 12) => 1,
+        _ => number,
+    };
     order.into_iter().find_map(|number| Some((told(number), besides(number, lent, slip)?)))
 }
 
@@ -68,13 +79,30 @@ fn besides(number: u32, lent: &Lent, slip: Slip) -> Option<u32> {
         }
         4 => Message(lent.request).flags() & R == 0 && !slip.is(Fault::RequestBitNotAsked),
         5 => return bad_block(lent, slip),
+        12 => return unknown_peer(lent, slip),
         _ => return bad_vectors(lent, slip),
     };
     given.then_some(0)
 }
 
+/// Refusal 12. Before it nothing is asked of the request, not even whether it has a header.
+fn unknown_peer(lent: &Lent, slip: Slip) -> Option<u32> {
+    let message = Some(Message(lent.request)).filter(|_| lent.request.len() >= HEADER);
+    let overlooked = match (slip.0, message) {
+        (Some(Fault::PeerNotForHeaderFaults), Some(message)) => read_header(message, slip).is_err(),
+        (Some(Fault::PeerOnlyForDecisions), Some(message)) => read(message, lent.stated, slip).is_err(),
+        (Some(Fault::PeerOnlyForSeveralVendors), Some(message)) => {
+            let finding = read(message, Stated::NEWER, slip).err();
+            finding.map_or(true, |finding| finding.why != Why::Rule('h', SEVERAL))
+        }
+        _ => false,
+    };
+    let value = if slip.is(Fault::UnknownPeerTold) { lent.stated.peer } else { 0 };
+    (!lent.stated.has_known_peer() && !overlooked).then_some(value)
+}
+
 fn bad_block(lent: &Lent, slip: Slip) -> Option<u32> {
-    let faulty = || read(Message(lent.request), slip).is_err();
+    let faulty = || read(Message(lent.request), lent.stated, slip).is_err();
     if slip.is(Fault::TableOnlyForDecisions) && lent.table.len() >= BLOCK && faulty() {
         return None;
     }
@@ -106,7 +134,7 @@ fn bad_vectors(lent: &Lent, slip: Slip) -> Option<u32> {
     let overlooked = match slip.0 {
         Some(Fault::VectorsNotAsked) => true,
         Some(Fault::VectorsOnlyForAuthentication) => message.command() != Command::MultimediaAuth.code(),
-        Some(Fault::VectorsOnlyForDecisions) => read(message, slip).is_err(),
+        Some(Fault::VectorsOnlyForDecisions) => read(message, lent.stated, slip).is_err(),
         Some(Fault::VectorsNotForHeaderFaults) => read_header(message, slip).is_err(),
         _ => false,
     };

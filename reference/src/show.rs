@@ -48,6 +48,7 @@ fn refusal_name(number: u32) -> &'static str {
         4 => "R bit clear",
         5 => "table unsound",
         6 => "vector file unsound",
+        12 => "peer edition neither 3588 nor 6733",
         _ => "a number that the documents do not have",
     }
 }

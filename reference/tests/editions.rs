@@ -271,7 +271,7 @@ fn forms(table: &[u8]) -> Vec<Vec<u8>> {
 #[test]
 fn no_answer_depends_on_edition_issue_or_a_set_of_one() {
     let (mut rng, mut decided, mut rewritten) = (Rng::new(8), 0, 0);
-    for (number, case) in cases(Stream::Calls, 42, 700).enumerate() {
+    for (number, case) in cases(Stream::Calls, 42, 1200).enumerate() {
         let held = |slice| case.held(slice).into_owned();
         let (request, profile, table) = (held(Slice::Request), held(Slice::Profile), held(Slice::Table));
         let mut other = match in_edition_2(&mut rng, &table, profile.len()) {
@@ -281,7 +281,7 @@ fn no_answer_depends_on_edition_issue_or_a_set_of_one() {
         decided += 1;
         let (mut vectors, mut buffer) = (held(Slice::Vectors), held(Slice::Buffer));
         let form = forms(&other);
-        let (word, _) = serve(&request, &mut other, &profile, &mut vectors, &mut buffer, Slip::NONE);
+        let (word, _) = serve(&request, &mut other, &profile, &mut vectors, &mut buffer, case.stated(), Slip::NONE);
         let outcome = case.outcome(Slip::NONE);
         let after = |slice| case.after(&outcome, slice).unwrap();
         assert_eq!(word, outcome.word, "case {number}");
@@ -312,6 +312,7 @@ fn no_report_depends_on_edition_issue_or_a_set_of_one() {
             vectors: &mut vectors,
             buffer: &mut buffer,
             report: &mut area,
+            stated: case.stated(),
         };
         let (word, _) = report::report(lent, Slip::NONE);
         let outcome = case.outcome(Slip::NONE);

@@ -10,6 +10,7 @@ use reference::gen::neighbours::{broken, pair, Breach, BREACHES, SILENT};
 use reference::hypotheses::{self, Hypothesis};
 use reference::neighbours::required_rows;
 use reference::slip::{by_name, Slip};
+use reference::stated::Stated;
 
 fn answers(calls: &[Case; 2], slip: Slip) -> [Option<(u64, Vec<u8>)>; 2] {
     [0, 1].map(|side| {
@@ -51,6 +52,7 @@ fn a_pair_can_be_made_again() {
 fn may_break(breach: Breach) -> Vec<Hypothesis> {
     match breach {
         Breach::Request => vec![Hypothesis::Request, Hypothesis::Public, Hypothesis::Private, Hypothesis::Profile],
+        Breach::Peer => vec![Hypothesis::Stated],
         Breach::Vectors => vec![Hypothesis::Command],
         Breach::Unsound => vec![Hypothesis::Sound],
         Breach::Edition => vec![Hypothesis::Edition],
@@ -128,14 +130,15 @@ fn columns(line: &'static str) -> Vec<&'static str> {
 
 // ---- the hypotheses one by one, over tables put together by hand
 
-fn calls_over(request: &[u8], tables: [&TableModel; 2], profiles: [&[u8]; 2]) -> [Case; 2] {
+fn calls_over(request: &[u8], tables: [&TableModel; 2], profiles: [&[u8]; 2], stated: [Stated; 2]) -> [Case; 2] {
     [0, 1].map(|side| {
-        Case::decide(side as u8, request.to_vec(), tables[side].encode(), profiles[side].to_vec(), vec![], 36_864)
+        let (table, profile) = (tables[side].encode(), profiles[side].to_vec());
+        Case::decide(side as u8, request.to_vec(), table, profile, vec![], 36_864, stated[side])
     })
 }
 
 fn found(request: &[u8], tables: [&TableModel; 2], profiles: [&[u8]; 2]) -> Vec<Hypothesis> {
-    hypotheses::broken(&calls_over(request, tables, profiles)).into_iter().collect()
+    hypotheses::broken(&calls_over(request, tables, profiles, [Stated::OLDER; 2])).into_iter().collect()
 }
 
 fn registered(public: &str, private: &str, server_name: &str) -> RecordModel {
@@ -219,6 +222,31 @@ fn whom_a_request_is_about() {
     assert_eq!(asks(&sar(b"b", &[avp(614, b"")]), 301, "b"), []);
     // A name that neither table has.
     assert_eq!(asks(&sar(b"x", &[avp(1, b"y")]), 301, "a"), []);
+}
+
+/// With several Vendor-Ids a request from a newer peer has a fault in reading, so that it is about nobody.
+#[test]
+fn the_peers_edition_is_a_hypothesis() {
+    let two = [number(266, 10_415), number(266, 10_415), number(258, 16_777_216)].concat();
+    let mut lir = vec![avp(263, b"s;1"), avp(260, &two), number(277, 1), avp(264, b"cscf.isle"), avp(296, b"isle")];
+    lir.extend([avp(283, b"isle"), avp(601, b"b")]);
+    let lir = message(302, &lir);
+    let one = isle(vec![registered("b", "p", "s")]);
+    let none = isle(vec![]);
+    let found = |other, stated| {
+        let calls = calls_over(&lir, [&one, other], [b"", b""], stated);
+        hypotheses::broken(&calls).into_iter().collect::<Vec<_>>()
+    };
+    let (older, newer) = (Stated::OLDER, Stated::NEWER);
+    let both = [Hypothesis::Public, Hypothesis::Private];
+    assert_eq!(found(&one, [older; 2]), []);
+    assert_eq!(found(&one, [newer; 2]), []);
+    assert_eq!(found(&one, [older, newer]), [Hypothesis::Stated]);
+    assert_eq!(found(&one, [newer, older]), [Hypothesis::Stated]);
+    assert_eq!(found(&none, [older; 2]), both);
+    assert_eq!(found(&none, [newer; 2]), []);
+    assert_eq!(found(&none, [older, newer]), [&[Hypothesis::Stated], &both[..]].concat());
+    assert_eq!(found(&none, [newer, older]), [&[Hypothesis::Stated], &both[..]].concat());
 }
 
 /// As a guest house may ask: another subscriber registers, is barred, leaves; the answer for my line stays.

@@ -17,7 +17,7 @@ fn spans(column: &str) -> impl Iterator<Item = &str> {
 }
 
 /// Each request's heading, and its readings that cases can show.
-fn requests() -> [(&'static str, Vec<u32>); 6] {
+fn requests() -> [(&'static str, Vec<u32>); 7] {
     [
         // 19 is about programs over files.
         ("The authentication request", (1..=25).filter(|number| *number != 19).collect()),
@@ -29,6 +29,7 @@ fn requests() -> [(&'static str, Vec<u32>); 6] {
         // 13 is about speed.
         ("Registering one registers the set", (1..=12).collect()),
         ("Taking over a new table", (1..=12).collect()),
+        ("The newer base standard", (1..=6).collect()),
     ]
 }
 
@@ -66,8 +67,9 @@ fn every_fault_about_a_request_goes_against_a_reading() {
     let of_sets = ["a set", "the set", "one set", "its set", "of sets", "sets ", "free identity"];
     let of_areas =
         ["area", "take-over", "new table", "past the count", "past the table", "refusal 9", "refusal 10", "refusal 11"];
+    let of_peers = ["peer", "RFC 6733", "refusal 12", "Vendor-Ids are"];
     let is_about = |what: &str| {
-        let all = words.iter().chain(&of_place).chain(&of_report).chain(&of_editions).chain(&of_sets).chain(&of_areas);
+        let all = [&words[..], &of_place, &of_report, &of_editions, &of_sets, &of_areas, &of_peers].concat();
         all.into_iter().any(|word| what.contains(word))
     };
     for (fault, what) in FAULTS.iter().filter(|(_, what)| is_about(what)) {

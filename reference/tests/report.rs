@@ -9,6 +9,7 @@ use reference::gen::{make, Stream};
 use reference::report::{report, Lent};
 use reference::serve::{parts, serve};
 use reference::slip::Slip;
+use reference::stated::Stated;
 use std::collections::BTreeMap;
 
 const ROOM: usize = 36_864;
@@ -42,8 +43,15 @@ fn run(requests: &[u8], table: &[u8], vectors: &[u8], room: usize, area: usize) 
 
 fn run_over(requests: &[u8], table: &[u8], profile: &[u8], vectors: &[u8], mut buffer: Vec<u8>, area: usize) -> Run {
     let (mut table, mut vectors, mut area) = (table.to_vec(), vectors.to_vec(), vec![0x5A; area]);
-    let lent =
-        Lent { requests, table: &mut table, profile, vectors: &mut vectors, buffer: &mut buffer, report: &mut area };
+    let lent = Lent {
+        requests,
+        table: &mut table,
+        profile,
+        vectors: &mut vectors,
+        buffer: &mut buffer,
+        report: &mut area,
+        stated: Stated::OLDER,
+    };
     let (word, _) = report(lent, Slip::NONE);
     Run { word, table, vectors, buffer, area }
 }
@@ -416,7 +424,7 @@ fn the_numbers_are_those_of_the_requests_in_turn() {
             let piece = &requests[at..at + length];
             at += length;
             let before = table.clone();
-            let (word, _) = serve(piece, &mut table, &profile, &mut vectors, &mut buffer, Slip::NONE);
+            let (word, _) = serve(piece, &mut table, &profile, &mut vectors, &mut buffer, case.stated(), Slip::NONE);
             words[0] += 1;
             words[2] += before.chunks(512).zip(table.chunks(512)).filter(|(old, new)| old != new).count() as u64;
             let (number, _, value) = parts(word);

@@ -10,6 +10,7 @@ use reference::moves::{back, forward};
 use reference::report;
 use reference::serve::{parts, serve};
 use reference::slip::Slip;
+use reference::stated::Stated;
 use reference::table::{check, Table};
 
 const REMOVALS: [u32; 6] = [4, 5, 6, 7, 8, 11];
@@ -189,6 +190,7 @@ fn every_entry_refuses_a_set_that_disagrees() {
         vectors: &mut vectors,
         buffer: &mut buffer,
         report: &mut area,
+        stated: Stated::OLDER,
     };
     assert_eq!(parts(report::report(lent, Slip::NONE).0), (0, 0, 0));
     assert_eq!((area[7], area[8 * 9 + 7]), (3, 3), "read, and refused by 5");
@@ -529,7 +531,7 @@ fn sets_add_nothing_but_barring_and_reach() {
         let (request, profile, table) = (held(Slice::Request), held(Slice::Profile), held(Slice::Table));
         let (plain, mut vectors, mut buffer) = (without_sets(&table), held(Slice::Vectors), held(Slice::Buffer));
         let mut moved = plain.clone();
-        let (word, _) = serve(&request, &mut moved, &profile, &mut vectors, &mut buffer, Slip::NONE);
+        let (word, _) = serve(&request, &mut moved, &profile, &mut vectors, &mut buffer, case.stated(), Slip::NONE);
         let outcome = case.outcome(Slip::NONE);
         let after = |slice| case.after(&outcome, slice).unwrap();
         assert_eq!(word, outcome.word, "case {number}");

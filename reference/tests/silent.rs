@@ -10,9 +10,10 @@ use reference::gen::model::{RecordModel, TableModel};
 use reference::gen::{make, Stream, STREAMS};
 use reference::kinds::Command;
 use reference::message::Message;
-use reference::read::read;
+use reference::read::{read, SEVERAL};
 use reference::report::{name, word};
 use reference::slip::{Fault, Slip, FAULTS, SILENT};
+use reference::stated::Stated;
 use reference::table::{check, Table};
 use reference::vectors::Vectors;
 use reference::verdict::{Code, Why};
@@ -43,7 +44,7 @@ fn no_case_shows_a_silent_fault() {
 
 /// What is decided of a request, whatever the table.
 fn decided(request: &[u8], table: &[u8], slip: Slip) -> Code {
-    let request = read(Message(request), Slip::NONE).ok().unwrap();
+    let request = read(Message(request), Stated::OLDER, Slip::NONE).ok().unwrap();
     decide(&request, Files { table: Table(table), profile: b"", vectors: Vectors(b"") }, slip).result
 }
 
@@ -73,6 +74,18 @@ fn an_unsound_table_would_show_them() {
         assert_eq!(decided(&request, &table, Slip::NONE), truly, "{fault:?}");
         assert_eq!(decided(&request, &table, Slip::of(fault)), otherwise, "{fault:?}");
     }
+}
+
+/// Of a second 260 two rules say the same, and only the reason that reading gives tells which.
+#[test]
+fn a_second_260_tells_the_order_of_its_rules_by_its_reason_alone() {
+    let several = avp(260, &[number(266, 10415), number(266, 10415), number(258, 16_777_216)].concat());
+    let request = request(302, &[avp(601, b"a"), several]);
+    let finding = |slip| read(Message(&request), Stated::NEWER, slip).err().unwrap();
+    let (truly, otherwise) = (finding(Slip::NONE), finding(Slip::of(Fault::SeveralVendorsBeforeCount)));
+    assert_eq!((truly.result, &truly.failed, truly.place), (otherwise.result, &otherwise.failed, otherwise.place));
+    assert_eq!(truly.why, Why::Rule('f', "Vendor-Specific-Application-Id"));
+    assert_eq!(otherwise.why, Why::Rule('h', SEVERAL));
 }
 
 /// Why nobody can reach that branch: in states 1 and 2 a sound record has a server name.

@@ -10,6 +10,7 @@ use reference::gen::{make, run, Stream};
 use reference::moves::{back, forward, Refusal};
 use reference::report::{self, LEAST_REPORT};
 use reference::slip::{Fault, Slip};
+use reference::stated::Stated;
 use reference::table::{check, check_exactly};
 use reference::take::{issues_found, take, write};
 
@@ -135,6 +136,7 @@ fn a_report_reads_the_longer_area() {
             vectors: &mut [],
             buffer: &mut buffer,
             report: &mut numbers,
+            stated: Stated::OLDER,
         };
         (report::report(lent, Slip::NONE).0, area, numbers)
     };

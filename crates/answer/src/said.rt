@@ -18,12 +18,15 @@ fn put_said(out: &mut [u8], w: u64) -> usize
     lines::put_words(out, b"refused ", number as u64, b"\n")
 }
 
+// The program's peer follows RFC 3588.
+const PEER: u32 = 3588;
+
 // What is said to a request, at the front of out.
 pub fn answer_to(out: &mut [u8], req: &[u8], t: &mut [u8], file: &[u8], v: &mut [u8]) -> usize
     requires { ⌜ 30 ≤ length (now out) ⌝ }
     ensures { λ r. ⌜ (r ≤ length (now (out .exit)))
-        × SaidTo (lent (now (req .entry)) (now (t .entry)) (now (file .entry)) (now (v .entry)) (now (out .entry)) underCx) (now (out .exit)) r ⌝ }
+        × SaidTo (lent (now (req .entry)) (now (t .entry)) (now (file .entry)) (now (v .entry)) (now (out .entry)) (underCx 3588)) (now (out .exit)) r ⌝ }
 {
-    let w = ndushavire::ndushavire_decide(req, t, file, v, out);
+    let w = ndushavire::ndushavire_decide(req, t, file, v, out, PEER);
     put_said(out, w)
 }

@@ -146,14 +146,14 @@ pub alike-table : (x : Lent) (area : List ℕ) → take (sizeIn (x .table)) area
 alike-table x area same =
     served-in (holding x area) ∙ ap (λ (y : Lent). serveTable y .table) (only-alike x area same) ∙ sym (served-in x)
 
--- A request that the first four refusals let pass over an area whose check answers a bad block: refusal 5 with that block, and everything as it came.
-bad-table : (x : Lent) (k : ℕ) → anyHolds (earlyTrials (x .request) (x .buffer)) ≡ false → checkOf x ≡ Bad k
+-- A request that the first five refusals let pass over an area whose check answers a bad block: refusal 5 with that block, and everything as it came.
+bad-table : (x : Lent) (k : ℕ) → anyHolds (earlyTrials (x .terms) (x .request) (x .buffer)) ≡ false → checkOf x ≡ Bad k
     → serveTable x ≡ record { call = Refused 5 k; table = x .table; vectors = x .vectors; buffer = x .buffer }
 unfolding serveTableBy serveFound tried refused
 bad-table x k e f =
-    tried-past (refused x) (answered x (decided x)) (earlyTrials (x .request) (x .buffer)) (fileTrials (checkOf x) (checkVectors (x .vectors))) e ∙ rw f
+    tried-past (refused x) (answered x (decided x)) (earlyTrials (x .terms) (x .request) (x .buffer)) (fileTrials (checkOf x) (checkVectors (x .vectors))) e ∙ rw f
 
-pub bad-refused : (x : Lent) (k : ℕ) → anyHolds (earlyTrials (x .request) (x .buffer)) ≡ false → checkArea (x .table) (length (x .profile)) ≡ Bad k
+pub bad-refused : (x : Lent) (k : ℕ) → anyHolds (earlyTrials (x .terms) (x .request) (x .buffer)) ≡ false → checkArea (x .table) (length (x .profile)) ≡ Bad k
     → serve x ≡ record { call = Refused 5 k; table = x .table; vectors = x .vectors; buffer = x .buffer }
 unfolding checkArea
 bad-refused x k e f = ap (overArea (x .table)) (bad-table (tableOnly x) k e f) ∙ rw (put-same (x .table))

@@ -18,7 +18,7 @@ use Rattle.deciding.specs.declared.Told.{Told}
 use Rattle.calling.specs.declared.Came.{Came}
 use Rattle.calling.specs.Lent.{Lent, lent}
 use Rattle.calling.specs.Trial.{tried}
-use Rattle.calling.specs.Serve.{refused, answered, smallBuffer, wrongSize, wrongLength, noRequest, checkOf, checkValue, serveFound, serveTableBy}
+use Rattle.calling.specs.Serve.{refused, answered, unknownPeer, smallBuffer, wrongSize, wrongLength, noRequest, checkOf, checkValue, serveFound, serveTableBy}
 use Rattle.calling.specs.Serve.{serveTable}
 use Rattle.calling.specs.Leaves.{Leaves, early, serveChecked}
 use Rattle.calling.specs.declared.Came.the-variants as came
@@ -61,55 +61,61 @@ size-most req e = size-within req e .1
 pub size-flags : (req : List ℕ) → wrongSize req ≡ false → 4 < length req
 size-flags req e = omega (arith, size-least req e)
 
--- The first four, in their order.
-module _ (req o : List ℕ) where
-  pub early-buffer : length o < 36864 → 1 ≡ early req o
+-- The first five, in their order.
+module _ (terms : Terms) (req o : List ℕ) where
+  pub early-peer : unknownPeer terms ≡ true → 12 ≡ early terms req o
   unfolding early tried
-  early-buffer a = rw (lt-ltb (length o) 36864 a)
+  early-peer a = rw a
 
-  module _ (room : 36864 ≤ length o) where
-    pub early-size : wrongSize req ≡ true → 2 ≡ early req o
+  pub early-buffer : unknownPeer terms ≡ false → length o < 36864 → 1 ≡ early terms req o
+  unfolding early tried
+  early-buffer peer a = rw (peer, lt-ltb (length o) 36864 a)
+
+  module _ (peer : unknownPeer terms ≡ false) (room : 36864 ≤ length o) where
+    pub early-size : wrongSize req ≡ true → 2 ≡ early terms req o
     unfolding early tried
-    early-size a = rw (le-ltb (length o) 36864 room, a)
+    early-size a = rw (peer, le-ltb (length o) 36864 room, a)
 
     module _ (fits : wrongSize req ≡ false) {w : Bool} (is : w ≡ wrongLength req) where
-      pub early-length : w ≡ true → 3 ≡ early req o
+      pub early-length : w ≡ true → 3 ≡ early terms req o
       unfolding early tried
-      early-length a = rw (le-ltb (length o) 36864 room, fits, sym is ∙ a)
+      early-length a = rw (peer, le-ltb (length o) 36864 room, fits, sym is ∙ a)
 
-      pub early-answer : w ≡ false → getD req 4 0 < 128 → 4 ≡ early req o
+      pub early-answer : w ≡ false → getD req 4 0 < 128 → 4 ≡ early terms req o
       unfolding early tried
-      early-answer a b = rw (le-ltb (length o) 36864 room, fits, sym is ∙ a, lt-ltb (getD req 4 0) 128 b)
+      early-answer a b = rw (peer, le-ltb (length o) 36864 room, fits, sym is ∙ a, lt-ltb (getD req 4 0) 128 b)
 
-      pub early-none : w ≡ false → 128 ≤ getD req 4 0 → 0 ≡ early req o
+      pub early-none : w ≡ false → 128 ≤ getD req 4 0 → 0 ≡ early terms req o
       unfolding early tried
-      early-none a b = rw (le-ltb (length o) 36864 room, fits, sym is ∙ a, le-ltb (getD req 4 0) 128 b)
+      early-none a b = rw (peer, le-ltb (length o) 36864 room, fits, sym is ∙ a, le-ltb (getD req 4 0) 128 b)
 
 -- what it says where none holds
-record Lets (req o : List ℕ) : Type 0 where
+record Lets (terms : Terms) (req o : List ℕ) : Type 0 where
+  peer : unknownPeer terms ≡ false
   room : smallBuffer o ≡ false
   size : wrongSize req ≡ false
   long : wrongLength req ≡ false
   asks : noRequest req ≡ false
 
-lets : (req o : List ℕ) → early req o ≡ 0 → Lets req o
+lets : (terms : Terms) (req o : List ℕ) → early terms req o ≡ 0 → Lets terms req o
 unfolding early tried
-lets req o e = go (smallBuffer o) (wrongSize req) (wrongLength req) (noRequest req) refl refl refl refl e
+lets terms req o e = go (unknownPeer terms) (smallBuffer o) (wrongSize req) (wrongLength req) (noRequest req) refl refl refl refl refl e
   where
-    go : (a b c d : Bool) → smallBuffer o ≡ a → wrongSize req ≡ b → wrongLength req ≡ c → noRequest req ≡ d
-        → _≡_ {A = ℕ} (cond a 1 (cond b 2 (cond c 3 (cond d 4 0)))) 0 → Lets req o
-    go true b c d f g h i z = absurd (omega (arith, z))
-    go false true c d f g h i z = absurd (omega (arith, z))
-    go false false true d f g h i z = absurd (omega (arith, z))
-    go false false false true f g h i z = absurd (omega (arith, z))
-    go false false false false f g h i z = record { room = f; size = g; long = h; asks = i }
+    go : (u a b c d : Bool) → unknownPeer terms ≡ u → smallBuffer o ≡ a → wrongSize req ≡ b → wrongLength req ≡ c → noRequest req ≡ d
+        → _≡_ {A = ℕ} (cond u 12 (cond a 1 (cond b 2 (cond c 3 (cond d 4 0))))) 0 → Lets terms req o
+    go true a b c d p f g h i z = absurd (omega (arith, z))
+    go false true b c d p f g h i z = absurd (omega (arith, z))
+    go false false true c d p f g h i z = absurd (omega (arith, z))
+    go false false false true d p f g h i z = absurd (omega (arith, z))
+    go false false false false true p f g h i z = absurd (omega (arith, z))
+    go false false false false false p f g h i z = record { peer = p; room = f; size = g; long = h; asks = i }
 
 none : {n m : ℕ} → n ≡ m → n ≤ 0 → m ≡ 0
 none e h = omega (arith, e)
 
-pub passes : (req o : List ℕ) {n : ℕ} → n ≡ early req o → n ≤ 0 → Passed req o
-passes req o e h =
-    let l = lets req o (none e h) in
+pub passes : (terms : Terms) (req o : List ℕ) {n : ℕ} → n ≡ early terms req o → n ≤ 0 → Passed req o
+passes terms req o e h =
+    let l = lets terms req o (none e h) in
     let s = size-within req (l .size) in
     record { least = s .0; most = s .1; fours = length-even req (l .long); room = ltb-false (length o) 36864 (l .room) }
 
@@ -117,22 +123,24 @@ module _ (req t file v o : List ℕ) (terms : Terms) where
   abbrev x : Lent
   x = lent req t file v o terms
 
-  early-refuses : (count : ℕ) → 0 < early req o → Leaves x (serveTable x) count (came.Refused (early req o) 0) t v o
+  early-refuses : (count : ℕ) → 0 < early terms req o → Leaves x (serveTable x) count (came.Refused (early terms req o) 0) t v o
   unfolding early serveTableBy serveFound tried refused
-  early-refuses count h = go (smallBuffer o) (wrongSize req) (wrongLength req) (noRequest req) refl refl refl refl h
+  early-refuses count h = go (unknownPeer terms) (smallBuffer o) (wrongSize req) (wrongLength req) (noRequest req) refl refl refl refl refl h
     where
-      go : (a b c d : Bool) → smallBuffer o ≡ a → wrongSize req ≡ b → wrongLength req ≡ c → noRequest req ≡ d
-          → 0 < cond a 1 (cond b 2 (cond c 3 (cond d 4 0)))
-          → Leaves x (serveTable x) count (came.Refused (cond a 1 (cond b 2 (cond c 3 (cond d 4 0)))) 0) t v o
-      go true b c d f g h i z = record { call-is = rw f; table-is = rw f; vectors-is = rw f; buffer-is = rw f; noted = tt }
-      go false true c d f g h i z = record { call-is = rw (f, g); table-is = rw (f, g); vectors-is = rw (f, g); buffer-is = rw (f, g); noted = tt }
-      go false false true d f g h i z =
-          record { call-is = rw (f, g, h); table-is = rw (f, g, h); vectors-is = rw (f, g, h); buffer-is = rw (f, g, h); noted = tt }
-      go false false false true f g h i z =
-          record { call-is = rw (f, g, h, i); table-is = rw (f, g, h, i); vectors-is = rw (f, g, h, i); buffer-is = rw (f, g, h, i); noted = tt }
-      go false false false false f g h i z = absurd (omega (arith, z))
+      go : (u a b c d : Bool) → unknownPeer terms ≡ u → smallBuffer o ≡ a → wrongSize req ≡ b → wrongLength req ≡ c → noRequest req ≡ d
+          → 0 < cond u 12 (cond a 1 (cond b 2 (cond c 3 (cond d 4 0))))
+          → Leaves x (serveTable x) count (came.Refused (cond u 12 (cond a 1 (cond b 2 (cond c 3 (cond d 4 0))))) 0) t v o
+      go true a b c d p f g h i z = record { call-is = rw p; table-is = rw p; vectors-is = rw p; buffer-is = rw p; noted = tt }
+      go false true b c d p f g h i z = record { call-is = rw (p, f); table-is = rw (p, f); vectors-is = rw (p, f); buffer-is = rw (p, f); noted = tt }
+      go false false true c d p f g h i z =
+          record { call-is = rw (p, f, g); table-is = rw (p, f, g); vectors-is = rw (p, f, g); buffer-is = rw (p, f, g); noted = tt }
+      go false false false true d p f g h i z =
+          record { call-is = rw (p, f, g, h); table-is = rw (p, f, g, h); vectors-is = rw (p, f, g, h); buffer-is = rw (p, f, g, h); noted = tt }
+      go false false false false true p f g h i z =
+          record { call-is = rw (p, f, g, h, i); table-is = rw (p, f, g, h, i); vectors-is = rw (p, f, g, h, i); buffer-is = rw (p, f, g, h, i); noted = tt }
+      go false false false false false p f g h i z = absurd (omega (arith, z))
 
-  pub refuses : (count : ℕ) {n : ℕ} → n ≡ early req o → 0 < n → Leaves x (serveTable x) count (came.Refused n 0) t v o
+  pub refuses : (count : ℕ) {n : ℕ} → n ≡ early terms req o → 0 < n → Leaves x (serveTable x) count (came.Refused n 0) t v o
   refuses count e h = rw e (early-refuses count (rw (← e) h))
 
   -- The last two, and the answer.
@@ -165,14 +173,14 @@ module _ (req t file v o : List ℕ) (terms : Terms) where
           noted = (b .command-is, b .result-is, rw t-is (b .altered-is));
         }
 
-  pub rest-serves : (c d : Checked) {n count : ℕ} {r : Came} {t' v' o' : List ℕ} → n ≡ early req o → n ≤ 0 → c ≡ checkTable t (length file) → d ≡ checkVectors v
+  pub rest-serves : (c d : Checked) {n count : ℕ} {r : Came} {t' v' o' : List ℕ} → n ≡ early terms req o → n ≤ 0 → c ≡ checkTable t (length file) → d ≡ checkVectors v
       → Leaves x (serveChecked x c d) count r t' v' o' → Leaves x (serveTable x) count r t' v' o'
   unfolding serveTableBy serveFound tried serveChecked
   rest-serves c d e z f g s =
-      let l = lets req o (none e z) in
-      rw (l .room, l .size, l .long, l .asks, ← f, ← g) s
+      let l = lets terms req o (none e z) in
+      rw (l .peer, l .room, l .size, l .long, l .asks, ← f, ← g) s
 
   -- the same with the count that was found
-  pub call-serves : (c d : Checked) {n : ℕ} {r : Came} {t' v' o' : List ℕ} → n ≡ early req o → n ≤ 0 → c ≡ checkTable t (length file) → d ≡ checkVectors v
+  pub call-serves : (c d : Checked) {n : ℕ} {r : Came} {t' v' o' : List ℕ} → n ≡ early terms req o → n ≤ 0 → c ≡ checkTable t (length file) → d ≡ checkVectors v
       → Leaves x (serveChecked x c d) (checkValue c) r t' v' o' → Leaves x (serveTable x) (checkValue (checkOf x)) r t' v' o'
   call-serves c d e z f g s = rw (← f) (rest-serves c d e z f g s)

@@ -10,7 +10,7 @@ use Rattle.deciding.proofs.Kept.{decide-keeping, decide-vectors}
 use Rattle.deciding.proofs.Tests.{neither}
 use Rattle.calling.specs.Lent.{Lent, dialectIn}
 use Rattle.calling.specs.Trial.{Trial, anyHolds}
-use Rattle.calling.specs.Serve.{Served, smallBuffer, wrongSize, wrongLength, noRequest, isBad, checkOf, checkValue, trials, refused, answered}
+use Rattle.calling.specs.Serve.{Served, unknownPeer, smallBuffer, wrongSize, wrongLength, noRequest, isBad, checkOf, checkValue, trials, refused, answered}
 use Rattle.calling.specs.Serve.{decided, serveFound, serveTableBy, serveTable}
 use Rattle.calling.proofs.Trials.{tried-by}
 
@@ -20,8 +20,9 @@ sound-count (Sound count) e = refl
 sound-count (Bad block) e = absurd (true≢false e)
 
 module _ (x : Lent) where
-  -- what holds where none of the six does
+  -- what holds where none of the seven does
   pub record Taken : Type 0 where
+    pub peer : unknownPeer (x .terms) ≡ false
     pub room : 36864 ≤ length (x .buffer)
     pub size : wrongSize (x .request) ≡ false
     pub lengths : wrongLength (x .request) ≡ false
@@ -31,13 +32,15 @@ module _ (x : Lent) where
   pub taken : anyHolds (trials x) ≡ false → Taken
   unfolding anyHolds
   taken e =
-      let a = neither (smallBuffer (x .buffer)) _ e in
+      let p = neither (unknownPeer (x .terms)) _ e in
+      let a = neither (smallBuffer (x .buffer)) _ (p .1) in
       let b = neither (wrongSize (x .request)) _ (a .1) in
       let c = neither (wrongLength (x .request)) _ (b .1) in
       let d = neither (noRequest (x .request)) _ (c .1) in
       let f = neither (isBad (checkOf x)) _ (d .1) in
       let g = neither (isBad (checkVectors (x .vectors))) _ (f .1) in
       record {
+        peer = p .0;
         room = ltb-false _ _ (a .0);
         size = b .0;
         lengths = c .0;
@@ -50,22 +53,25 @@ module _ (x : Lent) where
       → P (anyHolds (trials x)) (serveTable x)
   unfolding serveTableBy serveFound
   serve-either P f o =
-      tried-by P (λ r. Unit) (refused x) (answered x (decided x)) (λ r q h. f r) o (trials x) (tt, (tt, (tt, (tt, (tt, (tt, tt))))))
+      tried-by P (λ r. Unit) (refused x) (answered x (decided x)) (λ r q h. f r) o (trials x) (tt, (tt, (tt, (tt, (tt, (tt, (tt, tt)))))))
 
   pub answered-is : anyHolds (trials x) ≡ false → serveTable x ≡ answered x (decided x)
   answered-is = serve-either (λ b s. b ≡ false → s ≡ answered x (decided x)) (λ r e. absurd (true≢false e)) (λ e. refl)
 
-  -- what holds of refusals by 1 to 6, and of the answer over sound files, holds of the call
-  pub serve-by : (P : Served → Type 0) → ((r : Trial) → 1 ≤ r .number → r .number ≤ 6 → P (refused x r)) → (Taken → P (answered x (decided x)))
+  -- what holds of refusals by 1 to 12, and of the answer over sound files, holds of the call
+  pub serve-by : (P : Served → Type 0) → ((r : Trial) → 1 ≤ r .number → r .number ≤ 12 → P (refused x r)) → (Taken → P (answered x (decided x)))
       → P (serveTable x)
   unfolding serveTableBy serveFound
   serve-by P f o =
-      tried-by (λ (b : Bool) (s : Served). anyHolds (trials x) ≡ b → P s) (λ r. (1 ≤ r .number) × (r .number ≤ 6)) (refused x) (answered x (decided x))
+      tried-by (λ (b : Bool) (s : Served). anyHolds (trials x) ≡ b → P s) (λ r. (1 ≤ r .number) × (r .number ≤ 12)) (refused x) (answered x (decided x))
       (λ r q h e. f r (q .0) (q .1)) (λ e. o (taken e)) (trials x) (
         (omega arith, omega arith),
         (
           (omega arith, omega arith),
-          ((omega arith, omega arith), ((omega arith, omega arith), ((omega arith, omega arith), ((omega arith, omega arith), tt)))),
+          (
+            (omega arith, omega arith),
+            ((omega arith, omega arith), ((omega arith, omega arith), ((omega arith, omega arith), ((omega arith, omega arith), tt)))),
+          ),
         ),
       )
       refl

@@ -1,10 +1,11 @@
--- What a call that is not yet a word leaves; its first four trials, which look at no table, and its last two, over files that were checked.
+-- What a call that is not yet a word leaves; its first five trials, which look at no table, and its last two, over files that were checked.
 use Prim.Native.Nat.{ℕ}
 use mathlib.Core.Path.{_≡_}
 use mathlib.Core.List.{List}
 use Rattle.blocks.specs.declared.Checked.{Checked}
 use Rattle.rewrite.specs.Change.{alteredUpTo}
 use Rattle.diameter.specs.Message.{commandOf}
+use Rattle.reading.specs.declared.Terms.{Terms}
 use Rattle.calling.specs.Lent.{Lent}
 use Rattle.calling.specs.Trial.{tried}
 use Rattle.calling.specs.Serve.{Served, earlyTrials, fileTrials, refused, answered, decision, checkValue}
@@ -37,9 +38,9 @@ pub record Comes (s : Served) (r : Came) (table' vectors' buffer' : List ℕ) : 
   pub vectors-is : vectors' ≡ s .vectors
   pub buffer-is : buffer' ≡ s .buffer
 
--- the number of the first of four refusals that holds, 0 if none does
-unfoldable pub early : List ℕ → List ℕ → ℕ
-early req o = tried (λ r. r .number) 0 (earlyTrials req o)
+-- the number of the first of five refusals that holds, 0 if none does
+unfoldable pub early : Terms → List ℕ → List ℕ → ℕ
+early terms req o = tried (λ r. r .number) 0 (earlyTrials terms req o)
 
 unfoldable pub serveChecked : Lent → Checked → Checked → Served
 serveChecked x c d = tried (refused x) (answered x (decision x (checkValue c))) (fileTrials c d)

@@ -1,7 +1,7 @@
 -- One call: what it comes to, the table, the vectors and the buffer afterwards, for any bytes.
 use Prim.Native.Nat.{ℕ, _%_}
 use mathlib.Core.List.{List, [], _∷_, _++_}
-use mathlib.Core.Bool.{Bool, true, false, not, _||_}
+use mathlib.Core.Bool.{Bool, true, false, not, _&&_, _||_}
 use mathlib.Core.Path.{_≡_}
 use lib.ListN.{length, getD}
 use lib.Dec.{eqb, ltb}
@@ -13,7 +13,9 @@ use Rattle.vectors.specs.VectorFile.{checkVectors}
 use Rattle.deciding.specs.Rules.{Rules, inForce}
 use Rattle.deciding.specs.Decide.{Decision, decideBy}
 use Rattle.answering.specs.Answer.{answerBytes}
+use Rattle.reading.specs.Groups.{rfc3588, rfc6733}
 use Rattle.reading.specs.declared.Outcome.{Outcome}
+use Rattle.reading.specs.declared.Terms.{Terms}
 use Rattle.calling.specs.Call.{Call, Answered, Refused}
 use Rattle.calling.specs.Lent.{Lent, tableOnly, putBack, dialectIn}
 use Rattle.calling.specs.Trial.{Trial, tried}
@@ -24,6 +26,10 @@ pub record Served : Type 0 where
   pub table : List ℕ
   pub vectors : List ℕ
   pub buffer : List ℕ
+
+-- 12: "a peer edition other than the two .., before 1"
+abbrev pub unknownPeer : Terms → Bool
+unknownPeer terms = not (eqb (terms .peer) rfc3588) && not (eqb (terms .peer) rfc6733)
 
 -- 1: "answer buffer under 36,864 bytes"
 abbrev pub smallBuffer : List ℕ → Bool
@@ -57,11 +63,12 @@ unsound c = record { holds = isBad c; number = 5; besides = checkValue c }
 abbrev pub unsoundVectors : Checked → Trial
 unsoundVectors d = record { holds = isBad d; number = 6; besides = 0 }
 
--- "Five refusals of the call", and the sixth, in their order, with what each returns besides: those that look at no file, and those of a table and a vector
--- file that are checked so
-abbrev pub earlyTrials : List ℕ → List ℕ → List Trial
-earlyTrials req o =
-    record { holds = smallBuffer o; number = 1; besides = 0 }
+-- "Five refusals of the call", the sixth and the twelfth, in their order, with what each returns besides: those that look at no file, and those of a table and
+-- a vector file that are checked so
+abbrev pub earlyTrials : Terms → List ℕ → List ℕ → List Trial
+earlyTrials terms req o =
+    record { holds = unknownPeer terms; number = 12; besides = 0 }
+    ∷ record { holds = smallBuffer o; number = 1; besides = 0 }
     ∷ record { holds = wrongSize req; number = 2; besides = 0 }
     ∷ record { holds = wrongLength req; number = 3; besides = 0 }
     ∷ record { holds = noRequest req; number = 4; besides = 0 }
@@ -71,7 +78,7 @@ abbrev pub fileTrials : Checked → Checked → List Trial
 fileTrials c d = unsound c ∷ unsoundVectors d ∷ []
 
 abbrev pub trialsOf : Lent → Checked → List Trial
-trialsOf x c = earlyTrials (x .request) (x .buffer) ++ fileTrials c (checkVectors (x .vectors))
+trialsOf x c = earlyTrials (x .terms) (x .request) (x .buffer) ++ fileTrials c (checkVectors (x .vectors))
 
 -- "All leave table and buffer as they came", and the vectors
 unfoldable pub refused : Lent → Trial → Served

@@ -16,7 +16,9 @@ ghost use Rattle.calling.specs.Lent.{lent};
 ghost use Rattle.calling.specs.Serve.{wrongLength, checkOf, checkValue, serveTable, serve};
 ghost use Rattle.calling.specs.Leaves.{Leaves, Comes, early, serveChecked};
 
-// The six refusals, by their numbers.
+// The seven refusals, by their numbers.
+const UNKNOWN_PEER: u16 = 12;
+
 const SMALL_BUFFER: u16 = 1;
 
 const WRONG_SIZE: u16 = 2;
@@ -50,10 +52,13 @@ fn wrong_length(req: &[u8]) -> bool
     (octets::number::be24(req, message::LENGTH_AT) != req.len()) | (req.len() % 4 != 0)
 }
 
-// The number of the first refusal that holds, of the four that look at no table; 0 if none does.
-fn early(req: &[u8], out: &[u8]) -> u16
-    ensures { λ r. ⌜ r ≡ early (now (req .entry)) (now (out .entry)) ⌝ }
+// The number of the first refusal that holds, of the five that look at no table; 0 if none does.
+fn early(terms: Terms, req: &[u8], out: &[u8]) -> u16
+    ensures { λ r. ⌜ r ≡ early terms (now (req .entry)) (now (out .entry)) ⌝ }
 {
+    if (terms.peer != reading::RFC_3588) & (terms.peer != reading::RFC_6733) {
+        return UNKNOWN_PEER;
+    }
     if out.len() < ROOM {
         return SMALL_BUFFER;
     }
@@ -76,7 +81,7 @@ pub struct Shared {
     pub terms: Terms,
 }
 
-// A request that the first five refusals let pass, over a vector file that was checked.
+// A request that all refusals but 6 let pass, over a vector file that was checked.
 fn over_sound(
     d: Checked,
     ground: Ground,
@@ -104,7 +109,7 @@ fn over_sound(
     }
 }
 
-// A request that the first four let pass, over a table and a vector file that were checked.
+// A request that the first five let pass, over a table and a vector file that were checked.
 fn over_checked(
     k: Shared,
     req: &[u8],
@@ -150,14 +155,14 @@ pub fn call_over(
         (serveTable (lent (now (req .entry)) (now (t .entry)) (now (file .entry)) (now (v .entry)) (now (out .entry)) (k .terms)))
         (checkValue (k .table)) r (now (t .exit)) (now (v .exit)) (now (out .exit)) ⌝ }
 {
-    let number = early(req, out);
+    let number = early(k.terms, req, out);
     if 0 < number {
         return Came::Refused { number, besides: 0 };
     }
     over_checked(k, req, t, file, v, out)
 }
 
-// "Five refusals of the call"; "Tried in this order."; "6 .. after 5": over a table whose length must be exact.
+// "Five refusals of the call"; "Tried in this order."; "6 .. after 5"; "12, before 1": over a table whose length must be exact.
 fn call_table(
     req: &[u8],
     t: &mut [u8],
@@ -171,7 +176,7 @@ fn call_table(
         (checkValue (checkOf (lent (now (req .entry)) (now (t .entry)) (now (file .entry)) (now (v .entry)) (now (out .entry)) terms)))
         r (now (t .exit)) (now (v .exit)) (now (out .exit)) ⌝ }
 {
-    let number = early(req, out);
+    let number = early(terms, req, out);
     if 0 < number {
         return Came::Refused { number, besides: 0 };
     }

@@ -27,6 +27,7 @@ fn decide(given: &[u8], w: &[u8; 64]) -> bool {
         words::slice(given, w, 2),
         &mut v[..m],
         &mut out[..room],
+        words::number_of(w, 5),
     );
     outcome::put(word, 3)
         & outcome::put_change(table, &t)
@@ -63,6 +64,7 @@ fn report(given: &[u8], w: &[u8; 64]) -> bool {
         &mut v[..m],
         &mut out[..room],
         &mut written[..k],
+        words::number_of(w, 6),
     );
     outcome::put(word, 4)
         & outcome::put_change(table, &t)

@@ -97,17 +97,17 @@ pub taken-over : (area fresh file : List ℕ) {r : ℕ} {area' : List ℕ} → T
     → ReadsTake (takeOver area fresh (length file) .taken) r
 taken-over area fresh file p = take-said area fresh file p
 
--- DEMAND 1. Every call ends in an answer or in exactly one of six refusals, each given exactly when the papers say, tried in their order.
+-- DEMAND 1. Every call ends in an answer or in exactly one of seven refusals, each given exactly when the papers say, tried in their order.
 module _ (a : Lent) where
   -- The call's number is that of one of the trials, over the table at the front of the area, exactly where this one holds and none earlier does, and 0 exactly
   -- where none holds.
   pub demand-1 : Exactly (trials (tableOnly a)) (callNumber (serve a .call))
   demand-1 = refusals (tableOnly a)
 
-  pub demand-1-number : callNumber (serve a .call) ≤ 6
+  pub demand-1-number : (callNumber (serve a .call) ≤ 6) ⊎ (callNumber (serve a .call) ≡ 12)
   demand-1-number = number-most (tableOnly a)
 
-  -- Refusals 1 to 4 and 6 return 0 besides, refusal 5 the first bad block, and an answer returns its length.
+  -- Refusals 12, 1 to 4 and 6 return 0 besides, refusal 5 the first bad block, and an answer returns its length.
   pub demand-1-none : (n k : ℕ) → serve a .call ≡ Refused n k → n ≢ 5 → k ≡ 0
   demand-1-none = besides-none (tableOnly a)
 

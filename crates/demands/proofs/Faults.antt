@@ -3,12 +3,12 @@ use Rattle.octets.specs.Standard.{ℕ, zero, suc, _+_, _%_, _≤_, _<_, List, [
 use Rattle.octets.specs.Standard.{refl, sym, ap, _∙_, _⊎_, inl, inr, _≢_, arith, length, getD, take, drop, set, length-drop, drop-drop}
 use Rattle.octets.specs.Standard.{length-take-le, eqb, leb, eqb-true, eqb-false}
 use Rattle.diameter.specs.Avp.{padded, avpHead, avpFlags, avpLen, dataOf, valueOf, reserved, marked, sound}
-use Rattle.diameter.specs.Walk.{Walk, avp, walk}
+use Rattle.diameter.specs.Walk.{Walk, ended, faulty, avp, walk}
 use Rattle.diameter.specs.AvpAt.{present, avpOf, avpAt}
 use Rattle.diameter.specs.Message.{bodyOf}
 use Rattle.diameter.proofs.Walks.{sound-says, padded-least, walk-nil, walk-sound, walk-faulty}
 use Rattle.reading.specs.Contents.{faultUnless, numberFault, plainFault}
-use Rattle.reading.specs.Groups.{membersOf, gathers}
+use Rattle.reading.specs.Groups.{membersOf, gathers, tooOften, groupFault}
 use Rattle.reading.specs.Kinds.{sessionId, kindOf, rowOf, useOf}
 use Rattle.reading.specs.Rules.{Seen, contentFault, ofOnce, ofUse, ruleBy, rule}
 use Rattle.reading.specs.Verdicts.{numberOf, faultAt, faultOf, lackOf}
@@ -21,7 +21,7 @@ use Rattle.reading.specs.declared.Ruled.the-variants.{Taken, Skipped, Fault}
 use Rattle.reading.specs.declared.Use.{Use}
 use Rattle.reading.specs.declared.Use.the-variants.{Unknown, Unnamed, Needed, Optional, Repeated}
 use Rattle.reading.specs.declared.Verdict.{Verdict}
-use Rattle.requests.specs.Judged.{Judged, bad, fine, nothing, judge}
+use Rattle.requests.specs.Judged.{Judged, bad, fine, nothing, onRule, judge}
 use Rattle.requests.specs.Request.{headerFault, firstOther, missing, complete, readWalk, readIn}
 use Rattle.requests.proofs.Faulting.{read-placed}
 use Rattle.deciding.specs.Rules.{inForce}
@@ -34,7 +34,7 @@ fine-bad seen v e = let z : _≡_ {A = ℕ} 0 1 = cc in absurd (omega arith)
 
 -- An AVP that passes (a) at a place, and the walk behind it.
 module _ (req : List ℕ) (at : ℕ) (s : sound (drop at req) ≡ true) where
-  avp-own : avpAt req at ≡ take (avpLen (drop at req)) (drop at req)
+  pub avp-own : avpAt req at ≡ take (avpLen (drop at req)) (drop at req)
   unfolding avpOf
   avp-own = rw s
 
@@ -48,12 +48,12 @@ module _ (req : List ℕ) (at : ℕ) (s : sound (drop at req) ≡ true) where
       drop-drop (padded (avpLen t)) at req ∙ ap (λ (n : ℕ). drop (at + padded n) req) (sym avp-length) in
       walk-sound t s ∙ ap (λ (r : List ℕ). avp (take (avpLen t) t) (walk r)) e ∙ ap (λ (a : List ℕ). avp a (walk (drop (behindAt req at) req))) (sym avp-own)
 
-  avp-least : at + 8 ≤ behindAt req at
+  pub avp-least : at + 8 ≤ behindAt req at
   avp-least =
       let h = sound-says (drop at req) s in
       omega (arith, avp-length, h .eight, h .least, padded-least (length (avpAt req at)))
 
-  avp-within : at + 8 ≤ length req
+  pub avp-within : at + 8 ≤ length req
   avp-within = let h = sound-says (drop at req) s in omega (arith, h .eight, h .least, h .within, length-drop at req)
 
 -- So does `judge`, from the first place that is reached to any other, and at an AVP that is at fault.
@@ -61,24 +61,45 @@ module _ (d : Dialect) (req : List ℕ) where
   abbrev judgeAt : ℕ → Seen → Judged
   judgeAt at seen = judge d at (walk (drop at req)) seen
 
-  judge-taken : (at : ℕ) (seen : Seen) → sound (drop at req) ≡ true → rule d seen (avpAt req at) ≡ Taken
+  pub judge-taken : (at : ℕ) (seen : Seen) → sound (drop at req) ≡ true → rule d seen (avpAt req at) ≡ Taken
       → judgeAt at seen ≡ judgeAt (behindAt req at) (set seen (kindOf (avpAt req at)) (some (avpAt req at)))
   unfolding judge
   judge-taken at seen s e = rw (avp-walked req at s, e)
 
-  judge-skipped : (at : ℕ) (seen : Seen) → sound (drop at req) ≡ true → rule d seen (avpAt req at) ≡ Skipped → judgeAt at seen ≡ judgeAt (behindAt req at) seen
+  pub judge-skipped : (at : ℕ) (seen : Seen) → sound (drop at req) ≡ true → rule d seen (avpAt req at) ≡ Skipped
+      → judgeAt at seen ≡ judgeAt (behindAt req at) seen
   unfolding judge
   judge-skipped at seen s e = rw (avp-walked req at s, e)
 
-  judge-breaks : (at : ℕ) (seen : Seen) (n : ℕ) → Breaks d req seen at n → judgeAt at seen ≡ bad (faultAt n at)
+  pub judge-breaks : (at : ℕ) (seen : Seen) (n : ℕ) → Breaks d req seen at n → judgeAt at seen ≡ bad (faultAt n at)
   unfolding judge
   judge-breaks at seen n (lengthFault h s) = rw (walk-faulty (drop at req) s (rw length-drop (omega arith)))
   judge-breaks at seen n (ruleFault m s e) = rw (avp-walked req at s, e)
 
-  judge-reaches : {at : ℕ} {seen : Seen} → ReadingReaches d req at seen → judgeAt 20 nothing ≡ judgeAt at seen
+  pub judge-reaches : {at : ℕ} {seen : Seen} → ReadingReaches d req at seen → judgeAt 20 nothing ≡ judgeAt at seen
   judge-reaches first = refl
   judge-reaches (pastTaken at seen r s e) = judge-reaches r ∙ judge-taken at seen s e
   judge-reaches (pastSkipped at seen r s e) = judge-reaches r ∙ judge-skipped at seen s e
+
+  -- A fault that is found from a place on stands there or behind it, and so an AVP that reading has passed is not at fault.
+  judge-from : (at : ℕ) (w : Walk) (seen : Seen) (v : Verdict) → judge d at w seen ≡ bad v → at ≤ v .place
+  unfolding judge
+  judge-from at ended seen v e = fine-bad seen v e
+  judge-from at (faulty t) seen v e = let q : v .place ≡ at = cc in omega arith
+  judge-from at (avp a w) seen v e = go (rule d seen a) e (λ s. judge-from (at + padded (length a)) w s v)
+    where
+      go : (r : Ruled) → onRule r seen a at (judge d (at + padded (length a)) w) ≡ bad v
+          → ((s : Seen) → judge d (at + padded (length a)) w s ≡ bad v → at + padded (length a) ≤ v .place) → at ≤ v .place
+      go Taken f rest = omega (arith, rest _ f)
+      go Skipped f rest = omega (arith, rest seen f)
+      go (Fault n) f rest = let q : v .place ≡ at = cc in omega arith
+
+  pub taken-passes : (at : ℕ) (seen : Seen) → ReadingReaches d req at seen → sound (drop at req) ≡ true → rule d seen (avpAt req at) ≡ Taken
+      → (n place : ℕ) → AtFault d req n place → place ≢ at
+  taken-passes at seen r s e n place f h =
+      let j : judgeAt (behindAt req at) (set seen (kindOf (avpAt req at)) (some (avpAt req at))) ≡ bad (faultAt n place)
+      = sym (judge-reaches r ∙ judge-taken at seen s e) ∙ judge-reaches (f .reached) ∙ judge-breaks place (f .seen) n (f .breaks) in
+      omega (arith, judge-from (behindAt req at) _ _ _ j, avp-least req at s)
 
   -- A fault that `judge` finds is such an AVP's.
   pub record Finds (v : Verdict) : Type 0 where
@@ -181,7 +202,7 @@ read-fault d req v n e = go (eqb (headerFault d req) 0) refl e
     go false h f = nowhere d req v (faultOf (headerFault d req)) refl n f
 
 -- Where it stands: behind the header, within the request, at a multiple of 4.
-reaches-least : (d : Dialect) (req : List ℕ) {at : ℕ} {seen : Seen} → ReadingReaches d req at seen → (20 ≤ at) × (at % 4 ≡ 0)
+pub reaches-least : (d : Dialect) (req : List ℕ) {at : ℕ} {seen : Seen} → ReadingReaches d req at seen → (20 ≤ at) × (at % 4 ≡ 0)
 unfolding padded
 reaches-least d req first = (omega arith, refl)
 reaches-least d req (pastTaken at seen r s e) = let h = reaches-least d req r in (omega (arith, h .0), omega (arith, h .1))
@@ -203,14 +224,14 @@ module _ (d : Dialect) (req : List ℕ) (n place : ℕ) (f : AtFault d req n pla
 
 -- Its result.
 abbrev OfContent : ℕ → Type 0
-OfContent n = (n ≡ 0) ⊎ (n ≡ 5014) ⊎ (n ≡ 5004)
+OfContent n = (n ≡ 0) ⊎ (n ≡ 5014) ⊎ (n ≡ 5009) ⊎ (n ≡ 5004)
 
 unless-content : (x : Bool) → OfContent (faultUnless x 5004)
 unless-content true = inl refl
-unless-content false = inr (inr refl)
+unless-content false = inr (inr (inr refl))
 
 content-number : (d : Dialect) (c : Content) (a : List ℕ) → OfContent (contentFault d c a)
-unfolding contentFault plainFault numberFault
+unfolding contentFault groupFault plainFault numberFault
 content-number d Free a = inl refl
 content-number d (Number least most) a = go (eqb (length a) (avpHead a + 4))
   where
@@ -218,7 +239,12 @@ content-number d (Number least most) a = go (eqb (length a) (avpHead a + 4))
     go true = unless-content (leb least (valueOf a) && leb (valueOf a) most)
     go false = inr (inl refl)
 content-number d (Sized least most) a = unless-content (leb least (length (dataOf a)) && leb (length (dataOf a)) most)
-content-number d (Members g) a = unless-content (gathers (membersOf d g) (walk (dataOf a)))
+content-number d (Members g) a = go (gathers (membersOf d g) (walk (dataOf a))) (tooOften d g (walk (dataOf a)))
+  where
+    go : (x y : Bool) → OfContent (cond x (cond y 5009 0) 5004)
+    go true true = inr (inr (inl refl))
+    go true false = inl refl
+    go false y = inr (inr (inr refl))
 
 rules-fault : (m n : ℕ) → OfRules m → Fault m ≡ Fault n → OfRules n
 rules-fault m n h e = let q : m ≡ n = cc in rw (← q) h
@@ -239,7 +265,8 @@ rule-number d seen a n e =
     holds h true z f = not-fault true n f
     holds (inl h) false z f = absurd (eqb-false c 0 z h)
     holds (inr (inl h)) false z f = rules-fault c n (inl h) f
-    holds (inr (inr h)) false z f = rules-fault c n (inr (inr (inr (inr h)))) f
+    holds (inr (inr (inl h))) false z f = rules-fault c n (inr (inr (inr (inl h)))) f
+    holds (inr (inr (inr h))) false z f = rules-fault c n (inr (inr (inr (inr h)))) f
 
     once : (x : Bool) → ofOnce x c ≡ Fault n → OfRules n
     once true f = rules-fault 5009 n (inr (inr (inr (inl refl)))) f

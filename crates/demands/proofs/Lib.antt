@@ -5,6 +5,7 @@ pub mod Blaming
 pub mod Cuts
 pub mod Demands
 pub mod Disagreeing
+pub mod Editions
 pub mod Effects
 pub mod Faults
 pub mod Firm
@@ -17,6 +18,8 @@ pub mod Members
 pub mod Messages
 pub mod Moved
 pub mod NamedTwice
+pub mod PeerCalls
+pub mod Peers
 pub mod Place
 pub mod Refusals
 pub mod Results

@@ -58,7 +58,7 @@ module _ (a : Lent) where
   pub place-none : ((place : ℕ) → Blames (tableOnly a) place → ⊥) → callPlace (serve a .call) ≡ 0
   place-none = unblamed (tableOnly a)
 
-  -- .. for a refusal, by any of the six, ..
+  -- .. for a refusal, by any of the seven, ..
   pub place-refused : turnedAway (tableOnly a) ≡ true → callPlace (serve a .call) ≡ 0
   place-refused = refused-nowhere (tableOnly a)
 

@@ -1,6 +1,6 @@
--- Demand 1: an answer, or exactly one of six refusals. What a refused call leaves, and what an answered one writes.
-use Rattle.octets.specs.Standard.{ℕ, _≤_, _<_, List, Bool, true, false, cond, _||_, true≢false, _≡_, refl, sym, ap, _∙_, _≢_, arith, length, drop}
-use Rattle.octets.specs.Standard.{drop-at}
+-- Demand 1: an answer, or exactly one of seven refusals. What a refused call leaves, and what an answered one writes.
+use Rattle.octets.specs.Standard.{ℕ, _≤_, _<_, List, Bool, true, false, cond, _||_, true≢false, _≡_, refl, sym, ap, _∙_, _⊎_, inl, inr, _≢_, arith, length}
+use Rattle.octets.specs.Standard.{drop, drop-at}
 use Rattle.octets.specs.Run.{over}
 use Rattle.octets.proofs.Writes.{over-length}
 use Rattle.blocks.specs.declared.Checked.{Checked}
@@ -9,7 +9,7 @@ use Rattle.diameter.specs.Put.{All}
 use Rattle.calling.specs.Call.{Answer, Call, Answered, Refused}
 use Rattle.calling.specs.Lent.{Lent, asking, dialectIn}
 use Rattle.calling.specs.Trial.{Trial, tried, anyHolds}
-use Rattle.calling.specs.Serve.{Served, smallBuffer, wrongSize, wrongLength, noRequest, isBad, earlyTrials, unsound, checkOf, trials, refused}
+use Rattle.calling.specs.Serve.{Served, unknownPeer, smallBuffer, wrongSize, wrongLength, noRequest, isBad, earlyTrials, unsound, checkOf, trials, refused}
 use Rattle.calling.specs.Serve.{answered, decision, checkValue, serveFound, serveTableBy, serveTable}
 use Rattle.ndushavire.specs.Word.{callWord}
 use Rattle.ndushavire.specs.Reads.{callNumber, callPlace, callValue, Reads}
@@ -36,16 +36,19 @@ module _ (x : Lent) where
   abbrev answer : Served
   answer = answered x (decision x (checkValue (checkOf x)))
 
-  -- What holds of the fifth, and of each that returns 0 besides, holds of all six.
-  six : (Q : Trial → Type 0) → ((h : Bool) (n : ℕ) → 1 ≤ n → n ≤ 6 → n ≢ 5 → Q (record { holds = h; number = n; besides = 0 })) → Q (unsound (checkOf x))
+  -- What holds of 5, and of each that returns 0 besides, holds of all seven.
+  seven : (Q : Trial → Type 0) → ((h : Bool) (n : ℕ) → 1 ≤ n → (n ≤ 6) ⊎ (n ≡ 12) → n ≢ 5 → Q (record { holds = h; number = n; besides = 0 })) → Q (unsound (checkOf x))
       → All Q (trials x)
-  six Q o f = (
-    o _ 1 (omega arith) (omega arith) (omega arith),
+  seven Q o f = (
+    o _ 12 (omega arith) (inr refl) (omega arith),
     (
-      o _ 2 (omega arith) (omega arith) (omega arith),
+      o _ 1 (omega arith) (inl (omega arith)) (omega arith),
       (
-        o _ 3 (omega arith) (omega arith) (omega arith),
-        (o _ 4 (omega arith) (omega arith) (omega arith), (f, (o _ 6 (omega arith) (omega arith) (omega arith), tt))),
+        o _ 2 (omega arith) (inl (omega arith)) (omega arith),
+        (
+          o _ 3 (omega arith) (inl (omega arith)) (omega arith),
+          (o _ 4 (omega arith) (inl (omega arith)) (omega arith), (f, (o _ 6 (omega arith) (inl (omega arith)) (omega arith), tt))),
+        ),
       ),
     ),
   )
@@ -65,18 +68,23 @@ module _ (x : Lent) where
   refusals =
       exactly (refused x) answer (λ (s : Served). callNumber (s .call)) (λ r. refl) refl (trials x) (
         refl,
-        (refl, (refl, (refl, (refl, (refl, tt))))),
+        (refl, (refl, (refl, (refl, (refl, (refl, tt)))))),
         (
           refl,
-          (refl, (refl, (refl, (refl, tt)))),
-          (refl, (refl, (refl, (refl, tt))), (refl, (refl, (refl, tt)), (refl, (refl, tt), (refl, tt, tt)))),
+          (refl, (refl, (refl, (refl, (refl, tt))))),
+          (
+            refl,
+            (refl, (refl, (refl, (refl, tt)))),
+            (refl, (refl, (refl, (refl, tt))), (refl, (refl, (refl, tt)), (refl, (refl, tt), (refl, tt, tt)))),
+          ),
         ),
       )
 
-  pub number-most : callNumber (serveTable x .call) ≤ 6
+  pub number-most : (callNumber (serveTable x .call) ≤ 6) ⊎ (callNumber (serveTable x .call) ≡ 12)
   unfolding refused answered
   number-most =
-      call-by (λ b s. callNumber (s .call) ≤ 6) (λ r. r .number ≤ 6) (six (λ r. r .number ≤ 6) (λ h n a b c. b) (omega arith)) (λ r h e. h) (omega arith)
+      call-by (λ b s. (callNumber (s .call) ≤ 6) ⊎ (callNumber (s .call) ≡ 12)) (λ r. (r .number ≤ 6) ⊎ (r .number ≡ 12))
+      (seven (λ r. (r .number ≤ 6) ⊎ (r .number ≡ 12)) (λ h n a b c. b) (inl (omega arith))) (λ r h e. h) (inl (omega arith))
 
   -- Refusal 5 returns the first bad block besides, every other refusal 0, an answer its length.
   record Besides (c : Call) : Type 0 where
@@ -97,7 +105,7 @@ module _ (x : Lent) where
   besides : Besides (serveTable x .call)
   unfolding refused answered isAnswer
   besides =
-      call-by (λ b s. Besides (s .call)) Right (six Right (λ h n a b c. other h n c) fifth)
+      call-by (λ b s. Besides (s .call)) Right (seven Right (λ h n a b c. other h n c) fifth)
       (λ r q h.
       record {
         none = λ n k e l. sym (ap callValue e) ∙ q .none (λ i. l (sym (ap callNumber e) ∙ i));
@@ -150,7 +158,7 @@ module _ (x : Lent) where
     unfolding refused answered
     word-reads =
         call-by (λ b s. turnedAway x ≡ b → Reads (s .call) (callWord (s .call))) (λ r. (1 ≤ r .number) × (r .besides ≤ 4096))
-        (six (λ r. (1 ≤ r .number) × (r .besides ≤ 4096)) (λ h n a b c. (a, omega arith)) (omega arith, check-most (x .table) (length (x .profile))))
+        (seven (λ r. (1 ≤ r .number) × (r .besides ≤ 4096)) (λ h n a b c. (a, omega arith)) (omega arith, check-most (x .table) (length (x .profile))))
         (λ r q h e. refusal-reads (r .number) (r .besides) (q .0) (omega (arith, q .1)))
         (λ e. answer-reads (record { length = length (answerTo x count); place = decision x count .place }) (near e) (omega (arith, short e))) refl
       where
@@ -166,7 +174,7 @@ module _ (x : Lent) where
     unfolding refused answered
     answer-within =
         call-by (λ b s. turnedAway x ≡ b → callNumber (s .call) ≡ 0 → callValue (s .call) ≤ length (x .buffer)) (λ r. 1 ≤ r .number)
-        (six (λ r. 1 ≤ r .number) (λ h n a b c. a) (omega arith)) (λ r q h e z. absurd (omega (arith, q, z)))
+        (seven (λ r. 1 ≤ r .number) (λ h n a b c. a) (omega arith)) (λ r q h e z. absurd (omega (arith, q, z)))
         (λ e z. omega (arith, short e, taken x e .room)) refl
 
     pub buffer-length : length (serveTable x .buffer) ≡ length (x .buffer)
@@ -190,17 +198,19 @@ unfolding serveTableBy serveFound refused
 refused-alike x req other a b c e =
     rw (a, b, c) (tried-alike (refused (asking x other)) (answer (asking x req)) (answer (asking x other)) (trials (asking x other)) e)
 
--- what the first four let pass is refused by 5, over a table whose check answers a bad block
-pub unsound-refused : (x : Lent) (k : ℕ) → anyHolds (earlyTrials (x .request) (x .buffer)) ≡ false → checkOf x ≡ Bad k → serveTable x .call ≡ Refused 5 k
+-- what the first five let pass is refused by 5, over a table whose check answers a bad block
+pub unsound-refused : (x : Lent) (k : ℕ) → anyHolds (earlyTrials (x .terms) (x .request) (x .buffer)) ≡ false → checkOf x ≡ Bad k → serveTable x .call ≡ Refused 5 k
 unfolding serveTableBy serveFound anyHolds tried refused
 unsound-refused x k none e =
     rw e
     (ap (λ (s : Served). s .call)
-    (go (smallBuffer (x .buffer)) (wrongSize (x .request)) (wrongLength (x .request)) (noRequest (x .request)) _ _ _ _ _ none))
+    (go (unknownPeer (x .terms)) (smallBuffer (x .buffer)) (wrongSize (x .request)) (wrongLength (x .request)) (noRequest (x .request)) _ _ _ _ _ _ none))
   where
-    go : (a b c d : Bool) (p q r s t : Served) → (a || (b || (c || (d || false)))) ≡ false → cond a p (cond b q (cond c r (cond d s t))) ≡ t
-    go true b c d p q r s t h = absurd (true≢false h)
-    go false true c d p q r s t h = absurd (true≢false h)
-    go false false true d p q r s t h = absurd (true≢false h)
-    go false false false true p q r s t h = absurd (true≢false h)
-    go false false false false p q r s t h = refl
+    go : (u a b c d : Bool) (o p q r s t : Served) → (u || (a || (b || (c || (d || false))))) ≡ false
+        → cond u o (cond a p (cond b q (cond c r (cond d s t)))) ≡ t
+    go true a b c d o p q r s t h = absurd (true≢false h)
+    go false true b c d o p q r s t h = absurd (true≢false h)
+    go false false true c d o p q r s t h = absurd (true≢false h)
+    go false false false true d o p q r s t h = absurd (true≢false h)
+    go false false false false true o p q r s t h = absurd (true≢false h)
+    go false false false false false o p q r s t h = refl

@@ -77,7 +77,7 @@ unfolding checkArea
 later-blamed-check area profile j k d p =
     let q : checkArea area (length profile) ≡ Bad k = later-blamed (tableIn area) (length profile) j k d in rw q at (checked area profile p)
 
-pub later-blamed-call : (a : Lent) (j k : ℕ) → anyHolds (earlyTrials (a .request) (a .buffer)) ≡ false
+pub later-blamed-call : (a : Lent) (j k : ℕ) → anyHolds (earlyTrials (a .terms) (a .request) (a .buffer)) ≡ false
     → Disagrees (tableIn (a .table)) (length (a .profile)) j k → serve a .call ≡ Refused 5 k
 later-blamed-call a j k none d = unsound-refused (tableOnly a) k none (later-blamed (tableIn (a .table)) (length (a .profile)) j k d)
 

@@ -1,5 +1,5 @@
 -- 02 [8], "Taking over a new table, radio or no radio.", over the calls: what a request gets before, between and after. What is written, and how the area then
--- checks, is in taking/proofs/Taking. A request that refusals 1 to 4 do not let pass is refused by them as ever.
+-- checks, is in taking/proofs/Taking. A request that refusals 12 and 1 to 4 do not let pass is refused by them as ever.
 use Rattle.octets.specs.Standard.{ℕ, _<_, _≤_, Bool, false, _≡_, sym, ap, _∙_, subst, List, arith, length}
 use Rattle.blocks.specs.declared.Checked.the-variants.{Bad}
 use Rattle.table.specs.Area.{sizeIn, tableIn, checkArea}
@@ -17,7 +17,7 @@ use Rattle.demands.specs.TakingOver.{refusing, SameServed}
 use Rattle.taking.proofs.Taking as taking
 
 -- "or is refused": a request over an area whose check answers a bad block
-pub refused-so : (x : Lent) (k : ℕ) → anyHolds (earlyTrials (x .request) (x .buffer)) ≡ false → checkArea (x .table) (length (x .profile)) ≡ Bad k
+pub refused-so : (x : Lent) (k : ℕ) → anyHolds (earlyTrials (x .terms) (x .request) (x .buffer)) ≡ false → checkArea (x .table) (length (x .profile)) ≡ Bad k
     → serve x ≡ refusing x k
 refused-so = bad-refused
 
@@ -45,7 +45,7 @@ module _ (x : Lent) (fresh : List ℕ) (count : ℕ) (e : takeOver (x .table) fr
       exact : length fresh ≡ sizeIn fresh
       exact = sound-size-in fresh (length (x .profile)) count (taking.only-takes (x .table) fresh (length (x .profile)) count e .fit .checked)
 
-  module _ (passes : anyHolds (earlyTrials (x .request) (x .buffer)) ≡ false) where
+  module _ (passes : anyHolds (earlyTrials (x .terms) (x .request) (x .buffer)) ≡ false) where
     -- IN BETWEEN, after the first k blocks, it is refused by 5 with block k, and leaves everything.
     pub between : (k : ℕ) → 0 < k → k ≤ count
         → serve (holding x (cutAfter (x .table) fresh k)) ≡ refusing (holding x (cutAfter (x .table) fresh k)) k

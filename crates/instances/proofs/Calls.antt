@@ -1,5 +1,5 @@
 -- The promise, the checks, demands 1 and 2: their hypotheses can be met by a SAR, computed.
-use Rattle.octets.specs.Standard.{ℕ, _/_, _≤_, _≡_, refl, sym, ap, _∙_, List, [], _∷_, _++_, some, Option·some-injective, true, false, inr, _≢_, arith}
+use Rattle.octets.specs.Standard.{ℕ, _/_, _≤_, _≡_, refl, sym, ap, _∙_, List, [], _∷_, _++_, some, Option·some-injective, true, false, inr, _≢_, arith, _⊎_}
 use Rattle.octets.specs.Standard.{length, getD, take, drop, eqb, lit<}
 use Rattle.blocks.specs.Blocks.{blockOf}
 use Rattle.blocks.specs.declared.Checked.{Checked}
@@ -108,7 +108,7 @@ met-checked-vectors = reads-vectors vectors (Sound 2) sound-vectors
 met-checked-cut : ReadsCheck 6 (Bad 1) (word 6 0 1)
 met-checked-cut = reads-vectors cutOff (Bad 1) cut-off-bad
 
--- DEMAND 1: a request of 19 bytes is refusal 2, the second trial; the SAR is number 0 with the answer's length; two records of one public identity are
+-- DEMAND 1: a request of 19 bytes is refusal 2, the third trial; the SAR is number 0 with the answer's length; two records of one public identity are
 -- refusal 5; a vector file that has no whole block is refusal 6, which comes after 5
 abbrev tooShort : Lent
 tooShort = asked (take 19 (sar s 5))
@@ -116,13 +116,13 @@ tooShort = asked (take 19 (sar s 5))
 met-1 : eqb (callNumber (serve tooShort .call)) 2 ≡ true
 unfolding all room
 met-1 =
-    demand-1 tooShort .given (take 1 (trials (tableOnly tooShort))) (drop 2 (trials (tableOnly tooShort)))
+    demand-1 tooShort .given (take 2 (trials (tableOnly tooShort))) (drop 3 (trials (tableOnly tooShort)))
     (record { holds = true; number = 2; besides = 0 }) refl
 
 met-1-within : 116 ≤ length room
 met-1-within = rw removal-call at (demand-1-within (asked (sar s 5)) (rw removal-call))
 
-met-1-number : callNumber (serve (asked (sar s 5)) .call) ≤ 6
+met-1-number : (callNumber (serve (asked (sar s 5)) .call) ≤ 6) ⊎ (callNumber (serve (asked (sar s 5)) .call) ≡ 12)
 met-1-number = demand-1-number (asked (sar s 5))
 
 met-1-length : 116 ≡ length (answerTo (tableOnly (asked (sar s 5))) 2)
@@ -147,7 +147,7 @@ unfolding all room
 met-1-kept = demand-1-kept tooShort refl .0
 
 doubled : Lent
-doubled = lent (sar s 5) twice [] [] room underCx
+doubled = lent (sar s 5) twice [] [] room (underCx 3588)
 
 doubled-refused : serve doubled .call ≡ Refused 5 2
 unfolding all doubled
@@ -161,7 +161,7 @@ met-1-block = demand-1-block doubled 2 doubled-refused
 
 -- a SAR that reads no vector, over these and over a table of no record
 spoilt : Lent
-spoilt = lent (sar s 5) (header 0 0) [] short room underCx
+spoilt = lent (sar s 5) (header 0 0) [] short room (underCx 3588)
 
 short-bad : checkVectors short ≡ Bad 0
 unfolding all short
@@ -174,7 +174,7 @@ spoilt-sound = sound-empty
 met-1-sixth : eqb (callNumber (serve spoilt .call)) 6 ≡ true
 unfolding all room short spoilt tableIn sizeIn
 met-1-sixth =
-    demand-1 spoilt .given (take 5 (trials (tableOnly spoilt))) [] (record { holds = true; number = 6; besides = 0 }) refl
+    demand-1 spoilt .given (take 6 (trials (tableOnly spoilt))) [] (record { holds = true; number = 6; besides = 0 }) refl
 
 spoilt-refused : serve spoilt .call ≡ Refused 6 0
 unfolding all spoilt
@@ -190,7 +190,7 @@ unfolding all spoilt
 met-1-sixth-kept =
     demand-1-kept spoilt (of-area spoilt 0 spoilt-sound (λ y. turnedAway y ≡ true) (held spoilt roomy sound-empty short-bad refl)) .1
 
-met-1-fifth-first : serve (lent (sar s 5) [] [] short room underCx) .call ≡ Refused 5 0
+met-1-fifth-first : serve (lent (sar s 5) [] [] short room (underCx 3588)) .call ≡ Refused 5 0
 unfolding all room short tableIn sizeIn
 met-1-fifth-first = refl
 
@@ -198,7 +198,7 @@ met-1-fifth-first = refl
 met-2 : tableIn (serve (asked (sar s 5)) .table) ≡ decision (tableOnly (asked (sar s 5))) 2 .table
 met-2 = demand-2 (asked (sar s 5)) 2 sound-area taken .1
 
-other-owner : some (privateAt table 2) ≢ subscriptionOf (dialectOf underCx (sar s 5)) (sar s 5) table 2
+other-owner : some (privateAt table 2) ≢ subscriptionOf (dialectOf (underCx 3588) (sar s 5)) (sar s 5) table 2
 unfolding all
 other-owner e =
     let d : _≡_ {A = List ℕ} (0x71 ∷ []) (0x70 ∷ []) = Option·some-injective _ _ e in

@@ -5,6 +5,7 @@ pub mod Challenges
 pub mod Insertions
 pub mod Members
 pub mod Moves
+pub mod Peers
 pub mod Places
 pub mod Run
 pub mod TakeOvers

@@ -55,7 +55,7 @@ fn call_word(c: Came) -> u64
 }
 
 // "The library takes one Diameter request, the subscriber table, a profile file (read only) and an answer buffer, all lent"; "Vectors come in a third
-// lent file".
+// lent file"; "The daemon states for each peer which applies".
 #[no_mangle]
 pub extern "C" fn ndushavire_decide(
     request: &[u8],
@@ -63,13 +63,15 @@ pub extern "C" fn ndushavire_decide(
     profile: &[u8],
     vectors: &mut [u8],
     answer: &mut [u8],
+    peer: u32,
 ) -> u64
     ensures { λ r. ⌜ DecidePromise
-        (lent (now (request .entry)) (now (table .entry)) (now (profile .entry)) (now (vectors .entry)) (now (answer .entry)) underCx)
+        (lent (now (request .entry)) (now (table .entry)) (now (profile .entry)) (now (vectors .entry)) (now (answer .entry)) (underCx peer))
         r (now (table .exit)) (now (vectors .exit)) (now (answer .exit)) ⌝ }
 {
     let terms = Terms {
         application: codes::CX,
+        peer,
     };
     call_word(calling::call(request, table, profile, vectors, answer, terms))
 }
@@ -83,13 +85,15 @@ pub extern "C" fn ndushavire_report(
     vectors: &mut [u8],
     answer: &mut [u8],
     report: &mut [u8],
+    peer: u32,
 ) -> u64
     ensures { λ r. ⌜ ReportPromise
-        (lent (now (requests .entry)) (now (table .entry)) (now (profile .entry)) (now (vectors .entry)) (now (answer .entry)) underCx) (now (report .entry))
+        (lent (now (requests .entry)) (now (table .entry)) (now (profile .entry)) (now (vectors .entry)) (now (answer .entry)) (underCx peer)) (now (report .entry))
         r (now (table .exit)) (now (vectors .exit)) (now (answer .exit)) (now (report .exit)) ⌝ }
 {
     let terms = Terms {
         application: codes::CX,
+        peer,
     };
     let number = reporting::report(requests, table, profile, vectors, answer, report, terms);
     word::of(number, 0, 0)
@@ -139,8 +143,8 @@ pub extern "C" fn ndushavire_take(area: &mut [u8], fresh: &[u8], profile: &[u8])
     take_word(taking::take(area, fresh, profile.len()))
 }
 
-// Which library was linked, so that a daemon can tell it from the header that it was compiled with: 0.11.0, as NDUSHAVIRE_VERSION_NUMBER has it.
-const VERSION: u32 = 1100;
+// Which library was linked, so that a daemon can tell it from the header that it was compiled with: 0.12.0, as NDUSHAVIRE_VERSION_NUMBER has it.
+const VERSION: u32 = 1200;
 
 #[no_mangle]
 pub extern "C" fn ndushavire_version() -> u32

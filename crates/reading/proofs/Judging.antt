@@ -19,7 +19,7 @@ use Rattle.reading.specs.declared.Use.{Use}
 use Rattle.reading.specs.declared.Use.the-variants.{Unknown, Unnamed, Needed, Optional, Repeated}
 use Rattle.reading.specs.Kinds.{kindOf, rowOf, useIn}
 use Rattle.reading.specs.Contents.{faultUnless, numberFault, plainFault}
-use Rattle.reading.specs.Groups.{membersOf, gathers}
+use Rattle.reading.specs.Groups.{groupFault}
 use Rattle.reading.specs.Rules.{contentFault, ofUnknown, ofContent, ofOnce, ruleBy, rule}
 use Rattle.reading.specs.Places.{seenOf}
 
@@ -65,9 +65,9 @@ module _ (c : Content) (a : List ℕ) where
     unfolding contentFault
     content-sized least most e m = m ∙ rw e
 
-    pub content-group : (g : Group) (b : Bool) → c ≡ Members g → b ≡ gathers (membersOf d g) (walk (dataOf a)) → r ≡ faultUnless b 5004 → r ≡ contentFault d c a
+    pub content-group : (g : Group) → c ≡ Members g → r ≡ groupFault d g (walk (dataOf a)) → r ≡ contentFault d c a
     unfolding contentFault
-    content-group g b e m n = n ∙ rw (m, e)
+    content-group g e m = m ∙ rw e
 
 -- (d), (f), (g) and (h)
 pub unknown-marked : (flags : ℕ) → flags / 64 % 2 ≡ 1 → Fault 5001 ≡ ofUnknown flags

@@ -17,8 +17,8 @@ use Rattle.reading.specs.declared.Member.{Member}
 use Rattle.reading.specs.declared.group.Group.{Group}
 use Rattle.reading.specs.declared.group.Group.the-variants.{Application, AuthDataItem}
 use Rattle.reading.specs.Contents.{plainFault}
-use Rattle.reading.specs.Groups.{member, nobody, applicationMembers, itemMembers, membersOf, isOf, fits, unlike, isOther, onlyOf}
-use Rattle.reading.specs.Groups.{membersFitting, enough, enoughAt, gathers}
+use Rattle.reading.specs.Groups.{member, nobody, vendorId, applicationMembers, itemMembers, membersOf, isOf, fits, unlike, isOther, onlyOf}
+use Rattle.reading.specs.Groups.{membersFitting, enough, enoughAt, gathers, rfc6733, tooOften, groupFault}
 use Rattle.diameter.specs.declared.Read.the-variants as read
 
 -- the table by the group
@@ -42,7 +42,7 @@ module _ (d : Dialect) (g : Group) where
 
 -- 260's
 module _ (application k : ℕ) {r : Member} where
-  pub first-member : k ≡ 0 → r ≡ member 266 0 (Number 10415 10415) true → r ≡ getD (applicationMembers application) k nobody
+  pub first-member : k ≡ 0 → r ≡ vendorId → r ≡ getD (applicationMembers application) k nobody
   unfolding applicationMembers
   first-member e m = m ∙ rw e
 
@@ -154,3 +154,27 @@ module _ (m : Member) (w : Walk) (n : ℕ) (en : n ≡ membersFitting m w) where
   pub enough-one : m .many ≡ false → eqb n 1 ≡ enough m w
   unfolding enough
   enough-one t = ap (λ (k : ℕ). eqb k 1) en ∙ rw t
+
+-- too often for the peer's edition, and the fault of a group
+module _ (d : Dialect) (g : Group) where
+  pub often-application : (s t : List ℕ) (p : Span) (m : Member) (n : ℕ) → Spans s t p → g ≡ Application → m ≡ vendorId
+      → n ≡ membersFitting m (walk (between s (p .from) (p .end))) → (eqb (d .terms .peer) rfc6733 && ltb 1 n) ≡ tooOften d g (walk t)
+  unfolding tooOften
+  often-application s t p m n i e em en = rw (en, em, e, i .holds)
+
+  pub often-item : (w : Walk) → g ≡ AuthDataItem → false ≡ tooOften d g w
+  unfolding tooOften
+  often-item w e = rw e
+
+  module _ (w : Walk) (x : Bool) (ex : x ≡ gathers (membersOf d g) w) where
+    pub group-bad : x ≡ false → 5004 ≡ groupFault d g w
+    unfolding groupFault
+    group-bad e = rw (← ex, e)
+
+    pub group-often : (y : Bool) → x ≡ true → y ≡ tooOften d g w → y ≡ true → 5009 ≡ groupFault d g w
+    unfolding groupFault
+    group-often y e ey f = rw (← ex, e, ← ey, f)
+
+    pub group-good : (y : Bool) → x ≡ true → y ≡ tooOften d g w → y ≡ false → 0 ≡ groupFault d g w
+    unfolding groupFault
+    group-good y e ey f = rw (← ex, e, ← ey, f)

@@ -24,8 +24,11 @@ nobody = member 0 0 Free false
 
 -- "260 holds, in any order, one or more Vendor-Id 266, each 10415, and one Auth-Application-Id 258 of 16777216, all 4-byte AVPs passing (a) and (c), without V,
 -- and no other": of the application that is spoken
+abbrev pub vendorId : Member
+vendorId = member 266 0 (Number 10415 10415) true
+
 unfoldable pub applicationMembers : ℕ → List Member
-applicationMembers application = member 266 0 (Number 10415 10415) true ∷ member 258 0 (Number application application) false ∷ []
+applicationMembers application = vendorId ∷ member 258 0 (Number application application) false ∷ []
 
 -- "In a request, 612 holds exactly one 608 and nothing else": a SIP-Authentication-Scheme of any bytes
 unfoldable pub itemMembers : List Member
@@ -68,3 +71,19 @@ enoughAt ms w k = enough (getD ms k nobody) w
 
 unfoldable pub gathers : List Member → Walk → Bool
 gathers ms w = allBelow (enoughAt ms w) (length ms) && onlyOf ms w
+
+-- "RFC 6733, where 260 holds exactly one Vendor-Id; RFC 3588 allows several": the two editions, by their numbers, and a group that has more of a member than
+-- the peer's allows
+abbrev pub rfc3588 : ℕ
+rfc3588 = 3588
+
+abbrev pub rfc6733 : ℕ
+rfc6733 = 6733
+
+unfoldable pub tooOften : Dialect → Group → Walk → Bool
+tooOften d Application w = eqb (d .terms .peer) rfc6733 && ltb 1 (membersFitting vendorId w)
+tooOften d AuthDataItem w = false
+
+-- "B5009 with the whole 260 as Failed-AVP under RFC 6733 only, when its members are otherwise as document 01 wants": they are judged before they are counted
+unfoldable pub groupFault : Dialect → Group → Walk → ℕ
+groupFault d g w = cond (gathers (membersOf d g) w) (cond (tooOften d g w) 5009 0) 5004

@@ -16,15 +16,15 @@ use Rattle.reading.specs.declared.Ruled.the-variants.{Taken, Skipped, Fa
 use Rattle.reading.specs.declared.Use.{Use}
 use Rattle.reading.specs.declared.Use.the-variants.{Unknown, Unnamed, Needed, Optional, Repeated}
 use Rattle.reading.specs.Kinds.{kinds, kindOf, rowOf, useOf}
-use Rattle.reading.specs.Contents.{faultUnless, plainFault}
-use Rattle.reading.specs.Groups.{membersOf, gathers}
+use Rattle.reading.specs.Contents.{plainFault}
+use Rattle.reading.specs.Groups.{groupFault}
 
 -- (g), (h) The fault of what an AVP holds, 0 where there is none
 unfoldable pub contentFault : Dialect → Content → List ℕ → ℕ
 contentFault d Free a = plainFault Free a
 contentFault d (Number least most) a = plainFault (Number least most) a
 contentFault d (Sized least most) a = plainFault (Sized least most) a
-contentFault d (Members g) a = faultUnless (gathers (membersOf d g) (walk (dataOf a))) 5004
+contentFault d (Members g) a = groupFault d g (walk (dataOf a))
 
 -- The state of the walk: for each kind number, the last AVP of it that was taken
 abbrev pub Seen : Type 0

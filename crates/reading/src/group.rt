@@ -3,6 +3,8 @@
 use crate::Content;
 use crate::Dialect;
 use crate::Member;
+use crate::RFC_6733;
+use crate::base;
 use crate::plain;
 use diameter::Avp;
 use diameter::Read;
@@ -14,8 +16,8 @@ ghost use lib.ListN.{length, getD};
 ghost use Rattle.diameter.specs.Avp.{dataOf};
 ghost use Rattle.diameter.specs.Reader.{between, ownOf, Here};
 ghost use Rattle.diameter.specs.Walk.{walk};
-ghost use Rattle.reading.specs.Groups.{member, nobody, applicationMembers, itemMembers, membersOf};
-ghost use Rattle.reading.specs.Groups.{isOf, fits, isOther, onlyOf, membersFitting, enough, gathers};
+ghost use Rattle.reading.specs.Groups.{member, nobody, vendorId, applicationMembers, itemMembers, membersOf};
+ghost use Rattle.reading.specs.Groups.{isOf, fits, isOther, onlyOf, membersFitting, enough, gathers, tooOften, groupFault};
 
 // The groups that a request's AVPs may be: 260 and 612.
 pub enum Group {
@@ -35,17 +37,24 @@ fn member(code: u32, vendor: u32, content: Content, many: bool) -> Member
     }
 }
 
+// "one or more Vendor-Id 266, each 10415"
+fn vendor_id() -> Member
+    ensures { λ r. ⌜ r ≡ vendorId ⌝ }
+{
+    member(
+        codes::VENDOR_ID,
+        0,
+        Content::Number(codes::VENDOR, codes::VENDOR),
+        true,
+    )
+}
+
 // "260 holds, in any order, one or more Vendor-Id 266, each 10415, and one Auth-Application-Id 258 of 16777216"
 fn application_member(application: u32, k: usize) -> Member
     ensures { λ r. ⌜ r ≡ getD (applicationMembers application) k nobody ⌝ }
 {
     match k {
-        0 => member(
-            codes::VENDOR_ID,
-            0,
-            Content::Number(codes::VENDOR, codes::VENDOR),
-            true,
-        ),
+        0 => vendor_id(),
         1 => member(
             codes::AUTH_APPLICATION_ID,
             0,
@@ -178,7 +187,7 @@ fn enough(m: Member, s: &[u8], span: Span) -> bool
 }
 
 // Whether an AVP's data are the members of a group.
-pub fn gathers(d: Dialect, g: Group, s: &[u8], a: Avp) -> bool
+fn gathers(d: Dialect, g: Group, s: &[u8], a: Avp) -> bool
     requires { ⌜ Here (now s) a ⌝ }
     ensures { λ r. ⌜ r ≡ gathers (membersOf d g) (walk (dataOf (ownOf (now (s .entry)) a))) ⌝ }
 {
@@ -191,4 +200,33 @@ pub fn gathers(d: Dialect, g: Group, s: &[u8], a: Avp) -> bool
         k += 1;
     }
     all & only_of(d, g, s, span)
+}
+
+// "RFC 6733, where 260 holds exactly one Vendor-Id"
+fn too_often(d: Dialect, g: Group, s: &[u8], a: Avp) -> bool
+    requires { ⌜ Here (now s) a ⌝ }
+    ensures { λ r. ⌜ r ≡ tooOften d g (walk (dataOf (ownOf (now (s .entry)) a))) ⌝ }
+{
+    let terms = d.terms;
+    match g {
+        Group::Application => {
+            let span = diameter::span_of(s, a);
+            (terms.peer == RFC_6733) & (1 < count_of(vendor_id(), s, span))
+        }
+        Group::AuthDataItem => false,
+    }
+}
+
+// (h) "bad content: B5004", and the newer edition's B5009 where the members are otherwise right; 0 where there is no fault.
+pub fn group_fault(d: Dialect, g: Group, s: &[u8], a: Avp) -> u32
+    requires { ⌜ Here (now s) a ⌝ }
+    ensures { λ r. ⌜ r ≡ groupFault d g (walk (dataOf (ownOf (now (s .entry)) a))) ⌝ }
+{
+    if gathers(d, g, s, a) {
+        if too_often(d, g, s, a) {
+            return base::AVP_OCCURS_TOO_MANY_TIMES;
+        }
+        return 0;
+    }
+    base::INVALID_AVP_VALUE
 }

@@ -11,10 +11,16 @@ use crate::group::Group;
 ghost use mathlib.Core.Path.{_≡_};
 ghost use Rattle.reading.specs.Verdicts.{numberOf};
 
-// What a call is served under: the application that is spoken.
+// What a call is served under: the application that is spoken, and the edition of the base standard that the peer follows.
 pub struct Terms {
     pub application: u32,
+    pub peer: u32,
 }
+
+// The two editions: RFC 3588 and RFC 6733.
+pub const RFC_3588: u32 = 3588;
+
+pub const RFC_6733: u32 = 6733;
 
 // What a request is read by: the command that it asks for, and the terms of the call.
 pub struct Dialect {

@@ -24,9 +24,7 @@ pub fn content_fault(d: Dialect, c: Content, s: &[u8], a: Avp) -> u32
         Content::Free => plain::plain_fault(c, s, a),
         Content::Number(_, _) => plain::plain_fault(c, s, a),
         Content::Sized(_, _) => plain::plain_fault(c, s, a),
-        Content::Members(g) => {
-            plain::fault_unless(group::gathers(d, g, s, a), base::INVALID_AVP_VALUE)
-        }
+        Content::Members(g) => group::group_fault(d, g, s, a),
     }
 }
 

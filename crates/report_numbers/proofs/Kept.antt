@@ -1,5 +1,5 @@
 -- Demand 2 over a row of calls: what stays sound, and what stays as it came.
-use Rattle.octets.specs.Standard.{ℕ, _≤_, _<_, List, [], _∷_, Bool, true, false, not, _||_, _&&_, or-true, true≢false, _≡_, refl, sym, ap, _∙_, arith}
+use Rattle.octets.specs.Standard.{ℕ, _+_, _≤_, _<_, List, [], _∷_, Bool, true, false, not, _||_, _&&_, or-true, true≢false, _≡_, refl, sym, ap, _∙_, arith}
 use Rattle.octets.specs.Standard.{length, getD, eqb, ltb, eqb-false, lt-ltb, ltb-true, ltb-false}
 use Rattle.blocks.specs.Blocks.{blockOf}
 use Rattle.table.specs.Check.{checkTable}
@@ -8,18 +8,20 @@ use Rattle.vectors.specs.VectorFile.{checkVectors}
 use Rattle.rewrite.specs.Keeps.{alterable}
 use Rattle.diameter.specs.Message.{commandOf}
 use Rattle.deciding.proofs.Tests.{neither}
+use Rattle.counting.specs.Counted.{howMany}
 use Rattle.counting.specs.declared.Event.{Event}
 use Rattle.calling.specs.Lent.{Lent, asking}
 use Rattle.calling.specs.Trial.{anyHolds}
-use Rattle.calling.specs.Serve.{smallBuffer, checkOf, checkValue, answered, resultOf, serveTable}
+use Rattle.calling.specs.Serve.{unknownPeer, smallBuffer, checkOf, checkValue, answered, resultOf, serveTable}
 use Rattle.calling.proofs.Kept.{table-checked, vectors-checked, taken}
 use Rattle.demands.specs.Call.{turnedAway}
 use Rattle.demands.specs.Frame.{succeeds}
 use Rattle.demands.proofs.Refusals.{refused-kept, answered-is}
+use Rattle.demands.proofs.PeerCalls.{peer-call}
 use Rattle.demands.proofs.Frame.{failure-kept, question-kept, bytes-kept}
 use Rattle.reporting.specs.Row.{eventOf, next, row, left}
 use Rattle.reporting.specs.Report.{requestsOf, ran, reportedTable}
-use Rattle.report_numbers.specs.Turns.{idle, allIdle}
+use Rattle.report_numbers.specs.Turns.{refusedBy, idle, allIdle}
 use Rattle.report_numbers.proofs.Table.{tableAltered}
 use Rattle.report_numbers.proofs.Calls.{same-altered}
 use Rattle.report_numbers.proofs.Ends.{area-short, area-long}
@@ -52,9 +54,13 @@ left-refused x h (p ∷ ps) =
     rw (k .0, k .1, k .2) (left-refused x h ps)
 
 module _ (x : Lent) where
+  pub peer-refused : unknownPeer (x .terms) ≡ true → (p : List ℕ) → turnedAway (asking x p) ≡ true
+  unfolding anyHolds
+  peer-refused e p = rw e
+
   small-refused : smallBuffer (x .buffer) ≡ true → (p : List ℕ) → turnedAway (asking x p) ≡ true
   unfolding anyHolds
-  small-refused e p = rw e
+  small-refused e p = simp (e, or-true)
 
   pub short-refused : length (x .buffer) < 36864 → (p : List ℕ) → turnedAway (asking x p) ≡ true
   short-refused h = small-refused (lt-ltb (length (x .buffer)) 36864 h)
@@ -66,6 +72,12 @@ module _ (x : Lent) where
   pub vectors-refused : (k : ℕ) → checkVectors (x .vectors) ≡ Bad k → (p : List ℕ) → turnedAway (asking x p) ≡ true
   unfolding anyHolds
   vectors-refused k e p = simp (e, or-true)
+
+-- by a peer of another edition than the two every request is counted under 12
+pub peer-counts : (x : Lent) → unknownPeer (x .terms) ≡ true → (ps : List (List ℕ)) → howMany (refusedBy 12) (row x ps) ≡ length ps
+unfolding row next howMany eventOf
+peer-counts x e [] = refl
+peer-counts x e (p ∷ ps) = rw (peer-call (asking x p) e) (ap (λ (n : ℕ). 1 + n) (peer-counts (next x p) e ps) ∙ omega arith)
 
 -- What alters nothing: a call that is refused, or answered by an error, or neither a SAR nor a MAR.
 abbrev Left : Lent → Type 0

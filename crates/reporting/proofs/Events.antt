@@ -16,7 +16,7 @@ use Rattle.reporting.specs.Run.{eventFrom}
 use Rattle.reporting.specs.Counts.{Counts}
 use Rattle.calling.specs.declared.Came.the-variants as came
 
--- refusals have numbers up to 6, and every result has a column
+-- refusals have numbers up to 12, and every result has a column
 pub event-fits : (x : Lent) → Fits (eventOf x)
 unfolding eventOf refused answered
 event-fits x =

@@ -11,7 +11,7 @@ use Rattle.reading.specs.declared.Content.the-variants.{Free}
 use Rattle.reading.specs.declared.Dialect.{Dialect}
 use Rattle.reading.specs.declared.Member.{Member}
 use Rattle.reading.specs.Kinds.{known, rowOf, useIn, authDataItem}
-use Rattle.reading.specs.Groups.{member, itemMembers, membersOf, fits}
+use Rattle.reading.specs.Groups.{member, itemMembers, membersOf, fits, tooOften, groupFault}
 use Rattle.reading.specs.Places.{seenOf}
 use Rattle.reading.specs.Rules.{Seen, contentFault}
 use Rattle.reading.proofs.Alone.{Alone, gathers-alone}
@@ -49,7 +49,7 @@ pub record Asks (seen : Seen) : Type 0 where
 
 item-alone : (dialect : Dialect) (o : Option (List ℕ)) → present o ≡ true
     → ((a : List ℕ) → o ≡ some a → contentFault dialect (rowOf authDataItem .content) a ≡ 0) → Alone scheme (walk (dataIf o))
-unfolding contentFault rowOf known membersOf itemMembers
+unfolding contentFault groupFault tooOften rowOf known membersOf itemMembers
 item-alone dialect none t f = absurd (true≢false (sym t))
 item-alone dialect (some a) t f = gathers-alone scheme (walk (dataOf a)) refl (no-fault _ 5003 (f a refl))
 

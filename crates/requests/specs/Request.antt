@@ -21,12 +21,12 @@ use Rattle.requests.specs.Judged.{Judged, bad, fine, nothing, judge}
 abbrev pub dialectOf : Terms → List ℕ → Dialect
 dialectOf terms req = record { command = commandOf req; terms = terms }
 
--- the application Cx, and the terms of a call to its server
+-- the application Cx, and the terms of a call to its server by a peer that follows an edition of the base standard
 abbrev pub cx : ℕ
 cx = 16777216
 
-abbrev pub underCx : Terms
-underCx = record { application = cx }
+abbrev pub underCx : ℕ → Terms
+underCx peer = record { application = cx; peer = peer }
 
 -- whether the application has the command: 300 to 303 are Cx's
 abbrev pub spoken : Dialect → Bool

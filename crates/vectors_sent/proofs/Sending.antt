@@ -44,7 +44,7 @@ module _ (a : Lent) where
       go (inl q) = (q .kept, q .none)
       go (inr s) = absurd (n (s .challenges))
 
-  -- A call that is refused, by any of the six.
+  -- A call that is refused, by any of the seven.
   pub refusal-leaves : anyHolds (trials x) ≡ true → (serve a .vectors ≡ a .vectors) × (sentBy x ≡ [])
   refusal-leaves e = unless-success (λ c. true≢false (sym e ∙ c .taken))
 

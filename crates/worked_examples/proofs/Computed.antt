@@ -6,14 +6,17 @@ use Rattle.table.specs.Check.{checkTable}
 use Rattle.vectors.specs.VectorFile.{checkVectors}
 use Rattle.calling.specs.Lent.{Lent}
 use Rattle.calling.specs.Trial.{Trial, tried, anyHolds}
-use Rattle.calling.specs.Serve.{Served, smallBuffer, earlyTrials, fileTrials, checkValue, checkOf, trials, refused, answered, decision, serveFound}
+use Rattle.calling.specs.Serve.{Served, unknownPeer, smallBuffer, earlyTrials, fileTrials, checkValue, checkOf, trials, refused, answered, decision, serveFound}
 use Rattle.calling.specs.Serve.{serveTableBy, serveTable}
 use Rattle.worked_examples.proofs.Sample.{room, one, s, opened}
 
 -- a call by what its buffer's length and its files' checks say: whether the buffer is too small, and the two answers
 abbrev pub knownTrials : Bool → Checked → Checked → Lent → List Trial
 knownTrials small c d x =
-    record { holds = small; number = 1; besides = 0 } ∷ drop 1 (earlyTrials (x .request) (x .buffer)) ++ fileTrials c d
+    record { holds = unknownPeer (x .terms); number = 12; besides = 0 }
+    ∷ record { holds = small; number = 1; besides = 0 }
+    ∷ drop 2 (earlyTrials (x .terms) (x .request) (x .buffer))
+    ++ fileTrials c d
 
 abbrev pub known : Bool → Checked → Checked → Lent → Served
 known small c d x = tried (refused x) (answered x (decision x (checkValue c))) (knownTrials small c d x)

@@ -32,7 +32,7 @@ use Rattle.pen.specs.Bytes.{wordBytes, padding, vendorHead, copied, avpBytes, v
 use Rattle.pen.specs.Groups.{vendorApplication, experimental, failed, vendorNumbers, capabilities}
 use Rattle.reading.specs.Kinds.{known, kindFrom, kindBy, rowOf, useIn}
 use Rattle.reading.specs.Contents.{numberFault, plainFault}
-use Rattle.reading.specs.Groups.{applicationMembers, itemMembers, membersOf, isOf, fits, unlike, onlyOf, membersFitting, enough, enoughAt, gathers}
+use Rattle.reading.specs.Groups.{applicationMembers, itemMembers, membersOf, isOf, fits, unlike, onlyOf, membersFitting, enough, enoughAt, gathers, tooOften, groupFault}
 use Rattle.reading.specs.Rules.{contentFault, ruleBy, rule}
 use Rattle.requests.specs.Judged.{nothing, judge}
 use Rattle.requests.specs.Request.{cx, headerFault, missingFrom, missing, complete, readWalk, readIn, identities}
@@ -179,8 +179,8 @@ unfolding host realm block field wordsOf checked header subscriber person vector
     integrityOf piecesOf soundPiece checkVectors firstOnes unusedHere unusedAt unusedOf packed isOne markedUsed spent padded headOf vendorOf valueOf sound
     walkFrom walk avpOf padding vendorHead copied avpBytes vendorBytes numberBytes vendorNumber group vendorGroup ifThere vendorApplication experimental
     failed vendorNumbers capabilities known kindFrom kindBy rowOf useIn numberFault plainFault applicationMembers itemMembers membersOf isOf fits unlike
-    onlyOf membersFitting enough enoughAt gathers contentFault nothing ruleBy rule judge headerFault headPart alone failedOf sample exampleOf failedBy
-    missingFrom missing complete readWalk readIn identities placesFrom mandatoryOf optionalOf profileOf mayRoam authorization location findingOf grant
+    onlyOf membersFitting enough enoughAt gathers tooOften groupFault contentFault nothing ruleBy rule judge headerFault headPart alone failedOf sample
+    exampleOf failedBy missingFrom missing complete readWalk readIn identities placesFrom mandatoryOf optionalOf profileOf mayRoam authorization location findingOf grant
     deedOf planOf claimOf challengeOf typeOf carried askedAt askedOf authorizeFound authorize soughtAt soughtOf locateFound locate claimedAt claimedOf
     toSend authenticateFound authenticate meantBy every findAll numbersOf ownedHere ownedUpTo ownAt storesAt fitsAt rightAt surveyOf userKnown ownerBy
     namedSurvey ownedSurvey assignMeant assign storedName plannedRecords carriedOut spentBy assignmentOf uarPlan sarPlan lirPlan marPlan planRead

@@ -1,12 +1,12 @@
--- "Try these against it": document 01's five wrong servers, four that break document 02 [1], two that break [2], and three that break [8]. Each is a function
--- here, and at an input that is computed its outcome does not meet the promise.
+-- "Try these against it": document 01's five wrong servers, and others that break document 02 [1], [2], [8] and [10]. Each is a function here, and at an
+-- input that is computed its outcome does not meet the promise.
 use Rattle.octets.specs.Standard.{ℕ, zero, suc, _≤_, _≡_, refl, sym, ap, _∙_, _≢_, List, [], _∷_, _++_, false, arith, length, getD, take, drop}
 use Rattle.octets.specs.Run.{over}
 use Rattle.blocks.specs.declared.Checked.the-variants.{Sound, Bad}
 use Rattle.table.specs.Area.{sizeIn, tableIn, checkArea}
 use Rattle.table.proofs.Areas.{check-exact, sound-size-in}
 use Rattle.vectors.specs.VectorFile.{checkVectors}
-use Rattle.pen.specs.Bytes.{vendorHead, vendorBytes, numberBytes, vendorNumber}
+use Rattle.pen.specs.Bytes.{vendorHead, avpBytes, vendorBytes, numberBytes, vendorNumber}
 use Rattle.pen.specs.Groups.{failed}
 use Rattle.requests.specs.Request.{underCx}
 use Rattle.calling.specs.Lent.{Lent, lent, holding}
@@ -14,7 +14,7 @@ use Rattle.calling.specs.Serve.{Served, checkOf, serveTable, serve}
 use Rattle.calling.specs.Call.{Answered, Refused}
 use Rattle.calling.proofs.Areas.{served-rest, serve-sound, alike-call}
 use Rattle.ndushavire.specs.Word.{word, checkWord, callWord}
-use Rattle.ndushavire.specs.Reads.{placeIn}
+use Rattle.ndushavire.specs.Reads.{numberIn, placeIn}
 use Rattle.ndushavire.specs.Promise.{CheckPromise, CheckVectorsPromise, DecidePromise}
 use Rattle.worked_examples.proofs.Computed.{known, come, roomy, no-vectors, registered-sound, unregistered-sound}
 use Rattle.worked_examples.proofs.Sample.{room, request, reply, answer, common, assignment, authentication, vector, item, challenges, one, waiting}
@@ -45,10 +45,10 @@ truly-meets n x = record { word-is = refl; table-is = refl; vectors-is = refl; b
 
 -- Two inputs over one registered line: a removal, B2001, which rewrites the record; and type 0 with another name, B5012. The word is 116 for both.
 removal : Lent
-removal = lent (assignment 5 s) (one 0 1 s) [] [] room underCx
+removal = lent (assignment 5 s) (one 0 1 s) [] [] room (underCx 3588)
 
 question : Lent
-question = lent (assignment 0 z) (one 0 1 s) [] [] room underCx
+question = lent (assignment 0 z) (one 0 1 s) [] [] room (underCx 3588)
 
 abbrev comes : List ℕ → List ℕ → Served
 comes after bytes = record { call = Answered (record { length = 116; place = 0 }); table = after; vectors = []; buffer = over bytes room }
@@ -175,10 +175,10 @@ cut-fails f h p = h (p .answer)
 
 -- Document 02 [1]. Over a line in state 0 that has one unused vector: a MAR for two, which gets one; and a MAR for none, B5012.
 challenge : Lent
-challenge = lent (authentication 2 s) (one 0 0 []) [] (vector 0 0x70 1) room underCx
+challenge = lent (authentication 2 s) (one 0 0 []) [] (vector 0 0x70 1) room (underCx 3588)
 
 nought : Lent
-nought = lent (authentication 0 s) (one 0 0 []) [] (vector 0 0x70 1) room underCx
+nought = lent (authentication 0 s) (one 0 0 []) [] (vector 0 0x70 1) room (underCx 3588)
 
 challenge-served : serve challenge ≡ record {
   call = Answered (record { length = 336; place = 0 });
@@ -247,12 +247,12 @@ wasting-fails f n e p = omega (arith, e, nought-used f n p)
 
 -- Document 02 [2]. A SAR of type 12, B5004, whose 614 stands at 144; and a SAR of type 1 with a second identity, which stands at 128: B5009, a decision's.
 faulty : Lent
-faulty = lent (assignment 12 s) (one 0 1 s) [] [] room underCx
+faulty = lent (assignment 12 s) (one 0 1 s) [] [] room (underCx 3588)
 
 second : Lent
 second =
     let own = vendorBytes 602 s ++ (vendorNumber 614 1 ++ vendorNumber 624 1) in
-    lent (request 301 (common ++ (vendorBytes 601 (0x61 ∷ []) ++ (vendorBytes 601 (0x62 ∷ []) ++ own)))) (one 0 1 s) [] [] room underCx
+    lent (request 301 (common ++ (vendorBytes 601 (0x61 ∷ []) ++ (vendorBytes 601 (0x62 ∷ []) ++ own)))) (one 0 1 s) [] [] room (underCx 3588)
 
 faulty-call : serve faulty .call ≡ Answered (record { length = 140; place = 144 })
 unfolding opened faulty
@@ -334,3 +334,90 @@ looking-fails f n h p q = h (p .word-is ∙ ap callWord spacious-call ∙ sym (r
 -- 14. one that changes a byte behind the table, as one that rewrites every record of the line that the area holds
 spilling-fails : (f : Server) (n : ℕ) → drop 1024 (f n spacious .table) ≢ drop 1024 (spacious .table) → Meets f n spacious → ⊥
 spilling-fails f n h p = h (ap (drop 1024) (p .table-is) ∙ spacious-behind)
+
+-- Document 02 [10]. The removal with a second Vendor-Id in its 260, which stands at 32: a success under RFC 3588, B5009 under RFC 6733, with the whole 260 in
+-- Failed-AVP.
+doubling : List ℕ → ℕ → Lent
+doubling members peer =
+    let base = numberBytes 277 1 ++ (avpBytes 264 (0x63 ∷ []) ++ (avpBytes 296 (0x72 ∷ []) ++ avpBytes 283 (0x72 ∷ []))) in
+    let own = vendorBytes 601 (0x61 ∷ []) ++ (vendorBytes 602 s ++ (vendorNumber 614 5 ++ vendorNumber 624 1)) in
+    lent (request 301 (avpBytes 263 (0x73 ∷ []) ++ (avpBytes 260 members ++ (base ++ own)))) (one 0 1 s) [] [] room (underCx peer)
+
+members : List ℕ
+members = numberBytes 266 10415 ++ (numberBytes 266 10415 ++ numberBytes 258 16777216)
+
+twoIds : List ℕ
+twoIds = avpBytes 260 members
+
+doubled : ℕ → Lent
+doubled = doubling members
+
+older-served : serve (doubled 3588) ≡ comes (one 0 0 []) (answer (numberBytes 268 2001) [])
+unfolding opened doubling members twoIds doubled
+older-served = serve-sound (doubled 3588) 1 registered-sound ∙ come (doubled 3588) roomy registered-sound no-vectors refl
+
+newer-served : serve (doubled 6733) ≡ record {
+  call = Answered (record { length = 168; place = 32 });
+  table = one 0 1 s;
+  vectors = [];
+  buffer = over (answer (numberBytes 268 5009) (failed twoIds)) room;
+}
+unfolding opened doubling members twoIds doubled
+newer-served = serve-sound (doubled 6733) 1 registered-sound ∙ come (doubled 6733) roomy registered-sound no-vectors refl
+
+-- what Failed-AVP holds: 44 bytes
+shown : List ℕ → List ℕ
+shown o = take 44 (drop 124 o)
+
+-- The same with another Auth-Application-Id, which is judged before Vendor-Ids are counted: B5004, under both.
+misled : ℕ → Lent
+misled peer = doubling (numberBytes 266 10415 ++ (numberBytes 266 10415 ++ numberBytes 258 16777217)) peer
+
+misled-result : result (serve (misled 6733) .buffer) ≡ 140
+unfolding opened doubling misled result
+misled-result = ap (λ (y : Served). result (y .buffer)) (serve-sound (misled 6733) 1 registered-sound ∙ come (misled 6733) roomy registered-sound no-vectors refl)
+
+module _ (f : Server) (n : ℕ) where
+  older-result : Meets f n (doubled 3588) → result (f n (doubled 3588) .buffer) ≡ 209
+  unfolding result opened
+  older-result p = ap result (p .buffer-is ∙ ap (λ (y : Served). y .buffer) older-served)
+
+  newer-result : Meets f n (doubled 6733) → result (f n (doubled 6733) .buffer) ≡ 145
+  unfolding result opened members twoIds
+  newer-result p = ap result (p .buffer-is ∙ ap (λ (y : Served). y .buffer) newer-served)
+
+  newer-shown : Meets f n (doubled 6733) → shown (f n (doubled 6733) .buffer) ≡ twoIds
+  unfolding shown opened members twoIds
+  newer-shown p = ap shown (p .buffer-is ∙ ap (λ (y : Served). y .buffer) newer-served)
+
+-- 15. one that gives anything but B5009 for it, as B5004, or nothing at all
+content-fails : (f : Server) (n : ℕ) → result (f n (doubled 6733) .buffer) ≢ 145 → Meets f n (doubled 6733) → ⊥
+content-fails f n h p = h (newer-result f n p)
+
+-- 16. one that shows anything but the whole 260 in Failed-AVP, as the second Vendor-Id
+member-fails : (f : Server) (n : ℕ) → shown (f n (doubled 6733) .buffer) ≢ twoIds → Meets f n (doubled 6733) → ⊥
+member-fails f n h p = h (newer-shown f n p)
+
+-- 17. one that returns another place than the 260's
+astray-fails : (f : Server) (n : ℕ) → placeIn (f n (doubled 6733) .word) ≢ 32 → Meets f n (doubled 6733) → ⊥
+unfolding opened
+astray-fails f n h p = h (ap placeIn (p .word-is ∙ ap (λ (y : Served). callWord (y .call)) newer-served))
+
+-- 18. one that gives anything but success under RFC 3588, as B5009 there too
+newer-fails : (f : Server) (n : ℕ) → result (f n (doubled 3588) .buffer) ≢ 209 → Meets f n (doubled 3588) → ⊥
+newer-fails f n h p = h (older-result f n p)
+
+-- 19. one that counts Vendor-Ids before it judges what is beside them
+counting-fails : (f : Server) (n : ℕ) → result (f n (misled 6733) .buffer) ≢ 140 → Meets f n (misled 6733) → ⊥
+counting-fails f n h p = h (ap result (p .buffer-is) ∙ misled-result)
+
+-- 20. one that gives anything but 12 under another number with no buffer at all, as 1
+unheard : Lent
+unheard = lent (assignment 5 s) (one 0 1 s) [] [] [] (underCx 6734)
+
+unheard-call : serve unheard .call ≡ Refused 12 0
+unfolding opened unheard
+unheard-call = refl
+
+late-fails : (f : Server) (n : ℕ) → numberIn (f n unheard .word) ≢ 12 → Meets f n unheard → ⊥
+late-fails f n h p = h (ap numberIn (p .word-is ∙ ap callWord unheard-call))

@@ -11,15 +11,19 @@ use crate::kinds::{
 };
 use crate::message::{Avp, Message, E, P};
 use crate::slip::{Fault, Slip};
+use crate::stated::Stated;
 use crate::table::{Header, Record};
 use crate::verdict::{Code, Failed, Verdict, Why};
 
-pub fn answer(message: Message, header: Header, verdict: &Verdict, slip: Slip) -> Vec<u8> {
+pub fn answer(message: Message, header: Header, verdict: &Verdict, stated: Stated, slip: Slip) -> Vec<u8> {
     let mut avps = Avps::new(slip);
+    let bare = slip.is(Fault::NewerErrorsBare) && stated.is_newer() && is_3xxx(verdict.result);
     if let Some(session) = session_id(message, verdict, slip) {
         avps.copy(session.whole);
     }
-    avps.own_kind(Kind::VendorSpecificApplicationId, &application(slip));
+    if !bare {
+        avps.own_kind(Kind::VendorSpecificApplicationId, &application(slip));
+    }
     result(&mut avps, verdict.result);
     avps.own_number(None, Kind::AuthSessionState.code(), 1);
     avps.own_kind(Kind::OriginHost, header.host());
@@ -53,28 +57,32 @@ pub fn answer(message: Message, header: Header, verdict: &Verdict, slip: Slip) -
         _ => {}
     }
 
-    let mut answer = answer_header(message, verdict.result, avps.bytes.len(), slip);
+    let mut answer = answer_header(message, verdict.result, avps.bytes.len(), stated, slip);
     answer.extend(avps.bytes);
     answer
 }
 
-fn answer_header(message: Message, result: Code, avps: usize, slip: Slip) -> Vec<u8> {
+fn answer_header(message: Message, result: Code, avps: usize, stated: Stated, slip: Slip) -> Vec<u8> {
     let mut header = message.0[..20].to_vec();
-    let is_3xxx = match result {
-        Code::Base(code) | Code::Experimental(code) if slip.is(Fault::EBitForAllErrors) => code >= 3000,
-        Code::Base(code) => code / 1000 == 3 && !slip.is(Fault::EBitLeftOut),
-        Code::Experimental(_) => false,
+    let for_all = slip.is(Fault::EBitForAllErrors) || (slip.is(Fault::NewerEBitForErrors) && stated.is_newer());
+    let has_e = match result {
+        Code::Base(code) | Code::Experimental(code) if for_all => code >= 3000,
+        _ => is_3xxx(result) && !slip.is(Fault::EBitLeftOut),
     };
     let kept = if slip.is(Fault::RetransmissionBitKept) { P | 0x10 } else { P };
     let p = if slip.is(Fault::PBitLeftOut) { 0 } else { message.flags() & kept };
     let length = if slip.is(Fault::AnswerLengthWithoutHeader) { avps } else { 20 + avps };
     let version = if slip.is(Fault::VersionAsReceived) { message.version() } else { 1 };
     header[..4].copy_from_slice(&(u32::from(version) << 24 | length as u32).to_be_bytes());
-    header[4] = p | if is_3xxx { E } else { 0 };
+    header[4] = p | if has_e { E } else { 0 };
     if slip.is(Fault::ApplicationAlwaysOwn) {
         header[8..12].copy_from_slice(&APPLICATION.to_be_bytes());
     }
     header
+}
+
+fn is_3xxx(result: Code) -> bool {
+    matches!(result, Code::Base(3000..=3999))
 }
 
 /// Session-Id if it is the first AVP and passes (a) to (c), whatever else is wrong.

@@ -10,6 +10,7 @@ pub mod model;
 pub mod moves;
 mod names;
 pub mod neighbours;
+mod peers;
 pub mod reports;
 pub mod request;
 mod runs;
@@ -19,7 +20,7 @@ pub mod takes;
 pub mod twists;
 pub mod vectors;
 
-pub use calls::{MIXED, OF_SETS};
+pub use calls::{MIXED, OF_PEERS, OF_SETS};
 pub use checks::CUTS;
 pub use made::{Made, Stream, STREAMS};
 pub use runs::{run, Step};

@@ -134,7 +134,12 @@ pub fn member(code: u32, flags: u8, number: u32) -> Vec<u8> {
 
 /// What 260 holds, rightly: mostly one Vendor-Id and the application after it.
 pub fn application(rng: &mut Rng) -> Vec<u8> {
-    let vendors = if rng.once_in(4) { rng.between(1, 3) } else { 1 };
+    let vendors = if rng.once_in(10) { rng.between(1, 3) } else { 1 };
+    application_of(rng, vendors)
+}
+
+/// With so many Vendor-Ids.
+pub fn application_of(rng: &mut Rng, vendors: usize) -> Vec<u8> {
     let mut members = vec![(VENDOR_ID, VENDOR); vendors];
     members.push((AUTH_APPLICATION_ID, APPLICATION));
     if rng.once_in(3) {

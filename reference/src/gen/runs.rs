@@ -5,6 +5,7 @@ use super::areas;
 use super::asks;
 use super::made::Made;
 use super::model::TableModel;
+use super::peers;
 use super::request::RequestModel;
 use super::tables;
 use super::twists;
@@ -76,7 +77,8 @@ impl Files {
         }
         let buffer = if rng.once_in(30) { LEAST_BUFFER - 1 } else { LEAST_BUFFER };
         let files = (self.area.clone(), self.profile.clone(), self.vectors.clone());
-        let case = Case::decide(rng.byte(), request.encode(), files.0, files.1, files.2, buffer);
+        let stated = peers::any(rng);
+        let case = Case::decide(rng.byte(), request.encode(), files.0, files.1, files.2, buffer, stated);
         Made { case, notes, damaged: None }
     }
 

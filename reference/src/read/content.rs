@@ -1,10 +1,12 @@
 //! Rules (g) and (h): what an AVP of a named kind holds.
 
-use super::groups::{application_is_good, members_have_sound_lengths, scheme};
+use super::groups::{members_have_sound_lengths, scheme, vendor_ids};
+use super::peers::several_vendors;
 use crate::block::word_at;
 use crate::kinds::{Command, Kind};
 use crate::message::{header_alone, Avp};
 use crate::slip::{Fault, Slip};
+use crate::stated::Stated;
 use crate::table::LONGEST_SERVER_NAME;
 use crate::verdict::{Failed, Finding, Why};
 
@@ -27,9 +29,18 @@ pub fn server_name(name: &[u8], slip: Slip) -> &[u8] {
     }
 }
 
-pub fn judge_content<'a>(avp: Avp<'a>, kind: Kind, command: Command, slip: Slip) -> Result<(), Finding<'a>> {
+pub fn judge_content<'a>(
+    avp: Avp<'a>,
+    kind: Kind,
+    command: Command,
+    stated: Stated,
+    slip: Slip,
+) -> Result<(), Finding<'a>> {
     if kind.is_four_bytes() && avp.data.len() != 4 {
-        return four_bytes_fault(avp, kind, slip);
+        return four_bytes_fault(avp, kind, stated, slip);
+    }
+    if kind == Kind::VendorSpecificApplicationId {
+        several_vendors(avp, command, stated, slip)?;
     }
     if has_good_content(avp, kind, command, slip) {
         return Ok(());
@@ -50,12 +61,17 @@ pub fn judge_content<'a>(avp: Avp<'a>, kind: Kind, command: Command, slip: Slip)
 }
 
 /// Rule (g).
-fn four_bytes_fault<'a>(avp: Avp<'a>, kind: Kind, slip: Slip) -> Result<(), Finding<'a>> {
+fn four_bytes_fault<'a>(avp: Avp<'a>, kind: Kind, stated: Stated, slip: Slip) -> Result<(), Finding<'a>> {
     let (result, failed) = match slip.0 {
         Some(Fault::LongerFourBytesTaken) if avp.data.len() > 4 => return Ok(()),
         Some(Fault::NumberOfAnyLength) if kind == Kind::SipNumberAuthItems => return Ok(()),
         Some(Fault::FourBytesAreContent) => (5004, Failed::Whole(avp)),
         Some(Fault::FourBytesFailWhole) => (5014, Failed::Whole(avp)),
+        Some(Fault::NewerLengthFaultFilled) if stated.is_newer() => {
+            let mut filled = [avp.header(), &[0; 4]].concat();
+            filled[5..8].copy_from_slice(&[0, 0, avp.header().len() as u8 + 4]);
+            (5014, Failed::Header(filled))
+        }
         _ => (5014, Failed::Header(header_alone(avp.header(), slip))),
     };
     Err(Finding { result, failed, place: avp.at, why: Why::Rule('g', kind.name()) })
@@ -76,7 +92,7 @@ fn has_good_content(avp: Avp, kind: Kind, command: Command, slip: Slip) -> bool 
             Some(Fault::ServerNameFreeInAuthentication) if command == Command::MultimediaAuth => true,
             _ => (1..=LONGEST_SERVER_NAME).contains(&avp.data.len()),
         },
-        Kind::VendorSpecificApplicationId => application_is_good(avp.members(), slip),
+        Kind::VendorSpecificApplicationId => vendor_ids(avp.members(), slip).is_some(),
         Kind::SipNumberAuthItems => match slip.0 {
             Some(Fault::ZeroAskedIsContent) => value() != 0,
             Some(Fault::ManyAskedIsContent) => value() <= 16,

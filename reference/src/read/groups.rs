@@ -11,46 +11,47 @@ use crate::slip::{Fault, Slip};
 /// The flag P of an AVP, which is free.
 const PROTECTED: u8 = 0x20;
 
-/// 260: one or more Vendor-Id of 10415 and one Auth-Application-Id of 16777216, in any order, and no other.
-pub fn application_is_good(members: Received, slip: Slip) -> bool {
+/// 260: how many Vendor-Ids of 10415 it holds, one or more, beside one Auth-Application-Id of 16777216, in any order, and no other; none if
+/// it is not so.
+pub fn vendor_ids(members: Received, slip: Slip) -> Option<usize> {
     let (mut vendors, mut applications) = (0, 0);
     let mut rest = members;
     while !rest.is_empty() {
         let (member, after) = match rest.first(slip) {
             Ok(read) => read,
-            Err(_) => {
-                return slip.is(Fault::GroupTailTaken) && rest.bytes.len() < 8 && applications == 1 && vendors > 0
-            }
+            Err(_) if slip.is(Fault::GroupTailTaken) && rest.bytes.len() < 8 => break,
+            Err(_) => return None,
         };
         rest = after;
         if member.has_reserved_flags() && !slip.is(Fault::MemberReservedFlagsTaken) {
-            return false;
+            return None;
         }
         if member.vendor.is_some() && !slip.is(Fault::MemberVendorTaken) {
-            return false;
+            return None;
         }
         if member.data.len() != 4 {
-            return false;
+            return None;
         }
         match (member.code, word_at(member.data, 0)) {
-            (VENDOR_ID, VENDOR) if slip.is(Fault::GroupInOrder) && applications > 0 => return false,
+            (VENDOR_ID, VENDOR) if slip.is(Fault::GroupInOrder) && applications > 0 => return None,
             (VENDOR_ID, VENDOR) => vendors += 1,
             (VENDOR_ID, _) if slip.is(Fault::OtherVendorTaken) => vendors += 1,
             (VENDOR_ID, _) if slip.is(Fault::SecondVendorFree) && vendors > 0 => vendors += 1,
             (AUTH_APPLICATION_ID, APPLICATION) => applications += 1,
             (AUTH_APPLICATION_ID, _) if slip.is(Fault::OtherApplicationTaken) => applications += 1,
-            (VENDOR_ID | AUTH_APPLICATION_ID, _) => return false,
+            (VENDOR_ID | AUTH_APPLICATION_ID, _) => return None,
             _ if slip.is(Fault::OtherMemberTaken) => {}
-            _ => return false,
+            _ => return None,
         }
     }
-    match slip.0 {
+    let is_good = match slip.0 {
         Some(Fault::OneVendorIdOnly) => vendors == 1 && applications == 1,
         Some(Fault::NoVendorIdTaken) => applications == 1,
         Some(Fault::NoApplicationIdTaken) => vendors >= 1 && applications <= 1,
         Some(Fault::TwoApplicationsTaken) => vendors >= 1 && applications >= 1,
         _ => vendors >= 1 && applications == 1,
-    }
+    };
+    is_good.then_some(vendors)
 }
 
 /// 612: what its one member, a 608, holds; none if it is not so. Behind the member stands at most its padding.

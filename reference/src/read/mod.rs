@@ -1,17 +1,21 @@
 //! Reading a request: the header, the rules (a) to (h) for each AVP in turn, and what is missing.
 
+mod astray;
 mod content;
 mod groups;
 mod header;
 mod missing;
+mod peers;
 mod walk;
 
 use crate::kinds::{Command, Kind};
 use crate::message::{Avp, Message};
 use crate::slip::{Fault, Slip};
+use crate::stated::Stated;
 use crate::verdict::Finding;
 
 pub use header::read_header;
+pub use peers::{vendors_of, SEVERAL};
 pub use walk::walk;
 
 /// A request without fault.
@@ -31,14 +35,15 @@ pub struct Request<'a> {
     pub number_asked: u32,
 }
 
-pub fn read<'a>(message: Message<'a>, slip: Slip) -> Result<Request<'a>, Finding<'a>> {
+pub fn read<'a>(message: Message<'a>, stated: Stated, slip: Slip) -> Result<Request<'a>, Finding<'a>> {
     let command = read_header(message, slip)?;
     if slip.is(Fault::MissingBeforeFaults) {
         let avps = message.avps().sound(slip);
         let there: Vec<Kind> = avps.iter().filter_map(|avp| walk::kind_of(*avp, command, slip)).collect();
         missing::nothing_missing(&there, command, slip)?;
     }
-    let found = walk(message.avps(), command, slip)?;
+    astray::asked_before(message, command, stated, slip)?;
+    let found = walk(message.avps(), command, stated, slip)?;
     let there: Vec<Kind> = found.iter().map(|(kind, _)| *kind).collect();
     missing::nothing_missing(&there, command, slip)?;
 

@@ -1,13 +1,20 @@
 //! The walk over the AVPs: rules (a) to (f) for each in turn; what it holds is judged in a file of its own.
 
 use super::content::judge_content;
+use super::peers::{several_vendors, SEVERAL};
 use crate::kinds::{Command, Kind, KINDS, VENDOR};
 use crate::message::{Avp, LengthFault, Received};
 use crate::slip::{Fault, Slip};
+use crate::stated::Stated;
 use crate::verdict::{Failed, Finding, Why};
 
 /// The AVPs of kinds that the command names, if no AVP has a fault.
-pub fn walk<'a>(avps: Received<'a>, command: Command, slip: Slip) -> Result<Vec<(Kind, Avp<'a>)>, Finding<'a>> {
+pub fn walk<'a>(
+    avps: Received<'a>,
+    command: Command,
+    stated: Stated,
+    slip: Slip,
+) -> Result<Vec<(Kind, Avp<'a>)>, Finding<'a>> {
     if slip.is(Fault::LengthsJudgedFirst) {
         lengths_fit(avps, slip)?;
     }
@@ -18,7 +25,7 @@ pub fn walk<'a>(avps: Received<'a>, command: Command, slip: Slip) -> Result<Vec<
         let (avp, after) = rest.first(slip).map_err(|fault| length_fault(fault, rest.at, slip))?;
         let padding = &rest.bytes[avp.whole.len()..rest.bytes.len() - after.bytes.len()];
         rest = after;
-        if let Some(kind) = judge(avp, is_first, command, &found, slip)? {
+        if let Some(kind) = judge(avp, is_first, command, &found, stated, slip)? {
             found.push((kind, avp));
         }
         if slip.is(Fault::PaddingMustBeZero) && padding.iter().any(|byte| *byte != 0) {
@@ -53,6 +60,7 @@ fn judge<'a>(
     is_first: bool,
     command: Command,
     before: &[(Kind, Avp<'a>)],
+    stated: Stated,
     slip: Slip,
 ) -> Result<Option<Kind>, Finding<'a>> {
     let whole = |result, rule, what| {
@@ -60,7 +68,7 @@ fn judge<'a>(
         Finding { result, failed, place: avp.at, why }
     };
     let kind = kind_of(avp, command, slip);
-    let flags_at_fault = flags_at_fault(avp, kind, command, slip);
+    let flags_at_fault = flags_at_fault(avp, kind, command, stated, slip);
     if slip.is(Fault::ReservedFlagsBeforeSessionId) && is_first && flags_at_fault {
         return Err(whole(3009, 'c', "reserved flags"));
     }
@@ -68,6 +76,9 @@ fn judge<'a>(
         // What is at fault is what is not there: no place, though an AVP stands here.
         let why = Why::Rule('b', "no Session-Id first");
         return Err(Finding { result: 5005, failed: Failed::Example(Kind::SessionId), place: 0, why });
+    }
+    if slip.is(Fault::SeveralVendorsBeforeReservedFlags) && kind == Some(Kind::VendorSpecificApplicationId) {
+        several_vendors(avp, command, stated, slip)?;
     }
     if flags_at_fault {
         return Err(whole(3009, 'c', "reserved flags"));
@@ -90,8 +101,9 @@ fn judge<'a>(
             _ => return Ok(None),
         }
     }
-    let content = judge_content(avp, kind, command, slip);
-    if slip.is(Fault::ContentBeforeCount) {
+    let content = judge_content(avp, kind, command, stated, slip);
+    let is_several = matches!(&content, Err(finding) if finding.why == Why::Rule('h', SEVERAL));
+    if slip.is(Fault::ContentBeforeCount) || (slip.is(Fault::SeveralVendorsBeforeCount) && is_several) {
         content.clone()?;
     }
     let earlier = before.iter().find(|(it, _)| *it == kind);
@@ -149,7 +161,7 @@ fn may_be_first(kind: Option<Kind>, slip: Slip) -> bool {
 }
 
 /// Rule (c).
-fn flags_at_fault(avp: Avp, kind: Option<Kind>, command: Command, slip: Slip) -> bool {
+fn flags_at_fault(avp: Avp, kind: Option<Kind>, command: Command, stated: Stated, slip: Slip) -> bool {
     match slip.0 {
         Some(Fault::ReservedFlagsOfUnknownIgnored) if kind.is_none() => false,
         Some(Fault::UnknownBeforeReservedFlags) if kind.is_none() && avp.is_marked() => false,
@@ -157,6 +169,7 @@ fn flags_at_fault(avp: Avp, kind: Option<Kind>, command: Command, slip: Slip) ->
         Some(Fault::LowestReservedFlagIgnored) => avp.flags & 0x1E != 0,
         Some(Fault::HighestReservedFlagIgnored) => avp.flags & 0x0F != 0,
         Some(Fault::PFlagReserved) => avp.flags & 0x3F != 0,
+        Some(Fault::NewerPFlagReserved) if stated.is_newer() => avp.flags & 0x3F != 0,
         Some(Fault::MarkNeededOnKnown) => avp.has_reserved_flags() || (kind.is_some() && !avp.is_marked()),
         _ => avp.has_reserved_flags(),
     }

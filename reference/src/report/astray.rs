@@ -8,6 +8,7 @@ use crate::message::Message;
 use crate::refuse::LEAST_BUFFER;
 use crate::serve::{call, Done};
 use crate::slip::{Fault, Slip};
+use crate::stated::Stated;
 use crate::verdict::Why;
 use crate::{table, vectors};
 
@@ -28,6 +29,7 @@ pub fn too_short(lent: &mut Lent, slip: Slip) -> u64 {
     let mut at = 0;
     match slip.0 {
         Some(Fault::ShortReportIsOne) => return 1 << 48,
+        Some(Fault::ShortReportBehindPeer) if !lent.stated.has_known_peer() => return 12 << 48,
         Some(Fault::ShortReportTold) => return 15 << 48 | LEAST_REPORT as u64,
         Some(Fault::ShortReportWritten) => lent.report.fill(0),
         Some(Fault::ShortReportRuns) | Some(Fault::ShortReportBehindSeven) => {}
@@ -35,7 +37,7 @@ pub fn too_short(lent: &mut Lent, slip: Slip) -> u64 {
     }
     while let Next::Piece(piece) = next(lent.requests, at, slip) {
         if slip.is(Fault::ShortReportRuns) {
-            call(piece, lent.table, lent.profile, lent.vectors, lent.buffer, slip);
+            call(piece, lent.table, lent.profile, lent.vectors, lent.buffer, lent.stated, slip);
         }
         at += piece.len();
     }
@@ -53,6 +55,7 @@ pub fn refusal(lent: &Lent, slip: Slip) -> Option<u64> {
         Fault::UnsoundTableRefusesReport => {
             table::check(lent.table, lent.profile.len()).err().map(|block| 5 << 48 | u64::from(block))
         }
+        Fault::UnknownPeerRefusesReport if !lent.stated.has_known_peer() => Some(12 << 48),
         Fault::UnsoundVectorsRefuseReport => vectors::check(lent.vectors).err().map(|_| 6 << 48),
         _ => None,
     }
@@ -71,6 +74,16 @@ pub fn refused(lent: &Lent, slip: Slip) -> Option<Done> {
     };
     let word = u64::from(number) << 48 | u64::from(block);
     Some(Done { word, result: None, rewritten: 0, why: Why::Refused(number) })
+}
+
+/// What a faulty report tells its calls of the peer.
+pub fn stated(stated: Stated, slip: Slip) -> Stated {
+    match slip.0 {
+        Some(Fault::PeerNotAskedInReports) if !stated.has_known_peer() => Stated::OLDER,
+        Some(Fault::ReportOfOlderPeers) if stated.is_newer() => Stated::OLDER,
+        Some(Fault::ReportOfNewerPeers) if stated.has_known_peer() => Stated::NEWER,
+        _ => stated,
+    }
 }
 
 /// What a faulty program does before each request.

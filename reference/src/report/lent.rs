@@ -1,6 +1,7 @@
 //! What is lent to a report.
 
 use super::numbers::word;
+use crate::stated::Stated;
 
 /// The least report area, in bytes.
 pub const LEAST_REPORT: usize = 8 * word::ALL;
@@ -12,6 +13,8 @@ pub struct Lent<'a> {
     pub vectors: &'a mut [u8],
     pub buffer: &'a mut [u8],
     pub report: &'a mut [u8],
+    /// Of all requests.
+    pub stated: Stated,
 }
 
 /// What a request may alter, as it was at some moment.

@@ -28,6 +28,9 @@ pub fn report(mut lent: Lent, slip: Slip) -> (u64, Why) {
     let mut ever = BTreeSet::new();
     let mut at = 0;
     let broken = loop {
+        if slip.is(Fault::UnknownPeerEndsReport) && !lent.stated.has_known_peer() {
+            break true;
+        }
         let piece = match next(lent.requests, at, slip) {
             Next::Piece(piece) => piece,
             Next::End => break false,
@@ -65,13 +68,14 @@ fn refusal(lent: &mut Lent, slip: Slip) -> Option<u64> {
 /// A piece is decided as its bytes.
 fn decided(lent: &mut Lent, piece: &[u8], at: usize, slip: Slip) -> Done {
     let piece = if slip.is(Fault::PieceWithRest) { &lent.requests[at..] } else { piece };
+    let stated = astray::stated(lent.stated, slip);
     let slip = match slip.0 {
         Some(Fault::AgreementNotAskedInReports) => Slip::of(Fault::AgreementNotAskedInDecisions),
         Some(Fault::LongerAreaNotReported) => Slip::of(Fault::LongerAreaNotDecided),
         _ => slip,
     };
     astray::refused(lent, slip)
-        .unwrap_or_else(|| call(piece, lent.table, lent.profile, lent.vectors, lent.buffer, slip))
+        .unwrap_or_else(|| call(piece, lent.table, lent.profile, lent.vectors, lent.buffer, stated, slip))
 }
 
 /// The blocks that differ.

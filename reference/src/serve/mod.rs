@@ -11,6 +11,7 @@ use crate::place;
 use crate::read::read;
 use crate::refuse::{refusal, Lent};
 use crate::slip::{Fault, Slip};
+use crate::stated::Stated;
 use crate::table::{rewrite, Table, EDITION};
 use crate::vectors::{mark, vector, Vectors};
 use crate::verdict::{Code, Verdict, Why};
@@ -53,9 +54,10 @@ pub fn serve(
     profile: &[u8],
     vectors: &mut [u8],
     buffer: &mut [u8],
+    stated: Stated,
     slip: Slip,
 ) -> (u64, Why) {
-    let done = call(request, table, profile, vectors, buffer, slip);
+    let done = call(request, table, profile, vectors, buffer, stated, slip);
     (done.word, done.why)
 }
 
@@ -66,10 +68,12 @@ pub fn call(
     profile: &[u8],
     vectors: &mut [u8],
     buffer: &mut [u8],
+    stated: Stated,
     slip: Slip,
 ) -> Done {
     let request = if slip.is(Fault::RequestLengthIn16Bits) { &request[..request.len() & 0xFFFF] } else { request };
-    if let Some((number, value)) = refusal(&Lent { request, table, profile, vectors, buffer }, slip) {
+    let stated = stated.taken(slip);
+    if let Some((number, value)) = refusal(&Lent { request, table, profile, vectors, buffer, stated }, slip) {
         match slip.0 {
             Some(Fault::RefusalTouchesBuffer) => buffer.iter_mut().take(1).for_each(|byte| *byte = 1),
             Some(Fault::RefusalTouchesVectors) => vectors.iter_mut().take(1).for_each(|byte| *byte = 0),
@@ -78,18 +82,18 @@ pub fn call(
             }
             _ => {}
         }
-        let place = place::of_refusal(request, number, value, slip);
+        let place = place::of_refusal(request, number, value, stated, slip);
         let word = u64::from(number) << 48 | place | u64::from(value);
         return Done { word, result: None, rewritten: 0, why: Why::Refused(number) };
     }
     let message = Message(request);
     let seen = astray::seen(table, profile.len(), slip);
     let files = Files { table: Table(seen.as_deref().unwrap_or(table)), profile, vectors: Vectors(vectors) };
-    let verdict = match read(message, slip) {
+    let verdict = match read(message, stated, slip) {
         Ok(request) => decide(&request, files, slip),
         Err(finding) => Verdict { marked: astray::marks(message, files.vectors, slip), ..Verdict::of_finding(finding) },
     };
-    let answer = answer(message, files.table.header(), &verdict, slip);
+    let answer = answer(message, files.table.header(), &verdict, stated, slip);
     let place = place::of_answer(message, &verdict, slip);
     let Verdict { result, rewritings, marked, why, .. } = verdict;
 

@@ -2,6 +2,7 @@
 
 mod authentication;
 mod moves;
+mod peers;
 mod places;
 mod reports;
 mod required;
@@ -116,6 +117,7 @@ impl Histogram {
             Why::Refused(6) => format!("refused 6 to {}", asker(&made.case.held(Slice::Request))),
             Why::Refused(5) if disagrees(&made.case) => "refused 5, a set disagrees".to_string(),
             Why::Refused(5) if made.notes.contains(&"a cut take-over") => "refused 5, a cut take-over".to_string(),
+            Why::Refused(12) => "unknown peer: refused 12".to_string(),
             Why::Refused(number) => format!("refused {number}"),
             Why::Header(code) => format!("header: B{code}"),
             Why::Rule(letter, what) => format!("rule ({letter}): {what}"),
@@ -134,7 +136,8 @@ impl Histogram {
             }
         };
         self.add(row);
-        if let Some(row) = places::row(outcome.parts().1, &made.case.held(Slice::Request), why) {
+        for row in [places::row(outcome.parts().1, &made.case, why), peers::row(&made.case, why)].into_iter().flatten()
+        {
             self.add(row);
         }
         match made.case.held(Slice::Request).len() {

@@ -1,14 +1,15 @@
 //! The rows of places.
 
+use crate::cases::{Case, Slice};
 use crate::message::Message;
 use crate::read::read;
 use crate::slip::Slip;
 use crate::verdict::{Code, Why};
 
 /// How far behind the AVP at fault begins, or for what there is no place.
-pub fn row(place: u64, request: &[u8], why: &Why) -> Option<String> {
+pub fn row(place: u64, case: &Case, why: &Why) -> Option<String> {
     let what = match place {
-        0 => format!("none for {}", unplaced(request, why)?),
+        0 => format!("none for {}", unplaced(case, why)?),
         20 => "the first AVP's".to_string(),
         21..=255 => "under 256".to_string(),
         256..=4095 => "256 to 4,095".to_string(),
@@ -19,11 +20,11 @@ pub fn row(place: u64, request: &[u8], why: &Why) -> Option<String> {
     Some(format!("place: {what}"))
 }
 
-fn unplaced(request: &[u8], why: &Why) -> Option<&'static str> {
+fn unplaced(case: &Case, why: &Why) -> Option<&'static str> {
     Some(match why {
         Why::Checked(_) | Why::CheckedVectors(_) | Why::Reported | Why::Moved(_) | Why::TakenOver(_) => return None,
         // Only with these is there a request to read.
-        Why::Refused(5 | 6) => match read(Message(request), Slip::NONE) {
+        Why::Refused(5 | 6) => match read(Message(&case.held(Slice::Request)), case.stated(), Slip::NONE) {
             Err(finding) if finding.place != 0 => "a refusal, though an AVP is at fault",
             _ => "a refusal",
         },

@@ -8,10 +8,12 @@ use super::takes;
 use crate::block::word_at;
 use crate::cases::{Case, Outcome, Slice};
 use crate::gen::reports::NOTES;
+use crate::read::SEVERAL;
 use crate::report::{differing, name, next, row_name, word, Next, Numbers, LEAST_REPORT, REST};
 use crate::serve::{call, parts};
 use crate::slip::Slip;
 use crate::table;
+use crate::verdict::Why;
 
 pub fn rows(case: &Case, outcome: &Outcome) -> Vec<String> {
     let requests = case.held(Slice::Requests);
@@ -27,6 +29,11 @@ pub fn rows(case: &Case, outcome: &Outcome) -> Vec<String> {
         format!("ends: {}", ending(&requests, number, words[word::STOPPED] as usize)),
         format!("read: {}", size(read)),
     ];
+    let stated = case.stated();
+    rows.push(match stated.has_known_peer() {
+        true => format!("from RFC {}", stated.peer),
+        false => "from an unknown peer".to_string(),
+    });
     let counted = (word::ANSWERED + 1..word::ALL).filter(|at| words[*at] > 0);
     rows.extend(counted.map(|at| if at < word::CELLS { name(at) + " in it" } else { name(at) }));
     if area.len() > LEAST_REPORT {
@@ -80,7 +87,7 @@ fn of_requests(case: &Case) -> BTreeSet<String> {
     while let Next::Piece(piece) = next(&requests, at, Slip::NONE) {
         at += piece.len();
         let before = (table.clone(), vectors.clone());
-        let done = call(piece, &mut table, &profile, &mut vectors, &mut buffer, Slip::NONE);
+        let done = call(piece, &mut table, &profile, &mut vectors, &mut buffer, case.stated(), Slip::NONE);
         let altered: Vec<usize> = differing(&before.0, &table).collect();
         let (number, place, length) = parts(done.word);
         let again = altered.iter().filter(|block| !ever.insert(**block)).count() > 0;
@@ -95,6 +102,7 @@ fn of_requests(case: &Case) -> BTreeSet<String> {
             ("vectors marked and a record altered", before.1 != vectors && !altered.is_empty()),
             ("an answer shorter than one before", number == 0 && length < longest),
             ("an answer with a place", place != 0),
+            (SEVERAL, done.why == Why::Rule('h', SEVERAL)),
         ];
         rows.extend(shown.iter().filter(|(_, holds)| *holds).map(|(what, _)| format!("a request: {what}")));
         longest = longest.max(if number == 0 { length } else { 0 });
@@ -121,7 +129,8 @@ pub fn wanted() -> Vec<(String, u64)> {
         wanted.push((format!("read: {read}"), times));
     }
     wanted.extend(["refused 15", "refused 15, nearly long enough", "a longer report area"].map(|row| (row.into(), 1)));
-    wanted.extend((1..=6).map(|number| (format!("refused {number} in it"), 1)));
+    wanted.extend((1..=6).chain([12]).map(|number| (format!("refused {number} in it"), 1)));
+    wanted.extend(["from RFC 3588", "from RFC 6733", "from an unknown peer"].map(|row| (row.into(), 1)));
     let everywhere = "B3007 B3008 B3009 B5001 B5004 B5005 B5009 B5011 B5014";
     for (row, results) in [
         "B2001 B5003 X2001 X2002 X5001 X5002 X5003 X5004",
@@ -148,6 +157,7 @@ pub fn wanted() -> Vec<(String, u64)> {
         "vectors marked and a record altered",
         "an answer shorter than one before",
         "an answer with a place",
+        SEVERAL,
     ] {
         wanted.push((format!("a request: {what}"), 1));
     }

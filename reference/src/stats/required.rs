@@ -2,6 +2,7 @@
 
 use super::authentication;
 use super::moves;
+use super::peers;
 use super::places;
 use super::reports;
 use super::sets;
@@ -9,8 +10,9 @@ use super::takes;
 use crate::gen::damage::damages;
 use crate::gen::twists::twists;
 use crate::gen::vectors::damage::{DAMAGES, OVER_THE_MOST};
-use crate::gen::{Stream, CUTS, MIXED, OF_SETS};
+use crate::gen::{Stream, CUTS, MIXED, OF_PEERS, OF_SETS};
 use crate::kinds::{needed, Command, Kind, COMMANDS, KINDS};
+use crate::read::SEVERAL;
 
 /// A row has at least one case in so many, but for chance; where a stream is short, at least one.
 const ONE_IN: u64 = 1000;
@@ -93,6 +95,10 @@ fn of_vectors() -> Vec<(String, u64)> {
 fn of_calls() -> Vec<(String, u64)> {
     let mut wanted = Vec::new();
     wanted.extend((1..=6).map(|number| format!("refused {number}")));
+    wanted.extend(
+        ["unknown peer: refused 12", "made by: an unknown peer", "made by: several refusals"].map(String::from),
+    );
+    wanted.push(format!("rule (h): {SEVERAL}"));
     wanted.push("refused 5, a set disagrees".to_string());
     wanted.push("refused 5, a cut take-over".to_string());
     wanted.extend(takes::areas().map(|row| format!("decided over {row}")));
@@ -107,10 +113,12 @@ fn of_calls() -> Vec<(String, u64)> {
     wanted.extend(moves::editions().into_iter().map(|row| format!("decided over {row}")));
     wanted.push("request: 16,384 bytes".to_string());
     wanted.push("request: over 65,536 bytes".to_string());
-    wanted.extend(twists().map(|twist| twist.name).chain(MIXED).chain(OF_SETS).map(|name| format!("made by: {name}")));
+    let made = twists().map(|twist| twist.name).chain(MIXED).chain(OF_SETS).chain(OF_PEERS);
+    wanted.extend(made.map(|name| format!("made by: {name}")));
     wanted.extend(["UAR", "SAR", "LIR", "MAR"].map(|command| format!("refused 6 to a {command}")));
     let mut rows: Vec<(String, u64)> = wanted.into_iter().map(|row| (row, ONE_IN)).collect();
     rows.push(("refused 6 to a header fault".to_string(), 10 * ONE_IN));
+    rows.extend(peers::wanted().into_iter().map(|(row, times)| (row, times * ONE_IN)));
     rows.extend(authentication::wanted().into_iter().map(|(row, times)| (row, times * ONE_IN)));
     rows.extend(sets::of_decisions_wanted().into_iter().map(|(row, times)| (row, times * ONE_IN)));
     rows.extend(

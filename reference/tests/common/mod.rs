@@ -6,6 +6,7 @@ use reference::message::Message;
 use reference::refuse::LEAST_BUFFER;
 use reference::serve::{parts, serve};
 use reference::slip::Slip;
+use reference::stated::Stated;
 
 pub fn bytes(hex: &str) -> Vec<u8> {
     let digits: Vec<char> = hex.chars().filter(|c| !c.is_whitespace()).collect();
@@ -50,12 +51,23 @@ pub fn call_with_vectors(request: &[u8], table: &[u8], vectors: &[u8]) -> Done {
     call_with_buffer(request, table, &[], vectors, LEAST_BUFFER)
 }
 
-/// Calls, and checks that the buffer past the answer stays.
 pub fn call_with_buffer(request: &[u8], table: &[u8], profile: &[u8], vectors: &[u8], buffer: usize) -> Done {
+    call_stating(Stated::OLDER, request, table, profile, vectors, buffer)
+}
+
+/// Calls, and checks that the buffer past the answer stays.
+pub fn call_stating(
+    stated: Stated,
+    request: &[u8],
+    table: &[u8],
+    profile: &[u8],
+    vectors: &[u8],
+    buffer: usize,
+) -> Done {
     let mut table = table.to_vec();
     let mut vectors = vectors.to_vec();
     let mut buffer = vec![0xA5; buffer];
-    let (word, _) = serve(request, &mut table, profile, &mut vectors, &mut buffer, Slip::NONE);
+    let (word, _) = serve(request, &mut table, profile, &mut vectors, &mut buffer, stated, Slip::NONE);
     let (number, place, value) = parts(word);
     let written = if number == 0 { value as usize } else { 0 };
     assert!(buffer[written..].iter().all(|byte| *byte == 0xA5));

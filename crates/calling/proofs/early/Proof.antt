@@ -1,4 +1,4 @@
-use Rattle.calling.proofs.Calls.{size-least, size-flags, early-buffer, early-size, early-length, early-answer, early-none}
+use Rattle.calling.proofs.Calls.{size-least, size-flags, early-peer, early-buffer, early-size, early-length, early-answer, early-none}
 use Rattle.octets.specs.Standard.{needs}
 use Rattle.calling.proofs.early.Statement.{statement}
 use Rattle.calling.proofs.early.Tie as tie
@@ -7,6 +7,7 @@ pub early-spec : {M : Type 1} → statement M
 early-spec =
     tie.close
     (tie.spec
+    (λ c. search (needs, early-peer))
     (λ c. search (needs, early-buffer))
     (λ c. search (needs, early-size))
     (λ c κs. search (needs, size-least))

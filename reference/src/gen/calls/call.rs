@@ -4,12 +4,14 @@ use crate::cases::Case;
 use crate::gen::areas;
 use crate::gen::asks;
 use crate::gen::made::Made;
+use crate::gen::peers;
 use crate::gen::request::RequestModel;
 use crate::gen::tables::{self, Sound};
 use crate::gen::vectors::{self, model::VectorModel};
 use crate::kinds::{Command, Kind};
 use crate::refuse::LEAST_BUFFER;
 use crate::rng::Rng;
+use crate::stated::Stated;
 
 /// A case in the making.
 pub struct Call {
@@ -17,6 +19,7 @@ pub struct Call {
     pub vectors: Vec<VectorModel>,
     pub request: RequestModel,
     pub buffer_length: usize,
+    pub stated: Stated,
     pub notes: Vec<&'static str>,
 }
 
@@ -42,7 +45,8 @@ impl Call {
         let asked = request.place(Kind::UserName).filter(|_| request.command == Command::MultimediaAuth.code());
         let asked = asked.map(|place| &request.pieces[place].data[..]);
         let vectors = vectors::beside(rng, &sound.model, asked);
-        Call { sound, vectors, request, buffer_length: LEAST_BUFFER, notes: vec![] }
+        let stated = peers::any(rng);
+        Call { sound, vectors, request, buffer_length: LEAST_BUFFER, stated, notes: vec![] }
     }
 
     pub fn noted(mut self, note: &'static str) -> Call {
@@ -58,7 +62,8 @@ impl Call {
     pub fn with_request(self, rng: &mut Rng, request: Vec<u8>) -> Made {
         let table = areas::of(rng, &self.sound.model, 5);
         let vectors = vectors::model::encode(&self.vectors);
-        let case = Case::decide(rng.byte(), request, table, self.sound.profile, vectors, self.buffer_length);
+        let profile = self.sound.profile;
+        let case = Case::decide(rng.byte(), request, table, profile, vectors, self.buffer_length, self.stated);
         Made { case, notes: self.notes, damaged: None }
     }
 }

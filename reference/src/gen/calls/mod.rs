@@ -4,10 +4,12 @@ mod authentication;
 mod call;
 mod long;
 mod mixed;
+mod peers;
 mod refused;
 mod sets;
 
 pub use mixed::NOTES as MIXED;
+pub use peers::NOTES as OF_PEERS;
 pub use sets::NOTES as OF_SETS;
 
 use super::made::Made;
@@ -37,6 +39,8 @@ pub fn case(rng: &mut Rng) -> Made {
         72..=73 => long::far_fault(rng),
         74..=85 => sets::case(rng),
         86..=88 => refused::cut(rng),
+        89..=90 => refused::unknown_peer(rng),
+        91..=95 => peers::case(rng),
         _ => plain(rng),
     }
 }

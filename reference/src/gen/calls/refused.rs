@@ -6,6 +6,7 @@ use crate::cases::Slice;
 use crate::gen::areas;
 use crate::gen::damage;
 use crate::gen::made::Made;
+use crate::gen::peers;
 use crate::gen::tables::FAR;
 use crate::gen::twists;
 use crate::gen::vectors;
@@ -19,6 +20,9 @@ pub fn several(rng: &mut Rng) -> Made {
     let mut why = [false; 6];
     for it in &mut why {
         *it = rng.coin();
+    }
+    if rng.once_in(4) {
+        call.stated = peers::unknown(rng);
     }
     if why[0] {
         call.buffer_length = *rng.pick(&[0, 20, LEAST_BUFFER - 1]);
@@ -82,6 +86,16 @@ pub fn buffers(rng: &mut Rng) -> Made {
     let mut call = right(rng).noted("another buffer");
     call.buffer_length =
         *rng.pick(&[0, 1, LEAST_BUFFER - 4, LEAST_BUFFER - 1, LEAST_BUFFER - 1, LEAST_BUFFER + 1, 40_000, 65_536]);
+    call.finish(rng)
+}
+
+/// A peer that follows neither edition, under any request.
+pub fn unknown_peer(rng: &mut Rng) -> Made {
+    let mut call = right(rng).noted("an unknown peer");
+    call.stated = peers::unknown(rng);
+    if rng.coin() {
+        call.notes.push(twists::twist_once(rng, &mut call.request));
+    }
     call.finish(rng)
 }
 

@@ -5,11 +5,13 @@ use crate::cases::{Case, Slice};
 use crate::gen::damage::{damage, Subject};
 use crate::gen::model::{RecordModel, TableModel};
 use crate::gen::names;
+use crate::gen::peers;
 use crate::gen::tables::{self, Sound};
 use crate::kinds::{Command, Kind};
 use crate::message::Message;
 use crate::rng::Rng;
 use crate::slip::Slip;
+use crate::stated::Stated;
 use crate::table::{
     check, Table, BARRED, LONGEST_HOST, LONGEST_IDENTITY, LONGEST_SERVER_NAME, MOST_RECORDS, NOT_REGISTERED, PENDING,
     UNREGISTERED_SERVICES,
@@ -43,6 +45,7 @@ pub enum Breach {
     Realm,
     Network,
     Request,
+    Peer,
     Vectors,
     Edition,
     PendingAlone,
@@ -50,7 +53,7 @@ pub enum Breach {
 }
 
 // Those that answers show.
-breaches! { BREACHES of 20:
+breaches! { BREACHES of 21:
     State "the state of a record of mine",
     ServerName "the server name of a record of mine",
     Pending "pending, and so a name, of a record of mine in state 0",
@@ -70,6 +73,7 @@ breaches! { BREACHES of 20:
     Realm "the header's realm",
     Network "a network of the header",
     Request "the request",
+    Peer "the peer's edition",
     Vectors "the vectors, under a MAR",
 }
 
@@ -90,6 +94,14 @@ impl Breach {
             Breach::Vectors => Some(Command::MultimediaAuth),
             _ => None,
         }
+    }
+}
+
+/// What is stated on the two sides: the same, unless that is what differs.
+pub fn stated(rng: &mut Rng, breach: Breach) -> [Stated; 2] {
+    match breach {
+        Breach::Peer => [Stated::OLDER, Stated::NEWER],
+        _ => [peers::known(rng); 2],
     }
 }
 
@@ -125,7 +137,7 @@ pub fn done(
         }
         Breach::RecordMore => more(rng, table, profile, asked)?,
         Breach::Order => other_way_round(rng, table, asked)?,
-        Breach::Vectors | Breach::Unsound => {}
+        Breach::Peer | Breach::Vectors | Breach::Unsound => {}
         _ => of_record(rng, breach, table, profile, request, asked)?,
     }
     Some(())

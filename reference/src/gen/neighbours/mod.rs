@@ -9,7 +9,8 @@ pub use breach::{Breach, BREACHES, SILENT};
 use super::asks;
 use super::calls;
 use super::model::{RecordModel, TableModel};
-use super::request::{Piece, RequestModel};
+use super::peers;
+use super::request::{application_of, Piece, RequestModel};
 use super::sets;
 use super::tables::{self, Sound};
 use super::twists;
@@ -20,20 +21,21 @@ use crate::read::read;
 use crate::refuse::MOST_REQUEST;
 use crate::rng::Rng;
 use crate::slip::Slip;
+use crate::stated::Stated;
 use crate::table::{Table, BARRED};
 use side::{beside, call, Asked};
 
 /// Pair `number` of a seed: two calls that every hypothesis holds of, but that some are refused.
 pub fn pair(seed: u64, number: u64) -> [Case; 2] {
     let mut rng = Rng::for_case(seed ^ 0x9999, number);
-    let (one, request) = loop {
+    let Start { sound: one, request, stated } = loop {
         if let Some(made) = any(&mut rng) {
             break made;
         }
     };
-    let asked = Asked::of(&request);
+    let asked = Asked::of(&request, stated);
     let other = beside(&mut rng, &one, &asked);
-    calls_over(&mut rng, [one, other], [request.clone(), request], true)
+    calls_over(&mut rng, [one, other], [request.clone(), request], [stated; 2], true)
 }
 
 /// Pair `number` of a seed that breaks one hypothesis.
@@ -41,11 +43,12 @@ pub fn broken(breach: Breach, seed: u64, number: u64) -> [Case; 2] {
     let mut rng = Rng::for_case(seed ^ 0xAAAA ^ (breach as u64) << 40, number);
     loop {
         let (one, request) = suited(&mut rng, breach);
-        let asked = Asked::of(&request);
+        let stated = breach::stated(&mut rng, breach);
+        let asked = Asked::of(&request, stated[0]);
         let mut other = beside(&mut rng, &one, &asked);
         let mut another = request.clone();
         if breach::done(&mut rng, breach, &one, &mut other, &mut another, &asked).is_some() {
-            let mut calls = calls_over(&mut rng, [one, other], [request, another], false);
+            let mut calls = calls_over(&mut rng, [one, other], [request, another], stated, false);
             if breach == Breach::Unsound {
                 breach::unsound(&mut rng, &mut calls[0]);
             }
@@ -55,18 +58,25 @@ pub fn broken(breach: Breach, seed: u64, number: u64) -> [Case; 2] {
 }
 
 /// Either side may be the first.
-fn calls_over(rng: &mut Rng, sides: [Sound; 2], requests: [Vec<u8>; 2], few: bool) -> [Case; 2] {
+fn calls_over(rng: &mut Rng, sides: [Sound; 2], requests: [Vec<u8>; 2], stated: [Stated; 2], few: bool) -> [Case; 2] {
     let [one, other] = sides;
     let [request, another] = requests;
-    let mut calls = [call(rng, &one, request, few), call(rng, &other, another, few)];
+    let mut calls = [call(rng, &one, request, stated[0], few), call(rng, &other, another, stated[1], few)];
     if rng.coin() {
         calls.reverse();
     }
     calls
 }
 
-/// A table and a request, right or with a fault; none if it is a MAR or would be refused.
-fn any(rng: &mut Rng) -> Option<(Sound, Vec<u8>)> {
+/// What a pair begins with: a table, a request, and what is stated of its peer.
+struct Start {
+    sound: Sound,
+    request: Vec<u8>,
+    stated: Stated,
+}
+
+/// A table and a request, right or with a fault; none if it is a MAR or would be refused, but for its peer.
+fn any(rng: &mut Rng) -> Option<Start> {
     if rng.once_in(16) {
         return of_calls(rng);
     }
@@ -77,16 +87,18 @@ fn any(rng: &mut Rng) -> Option<(Sound, Vec<u8>)> {
             twists::twist_once(rng, &mut request);
         }
     }
+    let stated = peers::any(rng);
     let mut bytes = request.encode();
     if rng.once_in(3) {
-        add_stranger(rng, &mut bytes, &sound.model);
+        add_stranger(rng, &mut bytes, &sound.model, stated);
     }
     let is_refused = bytes.len() > MOST_REQUEST || request.told_length.is_some() || request.flags & 0x80 == 0;
-    (Message(&bytes).command() != Command::MultimediaAuth.code() && !is_refused).then_some((sound, bytes))
+    let is_asked = Message(&bytes).command() != Command::MultimediaAuth.code() && !is_refused;
+    is_asked.then_some(Start { sound, request: bytes, stated })
 }
 
 /// One of the kind `calls`.
-fn of_calls(rng: &mut Rng) -> Option<(Sound, Vec<u8>)> {
+fn of_calls(rng: &mut Rng) -> Option<Start> {
     let case = calls::case(rng).case;
     let request = case.held(Slice::Request);
     if request.len() < 20 || Message(&request).command() == Command::MultimediaAuth.code() {
@@ -96,7 +108,8 @@ fn of_calls(rng: &mut Rng) -> Option<(Sound, Vec<u8>)> {
         return None;
     }
     let model = TableModel::of(Table(&case.held(Slice::Table)));
-    Some((Sound { model, profile: case.held(Slice::Profile).into_owned() }, request.into_owned()))
+    let sound = Sound { model, profile: case.held(Slice::Profile).into_owned() };
+    Some(Start { sound, request: request.into_owned(), stated: case.stated() })
 }
 
 /// A table and a right request over it, of this command or of any but a MAR. Often most records are of two subscriptions, in sets.
@@ -139,14 +152,19 @@ fn in_sets(rng: &mut Rng, table: &mut TableModel) {
 
 /// A request in which the hypothesis has something to say, over a table that it is mostly about.
 fn suited(rng: &mut Rng, breach: Breach) -> (Sound, Vec<u8>) {
-    let (sound, request) = right(rng, breach.command());
-    let bytes = request.encode();
-    (sound, bytes)
+    let (sound, mut request) = right(rng, breach.command());
+    if breach == Breach::Peer {
+        let vendors = rng.between(2, 3);
+        let application = application_of(rng, vendors);
+        let of_application = request.pieces.iter_mut().filter(|it| it.is(Kind::VendorSpecificApplicationId));
+        of_application.for_each(|piece| piece.data = application.clone());
+    }
+    (sound, request.encode())
 }
 
 /// Puts in somebody whom the request is not about: in an AVP that the command does not name, of an unknown kind, or in a group.
-fn add_stranger(rng: &mut Rng, request: &mut Vec<u8>, table: &TableModel) {
-    let is_decided = read(Message(request), Slip::NONE).is_ok();
+fn add_stranger(rng: &mut Rng, request: &mut Vec<u8>, table: &TableModel, stated: Stated) {
+    let is_decided = read(Message(request), stated, Slip::NONE).is_ok();
     if table.records.is_empty() || !is_decided {
         return;
     }

@@ -15,6 +15,7 @@ use crate::read::read;
 use crate::refuse::LEAST_BUFFER;
 use crate::rng::Rng;
 use crate::slip::Slip;
+use crate::stated::Stated;
 use crate::table::{header, LONGEST_IDENTITY, MOST_RECORDS};
 
 /// Whom a request is about.
@@ -26,8 +27,8 @@ pub struct Asked {
 
 impl Asked {
     /// What the walk keeps as named; nothing of a request with a fault in reading, of which nobody is looked up.
-    pub fn of(request: &[u8]) -> Asked {
-        match read(Message(request), Slip::NONE) {
+    pub fn of(request: &[u8], stated: Stated) -> Asked {
+        match read(Message(request), stated, Slip::NONE) {
             Ok(read) => Asked {
                 publics: read.identities.iter().map(|avp| avp.data.to_vec()).collect(),
                 user_name: read.user_name.map(<[u8]>::to_vec),
@@ -197,8 +198,8 @@ fn stale(rng: &mut Rng, table: &TableModel, asked: &Asked) -> RecordModel {
 }
 
 /// The call over a side, with vectors, old bytes of the buffer and a length of it that are its own. Few are refused for buffer or vectors.
-pub fn call(rng: &mut Rng, side: &Sound, request: Vec<u8>, few: bool) -> Case {
-    let about = Asked::of(&request);
+pub fn call(rng: &mut Rng, side: &Sound, request: Vec<u8>, stated: Stated, few: bool) -> Case {
+    let about = Asked::of(&request, stated);
     let asked = side.model.records.first().filter(|_| rng.once_in(60)).map(|record| record.private.clone());
     let mut vectors = vectors::model::encode(&vectors::beside(rng, &side.model, asked.as_deref()));
     let mut buffer = LEAST_BUFFER;
@@ -211,5 +212,5 @@ pub fn call(rng: &mut Rng, side: &Sound, request: Vec<u8>, few: bool) -> Case {
         _ => {}
     }
     let area = area(rng, &side.model, &about);
-    Case::decide(rng.byte(), request, area, side.profile.clone(), vectors, buffer)
+    Case::decide(rng.byte(), request, area, side.profile.clone(), vectors, buffer, stated)
 }

@@ -6,17 +6,19 @@ mod pieces;
 use super::damage;
 use super::made::Made;
 use super::model::TableModel;
+use super::peers;
 use super::vectors;
 use crate::block::BLOCK;
 use crate::cases::Case;
 use crate::refuse::LEAST_BUFFER;
 use crate::report::LEAST_REPORT;
 use crate::rng::Rng;
+use crate::stated::Stated;
 use crate::table::Table;
 use month::{Files, Month};
 
 /// What a case may be noted as.
-pub const NOTES: [&str; 18] = [
+pub const NOTES: [&str; 19] = [
     "right",
     "a twist",
     "the same again",
@@ -33,6 +35,7 @@ pub const NOTES: [&str; 18] = [
     "another report area",
     "damaged table",
     "damaged vectors",
+    "an unknown peer",
     "some hundred headers",
     "some hundred records",
 ];
@@ -77,7 +80,7 @@ pub fn case(rng: &mut Rng) -> Made {
             }
         }
     }
-    finish(rng, requests, month.came, notes)
+    finish(rng, requests, month.came, month.stated, notes)
 }
 
 /// So many requests of 20 bytes and a few more, over a table that has few records or none: counts that pass 8 or 16 bits.
@@ -89,7 +92,7 @@ fn headers(rng: &mut Rng, count: usize, note: &'static str) -> Made {
     for _ in 0..count + rng.below(50) {
         requests.extend(rng.pick(&some));
     }
-    plain(rng, requests, Files { vectors: vec![], ..month.came }, note)
+    plain(rng, requests, Files { vectors: vec![], ..month.came }, month.stated, note)
 }
 
 /// Removals of some hundred records at once.
@@ -99,7 +102,7 @@ fn records(rng: &mut Rng) -> Made {
         let piece = pieces::all_at_once(rng, &month);
         month.add(piece);
     }
-    plain(rng, month.requests, month.came, "some hundred records")
+    plain(rng, month.requests, month.came, month.stated, "some hundred records")
 }
 
 /// A request of about the greatest length that a header can say, between others.
@@ -109,23 +112,27 @@ fn longest(rng: &mut Rng) -> Made {
         let piece = if between { pieces::longest(rng) } else { pieces::right(rng, &month) };
         month.add(piece);
     }
-    plain(rng, month.requests, month.came, "a request of 16 MiB")
+    plain(rng, month.requests, month.came, month.stated, "a request of 16 MiB")
 }
 
 /// With room for all.
-fn plain(rng: &mut Rng, requests: Vec<u8>, files: Files, note: &'static str) -> Made {
+fn plain(rng: &mut Rng, requests: Vec<u8>, files: Files, stated: Stated, note: &'static str) -> Made {
     let Files { table, profile, vectors } = files;
-    let case = Case::report(rng.byte(), requests, [table, profile, vectors], LEAST_BUFFER, LEAST_REPORT);
+    let case = Case::report(rng.byte(), requests, [table, profile, vectors], LEAST_BUFFER, LEAST_REPORT, stated);
     Made { case, notes: vec![note], damaged: None }
 }
 
 /// Mostly with sound files and room for all; now and then not.
-fn finish(rng: &mut Rng, requests: Vec<u8>, files: Files, mut notes: Vec<&'static str>) -> Made {
+fn finish(rng: &mut Rng, requests: Vec<u8>, files: Files, mut stated: Stated, mut notes: Vec<&'static str>) -> Made {
     let Files { mut table, mut profile, mut vectors } = files;
     let mut buffer = LEAST_BUFFER;
     if rng.once_in(16) {
         notes.push("another buffer");
         buffer = *rng.pick(&[0, LEAST_BUFFER - 1, LEAST_BUFFER - 1, LEAST_BUFFER + 1, 40_000]);
+    }
+    if rng.once_in(16) {
+        notes.push("an unknown peer");
+        stated = peers::unknown(rng);
     }
     let mut area = LEAST_REPORT;
     if rng.once_in(8) {
@@ -153,7 +160,7 @@ fn finish(rng: &mut Rng, requests: Vec<u8>, files: Files, mut notes: Vec<&'stati
             false => drop(vectors::damage::damage(rng, &mut vectors, &mut Vec::new())),
         }
     }
-    let case = Case::report(rng.byte(), requests, [table, profile, vectors], buffer, area);
+    let case = Case::report(rng.byte(), requests, [table, profile, vectors], buffer, area, stated);
     Made { case, notes, damaged: None }
 }
 

@@ -2,6 +2,7 @@
 
 use crate::gen::areas;
 use crate::gen::model::{RecordModel, TableModel};
+use crate::gen::peers;
 use crate::gen::sets;
 use crate::gen::tables::{self, Sound};
 use crate::gen::vectors::{self, model};
@@ -9,6 +10,7 @@ use crate::refuse::LEAST_BUFFER;
 use crate::rng::Rng;
 use crate::serve::serve;
 use crate::slip::Slip;
+use crate::stated::Stated;
 use crate::table::{Table, LONGEST_SERVER_NAME};
 
 /// Table, profile and vector file, as they are lent.
@@ -25,6 +27,8 @@ pub struct Month {
     /// As the requests so far left them.
     now: Files,
     buffer: Vec<u8>,
+    /// Of all peers.
+    pub stated: Stated,
     pub requests: Vec<u8>,
     /// The pieces so far, to be sent again.
     pub earlier: Vec<Vec<u8>>,
@@ -41,7 +45,8 @@ impl Month {
         let most = if rng.coin() { vectors.len() } else { 6 };
         let vectors = &vectors[..vectors.len().min(most)];
         let table = areas::of(rng, &sound.model, 4);
-        Month::over(Files { table, profile: sound.profile, vectors: model::encode(vectors) })
+        let stated = peers::known(rng);
+        Month::over(Files { table, profile: sound.profile, vectors: model::encode(vectors) }, stated)
     }
 
     /// Some hundred records of one subscription, all of which a removal can leave; no vectors.
@@ -53,11 +58,13 @@ impl Month {
             |n| RecordModel { public: format!("{n:03}").into_bytes(), state: 1 + n as u8 % 2, ..pattern.clone() };
         model.records = (0..rng.between(250, 520)).map(record).collect();
         sets::settle(&mut model.records);
-        Month::over(Files { table: model.encode(), profile, vectors: vec![] })
+        let stated = peers::known(rng);
+        Month::over(Files { table: model.encode(), profile, vectors: vec![] }, stated)
     }
 
-    fn over(came: Files) -> Month {
-        Month { now: came.clone(), came, buffer: vec![0; LEAST_BUFFER], requests: Vec::new(), earlier: Vec::new() }
+    fn over(came: Files, stated: Stated) -> Month {
+        let (now, buffer) = (came.clone(), vec![0; LEAST_BUFFER]);
+        Month { came, now, buffer, stated, requests: Vec::new(), earlier: Vec::new() }
     }
 
     /// The table as it is now.
@@ -68,7 +75,7 @@ impl Month {
     /// Adds a request, and does what it does.
     pub fn add(&mut self, piece: Vec<u8>) {
         let Files { table, profile, vectors } = &mut self.now;
-        serve(&piece, table, profile, vectors, &mut self.buffer, Slip::NONE);
+        serve(&piece, table, profile, vectors, &mut self.buffer, self.stated, Slip::NONE);
         self.requests.extend(&piece);
         self.earlier.push(piece);
     }

@@ -15,7 +15,6 @@ content-fault-spec =
     (λ c κs. search needs)
     (λ c. search needs)
     (λ c κs. search needs)
-    (λ c κs. search needs)
     (λ c. search (needs, content-free))
     (λ c. search (needs, content-number))
     (λ c. search (needs, content-sized))
