@@ -1,5 +1,5 @@
 pub mod Alone
-pub mod Features
+pub mod Asking
 pub mod Judging
 pub mod Known
 pub mod Members

@@ -1,4 +1,4 @@
-use Rattle.reading.proofs.Features.{asks-marked, asks-plain}
+use Rattle.reading.proofs.Asking.{asks-marked, asks-plain}
 use Rattle.octets.specs.Standard.{needs}
 use Rattle.reading.proofs.features.asks.Statement.{statement}
 use Rattle.reading.proofs.features.asks.Tie as tie

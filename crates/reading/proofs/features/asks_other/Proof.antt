@@ -1,4 +1,4 @@
-use Rattle.reading.proofs.Features.{other-asked}
+use Rattle.reading.proofs.Asking.{other-asked}
 use Rattle.octets.specs.Standard.{needs}
 use Rattle.reading.proofs.features.asks_other.Statement.{statement}
 use Rattle.reading.proofs.features.asks_other.Tie as tie

@@ -2,7 +2,7 @@ use Rattle.octets.specs.Standard.{_-_, _≤_, _≡_, needs}
 use Rattle.octets.specs.All.{allBelow}
 use Rattle.octets.proofs.All.{all-none}
 use Rattle.reading.specs.Features.{clearOrIn}
-use Rattle.reading.proofs.Features.{bits-more, bits-all}
+use Rattle.reading.proofs.Asking.{bits-more, bits-all}
 use Rattle.reading.proofs.features.bit_outside.Statement.{statement}
 use Rattle.reading.proofs.features.bit_outside.Tie as tie
 

@@ -4,7 +4,7 @@ use Rattle.diameter.specs.Walk.{walk}
 use Rattle.diameter.proofs.Parts.{member-here}
 use Rattle.reading.specs.Features.{memberValue}
 use Rattle.reading.proofs.Walking.{read-less}
-use Rattle.reading.proofs.Features.{value-past, value-cut, value-is, value-more}
+use Rattle.reading.proofs.Asking.{value-past, value-cut, value-is, value-more}
 use Rattle.reading.proofs.features.member_value.Statement.{statement}
 use Rattle.reading.proofs.features.member_value.Tie as tie
 

@@ -1,4 +1,4 @@
-use Rattle.reading.proofs.Features.{passes-there}
+use Rattle.reading.proofs.Asking.{passes-there}
 use Rattle.octets.specs.Standard.{needs}
 use Rattle.reading.proofs.features.passes.Statement.{statement}
 use Rattle.reading.proofs.features.passes.Tie as tie

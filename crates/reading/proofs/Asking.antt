@@ -67,4 +67,6 @@ module _ (s : List ℕ) (a : Avp) (h : Here s a) where
   pub passes-there : (d : Dialect) {x : Bool} → x ≡ gathers (membersOf d SupportedFeatures) (walk (dataOf (ownOf s a)))
       → (eqb (a .flags % 32) 0 && x) ≡ passes (ownOf s a)
   unfolding passes membersOf
-  passes-there d ex = rw (own-flags s a h, ex)
+  passes-there d ex =
+      ap (λ (y : Bool). eqb (a .flags % 32) 0 && y) ex
+      ∙ ap (λ (n : ℕ). eqb (n % 32) 0 && gathers featureMembers (walk (dataOf (ownOf s a)))) (sym (own-flags s a h))
