@@ -50,47 +50,30 @@ called-avp at next a w h l = rw (ne-eqb next 20 (omega arith)) (go (eqb at 20))
     go true = refl
     go false = refl
 
-module _ (s : List ℕ) (at : ℕ) (set : ℕ) (reached : 20 ≤ at) (listed beyond whole all : Bool)
-    (leftList : (listed || calledFrom at (walk (drop at s))) ≡ whole) (leftSet : (beyond || someAvp (asksBeyond set) (walk (drop at s))) ≡ all) where
-  pub wanted-end : length s ≤ at → (listed ≡ whole) × (beyond ≡ all)
-  unfolding someAvp
-  wanted-end h = (end-of listed (rw (walk-past s at h) (none-called at)) leftList, end-of beyond (rw (walk-past s at h)) leftSet)
+module _ (s : List ℕ) (at : ℕ) (listed whole : Bool) (left : (listed || calledFrom at (walk (drop at s))) ≡ whole) where
+  pub list-end : length s ≤ at → listed ≡ whole
+  list-end h = end-of listed (rw (walk-past s at h) (none-called at)) left
 
   module _ (r : Read) (e : r ≡ readOf at (drop at s)) where
-    pub wanted-cut : {p : ℕ} → r ≡ read.Fault p → (listed ≡ whole) × (beyond ≡ all)
-    unfolding someAvp
-    wanted-cut d =
-        let u = read-unsound s at r e d in (
-          end-of listed (sym (at-fault (calledFrom at) false (drop at s) u (none-called at) (cut-called at (drop at s)))) leftList,
-          end-of beyond (sym (at-fault (someAvp (asksBeyond set)) false (drop at s) u refl refl)) leftSet,
-        )
+    pub list-cut : {p : ℕ} → r ≡ read.Fault p → listed ≡ whole
+    list-cut d =
+        end-of listed (sym (at-fault (calledFrom at) false (drop at s) (read-unsound s at r e d) (none-called at) (cut-called at (drop at s)))) left
 
-    module _ (a : Avp) (d : r ≡ read.Avp a) (k : ℕ) (ek : k ≡ kindOf (ownOf s a)) where
-      step-list : ((listed || (not (eqb at 20) && callsList (ownOf s a))) || calledFrom (a .next) (walk (drop (a .next) s))) ≡ whole
-      step-list =
+    module _ (a : Avp) (d : r ≡ read.Avp a) (k : ℕ) (ek : k ≡ kindOf (ownOf s a)) (reached : 20 ≤ at) where
+      list-step : ((listed || (not (eqb at 20) && callsList (ownOf s a))) || calledFrom (a .next) (walk (drop (a .next) s))) ≡ whole
+      list-step =
           let says = read-says s at r e a d in
           or-assoc listed (not (eqb at 20) && callsList (ownOf s a)) (calledFrom (a .next) (walk (drop (a .next) s)))
-          ∙ (rw (says .walked, called-avp at (a .next) (ownOf s a) (walk (drop (a .next) s)) reached (says .later)) at leftList)
+          ∙ (rw (says .walked, called-avp at (a .next) (ownOf s a) (walk (drop (a .next) s)) reached (says .later)) at left)
 
-      step-set : ((beyond || asksBeyond set (ownOf s a)) || someAvp (asksBeyond set) (walk (drop (a .next) s))) ≡ all
-      unfolding someAvp
-      step-set =
-          let says = read-says s at r e a d in
-          or-assoc beyond (asksBeyond set (ownOf s a)) (someAvp (asksBeyond set) (walk (drop (a .next) s))) ∙ (rw (says .walked) at leftSet)
+      pub list-here : {x : Bool} → k ≡ supportedFeatures → x ≡ passes (ownOf s a)
+          → ((listed || (not (eqb at 20) && x)) || calledFrom (a .next) (walk (drop (a .next) s))) ≡ whole
+      unfolding callsList
+      list-here z ex = rw ex (rw (← ek, z) at list-step)
 
-      pub wanted-here : {x y : Bool} → k ≡ supportedFeatures → x ≡ passes (ownOf s a) → y ≡ asks set (ownOf s a)
-          → ((listed || (not (eqb at 20) && x)) || calledFrom (a .next) (walk (drop (a .next) s)) ≡ whole)
-          × ((beyond || y) || someAvp (asksBeyond set) (walk (drop (a .next) s)) ≡ all)
-      unfolding callsList asksBeyond
-      wanted-here z ex ey = (rw (ex) (rw (← ek, z) at step-list), rw (ey) (rw (← ek, z) at step-set))
-
-      pub wanted-other : (k ≡ supportedFeatures → ⊥) → ((listed || calledFrom (a .next) (walk (drop (a .next) s))) ≡ whole)
-          × ((beyond || someAvp (asksBeyond set) (walk (drop (a .next) s))) ≡ all)
-      unfolding callsList asksBeyond
-      wanted-other z =
-          let l = rw (← ek, ne-eqb _ _ z) at step-list in
-          let b = rw (← ek, ne-eqb _ _ z) at step-set in
-          (go listed (not (eqb at 20)) _ l, rw or-false at b)
+      pub list-other : (k ≡ supportedFeatures → ⊥) → (listed || calledFrom (a .next) (walk (drop (a .next) s))) ≡ whole
+      unfolding callsList
+      list-other z = go listed (not (eqb at 20)) (calledFrom (a .next) (walk (drop (a .next) s))) (rw (← ek, ne-eqb _ _ z) at list-step)
         where
           go : (x y z : Bool) → ((x || (y && false)) || z) ≡ whole → (x || z) ≡ whole
           go true true z e = e
@@ -100,6 +83,31 @@ module _ (s : List ℕ) (at : ℕ) (set : ℕ) (reached : 20 ≤ at) (listed bey
 
       pub next-reached : 20 ≤ a .next
       next-reached = omega (arith, reached, read-later at (drop at s) r e a d)
+
+module _ (s : List ℕ) (at set : ℕ) (beyond whole : Bool) (left : (beyond || someAvp (asksBeyond set) (walk (drop at s))) ≡ whole) where
+  pub set-end : length s ≤ at → beyond ≡ whole
+  unfolding someAvp
+  set-end h = end-of beyond (rw (walk-past s at h)) left
+
+  module _ (r : Read) (e : r ≡ readOf at (drop at s)) where
+    pub set-cut : {p : ℕ} → r ≡ read.Fault p → beyond ≡ whole
+    unfolding someAvp
+    set-cut d = end-of beyond (sym (at-fault (someAvp (asksBeyond set)) false (drop at s) (read-unsound s at r e d) refl refl)) left
+
+    module _ (a : Avp) (d : r ≡ read.Avp a) (k : ℕ) (ek : k ≡ kindOf (ownOf s a)) where
+      set-step : ((beyond || asksBeyond set (ownOf s a)) || someAvp (asksBeyond set) (walk (drop (a .next) s))) ≡ whole
+      unfolding someAvp
+      set-step =
+          or-assoc beyond (asksBeyond set (ownOf s a)) (someAvp (asksBeyond set) (walk (drop (a .next) s))) ∙ (rw (read-says s at r e a d .walked) at left)
+
+      pub set-here : {x : Bool} → k ≡ supportedFeatures → x ≡ asks set (ownOf s a)
+          → ((beyond || x) || someAvp (asksBeyond set) (walk (drop (a .next) s))) ≡ whole
+      unfolding asksBeyond
+      set-here z ex = rw ex (rw (← ek, z) at set-step)
+
+      pub set-other : (k ≡ supportedFeatures → ⊥) → (beyond || someAvp (asksBeyond set) (walk (drop (a .next) s))) ≡ whole
+      unfolding asksBeyond
+      set-other z = rw (or-false beyond) at (rw (← ek, ne-eqb _ _ z) at set-step)
 
 pub wanted-whole : (req : List ℕ) (terms : Terms) (d : Dialect) (n : ℕ) (found : Wanted) → d ≡ dialectOf terms req → n ≡ headerFault d req
     → found .listed ≡ calledIn (bodyOf req) → found .beyond ≡ someAvp (asksBeyond (d .terms .features)) (bodyOf req)
