@@ -68,4 +68,4 @@ pub success-nowhere : (dialect : Dialect) (req t : List ℕ) (count : ℕ) (v : 
 unfolding performedBy numberOf
 success-nowhere dialect req t count v =
     decide-by dialect req t count v (λ d. d .given .verdict .result ≡ Base 2001 → d .place ≡ 0)
-    (λ f e b r. absurd (omega (arith, fails-most (f .result) b, ap numberOf r))) (λ seen e p c r. refl)
+    (λ f b r. absurd (omega (arith, fails-most (f .result) b, ap numberOf r))) (λ seen e p c r. refl)
