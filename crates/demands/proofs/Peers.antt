@@ -13,7 +13,7 @@ use Rattle.deciding.specs.Decide.{Decision}
 use Rattle.calling.specs.Call.{Refused}
 use Rattle.calling.specs.Lent.{Lent, tableOnly}
 use Rattle.calling.specs.Trial.{Trial, tried, anyHolds}
-use Rattle.calling.specs.Serve.{Served, unknownPeer, checkOf, checkValue, trials, refused, answered, decision, serveFound, serveTableBy, serveTable}
+use Rattle.calling.specs.Serve.{Served, unknownPeer, checkOf, checkValue, trials, refused, answered, answeredBy, decision, serveFound, serveTableBy, serveTable}
 use Rattle.calling.specs.Serve.{overArea, serve}
 use Rattle.calling.proofs.Areas.{put-same}
 use Rattle.ndushavire.specs.Reads.{callNumber}
@@ -43,7 +43,7 @@ module _ (x : Lent) where
   refused-same r = refl
 
   answered-same : (d : Decision) → answered (byPeer x rfc6733) d ≡ answered (byPeer x rfc3588) d
-  unfolding answered answerBytes bodyBytes topBytes frontBytes
+  unfolding answeredBy answerBytes bodyBytes topBytes frontBytes
   answered-same d = refl
 
   -- calls over a table of its exact length that are answered with decisions that are equal, if at all
