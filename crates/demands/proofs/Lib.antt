@@ -8,6 +8,7 @@ pub mod Disagreeing
 pub mod Editions
 pub mod Effects
 pub mod Faults
+pub mod Features
 pub mod Firm
 pub mod Fitting
 pub mod Frame
@@ -30,4 +31,6 @@ pub mod TypeRead
 pub mod Unable
 pub mod UnableMar
 pub mod UnableSar
+pub mod Undecided
 pub mod Unreachable
+pub mod Wanting

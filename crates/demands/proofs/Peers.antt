@@ -49,7 +49,8 @@ module _ (x : Lent) where
 
   -- calls over a table of its exact length that are answered with decisions that are equal, if at all
   calls-same : (turnedAway (byPeer x rfc6733) ≡ false
-      → decision (byPeer x rfc6733) (checkValue (checkOf x)) ≡ decision (byPeer x rfc3588) (checkValue (checkOf x))) → serveTable (byPeer x rfc6733) ≡ serveTable (byPeer x rfc3588)
+      → decision (byPeer x rfc6733) (checkValue (checkOf x)) ≡ decision (byPeer x rfc3588) (checkValue (checkOf x)))
+      → serveTable (byPeer x rfc6733) ≡ serveTable (byPeer x rfc3588)
   unfolding serveTableBy serveFound
   calls-same h =
       tried-same (refused (byPeer x rfc6733)) (refused (byPeer x rfc3588)) _ _ refused-same (trials (byPeer x rfc6733))
@@ -62,9 +63,11 @@ module _ (x : Lent) where
       (walk-same (commandOf (x .request)) (x .terms .application) (x .terms .features) 20 (bodyOf (x .request)) _ o)
 
   reads-same : readIn (newer (commandOf (x .request)) (x .terms .application) (x .terms .features)) (x .request)
-      ≡ readIn (older (commandOf (x .request)) (x .terms .application) (x .terms .features)) (x .request) → serveTable (byPeer x rfc6733) ≡ serveTable (byPeer x rfc3588)
+      ≡ readIn (older (commandOf (x .request)) (x .terms .application) (x .terms .features)) (x .request)
+      → serveTable (byPeer x rfc6733) ≡ serveTable (byPeer x rfc3588)
   reads-same e =
-      calls-same (λ t. decide-same (commandOf (x .request)) (x .terms .application) (x .terms .features) (x .request) (x .table) (checkValue (checkOf x)) (x .vectors) e)
+      calls-same (λ t.
+      decide-same (commandOf (x .request)) (x .terms .application) (x .terms .features) (x .request) (x .table) (checkValue (checkOf x)) (x .vectors) e)
 
   -- so with a request none of whose 260s has two Vendor-Ids
   pub one-table : OneVendor (bodyOf (x .request)) → serveTable (byPeer x rfc6733) ≡ serveTable (byPeer x rfc3588)
@@ -73,7 +76,8 @@ module _ (x : Lent) where
   pub one-result : OneVendor (bodyOf (x .request)) → resultOf (byPeer x rfc6733) ≡ resultOf (byPeer x rfc3588)
   one-result o =
       ap (λ (d : Decision). d .given .verdict .result)
-      (decide-same (commandOf (x .request)) (x .terms .application) (x .terms .features) (x .request) (x .table) (checkValue (checkOf x)) (x .vectors) (one-read o))
+      (decide-same (commandOf (x .request)) (x .terms .application) (x .terms .features) (x .request) (x .table) (checkValue (checkOf x)) (x .vectors)
+      (one-read o))
 
   away-same : turnedAway (byPeer x rfc6733) ≡ true → serveTable (byPeer x rfc6733) ≡ serveTable (byPeer x rfc3588)
   away-same t = calls-same (λ e. absurd (true≢false (sym t ∙ e)))
@@ -99,7 +103,11 @@ module _ (a : Lent) where
   unfolding failedOf
   second-told place c t h f =
       let b : Blames (tableOnly (byPeer a rfc6733)) place =
-      record { taken = t; result = 5009; fault = newer-breaks (commandOf (a .request)) (a .terms .application) (a .terms .features) (a .request) place c h f } in
+      record {
+        taken = t;
+        result = 5009;
+        fault = newer-breaks (commandOf (a .request)) (a .terms .application) (a .terms .features) (a .request) place c h f;
+      } in
       rw (avp-own (a .request) place (c .whole)) (place-answer (byPeer a rfc6733) place b)
 
   -- ".. ONLY", and "RFC 3588 ALLOWS SEVERAL": under RFC 3588 no call is answered with the place of such a 260, so it is not at fault.
@@ -107,13 +115,15 @@ module _ (a : Lent) where
   several-pass place c e =
       let l = reaches-least (dialectIn (byPeer a rfc3588)) (a .request) (c .reached) in
       let b = place-blames (byPeer a rfc3588) (λ z. omega (arith, e, z, l .0)) in
-      older-passes (commandOf (a .request)) (a .terms .application) (a .terms .features) (a .request) place c (b .result) (callPlace (serve (byPeer a rfc3588) .call)) (b .fault) e
+      older-passes (commandOf (a .request)) (a .terms .application) (a .terms .features) (a .request) place c (b .result)
+      (callPlace (serve (byPeer a rfc3588) .call)) (b .fault) e
 
   -- So the two are told apart by such a 260 and by nothing else: they are equal, or reading comes to one in both, and they are not.
   pub peers-differ : (serve (byPeer a rfc6733) ≡ serve (byPeer a rfc3588)) ⊎ ToldApart a
   peers-differ = go (read-cases (commandOf (a .request)) (a .terms .application) (a .terms .features) (a .request))
     where
-      apart : Told (commandOf (a .request)) (a .terms .application) (a .terms .features) (a .request) → (t : Bool) → turnedAway (tableOnly (byPeer a rfc6733)) ≡ t
+      apart : Told (commandOf (a .request)) (a .terms .application) (a .terms .features) (a .request) → (t : Bool)
+          → turnedAway (tableOnly (byPeer a rfc6733)) ≡ t
           → (serve (byPeer a rfc6733) ≡ serve (byPeer a rfc3588)) ⊎ ToldApart a
       apart f true t = inl (ap (overArea (a .table)) (away-same (tableOnly a) t))
       apart f false t =
