@@ -1,13 +1,13 @@
--- "Try these against it": document 01's five wrong servers, four that break document 02 [1], two that break [2], three that break [8], and four that break [10]. Each is a function
--- here, and at an input that is computed its outcome does not meet the promise.
-use Rattle.octets.specs.Standard.{ℕ, zero, suc, _≤_, _≡_, refl, sym, ap, _∙_, _≢_, List, [], _∷_, _++_, false, arith, length, getD, take, drop}
+-- "Try these against it": document 01's five wrong servers, four that break document 02 [1], two that break [2], three that break [8], four that break [10],
+-- and eight that break [11]. Each is a function here, and at an input that is computed its outcome does not meet the promise.
+use Rattle.octets.specs.Standard.{ℕ, zero, suc, _+_, _≤_, _≡_, refl, sym, ap, _∙_, _≢_, List, [], _∷_, _++_, false, arith, length, getD, take, drop}
 use Rattle.octets.specs.Run.{over}
 use Rattle.blocks.specs.declared.Checked.the-variants.{Sound, Bad}
 use Rattle.table.specs.Area.{sizeIn, tableIn, checkArea}
 use Rattle.table.proofs.Areas.{check-exact, sound-size-in}
 use Rattle.vectors.specs.VectorFile.{checkVectors}
-use Rattle.pen.specs.Bytes.{vendorHead, avpBytes, vendorBytes, numberBytes, vendorNumber}
-use Rattle.pen.specs.Groups.{failed}
+use Rattle.pen.specs.Bytes.{headBytes, vendorHead, avpBytes, vendorBytes, numberBytes, vendorNumber}
+use Rattle.pen.specs.Groups.{experimental, failed, ownFeatures}
 use Rattle.requests.specs.Request.{underCx}
 use Rattle.calling.specs.Lent.{Lent, lent, holding}
 use Rattle.calling.specs.Serve.{Served, checkOf, serveTable, serve}
@@ -18,7 +18,7 @@ use Rattle.ndushavire.specs.Reads.{numberIn, placeIn}
 use Rattle.ndushavire.specs.Promise.{CheckPromise, CheckVectorsPromise, DecidePromise}
 use Rattle.worked_examples.proofs.Computed.{known, come, roomy, no-vectors, registered-sound, unregistered-sound}
 use Rattle.worked_examples.proofs.Sample.{room, request, reply, answer, common, assignment, authentication, vector, item, challenges, one, waiting}
-use Rattle.worked_examples.proofs.Sample.{person, two, s, z, opened}
+use Rattle.worked_examples.proofs.Sample.{person, two, feature, assignmentWith, s, z, opened}
 
 -- what a call leaves
 record CallLeft : Type 0 where
@@ -399,4 +399,141 @@ unheard-call = refl
 late-fails : (f : Server) (n : ℕ) → numberIn (f n unheard .word) ≡ 1 → Meets f n unheard → ⊥
 late-fails f n e p =
     let h : numberIn (f n unheard .word) ≡ 12 = ap numberIn (p .word-is ∙ ap callWord unheard-call) in
+    omega (arith, e, h)
+
+-- Document 02 [11]. The removal with a 628, by a server that supports bits 0 and 2; and its answers, with the own list right after 296 or without it.
+wishing : List ℕ → Lent
+wishing avps = lent (assignmentWith avps 5 s) (one 0 1 s) [] [] room (underCx 3588 5)
+
+served : ℕ → List ℕ → List ℕ → Served
+served n after bytes = record { call = Answered (record { length = n; place = 0 }); table = after; vectors = []; buffer = over bytes room }
+
+abbrev removes : List ℕ → List ℕ → Type 0
+removes avps list = serve (wishing avps) ≡ served (116 + length list) (one 0 0 []) (answer (numberBytes 268 2001) list)
+
+abbrev refuses : List ℕ → Type 0
+refuses avps = serve (wishing avps) ≡ served 192 (one 0 1 s) (answer (experimental 5011) (ownFeatures 5))
+
+-- bit 1 without M; with M; no bit of another vendor's list, with M
+hoped-served : removes (feature 128 10415 1 2) (ownFeatures 5)
+unfolding opened wishing served
+hoped-served =
+    serve-sound (wishing (feature 128 10415 1 2)) 1 registered-sound ∙ come (wishing (feature 128 10415 1 2)) roomy registered-sound no-vectors refl
+
+wanted-served : refuses (feature 192 10415 1 2)
+unfolding opened wishing served
+wanted-served =
+    serve-sound (wishing (feature 192 10415 1 2)) 1 registered-sound ∙ come (wishing (feature 192 10415 1 2)) roomy registered-sound no-vectors refl
+
+foreign-served : refuses (feature 192 10416 1 0)
+unfolding opened wishing served
+foreign-served =
+    serve-sound (wishing (feature 192 10416 1 0)) 1 registered-sound ∙ come (wishing (feature 192 10416 1 0)) roomy registered-sound no-vectors refl
+
+-- 19. one that ignores M, and takes the removal for what it is
+unmarked-fails : (f : Server) (n : ℕ) → state (f n (wishing (feature 192 10415 1 2)) .table) ≡ 0 → Meets f n (wishing (feature 192 10415 1 2)) → ⊥
+unfolding opened state served
+unmarked-fails f n e p =
+    let h : state (f n (wishing (feature 192 10415 1 2)) .table) ≡ 1 = ap state (p .table-is ∙ ap (λ (y : Served). y .table) wanted-served) in
+    omega (arith, e, h)
+
+-- 20. one that judges without M too, and leaves the record as it was
+marking-fails : (f : Server) (n : ℕ) → state (f n (wishing (feature 128 10415 1 2)) .table) ≡ 1 → Meets f n (wishing (feature 128 10415 1 2)) → ⊥
+unfolding opened state served
+marking-fails f n e p =
+    let h : state (f n (wishing (feature 128 10415 1 2)) .table) ≡ 0 = ap state (p .table-is ∙ ap (λ (y : Served). y .table) hoped-served) in
+    omega (arith, e, h)
+
+-- 21. one that lets another vendor's list pass, since no bit of it is asked for
+bitless-fails : (f : Server) (n : ℕ) → state (f n (wishing (feature 192 10416 1 0)) .table) ≡ 0 → Meets f n (wishing (feature 192 10416 1 0)) → ⊥
+unfolding opened state served
+bitless-fails f n e p =
+    let h : state (f n (wishing (feature 192 10416 1 0)) .table) ≡ 1 = ap state (p .table-is ∙ ap (λ (y : Served). y .table) foreign-served) in
+    omega (arith, e, h)
+
+-- 22. one that sends its list for each 628: two more AVPs' worth
+again-served : removes (feature 128 10415 1 2 ++ feature 128 10415 1 2) (ownFeatures 5)
+unfolding opened wishing served
+again-served =
+    serve-sound (wishing (feature 128 10415 1 2 ++ feature 128 10415 1 2)) 1 registered-sound
+    ∙ come (wishing (feature 128 10415 1 2 ++ feature 128 10415 1 2)) roomy registered-sound no-vectors refl
+
+again-fails : (f : Server) (n : ℕ) → f n (wishing (feature 128 10415 1 2 ++ feature 128 10415 1 2)) .word ≡ 228
+    → Meets f n (wishing (feature 128 10415 1 2 ++ feature 128 10415 1 2)) → ⊥
+unfolding opened served
+again-fails f n e p =
+    let h : f n (wishing (feature 128 10415 1 2 ++ feature 128 10415 1 2)) .word ≡ 172 = p .word-is ∙ ap (λ (y : Served). callWord (y .call)) again-served in
+    omega (arith, e, h)
+
+-- 23. one that sends it for a 628 behind a length fault; B5014 has 116 bytes and Failed-AVP of the header alone, 16
+cut : Lent
+cut = wishing (headBytes 999 0 7 ++ feature 128 10415 1 2)
+
+cut-served : serve cut ≡ record {
+  call = Answered (record { length = 132; place = 112 });
+  table = one 0 1 s;
+  vectors = [];
+  buffer = over (answer (numberBytes 268 5014) (failed (headBytes 999 0 8))) room;
+}
+unfolding opened wishing cut
+cut-served = serve-sound cut 1 registered-sound ∙ come cut roomy registered-sound no-vectors refl
+
+behind-fails : (f : Server) (n : ℕ) → f n cut .word ≡ word 0 112 188 → Meets f n cut → ⊥
+behind-fails f n e p =
+    let h : f n cut .word ≡ word 0 112 132 = p .word-is ∙ ap (λ (y : Served). callWord (y .call)) cut-served in
+    omega (arith, e, h)
+
+-- 24. one that gives X5011 before it looks for what is missing: the answer has 297 where 268 stands, whose last bytes are 41 and 12
+lacking : Lent
+lacking = lent (request 301 (common ++ feature 192 10415 1 2)) (one 0 1 s) [] [] room (underCx 3588 5)
+
+lacking-served : serve lacking ≡ record {
+  call = Answered (record { length = 192; place = 0 });
+  table = one 0 1 s;
+  vectors = [];
+  buffer = over (answer (numberBytes 268 5005) (ownFeatures 5 ++ failed (vendorBytes 602 []))) room;
+}
+unfolding opened lacking
+lacking-served = serve-sound lacking 1 registered-sound ∙ come lacking roomy registered-sound no-vectors refl
+
+-- the last byte of the third AVP's code
+third : List ℕ → ℕ
+third o = getD o 67 0
+
+early-fails : (f : Server) (n : ℕ) → third (f n lacking .buffer) ≡ 41 → Meets f n lacking → ⊥
+unfolding opened third lacking
+early-fails f n e p =
+    let h : third (f n lacking .buffer) ≡ 12 = ap third (p .buffer-is ∙ ap (λ (y : Served). y .buffer) lacking-served) in
+    omega (arith, e, h)
+
+-- 25. one that writes its list behind User-Name, which a registration's answer has: the AVP behind 296 is 628, whose last byte is 116, and not 1
+naming : Lent
+naming = lent (assignmentWith (feature 128 10415 1 2) 1 s) (one 0 1 s) [] [] room (underCx 3588 5)
+
+naming-served : serve naming ≡ served 184 (one 0 1 s) (answer (numberBytes 268 2001) (ownFeatures 5 ++ avpBytes 1 (0x70 ∷ [])))
+unfolding opened served naming
+naming-served = serve-sound naming 1 registered-sound ∙ come naming roomy registered-sound no-vectors refl
+
+-- the last byte of the code of the AVP behind 296, which ends at 116
+next : List ℕ → ℕ
+next o = getD o 119 0
+
+behind-name-fails : (f : Server) (n : ℕ) → next (f n naming .buffer) ≡ 1 → Meets f n naming → ⊥
+unfolding opened served next naming
+behind-name-fails f n e p =
+    let h : next (f n naming .buffer) ≡ 116 = ap next (p .buffer-is ∙ ap (λ (y : Served). y .buffer) naming-served) in
+    omega (arith, e, h)
+
+-- 26. one that leaves it out where its set is empty
+empty : Lent
+empty = lent (assignmentWith (feature 128 10415 1 2) 5 s) (one 0 1 s) [] [] room (underCx 3588 0)
+
+empty-served : serve empty ≡ served 172 (one 0 0 []) (answer (numberBytes 268 2001) (ownFeatures 0))
+unfolding opened served empty
+empty-served = serve-sound empty 1 registered-sound ∙ come empty roomy registered-sound no-vectors refl
+
+empty-fails : (f : Server) (n : ℕ) → f n empty .word ≡ 116 → Meets f n empty → ⊥
+unfolding opened served empty
+empty-fails f n e p =
+    let h : f n empty .word ≡ 172 = p .word-is ∙ ap (λ (y : Served). callWord (y .call)) empty-served in
     omega (arith, e, h)
