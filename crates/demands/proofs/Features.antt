@@ -33,7 +33,7 @@ use Rattle.calling.proofs.Areas.{put-same}
 use Rattle.calling.proofs.Kept.{taken}
 use Rattle.older_rules.specs.WithoutFeatures.{NoFeatures, beforeFeatures}
 use Rattle.demands.specs.Call.{turnedAway}
-use Rattle.demands.specs.Features.{Beyond, unsupportedBody, unsupportedBytes, featureRefused, Called, ownList, bodyWith, answerWith, AnsweredWith}
+use Rattle.demands.specs.Features.{withSet, Beyond, unsupportedBody, unsupportedBytes, featureRefused, Called, ownList, bodyWith, answerWith, AnsweredWith}
 use Rattle.demands.specs.Place.{Blames}
 use Rattle.demands.proofs.Blaming.{base-experimental, blames-result}
 use Rattle.demands.proofs.Fitting.{fits}
@@ -41,6 +41,7 @@ use Rattle.demands.proofs.Refusals.{answer-is}
 use Rattle.demands.proofs.Undecided.{Unsupported, unsupported-only, unsupported-decides}
 use Rattle.demands.proofs.Wanting.{beyond-says, beyond-holds, rule-is, called-says, called-holds}
 use Rattle.older_rules.proofs.Features as older
+use Rattle.demands.proofs.AnySet as any
 
 -- the answer of X5011: nothing is given but the verdict, and there is no Failed-AVP
 module _ (terms : Terms) (req t file v : List ℕ) where
@@ -146,6 +147,13 @@ module _ (a : Lent) where
   -- A request without 628 is served as before the request landed, whatever the set.
   pub without-features : NoFeatures (bodyOf (a .request)) → serveBy beforeFeatures a ≡ serve a
   without-features n = ap (overArea (a .table)) (older.without-features x n)
+
+  -- So is it under every set alike; and under whatever set reading finds the same.
+  pub set-unseen : NoFeatures (bodyOf (a .request)) → (set other : ℕ) → serve (withSet a set) ≡ serve (withSet a other)
+  set-unseen n set other = ap (overArea (a .table)) (any.served-any x n set other)
+
+  pub set-unread : (set other : ℕ) → readIn (dialectIn (withSet a set)) (a .request) ≡ readIn (dialectIn (withSet a other)) (a .request)
+  set-unread = any.reading-any a
 
 -- "A 628 HOLDS THESE THREE 4-BYTE MEMBERS ONCE EACH, ELSE B5004": in every command, wherever it stands and how often one came.
 pub members-else : (d : Dialect) (seen : Seen) (a : List ℕ) → kindOf a ≡ supportedFeatures → reserved (avpFlags a) ≡ 0

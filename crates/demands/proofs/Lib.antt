@@ -1,4 +1,5 @@
 pub mod Alike
+pub mod AnySet
 pub mod Areas
 pub mod Barring
 pub mod Blaming
