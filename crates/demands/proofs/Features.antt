@@ -25,7 +25,7 @@ use Rattle.choices.specs.Given.{givenFault}
 use Rattle.failed.specs.Failing.{failedBy}
 use Rattle.reply.specs.Pieces.{identityBytes, nameBytes, dataBytes, givenBytes, listBytes, topBytes}
 use Rattle.answering.specs.Answer.{proxies, endBytes, restBytes, bodyBytes, answerBytes}
-use Rattle.deciding.specs.Decide.{Decision, featureUnsupported, judgedBy, decideBy}
+use Rattle.deciding.specs.Decide.{Decision, faulted, featureUnsupported, judgedBy, decideBy, decide}
 use Rattle.calling.specs.Call.{Answered}
 use Rattle.calling.specs.Lent.{Lent, tableOnly, dialectIn}
 use Rattle.calling.specs.Serve.{Served, checkOf, checkValue, answerOf, answered, answeredBy, decided, resultOf, serveTable, overArea, serveBy, serve}
@@ -52,6 +52,11 @@ module _ (terms : Terms) (req t file v : List ℕ) where
   unsupported-whole : answerBytes terms req t file v (givenFault featureUnsupported) ≡ unsupportedBytes terms req t
   unfolding answerBytes
   unsupported-whole = rw unsupported-body
+
+-- what reading blames is decided so
+read-decides : (d : Dialect) (req t : List ℕ) (count : ℕ) (v : List ℕ) (f : Verdict) → readIn d req ≡ bad f → decide d req t count v ≡ faulted t v f
+unfolding decideBy judgedBy
+read-decides d req t count v f e = rw e
 
 -- over a table of its exact length
 refused-table : (x : Lent) → Unsupported (dialectIn x) (x .request) → turnedAway x ≡ false
@@ -96,8 +101,9 @@ module _ (a : Lent) where
   -- "AFTER THE MISSING-AVP CHECK"; "it is no reading rule, so in demand 3 "AVP unsupported" goes before it": where reading finds a fault, an unknown kind with M
   -- among them, or misses an AVP, the result is reading's.
   pub reading-first : (v : Verdict) → readIn (dialectIn a) (a .request) ≡ bad v → resultOf x ≡ v .result
-  unfolding decideBy judgedBy
-  reading-first v e = rw e
+  reading-first v e =
+      ap (λ (d : Decision). d .given .verdict .result)
+      (read-decides (dialectIn x) (x .request) (x .table) (checkValue (checkOf x)) (x .vectors) v e)
 
   pub fault-first : (place : ℕ) → Blames x place → resultOf x ≢ Experimental 5011
   fault-first place b e = base-experimental (sym (blames-result x place b) ∙ e)

@@ -52,12 +52,13 @@ some-holds p w a (later b c v m) e = go (p c) (some-holds p v a m e)
 below-fails : (p : ℕ → Bool) (n : ℕ) → allBelow p n ≡ false → (k : ℕ) × ((k < n) × (p k ≡ false))
 unfolding allBelow
 below-fails p zero e = absurd (true≢false e)
-below-fails p (suc n) e = go (allBelow p n) (p n) refl refl e
+below-fails p (suc n) e = go (allBelow p n) (p n) refl refl e (below-fails p n)
   where
-    go : (x y : Bool) → allBelow p n ≡ x → p n ≡ y → (x && y) ≡ false → (k : ℕ) × ((k < suc n) × (p k ≡ false))
-    go true true f g h = absurd (true≢false h)
-    go true false f g h = (n, (omega arith, g))
-    go false y f g h = let r = below-fails p n f in (r .0, (omega (arith, r .1 .0), r .1 .1))
+    go : (x y : Bool) → allBelow p n ≡ x → p n ≡ y → (x && y) ≡ false → (allBelow p n ≡ false → (k : ℕ) × ((k < n) × (p k ≡ false)))
+        → (k : ℕ) × ((k < suc n) × (p k ≡ false))
+    go true true f g h next = absurd (true≢false h)
+    go true false f g h next = (n, (omega arith, g))
+    go false y f g h next = let r = next f in (r .0, (omega (arith, r .1 .0), r .1 .1))
 
 outside-says : (wanted set : ℕ) → bitOutside wanted set ≡ true → Outside set wanted
 unfolding bitOutside clearOrIn
