@@ -1,5 +1,5 @@
--- "Try these against it": document 01's five wrong servers, four that break document 02 [1], two that break [2], three that break [8], four that break [10],
--- and eight that break [11]. Each is a function here, and at an input that is computed its outcome does not meet the promise.
+-- "Try these against it": document 01's five wrong servers, and others that break document 02 [1], [2], [8], [10] and [11]. Each is a function here, and at an
+-- input that is computed its outcome does not meet the promise.
 use Rattle.octets.specs.Standard.{ℕ, zero, suc, _+_, _≤_, _≡_, refl, sym, ap, _∙_, _≢_, List, [], _∷_, _++_, false, arith, length, getD, take, drop}
 use Rattle.octets.specs.Run.{over}
 use Rattle.blocks.specs.declared.Checked.the-variants.{Sound, Bad}
@@ -337,17 +337,23 @@ spilling-fails f n h p = h (ap (drop 1024) (p .table-is) ∙ spacious-behind)
 
 -- Document 02 [10]. The removal with a second Vendor-Id in its 260, which stands at 32: a success under RFC 3588, B5009 under RFC 6733, with the whole 260 in
 -- Failed-AVP.
-twoIds : List ℕ
-twoIds = avpBytes 260 (numberBytes 266 10415 ++ (numberBytes 266 10415 ++ numberBytes 258 16777216))
-
-doubled : ℕ → Lent
-doubled peer =
+doubling : List ℕ → ℕ → Lent
+doubling members peer =
     let base = numberBytes 277 1 ++ (avpBytes 264 (0x63 ∷ []) ++ (avpBytes 296 (0x72 ∷ []) ++ avpBytes 283 (0x72 ∷ []))) in
     let own = vendorBytes 601 (0x61 ∷ []) ++ (vendorBytes 602 s ++ (vendorNumber 614 5 ++ vendorNumber 624 1)) in
-    lent (request 301 (avpBytes 263 (0x73 ∷ []) ++ (twoIds ++ (base ++ own)))) (one 0 1 s) [] [] room (underCx peer 0)
+    lent (request 301 (avpBytes 263 (0x73 ∷ []) ++ (avpBytes 260 members ++ (base ++ own)))) (one 0 1 s) [] [] room (underCx peer 0)
+
+members : List ℕ
+members = numberBytes 266 10415 ++ (numberBytes 266 10415 ++ numberBytes 258 16777216)
+
+twoIds : List ℕ
+twoIds = avpBytes 260 members
+
+doubled : ℕ → Lent
+doubled = doubling members
 
 older-served : serve (doubled 3588) ≡ comes (one 0 0 []) (answer (numberBytes 268 2001) [])
-unfolding opened twoIds doubled
+unfolding opened doubling members twoIds doubled
 older-served = serve-sound (doubled 3588) 1 registered-sound ∙ come (doubled 3588) roomy registered-sound no-vectors refl
 
 newer-served : serve (doubled 6733) ≡ record {
@@ -356,12 +362,20 @@ newer-served : serve (doubled 6733) ≡ record {
   vectors = [];
   buffer = over (answer (numberBytes 268 5009) (failed twoIds)) room;
 }
-unfolding opened twoIds doubled
+unfolding opened doubling members twoIds doubled
 newer-served = serve-sound (doubled 6733) 1 registered-sound ∙ come (doubled 6733) roomy registered-sound no-vectors refl
 
--- the last byte of the code of what Failed-AVP holds: 260 ends in 4, 266 in 10
-shown : List ℕ → ℕ
-shown o = getD o 127 0
+-- what Failed-AVP holds: 44 bytes
+shown : List ℕ → List ℕ
+shown o = take 44 (drop 124 o)
+
+-- The same with another Auth-Application-Id, which is judged before Vendor-Ids are counted: B5004, under both.
+misled : ℕ → Lent
+misled peer = doubling (numberBytes 266 10415 ++ (numberBytes 266 10415 ++ numberBytes 258 16777217)) peer
+
+misled-result : result (serve (misled 6733) .buffer) ≡ 140
+unfolding opened doubling misled result
+misled-result = ap (λ (y : Served). result (y .buffer)) (serve-sound (misled 6733) 1 registered-sound ∙ come (misled 6733) roomy registered-sound no-vectors refl)
 
 module _ (f : Server) (n : ℕ) where
   older-result : Meets f n (doubled 3588) → result (f n (doubled 3588) .buffer) ≡ 209
@@ -369,26 +383,35 @@ module _ (f : Server) (n : ℕ) where
   older-result p = ap result (p .buffer-is ∙ ap (λ (y : Served). y .buffer) older-served)
 
   newer-result : Meets f n (doubled 6733) → result (f n (doubled 6733) .buffer) ≡ 145
-  unfolding result opened twoIds
+  unfolding result opened members twoIds
   newer-result p = ap result (p .buffer-is ∙ ap (λ (y : Served). y .buffer) newer-served)
 
-  newer-shown : Meets f n (doubled 6733) → shown (f n (doubled 6733) .buffer) ≡ 4
-  unfolding shown opened twoIds
+  newer-shown : Meets f n (doubled 6733) → shown (f n (doubled 6733) .buffer) ≡ twoIds
+  unfolding shown opened members twoIds
   newer-shown p = ap shown (p .buffer-is ∙ ap (λ (y : Served). y .buffer) newer-served)
 
--- 15. one that gives B5004 for it, which ends in 140
-content-fails : (f : Server) (n : ℕ) → result (f n (doubled 6733) .buffer) ≡ 140 → Meets f n (doubled 6733) → ⊥
-content-fails f n e p = omega (arith, e, newer-result f n p)
+-- 15. one that gives anything but B5009 for it, as B5004, or nothing at all
+content-fails : (f : Server) (n : ℕ) → result (f n (doubled 6733) .buffer) ≢ 145 → Meets f n (doubled 6733) → ⊥
+content-fails f n h p = h (newer-result f n p)
 
--- 16. one that shows the second Vendor-Id in Failed-AVP
-member-fails : (f : Server) (n : ℕ) → shown (f n (doubled 6733) .buffer) ≡ 10 → Meets f n (doubled 6733) → ⊥
-member-fails f n e p = omega (arith, e, newer-shown f n p)
+-- 16. one that shows anything but the whole 260 in Failed-AVP, as the second Vendor-Id
+member-fails : (f : Server) (n : ℕ) → shown (f n (doubled 6733) .buffer) ≢ twoIds → Meets f n (doubled 6733) → ⊥
+member-fails f n h p = h (newer-shown f n p)
 
--- 17. one that does not look at the peer, and gives B5009 under RFC 3588 too
-newer-fails : (f : Server) (n : ℕ) → result (f n (doubled 3588) .buffer) ≡ 145 → Meets f n (doubled 3588) → ⊥
-newer-fails f n e p = omega (arith, e, older-result f n p)
+-- 17. one that returns another place than the 260's
+astray-fails : (f : Server) (n : ℕ) → placeIn (f n (doubled 6733) .word) ≢ 32 → Meets f n (doubled 6733) → ⊥
+unfolding opened
+astray-fails f n h p = h (ap placeIn (p .word-is ∙ ap (λ (y : Served). callWord (y .call)) newer-served))
 
--- 18. one that tries 12 after 1: under another number, with no buffer at all, it gives 1
+-- 18. one that gives anything but success under RFC 3588, as B5009 there too
+newer-fails : (f : Server) (n : ℕ) → result (f n (doubled 3588) .buffer) ≢ 209 → Meets f n (doubled 3588) → ⊥
+newer-fails f n h p = h (older-result f n p)
+
+-- 19. one that counts Vendor-Ids before it judges what is beside them
+counting-fails : (f : Server) (n : ℕ) → result (f n (misled 6733) .buffer) ≢ 140 → Meets f n (misled 6733) → ⊥
+counting-fails f n h p = h (ap result (p .buffer-is) ∙ misled-result)
+
+-- 20. one that gives anything but 12 under another number with no buffer at all, as 1
 unheard : Lent
 unheard = lent (assignment 5 s) (one 0 1 s) [] [] [] (underCx 6734 0)
 
@@ -396,10 +419,8 @@ unheard-call : serve unheard .call ≡ Refused 12 0
 unfolding opened unheard
 unheard-call = refl
 
-late-fails : (f : Server) (n : ℕ) → numberIn (f n unheard .word) ≡ 1 → Meets f n unheard → ⊥
-late-fails f n e p =
-    let h : numberIn (f n unheard .word) ≡ 12 = ap numberIn (p .word-is ∙ ap callWord unheard-call) in
-    omega (arith, e, h)
+late-fails : (f : Server) (n : ℕ) → numberIn (f n unheard .word) ≢ 12 → Meets f n unheard → ⊥
+late-fails f n h p = h (ap numberIn (p .word-is ∙ ap callWord unheard-call))
 
 -- Document 02 [11]. The removal with a 628, by a server that supports bits 0 and 2; and its answers, with the own list right after 296 or without it.
 wishing : List ℕ → Lent
@@ -430,42 +451,34 @@ unfolding opened wishing served
 foreign-served =
     serve-sound (wishing (feature 192 10416 1 0)) 1 registered-sound ∙ come (wishing (feature 192 10416 1 0)) roomy registered-sound no-vectors refl
 
--- 19. one that ignores M, and takes the removal for what it is
-unmarked-fails : (f : Server) (n : ℕ) → state (f n (wishing (feature 192 10415 1 2)) .table) ≡ 0 → Meets f n (wishing (feature 192 10415 1 2)) → ⊥
+-- 21. one that ignores M, and takes the removal for what it is, or alters the record otherwise
+unmarked-fails : (f : Server) (n : ℕ) → state (f n (wishing (feature 192 10415 1 2)) .table) ≢ 1 → Meets f n (wishing (feature 192 10415 1 2)) → ⊥
 unfolding opened state served
-unmarked-fails f n e p =
-    let h : state (f n (wishing (feature 192 10415 1 2)) .table) ≡ 1 = ap state (p .table-is ∙ ap (λ (y : Served). y .table) wanted-served) in
-    omega (arith, e, h)
+unmarked-fails f n h p = h (ap state (p .table-is ∙ ap (λ (y : Served). y .table) wanted-served))
 
--- 20. one that judges without M too, and leaves the record as it was
-marking-fails : (f : Server) (n : ℕ) → state (f n (wishing (feature 128 10415 1 2)) .table) ≡ 1 → Meets f n (wishing (feature 128 10415 1 2)) → ⊥
+-- 22. one that judges without M too, and leaves the record as it was
+marking-fails : (f : Server) (n : ℕ) → state (f n (wishing (feature 128 10415 1 2)) .table) ≢ 0 → Meets f n (wishing (feature 128 10415 1 2)) → ⊥
 unfolding opened state served
-marking-fails f n e p =
-    let h : state (f n (wishing (feature 128 10415 1 2)) .table) ≡ 0 = ap state (p .table-is ∙ ap (λ (y : Served). y .table) hoped-served) in
-    omega (arith, e, h)
+marking-fails f n h p = h (ap state (p .table-is ∙ ap (λ (y : Served). y .table) hoped-served))
 
--- 21. one that lets another vendor's list pass, since no bit of it is asked for
-bitless-fails : (f : Server) (n : ℕ) → state (f n (wishing (feature 192 10416 1 0)) .table) ≡ 0 → Meets f n (wishing (feature 192 10416 1 0)) → ⊥
+-- 23. one that lets another vendor's list pass, since no bit of it is asked for
+bitless-fails : (f : Server) (n : ℕ) → state (f n (wishing (feature 192 10416 1 0)) .table) ≢ 1 → Meets f n (wishing (feature 192 10416 1 0)) → ⊥
 unfolding opened state served
-bitless-fails f n e p =
-    let h : state (f n (wishing (feature 192 10416 1 0)) .table) ≡ 1 = ap state (p .table-is ∙ ap (λ (y : Served). y .table) foreign-served) in
-    omega (arith, e, h)
+bitless-fails f n h p = h (ap state (p .table-is ∙ ap (λ (y : Served). y .table) foreign-served))
 
--- 22. one that sends its list for each 628: two more AVPs' worth
-again-served : removes (feature 128 10415 1 2 ++ feature 128 10415 1 2) (ownFeatures 5)
-unfolding opened wishing served
-again-served =
-    serve-sound (wishing (feature 128 10415 1 2 ++ feature 128 10415 1 2)) 1 registered-sound
-    ∙ come (wishing (feature 128 10415 1 2 ++ feature 128 10415 1 2)) roomy registered-sound no-vectors refl
+-- 24. one that sends its list for each 628, or not at all
+both : Lent
+both = wishing (feature 128 10415 1 2 ++ feature 128 10415 1 2)
 
-again-fails : (f : Server) (n : ℕ) → f n (wishing (feature 128 10415 1 2 ++ feature 128 10415 1 2)) .word ≡ 228
-    → Meets f n (wishing (feature 128 10415 1 2 ++ feature 128 10415 1 2)) → ⊥
-unfolding opened served
-again-fails f n e p =
-    let h : f n (wishing (feature 128 10415 1 2 ++ feature 128 10415 1 2)) .word ≡ 172 = p .word-is ∙ ap (λ (y : Served). callWord (y .call)) again-served in
-    omega (arith, e, h)
+both-served : serve both ≡ served 172 (one 0 0 []) (answer (numberBytes 268 2001) (ownFeatures 5))
+unfolding opened wishing served both
+both-served = serve-sound both 1 registered-sound ∙ come both roomy registered-sound no-vectors refl
 
--- 23. one that sends it for a 628 behind a length fault; B5014 has 116 bytes and Failed-AVP of the header alone, 16
+again-fails : (f : Server) (n : ℕ) → f n both .word ≢ 172 → Meets f n both → ⊥
+unfolding served
+again-fails f n h p = h (p .word-is ∙ ap (λ (y : Served). callWord (y .call)) both-served)
+
+-- 25. one that sends it for a 628 behind a length fault: the answer has 116 bytes and Failed-AVP with the header alone, 16
 cut : Lent
 cut = wishing (headBytes 999 0 7 ++ feature 128 10415 1 2)
 
@@ -478,35 +491,25 @@ cut-served : serve cut ≡ record {
 unfolding opened wishing cut
 cut-served = serve-sound cut 1 registered-sound ∙ come cut roomy registered-sound no-vectors refl
 
-behind-fails : (f : Server) (n : ℕ) → f n cut .word ≡ word 0 112 188 → Meets f n cut → ⊥
-behind-fails f n e p =
-    let h : f n cut .word ≡ word 0 112 132 = p .word-is ∙ ap (λ (y : Served). callWord (y .call)) cut-served in
-    omega (arith, e, h)
+behind-fails : (f : Server) (n : ℕ) → f n cut .word ≢ word 0 112 132 → Meets f n cut → ⊥
+behind-fails f n h p = h (p .word-is ∙ ap (λ (y : Served). callWord (y .call)) cut-served)
 
--- 24. one that gives X5011 before it looks for what is missing: the answer has 297 where 268 stands, whose last bytes are 41 and 12
+-- 26. one that gives X5011 before it looks for what is missing: the code of the answer's third AVP is 268, which ends in 12, and not 297
 lacking : Lent
 lacking = lent (request 301 (common ++ feature 192 10415 1 2)) (one 0 1 s) [] [] room (underCx 3588 5)
 
-lacking-served : serve lacking ≡ record {
-  call = Answered (record { length = 192; place = 0 });
-  table = one 0 1 s;
-  vectors = [];
-  buffer = over (answer (numberBytes 268 5005) (ownFeatures 5 ++ failed (vendorBytes 602 []))) room;
-}
-unfolding opened lacking
+lacking-served : serve lacking ≡ served 192 (one 0 1 s) (answer (numberBytes 268 5005) (ownFeatures 5 ++ failed (vendorBytes 602 [])))
+unfolding opened served lacking
 lacking-served = serve-sound lacking 1 registered-sound ∙ come lacking roomy registered-sound no-vectors refl
 
--- the last byte of the third AVP's code
 third : List ℕ → ℕ
 third o = getD o 67 0
 
-early-fails : (f : Server) (n : ℕ) → third (f n lacking .buffer) ≡ 41 → Meets f n lacking → ⊥
-unfolding opened third lacking
-early-fails f n e p =
-    let h : third (f n lacking .buffer) ≡ 12 = ap third (p .buffer-is ∙ ap (λ (y : Served). y .buffer) lacking-served) in
-    omega (arith, e, h)
+early-fails : (f : Server) (n : ℕ) → third (f n lacking .buffer) ≢ 12 → Meets f n lacking → ⊥
+unfolding opened served third
+early-fails f n h p = h (ap third (p .buffer-is ∙ ap (λ (y : Served). y .buffer) lacking-served))
 
--- 25. one that writes its list behind User-Name, which a registration's answer has: the AVP behind 296 is 628, whose last byte is 116, and not 1
+-- 27. one that writes its list behind User-Name, which a registration's answer has: the code of the AVP behind 296, which ends at 116, is 628, which ends in 116
 naming : Lent
 naming = lent (assignmentWith (feature 128 10415 1 2) 1 s) (one 0 1 s) [] [] room (underCx 3588 5)
 
@@ -514,17 +517,14 @@ naming-served : serve naming ≡ served 184 (one 0 1 s) (answer (numberBytes 268
 unfolding opened served naming
 naming-served = serve-sound naming 1 registered-sound ∙ come naming roomy registered-sound no-vectors refl
 
--- the last byte of the code of the AVP behind 296, which ends at 116
 next : List ℕ → ℕ
 next o = getD o 119 0
 
-behind-name-fails : (f : Server) (n : ℕ) → next (f n naming .buffer) ≡ 1 → Meets f n naming → ⊥
-unfolding opened served next naming
-behind-name-fails f n e p =
-    let h : next (f n naming .buffer) ≡ 116 = ap next (p .buffer-is ∙ ap (λ (y : Served). y .buffer) naming-served) in
-    omega (arith, e, h)
+behind-name-fails : (f : Server) (n : ℕ) → next (f n naming .buffer) ≢ 116 → Meets f n naming → ⊥
+unfolding opened served next
+behind-name-fails f n h p = h (ap next (p .buffer-is ∙ ap (λ (y : Served). y .buffer) naming-served))
 
--- 26. one that leaves it out where its set is empty
+-- 28. one that leaves it out where its set is empty
 empty : Lent
 empty = lent (assignmentWith (feature 128 10415 1 2) 5 s) (one 0 1 s) [] [] room (underCx 3588 0)
 
@@ -532,8 +532,6 @@ empty-served : serve empty ≡ served 172 (one 0 0 []) (answer (numberBytes 268 
 unfolding opened served empty
 empty-served = serve-sound empty 1 registered-sound ∙ come empty roomy registered-sound no-vectors refl
 
-empty-fails : (f : Server) (n : ℕ) → f n empty .word ≡ 116 → Meets f n empty → ⊥
-unfolding opened served empty
-empty-fails f n e p =
-    let h : f n empty .word ≡ 172 = p .word-is ∙ ap (λ (y : Served). callWord (y .call)) empty-served in
-    omega (arith, e, h)
+empty-fails : (f : Server) (n : ℕ) → f n empty .word ≢ 172 → Meets f n empty → ⊥
+unfolding served
+empty-fails f n h p = h (p .word-is ∙ ap (λ (y : Served). callWord (y .call)) empty-served)
