@@ -76,8 +76,8 @@
 extern "C" {
 #endif
 
-#define NDUSHAVIRE_VERSION "0.12.0"
-#define NDUSHAVIRE_VERSION_NUMBER 1200 /* the same to compare: major x 10,000 + minor x 100 + patch */
+#define NDUSHAVIRE_VERSION "0.13.0"
+#define NDUSHAVIRE_VERSION_NUMBER 1300 /* the same to compare: major x 10,000 + minor x 100 + patch */
 
 #define NDUSHAVIRE_ANSWER_ROOM 36864       /* the least answer buffer, in bytes: no answer is longer */
 #define NDUSHAVIRE_REQUEST_MIN 20          /* the shortest request, a Diameter header alone */
@@ -120,7 +120,7 @@ extern "C" {
  * NDUSHAVIRE_RFC_6733, and is asked before all else. */
 uint64_t ndushavire_decide(const uint8_t *request, size_t request_len, uint8_t *table, size_t table_len,
                            const uint8_t *profile, size_t profile_len, uint8_t *vectors, size_t vectors_len,
-                           uint8_t *answer, size_t answer_len, uint32_t peer);
+                           uint8_t *answer, size_t answer_len, uint32_t peer, uint32_t features);
 
 /* Checks a table against its profile file. The word's number is 0 and its value the record count, or 5 and the first
  * bad block. Of a sound table in a longer area the first 512 x (value + 1) bytes were looked at: they are the table. */
@@ -142,7 +142,8 @@ uint64_t ndushavire_check_vectors(const uint8_t *vectors, size_t vectors_len);
  * if all its peers followed that base standard, or if none sent a second Vendor-Id. By an unknown one each request read is counted under 12. */
 uint64_t ndushavire_report(const uint8_t *requests, size_t requests_len, uint8_t *table, size_t table_len,
                            const uint8_t *profile, size_t profile_len, uint8_t *vectors, size_t vectors_len,
-                           uint8_t *answer, size_t answer_len, uint8_t *report, size_t report_len, uint32_t peer);
+                           uint8_t *answer, size_t answer_len, uint8_t *report, size_t report_len, uint32_t peer,
+                           uint32_t features);
 
 /* Moves a sound table of edition 1 to edition 2, in place: every block gets the edition, the issue number, which is any, and its new
  * check word; every set number is 0. Nothing else of it changes, and every request gets the answer that it got.

@@ -1,13 +1,13 @@
--- "Try these against it": document 01's five wrong servers, and others that break document 02 [1], [2], [8] and [10]. Each is a function here, and at an
+-- "Try these against it": document 01's five wrong servers, and others that break document 02 [1], [2], [8], [10] and [11]. Each is a function here, and at an
 -- input that is computed its outcome does not meet the promise.
-use Rattle.octets.specs.Standard.{ℕ, zero, suc, _≤_, _≡_, refl, sym, ap, _∙_, _≢_, List, [], _∷_, _++_, false, arith, length, getD, take, drop}
+use Rattle.octets.specs.Standard.{ℕ, zero, suc, _+_, _≤_, _≡_, refl, sym, ap, _∙_, _≢_, List, [], _∷_, _++_, false, arith, length, getD, take, drop}
 use Rattle.octets.specs.Run.{over}
 use Rattle.blocks.specs.declared.Checked.the-variants.{Sound, Bad}
 use Rattle.table.specs.Area.{sizeIn, tableIn, checkArea}
 use Rattle.table.proofs.Areas.{check-exact, sound-size-in}
 use Rattle.vectors.specs.VectorFile.{checkVectors}
-use Rattle.pen.specs.Bytes.{vendorHead, avpBytes, vendorBytes, numberBytes, vendorNumber}
-use Rattle.pen.specs.Groups.{failed}
+use Rattle.pen.specs.Bytes.{headBytes, vendorHead, avpBytes, vendorBytes, numberBytes, vendorNumber}
+use Rattle.pen.specs.Groups.{experimental, failed, ownFeatures}
 use Rattle.requests.specs.Request.{underCx}
 use Rattle.calling.specs.Lent.{Lent, lent, holding}
 use Rattle.calling.specs.Serve.{Served, checkOf, serveTable, serve}
@@ -18,7 +18,7 @@ use Rattle.ndushavire.specs.Reads.{numberIn, placeIn}
 use Rattle.ndushavire.specs.Promise.{CheckPromise, CheckVectorsPromise, DecidePromise}
 use Rattle.worked_examples.proofs.Computed.{known, come, roomy, no-vectors, registered-sound, unregistered-sound}
 use Rattle.worked_examples.proofs.Sample.{room, request, reply, answer, common, assignment, authentication, vector, item, challenges, one, waiting}
-use Rattle.worked_examples.proofs.Sample.{person, two, s, z, opened}
+use Rattle.worked_examples.proofs.Sample.{person, two, feature, assignmentWith, s, z, opened}
 
 -- what a call leaves
 record CallLeft : Type 0 where
@@ -45,10 +45,10 @@ truly-meets n x = record { word-is = refl; table-is = refl; vectors-is = refl; b
 
 -- Two inputs over one registered line: a removal, B2001, which rewrites the record; and type 0 with another name, B5012. The word is 116 for both.
 removal : Lent
-removal = lent (assignment 5 s) (one 0 1 s) [] [] room (underCx 3588)
+removal = lent (assignment 5 s) (one 0 1 s) [] [] room (underCx 3588 0)
 
 question : Lent
-question = lent (assignment 0 z) (one 0 1 s) [] [] room (underCx 3588)
+question = lent (assignment 0 z) (one 0 1 s) [] [] room (underCx 3588 0)
 
 abbrev comes : List ℕ → List ℕ → Served
 comes after bytes = record { call = Answered (record { length = 116; place = 0 }); table = after; vectors = []; buffer = over bytes room }
@@ -175,10 +175,10 @@ cut-fails f h p = h (p .answer)
 
 -- Document 02 [1]. Over a line in state 0 that has one unused vector: a MAR for two, which gets one; and a MAR for none, B5012.
 challenge : Lent
-challenge = lent (authentication 2 s) (one 0 0 []) [] (vector 0 0x70 1) room (underCx 3588)
+challenge = lent (authentication 2 s) (one 0 0 []) [] (vector 0 0x70 1) room (underCx 3588 0)
 
 nought : Lent
-nought = lent (authentication 0 s) (one 0 0 []) [] (vector 0 0x70 1) room (underCx 3588)
+nought = lent (authentication 0 s) (one 0 0 []) [] (vector 0 0x70 1) room (underCx 3588 0)
 
 challenge-served : serve challenge ≡ record {
   call = Answered (record { length = 336; place = 0 });
@@ -247,12 +247,12 @@ wasting-fails f n e p = omega (arith, e, nought-used f n p)
 
 -- Document 02 [2]. A SAR of type 12, B5004, whose 614 stands at 144; and a SAR of type 1 with a second identity, which stands at 128: B5009, a decision's.
 faulty : Lent
-faulty = lent (assignment 12 s) (one 0 1 s) [] [] room (underCx 3588)
+faulty = lent (assignment 12 s) (one 0 1 s) [] [] room (underCx 3588 0)
 
 second : Lent
 second =
     let own = vendorBytes 602 s ++ (vendorNumber 614 1 ++ vendorNumber 624 1) in
-    lent (request 301 (common ++ (vendorBytes 601 (0x61 ∷ []) ++ (vendorBytes 601 (0x62 ∷ []) ++ own)))) (one 0 1 s) [] [] room (underCx 3588)
+    lent (request 301 (common ++ (vendorBytes 601 (0x61 ∷ []) ++ (vendorBytes 601 (0x62 ∷ []) ++ own)))) (one 0 1 s) [] [] room (underCx 3588 0)
 
 faulty-call : serve faulty .call ≡ Answered (record { length = 140; place = 144 })
 unfolding opened faulty
@@ -341,7 +341,7 @@ doubling : List ℕ → ℕ → Lent
 doubling members peer =
     let base = numberBytes 277 1 ++ (avpBytes 264 (0x63 ∷ []) ++ (avpBytes 296 (0x72 ∷ []) ++ avpBytes 283 (0x72 ∷ []))) in
     let own = vendorBytes 601 (0x61 ∷ []) ++ (vendorBytes 602 s ++ (vendorNumber 614 5 ++ vendorNumber 624 1)) in
-    lent (request 301 (avpBytes 263 (0x73 ∷ []) ++ (avpBytes 260 members ++ (base ++ own)))) (one 0 1 s) [] [] room (underCx peer)
+    lent (request 301 (avpBytes 263 (0x73 ∷ []) ++ (avpBytes 260 members ++ (base ++ own)))) (one 0 1 s) [] [] room (underCx peer 0)
 
 members : List ℕ
 members = numberBytes 266 10415 ++ (numberBytes 266 10415 ++ numberBytes 258 16777216)
@@ -413,7 +413,7 @@ counting-fails f n h p = h (ap result (p .buffer-is) ∙ misled-result)
 
 -- 20. one that gives anything but 12 under another number with no buffer at all, as 1
 unheard : Lent
-unheard = lent (assignment 5 s) (one 0 1 s) [] [] [] (underCx 6734)
+unheard = lent (assignment 5 s) (one 0 1 s) [] [] [] (underCx 6734 0)
 
 unheard-call : serve unheard .call ≡ Refused 12 0
 unfolding opened unheard
@@ -421,3 +421,117 @@ unheard-call = refl
 
 late-fails : (f : Server) (n : ℕ) → numberIn (f n unheard .word) ≢ 12 → Meets f n unheard → ⊥
 late-fails f n h p = h (ap numberIn (p .word-is ∙ ap callWord unheard-call))
+
+-- Document 02 [11]. The removal with a 628, by a server that supports bits 0 and 2; and its answers, with the own list right after 296 or without it.
+wishing : List ℕ → Lent
+wishing avps = lent (assignmentWith avps 5 s) (one 0 1 s) [] [] room (underCx 3588 5)
+
+served : ℕ → List ℕ → List ℕ → Served
+served n after bytes = record { call = Answered (record { length = n; place = 0 }); table = after; vectors = []; buffer = over bytes room }
+
+abbrev removes : List ℕ → List ℕ → Type 0
+removes avps list = serve (wishing avps) ≡ served (116 + length list) (one 0 0 []) (answer (numberBytes 268 2001) list)
+
+abbrev refuses : List ℕ → Type 0
+refuses avps = serve (wishing avps) ≡ served 192 (one 0 1 s) (answer (experimental 5011) (ownFeatures 5))
+
+-- bit 1 without M; with M; no bit of another vendor's list, with M
+hoped-served : removes (feature 128 10415 1 2) (ownFeatures 5)
+unfolding opened wishing served
+hoped-served =
+    serve-sound (wishing (feature 128 10415 1 2)) 1 registered-sound ∙ come (wishing (feature 128 10415 1 2)) roomy registered-sound no-vectors refl
+
+wanted-served : refuses (feature 192 10415 1 2)
+unfolding opened wishing served
+wanted-served =
+    serve-sound (wishing (feature 192 10415 1 2)) 1 registered-sound ∙ come (wishing (feature 192 10415 1 2)) roomy registered-sound no-vectors refl
+
+foreign-served : refuses (feature 192 10416 1 0)
+unfolding opened wishing served
+foreign-served =
+    serve-sound (wishing (feature 192 10416 1 0)) 1 registered-sound ∙ come (wishing (feature 192 10416 1 0)) roomy registered-sound no-vectors refl
+
+-- 21. one that ignores M, and takes the removal for what it is, or alters the record otherwise
+unmarked-fails : (f : Server) (n : ℕ) → state (f n (wishing (feature 192 10415 1 2)) .table) ≢ 1 → Meets f n (wishing (feature 192 10415 1 2)) → ⊥
+unfolding opened state served
+unmarked-fails f n h p = h (ap state (p .table-is ∙ ap (λ (y : Served). y .table) wanted-served))
+
+-- 22. one that judges without M too, and leaves the record as it was
+marking-fails : (f : Server) (n : ℕ) → state (f n (wishing (feature 128 10415 1 2)) .table) ≢ 0 → Meets f n (wishing (feature 128 10415 1 2)) → ⊥
+unfolding opened state served
+marking-fails f n h p = h (ap state (p .table-is ∙ ap (λ (y : Served). y .table) hoped-served))
+
+-- 23. one that lets another vendor's list pass, since no bit of it is asked for
+bitless-fails : (f : Server) (n : ℕ) → state (f n (wishing (feature 192 10416 1 0)) .table) ≢ 1 → Meets f n (wishing (feature 192 10416 1 0)) → ⊥
+unfolding opened state served
+bitless-fails f n h p = h (ap state (p .table-is ∙ ap (λ (y : Served). y .table) foreign-served))
+
+-- 24. one that sends its list for each 628, or not at all
+both : Lent
+both = wishing (feature 128 10415 1 2 ++ feature 128 10415 1 2)
+
+both-served : serve both ≡ served 172 (one 0 0 []) (answer (numberBytes 268 2001) (ownFeatures 5))
+unfolding opened wishing served both
+both-served = serve-sound both 1 registered-sound ∙ come both roomy registered-sound no-vectors refl
+
+again-fails : (f : Server) (n : ℕ) → f n both .word ≢ 172 → Meets f n both → ⊥
+unfolding served
+again-fails f n h p = h (p .word-is ∙ ap (λ (y : Served). callWord (y .call)) both-served)
+
+-- 25. one that sends it for a 628 behind a length fault: the answer has 116 bytes and Failed-AVP with the header alone, 16
+cut : Lent
+cut = wishing (headBytes 999 0 7 ++ feature 128 10415 1 2)
+
+cut-served : serve cut ≡ record {
+  call = Answered (record { length = 132; place = 112 });
+  table = one 0 1 s;
+  vectors = [];
+  buffer = over (answer (numberBytes 268 5014) (failed (headBytes 999 0 8))) room;
+}
+unfolding opened wishing cut
+cut-served = serve-sound cut 1 registered-sound ∙ come cut roomy registered-sound no-vectors refl
+
+behind-fails : (f : Server) (n : ℕ) → f n cut .word ≢ word 0 112 132 → Meets f n cut → ⊥
+behind-fails f n h p = h (p .word-is ∙ ap (λ (y : Served). callWord (y .call)) cut-served)
+
+-- 26. one that gives X5011 before it looks for what is missing: the code of the answer's third AVP is 268, which ends in 12, and not 297
+lacking : Lent
+lacking = lent (request 301 (common ++ feature 192 10415 1 2)) (one 0 1 s) [] [] room (underCx 3588 5)
+
+lacking-served : serve lacking ≡ served 192 (one 0 1 s) (answer (numberBytes 268 5005) (ownFeatures 5 ++ failed (vendorBytes 602 [])))
+unfolding opened served lacking
+lacking-served = serve-sound lacking 1 registered-sound ∙ come lacking roomy registered-sound no-vectors refl
+
+third : List ℕ → ℕ
+third o = getD o 67 0
+
+early-fails : (f : Server) (n : ℕ) → third (f n lacking .buffer) ≢ 12 → Meets f n lacking → ⊥
+unfolding opened served third
+early-fails f n h p = h (ap third (p .buffer-is ∙ ap (λ (y : Served). y .buffer) lacking-served))
+
+-- 27. one that writes its list behind User-Name, which a registration's answer has: the code of the AVP behind 296, which ends at 116, is 628, which ends in 116
+naming : Lent
+naming = lent (assignmentWith (feature 128 10415 1 2) 1 s) (one 0 1 s) [] [] room (underCx 3588 5)
+
+naming-served : serve naming ≡ served 184 (one 0 1 s) (answer (numberBytes 268 2001) (ownFeatures 5 ++ avpBytes 1 (0x70 ∷ [])))
+unfolding opened served naming
+naming-served = serve-sound naming 1 registered-sound ∙ come naming roomy registered-sound no-vectors refl
+
+next : List ℕ → ℕ
+next o = getD o 119 0
+
+behind-name-fails : (f : Server) (n : ℕ) → next (f n naming .buffer) ≢ 116 → Meets f n naming → ⊥
+unfolding opened served next
+behind-name-fails f n h p = h (ap next (p .buffer-is ∙ ap (λ (y : Served). y .buffer) naming-served))
+
+-- 28. one that leaves it out where its set is empty
+empty : Lent
+empty = lent (assignmentWith (feature 128 10415 1 2) 5 s) (one 0 1 s) [] [] room (underCx 3588 0)
+
+empty-served : serve empty ≡ served 172 (one 0 0 []) (answer (numberBytes 268 2001) (ownFeatures 0))
+unfolding opened served empty
+empty-served = serve-sound empty 1 registered-sound ∙ come empty roomy registered-sound no-vectors refl
+
+empty-fails : (f : Server) (n : ℕ) → f n empty .word ≢ 172 → Meets f n empty → ⊥
+unfolding served
+empty-fails f n h p = h (p .word-is ∙ ap (λ (y : Served). callWord (y .call)) empty-served)
