@@ -10,11 +10,11 @@
 
 #include "ndushavire.h"
 
-/* From document 02's tenth request on, include/ndushavire.h declares ndushavire_decide and ndushavire_report with the peer's edition
- * of the base standard, 3588 or 6733, behind their slices:
+/* From document 02's eleventh request on, include/ndushavire.h declares ndushavire_decide and ndushavire_report with the peer's edition
+ * of the base standard, 3588 or 6733, and the bits of list 1 that the server supports behind their slices:
  *
- *     uint64_t ndushavire_decide(.., uint8_t *answer, size_t answer_len, uint32_t peer);
- *     uint64_t ndushavire_report(.., uint8_t *report, size_t report_len, uint32_t peer);
+ *     uint64_t ndushavire_decide(.., uint8_t *answer, size_t answer_len, uint32_t peer, uint32_t features);
+ *     uint64_t ndushavire_report(.., uint8_t *report, size_t report_len, uint32_t peer, uint32_t features);
  *
  * Under an older header this file does not compile. */
 
@@ -53,7 +53,7 @@ static uint64_t check(const struct lent *lent)
 
 static uint64_t decide(const struct lent *lent)
 {
-    return ndushavire_decide(SLICE(0), SLICE(1), SLICE(2), SLICE(3), SLICE(4), lent->number[0]);
+    return ndushavire_decide(SLICE(0), SLICE(1), SLICE(2), SLICE(3), SLICE(4), lent->number[0], lent->number[1]);
 }
 
 static uint64_t check_vectors(const struct lent *lent)
@@ -63,7 +63,7 @@ static uint64_t check_vectors(const struct lent *lent)
 
 static uint64_t report(const struct lent *lent)
 {
-    return ndushavire_report(SLICE(0), SLICE(1), SLICE(2), SLICE(3), SLICE(4), SLICE(5), lent->number[0]);
+    return ndushavire_report(SLICE(0), SLICE(1), SLICE(2), SLICE(3), SLICE(4), SLICE(5), lent->number[0], lent->number[1]);
 }
 
 static uint64_t forward(const struct lent *lent)
@@ -89,9 +89,9 @@ static const struct entry {
     uint64_t (*call)(const struct lent *lent);
 } entries[] = {
     {"rr", 0, check},
-    {"rwrww", 1, decide},
+    {"rwrww", 2, decide},
     {"r", 0, check_vectors},
-    {"rwrwww", 1, report},
+    {"rwrwww", 2, report},
     {"wr", 1, forward},
     {"wr", 0, back},
     {"wrr", 0, take},
