@@ -59,6 +59,16 @@
  * that the other one takes. A request in which no 260 has a second Vendor-Id gets the same answer under both, to the byte, and alters the same:
  * this is proved.
  *
+ * Features. New call servers send, in any command, any number of Supported-Features (628): a vendor, the number of a list, and bits of it. The
+ * daemon states at each call which bits of list 1 of vendor 10415 the server supports; bit 0 is worth 1, and any 32 bits may be stated.
+ * - A 628 with M that asks for a bit outside this set, or for another list or vendor, even with no bit, gets X5011, whatever else would be decided:
+ *   nothing is altered, and no vector is used. Without M nothing is asked of it.
+ * - Whoever sends a 628 that is right in itself, with M or without, gets the set in the answer, in a 628 of the server's own, an empty set too. So
+ *   does one whose request has another AVP at fault, or one missing; not one whose header is at fault, or whose 628 stands behind an AVP with a wrong length.
+ * - A 628 whose content is wrong gets B5004, with M or without.
+ * The library does nothing else about a feature. State a bit only if what the daemon's tables and profiles have is what that feature wants, and
+ * NDUSHAVIRE_NO_FEATURES where nobody has said anything: call servers then learn that there are none.
+ *
  * What comes here. User-Authorization, Server-Assignment, Location-Info and Multimedia-Auth requests. The base protocol's
  * own (Capabilities-Exchange, Device-Watchdog, Disconnect-Peer) are the daemon's: a call would answer each with B3001.
  *
@@ -76,8 +86,8 @@
 extern "C" {
 #endif
 
-#define NDUSHAVIRE_VERSION "0.12.0"
-#define NDUSHAVIRE_VERSION_NUMBER 1200 /* the same to compare: major x 10,000 + minor x 100 + patch */
+#define NDUSHAVIRE_VERSION "0.13.0"
+#define NDUSHAVIRE_VERSION_NUMBER 1300 /* the same to compare: major x 10,000 + minor x 100 + patch */
 
 #define NDUSHAVIRE_ANSWER_ROOM 36864       /* the least answer buffer, in bytes: no answer is longer */
 #define NDUSHAVIRE_REQUEST_MIN 20          /* the shortest request, a Diameter header alone */
@@ -94,6 +104,9 @@ extern "C" {
  * place in the word. RFC 3588 allows several. */
 #define NDUSHAVIRE_RFC_3588 3588
 #define NDUSHAVIRE_RFC_6733 6733
+
+/* The set of features of a server that supports none of list 1. Every other number of 32 bits is a set too. */
+#define NDUSHAVIRE_NO_FEATURES 0
 
 /* Each function but ndushavire_version returns a word. Keep it in a uint64_t: an int loses the number, and a refusal then looks like a short
  * answer. Its number is 0, or why the call was refused; a refused call has written nothing, but for number 7, which comes
@@ -116,10 +129,11 @@ extern "C" {
 /* Answers one request, rewrites the records that it changes, those of their sets with them, and marks the vectors that it sends. The
  * word's value is the answer's length; the buffer's bytes past it stay as they were. Its place says which AVP of the request is at
  * fault, if one is: see ndushavire_place. The vectors must be sound whatever is asked. What a call altered is stored whole, all blocks
- * or none: half of a set on disk is an unsound table. PEER is the edition that the peer follows, and is asked before all else. */
+ * or none: half of a set on disk is an unsound table. PEER is the edition that the peer follows, and is asked before all else. FEATURES are the
+ * bits of list 1 that the server supports; no set is refused. */
 uint64_t ndushavire_decide(const uint8_t *request, size_t request_len, uint8_t *table, size_t table_len,
                            const uint8_t *profile, size_t profile_len, uint8_t *vectors, size_t vectors_len,
-                           uint8_t *answer, size_t answer_len, uint32_t peer);
+                           uint8_t *answer, size_t answer_len, uint32_t peer, uint32_t features);
 
 /* Checks a table against its profile file. The word's number is 0 and its value the record count, or 5 and the first
  * bad block. Of a sound table in a longer area the first 512 x (value + 1) bytes were looked at: they are the table. */
@@ -137,11 +151,12 @@ uint64_t ndushavire_check_vectors(const uint8_t *vectors, size_t vectors_len);
  * The word's number is 0 if the file was used up. It is 7 if 1 to 3 bytes are left, or the next header's length is under
  * NDUSHAVIRE_REQUEST_MIN or past the file's end: the report then has the numbers of all requests before, which have been
  * decided, and says at which byte it stopped. It is 15 if the report area is too short: nothing was decided or written. The
- * value is 0, and no request's refusal ends the report: it is counted. PEER is for all requests of the file: the numbers are those of the month
- * if all its peers followed that edition, or if none sent a second Vendor-Id. By an unknown one each request read is counted under 12. */
+ * value is 0, and no request's refusal ends the report: it is counted. PEER and FEATURES are for all requests of the file: the numbers are those of
+ * the month if all its peers followed that edition, or none sent a second Vendor-Id, and if the daemon stated that set all the time, or none sent
+ * a 628. By an unknown edition each request read is counted under 12. */
 uint64_t ndushavire_report(const uint8_t *requests, size_t requests_len, uint8_t *table, size_t table_len,
                            const uint8_t *profile, size_t profile_len, uint8_t *vectors, size_t vectors_len,
-                           uint8_t *answer, size_t answer_len, uint8_t *report, size_t report_len, uint32_t peer);
+                           uint8_t *answer, size_t answer_len, uint8_t *report, size_t report_len, uint32_t peer, uint32_t features);
 
 /* Moves a sound table of edition 1 to edition 2, in place: every block gets the edition, the issue number, which is any, and its new
  * check word; every set number is 0. Nothing else of it changes, and every request gets the answer that it got.
