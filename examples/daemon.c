@@ -504,6 +504,7 @@ int main(int argc, char **argv) {
         return 2;
     }
     setvbuf(stderr, NULL, _IOLBF, 0);
+    if (ndushavire_version() != NDUSHAVIRE_VERSION_NUMBER) stop("the library", "it is of another version than the header that the daemon was compiled with");
     look_at_clock();
     on(SIGTERM, end_later);
     on(SIGINT, end_later);

@@ -418,6 +418,7 @@ bad_features 'a Feature-List-ID without V' "$of_vendor$(avp 629 40 - 00000001)$o
 bad_features 'a Feature-List without V' "$of_vendor$of_list$(avp 630 00 - 00000000)"
 bad_features 'a Feature-List-ID of another vendor' "$of_vendor$(avp 629 80 13019 00000001)$of_bits"
 bad_features 'a Feature-List of vendor 0' "$of_vendor$of_list$(avp 630 80 0 00000000)"
+bad_features 'a code that is right in 16 bits' "$of_vendor$of_list$(avp 66166 80 $third 00000000)"
 bad_features 'a reserved flag of a member' "$of_vendor$of_list$(avp 630 81 $third 00000000)"
 bad_features 'a Vendor-Id of 3 bytes' "$(avp 266 40 - 0028AF)$of_list$of_bits"
 bad_features 'a Feature-List-ID of 8 bytes' "$of_vendor$(avp 629 80 $third 0000000000000001)$of_bits"

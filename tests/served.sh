@@ -23,17 +23,19 @@ cp -r "$top/examples" "$room/source"
 
 # Three trials are about peers that wait in vain, and have a daemon with little patience; the others may run on a machine that is slow.
 hasty='greeting slow ending' others='cut many garbage replaced declined two_users laid_over sizes taken taken_over_kills put_in timed_out editions features last_good twice full kills'
+include=$top/include
 build() { # SOURCES PROGRAM TRIAL [OPTION]
     local flags=(-DLOOK_AGAIN=1 "${@:4}")
     [[ " $hasty " != *" $3 "* ]] || flags+=(-DQUIET=3 -DGREETING=1 -DFAREWELL=1)
-    "${compiler[@]}" -std=c99 -O2 -Wall -Wextra -pedantic -Werror -Wno-unused -I"$top/include" "${flags[@]}" -include "$tests/slow-disk.h" \
+    "${compiler[@]}" -std=c99 -O2 -Wall -Wextra -pedantic -Werror -Wno-unused -I"$include" "${flags[@]}" -include "$tests/slow-disk.h" \
         -o "$2" "$1/daemon.c" "$archive"
 }
 build "$room/source" "$room/hasty" slow
 build "$room/source" "$room/daemon" cut
+program=$room/daemon
 ends() { # STATUS ARGUMENT..
     local status=0
-    "${run[@]}" "$room/daemon" "${@:2}" >"$room/usage" 2>"$room/complaint" || status=$?
+    "${run[@]}" "$program" "${@:2}" >"$room/usage" 2>"$room/complaint" || status=$?
     [ "$status" = "$1" ] || fail "with the arguments '${*:2}' it ends with status $status"
 }
 ends 0 --help
@@ -54,6 +56,12 @@ for set in '' x 0x 1x 01 -1 ' 1' 4294967296 0x100000000 3=gw.mainland.example; d
     grep -q -e '-f: the bits of list 1' "$room/complaint" || fail "features '$set' are not complained of"
 done
 ends 1 -f 4294967295 "$room/none" "$room/none"
+# By another version's header it does not start.
+mkdir "$room/other"
+sed 's/\(NDUSHAVIRE_VERSION_NUMBER\) \([0-9][0-9]*\) /\1 (\2 - 100) /' "$top/include/ndushavire.h" >"$room/other/ndushavire.h"
+include=$room/other build "$room/source" "$room/other/daemon" cut
+program=$room/other/daemon ends 1 "$room/none" "$room/none"
+grep -q '^daemon: the library: it is of another version than the header' "$room/complaint" || fail "by another header it says '$(cat "$room/complaint")'"
 kills=40
 [ ${#run[@]} = 0 ] || kills=15 # an emulator takes long to start
 client() { # TRIALS PROGRAM
