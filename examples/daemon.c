@@ -224,8 +224,8 @@ static void log_unsupported(const Peer *peer, const uint8_t *request, size_t req
 /* A result 2xxx, B or X. */
 static int succeeded(size_t length) { return (base_result(answer, length) + experimental_result(answer, length)) / 1000 == 2; }
 
-/* What may alter something if it comes a second time is remembered. A request with an AVP at fault is not: it altered nothing, and whoever brings
- * it again is answered by his own edition. */
+/* What may alter something if it comes a second time is remembered, and whichever peer brings it again is sent the answer as it was, by whatever base
+ * standard: it was done once. A request with an AVP at fault is not: it altered nothing, and the peer that brings it again is answered by its own. */
 static void remember_for_twice(int has_altered, const uint8_t *request, size_t length, size_t answer_len) {
     static time_t said;
     if (remember(now, has_altered, request, length, answer, answer_len) || !has_altered || (said != 0 && now - said < 60)) return;
@@ -486,7 +486,9 @@ static int support(const char *digits) {
 }
 
 int main(int argc, char **argv) {
-    static const char usage[] = "usage: daemon [-a ADDRESS] [-p PORT] [-e EDITION[=HOST]].. [-f FEATURES] LIVE CARDS\n";
+    static const char usage[] = "usage: daemon [-a ADDRESS] [-p PORT] [-e EDITION[=HOST]].. [-f FEATURES] LIVE CARDS\n"
+                                "EDITION: the base standard that the peers follow, or the one with the Origin-Host HOST: 3588, unless it is given, or 6733.\n"
+                                "FEATURES: the bits of list 1 that are supported, to all peers, decimal or with 0x: 0, unless it is given.\n";
     const char *address = "127.0.0.1";
     unsigned long port = 3868;
     int option, wrong = 0;

@@ -31,10 +31,10 @@
  * and does not matter. A shorter one has block 0 bad. Everything else that takes a table takes it alone, of its exact length: both
  * moves, and the new table of a take-over.
  *
- * Editions. A table is of edition 1, or of edition 2, which has an issue number in every block and in each record the number
+ * Editions of a table. A table is of edition 1, or of edition 2, which has an issue number in every block and in each record the number
  * of an implicit set, 0 for none. One that mixes editions or issue numbers is unsound. Every function reads both editions, but for the new
- * table of a take-over, which is of edition 2. No answer depends on edition or issue. ndushavire_forward and ndushavire_back move a table from
- * one to the other.
+ * table of a take-over, which is of edition 2. No answer depends on a table's edition or issue. ndushavire_forward and ndushavire_back move a
+ * table from one to the other.
  *
  * Sets. The records of one private identity with the same set number, other than 0, are an implicit set: what a request does to one
  * of them it does to all. A table is sound only if the records of each set agree in state, pending and server name; the later block
@@ -123,14 +123,14 @@ extern "C" {
 #define NDUSHAVIRE_NEW_UNSOUND 9        /* of a take-over: the new table is unsound, not of its exact length, or of edition 1 */
 #define NDUSHAVIRE_ISSUE_NOT_GREATER 10 /* of a take-over: a header or record in the area has the new table's issue, or a greater one */
 #define NDUSHAVIRE_AREA_SHORT 11        /* of a take-over: the area is shorter than the new table */
-#define NDUSHAVIRE_PEER_UNKNOWN 12      /* the peer's edition is neither NDUSHAVIRE_RFC_3588 nor NDUSHAVIRE_RFC_6733; tried before 1 */
+#define NDUSHAVIRE_PEER_UNKNOWN 12      /* the peer's base standard is neither NDUSHAVIRE_RFC_3588 nor NDUSHAVIRE_RFC_6733; tried before 1 */
 #define NDUSHAVIRE_OUTPUT_SHORT 15      /* the report area is under NDUSHAVIRE_REPORT_ROOM */
 
 /* Answers one request, rewrites the records that it changes, those of their sets with them, and marks the vectors that it sends. The
  * word's value is the answer's length; the buffer's bytes past it stay as they were. Its place says which AVP of the request is at
  * fault, if one is: see ndushavire_place. The vectors must be sound whatever is asked. What a call altered is stored whole, all blocks
- * or none: half of a set on disk is an unsound table. PEER is the edition that the peer follows, and is asked before all else. FEATURES are the
- * bits of list 1 that the server supports; no set is refused. */
+ * or none: half of a set on disk is an unsound table. PEER is the edition of the base standard that the peer follows, NDUSHAVIRE_RFC_3588 or
+ * NDUSHAVIRE_RFC_6733, and is asked before all else. FEATURES are the bits of list 1 that the server supports; no set is refused. */
 uint64_t ndushavire_decide(const uint8_t *request, size_t request_len, uint8_t *table, size_t table_len,
                            const uint8_t *profile, size_t profile_len, uint8_t *vectors, size_t vectors_len,
                            uint8_t *answer, size_t answer_len, uint32_t peer, uint32_t features);
@@ -152,8 +152,8 @@ uint64_t ndushavire_check_vectors(const uint8_t *vectors, size_t vectors_len);
  * NDUSHAVIRE_REQUEST_MIN or past the file's end: the report then has the numbers of all requests before, which have been
  * decided, and says at which byte it stopped. It is 15 if the report area is too short: nothing was decided or written. The
  * value is 0, and no request's refusal ends the report: it is counted. PEER and FEATURES are for all requests of the file: the numbers are those of
- * the month if all its peers followed that edition, or none sent a second Vendor-Id, and if the daemon stated that set all the time, or none sent
- * a 628. By an unknown edition each request read is counted under 12. */
+ * the month if all its peers followed that base standard, or none sent a second Vendor-Id, and if the daemon stated that set all the time, or none
+ * sent a 628. By an unknown base standard each request read is counted under 12. */
 uint64_t ndushavire_report(const uint8_t *requests, size_t requests_len, uint8_t *table, size_t table_len,
                            const uint8_t *profile, size_t profile_len, uint8_t *vectors, size_t vectors_len,
                            uint8_t *answer, size_t answer_len, uint8_t *report, size_t report_len, uint32_t peer, uint32_t features);

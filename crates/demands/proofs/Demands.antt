@@ -104,7 +104,7 @@ module _ (a : Lent) where
   pub demand-1 : Exactly (trials (tableOnly a)) (callNumber (serve a .call))
   demand-1 = refusals (tableOnly a)
 
-  pub demand-1-number : callNumber (serve a .call) ≤ 12
+  pub demand-1-number : (callNumber (serve a .call) ≤ 6) ⊎ (callNumber (serve a .call) ≡ 12)
   demand-1-number = number-most (tableOnly a)
 
   -- Refusals 12, 1 to 4 and 6 return 0 besides, refusal 5 the first bad block, and an answer returns its length.

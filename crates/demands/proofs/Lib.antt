@@ -18,6 +18,7 @@ pub mod Members
 pub mod Messages
 pub mod Moved
 pub mod NamedTwice
+pub mod PeerCalls
 pub mod Peers
 pub mod Place
 pub mod Refusals

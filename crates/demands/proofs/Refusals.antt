@@ -1,6 +1,6 @@
 -- Demand 1: an answer, or exactly one of seven refusals. What a refused call leaves, and what an answered one writes.
-use Rattle.octets.specs.Standard.{ℕ, _≤_, _<_, List, Bool, true, false, cond, _||_, true≢false, _≡_, refl, sym, ap, _∙_, _≢_, arith, length, drop}
-use Rattle.octets.specs.Standard.{drop-at}
+use Rattle.octets.specs.Standard.{ℕ, _≤_, _<_, List, Bool, true, false, cond, _||_, true≢false, _≡_, refl, sym, ap, _∙_, _⊎_, inl, inr, _≢_, arith, length}
+use Rattle.octets.specs.Standard.{drop, drop-at}
 use Rattle.octets.specs.Run.{over}
 use Rattle.octets.proofs.Writes.{over-length}
 use Rattle.blocks.specs.declared.Checked.{Checked}
@@ -37,17 +37,17 @@ module _ (x : Lent) where
   answer = answered x (decision x (checkValue (checkOf x)))
 
   -- What holds of 5, and of each that returns 0 besides, holds of all seven.
-  seven : (Q : Trial → Type 0) → ((h : Bool) (n : ℕ) → 1 ≤ n → n ≤ 12 → n ≢ 5 → Q (record { holds = h; number = n; besides = 0 })) → Q (unsound (checkOf x))
+  seven : (Q : Trial → Type 0) → ((h : Bool) (n : ℕ) → 1 ≤ n → (n ≤ 6) ⊎ (n ≡ 12) → n ≢ 5 → Q (record { holds = h; number = n; besides = 0 })) → Q (unsound (checkOf x))
       → All Q (trials x)
   seven Q o f = (
-    o _ 12 (omega arith) (omega arith) (omega arith),
+    o _ 12 (omega arith) (inr refl) (omega arith),
     (
-      o _ 1 (omega arith) (omega arith) (omega arith),
+      o _ 1 (omega arith) (inl (omega arith)) (omega arith),
       (
-        o _ 2 (omega arith) (omega arith) (omega arith),
+        o _ 2 (omega arith) (inl (omega arith)) (omega arith),
         (
-          o _ 3 (omega arith) (omega arith) (omega arith),
-          (o _ 4 (omega arith) (omega arith) (omega arith), (f, (o _ 6 (omega arith) (omega arith) (omega arith), tt))),
+          o _ 3 (omega arith) (inl (omega arith)) (omega arith),
+          (o _ 4 (omega arith) (inl (omega arith)) (omega arith), (f, (o _ 6 (omega arith) (inl (omega arith)) (omega arith), tt))),
         ),
       ),
     ),
@@ -80,10 +80,11 @@ module _ (x : Lent) where
         ),
       )
 
-  pub number-most : callNumber (serveTable x .call) ≤ 12
+  pub number-most : (callNumber (serveTable x .call) ≤ 6) ⊎ (callNumber (serveTable x .call) ≡ 12)
   unfolding refused answered
   number-most =
-      call-by (λ b s. callNumber (s .call) ≤ 12) (λ r. r .number ≤ 12) (seven (λ r. r .number ≤ 12) (λ h n a b c. b) (omega arith)) (λ r h e. h) (omega arith)
+      call-by (λ b s. (callNumber (s .call) ≤ 6) ⊎ (callNumber (s .call) ≡ 12)) (λ r. (r .number ≤ 6) ⊎ (r .number ≡ 12))
+      (seven (λ r. (r .number ≤ 6) ⊎ (r .number ≡ 12)) (λ h n a b c. b) (inl (omega arith))) (λ r h e. h) (inl (omega arith))
 
   -- Refusal 5 returns the first bad block besides, every other refusal 0, an answer its length.
   record Besides (c : Call) : Type 0 where

@@ -68,15 +68,15 @@ module _ (x y : Lent) (count many : ℕ) (first : checkArea (x .table) (length (
         bytes = l .bytes ∙ bytes ∙ sym (r .bytes);
       }
 
--- Where the same is asked into the same buffer, and the checks of tables and vector files say the same, one is answered if the other is.
+-- Where the same is asked on the same terms into the same buffer, and the checks of tables and vector files say the same, one is answered if the other is.
 turned-none : (z : Lent) (a : Answer) → serveTable z .call ≡ Answered a → turnedAway z ≡ false
 unfolding refused
 turned-none z a =
     serve-either z (λ (b : Bool) (s : Served). s .call ≡ Answered a → b ≡ false) (λ r e. let n : _≡_ {A = ℕ} 0 1 = cc in absurd (omega arith)) (λ e. refl)
 
 module _ (x y : Lent) (count : ℕ) (first : checkArea (x .table) (length (x .profile)) ≡ Sound count)
-    (second : checkArea (y .table) (length (y .profile)) ≡ Sound count) (request : x .request ≡ y .request) (buffer : x .buffer ≡ y .buffer)
-    (vectors : checkVectors (x .vectors) ≡ checkVectors (y .vectors)) where
+    (second : checkArea (y .table) (length (y .profile)) ≡ Sound count) (request : x .request ≡ y .request) (terms : x .terms ≡ y .terms)
+    (buffer : x .buffer ≡ y .buffer) (vectors : checkVectors (x .vectors) ≡ checkVectors (y .vectors)) where
   here : checkOf (tableOnly x) ≡ Sound count
   unfolding checkArea
   here = first
@@ -86,7 +86,7 @@ module _ (x y : Lent) (count : ℕ) (first : checkArea (x .table) (length (x .pr
   there = second
 
   turned-alike : turnedAway (tableOnly x) ≡ turnedAway (tableOnly y)
-  turned-alike = rw (here, there, request, buffer, vectors)
+  turned-alike = rw (here, there, request, terms, buffer, vectors)
 
   pub also-answered : (a : Answer) → serve x .call ≡ Answered a → (b : Answer) × (serve y .call ≡ Answered b)
   unfolding answered

@@ -1,5 +1,5 @@
--- "Try these against it": document 01's five wrong servers, four that break document 02 [1], two that break [2], three that break [8], and four that break [10]. Each is a function
--- here, and at an input that is computed its outcome does not meet the promise.
+-- "Try these against it": document 01's five wrong servers, and others that break document 02 [1], [2], [8] and [10]. Each is a function here, and at an
+-- input that is computed its outcome does not meet the promise.
 use Rattle.octets.specs.Standard.{ℕ, zero, suc, _≤_, _≡_, refl, sym, ap, _∙_, _≢_, List, [], _∷_, _++_, false, arith, length, getD, take, drop}
 use Rattle.octets.specs.Run.{over}
 use Rattle.blocks.specs.declared.Checked.the-variants.{Sound, Bad}
@@ -337,17 +337,23 @@ spilling-fails f n h p = h (ap (drop 1024) (p .table-is) ∙ spacious-behind)
 
 -- Document 02 [10]. The removal with a second Vendor-Id in its 260, which stands at 32: a success under RFC 3588, B5009 under RFC 6733, with the whole 260 in
 -- Failed-AVP.
-twoIds : List ℕ
-twoIds = avpBytes 260 (numberBytes 266 10415 ++ (numberBytes 266 10415 ++ numberBytes 258 16777216))
-
-doubled : ℕ → Lent
-doubled peer =
+doubling : List ℕ → ℕ → Lent
+doubling members peer =
     let base = numberBytes 277 1 ++ (avpBytes 264 (0x63 ∷ []) ++ (avpBytes 296 (0x72 ∷ []) ++ avpBytes 283 (0x72 ∷ []))) in
     let own = vendorBytes 601 (0x61 ∷ []) ++ (vendorBytes 602 s ++ (vendorNumber 614 5 ++ vendorNumber 624 1)) in
-    lent (request 301 (avpBytes 263 (0x73 ∷ []) ++ (twoIds ++ (base ++ own)))) (one 0 1 s) [] [] room (underCx peer)
+    lent (request 301 (avpBytes 263 (0x73 ∷ []) ++ (avpBytes 260 members ++ (base ++ own)))) (one 0 1 s) [] [] room (underCx peer)
+
+members : List ℕ
+members = numberBytes 266 10415 ++ (numberBytes 266 10415 ++ numberBytes 258 16777216)
+
+twoIds : List ℕ
+twoIds = avpBytes 260 members
+
+doubled : ℕ → Lent
+doubled = doubling members
 
 older-served : serve (doubled 3588) ≡ comes (one 0 0 []) (answer (numberBytes 268 2001) [])
-unfolding opened twoIds doubled
+unfolding opened doubling members twoIds doubled
 older-served = serve-sound (doubled 3588) 1 registered-sound ∙ come (doubled 3588) roomy registered-sound no-vectors refl
 
 newer-served : serve (doubled 6733) ≡ record {
@@ -356,12 +362,20 @@ newer-served : serve (doubled 6733) ≡ record {
   vectors = [];
   buffer = over (answer (numberBytes 268 5009) (failed twoIds)) room;
 }
-unfolding opened twoIds doubled
+unfolding opened doubling members twoIds doubled
 newer-served = serve-sound (doubled 6733) 1 registered-sound ∙ come (doubled 6733) roomy registered-sound no-vectors refl
 
--- the last byte of the code of what Failed-AVP holds: 260 ends in 4, 266 in 10
-shown : List ℕ → ℕ
-shown o = getD o 127 0
+-- what Failed-AVP holds: 44 bytes
+shown : List ℕ → List ℕ
+shown o = take 44 (drop 124 o)
+
+-- The same with another Auth-Application-Id, which is judged before Vendor-Ids are counted: B5004, under both.
+misled : ℕ → Lent
+misled peer = doubling (numberBytes 266 10415 ++ (numberBytes 266 10415 ++ numberBytes 258 16777217)) peer
+
+misled-result : result (serve (misled 6733) .buffer) ≡ 140
+unfolding opened doubling misled result
+misled-result = ap (λ (y : Served). result (y .buffer)) (serve-sound (misled 6733) 1 registered-sound ∙ come (misled 6733) roomy registered-sound no-vectors refl)
 
 module _ (f : Server) (n : ℕ) where
   older-result : Meets f n (doubled 3588) → result (f n (doubled 3588) .buffer) ≡ 209
@@ -369,26 +383,35 @@ module _ (f : Server) (n : ℕ) where
   older-result p = ap result (p .buffer-is ∙ ap (λ (y : Served). y .buffer) older-served)
 
   newer-result : Meets f n (doubled 6733) → result (f n (doubled 6733) .buffer) ≡ 145
-  unfolding result opened twoIds
+  unfolding result opened members twoIds
   newer-result p = ap result (p .buffer-is ∙ ap (λ (y : Served). y .buffer) newer-served)
 
-  newer-shown : Meets f n (doubled 6733) → shown (f n (doubled 6733) .buffer) ≡ 4
-  unfolding shown opened twoIds
+  newer-shown : Meets f n (doubled 6733) → shown (f n (doubled 6733) .buffer) ≡ twoIds
+  unfolding shown opened members twoIds
   newer-shown p = ap shown (p .buffer-is ∙ ap (λ (y : Served). y .buffer) newer-served)
 
--- 15. one that gives B5004 for it, which ends in 140
-content-fails : (f : Server) (n : ℕ) → result (f n (doubled 6733) .buffer) ≡ 140 → Meets f n (doubled 6733) → ⊥
-content-fails f n e p = omega (arith, e, newer-result f n p)
+-- 15. one that gives anything but B5009 for it, as B5004, or nothing at all
+content-fails : (f : Server) (n : ℕ) → result (f n (doubled 6733) .buffer) ≢ 145 → Meets f n (doubled 6733) → ⊥
+content-fails f n h p = h (newer-result f n p)
 
--- 16. one that shows the second Vendor-Id in Failed-AVP
-member-fails : (f : Server) (n : ℕ) → shown (f n (doubled 6733) .buffer) ≡ 10 → Meets f n (doubled 6733) → ⊥
-member-fails f n e p = omega (arith, e, newer-shown f n p)
+-- 16. one that shows anything but the whole 260 in Failed-AVP, as the second Vendor-Id
+member-fails : (f : Server) (n : ℕ) → shown (f n (doubled 6733) .buffer) ≢ twoIds → Meets f n (doubled 6733) → ⊥
+member-fails f n h p = h (newer-shown f n p)
 
--- 17. one that does not look at the peer, and gives B5009 under RFC 3588 too
-newer-fails : (f : Server) (n : ℕ) → result (f n (doubled 3588) .buffer) ≡ 145 → Meets f n (doubled 3588) → ⊥
-newer-fails f n e p = omega (arith, e, older-result f n p)
+-- 17. one that returns another place than the 260's
+astray-fails : (f : Server) (n : ℕ) → placeIn (f n (doubled 6733) .word) ≢ 32 → Meets f n (doubled 6733) → ⊥
+unfolding opened
+astray-fails f n h p = h (ap placeIn (p .word-is ∙ ap (λ (y : Served). callWord (y .call)) newer-served))
 
--- 18. one that tries 12 after 1: under another number, with no buffer at all, it gives 1
+-- 18. one that gives anything but success under RFC 3588, as B5009 there too
+newer-fails : (f : Server) (n : ℕ) → result (f n (doubled 3588) .buffer) ≢ 209 → Meets f n (doubled 3588) → ⊥
+newer-fails f n h p = h (older-result f n p)
+
+-- 19. one that counts Vendor-Ids before it judges what is beside them
+counting-fails : (f : Server) (n : ℕ) → result (f n (misled 6733) .buffer) ≢ 140 → Meets f n (misled 6733) → ⊥
+counting-fails f n h p = h (ap result (p .buffer-is) ∙ misled-result)
+
+-- 20. one that gives anything but 12 under another number with no buffer at all, as 1
 unheard : Lent
 unheard = lent (assignment 5 s) (one 0 1 s) [] [] [] (underCx 6734)
 
@@ -396,7 +419,5 @@ unheard-call : serve unheard .call ≡ Refused 12 0
 unfolding opened unheard
 unheard-call = refl
 
-late-fails : (f : Server) (n : ℕ) → numberIn (f n unheard .word) ≡ 1 → Meets f n unheard → ⊥
-late-fails f n e p =
-    let h : numberIn (f n unheard .word) ≡ 12 = ap numberIn (p .word-is ∙ ap callWord unheard-call) in
-    omega (arith, e, h)
+late-fails : (f : Server) (n : ℕ) → numberIn (f n unheard .word) ≢ 12 → Meets f n unheard → ⊥
+late-fails f n h p = h (ap numberIn (p .word-is ∙ ap callWord unheard-call))
