@@ -37,7 +37,7 @@ def edition(case):
     """Byte 1 of its table or area, if that is one of the two editions; and which base standard its peer follows, if that is one of the two."""
     held = streams.slices(case)
     said = held.get('table', held.get('area', b''))[1:2]
-    return said if said in (b'\1', b'\2') else b'', [peer for peer in case.numbers if case.entry in streams.NUMBERS and peer in (3588, 6733)] == [6733]
+    return said if said in (b'\1', b'\2') else b'', case.entry in streams.NUMBERS and case.numbers[0] == 6733
 
 
 def row(case, outcome):
