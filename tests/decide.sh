@@ -432,6 +432,8 @@ bad_features 'an empty Feature-List' "$of_vendor$of_list$(avp 630 80 $third '')"
 bad_features 'a member of a length under its header' "$of_vendor$of_list$(avp 630 80 $third 00000000 11)"
 bad_features 'a member past the end' "$of_vendor$of_list$(avp 630 80 $third 00000000 17)"
 for more in 00 0000 000000 00000000 0000000000000000; do bad_features 'more than the three' "$of_vendor$of_list$of_bits$more"; done
+hurts 'a bad one behind one that is right' 302 'B5004 at byte PLACE: AVP 628 vendor 10415 flags 0xc0 length 12' 12 "$front$right" "$(avp 628 C0 $third '')" "$bob"
+tells 'a bad one behind one that is right'
 # The requests of real software, with a 628 that none of them has put in: each gets what it got, and the own list; or, asking too much, X5011.
 supporting 3
 for name in icscf-02-uar icscf-20-lir scscf-12-sar mar-33 relay-02-uar; do
