@@ -106,7 +106,8 @@ without 'vectors that are unsound and lent as they are' files.h 's/vectors.lengt
 without 'vectors of a MAR that are not looked at' files.h 's/= is_mar \&\& altered(&vectors)/= is_mar \&\& 0/'
 without 'an edition that is not the peer'"'"'s' daemon.c 's/sizeof answer, peer->edition,/sizeof answer, peer != NULL ? NDUSHAVIRE_RFC_3588 : 0,/'
 without 'features that are supported, and are not stated' daemon.c 's/peer->edition, features)/peer->edition, NDUSHAVIRE_NO_FEATURES)/'
-without 'an X5011 of which the log does not say what was asked for' daemon.c 's/^    log_unsupported(peer, request, length, answer_len);//'
+without 'an X5011 of which the log does not say what was asked for' daemon.c \
+    's/^    if (experimental_result(answer, length) != FEATURE_UNSUPPORTED) return;/    if (length > 0) return;/'
 without 'a success that is taken for an error' daemon.c 's/ \/ 1000 == 2; }/ \/ 1000 == 3; }/'
 without 'a table renamed away before ours is stored' files.h \
     's/^    const int folder = table.folder;$/&\n    renameat(folder, "table", folder, "table.declined");/'
