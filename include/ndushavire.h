@@ -64,7 +64,8 @@
  * - A 628 with M that asks for a bit outside this set, or for another list or vendor, even with no bit, gets X5011, whatever else would be decided:
  *   nothing is altered, and no vector is used. Without M nothing is asked of it.
  * - Whoever sends a 628 that is right in itself, with M or without, gets the set in the answer, in a 628 of the server's own, an empty set too. So
- *   does one whose request has another AVP at fault, or one missing; not one whose header is at fault, or whose 628 stands behind an AVP with a wrong length.
+ *   does one whose request has another AVP at fault, or one missing. Faults of the header have no list, and behind an AVP whose length is too short for its
+ *   header or goes past the end no 628 is looked for.
  * - A 628 whose content is wrong gets B5004, with M or without.
  * The library does nothing else about a feature. State a bit only if what the daemon's tables and profiles have is what that feature wants, and
  * NDUSHAVIRE_NO_FEATURES where nobody has said anything: call servers then learn that there are none.
