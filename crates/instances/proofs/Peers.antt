@@ -1,5 +1,5 @@
 -- The two editions of the base standard: the SAR, whose 260 has one Vendor-Id; one whose 260 has two; and a peer of another number.
-use Rattle.octets.specs.Standard.{ℕ, _≡_, refl, sym, ap, _∙_, _⊎_, inl, inr, _≢_, List, [], _∷_, _++_, some, set, true, eqb, arith, lit≤}
+use Rattle.octets.specs.Standard.{ℕ, _≡_, refl, sym, ap, _∙_, _⊎_, inl, inr, _≢_, List, [], _∷_, _++_, some, set, true, false, eqb, arith, lit≤}
 use Rattle.diameter.specs.AvpAt.{avpAt}
 use Rattle.diameter.specs.Message.{bodyOf}
 use Rattle.diameter.specs.Put.{Piece}
@@ -8,19 +8,20 @@ use Rattle.pen.specs.Groups.{failed}
 use Rattle.requests.specs.Judged.{nothing}
 use Rattle.requests.specs.Request.{dialectOf, underCx}
 use Rattle.calling.specs.Call.{Refused}
-use Rattle.calling.specs.Lent.{Lent, lent}
+use Rattle.calling.specs.Lent.{Lent, lent, tableOnly}
 use Rattle.calling.specs.Serve.{Served, serve}
 use Rattle.calling.proofs.Areas.{serve-sound}
 use Rattle.ndushavire.specs.Reads.{callNumber, callPlace}
-use Rattle.worked_examples.proofs.Computed.{come, roomy, no-vectors}
+use Rattle.worked_examples.proofs.Computed.{come, held, roomy, no-vectors}
 use Rattle.worked_examples.proofs.Sample.{answer, s}
+use Rattle.demands.specs.Call.{turnedAway}
 use Rattle.demands.specs.Insertion.{requestOf, Quiet, Inserted, keep, put, putBefore, placeNow, placed}
 use Rattle.demands.specs.Place.{first, pastTaken, blaming}
 use Rattle.demands.specs.Peers.{byPeer, vendorIds, OneVendor, ComesTo, ToldApart}
 use Rattle.demands.proofs.Demands.{demand-3-unmarked}
 use Rattle.demands.proofs.Editions.{oneVendor, one-says}
 use Rattle.demands.proofs.Peers.{one-vendor, second-told, several-pass, peers-differ, peer-exactly, peer-refused}
-use Rattle.instances.proofs.Asked.{removed, base, head, session, common, own, sar, asked, comes, blamed, plain, all, isWhole, allWhole, all-whole, kept}
+use Rattle.instances.proofs.Asked.{removed, base, head, session, common, own, sar, asked, comes, blamed, plain, all, isWhole, allWhole, all-whole, kept, of-area}
 use Rattle.instances.proofs.Calls.{sound-table}
 
 -- one Vendor-Id: the same under both
@@ -59,9 +60,14 @@ met-comes peer =
       second = record { kind = refl; right = refl; two = lit≤ tt };
     }
 
+taken : turnedAway (tableOnly (byPeer (asked doubled) 6733)) ≡ false
+unfolding all twoIds doubled
+taken =
+    of-area (byPeer (asked doubled) 6733) 2 sound-table (λ y. turnedAway y ≡ false) (held (byPeer (asked doubled) 6733) roomy sound-table no-vectors refl)
+
 met-second-told : serve (byPeer (asked doubled) 6733) ≡ blaming (byPeer (asked doubled) 6733) 5009 (avpAt doubled 32) 32
 unfolding all twoIds doubled
-met-second-told = second-told (asked doubled) 32 (met-comes 6733) refl refl refl
+met-second-told = second-told (asked doubled) 32 (met-comes 6733) taken refl refl
 
 met-several-pass : callPlace (serve (byPeer (asked doubled) 3588) .call) ≢ 32
 unfolding all twoIds doubled
