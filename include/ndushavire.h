@@ -157,7 +157,8 @@ uint64_t ndushavire_check_vectors(const uint8_t *vectors, size_t vectors_len);
  * sent a 628. By an unknown base standard each request read is counted under 12. */
 uint64_t ndushavire_report(const uint8_t *requests, size_t requests_len, uint8_t *table, size_t table_len,
                            const uint8_t *profile, size_t profile_len, uint8_t *vectors, size_t vectors_len,
-                           uint8_t *answer, size_t answer_len, uint8_t *report, size_t report_len, uint32_t peer, uint32_t features);
+                           uint8_t *answer, size_t answer_len, uint8_t *report, size_t report_len, uint32_t peer,
+                           uint32_t features);
 
 /* Moves a sound table of edition 1 to edition 2, in place: every block gets the edition, the issue number, which is any, and its new
  * check word; every set number is 0. Nothing else of it changes, and every request gets the answer that it got.
