@@ -50,7 +50,7 @@
  *
  * Stack. A call takes under 12 KiB by itself, most of it to remember the sets that the check has met. It calls memset and memcpy, and a
  * first call that is bound lazily takes what the dynamic linker takes besides: some 3.2 KB on x86-64 with AVX-512, where decisions then
- * took up to 13,256 bytes and reports up to 14,536. For a small stack link with -Wl,-z,now, as pkg-config does: all is bound at the start. The
+ * took up to 13,352 bytes and reports up to 14,504. For a small stack link with -Wl,-z,now, as pkg-config does: all is bound at the start. The
  * archive has no unwind tables: a debugger's backtrace ends at the call.
  *
  * The peer. RFC 3588 and RFC 6733 are editions of the base standard that differ here in one point: by the newer one a
