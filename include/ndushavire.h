@@ -50,7 +50,7 @@
  *
  * Stack. A call takes under 12 KiB by itself, most of it to remember the sets that the check has met. It calls memset and memcpy, and a
  * first call that is bound lazily takes what the dynamic linker takes besides: some 3.2 KB on x86-64 with AVX-512, where decisions then
- * took up to 13,256 bytes and reports up to 14,536. For a small stack link with -Wl,-z,now, as pkg-config does: all is bound at the start. The
+ * took up to 13,352 bytes and reports up to 14,504. For a small stack link with -Wl,-z,now, as pkg-config does: all is bound at the start. The
  * archive has no unwind tables: a debugger's backtrace ends at the call.
  *
  * The peer. RFC 3588 and RFC 6733 are editions of the base standard that differ here in one point: by the newer one a
@@ -58,6 +58,17 @@
  * it follows, at each call; nothing in a message says it. Where nobody has told the daemon, NDUSHAVIRE_RFC_3588 is right: it turns away nothing
  * that the other one takes. A request in which no 260 has a second Vendor-Id gets the same answer under both, to the byte, and alters the same:
  * this is proved.
+ *
+ * Features. New call servers send, in any command, any number of Supported-Features (628): a vendor, the number of a list, and bits of it. The
+ * daemon states at each call which bits of list 1 of vendor 10415 the server supports; bit 0 is worth 1, and any 32 bits may be stated.
+ * - A 628 with M that asks for a bit outside this set, or for another list or vendor, even with no bit, gets X5011, whatever else would be decided:
+ *   nothing is altered, and no vector is used. Without M nothing is asked of it.
+ * - Whoever sends a 628 that is right in itself, with M or without, gets the set in the answer, in a 628 of the server's own, an empty set too. So
+ *   does one whose request has another AVP at fault, or one missing. Faults of the header have no list, and behind an AVP whose length is too short for its
+ *   header or goes past the end no 628 is looked for.
+ * - A 628 whose content is wrong gets B5004, with M or without.
+ * The library does nothing else about a feature. State a bit only if what the daemon's tables and profiles have is what that feature wants, and
+ * NDUSHAVIRE_NO_FEATURES where nobody has said anything: call servers then learn that there are none.
  *
  * What comes here. User-Authorization, Server-Assignment, Location-Info and Multimedia-Auth requests. The base protocol's
  * own (Capabilities-Exchange, Device-Watchdog, Disconnect-Peer) are the daemon's: a call would answer each with B3001.
@@ -95,6 +106,9 @@ extern "C" {
 #define NDUSHAVIRE_RFC_3588 3588
 #define NDUSHAVIRE_RFC_6733 6733
 
+/* The set of features of a server that supports none of list 1. Every other number of 32 bits is a set too. */
+#define NDUSHAVIRE_NO_FEATURES 0
+
 /* Each function but ndushavire_version returns a word. Keep it in a uint64_t: an int loses the number, and a refusal then looks like a short
  * answer. Its number is 0, or why the call was refused; a refused call has written nothing, but for number 7, which comes
  * at a report's end. Later versions add numbers: every one but 0, known or not, is a refusal. */
@@ -117,7 +131,7 @@ extern "C" {
  * word's value is the answer's length; the buffer's bytes past it stay as they were. Its place says which AVP of the request is at
  * fault, if one is: see ndushavire_place. The vectors must be sound whatever is asked. What a call altered is stored whole, all blocks
  * or none: half of a set on disk is an unsound table. PEER is the edition of the base standard that the peer follows, NDUSHAVIRE_RFC_3588 or
- * NDUSHAVIRE_RFC_6733, and is asked before all else. */
+ * NDUSHAVIRE_RFC_6733, and is asked before all else. FEATURES are the bits of list 1 that the server supports; no set is refused. */
 uint64_t ndushavire_decide(const uint8_t *request, size_t request_len, uint8_t *table, size_t table_len,
                            const uint8_t *profile, size_t profile_len, uint8_t *vectors, size_t vectors_len,
                            uint8_t *answer, size_t answer_len, uint32_t peer, uint32_t features);
@@ -138,8 +152,9 @@ uint64_t ndushavire_check_vectors(const uint8_t *vectors, size_t vectors_len);
  * The word's number is 0 if the file was used up. It is 7 if 1 to 3 bytes are left, or the next header's length is under
  * NDUSHAVIRE_REQUEST_MIN or past the file's end: the report then has the numbers of all requests before, which have been
  * decided, and says at which byte it stopped. It is 15 if the report area is too short: nothing was decided or written. The
- * value is 0, and no request's refusal ends the report: it is counted. PEER is for all requests of the file: the numbers are those of the month
- * if all its peers followed that base standard, or if none sent a second Vendor-Id. By an unknown one each request read is counted under 12. */
+ * value is 0, and no request's refusal ends the report: it is counted. PEER and FEATURES are for all requests of the file: the numbers are those of
+ * the month if all its peers followed that base standard, or none sent a second Vendor-Id, and if the daemon stated that set all the time, or none
+ * sent a 628. By an unknown base standard each request read is counted under 12. */
 uint64_t ndushavire_report(const uint8_t *requests, size_t requests_len, uint8_t *table, size_t table_len,
                            const uint8_t *profile, size_t profile_len, uint8_t *vectors, size_t vectors_len,
                            uint8_t *answer, size_t answer_len, uint8_t *report, size_t report_len, uint32_t peer,
