@@ -30,6 +30,9 @@ use Rattle.deciding.specs.Plans.{planRead}
 use Rattle.deciding.specs.Rules.{inForce}
 use Rattle.demands.specs.Place.{behindAt, ReadingReaches, first, pastTaken, pastSkipped, lengthFault, ruleFault, AtFault}
 use Rattle.demands.specs.Peers.{vendorIds, OneVendor, Second, ComesTo}
+use Rattle.older_rules.proofs.Features.{on-same}
+use Rattle.demands.proofs.Dialects.{spoken}
+use Rattle.demands.proofs.Dialects as dialects
 use Rattle.demands.proofs.Faults.{avp-least, avp-within, judge-taken, judge-skipped, judge-breaks, taken-passes}
 
 -- The kinds that are no 260 hold no such group.
@@ -94,10 +97,10 @@ one-says (avp a w) e = (go (eqb (kindOf a) application) refl (and-left few (oneV
 
 module _ (command app features : ℕ) where
   abbrev pub older : Dialect
-  older = record { command = command; terms = record { application = app; peer = rfc3588; features = features } }
+  older = spoken command app rfc3588 features
 
   abbrev pub newer : Dialect
-  newer = record { command = command; terms = record { application = app; peer = rfc6733; features = features } }
+  newer = spoken command app rfc6733 features
 
   -- WHAT AN AVP HOLDS
   content-same : (c : Content) (a : List ℕ) → isApplication c ≡ false → contentFault newer c a ≡ contentFault older c a
@@ -192,12 +195,6 @@ module _ (command app features : ℕ) where
       go (inr s) = too-often seen a s
 
   -- A WALK on which no 260 has two
-  on-same : (r : Ruled) (seen : Seen) (a : List ℕ) (at : ℕ) (next other : Seen → Judged) → ((s : Seen) → next s ≡ other s)
-      → onRule r seen a at next ≡ onRule r seen a at other
-  on-same Taken seen a at next other h = h _
-  on-same Skipped seen a at next other h = h seen
-  on-same (Fault n) seen a at next other h = refl
-
   pub walk-same : (at : ℕ) (w : Walk) (seen : Seen) → OneVendor w → judge newer at w seen ≡ judge older at w seen
   unfolding judge
   walk-same at ended seen o = refl
@@ -213,29 +210,13 @@ module _ (command app features : ℕ) where
       go (inl e) rest = rw e rest
       go (inr s) rest = absurd (omega (arith, s .second .two, vendors-fit (walk (dataOf a)), o .0 (s .second .kind)))
 
-  -- WHAT IS MISSING, and the header
-  missing-same : (seen : Seen) (ks : List Kind) (n : ℕ) → missingFrom newer seen ks n ≡ missingFrom older seen ks n
-  unfolding missingFrom useIn
-  missing-same seen [] n = refl
-  missing-same seen (k ∷ ks) n =
-      ap (cond (isNeeded (useIn older k) && not (present (getD seen n none))) n) (missing-same seen ks (suc n))
-
-  complete-same : (j : Judged) → complete newer j ≡ complete older j
-  unfolding complete missing
-  complete-same (bad v) = refl
-  complete-same (fine seen) = ap (λ (n : ℕ). cond (eqb n 0) (fine seen) (bad (lackOf n))) (missing-same seen known 1)
-
+  -- THE HEADER, and the whole of reading
   header-same : (req : List ℕ) → headerFault newer req ≡ headerFault older req
-  unfolding headerFault
-  header-same req = refl
+  header-same = dialects.header-same command app rfc6733 rfc3588 features features
 
   module _ (req : List ℕ) where
     pub read-same : judge newer 20 (bodyOf req) nothing ≡ judge older 20 (bodyOf req) nothing → readIn newer req ≡ readIn older req
-    unfolding readIn readWalk
-    read-same e =
-        let c : complete newer (judge newer 20 (bodyOf req) nothing) ≡ complete older (judge older 20 (bodyOf req) nothing)
-        = ap (complete newer) e ∙ complete-same (judge older 20 (bodyOf req) nothing) in
-        rw (header-same req, c)
+    read-same = dialects.read-same command app rfc6733 rfc3588 features features req
 
     -- ANY REQUEST, from place to place: reading comes to the same places in both, up to such a 260
     pub record Apart : Type 0 where

@@ -1,11 +1,12 @@
 pub mod Alike
-pub mod AnySet
+pub mod AnyFeatures
 pub mod Areas
 pub mod Barring
 pub mod Blaming
 pub mod Cuts
 pub mod Demands
 pub mod Disagreeing
+pub mod Dialects
 pub mod Editions
 pub mod Effects
 pub mod Faults

@@ -1,5 +1,5 @@
 -- What a request wants of features: the tests of the definitions, and what they say of its AVPs, in both directions.
-use Rattle.octets.specs.Standard.{ℕ, zero, suc, _<_, List, Bool, true, false, cond, not, _&&_, _||_, true≢false, _≡_, refl, sym, ap, _∙_, _⊎_, inl, inr, _≢_}
+use Rattle.octets.specs.Standard.{ℕ, List, Bool, true, false, cond, not, _&&_, _||_, true≢false, _≡_, refl, sym, ap, _∙_, _⊎_, inl, inr, _≢_}
 use Rattle.octets.specs.Standard.{arith, eqb, eqb-true, eqb-false, eq-eqb, ne-eqb, getD, none}
 use Rattle.octets.specs.All.{allBelow}
 use Rattle.octets.proofs.All.{and-left, and-right, all-at}
@@ -21,6 +21,7 @@ use Rattle.requests.specs.Features.{beyondSet, calledIn, listCalled}
 use Rattle.requests.specs.Judged.{fine}
 use Rattle.requests.specs.Request.{headerFault, readIn}
 use Rattle.calling.specs.Lent.{Lent, dialectIn}
+use Rattle.taking.proofs.Conditions.{all-fails}
 use Rattle.demands.specs.Features.{Among, here, later, vendorIn, listIn, bitsIn, Outside, Asks, Beyond, Called}
 
 -- SOME AVP OF A WALK passes a test
@@ -49,23 +50,12 @@ some-holds p w a (later b c v m) e = go (p c) (some-holds p v a m e)
     go false h = h
 
 -- BITS
-below-fails : (p : ℕ → Bool) (n : ℕ) → allBelow p n ≡ false → (k : ℕ) × ((k < n) × (p k ≡ false))
-unfolding allBelow
-below-fails p zero e = absurd (true≢false e)
-below-fails p (suc n) e = go (allBelow p n) (p n) refl refl e (below-fails p n)
-  where
-    go : (x y : Bool) → allBelow p n ≡ x → p n ≡ y → (x && y) ≡ false → (allBelow p n ≡ false → (k : ℕ) × ((k < n) × (p k ≡ false)))
-        → (k : ℕ) × ((k < suc n) × (p k ≡ false))
-    go true true f g h next = absurd (true≢false h)
-    go true false f g h next = (n, (omega arith, g))
-    go false y f g h next = let r = next f in (r .0, (omega (arith, r .1 .0), r .1 .1))
-
 outside-says : (wanted set : ℕ) → bitOutside wanted set ≡ true → Outside set wanted
 unfolding bitOutside clearOrIn
 outside-says wanted set e =
-    let r = below-fails (clearOrIn wanted set) 32 (turn (allBelow (clearOrIn wanted set) 32) e) in
-    let b = both (bitOf wanted (r .0)) (bitOf set (r .0)) (r .1 .1) in
-    record { bit = r .0; below = r .1 .0; asked = b .0; lacking = b .1 }
+    let r = all-fails (clearOrIn wanted set) 32 (turn (allBelow (clearOrIn wanted set) 32) e) in
+    let b = both (bitOf wanted (r .0)) (bitOf set (r .0)) (r .2) in
+    record { bit = r .0; below = r .1; asked = b .0; lacking = b .1 }
   where
     turn : (x : Bool) → not x ≡ true → x ≡ false
     turn true h = absurd (true≢false (sym h))
@@ -143,7 +133,7 @@ beyond-holds a b = some-holds (asksBeyond (a .terms .features)) (bodyOf (a .requ
 
 -- THE RULES, of a 628: it is named and may come again in every command, so that (c) and (h) alone decide
 module _ (d : Dialect) (a : List ℕ) (k : kindOf a ≡ supportedFeatures) where
-  repeated : useOf d a ≡ Repeated
+  pub repeated : useOf d a ≡ Repeated
   unfolding useIn rowOf known
   repeated = rw k (go (eqb (d .command) 300) (eqb (d .command) 301) (eqb (d .command) 302))
     where

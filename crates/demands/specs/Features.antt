@@ -1,20 +1,23 @@
 -- 02 [11]: which Supported-Features of a request count, and what X5011 and the server's own list say.
 use Prim.Native.Nat.{ℕ, _+_, _<_}
-use mathlib.Core.Bool.{true, false}
+use mathlib.Core.Bool.{Bool, true, false}
 use mathlib.Core.Path.{_≡_}
 use mathlib.Core.List.{List, [], _∷_, _++_}
 use mathlib.Core.Logic.{_⊎_, _≢_}
-use lib.ListN.{length}
+use lib.ListN.{length, drop}
 use Rattle.octets.specs.Run.{over}
 use Rattle.blocks.specs.Blocks.{blockOf}
 use Rattle.table.specs.Area.{tableIn}
-use Rattle.diameter.specs.Avp.{avpFlags, dataOf, marked}
+use Rattle.diameter.specs.Avp.{avpFlags, dataOf, reserved, marked, sound}
+use Rattle.diameter.specs.AvpAt.{avpAt}
 use Rattle.diameter.specs.Message.{bodyOf}
 use Rattle.diameter.specs.Walk.{Walk, avp, walk, behindFirst}
 use Rattle.pen.specs.Bytes.{wordBytes}
 use Rattle.reading.specs.Features.{bitOf, memberValue}
+use Rattle.reading.specs.Groups.{featureMembers, gathers}
 use Rattle.reading.specs.Kinds.{kindOf, supportedFeatures}
 use Rattle.reading.specs.Rules.{Seen, rule}
+use Rattle.reading.specs.declared.Dialect.{Dialect}
 use Rattle.reading.specs.declared.Outcome.the-variants.{Experimental}
 use Rattle.reading.specs.declared.Ruled.the-variants.{Taken}
 use Rattle.reading.specs.declared.Terms.{Terms}
@@ -25,17 +28,18 @@ use Rattle.answering.specs.Answer.{proxies, restBytes}
 use Rattle.calling.specs.Call.{Answered}
 use Rattle.calling.specs.Lent.{Lent, tableOnly, dialectIn}
 use Rattle.calling.specs.Serve.{Served, decided, serve}
+use Rattle.demands.specs.Place.{ReadingReaches}
 
--- the same call with another set
-abbrev pub withSet : Lent → ℕ → Lent
-withSet a set =
+-- the same call with other features
+abbrev pub withFeatures : Lent → ℕ → Lent
+withFeatures a features =
     record {
       request = a .request;
       table = a .table;
       profile = a .profile;
       vectors = a .vectors;
       buffer = a .buffer;
-      terms = record { application = a .terms .application; peer = a .terms .peer; features = set };
+      terms = record { application = a .terms .application; peer = a .terms .peer; features = features };
     }
 
 -- an AVP is one of a walk: it stands before any length fault
@@ -81,8 +85,8 @@ unsupportedBody terms req t = topBytes terms req t (Experimental 5011) ++ proxie
 abbrev pub unsupportedBytes : Terms → List ℕ → List ℕ → List ℕ
 unsupportedBytes terms req t = headerBytes req (Experimental 5011) (20 + length (unsupportedBody terms req t)) ++ unsupportedBody terms req t
 
-abbrev pub featureRefused : Lent → Served
-featureRefused a =
+abbrev pub answersUnsupported : Lent → Served
+answersUnsupported a =
     record {
       call = Answered (record { length = length (unsupportedBytes (a .terms) (a .request) (tableIn (a .table))); place = 0 });
       table = a .table;
@@ -122,3 +126,15 @@ answerWith a list =
 pub record AnsweredWith (a : Lent) (bytes : List ℕ) : Type 0 where
   pub call : serve a .call ≡ Answered (record { length = length bytes; place = decided (tableOnly a) .place })
   pub buffer : serve a .buffer ≡ over bytes (a .buffer)
+
+-- Reading, in a dialect, comes to a 628 with no fault before it and with no reserved flag in it.
+pub record ComesTo (d : Dialect) (req : List ℕ) (place : ℕ) : Type 0 where
+  pub seen : Seen
+  pub reached : ReadingReaches d req place seen
+  pub whole : sound (drop place req) ≡ true
+  pub flags : reserved (avpFlags (avpAt req place)) ≡ 0
+  pub kind : kindOf (avpAt req place) ≡ supportedFeatures
+
+-- "A 628 holds these three 4-byte members once each"
+abbrev pub holdsMembers : List ℕ → Bool
+holdsMembers a = gathers featureMembers (walk (dataOf a))

@@ -22,7 +22,7 @@ use Rattle.older_rules.specs.WithoutFeatures.{NoFeatures, beforeFeatures}
 use Rattle.worked_examples.proofs.Computed.{knownTrials, come, held, roomy, no-vectors}
 use Rattle.worked_examples.proofs.Sample.{room, answer, s}
 use Rattle.demands.specs.Call.{turnedAway}
-use Rattle.demands.specs.Features.{withSet, Among, here, later, Beyond, featureRefused, Called, ownList, answerWith, AnsweredWith}
+use Rattle.demands.specs.Features.{withFeatures, Among, here, later, Beyond, answersUnsupported, Called, ownList, answerWith, AnsweredWith}
 use Rattle.demands.specs.Insertion.{requestOf, Quiet, Inserted, keep, put, putBefore, placeNow, placed}
 use Rattle.demands.proofs.Demands.{demand-3-unmarked}
 use Rattle.demands.proofs.Wanting.{called-holds}
@@ -79,7 +79,7 @@ met-beyond = features.beyond-exactly (asked wanting) .1 beyond
 met-beyond-only : Beyond (asked wanting)
 met-beyond-only = features.beyond-exactly (asked wanting) .0 met-beyond
 
-met-beyond-served : serve (asked wanting) ≡ featureRefused (asked wanting)
+met-beyond-served : serve (asked wanting) ≡ answersUnsupported (asked wanting)
 met-beyond-served = features.beyond-served (asked wanting) beyond wanting-passes
 
 -- the same, byte by byte: Experimental-Result, and the own list right after 296
@@ -128,8 +128,8 @@ none = refl
 met-without : serveBy beforeFeatures (asked (sar s 5)) ≡ serve (asked (sar s 5))
 met-without = features.without-features (asked (sar s 5)) none
 
-met-set-unseen : serve (withSet (asked (sar s 5)) 0) ≡ serve (withSet (asked (sar s 5)) 4294967295)
-met-set-unseen = features.set-unseen (asked (sar s 5)) none 0 4294967295
+met-features-unseen : serve (withFeatures (asked (sar s 5)) 0) ≡ serve (withFeatures (asked (sar s 5)) 4294967295)
+met-features-unseen = features.features-unseen (asked (sar s 5)) none 0 4294967295
 
 -- "AVP UNSUPPORTED" GOES BEFORE X5011: an unknown kind with M behind the 628 that asks for more
 loudly : List ℕ

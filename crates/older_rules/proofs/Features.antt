@@ -59,14 +59,14 @@ module _ (terms : Terms) (req : List ℕ) (none : NoFeatures (bodyOf req)) where
       go true = rw none-called
       go false = refl
 
--- reading
-module _ (d : Dialect) where
-  on-same : (r : Ruled) (seen : Seen) (a : List ℕ) (at : ℕ) (next other : Seen → Judged) → ((s : Seen) → next s ≡ other s)
-      → onRule r seen a at next ≡ onRule r seen a at other
-  on-same Taken seen a at next other h = h _
-  on-same Skipped seen a at next other h = h seen
-  on-same (Fault n) seen a at next other h = refl
+-- reading: what comes of an AVP is the same if what comes of those behind it is
+pub on-same : (r : Ruled) (seen : Seen) (a : List ℕ) (at : ℕ) (next other : Seen → Judged) → ((s : Seen) → next s ≡ other s)
+    → onRule r seen a at next ≡ onRule r seen a at other
+on-same Taken seen a at next other h = h _
+on-same Skipped seen a at next other h = h seen
+on-same (Fault n) seen a at next other h = refl
 
+module _ (d : Dialect) where
   judge-same : (at : ℕ) (w : Walk) (seen : Seen) → NoFeatures w → judgeBefore d at w seen ≡ judge d at w seen
   unfolding judgeBefore judge ruleBefore someAvp
   judge-same at ended seen n = refl
