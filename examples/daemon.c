@@ -49,7 +49,7 @@
 #define FAREWELL 3 /* seconds that peers have to answer our DPR */
 #endif
 enum { PEERS = 64, STATEMENTS = 64, NAME_ROOM = 80, OUT_ROOM = 2 * NDUSHAVIRE_ANSWER_ROOM, BASE_ROOM = 512 };
-enum { MARKED_OF_VENDOR = 0xC0, SUPPORTED_FEATURES = 628, FEATURE_LIST_ID = 629, FEATURE_LIST = 630, FEATURE_UNSUPPORTED = 5011 };
+enum { MARKED_OF_VENDOR = 0xC0, VENDOR_ID = 266, SUPPORTED_FEATURES = 628, FEATURE_LIST_ID = 629, FEATURE_LIST = 630, FEATURE_UNSUPPORTED = 5011 };
 
 typedef struct {
     int socket;             /* -1: nobody */
@@ -207,7 +207,7 @@ static unsigned long number_in(const uint8_t *group, unsigned long code) {
 /* Whether an AVP is a Supported-Features (628) with M that asks for more than is supported. */
 static int asks_too_much(const uint8_t *avp) {
     return four_bytes(avp) == SUPPORTED_FEATURES && (avp[4] & MARKED_OF_VENDOR) == MARKED_OF_VENDOR && four_bytes(avp + 8) == VENDOR_3GPP &&
-           (number_in(avp, 266) != VENDOR_3GPP || number_in(avp, FEATURE_LIST_ID) != 1 || (number_in(avp, FEATURE_LIST) & ~features) != 0);
+           (number_in(avp, VENDOR_ID) != VENDOR_3GPP || number_in(avp, FEATURE_LIST_ID) != 1 || (number_in(avp, FEATURE_LIST) & ~features) != 0);
 }
 
 /* A call server that asks for too much gets X5011 whatever it wants: here one sees what that was. */
@@ -218,14 +218,15 @@ static void log_unsupported(const Peer *peer, const uint8_t *request, size_t req
     for (; (span = avp_span(avp, left)) > 0 && !asks_too_much(avp); left -= span) avp += span;
     if (span > 0)
         say("peer %s: X5011: it asks for features 0x%lx of list %lu of vendor %lu, and 0x%lx of list 1 are supported", peer->name,
-            number_in(avp, FEATURE_LIST), number_in(avp, FEATURE_LIST_ID), number_in(avp, 266), (unsigned long)features);
+            number_in(avp, FEATURE_LIST), number_in(avp, FEATURE_LIST_ID), number_in(avp, VENDOR_ID), (unsigned long)features);
 }
 
 /* A result 2xxx, B or X. */
 static int succeeded(size_t length) { return (base_result(answer, length) + experimental_result(answer, length)) / 1000 == 2; }
 
 /* What may alter something if it comes a second time is remembered, and whichever peer brings it again is sent the answer as it was, by whatever base
- * standard: it was done once. A request with an AVP at fault is not: it altered nothing, and the peer that brings it again is answered by its own. */
+ * standard: it was done once. A request with an AVP at fault is not: it altered nothing, and the peer that brings it again is answered by its own.
+ * The features are those of the start; where they may change, forget all answers then. */
 static void remember_for_twice(int has_altered, const uint8_t *request, size_t length, size_t answer_len) {
     static time_t said;
     if (remember(now, has_altered, request, length, answer, answer_len) || !has_altered || (said != 0 && now - said < 60)) return;
@@ -478,7 +479,7 @@ static int state(char *statement) {
     return right;
 }
 
-/* Takes what -f says; 0 if it says nothing. */
+/* Takes what -f says; 0 if that is no number of 32 bits. */
 static int support(const char *digits) {
     const int right = features_of(digits, &features);
     if (!right) fprintf(stderr, "daemon: -f: the bits of list 1 that are supported, a number of 32 bits, decimal or with 0x\n");

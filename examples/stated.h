@@ -5,8 +5,8 @@
 
 #include "peers.h"
 
-/* A set of features by its digits, decimal or behind 0x hexadecimal; gives 0 if it is no number of 32 bits. A 0 before decimal digits is none, since
- * elsewhere it makes them octal. */
+/* Features by the digits of their number, decimal or behind 0x hexadecimal; gives 0 if it is no number of 32 bits. Nor is one that has a 0 before other
+ * decimal digits, since elsewhere that makes them octal. */
 static inline int features_of(const char *digits, uint32_t *features) {
     static const char all[] = "0123456789abcdefABCDEF";
     const int sixteen = digits[0] == '0' && (digits[1] == 'x' || digits[1] == 'X');
@@ -27,7 +27,7 @@ typedef struct {
 } Stated;
 
 /* Takes the options that a program's arguments begin with, in any order, of which the last word counts; gives the number of the first argument behind
- * them, or 0 if a set of features is none. An edition that is none is 0 in what is stated. */
+ * them, or 0 if what is given for features is no such number. An edition that is none is 0 in what is stated. */
 static inline int take_stated(int argc, char **argv, Stated *stated) {
     int at = 1;
     stated->peer = NDUSHAVIRE_RFC_3588;

@@ -123,7 +123,7 @@ with 'features that the log does not say' features daemon.c 's/, features 0x%lx"
 with 'an X5011 of which the log does not say why' features daemon.c 's/^    log_unsupported(peer, request, length, answer_len);//'
 with 'an X5011 of which the log blames what has no M' features daemon.c 's/ \&\& (avp\[4\] & MARKED_OF_VENDOR) == MARKED_OF_VENDOR//'
 with 'an X5011 of which the log does not know another list' features daemon.c 's/ || number_in(avp, FEATURE_LIST_ID) != 1//'
-with 'an X5011 of which the log does not know another vendor' features daemon.c 's/(number_in(avp, 266) != VENDOR_3GPP || /(/'
+with 'an X5011 of which the log does not know another vendor' features daemon.c 's/(number_in(avp, VENDOR_ID) != VENDOR_3GPP || /(/'
 with 'an X5011 of which the log has the first bits of all' features daemon.c 's/ \&\& !asks_too_much(avp); left -= span/ \&\& four_bytes(avp) != SUPPORTED_FEATURES; left -= span/'
 with 'an answer that is sent before its work is stored' kills daemon.c \
     -e 's/^    if (may_alter(request, length) \&\& succeeded.*/    send_later(peer, answer, answer_len);\n    write_some(peer);\n&/' \
