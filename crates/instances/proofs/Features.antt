@@ -1,16 +1,18 @@
 -- Supported-Features: the removal with one, by a server that supports bits 0 and 2; the theorems of its page at it, computed.
-use Rattle.octets.specs.Standard.{ℕ, _≤_, _≡_, refl, sym, ap, _∙_, _≢_, inr, List, [], _∷_, _++_, length, true, false, true≢false, arith, lit≤, lit<}
+use Rattle.octets.specs.Standard.{ℕ, _≤_, _≡_, refl, sym, ap, _∙_, _≢_, inr, List, [], _∷_, _++_, some, length, set, true, false, true≢false, arith, lit≤}
+use Rattle.octets.specs.Standard.{lit<}
 use Rattle.blocks.specs.declared.Checked.the-variants.{Sound}
-use Rattle.diameter.specs.Avp.{avpFlags, dataOf, reserved}
+use Rattle.diameter.specs.AvpAt.{avpAt}
 use Rattle.diameter.specs.Message.{bodyOf}
 use Rattle.diameter.specs.Put.{Piece}
 use Rattle.diameter.specs.Walk.{walk, behindFirst}
 use Rattle.pen.specs.Bytes.{headBytes, wordBytes, vendorHead, numberBytes, vendorNumber}
 use Rattle.pen.specs.Groups.{experimental, failed, ownFeatures}
-use Rattle.reading.specs.Rules.{Seen, rule}
+use Rattle.reading.specs.Kinds.{kindOf, supportedFeatures}
+use Rattle.reading.specs.Rules.{Seen, ruleBy}
 use Rattle.reading.specs.Verdicts.{faultAt}
 use Rattle.reading.specs.declared.Outcome.the-variants.{Base, Experimental}
-use Rattle.reading.specs.declared.Ruled.the-variants.{Fault}
+use Rattle.reading.specs.declared.Use.the-variants.{Needed}
 use Rattle.requests.specs.Features.{listCalled}
 use Rattle.requests.specs.Judged.{Judged, bad, fine, nothing}
 use Rattle.requests.specs.Request.{dialectOf, underCx, readIn}
@@ -18,14 +20,16 @@ use Rattle.calling.specs.Lent.{Lent, lent, tableOnly, dialectIn}
 use Rattle.calling.specs.Serve.{Served, answerOf, decided, resultOf, serveBy, serve}
 use Rattle.calling.specs.Trial.{anyHolds}
 use Rattle.calling.proofs.Areas.{serve-sound}
+use Rattle.ndushavire.specs.Reads.{callPlace}
 use Rattle.older_rules.specs.WithoutFeatures.{NoFeatures, beforeFeatures}
 use Rattle.worked_examples.proofs.Computed.{knownTrials, come, held, roomy, no-vectors}
 use Rattle.worked_examples.proofs.Sample.{room, answer, s}
 use Rattle.demands.specs.Call.{turnedAway}
-use Rattle.demands.specs.Features.{withFeatures, Among, here, later, Beyond, answersUnsupported, Called, ownList, answerWith, AnsweredWith}
+use Rattle.demands.specs.Features.{withFeatures, Among, here, later, Beyond, answersUnsupported, Called, ownList, answerWith, AnsweredWith, ComesTo}
+use Rattle.demands.specs.Place.{first, pastTaken, blaming}
 use Rattle.demands.specs.Insertion.{requestOf, Quiet, Inserted, keep, put, putBefore, placeNow, placed}
 use Rattle.demands.proofs.Demands.{demand-3-unmarked}
-use Rattle.demands.proofs.Wanting.{called-holds}
+use Rattle.demands.proofs.Wanting.{beyond-holds, called-holds}
 use Rattle.instances.proofs.Asked.{table, removed, head, session, rest, sar, comes, plain, loud, all, isWhole, allWhole, all-whole, kept, of-area}
 use Rattle.instances.proofs.Calls.{sound-table}
 use Rattle.demands.proofs.Features as features
@@ -135,9 +139,31 @@ met-features-unseen = features.features-unseen (asked (sar s 5)) none 0 42949672
 loudly : List ℕ
 loudly = with (want ∷ loud ∷ [])
 
-met-reading-first : resultOf (tableOnly (asked loudly)) ≡ Base 5001
+loudly-passes : turnedAway (tableOnly (asked loudly)) ≡ false
 unfolding all members want with loudly
-met-reading-first = features.reading-first (asked loudly) (faultAt 5001 88) refl
+loudly-passes = let-pass loudly refl
+
+met-reading-first : (resultOf (tableOnly (asked loudly)) ≡ Base 5001) × (callPlace (serve (asked loudly) .call) ≡ 88) × (serve (asked loudly) .table ≡ table)
+    × (serve (asked loudly) .vectors ≡ [])
+unfolding all members want with loudly
+met-reading-first = features.reading-first (asked loudly) (faultAt 5001 88) refl loudly-passes
+
+-- the error answer carries the own list too; none does to a header fault, as of another application
+loudly-called : Called (asked loudly)
+unfolding all members want with loudly
+loudly-called = record { header = refl; one = want .avp; among = here (want .avp) _; kind = refl; passes = λ seen. refl }
+
+met-list-fault : AnsweredWith (asked loudly) (answerWith (asked loudly) (ownList 5))
+met-list-fault = features.list-carried (asked loudly) loudly-called loudly-passes
+
+elsewhere : Lent
+elsewhere = lent wanting table [] [] room (record { application = 7; peer = 3588; features = 5 })
+
+met-list-header : AnsweredWith elsewhere (answerWith elsewhere [])
+unfolding all members want with wanting elsewhere
+met-list-header =
+    features.list-absent elsewhere (λ c. let z : _≡_ {A = ℕ} 3007 0 = c .header in omega arith)
+    (of-area elsewhere 2 sound-table (λ y. turnedAway y ≡ false) (held elsewhere roomy sound-table no-vectors refl))
 
 -- DEMAND 3: an unknown kind without M before it and behind it; "same to the byte" includes the own list
 quiet-plain : Quiet (dialectOf (underCx 3588 5) head) plain
@@ -155,7 +181,48 @@ met-3-features =
     (asked []) put-plain
     ∙ ap (placed (placeNow (keep session put-plain))) hoped-so
 
--- A 628 WITHOUT ITS FEATURE-LIST: B5004, whatever came before
-met-members-else : (seen : Seen) → rule (dialectOf (underCx 3588 5) head) seen (vendorHead 628 40 ++ (numberBytes 266 10415 ++ vendorNumber 629 1)) ≡ Fault 5004
-unfolding all
-met-members-else seen = features.members-else (dialectOf (underCx 3588 5) head) seen _ refl refl refl
+-- A 628 WITHOUT ITS FEATURE-LIST: B5004 with the whole of it, and its place; one with all three is not at fault
+wrong : Piece
+wrong = record { avp = vendorHead 628 40 ++ (numberBytes 266 10415 ++ vendorNumber 629 1); pad = [] }
+
+spoilt : List ℕ
+spoilt = with (wrong ∷ [])
+
+comes-to-wrong : ComesTo (dialectOf (underCx 3588 5) spoilt) spoilt 32
+unfolding all with wrong spoilt
+comes-to-wrong = record { seen = set nothing 1 (some (session .avp)); reached = pastTaken 20 nothing first refl refl; whole = refl; flags = refl; kind = refl }
+
+spoilt-passes : turnedAway (tableOnly (asked spoilt)) ≡ false
+unfolding all with wrong spoilt
+spoilt-passes = let-pass spoilt refl
+
+met-members-else : serve (asked spoilt) ≡ blaming (asked spoilt) 5004 (avpAt spoilt 32) 32
+unfolding all with wrong spoilt
+met-members-else = features.members-else (asked spoilt) 32 comes-to-wrong refl refl refl spoilt-passes
+
+comes-to-right : ComesTo (dialectOf (underCx 3588 5) hoping) hoping 32
+unfolding all members hope with hoping
+comes-to-right = record { seen = set nothing 1 (some (session .avp)); reached = pastTaken 20 nothing first refl refl; whole = refl; flags = refl; kind = refl }
+
+met-members-pass : callPlace (serve (asked hoping) .call) ≢ 32
+unfolding all members hope with hoping
+met-members-pass = features.members-pass (asked hoping) 32 comes-to-right refl
+
+-- WHATEVER THE FEATURES: asked for without M, the removal is the same with none of them and with all
+idle-none : Beyond (withFeatures (asked hoping) 0) → ⊥
+unfolding all members hope with hoping
+idle-none b = true≢false (sym (beyond-holds (withFeatures (asked hoping) 0) b))
+
+idle-all : Beyond (withFeatures (asked hoping) 4294967295) → ⊥
+unfolding all members hope with hoping
+idle-all b = true≢false (sym (beyond-holds (withFeatures (asked hoping) 4294967295) b))
+
+met-features-idle : serve (withFeatures (asked hoping) 0) .table ≡ serve (withFeatures (asked hoping) 4294967295) .table
+met-features-idle = features.features-idle (asked hoping) 0 4294967295 idle-none idle-all .2
+
+-- an AVP that demand 3 puts in is no 628, and M on a Session-Id changes nothing of it
+met-features-known : kindOf (plain .avp) ≢ supportedFeatures
+met-features-known = features.features-known (dialectOf (underCx 3588 5) head) plain (quiet-plain .foreign)
+
+met-mark-idle : ruleBy Needed false 0 0 ≡ ruleBy Needed false 64 0
+met-mark-idle = features.mark-idle Needed refl false 0 64 0 refl
