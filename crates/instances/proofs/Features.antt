@@ -156,6 +156,9 @@ met-3-features =
     ∙ ap (placed (placeNow (keep session put-plain))) hoped-so
 
 -- A 628 WITHOUT ITS FEATURE-LIST: B5004, whatever came before
-met-members-else : (seen : Seen) → rule (dialectOf (underCx 3588 5) head) seen (vendorHead 628 40 ++ (numberBytes 266 10415 ++ vendorNumber 629 1)) ≡ Fault 5004
-unfolding all
-met-members-else seen = features.members-else (dialectOf (underCx 3588 5) head) seen _ refl refl refl
+listless : List ℕ
+listless = vendorHead 628 40 ++ (numberBytes 266 10415 ++ vendorNumber 629 1)
+
+met-members-else : (seen : Seen) → rule (dialectOf (underCx 3588 5) head) seen listless ≡ Fault 5004
+unfolding all listless
+met-members-else seen = features.members-else (dialectOf (underCx 3588 5) head) seen listless refl refl refl
