@@ -148,7 +148,7 @@ met-reading-first : (resultOf (tableOnly (asked loudly)) ≡ Base 5001) × (call
 unfolding all members want with loudly
 met-reading-first = features.reading-first (asked loudly) (faultAt 5001 88) refl loudly-passes
 
--- the error answer carries the own list too; none does to a header fault, as of another application
+-- the error answer carries the own list too; none does to a header fault, as where another application is spoken
 loudly-called : Called (asked loudly)
 unfolding all members want with loudly
 loudly-called = record { header = refl; one = want .avp; among = here (want .avp) _; kind = refl; passes = λ seen. refl }
@@ -162,7 +162,7 @@ elsewhere = lent wanting table [] [] room (record { application = 7; peer = 3588
 met-list-header : AnsweredWith elsewhere (answerWith elsewhere [])
 unfolding all members want with wanting elsewhere
 met-list-header =
-    features.list-absent elsewhere (λ c. let z : _≡_ {A = ℕ} 3007 0 = c .header in omega arith)
+    features.list-absent elsewhere (λ c. let z : _≡_ {A = ℕ} 3001 0 = c .header in omega arith)
     (of-area elsewhere 2 sound-table (λ y. turnedAway y ≡ false) (held elsewhere roomy sound-table no-vectors refl))
 
 -- DEMAND 3: an unknown kind without M before it and behind it; "same to the byte" includes the own list
