@@ -1,6 +1,6 @@
 -- "Try these against it": document 01's five wrong servers, and others that break document 02 [1], [2], [8], [10] and [11]. Each is a function here, and at an
 -- input that is computed its outcome does not meet the promise.
-use Rattle.octets.specs.Standard.{ℕ, zero, suc, _+_, _≤_, _≡_, refl, sym, ap, _∙_, _≢_, List, [], _∷_, _++_, false, arith, length, getD, take, drop, set}
+use Rattle.octets.specs.Standard.{ℕ, zero, suc, _≤_, _≡_, refl, sym, ap, _∙_, _≢_, List, [], _∷_, _++_, false, arith, length, getD, take, drop, set}
 use Rattle.octets.specs.Run.{over}
 use Rattle.blocks.specs.declared.Checked.the-variants.{Sound, Bad}
 use Rattle.table.specs.Area.{sizeIn, tableIn, checkArea}
@@ -382,7 +382,8 @@ misled peer = doubling (numberBytes 266 10415 ++ (numberBytes 266 10415 ++ numbe
 
 misled-result : result (serve (misled 6733) .buffer) ≡ 140
 unfolding opened doubling misled result
-misled-result = ap (λ (y : Served). result (y .buffer)) (serve-sound (misled 6733) 1 registered-sound ∙ come (misled 6733) roomy registered-sound no-vectors refl)
+misled-result =
+    ap (λ (y : Served). result (y .buffer)) (serve-sound (misled 6733) 1 registered-sound ∙ come (misled 6733) roomy registered-sound no-vectors refl)
 
 module _ (f : Server) (n : ℕ) where
   older-result : Meets f n (doubled 3588) → result (f n (doubled 3588) .buffer) ≡ 209
@@ -429,10 +430,10 @@ unheard-call = refl
 late-fails : (f : Server) (n : ℕ) → numberIn (f n unheard .word) ≢ 12 → Meets f n unheard → ⊥
 late-fails f n h p = h (ap numberIn (p .word-is ∙ ap callWord unheard-call))
 
--- Document 02 [11]. Requests over the registered line to a server that supports bits 0 and 2: the removal with AVPs at 112, and a registration with such, which
--- have its identities. A 628 that asks for bit 1, without M and with it.
+-- Document 02 [11]. Requests over the registered line to a server that supports some bits; to one of bits 0 and 2 the removal with AVPs at 112, and a
+-- registration, whose identities are among them. A 628 that asks for bit 1, without M and with it.
 supporting : ℕ → List ℕ → Lent
-supporting set req = lent req (one 0 1 s) [] [] room (underCx 3588 set)
+supporting features req = lent req (one 0 1 s) [] [] room (underCx 3588 features)
 
 abbrev wishing : List ℕ → Lent
 wishing avps = supporting 5 (assignmentWith avps 5 s)
@@ -446,9 +447,11 @@ hope = feature 128 10415 1 2
 want : List ℕ
 want = feature 192 10415 1 2
 
-supported : (set : ℕ) (req : List ℕ) {y : Served} → known false (Sound 1) (Sound 0) (supporting set req) ≡ y → serve (supporting set req) ≡ y
+supported : (features : ℕ) (req : List ℕ) {y : Served} → known false (Sound 1) (Sound 0) (supporting features req) ≡ y → serve (supporting features req) ≡ y
 unfolding supporting
-supported set req e = serve-sound (supporting set req) 1 registered-sound ∙ come (supporting set req) roomy registered-sound no-vectors e
+supported features req e =
+    let x = supporting features req in
+    serve-sound x 1 registered-sound ∙ come x roomy registered-sound no-vectors e
 
 -- The AVP of the result, 12 bytes or, if it is experimental, 32; and what stands right after 296 where it has 12.
 verdict : ℕ → List ℕ → List ℕ
@@ -457,13 +460,13 @@ verdict size o = take size (drop 64 o)
 listed : List ℕ → List ℕ
 listed o = take 56 (drop 116 o)
 
--- X5011 with the own list, and nothing altered; what gives another result is wrong.
+-- X5011 with the own list, and nothing altered; one that gives another result fails.
 abbrev Unsupported : Lent → Type 0
 Unsupported x = serve x ≡ leaves 192 0 (one 0 1 s) (answer (experimental 5011) (ownFeatures 5))
 
-other-fails : (f : Server) (n : ℕ) {x : Lent} → Unsupported x → verdict 32 (f n x .buffer) ≢ experimental 5011 → Meets f n x → ⊥
+otherwise-fails : (f : Server) (n : ℕ) {x : Lent} → Unsupported x → verdict 32 (f n x .buffer) ≢ experimental 5011 → Meets f n x → ⊥
 unfolding opened verdict
-other-fails f n e h p = h (ap (verdict 32) (buffer-given f n e p))
+otherwise-fails f n e h p = h (ap (verdict 32) (buffer-given f n e p))
 
 -- a bit outside the set
 wanted-served : Unsupported (wishing want)
@@ -472,7 +475,7 @@ wanted-served = supported 5 (assignmentWith want 5 s) refl
 
 -- 21. one that gives anything but X5011 for it, as one that ignores M
 unmarked-fails : (f : Server) (n : ℕ) → verdict 32 (f n (wishing want) .buffer) ≢ experimental 5011 → Meets f n (wishing want) → ⊥
-unmarked-fails f n h p = other-fails f n wanted-served h p
+unmarked-fails f n h p = otherwise-fails f n wanted-served h p
 
 -- 22. one that alters the record all the same
 altering-fails : (f : Server) (n : ℕ) → f n (wishing want) .table ≢ one 0 1 s → Meets f n (wishing want) → ⊥
@@ -482,7 +485,7 @@ altering-fails f n h p = h (table-given f n wanted-served p)
 placing-fails : (f : Server) (n : ℕ) → f n (wishing want) .word ≢ 192 → Meets f n (wishing want) → ⊥
 placing-fails f n h p = h (word-given f n wanted-served p)
 
--- 24. one that judges without M too, and does not take the removal for what it is
+-- 24. one that judges without M too, and does anything but the removal
 hoped-served : serve (wishing hope) ≡ leaves 172 0 (one 0 0 []) (answer (numberBytes 268 2001) (ownFeatures 5))
 unfolding opened supporting hope
 hoped-served = supported 5 (assignmentWith hope 5 s) refl
@@ -490,26 +493,26 @@ hoped-served = supported 5 (assignmentWith hope 5 s) refl
 marking-fails : (f : Server) (n : ℕ) → f n (wishing hope) .table ≢ one 0 0 [] → Meets f n (wishing hope) → ⊥
 marking-fails f n h p = h (table-given f n hoped-served p)
 
--- 25. one that lets another vendor's list pass, and 26. another list of this vendor, since no bit of it is asked for
-vendors : List ℕ
-vendors = feature 192 10416 1 0
+-- 25. one that lets another vendor's list pass, and 26. one that lets another list of this vendor pass, since no bit of it is asked for
+otherVendor : List ℕ
+otherVendor = feature 192 10416 1 0
 
-vendors-served : Unsupported (wishing vendors)
-unfolding opened supporting vendors
-vendors-served = supported 5 (assignmentWith vendors 5 s) refl
+other-vendor-served : Unsupported (wishing otherVendor)
+unfolding opened supporting otherVendor
+other-vendor-served = supported 5 (assignmentWith otherVendor 5 s) refl
 
-bitless-fails : (f : Server) (n : ℕ) → verdict 32 (f n (wishing vendors) .buffer) ≢ experimental 5011 → Meets f n (wishing vendors) → ⊥
-bitless-fails f n h p = other-fails f n vendors-served h p
+bitless-fails : (f : Server) (n : ℕ) → verdict 32 (f n (wishing otherVendor) .buffer) ≢ experimental 5011 → Meets f n (wishing otherVendor) → ⊥
+bitless-fails f n h p = otherwise-fails f n other-vendor-served h p
 
-lists : List ℕ
-lists = feature 192 10415 2 0
+otherList : List ℕ
+otherList = feature 192 10415 2 0
 
-lists-served : Unsupported (wishing lists)
-unfolding opened supporting lists
-lists-served = supported 5 (assignmentWith lists 5 s) refl
+other-list-served : Unsupported (wishing otherList)
+unfolding opened supporting otherList
+other-list-served = supported 5 (assignmentWith otherList 5 s) refl
 
-listless-fails : (f : Server) (n : ℕ) → verdict 32 (f n (wishing lists) .buffer) ≢ experimental 5011 → Meets f n (wishing lists) → ⊥
-listless-fails f n h p = other-fails f n lists-served h p
+other-list-fails : (f : Server) (n : ℕ) → verdict 32 (f n (wishing otherList) .buffer) ≢ experimental 5011 → Meets f n (wishing otherList) → ⊥
+other-list-fails f n h p = otherwise-fails f n other-list-served h p
 
 -- 27. one that decides before X5011: for an identity in no record (X5001), 28. for none (the SAR's B5005), and 29. for two (its B5009)
 stranger : Lent
@@ -520,7 +523,7 @@ unfolding opened supporting want stranger
 stranger-served = supported 5 (stranger .request) refl
 
 deciding-fails : (f : Server) (n : ℕ) → verdict 32 (f n stranger .buffer) ≢ experimental 5011 → Meets f n stranger → ⊥
-deciding-fails f n h p = other-fails f n stranger-served h p
+deciding-fails f n h p = otherwise-fails f n stranger-served h p
 
 nobody : Lent
 nobody = registering want
@@ -530,7 +533,7 @@ unfolding opened supporting want nobody
 nobody-served = supported 5 (nobody .request) refl
 
 needing-fails : (f : Server) (n : ℕ) → verdict 32 (f n nobody .buffer) ≢ experimental 5011 → Meets f n nobody → ⊥
-needing-fails f n h p = other-fails f n nobody-served h p
+needing-fails f n h p = otherwise-fails f n nobody-served h p
 
 couple : Lent
 couple = registering (want ++ (vendorBytes 601 (0x61 ∷ []) ++ vendorBytes 601 (0x62 ∷ [])))
@@ -540,26 +543,26 @@ unfolding opened supporting want couple
 couple-served = supported 5 (couple .request) refl
 
 several-fails : (f : Server) (n : ℕ) → verdict 32 (f n couple .buffer) ≢ experimental 5011 → Meets f n couple → ⊥
-several-fails f n h p = other-fails f n couple-served h p
+several-fails f n h p = otherwise-fails f n couple-served h p
 
 -- 30. one that marks a vector for a MAR that gets X5011
-dear : Lent
-dear =
+demanding : Lent
+demanding =
     let own = vendorBytes 612 digest ++ (vendorNumber 607 1 ++ vendorBytes 602 s) in
     let req = request 303 (common ++ (want ++ (avpBytes 1 (0x70 ∷ []) ++ (vendorBytes 601 (0x61 ∷ []) ++ own)))) in
     lent req (one 0 0 []) [] (vector 0 0x70 1) room (underCx 3588 5)
 
-dear-served : serve dear ≡ record {
+demanding-served : serve demanding ≡ record {
   call = Answered (record { length = 192; place = 0 });
   table = one 0 0 [];
   vectors = vector 0 0x70 1;
   buffer = over (reply 303 (experimental 5011) (ownFeatures 5)) room;
 }
-unfolding opened want dear
-dear-served = serve-sound dear 1 unregistered-sound ∙ come dear roomy unregistered-sound card-sound refl
+unfolding opened want demanding
+demanding-served = serve-sound demanding 1 unregistered-sound ∙ come demanding roomy unregistered-sound card-sound refl
 
-spending-fails : (f : Server) (n : ℕ) → f n dear .vectors ≢ vector 0 0x70 1 → Meets f n dear → ⊥
-spending-fails f n h p = h (vectors-given f n dear-served p)
+spending-fails : (f : Server) (n : ℕ) → f n demanding .vectors ≢ vector 0 0x70 1 → Meets f n demanding → ⊥
+spending-fails f n h p = h (vectors-given f n demanding-served p)
 
 -- 31. one that gives X5011, or anything else, before it looks for what is missing; and 32. one that leaves its list out of this answer, an error's
 lacking : Lent
@@ -600,7 +603,7 @@ behind-name-fails : (f : Server) (n : ℕ) → listed (f n naming .buffer) ≢ o
 unfolding opened listed
 behind-name-fails f n h p = h (ap listed (buffer-given f n naming-served p))
 
--- 35. one that leaves it out where its set is empty
+-- 35. one that leaves it out where it supports no bit
 empty : Lent
 empty = supporting 0 (assignmentWith hope 5 s)
 
