@@ -242,7 +242,7 @@ peers: target/c99/daemon target/c/maketable
 
 # After how many cases each deliberate fault of the independent program shows; what the cases are made of.
 COUNT_mutants := 100000
-#: mutants            whether 892 deliberate faults would be noticed, and after how many cases
+#: mutants            whether 1,020 deliberate faults would be noticed, and after how many cases
 mutants: $(BINARY)
 	@echo "mutants: seed $(SEED)"
 	$(BINARY) mutants --seed $(SEED) --count $(COUNT_mutants)
@@ -331,7 +331,7 @@ target/c99/overstep: tests/overstep.c tests/driver.c $(HEADER) $(ARCHIVE)
 	$(X86_CC) -std=c99 $(STRICT) -Wl,--wrap=ndushavire_check,--wrap=ndushavire_check_vectors -o $@ tests/overstep.c tests/driver.c $(ARCHIVE)
 
 target/narrow/driver: tests/driver.c
-target/narrow/decide: examples/decide.c examples/load.h examples/fault.h examples/peers.h
+target/narrow/decide: examples/decide.c examples/load.h examples/fault.h examples/peers.h examples/stated.h
 # Bound at the start, as pkg-config has it: else a first call pays for the dynamic linker on its own small stack.
 target/narrow/driver target/narrow/decide: tests/narrow.c $(HEADER) $(ARCHIVE)
 	mkdir -p $(@D)
@@ -365,11 +365,11 @@ target/c99/month: tests/month.c bench/requests.h examples/load.h $(HEADER) $(ARC
 	$(X86_CC) -std=c99 $(STRICT) -o $@ $< $(ARCHIVE)
 
 target/c99/daemon: $(addprefix examples/,base.h files.h log.h remember.h taking.h)
-target/c99/%: examples/%.c examples/load.h examples/fault.h examples/peers.h examples/store.h examples/area.h $(HEADER) $(ARCHIVE)
+target/c99/%: examples/%.c examples/load.h examples/fault.h examples/peers.h examples/stated.h examples/store.h examples/area.h $(HEADER) $(ARCHIVE)
 	mkdir -p $(@D)
 	$(X86_CC) -std=c99 $(STRICT) -o $@ $< $(ARCHIVE)
 
-target/cxx/%: examples/%.c examples/load.h examples/fault.h examples/peers.h examples/store.h examples/area.h $(HEADER) $(ARCHIVE)
+target/cxx/%: examples/%.c examples/load.h examples/fault.h examples/peers.h examples/stated.h examples/store.h examples/area.h $(HEADER) $(ARCHIVE)
 	mkdir -p $(@D)
 	$(X86_CXX) $(STRICT) -o $@ -x c++ $< -x none $(ARCHIVE)
 

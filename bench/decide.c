@@ -2,7 +2,7 @@
  * reference's decision in Rust. Over a table with tiny names, of which a request can hold 1,000, removals
  * are timed. Every request leaves the table as the first call made it, and what it marks in the vector file, which is empty
  * but for a MAR, is unmarked again, so that each call does the same work. As in all benchmarks the peer follows RFC 6733, by which one rule more is
- * asked. */
+ * asked, and no feature is supported. */
 #define _POSIX_C_SOURCE 199309L
 #include "aims.h"
 #include "timing.h"
@@ -28,7 +28,7 @@ static uint64_t decide(const void *call) {
     const Call *c = (const Call *)call;
     const uint64_t word = ndushavire_decide(c->request->bytes, c->request->length, c->table, c->of->table_len, c->of->profile,
                                             c->of->profile_len, c->vectors.bytes, c->vectors.length, c->answer, NDUSHAVIRE_ANSWER_ROOM,
-                                            NDUSHAVIRE_RFC_6733);
+                                            NDUSHAVIRE_RFC_6733, NDUSHAVIRE_NO_FEATURES);
     unmark(&c->vectors);
     return word;
 }
@@ -101,7 +101,8 @@ static void measure_removals(const Sample *s, Request *request, const uint8_t *r
            judged(s->records == NDUSHAVIRE_RECORDS_MAX ? REMOVAL_AIM : NONE, many / one));
 }
 
-/* Reading is linear: some 1,350 AVPs take twice the time of half as many. As many Proxy-Infos are copied into the answer besides. */
+/* Reading is linear: some 1,350 AVPs take twice the time of half as many. As many Proxy-Infos are copied into the answer besides; some 290
+ * Supported-Features are asked for bits, and looked at once more for the own list. */
 static void measure_reading(const Sample *s, Request *request, const uint8_t *record) {
     ask_long_location(request, record, NDUSHAVIRE_REQUEST_MAX / 2);
     const double half = measure(s, request, "LIR of 8 KiB", NONE);
@@ -110,6 +111,8 @@ static void measure_reading(const Sample *s, Request *request, const uint8_t *re
     printf("%7lu  whole against half %5.2f\n", (unsigned long)s->records, whole / half);
     ask_by_proxies(request, record);
     measure(s, request, "LIR by proxies", NONE);
+    ask_with_features(request, record);
+    measure(s, request, "LIR, features", NONE);
 }
 
 /* A vector for each record; one is asked for, and then as many as are ever sent. */

@@ -71,6 +71,16 @@ static inline void put_word(Request *r, uint32_t code, uint32_t vendor, uint32_t
     put(r, code, vendor, data);
 }
 
+/* Supported-Features (628): bits of a vendor's list. Its flags are 0xC0 with M, and 0x80 without. */
+static inline void put_features(Request *r, uint32_t flags, uint32_t vendor, uint32_t list, uint32_t bits) {
+    put_number(r, 628);
+    put_number(r, flags << 24 | 56);
+    put_number(r, VENDOR);
+    put_word(r, 266, 0, vendor);
+    put_word(r, 629, VENDOR, list);
+    put_word(r, 630, VENDOR, bits);
+}
+
 /* The header, and the AVPs that every request has. */
 static inline void begin(Request *r, uint32_t command) {
     r->length = 0;
@@ -113,6 +123,13 @@ static inline void ask_location(Request *r, const uint8_t *record) {
 static inline void ask_long_location(Request *r, const uint8_t *record, size_t most) {
     ask_location(r, record);
     while (r->length + 12 <= most) put_text(r, 282, "r.is");
+    end(r);
+}
+
+/* The same, filled up with Supported-Features that ask for no bit: each is looked at twice, for what it asks and for whether it calls for the own list. */
+static inline void ask_with_features(Request *r, const uint8_t *record) {
+    ask_location(r, record);
+    while (r->length + 56 <= sizeof r->bytes) put_features(r, 0xC0, VENDOR, 1, 0);
     end(r);
 }
 

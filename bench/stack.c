@@ -13,7 +13,7 @@ enum { STACK = 1 << 20, PATTERN = 0xA5, AIM = 12288 };
 static const Sample *s;
 static Request request;
 static Vectors vectors; /* a vector for each record */
-static uint8_t month[1 << 16]; /* the requests decided so far, laid end to end */
+static uint8_t month[1 << 17]; /* the requests decided so far, laid end to end */
 static size_t month_len;
 static uint64_t word;
 static ucontext_t here, there;
@@ -24,14 +24,14 @@ static void check_vectors(void) { word = ndushavire_check_vectors(vectors.bytes,
 static void decide(void) {
     static uint8_t answer[NDUSHAVIRE_ANSWER_ROOM];
     word = ndushavire_decide(request.bytes, request.length, s->table, s->table_len, s->profile, s->profile_len, vectors.bytes,
-                             vectors.length, answer, sizeof answer, NDUSHAVIRE_RFC_6733);
+                             vectors.length, answer, sizeof answer, NDUSHAVIRE_RFC_6733, NDUSHAVIRE_NO_FEATURES);
 }
 
 static uint8_t numbers[NDUSHAVIRE_REPORT_ROOM];
 static void report(void) {
     static uint8_t answer[NDUSHAVIRE_ANSWER_ROOM];
     word = ndushavire_report(month, month_len, s->table, s->table_len, s->profile, s->profile_len, vectors.bytes, vectors.length, answer,
-                             sizeof answer, numbers, sizeof numbers, NDUSHAVIRE_RFC_6733);
+                             sizeof answer, numbers, sizeof numbers, NDUSHAVIRE_RFC_6733, NDUSHAVIRE_NO_FEATURES);
 }
 
 static uint8_t fresh[NDUSHAVIRE_TABLE_MAX], area[NDUSHAVIRE_TABLE_MAX]; /* the table in edition 2, and nothing, or what was taken over before */
@@ -173,7 +173,8 @@ static int measure_removals(const uint8_t *registered) {
     return passes & removed & reports();
 }
 
-/* The longest answers, and every kind of Failed-AVP: the AVP at fault, a header alone, a second identity, an example of what is missing. */
+/* The longest answers, and every kind of Failed-AVP: the AVP at fault, a header alone, a second identity, an example of what is missing; and the most
+ * Supported-Features, all of which go on, or the last of which asks for what is not supported. */
 static int measure_faults(const uint8_t *registered) {
     month_len = 0;
     ask_by_faulty_proxy(&request, registered);
@@ -184,6 +185,10 @@ static int measure_faults(const uint8_t *registered) {
     passes &= decides("most proxies");
     spell(request.bytes + request.length - 8, 0x40000000u + 16); /* its last AVP now ends behind it */
     passes &= decides("length fault");
+    ask_with_features(&request, registered);
+    passes &= decides("most features");
+    spell(request.bytes + request.length - 4, 1);
+    passes &= decides("1 unsupported");
     ask_assignment(&request, s->table, s->records, registered, 1, 2);
     passes &= decides("2 identities");
     begin(&request, 302);

@@ -1,6 +1,6 @@
-/* decide [-e EDITION] TABLE PROFILE VECTORS REQUEST: answers one request, and shows what the call returned and changed, and where it hurts if
- * an AVP of the request is at fault. EDITION is that of the base standard which the peer follows, 3588 unless it is given, or 6733; every
- * other is refused by 12.
+/* decide [-e EDITION] [-f FEATURES] TABLE PROFILE VECTORS REQUEST: answers one request, and shows what the call returned and changed, and where it hurts
+ * if an AVP of the request is at fault. EDITION is that of the base standard which the peer follows, 3588 unless it is given, or 6733; every
+ * other is refused by 12. FEATURES are the bits of list 1 that the server supports, as a number, decimal or with 0x: 0 unless it is given.
  * VECTORS may be /dev/null: there are no vectors then. REQUEST is text: hexadecimal digits, blanks between bytes as you like,
  * and comments from # to the line's end.
  * The files stay as they are, so that a vector is sent again by the next run: this is no server. A daemon stores the vector file
@@ -13,7 +13,7 @@
 
 #include "fault.h"
 #include "load.h"
-#include "peers.h"
+#include "stated.h"
 
 /* Turns hexadecimal text into bytes, in place, and gives their number. */
 static size_t from_hex(uint8_t *text, size_t length) {
@@ -78,13 +78,13 @@ static void free_both(File file) {
 }
 
 int main(int argc, char **argv) {
-    const int told = argc > 2 && strcmp(argv[1], "-e") == 0;
-    const uint32_t peer = told ? edition_of(argv[2], strlen(argv[2])) : NDUSHAVIRE_RFC_3588;
-    if (argc != (told ? 7 : 5)) {
-        fprintf(stderr, "usage: decide [-e EDITION] TABLE PROFILE VECTORS REQUEST\n");
+    Stated stated;
+    const int first = take_stated(argc, argv, &stated);
+    if (first == 0 || argc - first != 4) {
+        fprintf(stderr, "usage: decide [-e EDITION] [-f FEATURES] TABLE PROFILE VECTORS REQUEST\n");
         return 2;
     }
-    if (told) argv += 2;
+    argv += first - 1;
     size_t profile_len, request_len;
     const File table = load_twice(argv[1]), vectors = load_twice(argv[3]);
     uint8_t *profile = load(argv[2], &profile_len);
@@ -93,7 +93,7 @@ int main(int argc, char **argv) {
     request_len = from_hex(request, request_len);
 
     uint64_t word = ndushavire_decide(request, request_len, table.lent, table.length, profile, profile_len, vectors.lent, vectors.length,
-                                      answer, sizeof answer, peer);
+                                      answer, sizeof answer, stated.peer, stated.features);
     const unsigned long value = ndushavire_value(word);
     if (ndushavire_answered(word)) { /* so both files are whole blocks */
         printf("answered, %lu bytes\n", value);

@@ -1,9 +1,14 @@
 /* ndushavire.h: decides Diameter Cx requests over a subscriber table and a vector file.
  *
+ * Words. UAR, SAR, LIR and MAR are the requests that are decided here: User-Authorization (300), Server-Assignment (301), Location-Info (302) and
+ * Multimedia-Auth (303). An AVP is a field of a message, and is named by its code, as 260 and 628 are; its flag M (0x40) says that whoever gets it must
+ * understand it. B2001 is the result 2001 as a base Result-Code, and X2001 the same number as an Experimental-Result of vendor 10415: they mean different
+ * things.
+ *
  * Who owns what. The caller owns every byte. All slices (request, table, profile, vectors, answer, requests, report, area, fresh) are lent
  * for the length of the call and none is kept: the library has no state of its own, opens no file, takes no memory and
  * starts nothing. The slices of one call must not overlap. Every pointer is non-null, also where its length is 0.
- * Only ndushavire_decide and ndushavire_report write, to the answer, the table and the vectors, and the second to its report;
+ * Only these write: ndushavire_decide and ndushavire_report, to the answer, the table and the vectors, and the second also to its report;
  * ndushavire_forward and ndushavire_back, to their table; and ndushavire_take, to its area. What must outlive the process is for the caller
  * to store.
  *
@@ -41,8 +46,8 @@
  * is the bad one. A version before 0.7.0 reads set numbers and heeds none of them: it must not serve a table that has sets.
  *
  * The vector file has the authentication vectors of the subscribers' cards, a block for each: of a private identity, and
- * used or not. A call that sends vectors marks their blocks as used, and no block is sent twice. It is stored before the
- * answer goes out, and an older one is never lent again: it would send vectors a second time. A file of no bytes (length 0)
+ * used or not. A call that sends vectors marks their blocks as used, and no block is sent twice. The caller stores the file before
+ * the answer goes out, and never lends an older one again: that would send vectors a second time. A file of no bytes (length 0)
  * has no vectors; a daemon for lines without cards lends that.
  *
  * The month's numbers. ndushavire_report decides a whole file of requests again and counts. It alters its table and marks its
@@ -50,7 +55,7 @@
  *
  * Stack. A call takes under 12 KiB by itself, most of it to remember the sets that the check has met. It calls memset and memcpy, and a
  * first call that is bound lazily takes what the dynamic linker takes besides: some 3.2 KB on x86-64 with AVX-512, where decisions then
- * took up to 13,256 bytes and reports up to 14,536. For a small stack link with -Wl,-z,now, as pkg-config does: all is bound at the start. The
+ * took up to 13,352 bytes and reports up to 14,504. For a small stack link with -Wl,-z,now, as pkg-config does: all is bound at the start. The
  * archive has no unwind tables: a debugger's backtrace ends at the call.
  *
  * The peer. RFC 3588 and RFC 6733 are editions of the base standard that differ here in one point: by the newer one a
@@ -58,6 +63,19 @@
  * it follows, at each call; nothing in a message says it. Where nobody has told the daemon, NDUSHAVIRE_RFC_3588 is right: it turns away nothing
  * that the other one takes. A request in which no 260 has a second Vendor-Id gets the same answer under both, to the byte, and alters the same:
  * this is proved.
+ *
+ * Features. A feature is an extension of Cx, a bit of a numbered list. New call servers ask for features, in any command, by any number of
+ * Supported-Features (628): each has a vendor, the number of a list, and bits of it. The daemon states at each call which bits of list 1 of vendor 10415
+ * the server supports; bit 0 is worth 1, and any 32 bits may be stated.
+ * - A 628 with M that asks for a bit which is not stated, or for another list or vendor, even with no bit, gets X5011, whatever else would be decided:
+ *   nothing is altered, and no vector is used. A fault of an AVP, or one that is missing, goes before it. What a 628 without M asks for is not judged.
+ * - Whoever sends a 628 that is right in itself, with M or without, is told in the answer which features are supported, none too, by a 628 of the
+ *   server's own. So is one whose request has another AVP at fault, or one missing. It is not in an answer to a fault of the header; and no 628 counts that
+ *   stands behind an AVP whose length is too short for its header or goes past the end.
+ * - A 628 whose content is wrong gets B5004, with M or without.
+ * Apart from X5011 and the server's own 628, nothing that the library decides, stores or sends depends on the features: that is proved. State a bit only if
+ * what the daemon's tables and profiles have is what that feature wants, and NDUSHAVIRE_NO_FEATURES where nobody has said anything: call servers then
+ * learn that there are none.
  *
  * What comes here. User-Authorization, Server-Assignment, Location-Info and Multimedia-Auth requests. The base protocol's
  * own (Capabilities-Exchange, Device-Watchdog, Disconnect-Peer) are the daemon's: a call would answer each with B3001.
@@ -76,8 +94,8 @@
 extern "C" {
 #endif
 
-#define NDUSHAVIRE_VERSION "0.12.0"
-#define NDUSHAVIRE_VERSION_NUMBER 1200 /* the same to compare: major x 10,000 + minor x 100 + patch */
+#define NDUSHAVIRE_VERSION "0.13.0"
+#define NDUSHAVIRE_VERSION_NUMBER 1300 /* the same to compare: major x 10,000 + minor x 100 + patch */
 
 #define NDUSHAVIRE_ANSWER_ROOM 36864       /* the least answer buffer, in bytes: no answer is longer */
 #define NDUSHAVIRE_REQUEST_MIN 20          /* the shortest request, a Diameter header alone */
@@ -94,6 +112,9 @@ extern "C" {
  * place in the word. RFC 3588 allows several. */
 #define NDUSHAVIRE_RFC_3588 3588
 #define NDUSHAVIRE_RFC_6733 6733
+
+/* The features of a server that supports none. Every other number of 32 bits states some, and no number is refused. */
+#define NDUSHAVIRE_NO_FEATURES 0
 
 /* Each function but ndushavire_version returns a word. Keep it in a uint64_t: an int loses the number, and a refusal then looks like a short
  * answer. Its number is 0, or why the call was refused; a refused call has written nothing, but for number 7, which comes
@@ -116,11 +137,12 @@ extern "C" {
 /* Answers one request, rewrites the records that it changes, those of their sets with them, and marks the vectors that it sends. The
  * word's value is the answer's length; the buffer's bytes past it stay as they were. Its place says which AVP of the request is at
  * fault, if one is: see ndushavire_place. The vectors must be sound whatever is asked. What a call altered is stored whole, all blocks
- * or none: half of a set on disk is an unsound table. PEER is the edition of the base standard that the peer follows, NDUSHAVIRE_RFC_3588 or
- * NDUSHAVIRE_RFC_6733, and is asked before all else. */
+ * or none: half of an implicit set on disk is an unsound table. PEER is the edition of the base standard that the peer follows, NDUSHAVIRE_RFC_3588 or
+ * NDUSHAVIRE_RFC_6733, and is asked before all else. FEATURES are the bits of list 1 that the server supports; no number is
+ * refused. */
 uint64_t ndushavire_decide(const uint8_t *request, size_t request_len, uint8_t *table, size_t table_len,
                            const uint8_t *profile, size_t profile_len, uint8_t *vectors, size_t vectors_len,
-                           uint8_t *answer, size_t answer_len, uint32_t peer);
+                           uint8_t *answer, size_t answer_len, uint32_t peer, uint32_t features);
 
 /* Checks a table against its profile file. The word's number is 0 and its value the record count, or 5 and the first
  * bad block. Of a sound table in a longer area the first 512 x (value + 1) bytes were looked at: they are the table. */
@@ -138,11 +160,13 @@ uint64_t ndushavire_check_vectors(const uint8_t *vectors, size_t vectors_len);
  * The word's number is 0 if the file was used up. It is 7 if 1 to 3 bytes are left, or the next header's length is under
  * NDUSHAVIRE_REQUEST_MIN or past the file's end: the report then has the numbers of all requests before, which have been
  * decided, and says at which byte it stopped. It is 15 if the report area is too short: nothing was decided or written. The
- * value is 0, and no request's refusal ends the report: it is counted. PEER is for all requests of the file: the numbers are those of the month
- * if all its peers followed that base standard, or if none sent a second Vendor-Id. By an unknown one each request read is counted under 12. */
+ * value is 0, and no request's refusal ends the report: it is counted. PEER and FEATURES are for all requests of the file: the numbers are those of
+ * the month if all its peers followed that base standard, or none sent a second Vendor-Id, and if the daemon stated these features all the time, or
+ * none sent a 628. By an unknown base standard each request read is counted under 12. */
 uint64_t ndushavire_report(const uint8_t *requests, size_t requests_len, uint8_t *table, size_t table_len,
                            const uint8_t *profile, size_t profile_len, uint8_t *vectors, size_t vectors_len,
-                           uint8_t *answer, size_t answer_len, uint8_t *report, size_t report_len, uint32_t peer);
+                           uint8_t *answer, size_t answer_len, uint8_t *report, size_t report_len, uint32_t peer,
+                           uint32_t features);
 
 /* Moves a sound table of edition 1 to edition 2, in place: every block gets the edition, the issue number, which is any, and its new
  * check word; every set number is 0. Nothing else of it changes, and every request gets the answer that it got.

@@ -16,7 +16,7 @@ from streams import answer, avps, made, outcomes, run
 MOST = 930_000  # bytes of cases
 CX = 10415
 RULES = tuple(('B', n) for n in (5001, 5004, 5014, 3009, 5011, 3008, 3001, 3007))
-KNOWN = {(n, 0) for n in (263, 260, 277, 264, 296, 293, 283, 1, 284, 282)} | {(n, CX) for n in (601, 600, 623, 602, 614, 624, 607, 612)}
+KNOWN = {(n, 0) for n in (263, 260, 277, 264, 296, 293, 283, 1, 284, 282)} | {(n, CX) for n in (601, 600, 623, 602, 614, 624, 607, 612, 628)}
 EFFECTS = ('B', 2001), ('X', 2004), ('X', 5007)
 
 
@@ -37,7 +37,7 @@ def edition(case):
     """Byte 1 of its table or area, if that is one of the two editions; and which base standard its peer follows, if that is one of the two."""
     held = streams.slices(case)
     said = held.get('table', held.get('area', b''))[1:2]
-    return said if said in (b'\1', b'\2') else b'', [peer for peer in case.numbers if case.entry in streams.NUMBERS and peer in (3588, 6733)] == [6733]
+    return said if said in (b'\1', b'\2') else b'', case.entry in streams.NUMBERS and case.numbers[0] == 6733
 
 
 def row(case, outcome):
@@ -57,7 +57,7 @@ def row(case, outcome):
             said = 'X', number(dict(avps(data))[298, 0])
         elif kind == (279, 0):
             carried.append((279, next((k if k in KNOWN else 0 for k, _ in avps(data)), None)))
-        elif kind[0] in (1, 602, 603, 606, 612):
+        elif kind[0] in (1, 602, 603, 606, 612, 628):
             carried.append(kind)
     command, given = int.from_bytes(asked[5:8], 'big'), list(avps(asked[20:]))
     result = command if command in (300, 301, 302, 303) else 0, said

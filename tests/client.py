@@ -100,6 +100,12 @@ def application(vendors=1):
     return avp(260, avp(266, 10415) * vendors + avp(258, CX))
 
 
+def supported(bits, listed=1, vendor=10415, marked=True):
+    """Supported-Features; without M, and of the bits that a server supports, it is that server's own list."""
+    word = lambda number: struct.pack(">I", number)
+    return avp(628, avp(266, vendor) + avp(629, word(listed), 10415, 0) + avp(630, word(bits), 10415, 0), 10415, 0x40 if marked else 0)
+
+
 def request(command, own, end=None, hop=None, route=b"", flags=0xC0, host=b"scscf1.isle", vendors=1):
     end = fresh_end() if end is None else end
     head = avp(263, b"scscf1.isle;1;%d" % end) + avp(264, host) + avp(296, b"isle") + avp(283, b"isle")
@@ -968,6 +974,47 @@ def editions(room):
         room.end()
 
 
+def features(room):
+    """What is supported is told to whoever asks, to all peers alike. More than that, with M, is X5011, whatever was wanted, and the log says what it was."""
+    everything = 0xFFFFFFFF
+    for options, bits in (
+            ("", 0), ("-f 0", 0), ("-f 5", 5), ("-f 0x5", 5), ("-f 26", 26), ("-f 0X1a", 26), ("-f 5 -f 0x00000001A", 26), ("-f 0xFFFFFFFF", everything),
+            ("-f 4294967295", everything), ("-f 2147483648 -e 6733=gw.mainland.example", 1 << 31)):
+        room.start(options=options.split())
+        room.logged(r"listening on 127\.0\.0\.1 port \d+, %d records, features 0x%x\n" % (USERS, bits))
+        own = supported(bits, marked=False)
+        outside = next((1 << n for n in range(32) if not bits >> n & 1), None)
+        for host in b"scscf1.isle", b"gw.mainland.example":
+            client = Client(room, host=host)
+            for ask, alone in (lir, "X2003"), (uar, "X2001"), (lambda user, **more: sar(user, 0, **more), "B5012"):
+                plain = client.ask(ask(1))
+                want(result(plain) == alone and all_of(plain, 628) == [], "nobody asked, and %s is %s" % (alone, result(plain)))
+                for asking in supported(bits), supported(0), supported(everything, 2, 13019, marked=False), supported(bits) + supported(0):
+                    answer = client.ask(ask(1, route=asking))
+                    want(result(answer) == alone, "with '%s' %s instead of %s" % (options, result(answer), alone))
+                    want(answer.count(own) == 1 and avps_of(answer[20:])[6] == (628, own[12:]), "with '%s' it is not told what is supported" % options)
+            # What asks for too much stands among others, which do not.
+            name, fine = host.decode(), supported(everything, marked=False) + supported(bits)
+            for bit, listed, vendor in [(outside, 1, 10415)] * (outside is not None) + [(0, 2, 10415), (bits, 1, 13019)]:
+                much = dict(route=fine + supported(bit, listed, vendor) + fine)
+                for asked in lir(1, **much), lir(77, **much), sar(1, 1, **much), mar(1, **much):
+                    answer = client.ask(asked)
+                    want(result(answer) == "X5011" and answer.endswith(own) and len(all_of(answer, 628)) == 1,
+                         "with '%s' %s for too much" % (options, result(answer)))
+                asked = sar(2, 1, **much)
+                want(client.ask(asked) == client.ask(asked), "a request that comes again gets another answer")
+                room.logged(r"peer %s: X5011: it asks for features 0x%x of list %d of vendor %d, and 0x%x of list 1 are supported\n" % (
+                    re.escape(name), bit, listed, vendor, bits))
+            room.logged(r"peer %s: no challenge for user1@isle: X5011\n" % re.escape(name))
+        want(room.lines()[b"sip:user1@isle"] == (0, 0, b"") and not room.used(), "X5011 alters something")
+        client.ask(sar(1, 1, route=supported(bits)))
+        want(room.lines()[b"sip:user1@isle"] == (1, 0, SERVER), "what is supported keeps from being registered")
+        want(len(rands(client.ask(mar(1, route=supported(bits))))) == 1, "what is supported keeps from being challenged")
+        client.ask(sar(1, 5))
+        room.end()
+        room.make("vectors", cards(), room.at("cards", "vectors"))
+
+
 def timed_out(room):
     """A success that is an X result alters the table too, and so does its repeat not."""
     room.pair("first", households(keep=0))
@@ -1222,7 +1269,7 @@ def kills(room):
 
 
 TRIALS = {trial.__name__: trial for trial in (greeting, cut, many, garbage, slow, replaced, declined, two_users, laid_over, sizes, taken,
-                                              taken_over_kills, put_in, timed_out, editions,
+                                              taken_over_kills, put_in, timed_out, editions, features,
                                               last_good, ending, twice, crowded, full, kills, spoilt)}
 
 

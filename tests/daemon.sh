@@ -79,8 +79,10 @@ without 'a table that is stored before the vectors' example.c 's/if (!durable(&v
 without 'vectors that are unsound and lent as they are' example.c 's/vectors.length = 0;/;/'
 without 'an AVP at fault that is not logged' example.c 's/if (ndushavire_place(word) != 0) {/if (0) {/'
 without 'an AVP logged that is not at fault' example.c 's/if (ndushavire_place(word) != 0) {/{/'
-without 'an edition that is not the peer'"'"'s' example.c 's/edition_stated(peer))/NDUSHAVIRE_RFC_3588)/'
-without 'an edition that is another peer'"'"'s' example.c 's/edition_stated(peer))/NDUSHAVIRE_RFC_6733)/'
+without 'an edition that is not the peer'"'"'s' example.c 's/edition_stated(peer),/NDUSHAVIRE_RFC_3588,/'
+without 'an edition that is another peer'"'"'s' example.c 's/edition_stated(peer),/NDUSHAVIRE_RFC_6733,/'
+without 'features that are supported, and are not stated' example.c 's/features_stated())/NDUSHAVIRE_NO_FEATURES)/'
+without 'features that are stated, and are not supported' example.c 's/features_stated())/features_stated() | 2)/'
 without 'a word taken for a length' example.c 's/return send_all(peer, answer, ndushavire_value(word));/return send_all(peer, answer, word);/'
 without 'a file that is not flushed' store.h 's/ \&\& flushed(file);$/;/'
 without 'a folder that is not flushed' store.h 's/return flushed(folder) ? STORED : UNSURE;/return STORED;/'
@@ -88,7 +90,7 @@ echo "daemon.sh: the page's daemon answers from what is on disk and logs an AVP 
 
 # The daemon of the examples. Two calls that fail are tried, and of the other ways each by itself: store.h is the same.
 mkdir "$room/whole"
-cp "$top"/examples/{daemon.c,area.h,base.h,fault.h,files.h,log.h,peers.h,remember.h,store.h,taking.h} "$room/whole/"
+cp "$top"/examples/{daemon.c,area.h,base.h,fault.h,files.h,log.h,peers.h,remember.h,stated.h,store.h,taking.h} "$room/whole/"
 cp "$tests/whole.c" "$room/whole/example.c"
 source=whole flags=(-DPAIRED=1) noticed=0
 build "$room/whole" "$room/whole/daemon"
@@ -102,7 +104,10 @@ without 'a table that is stored before the vectors' files.h \
     's/(used \&\& !durable(&vectors)) || (rewritten \&\& !durable(&table))/(rewritten \&\& !durable(\&table)) || (used \&\& !durable(\&vectors))/'
 without 'vectors that are unsound and lent as they are' files.h 's/vectors.length = 0;/;/'
 without 'vectors of a MAR that are not looked at' files.h 's/= is_mar \&\& altered(&vectors)/= is_mar \&\& 0/'
-without 'an edition that is not the peer'"'"'s' daemon.c 's/sizeof answer, peer->edition)/sizeof answer, peer != NULL ? NDUSHAVIRE_RFC_3588 : 0)/'
+without 'an edition that is not the peer'"'"'s' daemon.c 's/sizeof answer, peer->edition,/sizeof answer, peer != NULL ? NDUSHAVIRE_RFC_3588 : 0,/'
+without 'features that are supported, and are not stated' daemon.c 's/peer->edition, features)/peer->edition, NDUSHAVIRE_NO_FEATURES)/'
+without 'an X5011 of which the log does not say what was asked for' daemon.c \
+    's/^    if (experimental_result(answer, length) != FEATURE_UNSUPPORTED) return;/    if (length > 0) return;/'
 without 'a success that is taken for an error' daemon.c 's/ \/ 1000 == 2; }/ \/ 1000 == 3; }/'
 without 'a table renamed away before ours is stored' files.h \
     's/^    const int folder = table.folder;$/&\n    renameat(folder, "table", folder, "table.declined");/'

@@ -2,8 +2,9 @@
 """definitions.py REFERENCE SEED COUNT: do the definitions say what the independent program says?
 
 Takes calls that the independent program made and its outcomes of them, picks COUNT that show every refusal, every result,
-every assignment type, every step of an authentication, both editions of a table and both of the base standard, the rules of sets and an area longer than its
-table, and beside them a tenth as many take-overs, and writes them as a crate with one statement, which antt computes from the definitions alone.
+every assignment type, every step of an authentication, both editions of a table and both of the base standard, the rules of sets, an area longer than its
+table and what becomes of features that are asked for, and beside them a tenth as many take-overs, and writes them as a crate with one statement, which antt
+computes from the definitions alone.
 The crate stands in a folder outside the repository, beside copies of the crates that crates/worked_examples and crates/ndushavire stand on. What the
 cases open is read from crates/worked_examples/proofs/Sample.antt, so that there is one list of it.
 """
@@ -18,27 +19,34 @@ IN_A_PART = 12
 MOST_REQUEST, MOST_TABLE, MOST_PROFILE, MOST_VECTORS = 900, 4 * 512, 1200, 4 * 512
 
 BASE = '2001 3001 3007 3008 3009 5001 5003 5004 5005 5009 5011 5012 5014'
-EXPERIMENTAL = '2001 2002 2003 2004 5001 5002 5003 5004 5005 5006 5007'
+EXPERIMENTAL = '2001 2002 2003 2004 5001 5002 5003 5004 5005 5006 5007 5011'
 # Of a MAR: its steps in their order, what becomes of the record, and the faults in reading that it alone has.
 STEPS = ['X5001', 'X5002', 'X5006', 'B5012 zero asked', 'B5012 none unused', 'B2001 as many as asked', 'B2001 as many as remain', 'B2001 two or more']
 STEPS += ['B2001 in state %d, %s' % (state, name) for state in range(3) for name in ('the name stored', 'the record as it was')]
 STEPS += ['B5005 %d' % code for code in (1, 601, 612, 607, 602)] + ['B5004 612', 'B5014 607']
+# Of features: what is asked for, and the server's own list in the answer, or not.
+FEATURES = ['X5011 for a bit', 'X5011 for another list', 'X5011 for another vendor', 'X5011 with no bit', 'X5011 of several', 'X5011 to a MAR',
+            'goes on with M', 'goes on without M', 'goes on with several', 'B5004 with M', 'B5004 without M']
+FEATURES += ['told ' + what for what in ('with success', 'in a MAA', 'with an X result', 'beside Failed-AVP', 'that there are none', 'for one without M',
+                                         'for one behind a fault', 'for one beside a bad one', 'though the first AVP is another')]
+FEATURES += ['not told for one ' + what for what in ('behind a length fault', 'that comes first', 'with a reserved flag', 'under a header fault')]
 WANTED = {'refused %d' % n for n in (1, 2, 3, 4, 5, 6, 12)} | {'B' + n for n in BASE.split()} | {'X' + n for n in EXPERIMENTAL.split()} | {
     'type %d done' % n for n in range(12)} | {'MAR ' + step for step in STEPS} | {'over edition 1', 'over edition 2'} | {
     'a set written whole', 'barred, another of its set free', 'a set that disagrees', 'over a longer area'} | {
-    'by RFC 3588', 'by RFC 6733', 'B5009 for the second Vendor-Id', 'a second Vendor-Id goes on', 'B5004 beside a second Vendor-Id by RFC 6733'}
+    'by RFC 3588', 'by RFC 6733', 'B5009 for the second Vendor-Id', 'a second Vendor-Id goes on', 'B5004 beside a second Vendor-Id by RFC 6733'} | {
+    'features: ' + what for what in FEATURES}
 
 # Of a take-over.
 TAKES = {'refused 9', 'refused 10', 'refused 10, by a block past the count', 'refused 11', 'taken', 'taken, with bytes behind it'}
 
 Take = collections.namedtuple('Take', 'area fresh profile word at changed')
-Case = collections.namedtuple('Case', 'request table profile vectors room peer word at changed vectorsAt vectorsChanged answer')
+Case = collections.namedtuple('Case', 'request table profile vectors room peer features word at changed vectorsAt vectorsChanged answer')
 
 
 def read(made, told):
     for case, outcome in zip(streams.cases(made), streams.outcomes(told)):
         held, changes = streams.slices(case), streams.changes(case, outcome)
-        yield Case(held['request'], held['table'], held['profile'], held['vectors'], len(held['buffer']), case.numbers[0], outcome.word,
+        yield Case(held['request'], held['table'], held['profile'], held['vectors'], len(held['buffer']), *case.numbers, outcome.word,
                    *changes['table'], *changes['vectors'], streams.answer(case, outcome))
 
 
@@ -129,6 +137,70 @@ def peer_shown(case, result, found):
     return shown
 
 
+Asked = collections.namedtuple('Asked', 'at flags vendor list bits')
+
+
+def asked_for(case):
+    """The 628s of its request that are right in themselves, but for their flags and their place, and those that are not."""
+    right, bad = [], []
+    for at, data in ((at, data) for at, kind, data in placed(case.request) if kind == (628, 10415)):
+        members = sorted(streams.avps(data))
+        if [kind for kind, _ in members] == [(266, 0), (629, 10415), (630, 10415)] and len(data) == 44:
+            right.append(Asked(at, case.request[at + 4], *(int.from_bytes(number, 'big') for _, number in members)))
+        else:
+            bad.append(at)
+    return right, bad
+
+
+def placed(request):
+    """Place, kind and data of each AVP up to one whose length is wrong; and where that would be, with no kind."""
+    at = 20
+    for kind, data in streams.avps(request[20:]):
+        yield at, kind, data
+        at += ((12 if request[at + 4] & 0x80 else 8) + len(data) + 3) // 4 * 4
+    yield at, None, b''
+
+
+def features_shown(case, command, result, found):
+    """What a call shows of features."""
+    (right, bad), place, told = asked_for(case), case.word >> 32 & 0xffff, (628, 10415) in found
+    flawed = [one for one in right if one.flags & 0x1f or one.at == 20]
+    fine = [one for one in right if one not in flawed]
+    marked = [one for one in fine if one.flags & 0x40]
+    much = [one for one in marked if one.vendor != 10415 or one.list != 1 or one.bits & ~case.features]
+    shown, success = set(), result == 'B2001' or result[:2] == 'X2'
+    if result == 'X5011':
+        shown |= {'X5011 of several'} if len(fine) > len(much) else {'X5011 with no bit'} if not any(one.bits for one in much) else set()
+        shown |= {'X5011 to a MAR'} if command == 303 else set()
+        if all((one.vendor, one.list) == (10415, 1) for one in much):
+            shown.add('X5011 for a bit')
+        for what, others in ('list', [one.vendor == 10415 and one.list != 1 for one in much]), ('vendor', [one.vendor != 10415 and one.list == 1 for one in much]):
+            shown |= {'X5011 for another ' + what} if all(others) else set()
+    if success and fine:
+        shown |= {'goes on with M'} if any(one.bits for one in marked) else set()
+        shown |= {'goes on without M'} if not marked and any(one.bits & ~case.features for one in fine) else set()
+        shown |= {'goes on with several'} if len(fine) > 1 else set()
+    if result == 'B5004' and found.get((279, 0), b'')[:4] == struct.pack('>I', 628):
+        shown.add('B5004 with' + ('' if found[279, 0][4] & 0x40 else 'out') + ' M')
+    if told:
+        shown |= {'told with success'} if success else {'told with an X result'} if result[0] == 'X' else set()
+        shown |= {'told in a MAA'} if command == 303 and result == 'B2001' else set()
+        shown |= {'told beside Failed-AVP'} if (279, 0) in found else set()
+        shown |= {'told that there are none'} if case.features == 0 else set()
+        shown |= {'told for one without M'} if not marked else set()
+        shown |= {'told for one behind a fault'} if place and all(one.at > place for one in fine) else set()
+        shown |= {'told for one beside a bad one'} if bad else set()
+        shown |= {'told though the first AVP is another'} if case.request[20:24] != struct.pack('>I', 263) else set()
+    elif result in ('B5011', 'B3008', 'B3001', 'B3007'):
+        shown |= {'not told for one under a header fault'} if fine else set()
+    else:
+        cut_off = result == 'B5014' and [at for at, kind, _ in placed(case.request) if kind is None] == [place]
+        shown |= {'not told for one behind a length fault'} if cut_off and struct.pack('>I', 628) in case.request[place + 4:] else set()
+        shown |= {'not told for one that comes first'} if any(one.at == 20 for one in right) else set()
+        shown |= {'not told for one with a reserved flag'} if any(one.at > 20 for one in flawed) else set()
+    return {'features: ' + what for what in shown}
+
+
 def shows(case):
     """Of WANTED; and its kind, which has the command, the answer's AVPs and whether a record changed besides."""
     if case.word >> 48:
@@ -146,7 +218,7 @@ def shows(case):
         shown.add('type %d %s' % (asked(case)[614, 10415][3], done))
     if command == 303:
         shown |= {'MAR ' + step for step in steps(case, result, found)}
-    shown |= set_shown(case, command, result) | peer_shown(case, result, found)
+    shown |= set_shown(case, command, result) | peer_shown(case, result, found) | features_shown(case, command, result, found)
     missing = found[279, 0][:4] if result == 'B5005' else None
     return shown, (frozenset(shown), min(command, 304), missing, frozenset(found), case.changed == b'', case.vectorsChanged == b'')
 
@@ -213,6 +285,7 @@ pub record Case : Type 0 where
   pub vectors : List ℕ
   pub room : ℕ
   pub peer : ℕ
+  pub features : ℕ
   pub word : ℕ
   pub at : ℕ
   pub changed : List ℕ
@@ -222,7 +295,7 @@ pub record Case : Type 0 where
 
 abbrev pub Agrees : Case → Type 0
 Agrees c =
-    serve (lent (c .request) (c .table) (c .profile) (c .vectors) (replicate (c .room) 0) (underCx (c .peer)))
+    serve (lent (c .request) (c .table) (c .profile) (c .vectors) (replicate (c .room) 0) (underCx (c .peer) (c .features)))
     ≡ record { call = callIn (c .word); table = sets (c .table) (c .at) (c .changed);
                vectors = sets (c .vectors) (c .vectorsAt) (c .vectorsChanged); buffer = over (c .answer) (replicate (c .room) 0) }
 

@@ -45,7 +45,7 @@ static uint64_t check(const struct lent *lent)
 
 static uint64_t decide(const struct lent *lent)
 {
-    return ndushavire_decide(SLICE(0), SLICE(1), SLICE(2), SLICE(3), SLICE(4), lent->number[0]);
+    return ndushavire_decide(SLICE(0), SLICE(1), SLICE(2), SLICE(3), SLICE(4), lent->number[0], lent->number[1]);
 }
 
 static uint64_t check_vectors(const struct lent *lent)
@@ -55,7 +55,7 @@ static uint64_t check_vectors(const struct lent *lent)
 
 static uint64_t report(const struct lent *lent)
 {
-    return ndushavire_report(SLICE(0), SLICE(1), SLICE(2), SLICE(3), SLICE(4), SLICE(5), lent->number[0]);
+    return ndushavire_report(SLICE(0), SLICE(1), SLICE(2), SLICE(3), SLICE(4), SLICE(5), lent->number[0], lent->number[1]);
 }
 
 static uint64_t forward(const struct lent *lent)
@@ -81,9 +81,9 @@ static const struct entry {
     uint64_t (*call)(const struct lent *lent);
 } entries[] = {
     {"rr", 0, check},
-    {"rwrww", 1, decide},
+    {"rwrww", 2, decide},
     {"r", 0, check_vectors},
-    {"rwrwww", 1, report},
+    {"rwrwww", 2, report},
     {"wr", 1, forward},
     {"wr", 0, back},
     {"wrr", 0, take},

@@ -34,6 +34,8 @@ for of in tables:EqualIdentitiesTaken tables:PrefixTaken vectors:XresOf3Taken ve
     breaches:KeepTurned breaches:RoamingBitNotAsked breaches:LastNameOfSubscription \
     calls:UnknownPeerIsOlder calls:PeerAfterBuffer calls:SeveralVendorsTaken calls:SeveralVendorsRefusedByOlder calls:SecondVendorPlaced \
     reports:UnknownPeerRefusesReport reports:ReportOfOlderPeers runs:PeersTurned demand3:SeveralVendorsFirst \
+    calls:FeaturesNotAsked calls:UnmarkedFeaturesAsked calls:UnsupportedAlters calls:OwnListUpToFault calls:OwnListNotIfEmpty calls:OwnListMarked \
+    reports:ReportOfNoFeatures runs:FeaturesNotAsked demand3:UnsupportedBeforeUnknown demand3:OwnListNotBesideFailedAvp \
     demand3:FirstUnknownPlaced demand3:LastMarkedPlaced runs:UsedSentAgain runs:RewritingFreesVectors; do
     ends 1 "${of%:*}" "$reference" outcomes --fault "${of#*:}"
 done

@@ -19,6 +19,7 @@ PAGE = re.compile('as theorems about|the statements alone')
 ANY = ''
 STATEMENTS = {
     'demands/Demands': ANY,
+    'demands/Features': '02 [11]',
     'demands/Firm': ANY,
     'demands/Peers': '02 [10]',
     'demands/Place': '02 [2]',
@@ -39,7 +40,7 @@ STATEMENTS = {
 }
 WITH_STEPS = {'rewrite/Reaching', 'seen_alike/Likeness'}
 # Modules of proofs/, in whatever crate, that docs/PROVED.md cites under "Proved" and that are no such pages: examples, instances, wrong servers, single laws.
-NO_STATEMENTS = {'Areas', 'Challenges', 'Editions', 'Examples', 'Family', 'Members', 'Moves', 'Peers', 'Readings', 'Room', 'Servers', 'Sound', 'TakeOvers', 'Worked'}
+NO_STATEMENTS = {'Areas', 'Challenges', 'Editions', 'Examples', 'Family', 'Features', 'Members', 'Moves', 'Peers', 'Readings', 'Room', 'Servers', 'Sound', 'TakeOvers', 'Worked'}
 # The crates that have wrong servers or wrong reporters, each with a theorem `.. -fails`.
 WRONG = ('report_example', 'sets_example', 'taking_example', 'wrong_servers')
 # What a cell of the column Theorem says where there is no theorem: it is the contract of a function of that row; or there is none, and why.

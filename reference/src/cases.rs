@@ -55,12 +55,12 @@ pub enum Lent {
 /// Each entry, the slices that it takes, and how many numbers come behind them.
 const ENTRIES: [(Entry, &[Lent], usize); 7] = [
     (Entry::Check, &[Read(Table), Read(Profile)], 0),
-    (Entry::Decide, &[Read(Request), Written(Table), Read(Profile), Written(Vectors), Written(Buffer)], 1),
+    (Entry::Decide, &[Read(Request), Written(Table), Read(Profile), Written(Vectors), Written(Buffer)], 2),
     (Entry::CheckVectors, &[Read(Vectors)], 0),
     (
         Entry::Report,
         &[Read(Requests), Written(Table), Read(Profile), Written(Vectors), Written(Buffer), Written(Report)],
-        1,
+        2,
     ),
     (Entry::Forward, &[Written(Table), Read(Profile)], 1),
     (Entry::Back, &[Written(Table), Read(Profile)], 0),
@@ -260,7 +260,7 @@ impl Case {
         Case { entry: Entry::Take, fill, slices, numbers: vec![] }
     }
 
-    /// What a decision or a report is told of its peer.
+    /// What a decision or a report is told of its peer and of the server.
     pub fn stated(&self) -> Stated {
         Stated::of(&self.numbers)
     }

@@ -16,7 +16,7 @@ pub enum Hypothesis {
     Request,
     /// It is no MAR.
     Command,
-    /// The same is stated of the peer.
+    /// The same is stated of the peer and of the server.
     Stated,
     /// Both tables are sound.
     Sound,

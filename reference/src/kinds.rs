@@ -22,6 +22,8 @@ pub const SIP_AUTHORIZATION: u32 = 610;
 pub const SIP_ITEM_NUMBER: u32 = 613;
 pub const CONFIDENTIALITY_KEY: u32 = 625;
 pub const INTEGRITY_KEY: u32 = 626;
+pub const FEATURE_LIST_ID: u32 = 629;
+pub const FEATURE_LIST: u32 = 630;
 
 #[derive(Clone, Copy, PartialEq, Eq, Debug)]
 pub enum Command {
@@ -80,6 +82,7 @@ kinds! {
     UserDataAlreadyAvailable = 624 "User-Data-Already-Available",
     SipNumberAuthItems = 607 "SIP-Number-Auth-Items",
     SipAuthDataItem = 612 "SIP-Auth-Data-Item",
+    SupportedFeatures = 628 "Supported-Features",
 }
 
 use Kind::*;
@@ -124,7 +127,8 @@ impl Kind {
             | DestinationHost
             | DestinationRealm
             | ProxyInfo
-            | RouteRecord => true,
+            | RouteRecord
+            | SupportedFeatures => true,
             UserName => command != Command::LocationInfo,
             PublicIdentity => true,
             VisitedNetworkIdentifier | UserAuthorizationType => command == Command::UserAuthorization,
@@ -136,7 +140,7 @@ impl Kind {
 
     pub fn may_repeat_in(self, command: Command) -> bool {
         match self {
-            ProxyInfo | RouteRecord => true,
+            ProxyInfo | RouteRecord | SupportedFeatures => true,
             PublicIdentity => command == Command::ServerAssignment,
             _ => false,
         }
@@ -179,6 +183,8 @@ pub fn name_of(vendor: Option<u32>, code: u32) -> Option<&'static str> {
         (Some(VENDOR), SIP_ITEM_NUMBER) => "SIP-Item-Number",
         (Some(VENDOR), CONFIDENTIALITY_KEY) => "Confidentiality-Key",
         (Some(VENDOR), INTEGRITY_KEY) => "Integrity-Key",
+        (Some(VENDOR), FEATURE_LIST_ID) => "Feature-List-ID",
+        (Some(VENDOR), FEATURE_LIST) => "Feature-List",
         (Some(VENDOR), 633) => "Originating-Request",
         (Some(VENDOR), 637) => "UAR-Flags",
         _ => return None,

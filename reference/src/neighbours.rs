@@ -241,6 +241,7 @@ pub fn stats(seed: u64, numbers: Range<u64>) -> bool {
     !tally.is_thin(least)
 }
 
+const OWN_LIST: &str = "features: the own list is sent";
 const OVER_256: &str = "decided: over 256 records or more on a side";
 const OVER_2048: &str = "decided: over 2,048 records or more on a side";
 
@@ -251,6 +252,7 @@ fn rows(calls: &[Case; 2], own: &[Given; 2], why: &Why) -> Vec<String> {
     }
     let mut rows = vec![match why {
         Why::Decided(decision) => decided(decision),
+        Why::Unsupported(command) => format!("{} X5011", name(command.code())),
         Why::Header(_) => "header at fault".to_string(),
         _ => format!("{} with a fault in reading", name(Message(&calls[0].held(Slice::Request)).command())),
     }];
@@ -269,6 +271,9 @@ fn rows(calls: &[Case; 2], own: &[Given; 2], why: &Why) -> Vec<String> {
     }
     rows.extend(differences(calls).into_iter().map(|what| format!("differs: {what}")));
     rows.push(peer(&calls[0], why));
+    if Message(&own[0].answer).avps().sound(Slip::NONE).iter().any(|avp| avp.code == Kind::SupportedFeatures.code()) {
+        rows.push(OWN_LIST.to_string());
+    }
     rows
 }
 
@@ -407,6 +412,8 @@ fn wanted() -> Vec<(String, u64)> {
     wanted.extend(differences.map(|what| format!("differs: {what}")));
     let of_peers = ["3588", "6733", "3588, several Vendor-Ids: decided", "6733, several Vendor-Ids: B5009"];
     wanted.extend(of_peers.map(|what| format!("peer: RFC {what}")));
+    wanted.extend(["UAR", "SAR", "LIR"].map(|command| format!("{command} X5011")));
+    wanted.push(OWN_LIST.to_string());
     wanted.push(OVER_256.to_string());
     let mut wanted: Vec<(String, u64)> = wanted.into_iter().map(|row| (row, 1000)).collect();
     wanted.push((OVER_2048.to_string(), 10_000));
@@ -461,7 +468,7 @@ fn breaks(breach: Breach, broken: &BTreeSet<Hypothesis>) -> bool {
     match breach {
         Breach::Request => broken.contains(&Hypothesis::Request),
         Breach::Vectors => alone(Hypothesis::Command),
-        Breach::Peer => alone(Hypothesis::Stated),
+        Breach::Peer | Breach::Features => alone(Hypothesis::Stated),
         Breach::Unsound => alone(Hypothesis::Sound),
         Breach::Edition => alone(Hypothesis::Edition),
         Breach::Keep | Breach::Host | Breach::Realm | Breach::Network => alone(Hypothesis::Header),

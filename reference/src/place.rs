@@ -90,6 +90,8 @@ fn astray_rule(avps: &[Avp], verdict: &Verdict, fault: Fault) -> Option<usize> {
         (Fault::SecondVendorPlaced, 'h') if what == SEVERAL => vendors_of(*at_fault?).get(1).map(|second| second.at),
         (Fault::MemberOf260Placed, 'h') if kind == Some(Kind::VendorSpecificApplicationId) => first_member(),
         (Fault::MemberOf612Placed, 'h') if kind == Some(Kind::SipAuthDataItem) => first_member(),
+        (Fault::MemberOf628Placed, 'h') if kind == Some(Kind::SupportedFeatures) => first_member(),
+        (Fault::FeaturesUnplaced, 'h') if kind == Some(Kind::SupportedFeatures) => Some(0),
         _ => None,
     }
 }
@@ -101,6 +103,7 @@ fn astray_elsewhere(message: Message, avps: &[Avp], verdict: &Verdict, fault: Fa
     let command = match &verdict.why {
         Why::Header(_) => return (fault == Fault::HeaderFaultPlaced).then_some(HEADER),
         Why::Missing(_) => return (fault == Fault::MissingPlaced).then_some(end),
+        Why::Unsupported(_) => return first(Kind::SupportedFeatures).filter(|_| fault == Fault::UnsupportedPlaced),
         Why::Decided(decision) => decision.command,
         _ => return None,
     };

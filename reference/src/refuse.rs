@@ -5,7 +5,7 @@ use crate::kinds::Command;
 use crate::message::{Message, HEADER, R};
 use crate::read::{read, read_header, SEVERAL};
 use crate::slip::{Fault, Slip};
-use crate::stated::Stated;
+use crate::stated::{Stated, RFC_6733};
 use crate::table::{self, Table, EDITION, EDITION_1, EDITION_2};
 use crate::vectors::{self, vector, Vector, Vectors};
 use crate::verdict::Why;
@@ -92,7 +92,7 @@ fn unknown_peer(lent: &Lent, slip: Slip) -> Option<u32> {
         (Some(Fault::PeerNotForHeaderFaults), Some(message)) => read_header(message, slip).is_err(),
         (Some(Fault::PeerOnlyForDecisions), Some(message)) => read(message, lent.stated, slip).is_err(),
         (Some(Fault::PeerOnlyForSeveralVendors), Some(message)) => {
-            let finding = read(message, Stated::NEWER, slip).err();
+            let finding = read(message, Stated { peer: RFC_6733, ..lent.stated }, slip).err();
             finding.map_or(true, |finding| finding.why != Why::Rule('h', SEVERAL))
         }
         _ => false,

@@ -55,6 +55,8 @@ pub enum Why {
     /// A rule for an AVP, and what it is about.
     Rule(char, &'static str),
     Missing(Kind),
+    /// A request of this command asks for features that are not supported.
+    Unsupported(Command),
     Decided(Box<Decision>),
 }
 

@@ -52,7 +52,7 @@ fn a_pair_can_be_made_again() {
 fn may_break(breach: Breach) -> Vec<Hypothesis> {
     match breach {
         Breach::Request => vec![Hypothesis::Request, Hypothesis::Public, Hypothesis::Private, Hypothesis::Profile],
-        Breach::Peer => vec![Hypothesis::Stated],
+        Breach::Peer | Breach::Features => vec![Hypothesis::Stated],
         Breach::Vectors => vec![Hypothesis::Command],
         Breach::Unsound => vec![Hypothesis::Sound],
         Breach::Edition => vec![Hypothesis::Edition],
@@ -226,7 +226,7 @@ fn whom_a_request_is_about() {
 
 /// With several Vendor-Ids a request from a newer peer has a fault in reading, so that it is about nobody.
 #[test]
-fn the_peers_edition_is_a_hypothesis() {
+fn what_is_stated_is_a_hypothesis() {
     let two = [number(266, 10_415), number(266, 10_415), number(258, 16_777_216)].concat();
     let mut lir = vec![avp(263, b"s;1"), avp(260, &two), number(277, 1), avp(264, b"cscf.isle"), avp(296, b"isle")];
     lir.extend([avp(283, b"isle"), avp(601, b"b")]);
@@ -247,6 +247,9 @@ fn the_peers_edition_is_a_hypothesis() {
     assert_eq!(found(&none, [newer; 2]), []);
     assert_eq!(found(&none, [older, newer]), [&[Hypothesis::Stated], &both[..]].concat());
     assert_eq!(found(&none, [newer, older]), [&[Hypothesis::Stated], &both[..]].concat());
+    let supporting = |features| Stated { features, ..newer };
+    assert_eq!(found(&none, [supporting(3), supporting(3)]), []);
+    assert_eq!(found(&none, [supporting(3), supporting(2)]), [Hypothesis::Stated]);
 }
 
 /// As a guest house may ask: another subscriber registers, is barred, leaves; the answer for my line stays.

@@ -1,6 +1,7 @@
 -- Reading under the two editions of the base standard: the same, or the newer one blames a 260 for its second Vendor-Id.
 use Rattle.octets.specs.Standard.{ℕ, zero, suc, _+_, _≤_, _<_, List, [], _∷_, none, Bool, true, false, cond, not, _&&_, _||_, true≢false, _≡_, refl, sym}
-use Rattle.octets.specs.Standard.{ap, _∙_, _⊎_, inl, inr, _≢_, arith, length, getD, drop, length-drop, eqb, leb, ltb, eqb-true, eqb-false, leb-true, ltb-true, lt-ltb}
+use Rattle.octets.specs.Standard.{ap, _∙_, _⊎_, inl, inr, _≢_, arith, length, getD, drop, length-drop, eqb, leb, ltb, eqb-true, eqb-false, leb-true}
+use Rattle.octets.specs.Standard.{ltb-true, lt-ltb}
 use Rattle.octets.proofs.All.{and-left, and-right}
 use Rattle.diameter.specs.Avp.{padded, avpFlags, dataOf, reserved, sound}
 use Rattle.diameter.specs.AvpAt.{present, avpAt}
@@ -10,9 +11,8 @@ use Rattle.diameter.specs.Walk.{Walk, ended, faulty, avp, walk}
 use Rattle.diameter.proofs.Walks.{walk-nil}
 use Rattle.reading.specs.Contents.{faultUnless}
 use Rattle.reading.specs.Groups.{vendorId, applicationMembers, membersOf, isOf, fits, membersFitting, gathers, rfc3588, rfc6733, tooOften, groupFault}
-use Rattle.reading.specs.Kinds.{known, unknown, application, kindOf, rowOf, useIn, useOf, isNeeded}
+use Rattle.reading.specs.Kinds.{known, unknown, application, kindOf, rowOf, useIn, useOf}
 use Rattle.reading.specs.Rules.{Seen, contentFault, ruleBy, rule}
-use Rattle.reading.specs.Verdicts.{lackOf}
 use Rattle.reading.specs.declared.Content.{Content}
 use Rattle.reading.specs.declared.Content.the-variants.{Free, Number, Sized, Members}
 use Rattle.reading.specs.declared.Dialect.{Dialect}
@@ -21,14 +21,18 @@ use Rattle.reading.specs.declared.Ruled.{Ruled}
 use Rattle.reading.specs.declared.Ruled.the-variants.{Taken, Skipped, Fault}
 use Rattle.reading.specs.declared.Use.the-variants.{Needed}
 use Rattle.reading.specs.declared.group.Group.{Group}
-use Rattle.reading.specs.declared.group.Group.the-variants.{Application, AuthDataItem}
+use Rattle.reading.specs.declared.group.Group.the-variants.{Application, AuthDataItem, SupportedFeatures}
+use Rattle.requests.specs.Features.{beyondSet}
 use Rattle.requests.specs.Judged.{Judged, bad, fine, nothing, onRule, judge}
-use Rattle.requests.specs.Request.{headerFault, firstOther, missingFrom, missing, complete, readWalk, readIn}
+use Rattle.requests.specs.Request.{headerFault, firstOther, readWalk, readIn}
 use Rattle.deciding.specs.Decide.{judgedBy, decideBy, decide}
 use Rattle.deciding.specs.Plans.{planRead}
 use Rattle.deciding.specs.Rules.{inForce}
 use Rattle.demands.specs.Place.{behindAt, ReadingReaches, first, pastTaken, pastSkipped, lengthFault, ruleFault, AtFault}
 use Rattle.demands.specs.Peers.{vendorIds, OneVendor, Second, ComesTo}
+use Rattle.older_rules.proofs.Features.{on-same}
+use Rattle.demands.proofs.Dialects.{spoken}
+use Rattle.demands.proofs.Dialects as dialects
 use Rattle.demands.proofs.Faults.{avp-least, avp-within, judge-taken, judge-skipped, judge-breaks, taken-passes}
 
 -- The kinds that are no 260 hold no such group.
@@ -38,6 +42,7 @@ isApplication (Number least most) = false
 isApplication (Sized least most) = false
 isApplication (Members Application) = true
 isApplication (Members AuthDataItem) = false
+isApplication (Members SupportedFeatures) = false
 
 others : (l : List Kind) → All (λ (k : Kind). isApplication (k .content) ≡ false) l → (i : ℕ) → isApplication (getD l i unknown .content) ≡ false
 others [] h i = refl
@@ -51,7 +56,7 @@ row-other (suc zero) n = refl
 row-other (suc (suc zero)) n = absurd (n refl)
 row-other (suc (suc (suc k))) n =
     others (drop 2 known)
-    (refl, (refl, (refl, (refl, (refl, (refl, (refl, (refl, (refl, (refl, (refl, (refl, (refl, (refl, (refl, (refl, tt)))))))))))))))) k
+    (refl, (refl, (refl, (refl, (refl, (refl, (refl, (refl, (refl, (refl, (refl, (refl, (refl, (refl, (refl, (refl, (refl, tt))))))))))))))))) k
 
 -- Vendor-Ids that fit are Vendor-Ids.
 vendors-fit : (w : Walk) → membersFitting vendorId w ≤ vendorIds w
@@ -90,12 +95,12 @@ one-says (avp a w) e = (go (eqb (kindOf a) application) refl (and-left few (oneV
     go true f g k = leb-true _ _ g
     go false f g k = absurd (eqb-false _ _ f k)
 
-module _ (command app : ℕ) where
+module _ (command app features : ℕ) where
   abbrev pub older : Dialect
-  older = record { command = command; terms = record { application = app; peer = rfc3588 } }
+  older = spoken command app rfc3588 features
 
   abbrev pub newer : Dialect
-  newer = record { command = command; terms = record { application = app; peer = rfc6733 } }
+  newer = spoken command app rfc6733 features
 
   -- WHAT AN AVP HOLDS
   content-same : (c : Content) (a : List ℕ) → isApplication c ≡ false → contentFault newer c a ≡ contentFault older c a
@@ -105,12 +110,14 @@ module _ (command app : ℕ) where
   content-same (Sized least most) a e = refl
   content-same (Members Application) a e = absurd (true≢false e)
   content-same (Members AuthDataItem) a e = refl
+  content-same (Members SupportedFeatures) a e = refl
 
   -- Under RFC 3588 a group is judged as it was when there was one edition only.
   pub older-group : (g : Group) (w : Walk) → groupFault older g w ≡ faultUnless (gathers (membersOf older g) w) 5004
   unfolding groupFault tooOften
   older-group Application w = refl
   older-group AuthDataItem w = refl
+  older-group SupportedFeatures w = refl
 
   abbrev fault : Dialect → List ℕ → ℕ
   fault d a = contentFault d (rowOf (kindOf a) .content) a
@@ -138,7 +145,7 @@ module _ (command app : ℕ) where
   rule-same seen a e = rw e
 
   needed : (peer : ℕ) (a : List ℕ) → kindOf a ≡ application
-      → useOf (record { command = command; terms = record { application = app; peer = peer } }) a ≡ Needed
+      → useOf (record { command = command; terms = record { application = app; peer = peer; features = features } }) a ≡ Needed
   unfolding useIn rowOf known
   needed peer a k = rw k (go (eqb command 300) (eqb command 301) (eqb command 302))
     where
@@ -175,7 +182,8 @@ module _ (command app : ℕ) where
   unfolding rule ruleBy
   too-often seen a s = go (eqb (reserved (avpFlags a)) 0) (present (getD seen (kindOf a) none)) refl refl
     where
-      go : (x y : Bool) → eqb (reserved (avpFlags a)) 0 ≡ x → present (getD seen (kindOf a) none) ≡ y → (rule newer seen a ≡ rule older seen a) ⊎ Unblamed seen a
+      go : (x y : Bool) → eqb (reserved (avpFlags a)) 0 ≡ x → present (getD seen (kindOf a) none) ≡ y
+          → (rule newer seen a ≡ rule older seen a) ⊎ Unblamed seen a
       go false y f g = inl (rw f)
       go true true f g = inl (rw (f, needed rfc6733 a (s .kind), needed rfc3588 a (s .kind), g))
       go true false f g = inr (record { flags = f; before = g; second = s })
@@ -188,12 +196,6 @@ module _ (command app : ℕ) where
       go (inr s) = too-often seen a s
 
   -- A WALK on which no 260 has two
-  on-same : (r : Ruled) (seen : Seen) (a : List ℕ) (at : ℕ) (next other : Seen → Judged) → ((s : Seen) → next s ≡ other s)
-      → onRule r seen a at next ≡ onRule r seen a at other
-  on-same Taken seen a at next other h = h _
-  on-same Skipped seen a at next other h = h seen
-  on-same (Fault n) seen a at next other h = refl
-
   pub walk-same : (at : ℕ) (w : Walk) (seen : Seen) → OneVendor w → judge newer at w seen ≡ judge older at w seen
   unfolding judge
   walk-same at ended seen o = refl
@@ -209,29 +211,13 @@ module _ (command app : ℕ) where
       go (inl e) rest = rw e rest
       go (inr s) rest = absurd (omega (arith, s .second .two, vendors-fit (walk (dataOf a)), o .0 (s .second .kind)))
 
-  -- WHAT IS MISSING, and the header
-  missing-same : (seen : Seen) (ks : List Kind) (n : ℕ) → missingFrom newer seen ks n ≡ missingFrom older seen ks n
-  unfolding missingFrom useIn
-  missing-same seen [] n = refl
-  missing-same seen (k ∷ ks) n =
-      ap (cond (isNeeded (useIn older k) && not (present (getD seen n none))) n) (missing-same seen ks (suc n))
-
-  complete-same : (j : Judged) → complete newer j ≡ complete older j
-  unfolding complete missing
-  complete-same (bad v) = refl
-  complete-same (fine seen) = ap (λ (n : ℕ). cond (eqb n 0) (fine seen) (bad (lackOf n))) (missing-same seen known 1)
-
+  -- THE HEADER, and the whole of reading
   header-same : (req : List ℕ) → headerFault newer req ≡ headerFault older req
-  unfolding headerFault
-  header-same req = refl
+  header-same = dialects.header-same command app rfc6733 rfc3588 features features
 
   module _ (req : List ℕ) where
     pub read-same : judge newer 20 (bodyOf req) nothing ≡ judge older 20 (bodyOf req) nothing → readIn newer req ≡ readIn older req
-    unfolding readIn readWalk
-    read-same e =
-        let c : complete newer (judge newer 20 (bodyOf req) nothing) ≡ complete older (judge older 20 (bodyOf req) nothing)
-        = ap (complete newer) e ∙ complete-same (judge older 20 (bodyOf req) nothing) in
-        rw (header-same req, c)
+    read-same = dialects.read-same command app rfc6733 rfc3588 features features req
 
     -- ANY REQUEST, from place to place: reading comes to the same places in both, up to such a 260
     pub record Apart : Type 0 where
@@ -335,7 +321,7 @@ module _ (command app : ℕ) where
 
   -- THE DECISION
   judged-same : (req t : List ℕ) (count : ℕ) (v : List ℕ) (j : Judged) → judgedBy inForce newer req t count v j ≡ judgedBy inForce older req t count v j
-  unfolding judgedBy planRead
+  unfolding judgedBy planRead beyondSet
   judged-same req t count v (bad f) = refl
   judged-same req t count v (fine seen) = refl
 

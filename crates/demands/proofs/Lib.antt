@@ -1,13 +1,16 @@
 pub mod Alike
+pub mod AnyFeatures
 pub mod Areas
 pub mod Barring
 pub mod Blaming
 pub mod Cuts
 pub mod Demands
 pub mod Disagreeing
+pub mod Dialects
 pub mod Editions
 pub mod Effects
 pub mod Faults
+pub mod Features
 pub mod Firm
 pub mod Fitting
 pub mod Frame
@@ -31,4 +34,6 @@ pub mod TypeRead
 pub mod Unable
 pub mod UnableMar
 pub mod UnableSar
+pub mod Undecided
 pub mod Unreachable
+pub mod Wanting

@@ -23,8 +23,8 @@ use Rattle.demands.proofs.PeerCalls.{reads-same, one-table, away-same, 
 use Rattle.demands.proofs.Place.{place-answer, place-blames}
 
 module _ (a : Lent) where
-  -- "A MESSAGE WITH JUST ONE IS TREATED ALIKE UNDER BOTH". If none of the 260s among the request's AVPs up to its first length fault has two Vendor-Ids, the call
-  -- comes to the same in both editions, and leaves the same area, vectors and buffer. Nothing else is asked of the request: it may have any faults.
+  -- "A MESSAGE WITH JUST ONE IS TREATED ALIKE UNDER BOTH". If none of the 260s among the request's AVPs up to its first length fault has two Vendor-Ids, the
+  -- call comes to the same in both editions, and leaves the same area, vectors and buffer. Nothing else is asked of the request: it may have any faults.
   pub one-vendor : OneVendor (bodyOf (a .request)) → serve (byPeer a rfc6733) ≡ serve (byPeer a rfc3588)
   one-vendor o = ap (overArea (a .table)) (one-table (tableOnly a) o)
 
@@ -36,7 +36,11 @@ module _ (a : Lent) where
   unfolding failedOf
   second-told place c t h f =
       let b : Blames (tableOnly (byPeer a rfc6733)) place =
-      record { taken = t; result = 5009; fault = newer-breaks (commandOf (a .request)) (a .terms .application) (a .request) place c h f } in
+      record {
+        taken = t;
+        result = 5009;
+        fault = newer-breaks (commandOf (a .request)) (a .terms .application) (a .terms .features) (a .request) place c h f;
+      } in
       rw (avp-own (a .request) place (c .whole)) (place-answer (byPeer a rfc6733) place b)
 
   -- ".. ONLY", and "RFC 3588 ALLOWS SEVERAL": under RFC 3588 no call is answered with the place of such a 260, so it is not at fault.
@@ -44,13 +48,15 @@ module _ (a : Lent) where
   several-pass place c e =
       let l = reaches-least (dialectIn (byPeer a rfc3588)) (a .request) (c .reached) in
       let b = place-blames (byPeer a rfc3588) (λ z. omega (arith, e, z, l .0)) in
-      older-passes (commandOf (a .request)) (a .terms .application) (a .request) place c (b .result) (callPlace (serve (byPeer a rfc3588) .call)) (b .fault) e
+      older-passes (commandOf (a .request)) (a .terms .application) (a .terms .features) (a .request) place c (b .result)
+      (callPlace (serve (byPeer a rfc3588) .call)) (b .fault) e
 
   -- So the two are told apart by such a 260 and by nothing else: they are equal, or reading comes to one in both, and they are not.
   pub peers-differ : (serve (byPeer a rfc6733) ≡ serve (byPeer a rfc3588)) ⊎ ToldApart a
-  peers-differ = go (read-cases (commandOf (a .request)) (a .terms .application) (a .request))
+  peers-differ = go (read-cases (commandOf (a .request)) (a .terms .application) (a .terms .features) (a .request))
     where
-      apart : Told (commandOf (a .request)) (a .terms .application) (a .request) → (t : Bool) → turnedAway (tableOnly (byPeer a rfc6733)) ≡ t
+      apart : Told (commandOf (a .request)) (a .terms .application) (a .terms .features) (a .request) → (t : Bool)
+          → turnedAway (tableOnly (byPeer a rfc6733)) ≡ t
           → (serve (byPeer a rfc6733) ≡ serve (byPeer a rfc3588)) ⊎ ToldApart a
       apart f true t = inl (ap (overArea (a .table)) (away-same (tableOnly a) t))
       apart f false t =
@@ -64,9 +70,9 @@ module _ (a : Lent) where
             differ = λ e. several-pass place (f .apart .before) (ap (λ (y : Served). callPlace (y .call)) (sym e ∙ s));
           })
 
-      go : (readIn (newer (commandOf (a .request)) (a .terms .application)) (a .request)
-          ≡ readIn (older (commandOf (a .request)) (a .terms .application)) (a .request))
-          ⊎ Told (commandOf (a .request)) (a .terms .application) (a .request)
+      go : (readIn (newer (commandOf (a .request)) (a .terms .application) (a .terms .features)) (a .request)
+          ≡ readIn (older (commandOf (a .request)) (a .terms .application) (a .terms .features)) (a .request))
+          ⊎ Told (commandOf (a .request)) (a .terms .application) (a .terms .features) (a .request)
           → (serve (byPeer a rfc6733) ≡ serve (byPeer a rfc3588)) ⊎ ToldApart a
       go (inl e) = inl (ap (overArea (a .table)) (reads-same (tableOnly a) e))
       go (inr f) = apart f (turnedAway (tableOnly (byPeer a rfc6733))) refl

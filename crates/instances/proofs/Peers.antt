@@ -21,7 +21,8 @@ use Rattle.demands.specs.Peers.{byPeer, vendorIds, OneVendor, ComesTo, ToldApar
 use Rattle.demands.proofs.Demands.{demand-3-unmarked}
 use Rattle.demands.proofs.Editions.{oneVendor, one-says}
 use Rattle.demands.proofs.Peers.{one-vendor, second-told, several-pass, peers-differ, peer-exactly, peer-refused}
-use Rattle.instances.proofs.Asked.{removed, base, head, session, common, own, sar, asked, comes, blamed, plain, all, isWhole, allWhole, all-whole, kept, of-area}
+use Rattle.instances.proofs.Asked.{removed, base, head, session, common, own, sar, asked, comes, blamed, plain, all, isWhole, allWhole, all-whole}
+use Rattle.instances.proofs.Asked.{kept, of-area}
 use Rattle.instances.proofs.Calls.{sound-table}
 
 -- one Vendor-Id: the same under both
@@ -48,7 +49,7 @@ unfolding all twoIds doubled
 newer = serve-sound (byPeer (asked doubled) 6733) 2 sound-table ∙ come (byPeer (asked doubled) 6733) roomy sound-table no-vectors refl
 
 -- reading comes to it behind Session-Id, under both
-met-comes : (peer : ℕ) → ComesTo (dialectOf (underCx peer) doubled) doubled 32
+met-comes : (peer : ℕ) → ComesTo (dialectOf (underCx peer 0) doubled) doubled 32
 unfolding all twoIds doubled
 met-comes peer =
     record {
@@ -92,12 +93,12 @@ met-place =
     sym (ap place (met-peers-differ .comes)) ∙ ap place newer
 
 -- Demand 3 under RFC 6733: an AVP of an unknown kind before that 260, whose place is then 12 bytes later
-quiet-plain : Quiet (dialectOf (underCx 6733) head) plain
+quiet-plain : Quiet (dialectOf (underCx 6733 0) head) plain
 unfolding all
 quiet-plain =
     record { foreign = record { whole = record { right = refl; exact = refl; filled = refl }; plain = refl; stranger = refl }; unmarked = refl }
 
-put-plain : Inserted (Quiet (dialectOf (underCx 6733) head)) (twoIds ∷ common ++ own s 5) (plain ∷ twoIds ∷ common ++ own s 5)
+put-plain : Inserted (Quiet (dialectOf (underCx 6733 0) head)) (twoIds ∷ common ++ own s 5) (plain ∷ twoIds ∷ common ++ own s 5)
 put-plain = put plain quiet-plain (kept (twoIds ∷ common ++ own s 5))
 
 met-3-newer : serve (byPeer (asked (requestOf head (session ∷ plain ∷ twoIds ∷ common ++ own s 5) [])) 6733)
@@ -110,7 +111,7 @@ met-3-newer =
 
 -- a peer of another number, with a request of no byte, over no table, with no buffer: 12 goes before all
 stranger : Lent
-stranger = lent [] [] [] [] [] (underCx 6734)
+stranger = lent [] [] [] [] [] (underCx 6734 0)
 
 met-peer-exactly : eqb (callNumber (serve stranger .call)) 12 ≡ true
 unfolding stranger

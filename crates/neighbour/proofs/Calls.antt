@@ -7,7 +7,7 @@ use Rattle.table.specs.SoundTable.{SoundTable}
 use Rattle.diameter.specs.Message.{commandOf}
 use Rattle.calling.specs.Call.{Answer, Answered}
 use Rattle.calling.specs.Lent.{Lent, tableOnly, dialectIn}
-use Rattle.calling.specs.Serve.{Served, checkOf, checkValue, answerOf, decision, refused, answered, serveTable, serve}
+use Rattle.calling.specs.Serve.{Served, checkOf, checkValue, answerOf, decision, refused, answeredBy, serveTable, serve}
 use Rattle.vectors.specs.VectorFile.{checkVectors}
 use Rattle.calling.proofs.Kept.{serve-by, serve-either}
 use Rattle.demands.specs.Call.{turnedAway}
@@ -23,7 +23,7 @@ pub record Told (z : Lent) (count : ℕ) (s : Served) (a : Answer) : Type 0 wher
   pub bytes : bytesOf s a ≡ answerOf z (decision z count)
 
 told : (z : Lent) (count : ℕ) → checkOf z ≡ Sound count → (a : Answer) → serveTable z .call ≡ Answered a → Told z count (serveTable z) a
-unfolding refused answered over
+unfolding refused answeredBy over
 told z count sound a =
     serve-by z (λ (s : Served). s .call ≡ Answered a → Told z count s a) (λ r f g e. let n : _≡_ {A = ℕ} 0 1 = cc in absurd (omega arith))
     (λ k. rw sound (λ e.
@@ -89,7 +89,7 @@ module _ (x y : Lent) (count : ℕ) (first : checkArea (x .table) (length (x .pr
   turned-alike = rw (here, there, request, terms, buffer, vectors)
 
   pub also-answered : (a : Answer) → serve x .call ≡ Answered a → (b : Answer) × (serve y .call ≡ Answered b)
-  unfolding answered
+  unfolding answeredBy
   also-answered a e = (
     record { length = length (answerOf (tableOnly y) (decision (tableOnly y) count)); place = decision (tableOnly y) count .place },
     ap (λ (s : Served). s .call) (answered-is (tableOnly y) count there (sym turned-alike ∙ turned-none (tableOnly x) a e)),

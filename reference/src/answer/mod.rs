@@ -1,6 +1,7 @@
 //! Writing the answer.
 
 mod avps;
+mod features;
 mod items;
 
 use avps::Avps;
@@ -27,17 +28,28 @@ pub fn answer(message: Message, header: Header, verdict: &Verdict, stated: State
     result(&mut avps, verdict.result);
     avps.own_number(None, Kind::AuthSessionState.code(), 1);
     avps.own_kind(Kind::OriginHost, header.host());
+    let list = features::own_list(message, verdict, stated, slip);
+    // Right behind 296, but for a faulty program.
+    let list_at = |avps: &mut Avps, place: Option<Fault>| {
+        if place == features::elsewhere(slip) {
+            avps.bytes.extend(&list);
+        }
+    };
+    list_at(&mut avps, Some(Fault::OwnListBeforeRealm));
     avps.own_kind(Kind::OriginRealm, header.realm());
+    list_at(&mut avps, None);
     let name_at = avps.bytes.len();
     if let (Some(name), false) = (verdict.user_name, items::without_user_name(verdict, slip)) {
         avps.own_kind(Kind::UserName, name);
     }
+    list_at(&mut avps, Some(Fault::OwnListAfterUserName));
     if let (Some(authentication), false) = (&verdict.authentication, slip.is(Fault::ItemsLast)) {
         items::write(&mut avps, authentication, name_at);
     }
     if let Some(name) = verdict.server_name {
         avps.own_kind(Kind::ServerName, name);
     }
+    list_at(&mut avps, Some(Fault::OwnListAfterServerName));
     if let Some(record) = verdict.capabilities {
         capabilities(&mut avps, record, slip);
     }
@@ -47,6 +59,7 @@ pub fn answer(message: Message, header: Header, verdict: &Verdict, stated: State
         }
         _ => verdict.user_data.iter().for_each(|data| avps.own(Some(VENDOR), USER_DATA, data)),
     }
+    list_at(&mut avps, Some(Fault::OwnListBeforeFailedAvp));
     if !slip.is(Fault::FailedAvpLast) {
         failed_avp(&mut avps, &verdict.failed, slip);
     }
@@ -56,6 +69,8 @@ pub fn answer(message: Message, header: Header, verdict: &Verdict, stated: State
         (Some(Fault::ItemsLast), Some(authentication)) => items::write(&mut avps, authentication, name_at),
         _ => {}
     }
+
+    list_at(&mut avps, Some(Fault::OwnListLast));
 
     let mut answer = answer_header(message, verdict.result, avps.bytes.len(), stated, slip);
     answer.extend(avps.bytes);

@@ -8,15 +8,18 @@ mod chosen;
 mod location;
 mod lookup;
 mod sets;
+mod supported;
 
 use crate::kinds::Command;
 use crate::read::Request;
 use crate::slip::Slip;
+use crate::stated::Stated;
 use crate::table::{Record, Table};
 use crate::vectors::Vectors;
 use crate::verdict::{Decision, Stored, Verdict, Why};
 
 pub use chosen::MOST_SENT;
+pub use supported::asks_too_much;
 
 /// What a decision is made over.
 #[derive(Clone, Copy)]
@@ -26,7 +29,14 @@ pub struct Files<'a> {
     pub vectors: Vectors<'a>,
 }
 
-pub fn decide<'a>(request: &Request<'a>, files: Files<'a>, slip: Slip) -> Verdict<'a> {
+pub fn decide<'a>(request: &Request<'a>, files: Files<'a>, stated: Stated, slip: Slip) -> Verdict<'a> {
+    match asks_too_much(&request.features, request.command, stated, slip) {
+        true => supported::unsupported(request, || decided(request, files, slip), slip),
+        false => decided(request, files, slip),
+    }
+}
+
+fn decided<'a>(request: &Request<'a>, files: Files<'a>, slip: Slip) -> Verdict<'a> {
     let table = files.table;
     let (asked_type, mut verdict) = match request.command {
         Command::UserAuthorization => {

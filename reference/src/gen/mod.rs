@@ -5,6 +5,7 @@ mod asks;
 mod calls;
 mod checks;
 pub mod damage;
+mod features;
 mod made;
 pub mod model;
 pub mod moves;
@@ -20,7 +21,7 @@ pub mod takes;
 pub mod twists;
 pub mod vectors;
 
-pub use calls::{MIXED, OF_PEERS, OF_SETS};
+pub use calls::{MIXED, OF_FEATURES, OF_PEERS, OF_SETS};
 pub use checks::CUTS;
 pub use made::{Made, Stream, STREAMS};
 pub use runs::{run, Step};

@@ -124,6 +124,15 @@ impl RequestModel {
     }
 }
 
+/// AVPs one behind the other, as a group holds them.
+pub fn put_together(pieces: &[Piece]) -> Vec<u8> {
+    let mut data = Vec::new();
+    for piece in pieces {
+        piece.encode(&mut data);
+    }
+    data
+}
+
 /// A member of 260, without V.
 pub fn member(code: u32, flags: u8, number: u32) -> Vec<u8> {
     let mut bytes = code.to_be_bytes().to_vec();

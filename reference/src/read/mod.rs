@@ -2,8 +2,10 @@
 
 mod astray;
 mod content;
+mod features;
 mod groups;
 mod header;
+mod kind;
 mod missing;
 mod peers;
 mod walk;
@@ -14,7 +16,9 @@ use crate::slip::{Fault, Slip};
 use crate::stated::Stated;
 use crate::verdict::Finding;
 
+pub use features::{features, features_of, Features};
 pub use header::read_header;
+pub use kind::kind_of;
 pub use peers::{vendors_of, SEVERAL};
 pub use walk::walk;
 
@@ -33,13 +37,15 @@ pub struct Request<'a> {
     pub scheme: &'a [u8],
     /// How many vectors are asked for.
     pub number_asked: u32,
+    /// The 628s in their order, with what they ask for.
+    pub features: Vec<(Avp<'a>, Features)>,
 }
 
 pub fn read<'a>(message: Message<'a>, stated: Stated, slip: Slip) -> Result<Request<'a>, Finding<'a>> {
     let command = read_header(message, slip)?;
     if slip.is(Fault::MissingBeforeFaults) {
         let avps = message.avps().sound(slip);
-        let there: Vec<Kind> = avps.iter().filter_map(|avp| walk::kind_of(*avp, command, slip)).collect();
+        let there: Vec<Kind> = avps.iter().filter_map(|avp| kind_of(*avp, command, slip)).collect();
         missing::nothing_missing(&there, command, slip)?;
     }
     astray::asked_before(message, command, stated, slip)?;
@@ -63,5 +69,10 @@ pub fn read<'a>(message: Message<'a>, stated: Stated, slip: Slip) -> Result<Requ
         scheme: avp(Kind::SipAuthDataItem).and_then(|avp| groups::scheme(avp.members(), slip)).unwrap_or(&[]),
         // Absent only in another command.
         number_asked: value(Kind::SipNumberAuthItems).unwrap_or(1),
+        features: found
+            .iter()
+            .filter(|(kind, _)| *kind == Kind::SupportedFeatures)
+            .filter_map(|(_, avp)| features(avp.members(), slip).map(|asked| (*avp, asked)))
+            .collect(),
     })
 }

@@ -90,7 +90,10 @@ pub fn call(
     let seen = astray::seen(table, profile.len(), slip);
     let files = Files { table: Table(seen.as_deref().unwrap_or(table)), profile, vectors: Vectors(vectors) };
     let verdict = match read(message, stated, slip) {
-        Ok(request) => decide(&request, files, slip),
+        Ok(request) => decide(&request, files, stated, slip),
+        Err(finding) if astray::is_unsupported(message, &finding, stated, slip) => {
+            Verdict { why: finding.why, ..Verdict::of(Code::Experimental(5011)) }
+        }
         Err(finding) => Verdict { marked: astray::marks(message, files.vectors, slip), ..Verdict::of_finding(finding) },
     };
     let answer = answer(message, files.table.header(), &verdict, stated, slip);

@@ -1,6 +1,7 @@
 //! Histograms of a stream of cases: what was done to get them, and what came of them.
 
 mod authentication;
+mod features;
 mod moves;
 mod peers;
 mod places;
@@ -122,6 +123,7 @@ impl Histogram {
             Why::Header(code) => format!("header: B{code}"),
             Why::Rule(letter, what) => format!("rule ({letter}): {what}"),
             Why::Missing(kind) => format!("missing: {}", kind.name()),
+            Why::Unsupported(command) => format!("unsupported in {}", command.code()),
             Why::Decided(decision) => {
                 let table = made.case.held(Slice::Table);
                 self.add(format!("decided over {} records", size(Table(&table).records().count())));
@@ -146,6 +148,7 @@ impl Histogram {
             _ => {}
         }
         if outcome.parts().0 == 0 {
+            features::rows(&made.case, outcome.parts().1, why).into_iter().for_each(|row| self.add(row));
             self.count_answer(&made.case, outcome, why);
         }
     }
@@ -217,6 +220,7 @@ impl Histogram {
             1 => self.add("answer: User-Name".to_string()),
             602 => self.add("answer: Server-Name".to_string()),
             612 => self.add("answer: an item".to_string()),
+            628 => self.add("answer: the own list".to_string()),
             FAILED_AVP if avp.data.is_empty() => self.add("answer: Failed-AVP without data".to_string()),
             FAILED_AVP => {
                 self.add("answer: Failed-AVP".to_string());

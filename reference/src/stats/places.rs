@@ -33,6 +33,7 @@ fn unplaced(case: &Case, why: &Why) -> Option<&'static str> {
         Why::Rule('b', _) => "(b)",
         Why::Rule(..) => "another rule",
         Why::Missing(_) => "a missing AVP",
+        Why::Unsupported(_) => "X5011",
         Why::Decided(decision) => match decision.result? {
             Code::Base(2001) => "a success",
             Code::Base(5003) => "B5003",
@@ -58,6 +59,7 @@ pub fn wanted() -> Vec<String> {
         "the SAR's B5009",
         "B5012",
         "an X result",
+        "X5011",
     ];
     let placed = ["the first AVP's", "under 256", "256 to 4,095", "4,096 to 16,379", "16,380"].map(String::from);
     let rows = placed.into_iter().chain(unplaced.iter().map(|what| format!("none for {what}")));

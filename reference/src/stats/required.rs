@@ -1,6 +1,7 @@
 //! The rows that a histogram must have.
 
 use super::authentication;
+use super::features;
 use super::moves;
 use super::peers;
 use super::places;
@@ -10,7 +11,7 @@ use super::takes;
 use crate::gen::damage::damages;
 use crate::gen::twists::twists;
 use crate::gen::vectors::damage::{DAMAGES, OVER_THE_MOST};
-use crate::gen::{Stream, CUTS, MIXED, OF_PEERS, OF_SETS};
+use crate::gen::{Stream, CUTS, MIXED, OF_FEATURES, OF_PEERS, OF_SETS};
 use crate::kinds::{needed, Command, Kind, COMMANDS, KINDS};
 use crate::read::SEVERAL;
 
@@ -113,11 +114,12 @@ fn of_calls() -> Vec<(String, u64)> {
     wanted.extend(moves::editions().into_iter().map(|row| format!("decided over {row}")));
     wanted.push("request: 16,384 bytes".to_string());
     wanted.push("request: over 65,536 bytes".to_string());
-    let made = twists().map(|twist| twist.name).chain(MIXED).chain(OF_SETS).chain(OF_PEERS);
+    let made = twists().map(|twist| twist.name).chain(MIXED).chain(OF_SETS).chain(OF_PEERS).chain(OF_FEATURES);
     wanted.extend(made.map(|name| format!("made by: {name}")));
     wanted.extend(["UAR", "SAR", "LIR", "MAR"].map(|command| format!("refused 6 to a {command}")));
     let mut rows: Vec<(String, u64)> = wanted.into_iter().map(|row| (row, ONE_IN)).collect();
     rows.push(("refused 6 to a header fault".to_string(), 10 * ONE_IN));
+    rows.extend(features::wanted().into_iter().map(|(row, times)| (row, times * ONE_IN)));
     rows.extend(peers::wanted().into_iter().map(|(row, times)| (row, times * ONE_IN)));
     rows.extend(authentication::wanted().into_iter().map(|(row, times)| (row, times * ONE_IN)));
     rows.extend(sets::of_decisions_wanted().into_iter().map(|(row, times)| (row, times * ONE_IN)));
@@ -153,7 +155,8 @@ fn rules(wanted: &mut Vec<String>) {
             }
         }
     }
-    for kind in [Kind::ServerName, Kind::VendorSpecificApplicationId, Kind::SipAuthDataItem] {
+    let judged = [Kind::ServerName, Kind::VendorSpecificApplicationId, Kind::SipAuthDataItem, Kind::SupportedFeatures];
+    for kind in judged {
         wanted.push(format!("rule (h): {}", kind.name()));
     }
 }
@@ -171,7 +174,7 @@ fn results(wanted: &mut Vec<String>) {
     for code in [2001, 3001, 3007, 3008, 3009, 5001, 5003, 5004, 5005, 5009, 5011, 5012, 5014] {
         wanted.push(format!("result: B{code}"));
     }
-    for code in [2001, 2002, 2003, 2004, 5001, 5002, 5003, 5004, 5005, 5006, 5007] {
+    for code in [2001, 2002, 2003, 2004, 5001, 5002, 5003, 5004, 5005, 5006, 5007, 5011] {
         wanted.push(format!("result: X{code}"));
     }
 }
@@ -233,6 +236,7 @@ fn answers(wanted: &mut Vec<String>) {
         "Failed-AVP without data",
         "Failed-AVP with a Proxy-Info",
         "an item",
+        "the own list",
         "records rewritten",
         "of edition 1 rewritten",
         "of edition 2 and no set rewritten",

@@ -6,6 +6,7 @@ mod people;
 pub use authentication::{item, number_asked, other_scheme, scheme};
 pub use people::{unknown_private, unknown_public, ABSENT};
 
+use super::features;
 use super::model::{RecordModel, TableModel};
 use super::names;
 use super::request::{application, Piece, RequestModel};
@@ -89,6 +90,13 @@ pub fn surround(rng: &mut Rng, command: Command, own: &mut Vec<Piece>) -> Reques
                 let data = text(rng, "relay.isle");
                 rest.push(Piece::of(rng, kind, data));
             }
+        }
+    }
+    if rng.once_in(8) {
+        for _ in 0..rng.between(1, 2) {
+            // With M most of them would be unsupported.
+            let (asked, marked) = (features::any(rng), rng.once_in(8));
+            rest.push(features::piece(rng, asked, marked));
         }
     }
     rest.append(own);

@@ -30,7 +30,7 @@ pub fn identities(rng: &mut Rng) -> Made {
     let same: Vec<Vec<u8>> =
         model.records.iter().filter(|it| it.private == first.private).map(|it| it.public.clone()).collect();
     let mut identities = Vec::new();
-    let mut room = MOST_REQUEST - 600;
+    let mut room = MOST_REQUEST - 750;
     let wanted = rng.between(100, 900);
     for n in 0..wanted {
         let public = if n < same.len() { &same[n] } else { rng.pick(&same) };

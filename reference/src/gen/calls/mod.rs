@@ -2,12 +2,14 @@
 
 mod authentication;
 mod call;
+mod features;
 mod long;
 mod mixed;
 mod peers;
 mod refused;
 mod sets;
 
+pub use features::NOTES as OF_FEATURES;
 pub use mixed::NOTES as MIXED;
 pub use peers::NOTES as OF_PEERS;
 pub use sets::NOTES as OF_SETS;
@@ -41,6 +43,7 @@ pub fn case(rng: &mut Rng) -> Made {
         86..=88 => refused::cut(rng),
         89..=90 => refused::unknown_peer(rng),
         91..=95 => peers::case(rng),
+        96..=109 => features::case(rng),
         _ => plain(rng),
     }
 }

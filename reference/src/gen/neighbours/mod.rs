@@ -8,6 +8,7 @@ pub use breach::{Breach, BREACHES, SILENT};
 
 use super::asks;
 use super::calls;
+use super::features;
 use super::model::{RecordModel, TableModel};
 use super::peers;
 use super::request::{application_of, Piece, RequestModel};
@@ -81,13 +82,16 @@ fn any(rng: &mut Rng) -> Option<Start> {
         return of_calls(rng);
     }
     let (sound, mut request) = right(rng, None);
+    let stated = peers::any(rng);
+    if rng.once_in(10) {
+        features::ask(rng, &mut request, stated.features);
+    }
     if rng.once_in(3) {
         twists::twist_once(rng, &mut request);
         if rng.once_in(4) {
             twists::twist_once(rng, &mut request);
         }
     }
-    let stated = peers::any(rng);
     let mut bytes = request.encode();
     if rng.once_in(3) {
         add_stranger(rng, &mut bytes, &sound.model, stated);
@@ -153,6 +157,10 @@ fn in_sets(rng: &mut Rng, table: &mut TableModel) {
 /// A request in which the hypothesis has something to say, over a table that it is mostly about.
 fn suited(rng: &mut Rng, breach: Breach) -> (Sound, Vec<u8>) {
     let (sound, mut request) = right(rng, breach.command());
+    if breach == Breach::Features {
+        let (asked, marked) = (features::any(rng), rng.coin());
+        features::put(rng, &mut request, asked, marked);
+    }
     if breach == Breach::Peer {
         let vendors = rng.between(2, 3);
         let application = application_of(rng, vendors);

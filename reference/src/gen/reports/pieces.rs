@@ -2,6 +2,7 @@
 
 use super::month::Month;
 use crate::gen::asks;
+use crate::gen::features;
 use crate::gen::tables::FAR;
 use crate::gen::twists;
 use crate::kinds::{Command, APPLICATION};
@@ -18,6 +19,7 @@ pub fn piece(rng: &mut Rng, month: &Month) -> (Vec<u8>, &'static str) {
         5 => (long(rng, month), "over 16,384 bytes"),
         6..=9 if !month.earlier.is_empty() => (rng.pick(&month.earlier).clone(), "the same again"),
         10..=16 => (twisted(rng, month), "a twist"),
+        17..=19 => (with_features(rng, month), "628s for the set"),
         _ => (right(rng, month), "right"),
     }
 }
@@ -41,6 +43,13 @@ pub fn all_at_once(rng: &mut Rng, month: &Month) -> Vec<u8> {
     };
     let mut own = asks::assignment(rng, asked_type, identities, Some(first.private), name);
     asks::surround(rng, Command::ServerAssignment, &mut own).encode()
+}
+
+/// A right request with 628s that ask for what the month's set holds, or for more.
+fn with_features(rng: &mut Rng, month: &Month) -> Vec<u8> {
+    let mut request = asks::any(rng, &mut month.table());
+    features::ask(rng, &mut request, month.stated.features);
+    request.encode()
 }
 
 fn twisted(rng: &mut Rng, month: &Month) -> Vec<u8> {

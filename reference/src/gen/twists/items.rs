@@ -2,7 +2,7 @@
 
 use super::shape::{if_it_fits, some_avp, Twist};
 use crate::gen::asks::{item, number_asked, other_scheme, scheme};
-use crate::gen::request::{Piece, RequestModel};
+use crate::gen::request::{put_together, Piece, RequestModel};
 use crate::kinds::{
     Kind, CONFIDENTIALITY_KEY, SCHEME, SIP_AUTHENTICATE, SIP_AUTHENTICATION_SCHEME, SIP_AUTHORIZATION, SIP_ITEM_NUMBER,
     VENDOR,
@@ -69,14 +69,6 @@ pub const TWISTS: &[Twist] = &[
 fn own(rng: &mut Rng, request: &RequestModel) -> Option<usize> {
     request.place(Kind::SipAuthDataItem).or_else(|| request.place(Kind::SipNumberAuthItems))?;
     some_avp(rng, request, |piece| piece.has_vendor() || piece.is(Kind::UserName))
-}
-
-fn put_together(pieces: &[Piece]) -> Vec<u8> {
-    let mut data = Vec::new();
-    for piece in pieces {
-        piece.encode(&mut data);
-    }
-    data
 }
 
 /// None, two, or others beside the 608; each passes (a) and (c).

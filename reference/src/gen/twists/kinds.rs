@@ -105,7 +105,7 @@ pub fn unknown(rng: &mut Rng) -> Piece {
             Piece::new(rng, None, code, flags, data)
         }
         2 => {
-            let code = *rng.pick(&[603, 604, 605, 606, 608, 609, 610, 611, 613, 625, 626, 628, 633, 637]);
+            let code = *rng.pick(&[603, 604, 605, 606, 608, 609, 610, 611, 613, 625, 626, 629, 630, 633, 637]);
             Piece::new(rng, Some(VENDOR), code, flags, data)
         }
         // A known code in 16 bits.

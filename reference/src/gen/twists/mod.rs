@@ -1,6 +1,7 @@
 //! Twists: what goes wrong in a request, or only looks so.
 
 mod content;
+mod features;
 mod header;
 mod items;
 mod kinds;
@@ -8,6 +9,7 @@ mod lengths;
 mod presence;
 mod shape;
 
+pub use features::broken as broken_features;
 pub use kinds::unknown;
 pub use shape::Twist;
 
@@ -16,9 +18,8 @@ use crate::rng::Rng;
 
 /// Every twist.
 pub fn twists() -> impl Iterator<Item = &'static Twist> {
-    [header::TWISTS, presence::TWISTS, kinds::TWISTS, lengths::TWISTS, content::TWISTS, items::TWISTS]
-        .into_iter()
-        .flatten()
+    let common = [header::TWISTS, presence::TWISTS, kinds::TWISTS, lengths::TWISTS, content::TWISTS];
+    common.into_iter().chain([items::TWISTS, features::TWISTS]).flatten()
 }
 
 /// Does one twist, the heavier ones more often; gives its name.
