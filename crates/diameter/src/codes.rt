@@ -74,3 +74,9 @@ pub const USER_DATA_ALREADY_AVAILABLE: u32 = 624;
 pub const CONFIDENTIALITY_KEY: u32 = 625;
 
 pub const INTEGRITY_KEY: u32 = 626;
+
+pub const SUPPORTED_FEATURES: u32 = 628;
+
+pub const FEATURE_LIST_ID: u32 = 629;
+
+pub const FEATURE_LIST: u32 = 630;

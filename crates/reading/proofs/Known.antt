@@ -33,6 +33,7 @@ use Rattle.reading.specs.Kinds.{
   destinationHost,
   proxyInfo,
   routeRecord,
+  supportedFeatures,
 }
 
 -- the columns of the table
@@ -63,14 +64,15 @@ above h e = omega arith
 pub row-past : (k : ℕ) {r : Kind} → r ≡ unknown → (k ≡ sessionId → ⊥) → (k ≡ application → ⊥) → (k ≡ sessionState → ⊥) → (k ≡ originHost → ⊥)
     → (k ≡ originRealm → ⊥) → (k ≡ destinationRealm → ⊥) → (k ≡ userName → ⊥) → (k ≡ publicIdentity → ⊥) → (k ≡ visitedNetwork → ⊥)
     → (k ≡ authDataItem → ⊥) → (k ≡ numberAuthItems → ⊥) → (k ≡ serverName → ⊥) → (k ≡ assignmentType → ⊥) → (k ≡ dataAvailable → ⊥)
-    → (k ≡ authorizationType → ⊥) → (k ≡ destinationHost → ⊥) → (k ≡ proxyInfo → ⊥) → (k ≡ routeRecord → ⊥) → r ≡ rowOf k
+    → (k ≡ authorizationType → ⊥) → (k ≡ destinationHost → ⊥) → (k ≡ proxyInfo → ⊥) → (k ≡ routeRecord → ⊥)
+    → (k ≡ supportedFeatures → ⊥) → r ≡ rowOf k
 unfolding rowOf known
-row-past zero e a b c d f g h i j l m n o p q s t u = e
-row-past (suc k) e a b c d f g h i j l m n o p q s t u =
+row-past zero e a b c d f g h i j l m n o p q s t u v = e
+row-past (suc k) e a b c d f g h i j l m n o p q s t u v =
     let first : sessionId ≤ suc k = omega arith in
     let low : suc destinationRealm ≤ suc k = above (above (above (above (above (above first a) b) c) d) f) g in
     let middle : suc serverName ≤ suc k = above (above (above (above (above (above low h) i) j) l) m) n in
-    let past : kinds ≤ suc k = above (above (above (above (above (above middle o) p) q) s) t) u in
+    let past : kinds ≤ suc k = above (above (above (above (above (above (above middle o) p) q) s) t) u) v in
     e ∙ sym (List·getD-eq-default (unknown ∷ known) unknown past)
 
 -- a code that is none of them
@@ -80,9 +82,9 @@ unfolding kindBy kindFrom known
 base-none code a b c d e f g h i j = simp (ne-eqb, and-false)
 
 pub vendor-none : (code : ℕ) → (code ≡ 601 → ⊥) → (code ≡ 600 → ⊥) → (code ≡ 612 → ⊥) → (code ≡ 607 → ⊥) → (code ≡ 602 → ⊥) → (code ≡ 614 → ⊥)
-    → (code ≡ 624 → ⊥) → (code ≡ 623 → ⊥) → 0 ≡ kindBy 128 10415 code
+    → (code ≡ 624 → ⊥) → (code ≡ 623 → ⊥) → (code ≡ 628 → ⊥) → 0 ≡ kindBy 128 10415 code
 unfolding kindBy kindFrom known
-vendor-none code a b c d e f g h = simp (ne-eqb, and-false)
+vendor-none code a b c d e f g h i = simp (ne-eqb, and-false)
 
 -- without V; with V and the vendor; with V and another
 module _ (flags vendor code : ℕ) {r : ℕ} where

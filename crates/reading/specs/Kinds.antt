@@ -1,5 +1,5 @@
 -- "Known, vendor 0 without V: .. With V and 10415: .." and "Needed everywhere: ..": one table, with a column for each command. "known kinds grow by 607, a
--- 4-byte kind, and 612".
+-- 4-byte kind, and 612", and by 628.
 use Prim.Native.Nat.{ℕ, suc}
 use mathlib.Core.Bool.{Bool, true, false, cond, _&&_}
 use mathlib.Core.List.{List, [], _∷_}
@@ -10,7 +10,7 @@ use Rattle.reading.specs.declared.Content.{Content}
 use Rattle.reading.specs.declared.Content.the-variants.{Free, Number, Sized, Members}
 use Rattle.reading.specs.declared.Dialect.{Dialect}
 use Rattle.reading.specs.declared.Kind.{Kind}
-use Rattle.reading.specs.declared.group.Group.the-variants.{Application, AuthDataItem}
+use Rattle.reading.specs.declared.group.Group.the-variants.{Application, AuthDataItem, SupportedFeatures}
 use Rattle.reading.specs.declared.Use.{Use}
 use Rattle.reading.specs.declared.Use.the-variants.{Unknown, Unnamed, Needed, Optional, Repeated}
 
@@ -40,6 +40,7 @@ known =
     ∷ row 293 0 Free Optional Optional Optional Optional
     ∷ row 284 0 Free Repeated Repeated Repeated Repeated
     ∷ row 282 0 Free Repeated Repeated Repeated Repeated
+    ∷ row 628 10415 (Members SupportedFeatures) Repeated Repeated Repeated Repeated
     ∷ []
 
 -- Number 0 is the unknown kind's, which is so in every command.
@@ -48,7 +49,7 @@ unknown = row 0 0 Free Unknown Unknown Unknown Unknown
 
 -- how many kinds there are, the unknown one among them
 abbrev pub kinds : ℕ
-kinds = 19
+kinds = 20
 
 -- the row of a kind's number; that of a number past the last one's is the unknown kind's
 unfoldable pub rowOf : ℕ → Kind
@@ -108,6 +109,9 @@ proxyInfo = 17
 
 abbrev pub routeRecord : ℕ
 routeRecord = 18
+
+abbrev pub supportedFeatures : ℕ
+supportedFeatures = 19
 
 -- "kind (vendor, code)": vendor 0 is without V, and "V with vendor 0 is an unknown kind"
 abbrev pub isKind : Kind → ℕ → ℕ → ℕ → Bool

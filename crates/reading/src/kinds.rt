@@ -47,8 +47,10 @@ pub const PROXY_INFO: usize = 17;
 
 pub const ROUTE_RECORD: usize = 18;
 
+pub const SUPPORTED_FEATURES: usize = 19;
+
 // How many kinds there are, the unknown one among them.
-pub const KINDS: usize = 19;
+pub const KINDS: usize = 20;
 
 // The uses, as the table's columns have them.
 const X: Use = Use::Unknown;
@@ -177,6 +179,15 @@ pub fn row_of(k: usize) -> Kind
         DESTINATION_HOST => row(codes::DESTINATION_HOST, 0, Content::Free, O, O, O, O),
         PROXY_INFO => row(codes::PROXY_INFO, 0, Content::Free, R, R, R, R),
         ROUTE_RECORD => row(codes::ROUTE_RECORD, 0, Content::Free, R, R, R, R),
+        SUPPORTED_FEATURES => row(
+            codes::SUPPORTED_FEATURES,
+            codes::VENDOR,
+            Content::Members(Group::SupportedFeatures),
+            R,
+            R,
+            R,
+            R,
+        ),
         _ => row(0, 0, Content::Free, X, X, X, X),
     }
 }
@@ -213,6 +224,7 @@ fn vendor_kind(code: u32) -> usize
         codes::SERVER_ASSIGNMENT_TYPE => ASSIGNMENT_TYPE,
         codes::USER_DATA_ALREADY_AVAILABLE => DATA_AVAILABLE,
         codes::USER_AUTHORIZATION_TYPE => AUTHORIZATION_TYPE,
+        codes::SUPPORTED_FEATURES => SUPPORTED_FEATURES,
         _ => 0,
     }
 }

@@ -2,6 +2,7 @@
 
 pub mod base;
 pub mod experimental;
+pub mod features;
 pub mod group;
 pub mod kinds;
 pub mod plain;
@@ -11,10 +12,12 @@ use crate::group::Group;
 ghost use mathlib.Core.Path.{_≡_};
 ghost use Rattle.reading.specs.Verdicts.{numberOf};
 
-// What a call is served under: the application that is spoken, and the edition of the base standard that the peer follows.
+// What a call is served under: the application that is spoken, the edition of the base standard that the peer follows, and the features that the server
+// supports, a bit for each.
 pub struct Terms {
     pub application: u32,
     pub peer: u32,
+    pub features: u32,
 }
 
 // The two editions: RFC 3588 and RFC 6733.

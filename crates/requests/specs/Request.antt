@@ -21,12 +21,13 @@ use Rattle.requests.specs.Judged.{Judged, bad, fine, nothing, judge}
 abbrev pub dialectOf : Terms → List ℕ → Dialect
 dialectOf terms req = record { command = commandOf req; terms = terms }
 
--- the application Cx, and the terms of a call to its server by a peer that follows an edition of the base standard
+-- the application Cx, and the terms of a call to its server by a peer that follows an edition of the base standard; "a set of bits .., given by the daemon at
+-- each call"
 abbrev pub cx : ℕ
 cx = 16777216
 
-abbrev pub underCx : ℕ → Terms
-underCx peer = record { application = cx; peer = peer }
+abbrev pub underCx : ℕ → ℕ → Terms
+underCx peer features = record { application = cx; peer = peer; features = features }
 
 -- whether the application has the command: 300 to 303 are Cx's
 abbrev pub spoken : Dialect → Bool

@@ -1,4 +1,5 @@
 // A whole request: its header, its AVPs, and what is missing.
+pub mod features;
 pub mod identities;
 pub mod places;
 pub mod walk;

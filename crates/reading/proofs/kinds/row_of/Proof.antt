@@ -28,6 +28,7 @@ row-of-spec =
     (λ c κs. search needs)
     (λ c κs. search needs)
     (λ c κs. search needs)
+    (λ c κs. search needs)
     (λ c. row-is _ _ (c .before .match .keys1) (c .row .ensures))
     (λ c. row-is _ _ (c .before .match .keys2) (c .row2 .ensures))
     (λ c. row-is _ _ (c .before .match .keys3) (c .row3 .ensures))
@@ -46,4 +47,5 @@ row-of-spec =
     (λ c. row-is _ _ (c .before .match .keys16) (c .row16 .ensures))
     (λ c. row-is _ _ (c .before .match .keys17) (c .row17 .ensures))
     (λ c. row-is _ _ (c .before .match .keys18) (c .row18 .ensures))
+    (λ c. row-is _ _ (c .before .match .keys19) (c .row19 .ensures))
     (λ c. search (needs, row-past)))

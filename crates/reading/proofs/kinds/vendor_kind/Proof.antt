@@ -17,4 +17,5 @@ vendor-kind-spec =
     (λ c. (rw (c .match .keys6), search needs))
     (λ c. (rw (c .match .keys7), search needs))
     (λ c. (rw (c .match .keys8), search needs))
+    (λ c. (rw (c .match .keys9), search needs))
     (λ c. search (needs, vendor-none)))
