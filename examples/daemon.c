@@ -193,8 +193,8 @@ static void log_challenge(const Peer *peer, const uint8_t *request, size_t reque
 /* A result 2xxx, B or X. */
 static int succeeded(size_t length) { return (base_result(answer, length) + experimental_result(answer, length)) / 1000 == 2; }
 
-/* What may alter something if it comes a second time is remembered. A request with an AVP at fault is not: it altered nothing, and whoever brings
- * it again is answered by his own edition. */
+/* What may alter something if it comes a second time is remembered, and whichever peer brings it again is sent the answer as it was, by whatever base
+ * standard: it was done once. A request with an AVP at fault is not: it altered nothing, and the peer that brings it again is answered by its own. */
 static void remember_for_twice(int has_altered, const uint8_t *request, size_t length, size_t answer_len) {
     static time_t said;
     if (remember(now, has_altered, request, length, answer, answer_len) || !has_altered || (said != 0 && now - said < 60)) return;
@@ -447,7 +447,8 @@ static int state(char *statement) {
 }
 
 int main(int argc, char **argv) {
-    static const char usage[] = "usage: daemon [-a ADDRESS] [-p PORT] [-e EDITION[=HOST]].. LIVE CARDS\n";
+    static const char usage[] = "usage: daemon [-a ADDRESS] [-p PORT] [-e EDITION[=HOST]].. LIVE CARDS\n"
+                                "EDITION: the base standard that the peers follow, or the one with the Origin-Host HOST: 3588, unless it is given, or 6733.\n";
     const char *address = "127.0.0.1";
     unsigned long port = 3868;
     int option, wrong = 0;

@@ -2,7 +2,7 @@
  * wire. They are decided again, and shown is how many of each command got each result, how many were refused and why, and where reading
  * stopped.
  * It is installed as ndushavire-report.
- * EDITION is that of the base standard which the peers followed, all of them: 3588 unless it is given, or 6733.
+ * EDITION is the base standard that the peers followed, all of them: 3588 unless it is given, or 6733.
  * TABLE, PROFILE and VECTORS are copies from the month's start, from before the first request: over others the numbers are others.
  * VECTORS may be /dev/null: there are no vectors then. No file is written to. REQUESTS is mapped, whatever its size, and must not be cut
  * short meanwhile.
@@ -158,7 +158,7 @@ static void print_report(const uint8_t *report, Requests requests) {
 int main(int argc, char **argv) {
     static const char usage[] = "usage: ndushavire-report [-e EDITION] TABLE PROFILE VECTORS REQUESTS\n"
                                 "Counts what the requests in REQUESTS, end to end, get over copies from before the first of them.\n"
-                                "EDITION: of the base standard, which their peers followed: 3588, unless it is given, or 6733.\n"
+                                "EDITION: the base standard that the peers followed, all of them: 3588, unless it is given, or 6733.\n"
                                 "Exit status: 0 read to the end, 1 stopped before, 2 unreadable or wrong use.\n";
     if (argc == 2 && (is(argv[1], "--help") || is(argv[1], "--version"))) {
         printf("%s", is(argv[1], "--help") ? usage : "ndushavire-report " NDUSHAVIRE_VERSION "\n");

@@ -31,10 +31,10 @@
  * and does not matter. A shorter one has block 0 bad. Everything else that takes a table takes it alone, of its exact length: both
  * moves, and the new table of a take-over.
  *
- * Editions. A table is of edition 1, or of edition 2, which has an issue number in every block and in each record the number
+ * Editions of a table. A table is of edition 1, or of edition 2, which has an issue number in every block and in each record the number
  * of an implicit set, 0 for none. One that mixes editions or issue numbers is unsound. Every function reads both editions, but for the new
- * table of a take-over, which is of edition 2. No answer depends on edition or issue. ndushavire_forward and ndushavire_back move a table from
- * one to the other.
+ * table of a take-over, which is of edition 2. No answer depends on a table's edition or issue. ndushavire_forward and ndushavire_back move a
+ * table from one to the other.
  *
  * Sets. The records of one private identity with the same set number, other than 0, are an implicit set: what a request does to one
  * of them it does to all. A table is sound only if the records of each set agree in state, pending and server name; the later block
@@ -76,8 +76,8 @@
 extern "C" {
 #endif
 
-#define NDUSHAVIRE_VERSION "0.12.0"
-#define NDUSHAVIRE_VERSION_NUMBER 1200 /* the same to compare: major x 10,000 + minor x 100 + patch */
+#define NDUSHAVIRE_VERSION "0.13.0"
+#define NDUSHAVIRE_VERSION_NUMBER 1300 /* the same to compare: major x 10,000 + minor x 100 + patch */
 
 #define NDUSHAVIRE_ANSWER_ROOM 36864       /* the least answer buffer, in bytes: no answer is longer */
 #define NDUSHAVIRE_REQUEST_MIN 20          /* the shortest request, a Diameter header alone */
@@ -110,16 +110,17 @@ extern "C" {
 #define NDUSHAVIRE_NEW_UNSOUND 9        /* of a take-over: the new table is unsound, not of its exact length, or of edition 1 */
 #define NDUSHAVIRE_ISSUE_NOT_GREATER 10 /* of a take-over: a header or record in the area has the new table's issue, or a greater one */
 #define NDUSHAVIRE_AREA_SHORT 11        /* of a take-over: the area is shorter than the new table */
-#define NDUSHAVIRE_PEER_UNKNOWN 12      /* the peer's edition is neither NDUSHAVIRE_RFC_3588 nor NDUSHAVIRE_RFC_6733; tried before 1 */
+#define NDUSHAVIRE_PEER_UNKNOWN 12      /* the peer's base standard is neither NDUSHAVIRE_RFC_3588 nor NDUSHAVIRE_RFC_6733; tried before 1 */
 #define NDUSHAVIRE_OUTPUT_SHORT 15      /* the report area is under NDUSHAVIRE_REPORT_ROOM */
 
 /* Answers one request, rewrites the records that it changes, those of their sets with them, and marks the vectors that it sends. The
  * word's value is the answer's length; the buffer's bytes past it stay as they were. Its place says which AVP of the request is at
  * fault, if one is: see ndushavire_place. The vectors must be sound whatever is asked. What a call altered is stored whole, all blocks
- * or none: half of a set on disk is an unsound table. PEER is the edition that the peer follows, and is asked before all else. */
+ * or none: half of a set on disk is an unsound table. PEER is the edition of the base standard that the peer follows, NDUSHAVIRE_RFC_3588 or
+ * NDUSHAVIRE_RFC_6733, and is asked before all else. */
 uint64_t ndushavire_decide(const uint8_t *request, size_t request_len, uint8_t *table, size_t table_len,
                            const uint8_t *profile, size_t profile_len, uint8_t *vectors, size_t vectors_len,
-                           uint8_t *answer, size_t answer_len, uint32_t peer);
+                           uint8_t *answer, size_t answer_len, uint32_t peer, uint32_t features);
 
 /* Checks a table against its profile file. The word's number is 0 and its value the record count, or 5 and the first
  * bad block. Of a sound table in a longer area the first 512 x (value + 1) bytes were looked at: they are the table. */
@@ -138,10 +139,11 @@ uint64_t ndushavire_check_vectors(const uint8_t *vectors, size_t vectors_len);
  * NDUSHAVIRE_REQUEST_MIN or past the file's end: the report then has the numbers of all requests before, which have been
  * decided, and says at which byte it stopped. It is 15 if the report area is too short: nothing was decided or written. The
  * value is 0, and no request's refusal ends the report: it is counted. PEER is for all requests of the file: the numbers are those of the month
- * if all its peers followed that edition, or if none sent a second Vendor-Id. By an unknown one each request read is counted under 12. */
+ * if all its peers followed that base standard, or if none sent a second Vendor-Id. By an unknown one each request read is counted under 12. */
 uint64_t ndushavire_report(const uint8_t *requests, size_t requests_len, uint8_t *table, size_t table_len,
                            const uint8_t *profile, size_t profile_len, uint8_t *vectors, size_t vectors_len,
-                           uint8_t *answer, size_t answer_len, uint8_t *report, size_t report_len, uint32_t peer);
+                           uint8_t *answer, size_t answer_len, uint8_t *report, size_t report_len, uint32_t peer,
+                           uint32_t features);
 
 /* Moves a sound table of edition 1 to edition 2, in place: every block gets the edition, the issue number, which is any, and its new
  * check word; every set number is 0. Nothing else of it changes, and every request gets the answer that it got.

@@ -83,7 +83,8 @@ for request in "$(dirname "$0")"/captured/*.hex; do
     } >"$room/expected"
     for decide in "$@"; do
         for edition in '' '-e 3588' '-e 6733'; do
-            ${RUN:+"$RUN"} "$decide" $edition "$room/table" "$room/profile" "$room/vectors" "$request" >"$room/said" || fail "$name: $decide $edition does not answer"
+            ${RUN:+"$RUN"} "$decide" $edition "$room/table" "$room/profile" "$room/vectors" "$request" >"$room/said" ||
+                fail "$name: $decide $edition does not answer"
             diff "$room/expected" "$room/said" >&2 || fail "$name: $decide $edition does otherwise than the independent program"
         done
     done

@@ -5,8 +5,9 @@ Both are the independent program's: it makes the cases and says their outcomes. 
 one that shows it; of each result one, and then more: a refusal with what it returns besides; a command with its result; of a SAR past the
 reading rules also its type, and where it succeeds or meets a wrong state also keep, the state, whether it names many identities and whether
 it is about a set; of a MAR that succeeds the state, whether it is about a set and whether the record changes; of a UAR whether it is about
-a set; of a report how it ends and what it counts; of all the edition of the table or area, and that of the base standard. After them stand the requests of real software in captured/,
-each over the table and the vectors that their heads describe. Nothing here is random: a second run writes the same bytes."""
+a set; of a report how it ends and what it counts; of all the edition of the table or area, and that of the base standard. After them stand the
+requests of real software in captured/, each over the table and the vectors that their heads describe. Nothing here is random: a second run
+writes the same bytes."""
 import collections, pathlib, struct, sys
 
 import streams

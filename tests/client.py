@@ -950,10 +950,17 @@ def editions(room):
                 want(edition == 3588 or all_of(answer, 279) == [application(2)], "Failed-AVP has not the whole 260")
             want((edition == 6733) == ("peer %s: B5009 at byte " % host in room.log()), "the log, by RFC %d of %s" % (edition, host))
             room.logged("peer %s: open, RFC %d\\b" % (re.escape(host), edition))
-        # One request that comes by several peers, those by RFC 6733 first: nobody is turned away by another's edition.
-        asked = sar(1, 0, vendors=2)
-        for client, host, edition in sorted(clients, key=lambda one: -one[2]):
-            want(result(client.ask(asked)) == ("B5009" if edition == 6733 else "B5012"), "a request that comes again, by RFC %d of %s" % (edition, host))
+        # One request that comes by several peers, those by RFC 6733 first, and then those by RFC 3588. Nobody is turned away by another's edition: B5009
+        # is not remembered. What was done by RFC 3588 is: it is not done again, and everybody is sent that answer.
+        for order in -1, 1:
+            want(result(client.ask(sar(2, 1))) == "B2001", "no registration")
+            asked, done = sar(2, 5, vendors=2), None
+            for client, host, edition in sorted(clients, key=lambda one: order * one[2]):
+                answer = client.ask(asked)
+                want(answer == done if done else result(answer) == ("B5009" if edition == 6733 else "B2001"),
+                     "a request that comes again, by RFC %d of %s" % (edition, host))
+                done = answer if edition == 3588 else done
+            want(room.lines()[b"sip:user2@isle"][0] == (0 if done else 1), "a removal with two Vendor-Ids, on disk")
         # The name that a peer gives last is its own.
         client = clients[1][0]
         client.ask(cer(host=gateway))

@@ -1,8 +1,9 @@
 /* daemon FOLDER TABLE PROFILE VECTORS QUESTION ASSIGNMENT CHALLENGE RUBBISH: example.c, which is the daemon of ndushavire(3) or that of the
  * examples, on a disk that fails. Its system calls fail, or are its last, or the last before a power cut, one by one and two by two; it is
  * started again, and its peer asks until it is answered. No answer may go out while a power cut could bring back another table or vector
- * file than it was given from, and no vector twice. To RUBBISH, which has an AVP at fault, its log says where it hurts. Each peer gets
- * the answer by the edition that is stated of it. A daemon that looks for new tables has an unsound one laid over its own: until its own is stored again that one stays, and what alters is not answered.
+ * file than it was given from, and no vector twice. To RUBBISH, which has an AVP at fault, its log says where it hurts. Each peer gets the
+ * answer by the base standard that is stated of it. A daemon that looks for new tables has an unsound one laid over its own: until its own is
+ * stored again that one stays, and what alters is not answered.
  * The disk is a model: what is in the folders is what every reader sees, and only what was flushed is on disk. */
 #define _GNU_SOURCE /* memmem, MAP_ANONYMOUS */
 #include <stdarg.h>

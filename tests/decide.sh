@@ -103,7 +103,8 @@ decided() { # MESSAGE ABOUT
     echo "$1" >"$request"
     for decide in "${decides[@]}"; do
         for edition in "${editions[@]}"; do
-            "${run[@]}" "$decide" $edition "$table" "$profile" "$vectors" "$request" >"$room/said" || { echo "decide.sh: $2: $decide $edition does not answer" >&2; exit 1; }
+            "${run[@]}" "$decide" $edition "$table" "$profile" "$vectors" "$request" >"$room/said" ||
+                { echo "decide.sh: $2: $decide $edition does not answer" >&2; exit 1; }
             [ "$edition" = "${editions[0]}" ] || cmp "$room/first" "$room/said" >&2 || { echo "decide.sh: $2: $decide $edition does otherwise" >&2; exit 1; }
             cp "$room/said" "$room/first"
         done
@@ -203,11 +204,13 @@ for members in "$vendor$both" "$both$vendor" "$vendor$vendor$both" "$(avp 266 00
     editions=('' '-e 3588')
     painless 'several Vendor-Ids by RFC 3588' B2001 "$(message 302 $cx "$session$(group "$members")$behind_it")"
     editions=('-e 6733')
-    hurts 'several Vendor-Ids by RFC 6733' 302 "B5009 at byte PLACE: AVP 260 flags 0x40 length $((8 + ${#members} / 2))" 8 "$session" "$(group "$members")" "$behind_it"
+    hurts 'several Vendor-Ids by RFC 6733' 302 "B5009 at byte PLACE: AVP 260 flags 0x40 length $((8 + ${#members} / 2))" 8 \
+        "$session" "$(group "$members")" "$behind_it"
     [[ $bytes = *"$(avp 279 40 - "$(group "$members")")"* ]] || { echo "decide.sh: Failed-AVP has not the whole 260: $bytes" >&2; exit 1; }
 done
 # An AVP before it that is at fault goes before, and so does its own reserved flag; what is missing comes behind.
-hurts 'an unknown AVP before several Vendor-Ids' 302 'B5001 at byte PLACE: AVP 999 flags 0x40 length 8' 8 "$session" "$(avp 999 40 - '')" "$(group "$vendor$both")"
+hurts 'an unknown AVP before several Vendor-Ids' 302 'B5001 at byte PLACE: AVP 999 flags 0x40 length 8' 8 \
+    "$session" "$(avp 999 40 - '')" "$(group "$vendor$both")"
 hurts 'several Vendor-Ids and a reserved flag' 302 'B3009 at byte PLACE: AVP 260 flags 0x41 length 44' 8 "$session" "$(group "$vendor$both" 41)" "$behind_it"
 hurts 'several Vendor-Ids, and nothing else' 302 'B5009 at byte PLACE: AVP 260 flags 0x40 length 44' 8 "$session" "$(group "$vendor$both")"
 painless 'several Vendor-Ids under another application' B3007 "$(message 302 01000001 "$session$(group "$vendor$both")")"
@@ -217,8 +220,10 @@ for members in "$both" "$(avp 258 40 - $cx)$vendor" "$(avp 266 00 - 000028AF)$(a
     painless 'one Vendor-Id' B2001 "$(message 302 $cx "$session$(group "$members")$behind_it")"
     painless 'one Vendor-Id, and 260 without M' B2001 "$(message 302 $cx "$session$(group "$members" 00)$behind_it")"
 done
-for members in "$both$(avp 266 40 - 00000032)" "$both$(avp 258 40 - $cx)" "$vendor$vendor" "$vendor$both$(avp 259 40 - 00000003)" "$both$(avp 266 41 - 000028AF)"; do
-    hurts 'several members, and one is wrong' 302 "B5004 at byte PLACE: AVP 260 flags 0x40 length $((8 + ${#members} / 2))" 8 "$session" "$(group "$members")" "$behind_it"
+for members in "$both$(avp 266 40 - 00000032)" "$both$(avp 258 40 - $cx)" "$vendor$vendor" "$vendor$both$(avp 259 40 - 00000003)" \
+    "$both$(avp 266 41 - 000028AF)"; do
+    hurts 'several members, and one is wrong' 302 "B5004 at byte PLACE: AVP 260 flags 0x40 length $((8 + ${#members} / 2))" 8 \
+        "$session" "$(group "$members")" "$behind_it"
 done
 hurts 'a second 260' 302 'B5009 at byte PLACE: AVP 260 flags 0x40 length 44' 8 "$session$application" "$(group "$vendor$both")" "$behind_it"
 : >"$vectors"

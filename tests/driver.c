@@ -10,14 +10,6 @@
 
 #include "ndushavire.h"
 
-/* From document 02's tenth request on, include/ndushavire.h declares ndushavire_decide and ndushavire_report with the peer's edition
- * of the base standard, 3588 or 6733, behind their slices:
- *
- *     uint64_t ndushavire_decide(.., uint8_t *answer, size_t answer_len, uint32_t peer);
- *     uint64_t ndushavire_report(.., uint8_t *report, size_t report_len, uint32_t peer);
- *
- * Under an older header this file does not compile. */
-
 #define GUARD 64u             /* bytes before and after every slice */
 #define LONGEST (1u << 26)    /* a longer slice is a broken stream */
 #define STREAM_BUFFER (1u << 20)

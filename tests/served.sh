@@ -95,6 +95,8 @@ with 'a host by the beginning of its name' editions peers.h 's/strlen(host) == l
 with 'a host in another case, taken for another' editions peers.h 's/strncasecmp/strncmp/'
 with 'the first word on a peer, and not the last' editions peers.h 's/ \&\& strncasecmp(/ \&\& of_peer == 0&/'
 with 'a fault by one edition, remembered for another' editions daemon.c 's/ \&\& ndushavire_place(word) == 0) remember_for_twice/) remember_for_twice/'
+with 'what was done by one edition, decided again by another' editions daemon.c \
+    's/may_alter(request, length) ? recall(/may_alter(request, length) \&\& peer->edition == NDUSHAVIRE_RFC_3588 ? recall(/'
 with 'an edition that the log does not say' editions daemon.c 's/open, RFC %lu", peer->name, (unsigned long)peer->edition)/open", peer->name)/'
 with 'a peer that follows RFC 6733 unless something is stated' editions peers.h 's/uint32_t of_all = NDUSHAVIRE_RFC_3588/uint32_t of_all = NDUSHAVIRE_RFC_6733/'
 with 'an answer that is sent before its work is stored' kills daemon.c \

@@ -11,7 +11,7 @@ use Rattle.reading.specs.declared.Terms.{Terms}
 use Rattle.calling.specs.Call.{Refused}
 use Rattle.calling.specs.declared.Came.{Came}
 use Rattle.calling.specs.Lent.{Lent, lent, holding, tableOnly, putBack}
-use Rattle.calling.specs.Serve.{Served, SameCall, earlyTrials, fileTrials, refused, answered, checkOf, checkValue, decided, serveFound, serveTableBy}
+use Rattle.calling.specs.Serve.{Served, SameCall, earlyTrials, fileTrials, refused, answered, answeredBy, checkOf, checkValue, decided, serveFound, serveTableBy}
 use Rattle.calling.specs.Serve.{serveTable, overArea, serve}
 use Rattle.calling.specs.Trial.{tried, anyHolds}
 use Rattle.calling.specs.Leaves.{Leaves, Comes}
@@ -78,7 +78,7 @@ sound-large t u file count e f =
 
 -- A CALL OVER A TABLE leaves one as large.
 pub served-large : (x : Lent) → AsLarge (x .table) (serveTable x .table)
-unfolding refused answered
+unfolding refused answeredBy
 served-large x =
     serve-by x (λ (s : Served). checkTable (s .table) (length (x .profile)) ≡ checkOf x → AsLarge (x .table) (s .table))
     (λ r a b e. record { bytes = refl; counts = refl })

@@ -9,7 +9,9 @@ use Rattle.table.specs.SoundTable.{SoundTable}
 use Rattle.vectors.specs.VectorFile.{checkVectors, SoundVectors}
 use Rattle.reading.specs.declared.Dialect.{Dialect}
 use Rattle.reading.specs.declared.Terms.{Terms}
+use Rattle.requests.specs.Features.{wantedOf}
 use Rattle.requests.specs.Request.{dialectOf}
+use Rattle.requests.specs.declared.features.Wanted.{Wanted}
 use Rattle.deciding.specs.Decide.{decide}
 use Rattle.deciding.proofs.Tests.{neither}
 use Rattle.deciding.specs.Passed.{Passed}
@@ -18,7 +20,7 @@ use Rattle.deciding.specs.declared.Told.{Told}
 use Rattle.calling.specs.declared.Came.{Came}
 use Rattle.calling.specs.Lent.{Lent, lent}
 use Rattle.calling.specs.Trial.{tried}
-use Rattle.calling.specs.Serve.{refused, answered, unknownPeer, smallBuffer, wrongSize, wrongLength, noRequest, checkOf, checkValue, serveFound, serveTableBy}
+use Rattle.calling.specs.Serve.{refused, answeredBy, unknownPeer, smallBuffer, wrongSize, wrongLength, noRequest, checkOf, checkValue, serveFound, serveTableBy}
 use Rattle.calling.specs.Serve.{serveTable}
 use Rattle.calling.specs.Leaves.{Leaves, early, serveChecked}
 use Rattle.calling.specs.declared.Came.the-variants as came
@@ -45,6 +47,9 @@ vectors-sound v n e f = record { count = n; checked = sym e ∙ f }
 
 pub dialect-own : (req : List ℕ) (terms : Terms) (d : Dialect) → d ≡ dialectOf terms req → d ≡ dialectOf (d .terms) req
 dialect-own req terms d e = rw e
+
+pub wanted-own : (req : List ℕ) (terms : Terms) (d : Dialect) (w : Wanted) → d ≡ dialectOf terms req → w ≡ wantedOf terms req → w ≡ wantedOf (d .terms) req
+wanted-own req terms d w e f = f ∙ rw e
 
 -- a size that is not wrong
 size-within : (req : List ℕ) → wrongSize req ≡ false → (20 ≤ length req) × (length req ≤ 16384)
@@ -161,7 +166,7 @@ module _ (req t file v o : List ℕ) (terms : Terms) where
     pub over-answered : (m : ℕ) (dialect : Dialect) (told : Told) {t' v' o' : List ℕ} → dialect ≡ dialectOf terms req → d ≡ Sound m
         → Tells dialect req t count file v o o' told → t' ≡ decide dialect req t count v .table → v' ≡ decide dialect req t count v .vectors
         → Leaves x (serveChecked x (Sound count) d) count (came.Answered told) t' v' o'
-    unfolding serveChecked tried answered
+    unfolding serveChecked tried answeredBy
     over-answered m dialect told is e a f g =
         let b = rw is at a in
         let t-is = rw is at f in

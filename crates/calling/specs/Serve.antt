@@ -12,7 +12,6 @@ use Rattle.blocks.specs.declared.Checked.the-variants.{Sound, Bad}
 use Rattle.vectors.specs.VectorFile.{checkVectors}
 use Rattle.deciding.specs.Rules.{Rules, inForce}
 use Rattle.deciding.specs.Decide.{Decision, decideBy}
-use Rattle.answering.specs.Answer.{answerBytes}
 use Rattle.reading.specs.Groups.{rfc3588, rfc6733}
 use Rattle.reading.specs.declared.Outcome.{Outcome}
 use Rattle.reading.specs.declared.Terms.{Terms}
@@ -86,16 +85,16 @@ refused x r = record { call = Refused (r .number) (r .besides); table = x .table
 
 -- the answer of a decision; "the call returns the answer's length; buffer bytes past it stay"; "and the entry shall return, beside the answer's length,
 -- the place of the AVP at fault"
-abbrev pub answerOf : Lent → Decision → List ℕ
-answerOf x d = answerBytes (x .terms) (x .request) (x .table) (x .profile) (x .vectors) (d .given)
+abbrev pub answerBy : Rules → Lent → Decision → List ℕ
+answerBy r x d = r .answer (x .terms) (x .request) (x .table) (x .profile) (x .vectors) (d .given)
 
-unfoldable pub answered : Lent → Decision → Served
-answered x d =
+unfoldable pub answeredBy : Rules → Lent → Decision → Served
+answeredBy r x d =
     record {
-      call = Answered (record { length = length (answerOf x d); place = d .place });
+      call = Answered (record { length = length (answerBy r x d); place = d .place });
       table = d .table;
       vectors = d .vectors;
-      buffer = over (answerOf x d) (x .buffer);
+      buffer = over (answerBy r x d) (x .buffer);
     }
 
 -- A call under some rules, over a table whose length must be exact, where its check answers so: "Tried in this order. .. Otherwise the call returns the
@@ -104,12 +103,18 @@ abbrev pub decisionBy : Rules → Lent → ℕ → Decision
 decisionBy r x count = decideBy r (dialectIn x) (x .request) (x .table) count (x .vectors)
 
 unfoldable pub serveFound : Rules → Lent → Checked → Served
-serveFound r x c = tried (refused x) (answered x (decisionBy r x (checkValue c))) (trialsOf x c)
+serveFound r x c = tried (refused x) (answeredBy r x (decisionBy r x (checkValue c))) (trialsOf x c)
 
 unfoldable pub serveTableBy : Rules → Lent → Served
 serveTableBy r x = serveFound r x (r .check (x .table) (length (x .profile)))
 
 -- under the rules in force
+abbrev pub answerOf : Lent → Decision → List ℕ
+answerOf = answerBy inForce
+
+abbrev pub answered : Lent → Decision → Served
+answered = answeredBy inForce
+
 abbrev pub serveTable : Lent → Served
 serveTable = serveTableBy inForce
 

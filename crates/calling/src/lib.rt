@@ -4,12 +4,14 @@ use blocks::Checked;
 use deciding::Told;
 use diameter::message;
 use reading::Terms;
+use requests::features;
 ghost use mathlib.Core.Path.{_≡_};
 ghost use Prim.Native.Nat.{_≤_};
 ghost use lib.ListN.{length};
 ghost use Rattle.table.specs.Check.{checkTable};
 ghost use Rattle.table.specs.SoundTable.{SoundTable};
 ghost use Rattle.vectors.specs.VectorFile.{checkVectors};
+ghost use Rattle.requests.specs.Features.{wantedOf};
 ghost use Rattle.requests.specs.Request.{dialectOf};
 ghost use Rattle.deciding.specs.Passed.{Passed};
 ghost use Rattle.calling.specs.Lent.{lent};
@@ -92,7 +94,7 @@ fn over_sound(
     out: &mut [u8],
 ) -> Came
     requires { ⌜ Passed (now req) (now out) × SoundTable (now t) (ground .count) × (d ≡ checkVectors (now v))
-        × (ground .dialect ≡ dialectOf (ground .dialect .terms) (now req)) ⌝ }
+        × (ground .dialect ≡ dialectOf (ground .dialect .terms) (now req)) × (ground .wanted ≡ wantedOf (ground .dialect .terms) (now req)) ⌝ }
     ensures { λ r. ⌜ Leaves (lent (now (req .entry)) (now (t .entry)) (now (file .entry)) (now (v .entry)) (now (out .entry)) (ground .dialect .terms))
         (serveChecked (lent (now (req .entry)) (now (t .entry)) (now (file .entry)) (now (v .entry)) (now (out .entry)) (ground .dialect .terms))
         (Checked.Sound (ground .count)) d)
@@ -128,8 +130,10 @@ fn over_checked(
     let dialect = requests::dialect(req, k.terms);
     match c {
         Checked::Sound(count) => {
+            let wanted = features::wanted_of(req, k.terms);
             let ground = Ground {
                 dialect,
+                wanted,
                 count: count as usize,
             };
             over_sound(d, ground, req, t, file, v, out)

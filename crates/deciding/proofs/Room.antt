@@ -44,7 +44,7 @@ module _ (t file : List ℕ) (count : ℕ) (s : SoundTable t count) (v : List �
   unfolding failedBy
   given-most terms g sends light = go light
     where
-      most : length (answerBytes terms req t file v g) ≤ 3716 + length req + copiedSize (length (profileAt t file (g .profile)))
+      most : length (answerBytes terms req t file v g) ≤ 3772 + length req + copiedSize (length (profileAt t file (g .profile)))
           + length (failedPart (failedBy req (g .verdict)))
       most = answer-length t count s terms req file v g sends h e
 

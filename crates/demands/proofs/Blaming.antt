@@ -21,7 +21,7 @@ use Rattle.deciding.specs.Decide.{Decision, faulted, performedBy, judgedBy, dec
 use Rattle.calling.specs.Call.{Answered}
 use Rattle.calling.specs.Lent.{Lent, tableOnly, dialectIn}
 use Rattle.ndushavire.specs.Reads.{callPlace}
-use Rattle.calling.specs.Serve.{Served, checkOf, answered, serveTable, overArea, serve, checkValue, resultOf}
+use Rattle.calling.specs.Serve.{Served, checkOf, answered, answeredBy, serveTable, overArea, serve, checkValue, resultOf}
 use Rattle.calling.proofs.Areas.{put-same}
 use Rattle.calling.proofs.Calls.{size-most, length-even}
 use Rattle.demands.specs.Call.{turnedAway}
@@ -64,7 +64,7 @@ fault-decides d req n place e t count v = rw e
 
 pub fault-answered : (x : Lent) (n place : ℕ) (shown : List ℕ) → failedBy (x .request) (faultAt n place) ≡ some shown
     → readIn (dialectIn x) (x .request) ≡ bad (faultAt n place) → turnedAway x ≡ false → serveTable x ≡ blamingTable x n shown place
-unfolding answered
+unfolding answeredBy
 fault-answered x n place shown is e away =
     let count = checkValue (checkOf x) in
     answer-is x away
@@ -89,7 +89,7 @@ module _ (x : Lent) where
   place = callPlace (serveTable x .call)
 
   place-read : turnedAway x ≡ false → place ≡ placeOf (readIn (dialectIn x) (x .request))
-  unfolding answered
+  unfolding answeredBy
   place-read e = rw (answer-is x e) (decide-place (dialectIn x) (x .request) (x .table) (checkValue (checkOf x)) (x .vectors))
 
   pub blames-answer : (p : ℕ) (b : Blames x p) → serveTable x ≡ blamingTable x (b .result) (failedOf (b .result) (drop p (x .request))) p

@@ -21,7 +21,7 @@ use Rattle.deciding.specs.Rules.{inForce}
 use Rattle.deciding.specs.Decide.{faulted, judgedBy, decideBy, decide}
 use Rattle.answering.specs.Answer.{proxy, proxies}
 use Rattle.calling.specs.Lent.{Lent, asking}
-use Rattle.calling.specs.Serve.{checkOf, answered, decision, serveTable, checkValue}
+use Rattle.calling.specs.Serve.{checkOf, answered, answeredBy, decision, serveTable, checkValue}
 use Rattle.demands.specs.Call.{turnedAway}
 use Rattle.demands.specs.Insertion.{message, requestOf, Foreign, isMarked, Quiet, Inserted, ending, keep, put, FirstMarked, isFault, faultIn}
 use Rattle.demands.specs.Insertion.{putBefore, later, placeNow, placed, behindRow}
@@ -405,7 +405,7 @@ module _ (head : List ℕ) (twenty : length head ≡ 20) (q : Piece) (qs rs : Li
       rw (message-dialect head twenty (bytesOf (q ∷ rs) ++ tail) (x .terms), message-read dialect head twenty (bytesOf (q ∷ rs) ++ tail), long-read)
 
   pub marked-kept : (serveTable (asking x longer) .table ≡ x .table) × (serveTable (asking x longer) .vectors ≡ x .vectors)
-  unfolding answered faultIn
+  unfolding answeredBy faultIn
   marked-kept = go (turnedAway (asking x longer)) refl (faultIn dialect head (q ∷ m .front)) refl
     where
       count : ℕ

@@ -17,7 +17,7 @@ use Rattle.deciding.specs.Decide.{Decision, performedBy, judgedBy, decideBy, de
 use Rattle.reply.specs.Pieces.{topBytes, identityBytes, nameBytes, dataBytes, givenBytes, headerBytes}
 use Rattle.answering.specs.Answer.{proxies, endBytes, restBytes, bodyBytes, answerBytes}
 use Rattle.calling.specs.Lent.{Lent, asking}
-use Rattle.calling.specs.Serve.{wrongSize, wrongLength, noRequest, checkOf, answered, decision, serveTable, checkValue}
+use Rattle.calling.specs.Serve.{wrongSize, wrongLength, noRequest, checkOf, answered, answeredBy, decision, serveTable, checkValue}
 use Rattle.demands.specs.Call.{turnedAway}
 use Rattle.demands.specs.Insertion.{message, later, placed}
 use Rattle.demands.proofs.Refusals.{refused-alike, refused-placed, answer-is}
@@ -199,7 +199,7 @@ module _ (x : Lent) (head : List ℕ) (twenty : length head ≡ 20) (b c : List 
 
   pub answered-same : (h : ℕ → ℕ) (d e : Decision) → SameDecision long short d e → d .place ≡ h (e .place)
       → answered (asking x long) d ≡ placed h (answered (asking x short) e)
-  unfolding answered
+  unfolding answeredBy
   answered-same h d e s p = rw (answer-same (x .table) (x .profile) (x .vectors) (d .given) (e .given) (s .given), s .table, s .vectors, p)
 
   module _ {from : ℕ} {more : ℕ → ℕ} (none : more 0 ≡ 0) (read : Moved long short from more (readBody dialect head (walk b)) (readBody dialect head (walk c)))

@@ -23,7 +23,7 @@ use Rattle.reading.specs.declared.Dialect.{Dialect}
 use Rattle.deciding.proofs.Cases.{Blameless}
 use Rattle.deciding.proofs.Comes.{plan-blameless}
 use Rattle.calling.specs.Lent.{Lent, asking, dialectIn}
-use Rattle.calling.specs.Serve.{checkOf, checkValue, answered, decision, serveTable}
+use Rattle.calling.specs.Serve.{checkOf, checkValue, answered, answeredBy, decision, serveTable}
 use Rattle.demands.specs.Call.{turnedAway}
 use Rattle.demands.specs.Insertion.{message}
 use Rattle.demands.specs.Sets.{Removes, OneFewer, Member}
@@ -225,7 +225,7 @@ module _ (head : List ℕ) (twenty : length head ≡ 20) (before : List Piece) (
 
       answers-at : (n : ℕ) → n ≡ count → answered (asking x (message head long)) (decision (asking x (message head long)) n)
           ≡ answered (asking x (message head short)) (decision (asking x (message head short)) n)
-      unfolding answered
+      unfolding answeredBy
       answers-at n e =
           let table : SoundTable (x .table) count = record { file = length (x .profile); checked = sound } in
           rw (e, message-dialect head twenty long (x .terms), message-dialect head twenty short (x .terms), is)

@@ -28,7 +28,7 @@ use Rattle.deciding.specs.Deeds.{carriedOut}
 use Rattle.deciding.specs.DeedFits.{DeedFits}
 use Rattle.deciding.proofs.Deeds.{plan-fits}
 use Rattle.calling.specs.Lent.{Lent, dialectIn}
-use Rattle.calling.specs.Serve.{checkOf, checkValue, refused, answered, serveTable}
+use Rattle.calling.specs.Serve.{checkOf, checkValue, refused, answeredBy, serveTable}
 use Rattle.calling.proofs.Kept.{serve-by}
 
 -- TOGETHER. Of two records of one set both have other bytes after a call, or neither.
@@ -60,7 +60,7 @@ module _ (t : List ℕ) (count : ℕ) (sound : SoundTable t count) (bytes : Byte
 pub members-together : (x : Lent) (count : ℕ) → checkOf x ≡ Sound count → Bytes (x .table) → (j k : ℕ) → 1 ≤ j → j ≤ count → 1 ≤ k → k ≤ count
     → sameSet (blockOf (x .table) j) (blockOf (x .table) k) ≡ true
     → differ (blockOf (x .table) j) (blockOf (serveTable x .table) j) ≡ differ (blockOf (x .table) k) (blockOf (serveTable x .table) k)
-unfolding refused answered
+unfolding refused answeredBy
 members-together x count e bytes j k a b c d one =
     serve-by x (λ s. differ (blockOf (x .table) j) (blockOf (s .table) j) ≡ differ (blockOf (x .table) k) (blockOf (s .table) k))
     (λ r l m. left-together (x .table) count sound bytes j k a b c d one)

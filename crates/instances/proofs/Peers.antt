@@ -73,12 +73,12 @@ met-place =
     sym (ap place (met-peers-differ .comes)) ∙ ap place newer
 
 -- Demand 3 under RFC 6733: an AVP of an unknown kind before that 260, whose place is then 12 bytes later
-quiet-plain : Quiet (dialectOf (underCx 6733) head) plain
+quiet-plain : Quiet (dialectOf (underCx 6733 0) head) plain
 unfolding all
 quiet-plain =
     record { foreign = record { whole = record { right = refl; exact = refl; filled = refl }; plain = refl; stranger = refl }; unmarked = refl }
 
-put-plain : Inserted (Quiet (dialectOf (underCx 6733) head)) (twoIds ∷ common ++ own s 5) (plain ∷ twoIds ∷ common ++ own s 5)
+put-plain : Inserted (Quiet (dialectOf (underCx 6733 0) head)) (twoIds ∷ common ++ own s 5) (plain ∷ twoIds ∷ common ++ own s 5)
 put-plain = put plain quiet-plain (kept (twoIds ∷ common ++ own s 5))
 
 met-3-newer : serve (byPeer (asked (requestOf head (session ∷ plain ∷ twoIds ∷ common ++ own s 5) [])) 6733)
@@ -91,7 +91,7 @@ met-3-newer =
 
 -- a peer of another number, with a request of no byte, over no table, with no buffer: 12 goes before all
 stranger : Lent
-stranger = lent [] [] [] [] [] (underCx 6734)
+stranger = lent [] [] [] [] [] (underCx 6734 0)
 
 met-peer-exactly : eqb (callNumber (serve stranger .call)) 12 ≡ true
 unfolding stranger

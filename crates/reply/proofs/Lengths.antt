@@ -5,19 +5,25 @@ use Rattle.blocks.specs.Blocks.{blockOf, ofBlock}
 use Rattle.table.specs.SoundTable.{SoundTable}
 use Rattle.pen.specs.Bytes.{copiedSize, avpBytes, vendorBytes}
 use Rattle.pen.proofs.Sizes.{copied-length, avp-length, vendor-length, number-length, there-length}
-use Rattle.pen.proofs.Groups.{application-length, experimental-length, capabilities-length}
+use Rattle.pen.specs.Groups.{ownFeatures}
+use Rattle.pen.proofs.Groups.{application-length, experimental-length, capabilities-length, features-length}
 use Rattle.reading.specs.declared.Outcome.{Outcome}
 use Rattle.reading.specs.declared.Terms.{Terms}
 use Rattle.reading.specs.declared.Outcome.the-variants.{Base, Experimental}
+use Rattle.requests.specs.Features.{listCalled}
 use Rattle.choices.specs.declared.Given.{Given}
 use Rattle.parts.specs.Profile.{profileAt}
 use Rattle.parts.proofs.Fields.{part-length, host-length, realm-length, user-field, public-field, server-field, mandatory-field, optional-field}
-use Rattle.reply.specs.Pieces.{resultBytes, namedBytes, vendorNamed, frontBytes, originBytes, identityBytes, nameBytes, dataBytes, headerBytes}
+use Rattle.reply.specs.Pieces.{resultBytes, namedBytes, vendorNamed, frontBytes, originBytes, listBytes, identityBytes, nameBytes, dataBytes, headerBytes}
 
 result-length : (o : Outcome) → length (resultBytes o) ≤ 32
 unfolding resultBytes
 result-length (Base n) = omega (arith, number-length 268 n)
 result-length (Experimental n) = omega (arith, experimental-length n)
+
+pub list-length : (terms : Terms) (req : List ℕ) → length (listBytes terms req) ≤ 56
+unfolding listBytes
+list-length terms req = omega (arith, there-length (listCalled terms req) (ownFeatures (terms .features)), features-length (terms .features))
 
 pub front-length : (terms : Terms) (session : List ℕ) (o : Outcome) → length (frontBytes terms session o) ≤ 76 + copiedSize (length session)
 unfolding frontBytes

@@ -1,16 +1,17 @@
 -- The pieces of an answer, each written by the writers of its AVPs, one after the other.
-use Rattle.octets.specs.Standard.{ℕ, _+_, _*_, _/_, _%_, _≤_, _≡_, refl, sym, _∙_, List, _++_, arith, length, getD, take, drop, length-append}
-use Rattle.octets.specs.Standard.{length-take, length-drop, eq-eqb, ne-eqb}
-use Rattle.octets.specs.Run.{Wrote}
+use Rattle.octets.specs.Standard.{ℕ, _+_, _*_, _/_, _%_, _≤_, _≡_, refl, sym, _∙_, List, _++_, Bool, true, false, arith, length, getD, take, drop}
+use Rattle.octets.specs.Standard.{length-append, length-take, length-drop, eq-eqb, ne-eqb}
+use Rattle.octets.specs.Run.{over, Wrote}
 use Rattle.octets.proofs.Writes.{lent, back, then, named}
 use Rattle.record.specs.Fields.{hostOf, realmOf, privateOf, publicOf, serverOf, mandatoryOf, optionalOf}
 use Rattle.blocks.specs.Blocks.{blockOf, ofBlock}
-use Rattle.pen.specs.Bytes.{copiedSize, avpBytes, avpSize, numberBytes}
-use Rattle.pen.specs.Groups.{experimental, capabilities}
+use Rattle.pen.specs.Bytes.{copiedSize, avpBytes, avpSize, numberBytes, ifThere}
+use Rattle.pen.specs.Groups.{experimental, capabilities, ownFeatures}
 use Rattle.pen.proofs.Sizes.{copied-length, avp-length, number-length}
-use Rattle.pen.proofs.Groups.{application-length, experimental-length}
+use Rattle.pen.proofs.Groups.{application-length, experimental-length, features-length}
 use Rattle.reading.specs.Verdicts.{numberOf}
 use Rattle.diameter.specs.Message.{bodyOf}
+use Rattle.requests.specs.Features.{listCalled}
 use Rattle.requests.specs.Request.{sessionOf}
 use Rattle.reading.specs.declared.Outcome.{Outcome}
 use Rattle.reading.specs.declared.Terms.{Terms}
@@ -18,7 +19,8 @@ use Rattle.reading.specs.declared.Outcome.the-variants.{Base, Experimental}
 use Rattle.choices.specs.declared.Given.{Given}
 use Rattle.items.specs.Items.{sentBytes}
 use Rattle.parts.specs.Profile.{profileAt}
-use Rattle.reply.specs.Pieces.{resultBytes, namedBytes, vendorNamed, frontBytes, originBytes, topBytes, identityBytes, nameBytes, dataBytes}
+use Rattle.reply.specs.Pieces.{resultBytes, namedBytes, vendorNamed, frontBytes, originBytes, listBytes, topBytes, identityBytes}
+use Rattle.reply.specs.Pieces.{nameBytes, dataBytes}
 use Rattle.reply.specs.Pieces.{givenBytes, flagsOf, startBytes, headerBytes}
 use Rattle.reply.proofs.Rooms.{room-left, room-right, wrote-most, wrote-within}
 
@@ -153,20 +155,51 @@ pub wrote-header : (req : List ℕ) (result : Outcome) (n f : ℕ) {b xs ys : Li
 unfolding headerBytes
 wrote-header req result n f room e p q = named (rw e) (simp (length-take, length-drop) (omega arith)) (then p q)
 
+-- The own list, where it is called for.
+module _ (terms : Terms) (req : List ℕ) {listed : Bool} (is : listed ≡ listCalled terms req) where
+  pub list-room : {m : ℕ} → listed ≡ true → length (listBytes terms req) ≤ m → 56 ≤ m
+  unfolding listBytes ifThere
+  list-room e h = let k = rw (← is, e, features-length (terms .features)) at h in k
+
+  pub list-most : {m r : ℕ} → r ≡ 56 → listed ≡ true → length (listBytes terms req) ≤ m → r ≤ m
+  list-most z e h = omega (arith, z, list-room e h)
+
+  pub wrote-list : {b xs : List ℕ} {r : ℕ} → listed ≡ true → Wrote (ownFeatures (terms .features)) b xs r → Wrote (listBytes terms req) b xs r
+  unfolding listBytes ifThere
+  wrote-list e w = rw (← is, e) w
+
+  pub wrote-no-list : (b : List ℕ) → listed ≡ false → Wrote (listBytes terms req) b b 0
+  unfolding listBytes ifThere over
+  wrote-no-list b e = rw (← is, e) (record { count = refl; bytes = refl })
+
 -- One piece after another.
-module _ (terms : Terms) (req t : List ℕ) (o : Outcome) where
-  pub front-room : {m : ℕ} → length (topBytes terms req t o) ≤ m → length (frontBytes terms (sessionOf (bodyOf req)) o) ≤ m
-  unfolding topBytes
-  front-room r = room-left (frontBytes terms (sessionOf (bodyOf req)) o) (originBytes (blockOf t 0)) r
+module _ (terms : Terms) (req t : List ℕ) where
+  abbrev server : List ℕ
+  server = originBytes (blockOf t 0) ++ listBytes terms req
 
-  module _ {b xs : List ℕ} {n : ℕ} (p : Wrote (frontBytes terms (sessionOf (bodyOf req)) o) b xs n) where
-    pub origin-room : length (topBytes terms req t o) ≤ length b → length (originBytes (blockOf t 0)) ≤ length (lent n xs)
-    unfolding topBytes
-    origin-room r = room-right _ _ p r
+  pub origin-first : {m : ℕ} → length server ≤ m → length (originBytes (blockOf t 0)) ≤ m
+  origin-first r = room-left (originBytes (blockOf t 0)) (listBytes terms req) r
 
-    pub wrote-top : {ys : List ℕ} {r : ℕ} → Wrote (originBytes (blockOf t 0)) (lent n xs) ys r → Wrote (topBytes terms req t o) b (back n xs ys) (n + r)
+  module _ {b xs : List ℕ} {n : ℕ} (p : Wrote (originBytes (blockOf t 0)) b xs n) where
+    pub called-room : length server ≤ length b → length (listBytes terms req) ≤ length (lent n xs)
+    called-room r = room-right (originBytes (blockOf t 0)) (listBytes terms req) p r
+
+    pub wrote-server : {ys : List ℕ} {r : ℕ} → Wrote (listBytes terms req) (lent n xs) ys r → Wrote server b (back n xs ys) (n + r)
+    wrote-server q = then p q
+
+  module _ (o : Outcome) where
+    pub front-room : {m : ℕ} → length (topBytes terms req t o) ≤ m → length (frontBytes terms (sessionOf (bodyOf req)) o) ≤ m
     unfolding topBytes
-    wrote-top q = then p q
+    front-room r = room-left (frontBytes terms (sessionOf (bodyOf req)) o) server r
+
+    module _ {b xs : List ℕ} {n : ℕ} (p : Wrote (frontBytes terms (sessionOf (bodyOf req)) o) b xs n) where
+      pub origin-room : length (topBytes terms req t o) ≤ length b → length server ≤ length (lent n xs)
+      unfolding topBytes
+      origin-room r = room-right (frontBytes terms (sessionOf (bodyOf req)) o) server p r
+
+      pub wrote-top : {ys : List ℕ} {r : ℕ} → Wrote server (lent n xs) ys r → Wrote (topBytes terms req t o) b (back n xs ys) (n + r)
+      unfolding topBytes
+      wrote-top q = then p q
 
 module _ (t file v : List ℕ) (g : Given) where
   pub names-room : {m : ℕ} → length (givenBytes t file v g) ≤ m → length (nameBytes t g) ≤ m

@@ -7,8 +7,9 @@ use lib.Dec.{eqb, ltb}
 use Rattle.record.specs.Fields.{hostOf, realmOf, privateOf, publicOf, serverOf, mandatoryOf, optionalOf}
 use Rattle.blocks.specs.Blocks.{blockOf, ofBlock}
 use Rattle.pen.specs.Bytes.{copied, avpBytes, vendorBytes, numberBytes, ifThere}
-use Rattle.pen.specs.Groups.{vendorApplication, experimental, capabilities}
+use Rattle.pen.specs.Groups.{vendorApplication, experimental, capabilities, ownFeatures}
 use Rattle.diameter.specs.Message.{bodyOf}
+use Rattle.requests.specs.Features.{listCalled}
 use Rattle.requests.specs.Request.{sessionOf}
 use Rattle.reading.specs.Verdicts.{numberOf}
 use Rattle.reading.specs.declared.Outcome.{Outcome}
@@ -37,8 +38,12 @@ frontBytes terms session result = copied session ++ vendorApplication (terms .ap
 unfoldable pub originBytes : List ℕ → List ℕ
 originBytes h = avpBytes 264 (hostOf h) ++ avpBytes 296 (realmOf h)
 
+-- "carries the server's own list once, right after 296"
+unfoldable pub listBytes : Terms → List ℕ → List ℕ
+listBytes terms req = ifThere (listCalled terms req) (ownFeatures (terms .features))
+
 unfoldable pub topBytes : Terms → List ℕ → List ℕ → Outcome → List ℕ
-topBytes terms req t result = frontBytes terms (sessionOf (bodyOf req)) result ++ originBytes (blockOf t 0)
+topBytes terms req t result = frontBytes terms (sessionOf (bodyOf req)) result ++ (originBytes (blockOf t 0) ++ listBytes terms req)
 
 -- "User-Name ..", of a SAR and a MAR, and a MAR's "Public-Identity"; "Server-Name where a decision gives one"
 unfoldable pub identityBytes : List ℕ → Given → List ℕ

@@ -36,7 +36,7 @@ unfoldable locating : List ℕ
 locating = request 302 (common ++ vendorBytes 601 (0x61 ∷ []))
 
 abbrev located : Lent
-located = lent locating (family 2 1 s) [] [] room (underCx 3588)
+located = lent locating (family 2 1 s) [] [] room (underCx 3588 0)
 
 is-lir : commandOf locating ≡ 302
 unfolding opened locating
@@ -68,10 +68,10 @@ met-every-input = unreachable.same-for-every-input (within located)
 
 -- a SAR of type 0 for `a` with another server name, and a MAR for none
 abbrev question : Lent
-question = lent (assignment 0 z) (family 2 1 s) [] [] room (underCx 3588)
+question = lent (assignment 0 z) (family 2 1 s) [] [] room (underCx 3588 0)
 
 abbrev none-asked : Lent
-none-asked = lent (authentication 0 s) (family 2 1 s) [] [] room (underCx 3588)
+none-asked = lent (authentication 0 s) (family 2 1 s) [] [] room (underCx 3588 0)
 
 question-result : resultOf (tableOnly (within question)) ≡ Base 5012
 unfolding opened head line family
@@ -99,7 +99,7 @@ stores-other : StoresOther question 3
 unfolding opened head line family named
 stores-other =
     record {
-      seen = seenIn (readIn (dialectOf (underCx 3588) (assignment 0 z)) (assignment 0 z));
+      seen = seenIn (readIn (dialectOf (underCx 3588 0) (assignment 0 z)) (assignment 0 z));
       read = refl;
       asks = refl;
       identity = named;
@@ -119,16 +119,16 @@ met-sar-only = unreachable.sar-only (within question) 3 (sound-front question 3 
 
 -- .. after X5001, over a table of no record; and after X5002, with the User-Name `p`, where `a` is of `q`
 abbrev unheard : Lent
-unheard = lent (assignment 0 z) (head 0) [] [] room (underCx 3588)
+unheard = lent (assignment 0 z) (head 0) [] [] room (underCx 3588 0)
 
 unheard-sound : checkTable (head 0) 0 ≡ Sound 0
 unfolding opened head
 unheard-sound = refl
 
 sar-seen : Seen
-sar-seen = seenIn (readIn (dialectOf (underCx 3588) (assignment 0 z)) (assignment 0 z))
+sar-seen = seenIn (readIn (dialectOf (underCx 3588 0) (assignment 0 z)) (assignment 0 z))
 
-sar-read : readIn (dialectOf (underCx 3588) (assignment 0 z)) (assignment 0 z) ≡ fine sar-seen
+sar-read : readIn (dialectOf (underCx 3588 0) (assignment 0 z)) (assignment 0 z) ≡ fine sar-seen
 unfolding opened sar-seen
 sar-read = refl
 
@@ -147,16 +147,16 @@ naming =
     (common ++ (avpBytes 1 (0x70 ∷ []) ++ (vendorBytes 601 (0x61 ∷ []) ++ (vendorBytes 602 z ++ (vendorNumber 614 0 ++ vendorNumber 624 1)))))
 
 abbrev stranger : Lent
-stranger = lent naming strangers [] [] room (underCx 3588)
+stranger = lent naming strangers [] [] room (underCx 3588 0)
 
 is-naming : commandOf naming ≡ 301
 unfolding opened naming
 is-naming = refl
 
 naming-seen : Seen
-naming-seen = seenIn (readIn (dialectOf (underCx 3588) naming) naming)
+naming-seen = seenIn (readIn (dialectOf (underCx 3588 0) naming) naming)
 
-naming-read : readIn (dialectOf (underCx 3588) naming) naming ≡ fine naming-seen
+naming-read : readIn (dialectOf (underCx 3588 0) naming) naming ≡ fine naming-seen
 unfolding opened naming naming-seen
 naming-read = refl
 
@@ -180,7 +180,7 @@ none-to-send : NoneToSend none-asked 3
 unfolding opened head line family
 none-to-send =
     record {
-      seen = seenIn (readIn (dialectOf (underCx 3588) (authentication 0 s)) (authentication 0 s));
+      seen = seenIn (readIn (dialectOf (underCx 3588 0) (authentication 0 s)) (authentication 0 s));
       read = refl;
       block = 1;
       public = record { from = lit≤ tt; to = lit≤ tt; name = refl };
@@ -194,7 +194,7 @@ met-mar-stays =
     unreachable.mar-stays (within none-asked) 3 (sound-front none-asked 3 barred-sound) (is-mar 0) (rw (in-front none-asked 3 barred-sound) none-to-send)
 
 abbrev all-sent : Lent
-all-sent = lent (authentication 1 s) (family 2 1 s) [] (vector 1 0x70 1) room (underCx 3588)
+all-sent = lent (authentication 1 s) (family 2 1 s) [] (vector 1 0x70 1) room (underCx 3588 0)
 
 all-used : AllUsed (vector 1 0x70 1) (0x70 ∷ [])
 unfolding opened
@@ -207,7 +207,7 @@ none-left : NoneToSend all-sent 3
 unfolding opened head line family
 none-left =
     record {
-      seen = seenIn (readIn (dialectOf (underCx 3588) (authentication 1 s)) (authentication 1 s));
+      seen = seenIn (readIn (dialectOf (underCx 3588 0) (authentication 1 s)) (authentication 1 s));
       read = refl;
       block = 1;
       public = record { from = lit≤ tt; to = lit≤ tt; name = refl };
@@ -225,14 +225,14 @@ met-mar-only = unreachable.mar-only (within none-asked) 3 (sound-front none-aske
 
 -- .. after X5001, X5002 and X5006, though none is asked
 mar-seen : Seen
-mar-seen = seenIn (readIn (dialectOf (underCx 3588) (authentication 0 s)) (authentication 0 s))
+mar-seen = seenIn (readIn (dialectOf (underCx 3588 0) (authentication 0 s)) (authentication 0 s))
 
-mar-read : readIn (dialectOf (underCx 3588) (authentication 0 s)) (authentication 0 s) ≡ fine mar-seen
+mar-read : readIn (dialectOf (underCx 3588 0) (authentication 0 s)) (authentication 0 s) ≡ fine mar-seen
 unfolding opened mar-seen
 mar-read = refl
 
 abbrev unheard-mar : Lent
-unheard-mar = lent (authentication 0 s) (head 0) [] [] room (underCx 3588)
+unheard-mar = lent (authentication 0 s) (head 0) [] [] room (underCx 3588 0)
 
 met-mar-unknown : resultOf (tableOnly (within unheard-mar)) ≡ Experimental 5001
 met-mar-unknown =
@@ -240,7 +240,7 @@ met-mar-unknown =
     (inl (λ k p. omega (arith, p .from, p .to)))
 
 abbrev stranger-mar : Lent
-stranger-mar = lent (authentication 0 s) strangers [] [] room (underCx 3588)
+stranger-mar = lent (authentication 0 s) strangers [] [] room (underCx 3588 0)
 
 met-mar-apart : resultOf (tableOnly (within stranger-mar)) ≡ Experimental 5002
 unfolding opened mar-seen
@@ -253,16 +253,16 @@ unfoldable otherwise : List ℕ
 otherwise = authenticationOf 0x70 0x61 (vendorBytes 608 (0x78 ∷ [])) 0 s
 
 abbrev unserved : Lent
-unserved = lent otherwise (family 2 1 s) [] [] room (underCx 3588)
+unserved = lent otherwise (family 2 1 s) [] [] room (underCx 3588 0)
 
 is-otherwise : commandOf otherwise ≡ 303
 unfolding opened otherwise
 is-otherwise = refl
 
 otherwise-seen : Seen
-otherwise-seen = seenIn (readIn (dialectOf (underCx 3588) otherwise) otherwise)
+otherwise-seen = seenIn (readIn (dialectOf (underCx 3588 0) otherwise) otherwise)
 
-otherwise-read : readIn (dialectOf (underCx 3588) otherwise) otherwise ≡ fine otherwise-seen
+otherwise-read : readIn (dialectOf (underCx 3588 0) otherwise) otherwise ≡ fine otherwise-seen
 unfolding opened otherwise otherwise-seen
 otherwise-read = refl
 

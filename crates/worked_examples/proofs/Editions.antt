@@ -33,7 +33,7 @@ sar front =
     request 301 (avpBytes 263 (0x73 ∷ []) ++ (front ++ (common ++ own)))
 
 reading : ℕ → Case → Reading
-reading peer c = let req = sar (c .front) in readingOf (readIn (dialectOf (underCx peer) req) req)
+reading peer c = let req = sar (c .front) in readingOf (readIn (dialectOf (underCx peer 0) req) req)
 
 -- a Vendor-Id, and one of another vendor; the Auth-Application-Id; a 260 of some bytes
 v : List ℕ

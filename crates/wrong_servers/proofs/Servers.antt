@@ -45,10 +45,10 @@ truly-meets n x = record { word-is = refl; table-is = refl; vectors-is = refl; b
 
 -- Two inputs over one registered line: a removal, B2001, which rewrites the record; and type 0 with another name, B5012. The word is 116 for both.
 removal : Lent
-removal = lent (assignment 5 s) (one 0 1 s) [] [] room (underCx 3588)
+removal = lent (assignment 5 s) (one 0 1 s) [] [] room (underCx 3588 0)
 
 question : Lent
-question = lent (assignment 0 z) (one 0 1 s) [] [] room (underCx 3588)
+question = lent (assignment 0 z) (one 0 1 s) [] [] room (underCx 3588 0)
 
 abbrev comes : List ℕ → List ℕ → Served
 comes after bytes = record { call = Answered (record { length = 116; place = 0 }); table = after; vectors = []; buffer = over bytes room }
@@ -175,10 +175,10 @@ cut-fails f h p = h (p .answer)
 
 -- Document 02 [1]. Over a line in state 0 that has one unused vector: a MAR for two, which gets one; and a MAR for none, B5012.
 challenge : Lent
-challenge = lent (authentication 2 s) (one 0 0 []) [] (vector 0 0x70 1) room (underCx 3588)
+challenge = lent (authentication 2 s) (one 0 0 []) [] (vector 0 0x70 1) room (underCx 3588 0)
 
 nought : Lent
-nought = lent (authentication 0 s) (one 0 0 []) [] (vector 0 0x70 1) room (underCx 3588)
+nought = lent (authentication 0 s) (one 0 0 []) [] (vector 0 0x70 1) room (underCx 3588 0)
 
 challenge-served : serve challenge ≡ record {
   call = Answered (record { length = 336; place = 0 });
@@ -247,12 +247,12 @@ wasting-fails f n e p = omega (arith, e, nought-used f n p)
 
 -- Document 02 [2]. A SAR of type 12, B5004, whose 614 stands at 144; and a SAR of type 1 with a second identity, which stands at 128: B5009, a decision's.
 faulty : Lent
-faulty = lent (assignment 12 s) (one 0 1 s) [] [] room (underCx 3588)
+faulty = lent (assignment 12 s) (one 0 1 s) [] [] room (underCx 3588 0)
 
 second : Lent
 second =
     let own = vendorBytes 602 s ++ (vendorNumber 614 1 ++ vendorNumber 624 1) in
-    lent (request 301 (common ++ (vendorBytes 601 (0x61 ∷ []) ++ (vendorBytes 601 (0x62 ∷ []) ++ own)))) (one 0 1 s) [] [] room (underCx 3588)
+    lent (request 301 (common ++ (vendorBytes 601 (0x61 ∷ []) ++ (vendorBytes 601 (0x62 ∷ []) ++ own)))) (one 0 1 s) [] [] room (underCx 3588 0)
 
 faulty-call : serve faulty .call ≡ Answered (record { length = 140; place = 144 })
 unfolding opened faulty
@@ -344,7 +344,7 @@ doubled : ℕ → Lent
 doubled peer =
     let base = numberBytes 277 1 ++ (avpBytes 264 (0x63 ∷ []) ++ (avpBytes 296 (0x72 ∷ []) ++ avpBytes 283 (0x72 ∷ []))) in
     let own = vendorBytes 601 (0x61 ∷ []) ++ (vendorBytes 602 s ++ (vendorNumber 614 5 ++ vendorNumber 624 1)) in
-    lent (request 301 (avpBytes 263 (0x73 ∷ []) ++ (twoIds ++ (base ++ own)))) (one 0 1 s) [] [] room (underCx peer)
+    lent (request 301 (avpBytes 263 (0x73 ∷ []) ++ (twoIds ++ (base ++ own)))) (one 0 1 s) [] [] room (underCx peer 0)
 
 older-served : serve (doubled 3588) ≡ comes (one 0 0 []) (answer (numberBytes 268 2001) [])
 unfolding opened twoIds doubled
@@ -390,7 +390,7 @@ newer-fails f n e p = omega (arith, e, older-result f n p)
 
 -- 18. one that tries 12 after 1: under another number, with no buffer at all, it gives 1
 unheard : Lent
-unheard = lent (assignment 5 s) (one 0 1 s) [] [] [] (underCx 6734)
+unheard = lent (assignment 5 s) (one 0 1 s) [] [] [] (underCx 6734 0)
 
 unheard-call : serve unheard .call ≡ Refused 12 0
 unfolding opened unheard
