@@ -1,10 +1,10 @@
 use Rattle.reading.proofs.Members.{only-member, no-second}
 use Rattle.octets.specs.Standard.{needs}
-use Rattle.reading.proofs.group.item_member.Statement.{statement}
-use Rattle.reading.proofs.group.item_member.Tie as tie
+use Rattle.reading.proofs.group.sole_member.Statement.{statement}
+use Rattle.reading.proofs.group.sole_member.Tie as tie
 
-pub item-member-spec : {M : Type 1} → statement M
-item-member-spec =
+pub sole-member-spec : {M : Type 1} → statement M
+sole-member-spec =
     tie.close
     (tie.spec
     (λ c κs. search needs)
