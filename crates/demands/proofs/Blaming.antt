@@ -8,6 +8,7 @@ use Rattle.items.specs.Items.{sentBytes}
 use Rattle.reading.specs.Rules.{Seen}
 use Rattle.reading.specs.Verdicts.{faultAt}
 use Rattle.reading.specs.declared.Outcome.the-variants.{Base, Experimental}
+use Rattle.requests.specs.Features.{beyondSet}
 use Rattle.requests.specs.Judged.{Judged, bad, fine}
 use Rattle.reading.specs.declared.Dialect.{Dialect}
 use Rattle.reading.specs.declared.Terms.{Terms}
@@ -18,6 +19,7 @@ use Rattle.reply.specs.Pieces.{identityBytes, nameBytes, dataBytes, givenBytes}
 use Rattle.answering.specs.Answer.{endBytes, restBytes, bodyBytes, answerBytes}
 use Rattle.deciding.specs.Rules.{inForce}
 use Rattle.deciding.specs.Decide.{Decision, faulted, performedBy, judgedBy, decideBy, decide}
+use Rattle.deciding.proofs.Tests.{either}
 use Rattle.calling.specs.Call.{Answered}
 use Rattle.calling.specs.Lent.{Lent, tableOnly, dialectIn}
 use Rattle.ndushavire.specs.Reads.{callPlace}
@@ -82,7 +84,7 @@ decide-place d req t count v = go (readIn d req)
   where
     go : (j : Judged) → judgedBy inForce d req t count v j .place ≡ placeOf j
     go (bad f) = refl
-    go (fine seen) = refl
+    go (fine seen) = either (λ (e : Decision). e .place ≡ 0) (beyondSet (d .terms) req) refl refl
 
 module _ (x : Lent) where
   abbrev place : ℕ

@@ -21,7 +21,8 @@ use Rattle.reading.specs.declared.Ruled.{Ruled}
 use Rattle.reading.specs.declared.Ruled.the-variants.{Taken, Skipped, Fault}
 use Rattle.reading.specs.declared.Use.the-variants.{Needed}
 use Rattle.reading.specs.declared.group.Group.{Group}
-use Rattle.reading.specs.declared.group.Group.the-variants.{Application, AuthDataItem}
+use Rattle.reading.specs.declared.group.Group.the-variants.{Application, AuthDataItem, SupportedFeatures}
+use Rattle.requests.specs.Features.{beyondSet}
 use Rattle.requests.specs.Judged.{Judged, bad, fine, nothing, onRule, judge}
 use Rattle.requests.specs.Request.{headerFault, firstOther, missingFrom, missing, complete, readWalk, readIn}
 use Rattle.deciding.specs.Decide.{judgedBy, decideBy, decide}
@@ -38,6 +39,7 @@ isApplication (Number least most) = false
 isApplication (Sized least most) = false
 isApplication (Members Application) = true
 isApplication (Members AuthDataItem) = false
+isApplication (Members SupportedFeatures) = false
 
 others : (l : List Kind) → All (λ (k : Kind). isApplication (k .content) ≡ false) l → (i : ℕ) → isApplication (getD l i unknown .content) ≡ false
 others [] h i = refl
@@ -51,7 +53,7 @@ row-other (suc zero) n = refl
 row-other (suc (suc zero)) n = absurd (n refl)
 row-other (suc (suc (suc k))) n =
     others (drop 2 known)
-    (refl, (refl, (refl, (refl, (refl, (refl, (refl, (refl, (refl, (refl, (refl, (refl, (refl, (refl, (refl, (refl, tt)))))))))))))))) k
+    (refl, (refl, (refl, (refl, (refl, (refl, (refl, (refl, (refl, (refl, (refl, (refl, (refl, (refl, (refl, (refl, (refl, tt))))))))))))))))) k
 
 -- Vendor-Ids that fit are Vendor-Ids.
 vendors-fit : (w : Walk) → membersFitting vendorId w ≤ vendorIds w
@@ -70,12 +72,12 @@ vendors-fit (avp a w) = go (fits vendorId a) (isOf 266 0 a) refl refl (vendors-f
     go false true e f h = omega arith
     go false false e f h = h
 
-module _ (command app : ℕ) where
+module _ (command app features : ℕ) where
   abbrev pub older : Dialect
-  older = record { command = command; terms = record { application = app; peer = rfc3588 } }
+  older = record { command = command; terms = record { application = app; peer = rfc3588; features = features } }
 
   abbrev pub newer : Dialect
-  newer = record { command = command; terms = record { application = app; peer = rfc6733 } }
+  newer = record { command = command; terms = record { application = app; peer = rfc6733; features = features } }
 
   -- WHAT AN AVP HOLDS
   content-same : (c : Content) (a : List ℕ) → isApplication c ≡ false → contentFault newer c a ≡ contentFault older c a
@@ -85,12 +87,14 @@ module _ (command app : ℕ) where
   content-same (Sized least most) a e = refl
   content-same (Members Application) a e = absurd (true≢false e)
   content-same (Members AuthDataItem) a e = refl
+  content-same (Members SupportedFeatures) a e = refl
 
   -- Under RFC 3588 a group is judged as it was when there was one edition only.
   pub older-group : (g : Group) (w : Walk) → groupFault older g w ≡ faultUnless (gathers (membersOf older g) w) 5004
   unfolding groupFault tooOften
   older-group Application w = refl
   older-group AuthDataItem w = refl
+  older-group SupportedFeatures w = refl
 
   abbrev fault : Dialect → List ℕ → ℕ
   fault d a = contentFault d (rowOf (kindOf a) .content) a
@@ -118,7 +122,7 @@ module _ (command app : ℕ) where
   rule-same seen a e = rw e
 
   needed : (peer : ℕ) (a : List ℕ) → kindOf a ≡ application
-      → useOf (record { command = command; terms = record { application = app; peer = peer } }) a ≡ Needed
+      → useOf (record { command = command; terms = record { application = app; peer = peer; features = features } }) a ≡ Needed
   unfolding useIn rowOf known
   needed peer a k = rw k (go (eqb command 300) (eqb command 301) (eqb command 302))
     where
@@ -315,7 +319,7 @@ module _ (command app : ℕ) where
 
   -- THE DECISION
   judged-same : (req t : List ℕ) (count : ℕ) (v : List ℕ) (j : Judged) → judgedBy inForce newer req t count v j ≡ judgedBy inForce older req t count v j
-  unfolding judgedBy planRead
+  unfolding judgedBy planRead beyondSet
   judged-same req t count v (bad f) = refl
   judged-same req t count v (fine seen) = refl
 

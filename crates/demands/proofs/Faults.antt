@@ -21,11 +21,13 @@ use Rattle.reading.specs.declared.Ruled.the-variants.{Taken, Skipped, Fault}
 use Rattle.reading.specs.declared.Use.{Use}
 use Rattle.reading.specs.declared.Use.the-variants.{Unknown, Unnamed, Needed, Optional, Repeated}
 use Rattle.reading.specs.declared.Verdict.{Verdict}
+use Rattle.requests.specs.Features.{beyondSet}
 use Rattle.requests.specs.Judged.{Judged, bad, fine, nothing, onRule, judge}
 use Rattle.requests.specs.Request.{headerFault, firstOther, missing, complete, readWalk, readIn}
 use Rattle.requests.proofs.Faulting.{read-placed}
 use Rattle.deciding.specs.Rules.{inForce}
-use Rattle.deciding.specs.Decide.{performedBy, judgedBy, decideBy, decide}
+use Rattle.deciding.specs.Decide.{Decision, performedBy, judgedBy, decideBy, decide}
+use Rattle.deciding.proofs.Tests.{either}
 use Rattle.demands.specs.Frame.{succeeds}
 use Rattle.demands.specs.Place.{behindAt, ReadingReaches, first, pastTaken, pastSkipped, Breaks, lengthFault, ruleFault, OfRules, AtFault}
 
@@ -317,4 +319,4 @@ decide-within dialect req t count v h = go (readIn dialect req) refl
   where
     go : (j : Judged) → readIn dialect req ≡ j → judgedBy inForce dialect req t count v j .place ≤ length req
     go (bad f) e = read-placed dialect req f h e .within
-    go (fine seen) e = omega arith
+    go (fine seen) e = either (λ (d : Decision). d .place ≤ length req) (beyondSet (dialect .terms) req) (omega arith) (omega arith)

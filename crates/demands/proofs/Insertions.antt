@@ -4,17 +4,18 @@ use Rattle.octets.specs.Standard.{ℕ, _+_, _%_, _≤_, _<_, List, [], _∷_, _
 use Rattle.octets.specs.Standard.{refl, sym, ap, _∙_, arith, zero-add, length, drop, length-append, eqb, lt-ltb}
 use Rattle.pen.specs.Bytes.{ifThere}
 use Rattle.diameter.specs.Avp.{padded}
-use Rattle.diameter.specs.Walk.{Walk, ended, avp, walk}
+use Rattle.diameter.specs.Walk.{Walk, ended, avp, walk, someAvp}
 use Rattle.diameter.specs.Put.{glue, Piece, bytesOf, avpsOf, Whole, All}
 use Rattle.diameter.proofs.Pieces.{walk-pieces, row-even, avps-joined, glue-glue}
 use Rattle.reading.specs.declared.Dialect.{Dialect}
 use Rattle.reading.specs.declared.Verdict.{Verdict}
-use Rattle.reading.specs.Kinds.{sessionId, publicIdentity, proxyInfo}
+use Rattle.reading.specs.Features.{isFeatures, asksBeyond, callsList}
+use Rattle.reading.specs.Kinds.{sessionId, publicIdentity, proxyInfo, supportedFeatures}
 use Rattle.reading.specs.Rules.{Seen}
 use Rattle.reading.specs.Verdicts.{faultAt, lackOf, faultOf}
 use Rattle.requests.specs.Judged.{Judged, bad, fine, nothing, judge}
 use Rattle.requests.specs.Request.{dialectOf, headerFault, firstOther, missing, complete, readWalk, readIn, identities}
-use Rattle.requests.proofs.Insert.{stranger-kind, identity-known, proxy-known, judge-marked, andThen, judge-glue, past}
+use Rattle.requests.proofs.Insert.{stranger-kind, identity-known, proxy-known, features-known, judge-marked, andThen, judge-glue, past}
 use Rattle.failed.specs.Failing.{failedBy}
 use Rattle.failed.proofs.Fronts.{failed-piece, failed-whole}
 use Rattle.deciding.specs.Rules.{inForce}
@@ -74,6 +75,22 @@ foreign-proxies : {dialect : Dialect} {qs rs : List Piece} → Inserted (Foreign
     → proxies (glue (avpsOf rs) w) ≡ proxies (glue (avpsOf qs) w)
 unfolding proxies proxy ifThere
 foreign-proxies {dialect} = inserted-same proxies (λ a v w e. rw e) (λ u w p. rw (stranger-kind dialect (u .avp) proxyInfo (p .stranger) (proxy-known dialect)))
+
+-- and what is asked of Supported-Features alone
+called-features : (a : List ℕ) → isFeatures a ≡ false → callsList a ≡ false
+unfolding callsList
+called-features a e = rw e
+
+beyond-features : (set : ℕ) (a : List ℕ) → isFeatures a ≡ false → asksBeyond set a ≡ false
+unfolding asksBeyond
+beyond-features set a e = rw e
+
+foreign-some : {dialect : Dialect} (p : List ℕ → Bool) → ((a : List ℕ) → isFeatures a ≡ false → p a ≡ false) → {qs rs : List Piece}
+    → Inserted (Foreign dialect) qs rs → (w : Walk) → someAvp p (glue (avpsOf rs) w) ≡ someAvp p (glue (avpsOf qs) w)
+unfolding someAvp
+foreign-some {dialect} p less =
+    inserted-same (someAvp p) (λ a v w e. rw e)
+    (λ u w f. rw (less (u .avp) (stranger-kind dialect (u .avp) supportedFeatures (f .stranger) (features-known dialect))))
 
 pub quiet-foreign : {dialect : Dialect} {qs rs : List Piece} → Inserted (Quiet dialect) qs rs → Inserted (Foreign dialect) qs rs
 quiet-foreign = inserted-as (λ u p. p .foreign)
@@ -210,7 +227,14 @@ module _ (head : List ℕ) (twenty : length head ≡ 20) (q : Piece) (qs rs : Li
 
     both-alike : Alike (walk long) (walk short)
     unfolding avpsOf glue
-    both-alike = rw (long-walk, short-walk) (record { session = refl; copies = foreign-proxies (keep q i) (walk tail) })
+    both-alike =
+        rw (long-walk, short-walk)
+        (record {
+          session = refl;
+          copies = foreign-proxies (keep q i) (walk tail);
+          called = foreign-some callsList (λ a e. called-features a e) i (walk tail);
+          beyond = λ set. foreign-some (asksBeyond set) (λ a e. beyond-features set a e) (keep q i) (walk tail);
+        })
 
     both-named : identities (walk long) ≡ identities (walk short)
     unfolding avpsOf glue

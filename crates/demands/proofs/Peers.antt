@@ -5,9 +5,10 @@ use Rattle.octets.specs.Standard.{ℕ, List, [], _∷_, Bool, true, false, cond
 use Rattle.diameter.specs.AvpAt.{avpAt}
 use Rattle.diameter.specs.Message.{bodyOf, commandOf}
 use Rattle.reading.specs.Groups.{rfc3588, rfc6733}
+use Rattle.requests.specs.Features.{listCalled}
 use Rattle.requests.specs.Request.{headerFault, firstOther, readIn}
 use Rattle.failed.specs.Failing.{failedOf}
-use Rattle.reply.specs.Pieces.{frontBytes, topBytes}
+use Rattle.reply.specs.Pieces.{frontBytes, listBytes, topBytes}
 use Rattle.answering.specs.Answer.{bodyBytes, answerBytes}
 use Rattle.deciding.specs.Decide.{Decision}
 use Rattle.calling.specs.Call.{Refused}
@@ -43,7 +44,7 @@ module _ (x : Lent) where
   refused-same r = refl
 
   answered-same : (d : Decision) → answered (byPeer x rfc6733) d ≡ answered (byPeer x rfc3588) d
-  unfolding answeredBy answerBytes bodyBytes topBytes frontBytes
+  unfolding answeredBy answerBytes bodyBytes topBytes frontBytes listBytes listCalled headerFault
   answered-same d = refl
 
   -- calls over a table of its exact length that are answered with decisions that are equal, if at all
@@ -54,16 +55,16 @@ module _ (x : Lent) where
       tried-same (refused (byPeer x rfc6733)) (refused (byPeer x rfc3588)) _ _ refused-same (trials (byPeer x rfc6733))
       (λ e. answered-same _ ∙ ap (answered (byPeer x rfc3588)) (h e))
 
-  one-read : OneVendor (bodyOf (x .request)) → readIn (newer (commandOf (x .request)) (x .terms .application)) (x .request)
-      ≡ readIn (older (commandOf (x .request)) (x .terms .application)) (x .request)
+  one-read : OneVendor (bodyOf (x .request)) → readIn (newer (commandOf (x .request)) (x .terms .application) (x .terms .features)) (x .request)
+      ≡ readIn (older (commandOf (x .request)) (x .terms .application) (x .terms .features)) (x .request)
   one-read o =
-      read-same (commandOf (x .request)) (x .terms .application) (x .request)
-      (walk-same (commandOf (x .request)) (x .terms .application) 20 (bodyOf (x .request)) _ o)
+      read-same (commandOf (x .request)) (x .terms .application) (x .terms .features) (x .request)
+      (walk-same (commandOf (x .request)) (x .terms .application) (x .terms .features) 20 (bodyOf (x .request)) _ o)
 
-  reads-same : readIn (newer (commandOf (x .request)) (x .terms .application)) (x .request)
-      ≡ readIn (older (commandOf (x .request)) (x .terms .application)) (x .request) → serveTable (byPeer x rfc6733) ≡ serveTable (byPeer x rfc3588)
+  reads-same : readIn (newer (commandOf (x .request)) (x .terms .application) (x .terms .features)) (x .request)
+      ≡ readIn (older (commandOf (x .request)) (x .terms .application) (x .terms .features)) (x .request) → serveTable (byPeer x rfc6733) ≡ serveTable (byPeer x rfc3588)
   reads-same e =
-      calls-same (λ t. decide-same (commandOf (x .request)) (x .terms .application) (x .request) (x .table) (checkValue (checkOf x)) (x .vectors) e)
+      calls-same (λ t. decide-same (commandOf (x .request)) (x .terms .application) (x .terms .features) (x .request) (x .table) (checkValue (checkOf x)) (x .vectors) e)
 
   -- so with a request none of whose 260s has two Vendor-Ids
   pub one-table : OneVendor (bodyOf (x .request)) → serveTable (byPeer x rfc6733) ≡ serveTable (byPeer x rfc3588)
@@ -72,7 +73,7 @@ module _ (x : Lent) where
   pub one-result : OneVendor (bodyOf (x .request)) → resultOf (byPeer x rfc6733) ≡ resultOf (byPeer x rfc3588)
   one-result o =
       ap (λ (d : Decision). d .given .verdict .result)
-      (decide-same (commandOf (x .request)) (x .terms .application) (x .request) (x .table) (checkValue (checkOf x)) (x .vectors) (one-read o))
+      (decide-same (commandOf (x .request)) (x .terms .application) (x .terms .features) (x .request) (x .table) (checkValue (checkOf x)) (x .vectors) (one-read o))
 
   away-same : turnedAway (byPeer x rfc6733) ≡ true → serveTable (byPeer x rfc6733) ≡ serveTable (byPeer x rfc3588)
   away-same t = calls-same (λ e. absurd (true≢false (sym t ∙ e)))
@@ -98,7 +99,7 @@ module _ (a : Lent) where
   unfolding failedOf
   second-told place c t h f =
       let b : Blames (tableOnly (byPeer a rfc6733)) place =
-      record { taken = t; result = 5009; fault = newer-breaks (commandOf (a .request)) (a .terms .application) (a .request) place c h f } in
+      record { taken = t; result = 5009; fault = newer-breaks (commandOf (a .request)) (a .terms .application) (a .terms .features) (a .request) place c h f } in
       rw (avp-own (a .request) place (c .whole)) (place-answer (byPeer a rfc6733) place b)
 
   -- ".. ONLY", and "RFC 3588 ALLOWS SEVERAL": under RFC 3588 no call is answered with the place of such a 260, so it is not at fault.
@@ -106,13 +107,13 @@ module _ (a : Lent) where
   several-pass place c e =
       let l = reaches-least (dialectIn (byPeer a rfc3588)) (a .request) (c .reached) in
       let b = place-blames (byPeer a rfc3588) (λ z. omega (arith, e, z, l .0)) in
-      older-passes (commandOf (a .request)) (a .terms .application) (a .request) place c (b .result) (callPlace (serve (byPeer a rfc3588) .call)) (b .fault) e
+      older-passes (commandOf (a .request)) (a .terms .application) (a .terms .features) (a .request) place c (b .result) (callPlace (serve (byPeer a rfc3588) .call)) (b .fault) e
 
   -- So the two are told apart by such a 260 and by nothing else: they are equal, or reading comes to one in both, and they are not.
   pub peers-differ : (serve (byPeer a rfc6733) ≡ serve (byPeer a rfc3588)) ⊎ ToldApart a
-  peers-differ = go (read-cases (commandOf (a .request)) (a .terms .application) (a .request))
+  peers-differ = go (read-cases (commandOf (a .request)) (a .terms .application) (a .terms .features) (a .request))
     where
-      apart : Told (commandOf (a .request)) (a .terms .application) (a .request) → (t : Bool) → turnedAway (tableOnly (byPeer a rfc6733)) ≡ t
+      apart : Told (commandOf (a .request)) (a .terms .application) (a .terms .features) (a .request) → (t : Bool) → turnedAway (tableOnly (byPeer a rfc6733)) ≡ t
           → (serve (byPeer a rfc6733) ≡ serve (byPeer a rfc3588)) ⊎ ToldApart a
       apart f true t = inl (ap (overArea (a .table)) (away-same (tableOnly a) t))
       apart f false t =
@@ -126,9 +127,9 @@ module _ (a : Lent) where
             differ = λ e. several-pass place (f .apart .before) (ap (λ (y : Served). callPlace (y .call)) (sym e ∙ s));
           })
 
-      go : (readIn (newer (commandOf (a .request)) (a .terms .application)) (a .request)
-          ≡ readIn (older (commandOf (a .request)) (a .terms .application)) (a .request))
-          ⊎ Told (commandOf (a .request)) (a .terms .application) (a .request)
+      go : (readIn (newer (commandOf (a .request)) (a .terms .application) (a .terms .features)) (a .request)
+          ≡ readIn (older (commandOf (a .request)) (a .terms .application) (a .terms .features)) (a .request))
+          ⊎ Told (commandOf (a .request)) (a .terms .application) (a .terms .features) (a .request)
           → (serve (byPeer a rfc6733) ≡ serve (byPeer a rfc3588)) ⊎ ToldApart a
       go (inl e) = inl (ap (overArea (a .table)) (reads-same (tableOnly a) e))
       go (inr f) = apart f (turnedAway (tableOnly (byPeer a rfc6733))) refl

@@ -13,6 +13,7 @@ use Rattle.rewrite.proofs.Writes.{differ-same}
 use Rattle.reading.specs.Kinds.{serverName}
 use Rattle.reading.specs.Rules.{Seen}
 use Rattle.reading.specs.declared.Dialect.{Dialect}
+use Rattle.requests.specs.Features.{beyondSet}
 use Rattle.requests.specs.Judged.{Judged, bad, fine}
 use Rattle.requests.specs.Request.{readIn, dataSeen}
 use Rattle.choices.specs.declared.types.AssignmentType.{AssignmentType}
@@ -23,7 +24,8 @@ use Rattle.choices.specs.declared.plan.Deed.the-variants.{Leave, Settle, Challe
 use Rattle.assignment.specs.Assignment.{Assignment, storedName, plannedRecords}
 use Rattle.deciding.specs.Plans.{assignmentOf, planRead}
 use Rattle.deciding.specs.Rules.{inForce}
-use Rattle.deciding.specs.Decide.{performedBy, judgedBy, decideBy, decide}
+use Rattle.deciding.specs.Decide.{Decision, performedBy, judgedBy, decideBy, decide}
+use Rattle.deciding.proofs.Tests.{either}
 use Rattle.deciding.specs.Deeds.{carriedOut}
 use Rattle.deciding.specs.DeedFits.{DeedFits}
 use Rattle.deciding.proofs.Deeds.{plan-fits}
@@ -55,7 +57,9 @@ module _ (t : List ℕ) (count : ℕ) (sound : SoundTable t count) (bytes : Byte
     where
       go : (e : Judged) → readIn dialect req ≡ e → Together (judgedBy inForce dialect req t count v e .table)
       go (bad f) e = left-together
-      go (fine seen) e = deed-together req seen (planRead dialect req t count v seen .deed) (plan-fits dialect req t count v seen e)
+      go (fine seen) e =
+          either (λ (d : Decision). Together (d .table)) (beyondSet (dialect .terms) req) left-together
+          (deed-together req seen (planRead dialect req t count v seen .deed) (plan-fits dialect req t count v seen e))
 
 pub members-together : (x : Lent) (count : ℕ) → checkOf x ≡ Sound count → Bytes (x .table) → (j k : ℕ) → 1 ≤ j → j ≤ count → 1 ≤ k → k ≤ count
     → sameSet (blockOf (x .table) j) (blockOf (x .table) k) ≡ true

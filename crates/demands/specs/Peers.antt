@@ -26,7 +26,7 @@ byPeer a peer =
       profile = a .profile;
       vectors = a .vectors;
       buffer = a .buffer;
-      terms = record { application = a .terms .application; peer = peer };
+      terms = record { application = a .terms .application; peer = peer; features = a .terms .features };
     }
 
 -- how many Vendor-Ids are in a row of AVPs: of code 266 and without V, whatever they hold

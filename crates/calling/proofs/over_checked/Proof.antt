@@ -9,8 +9,8 @@ over-checked-spec =
     (tie.spec
     (λ c κs. search needs)
     (λ c. search needs)
-    (λ c. search needs)
     (λ c κs. search needs)
+    (λ c. search needs)
     (λ c κs. search (needs, checked-sound, dialect-own, wanted-own))
     (λ c. search needs)
     (λ c. search needs)

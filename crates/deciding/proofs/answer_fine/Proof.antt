@@ -10,6 +10,8 @@ answer-fine-spec =
     (λ c κs. search (needs, beyond-decided))
     (λ c. search needs)
     (λ c. search needs)
+    (λ c. search needs)
+    (λ c. search needs)
     (λ c κs. search (needs, beyond-none))
     (λ c. search needs)
     (λ c. search needs)
