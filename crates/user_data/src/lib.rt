@@ -1,4 +1,5 @@
 // User-Data 702 of an answer: the XML of docs/SH.md, written where it stays.
+use diameter::codes;
 use octets::run;
 ghost use mathlib.Core.Path.{_≡_};
 ghost use mathlib.Core.List.{_++_};
@@ -8,9 +9,6 @@ ghost use Rattle.octets.specs.Run.{Wrote};
 ghost use Rattle.markup.specs.Escapes.{escaped};
 ghost use Rattle.pen.specs.Bytes.{copied, copiedSize, vendorBytes, vendorSize};
 ghost use Rattle.user_data.specs.UserData.{userState, nameText, stateText, nameElement, stateElement, shText, userDataBytes};
-
-// User-Data of Sh.
-const USER_DATA: u32 = 702;
 
 // What the Data-References of a request ask for: the registration state (11), the server name (12), anything else.
 pub struct References {
@@ -115,7 +113,7 @@ fn put_told(out: &mut [u8], asked: References, n: u8, name: &[u8]) -> usize
         × Wrote (vendorBytes 702 (shText asked n (now (name .entry)))) (now (out .entry)) (now (out .exit)) r ⌝ }
 {
     let len = put_padded(&mut out[12..], asked, n, name);
-    pen::put_vendor_head(out, USER_DATA, 12 + len);
+    pen::put_vendor_head(out, codes::SH_USER_DATA, 12 + len);
     12 + (len + 3) / 4 * 4
 }
 
