@@ -4,7 +4,8 @@ use mathlib.Core.List.{List, _++_}
 use lib.ListN.{length}
 use Rattle.reading.specs.declared.Terms.{Terms}
 use Rattle.choices.specs.declared.Given.{Given}
-pub use Rattle.envelope.specs.End.{failedPart, proxy, proxies, endBytes}
+pub use Rattle.envelope.specs.End.{failedPart}
+unfoldable pub use Rattle.envelope.specs.End.{proxy, proxies, endBytes}
 use Rattle.reply.specs.Pieces.{topBytes, givenBytes, headerBytes}
 
 -- what a decision gives, and the end; with what every answer has; with the header, which has the answer's own length

@@ -1,11 +1,17 @@
 -- How long the parts of every answer are at the most.
-use Rattle.octets.specs.Standard.{ℕ, _+_, _≤_, List, _≡_, arith, length, length-append, length-take, length-drop}
+use Rattle.octets.specs.Standard.{ℕ, _+_, _≤_, List, Bool, true, false, cond, Option, none, some, _≡_, arith, length, drop, length-append, length-take}
+use Rattle.octets.specs.Standard.{length-drop, ltb}
 use Rattle.record.specs.Fields.{hostOf, realmOf}
 use Rattle.blocks.specs.Blocks.{blockOf}
 use Rattle.table.specs.SoundTable.{SoundTable}
 use Rattle.pen.specs.Bytes.{copiedSize}
 use Rattle.pen.proofs.Sizes.{copied-length, avp-length, number-length}
-use Rattle.pen.proofs.Groups.{application-length, experimental-length}
+use Rattle.pen.proofs.Groups.{application-length, experimental-length, failed-length}
+use Rattle.reading.specs.Verdicts.{numberOf}
+use Rattle.reading.specs.declared.Verdict.{Verdict}
+use Rattle.failed.specs.Failing.{failedOf, example, failedBy}
+use Rattle.failed.proofs.Short.{fault-length, example-length}
+use Rattle.envelope.specs.End.{failedPart}
 use Rattle.reading.specs.declared.Outcome.{Outcome}
 use Rattle.reading.specs.declared.Terms.{Terms}
 use Rattle.reading.specs.declared.Outcome.the-variants.{Base, Experimental}
@@ -26,6 +32,25 @@ front-length terms session o =
 pub header-length : (req : List ℕ) (o : Outcome) (n : ℕ) → 20 ≤ length req → length (headerBytes req o n) ≡ 20
 unfolding headerBytes
 header-length req o n h = simp (length-take, length-drop) (omega arith)
+
+-- What Failed-AVP holds is no more than the request itself, or an example.
+holds-short : (a : List ℕ) → length a ≤ 16384 → length (failedPart (some a)) ≤ 16400
+holds-short a h = omega (arith, failed-length a)
+
+pub failed-short : (req : List ℕ) (v : Verdict) → length req ≤ 16384 → length (failedPart (failedBy req v)) ≤ 16400
+unfolding failedBy
+failed-short req v h = go (ltb 0 (v .lacks)) (ltb 0 (v .place))
+  where
+    n : ℕ
+    n = numberOf (v .result)
+
+    t : List ℕ
+    t = drop (v .place) req
+
+    go : (x y : Bool) → length (failedPart (cond x (some (example (v .lacks))) (cond y (some (failedOf n t)) none))) ≤ 16400
+    go true y = holds-short (example (v .lacks)) (omega (arith, example-length (v .lacks)))
+    go false true = holds-short (failedOf n t) (omega (arith, fault-length n t, length-drop (v .place) req))
+    go false false = omega arith
 
 -- what the table's limits bound
 module _ (t : List ℕ) (count : ℕ) (s : SoundTable t count) where

@@ -1,7 +1,7 @@
-use Rattle.calling.proofs.Calls.{size-least, size-flags, early-peer, early-buffer, early-size, early-length, early-answer, early-none}
+use Rattle.refusals.proofs.Passing.{size-least, size-flags, early-peer, early-buffer, early-size, early-length, early-answer, early-none}
 use Rattle.octets.specs.Standard.{needs}
-use Rattle.calling.proofs.early.Statement.{statement}
-use Rattle.calling.proofs.early.Tie as tie
+use Rattle.refusals.proofs.early.Statement.{statement}
+use Rattle.refusals.proofs.early.Tie as tie
 
 pub early-spec : {M : Type 1} → statement M
 early-spec =

@@ -1,7 +1,7 @@
-use Rattle.calling.proofs.Calls.{length-all}
+use Rattle.refusals.proofs.Passing.{length-all}
 use Rattle.octets.specs.Standard.{needs}
-use Rattle.calling.proofs.wrong_length.Statement.{statement}
-use Rattle.calling.proofs.wrong_length.Tie as tie
+use Rattle.refusals.proofs.wrong_length.Statement.{statement}
+use Rattle.refusals.proofs.wrong_length.Tie as tie
 
 pub wrong-length-spec : {M : Type 1} → statement M
 wrong-length-spec =
