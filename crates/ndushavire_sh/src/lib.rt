@@ -38,7 +38,7 @@ fn over_checked(
     }
     let count = word::value_in(checked) as usize;
     let t = table::area::table_in(area);
-    let reply = sh::reply(out, req, t, count, requests::dialect(req, terms_of(peer)));
+    let reply = sh::answer_sound(out, req, t, count, requests::dialect(req, terms_of(peer)));
     word::of(0, reply.place, reply.length)
 }
 

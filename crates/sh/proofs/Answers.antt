@@ -1,5 +1,5 @@
 -- An answer is written by the writers of its parts.
-use Rattle.octets.specs.Standard.{ℕ, _+_, _*_, _≤_, _<_, List, Bool, _≡_, refl, sym, _∙_, append-assoc, arith, length, ne-eqb, eq-eqb}
+use Rattle.octets.specs.Standard.{ℕ, _+_, _*_, _≤_, _<_, List, Bool, _≡_, refl, sym, _∙_, append-assoc, arith, length, length-append, ne-eqb, eq-eqb}
 use Rattle.octets.specs.Run.{over, Wrote}
 use Rattle.octets.proofs.Writes.{lent, back, then, named, then-front}
 use Rattle.record.specs.Fields.{bitsOf, stateOf, serverOf, pending}
@@ -17,7 +17,7 @@ use Rattle.envelope.specs.Front.{frontBytes, originBytes}
 use Rattle.envelope.specs.Header.{headerBytes}
 use Rattle.user_data.specs.UserData.{userDataBytes}
 use Rattle.user_data.specs.declared.References.{References}
-use Rattle.sh.specs.Answer.{recordBytes, toldBytes, shBody, shAnswer}
+use Rattle.sh.specs.Answer.{recordBytes, toldBytes, shBody, shAnswer, bodyRoom}
 use Rattle.sh.specs.Replies.{Tells, Replies}
 use Rattle.sh.specs.declared.telling.Telling.{Telling}
 
@@ -57,6 +57,11 @@ module _ (terms : Terms) (req t : List ℕ) (g : Telling) where
       → Wrote (shBody terms req t g) o (back (a + b + c) (back (a + b) (back a xs ys) zs) us) (a + b + c + e)
   unfolding shBody
   wrote-body p q u w = named (simp append-assoc) refl (then (then (then p q) u) w)
+
+  -- its length is the room that it takes
+  pub answer-bounded : {o ys : List ℕ} {r : ℕ} → 20 + bodyRoom terms req t g ≤ 36864 → Wrote (shBody terms req t g) o ys r → 20 + r ≤ 36864
+  unfolding shBody endBytes
+  answer-bounded h p = omega (arith, simp length-append at (p .count))
 
   pub wrote-answer : {o ys zs : List ℕ} {r : ℕ} → 36864 ≤ length o → Wrote (shBody terms req t g) (lent 20 o) ys r
       → Wrote (headerBytes req (g .verdict .result) (20 + r)) (back 20 o ys) zs 20 → Wrote (shAnswer terms req t g) o zs (20 + r)

@@ -16,7 +16,7 @@ pub struct Reply {
 }
 
 // The answer to a request over a sound table of count records.
-pub fn reply(out: &mut [u8], req: &[u8], t: &[u8], count: usize, d: Dialect) -> Reply
+pub fn answer_sound(out: &mut [u8], req: &[u8], t: &[u8], count: usize, d: Dialect) -> Reply
     requires { ⌜ Passed (now req) (now out) × SoundTable (now t) count ⌝ }
     ensures { λ r. ⌜ Replies d (now (req .entry)) (now (t .entry)) count (now (out .entry)) (now (out .exit)) r ⌝ }
 {
