@@ -79,9 +79,9 @@ module _ (area file : List ℕ) (w : ℕ) (says : CheckPromise area file w) wher
           let v : valueIn w ≡ count = omega (arith, q, few count e) in
           rw v e
 
-  pub table-sound : {n m count : ℕ} {t : List ℕ} → n ≡ numberIn w → n ≡ 0 → m ≡ valueIn w → count ≡ m → t ≡ tableIn area → SoundTable t count
+  pub table-sound : {n m : ℕ} {t : List ℕ} → n ≡ numberIn w → n ≡ 0 → m ≡ valueIn w → t ≡ tableIn area → SoundTable t m
   unfolding checkArea
-  table-sound a b c d e = rw (d, c, e) (record { file = length file; checked = sound-of (sym a ∙ b) })
+  table-sound a b c e = rw (c, e) (record { file = length file; checked = sound-of (sym a ∙ b) })
 
   -- The table is unsound; it is sound, and the request is answered.
   module _ (req o : List ℕ) (peer : ℕ) (none : early (underSh peer) req o ≡ 0) {n : ℕ} (en : n ≡ numberIn w) where
@@ -95,14 +95,15 @@ module _ (area file : List ℕ) (w : ℕ) (says : CheckPromise area file w) wher
           buffer-is = rw (u .is, l .peer, l .room, l .size, l .long, l .asks);
         }
 
-    pub answered-promised : {m count : ℕ} {t o' : List ℕ} {d : Dialect} {r : Reply} → n ≡ 0 → m ≡ valueIn w → count ≡ m → t ≡ tableIn area
-        → d ≡ dialectOf (underSh peer) req → Replies d req t count o o' r → ShDecidePromise (lent req area file o peer) (word 0 (r .place) (r .length)) o'
+    pub answered-promised : {m v : ℕ} {t o' : List ℕ} {terms : Terms} {d : Dialect} {r : Reply} → n ≡ 0 → m ≡ valueIn w → t ≡ tableIn area
+        → terms ≡ underSh peer → d ≡ dialectOf terms req → Replies d req t m o o' r → v ≡ word 0 (r .place) (r .length)
+        → ShDecidePromise (lent req area file o peer) v o'
     unfolding serveChecked tried answered
-    answered-promised {r = r} z a b c e s =
+    answered-promised z a c h e s k =
         let q = sound-of (sym en ∙ z) in
         let l = lets (underSh peer) req o none in
-        let p = rw (b, a, c, e) at s in
+        let p = rw (a, c, e, h) at s in
         record {
-          word-is = rw (q, l .peer, l .room, l .size, l .long, l .asks, ← p .answers .count, ← p .place-is);
+          word-is = k ∙ rw (q, l .peer, l .room, l .size, l .long, l .asks, ← p .answers .count, ← p .place-is);
           buffer-is = p .answers .bytes ∙ rw (q, l .peer, l .room, l .size, l .long, l .asks);
         }
