@@ -19,6 +19,7 @@ PAGE = re.compile('as theorems about|the statements alone')
 ANY = ''
 STATEMENTS = {
     'demands/Demands': ANY,
+    'demands/Features': '02 [11]',
     'demands/Firm': ANY,
     'demands/Peers': '02 [10]',
     'demands/Place': '02 [2]',
@@ -38,10 +39,8 @@ STATEMENTS = {
     'vectors_sent/Sending': '02 [1]',
 }
 WITH_STEPS = {'rewrite/Reaching', 'seen_alike/Likeness'}
-# Theorems on other such pages that are there for the proofs of another crate, and are no statements.
-STEPS = {'peer-call'}
 # Modules of proofs/, in whatever crate, that docs/PROVED.md cites under "Proved" and that are no such pages: examples, instances, wrong servers, single laws.
-NO_STATEMENTS = {'Areas', 'Challenges', 'Examples', 'Family', 'Members', 'Moves', 'Peers', 'Readings', 'Room', 'Servers', 'Sound', 'TakeOvers', 'Worked'}
+NO_STATEMENTS = {'Areas', 'Challenges', 'Editions', 'Examples', 'Family', 'Features', 'Members', 'Moves', 'Peers', 'Readings', 'Room', 'Servers', 'Sound', 'TakeOvers', 'Worked'}
 # The crates that have wrong servers or wrong reporters, each with a theorem `.. -fails`.
 WRONG = ('report_example', 'sets_example', 'taking_example', 'wrong_servers')
 # What a cell of the column Theorem says where there is no theorem: it is the contract of a function of that row; or there is none, and why.
@@ -399,7 +398,7 @@ def check_statements(tree, page, rows):
         if module not in tree.statements:
             fault('tests/pages.py', 'has the page of statements %s, and there is none' % module)
         for name in tree.statements.get(module, ()):
-            if name in STEPS or module in WITH_STEPS and name not in said:
+            if module in WITH_STEPS and name not in said:
                 continue
             if not any(name in names or name.startswith(begin) for names, begin in cells):
                 fault(page, 'does not name `%s` of `%s` in a table%s' % (name, module, of and ' of ' + of))

@@ -20,8 +20,8 @@ use Rattle.deciding.specs.declared.Told.{Told}
 use Rattle.calling.specs.declared.Came.{Came}
 use Rattle.calling.specs.Lent.{Lent, lent}
 use Rattle.calling.specs.Trial.{tried}
-use Rattle.calling.specs.Serve.{refused, answeredBy, unknownPeer, smallBuffer, wrongSize, wrongLength, noRequest, checkOf, checkValue, serveFound, serveTableBy}
-use Rattle.calling.specs.Serve.{serveTable}
+use Rattle.calling.specs.Serve.{refused, answeredBy, unknownPeer, smallBuffer, wrongSize, wrongLength, noRequest, checkOf, checkValue}
+use Rattle.calling.specs.Serve.{serveFound, serveTableBy, serveTable}
 use Rattle.calling.specs.Leaves.{Leaves, early, serveChecked}
 use Rattle.calling.specs.declared.Came.the-variants as came
 
@@ -91,8 +91,8 @@ module _ (req t file v o : List ℕ) (terms : Terms) where
           noted = (b .command-is, b .result-is, rw t-is (b .altered-is));
         }
 
-  pub rest-serves : (c d : Checked) {n count : ℕ} {r : Came} {t' v' o' : List ℕ} → n ≡ early terms req o → n ≤ 0 → c ≡ checkTable t (length file) → d ≡ checkVectors v
-      → Leaves x (serveChecked x c d) count r t' v' o' → Leaves x (serveTable x) count r t' v' o'
+  pub rest-serves : (c d : Checked) {n count : ℕ} {r : Came} {t' v' o' : List ℕ} → n ≡ early terms req o → n ≤ 0 → c ≡ checkTable t (length file)
+      → d ≡ checkVectors v → Leaves x (serveChecked x c d) count r t' v' o' → Leaves x (serveTable x) count r t' v' o'
   unfolding serveTableBy serveFound tried serveChecked
   rest-serves c d e z f g s =
       let l = lets terms req o (none e z) in

@@ -10,8 +10,8 @@ use Rattle.deciding.proofs.Kept.{decide-keeping, decide-vectors}
 use Rattle.deciding.proofs.Tests.{neither}
 use Rattle.calling.specs.Lent.{Lent, dialectIn}
 use Rattle.calling.specs.Trial.{Trial, anyHolds}
-use Rattle.calling.specs.Serve.{Served, unknownPeer, smallBuffer, wrongSize, wrongLength, noRequest, isBad, checkOf, checkValue, trials, refused, answered, answeredBy}
-use Rattle.calling.specs.Serve.{decided, serveFound, serveTableBy, serveTable}
+use Rattle.calling.specs.Serve.{Served, unknownPeer, smallBuffer, wrongSize, wrongLength, noRequest, isBad, checkOf, checkValue, trials}
+use Rattle.calling.specs.Serve.{refused, answered, answeredBy, decided, serveFound, serveTableBy, serveTable}
 use Rattle.calling.proofs.Trials.{tried-by}
 
 -- a file that is not bad is sound

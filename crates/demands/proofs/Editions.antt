@@ -1,6 +1,6 @@
 -- Reading under the two editions of the base standard: the same, or the newer one blames a 260 for its second Vendor-Id.
-use Rattle.octets.specs.Standard.{ℕ, zero, suc, _+_, _≤_, _<_, List, [], _∷_, none, Bool, true, false, cond, not, _&&_, true≢false, _≡_, refl, sym}
-use Rattle.octets.specs.Standard.{ap, _∙_, _⊎_, inl, inr, _≢_, arith, length, getD, drop, length-drop, eqb, ltb, eqb-true, eqb-false, ltb-true, lt-ltb}
+use Rattle.octets.specs.Standard.{ℕ, zero, suc, _+_, _≤_, _<_, List, [], _∷_, none, Bool, true, false, cond, not, _&&_, _||_, true≢false, _≡_, refl, sym}
+use Rattle.octets.specs.Standard.{ap, _∙_, _⊎_, inl, inr, _≢_, arith, length, getD, drop, length-drop, eqb, leb, ltb, eqb-true, eqb-false, leb-true, ltb-true, lt-ltb}
 use Rattle.octets.proofs.All.{and-left, and-right}
 use Rattle.diameter.specs.Avp.{padded, avpFlags, dataOf, reserved, sound}
 use Rattle.diameter.specs.AvpAt.{present, avpAt}
@@ -71,6 +71,26 @@ vendors-fit (avp a w) = go (fits vendorId a) (isOf 266 0 a) refl refl (vendors-f
     go true false e f h = absurd (true≢false (sym (is e) ∙ f))
     go false true e f h = omega arith
     go false false e f h = h
+
+-- "A message with just one", by computing.
+unfoldable pub oneVendor : Walk → Bool
+oneVendor ended = true
+oneVendor (faulty t) = true
+oneVendor (avp a w) = (not (eqb (kindOf a) application) || leb (vendorIds (walk (dataOf a))) 1) && oneVendor w
+
+pub one-says : (w : Walk) → oneVendor w ≡ true → OneVendor w
+unfolding oneVendor
+one-says ended e = tt
+one-says (faulty t) e = tt
+one-says (avp a w) e = (go (eqb (kindOf a) application) refl (and-left few (oneVendor w) e), one-says w (and-right few (oneVendor w) e))
+  where
+    few : Bool
+    few = not (eqb (kindOf a) application) || leb (vendorIds (walk (dataOf a))) 1
+
+    go : (x : Bool) → eqb (kindOf a) application ≡ x → (not x || leb (vendorIds (walk (dataOf a))) 1) ≡ true
+        → kindOf a ≡ application → vendorIds (walk (dataOf a)) ≤ 1
+    go true f g k = leb-true _ _ g
+    go false f g k = absurd (eqb-false _ _ f k)
 
 module _ (command app features : ℕ) where
   abbrev pub older : Dialect

@@ -1,4 +1,5 @@
 pub mod Alike
+pub mod AnySet
 pub mod Areas
 pub mod Barring
 pub mod Blaming
@@ -8,6 +9,7 @@ pub mod Disagreeing
 pub mod Editions
 pub mod Effects
 pub mod Faults
+pub mod Features
 pub mod Firm
 pub mod Fitting
 pub mod Frame
@@ -18,6 +20,7 @@ pub mod Members
 pub mod Messages
 pub mod Moved
 pub mod NamedTwice
+pub mod PeerCalls
 pub mod Peers
 pub mod Place
 pub mod Refusals
@@ -30,4 +33,6 @@ pub mod TypeRead
 pub mod Unable
 pub mod UnableMar
 pub mod UnableSar
+pub mod Undecided
 pub mod Unreachable
+pub mod Wanting

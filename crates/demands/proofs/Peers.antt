@@ -1,89 +1,26 @@
 -- 02 [10], "The newer base standard", as theorems about `serve`, which is what the exported call is promised to return and to leave (`promised` in
 -- proofs/Demands), for anything lent. What the words below mean is in specs/Peers. Demand 3 (proofs/Demands) is over whatever the terms of the call are, and
 -- so once over the edition.
-use Rattle.octets.specs.Standard.{ℕ, List, [], _∷_, Bool, true, false, cond, _||_, true≢false, _≡_, refl, sym, ap, _∙_, _⊎_, inl, inr, _≢_, arith, eqb}
+use Rattle.octets.specs.Standard.{ℕ, [], Bool, true, false, _≡_, refl, sym, ap, _∙_, _⊎_, inl, inr, _≢_, arith, eqb}
 use Rattle.diameter.specs.AvpAt.{avpAt}
 use Rattle.diameter.specs.Message.{bodyOf, commandOf}
 use Rattle.reading.specs.Groups.{rfc3588, rfc6733}
-use Rattle.requests.specs.Features.{listCalled}
 use Rattle.requests.specs.Request.{headerFault, firstOther, readIn}
 use Rattle.failed.specs.Failing.{failedOf}
-use Rattle.reply.specs.Pieces.{frontBytes, listBytes, topBytes}
-use Rattle.answering.specs.Answer.{bodyBytes, answerBytes}
-use Rattle.deciding.specs.Decide.{Decision}
 use Rattle.calling.specs.Call.{Refused}
 use Rattle.calling.specs.Lent.{Lent, tableOnly, dialectIn}
-use Rattle.calling.specs.Trial.{Trial, tried, anyHolds}
-use Rattle.calling.specs.Serve.{Served, unknownPeer, checkOf, checkValue, trials, refused, answered, answeredBy, decision, resultOf, serveFound}
-use Rattle.calling.specs.Serve.{serveTableBy, serveTable, overArea, serve}
+use Rattle.calling.specs.Trial.{anyHolds}
+use Rattle.calling.specs.Serve.{Served, unknownPeer, overArea, serve}
 use Rattle.calling.proofs.Areas.{put-same}
 use Rattle.ndushavire.specs.Reads.{callNumber, callPlace}
 use Rattle.demands.specs.Call.{turnedAway}
 use Rattle.demands.specs.Place.{Blames, blaming}
 use Rattle.demands.specs.Peers.{byPeer, OneVendor, ComesTo, ToldApart}
 use Rattle.demands.proofs.Demands.{demand-1}
-use Rattle.demands.proofs.Editions.{older, newer, Told, walk-same, read-same, read-cases, newer-breaks, older-passes, decide-same}
+use Rattle.demands.proofs.Editions.{older, newer, Told, read-cases, newer-breaks, older-passes}
 use Rattle.demands.proofs.Faults.{avp-own, reaches-least}
+use Rattle.demands.proofs.PeerCalls.{reads-same, one-table, away-same, peer-served}
 use Rattle.demands.proofs.Place.{place-answer, place-blames}
-
--- the same refusals, and the same answer where none is given
-tried-same : (give other : Trial → Served) (o p : Served) → ((r : Trial) → give r ≡ other r) → (rs : List Trial) → (anyHolds rs ≡ false → o ≡ p)
-    → tried give o rs ≡ tried other p rs
-unfolding tried anyHolds
-tried-same give other o p same [] h = h refl
-tried-same give other o p same (r ∷ rs) h = go (r .holds) h (λ k. tried-same give other o p same rs k)
-  where
-    go : (x : Bool) → ((x || anyHolds rs) ≡ false → o ≡ p) → ((anyHolds rs ≡ false → o ≡ p) → tried give o rs ≡ tried other p rs)
-        → cond x (give r) (tried give o rs) ≡ cond x (other r) (tried other p rs)
-    go true k next = same r
-    go false k next = next k
-
-module _ (x : Lent) where
-  refused-same : (r : Trial) → refused (byPeer x rfc6733) r ≡ refused (byPeer x rfc3588) r
-  unfolding refused
-  refused-same r = refl
-
-  answered-same : (d : Decision) → answered (byPeer x rfc6733) d ≡ answered (byPeer x rfc3588) d
-  unfolding answeredBy answerBytes bodyBytes topBytes frontBytes listBytes listCalled headerFault
-  answered-same d = refl
-
-  -- calls over a table of its exact length that are answered with decisions that are equal, if at all
-  calls-same : (turnedAway (byPeer x rfc6733) ≡ false
-      → decision (byPeer x rfc6733) (checkValue (checkOf x)) ≡ decision (byPeer x rfc3588) (checkValue (checkOf x))) → serveTable (byPeer x rfc6733) ≡ serveTable (byPeer x rfc3588)
-  unfolding serveTableBy serveFound
-  calls-same h =
-      tried-same (refused (byPeer x rfc6733)) (refused (byPeer x rfc3588)) _ _ refused-same (trials (byPeer x rfc6733))
-      (λ e. answered-same _ ∙ ap (answered (byPeer x rfc3588)) (h e))
-
-  one-read : OneVendor (bodyOf (x .request)) → readIn (newer (commandOf (x .request)) (x .terms .application) (x .terms .features)) (x .request)
-      ≡ readIn (older (commandOf (x .request)) (x .terms .application) (x .terms .features)) (x .request)
-  one-read o =
-      read-same (commandOf (x .request)) (x .terms .application) (x .terms .features) (x .request)
-      (walk-same (commandOf (x .request)) (x .terms .application) (x .terms .features) 20 (bodyOf (x .request)) _ o)
-
-  reads-same : readIn (newer (commandOf (x .request)) (x .terms .application) (x .terms .features)) (x .request)
-      ≡ readIn (older (commandOf (x .request)) (x .terms .application) (x .terms .features)) (x .request) → serveTable (byPeer x rfc6733) ≡ serveTable (byPeer x rfc3588)
-  reads-same e =
-      calls-same (λ t. decide-same (commandOf (x .request)) (x .terms .application) (x .terms .features) (x .request) (x .table) (checkValue (checkOf x)) (x .vectors) e)
-
-  -- so with a request none of whose 260s has two Vendor-Ids
-  pub one-table : OneVendor (bodyOf (x .request)) → serveTable (byPeer x rfc6733) ≡ serveTable (byPeer x rfc3588)
-  one-table o = reads-same (one-read o)
-
-  pub one-result : OneVendor (bodyOf (x .request)) → resultOf (byPeer x rfc6733) ≡ resultOf (byPeer x rfc3588)
-  one-result o =
-      ap (λ (d : Decision). d .given .verdict .result)
-      (decide-same (commandOf (x .request)) (x .terms .application) (x .terms .features) (x .request) (x .table) (checkValue (checkOf x)) (x .vectors) (one-read o))
-
-  away-same : turnedAway (byPeer x rfc6733) ≡ true → serveTable (byPeer x rfc6733) ≡ serveTable (byPeer x rfc3588)
-  away-same t = calls-same (λ e. absurd (true≢false (sym t ∙ e)))
-
-  peer-served : unknownPeer (x .terms) ≡ true → serveTable x ≡ record { call = Refused 12 0; table = x .table; vectors = x .vectors; buffer = x .buffer }
-  unfolding serveTableBy serveFound tried refused
-  peer-served e = rw e
-
-  pub peer-call : unknownPeer (x .terms) ≡ true → serveTable x .call ≡ Refused 12 0
-  peer-call e = ap (λ (s : Served). s .call) (peer-served e)
 
 module _ (a : Lent) where
   -- "A MESSAGE WITH JUST ONE IS TREATED ALIKE UNDER BOTH". If none of the 260s among the request's AVPs up to its first length fault has two Vendor-Ids, the call
@@ -99,7 +36,11 @@ module _ (a : Lent) where
   unfolding failedOf
   second-told place c t h f =
       let b : Blames (tableOnly (byPeer a rfc6733)) place =
-      record { taken = t; result = 5009; fault = newer-breaks (commandOf (a .request)) (a .terms .application) (a .terms .features) (a .request) place c h f } in
+      record {
+        taken = t;
+        result = 5009;
+        fault = newer-breaks (commandOf (a .request)) (a .terms .application) (a .terms .features) (a .request) place c h f;
+      } in
       rw (avp-own (a .request) place (c .whole)) (place-answer (byPeer a rfc6733) place b)
 
   -- ".. ONLY", and "RFC 3588 ALLOWS SEVERAL": under RFC 3588 no call is answered with the place of such a 260, so it is not at fault.
@@ -107,13 +48,15 @@ module _ (a : Lent) where
   several-pass place c e =
       let l = reaches-least (dialectIn (byPeer a rfc3588)) (a .request) (c .reached) in
       let b = place-blames (byPeer a rfc3588) (λ z. omega (arith, e, z, l .0)) in
-      older-passes (commandOf (a .request)) (a .terms .application) (a .terms .features) (a .request) place c (b .result) (callPlace (serve (byPeer a rfc3588) .call)) (b .fault) e
+      older-passes (commandOf (a .request)) (a .terms .application) (a .terms .features) (a .request) place c (b .result)
+      (callPlace (serve (byPeer a rfc3588) .call)) (b .fault) e
 
   -- So the two are told apart by such a 260 and by nothing else: they are equal, or reading comes to one in both, and they are not.
   pub peers-differ : (serve (byPeer a rfc6733) ≡ serve (byPeer a rfc3588)) ⊎ ToldApart a
   peers-differ = go (read-cases (commandOf (a .request)) (a .terms .application) (a .terms .features) (a .request))
     where
-      apart : Told (commandOf (a .request)) (a .terms .application) (a .terms .features) (a .request) → (t : Bool) → turnedAway (tableOnly (byPeer a rfc6733)) ≡ t
+      apart : Told (commandOf (a .request)) (a .terms .application) (a .terms .features) (a .request) → (t : Bool)
+          → turnedAway (tableOnly (byPeer a rfc6733)) ≡ t
           → (serve (byPeer a rfc6733) ≡ serve (byPeer a rfc3588)) ⊎ ToldApart a
       apart f true t = inl (ap (overArea (a .table)) (away-same (tableOnly a) t))
       apart f false t =

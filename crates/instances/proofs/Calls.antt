@@ -1,5 +1,5 @@
 -- The promise, the checks, demands 1 and 2: their hypotheses can be met by a SAR, computed.
-use Rattle.octets.specs.Standard.{ℕ, _/_, _≤_, _≡_, refl, sym, ap, _∙_, List, [], _∷_, _++_, some, Option·some-injective, true, false, inr, _≢_, arith}
+use Rattle.octets.specs.Standard.{ℕ, _/_, _≤_, _≡_, refl, sym, ap, _∙_, List, [], _∷_, _++_, some, Option·some-injective, true, false, inr, _≢_, arith, _⊎_}
 use Rattle.octets.specs.Standard.{length, getD, take, drop, eqb, lit<}
 use Rattle.blocks.specs.Blocks.{blockOf}
 use Rattle.blocks.specs.declared.Checked.{Checked}
@@ -122,7 +122,7 @@ met-1 =
 met-1-within : 116 ≤ length room
 met-1-within = rw removal-call at (demand-1-within (asked (sar s 5)) (rw removal-call))
 
-met-1-number : callNumber (serve (asked (sar s 5)) .call) ≤ 12
+met-1-number : (callNumber (serve (asked (sar s 5)) .call) ≤ 6) ⊎ (callNumber (serve (asked (sar s 5)) .call) ≡ 12)
 met-1-number = demand-1-number (asked (sar s 5))
 
 met-1-length : 116 ≡ length (answerTo (tableOnly (asked (sar s 5))) 2)

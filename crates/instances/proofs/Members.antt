@@ -55,7 +55,13 @@ seenIn (fine seen) = seen
 
 removes : Removes (dialectOf (underCx 3588 0) (removing three)) (removing three)
 unfolding all named front own removing
-removes = record { sar = refl; seen = seenIn (readIn (dialectOf (underCx 3588 0) (removing three)) (removing three)); read = refl; removal = refl }
+removes =
+    record {
+      sar = refl;
+      seen = seenIn (readIn (dialectOf (underCx 3588 0) (removing three)) (removing three));
+      read = record { read = refl; inside = refl };
+      removal = refl;
+    }
 
 short : length (removing three) ≤ 16384
 unfolding all named front own removing

@@ -91,7 +91,8 @@ pub extern "C" fn ndushavire_report(
     features: u32,
 ) -> u64
     ensures { λ r. ⌜ ReportPromise
-        (lent (now (requests .entry)) (now (table .entry)) (now (profile .entry)) (now (vectors .entry)) (now (answer .entry)) (underCx peer features)) (now (report .entry))
+        (lent (now (requests .entry)) (now (table .entry)) (now (profile .entry)) (now (vectors .entry)) (now (answer .entry)) (underCx peer features))
+        (now (report .entry))
         r (now (table .exit)) (now (vectors .exit)) (now (answer .exit)) (now (report .exit)) ⌝ }
 {
     let terms = Terms {

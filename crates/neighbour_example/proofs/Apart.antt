@@ -8,7 +8,7 @@ use Rattle.table.specs.Area.{tableIn}
 use Rattle.table.specs.Check.{checkTable}
 use Rattle.vectors.specs.VectorFile.{checkVectors}
 use Rattle.diameter.specs.Put.{All}
-use Rattle.pen.specs.Bytes.{avpBytes, vendorBytes, vendorNumber}
+use Rattle.pen.specs.Bytes.{avpBytes, vendorBytes, numberBytes, vendorNumber}
 use Rattle.reading.specs.declared.Terms.{Terms}
 use Rattle.requests.specs.Request.{underCx}
 use Rattle.calling.specs.Call.{Answer, Answered}
@@ -145,6 +145,43 @@ terms-rest =
 
 terms-apart : SameAnswer (serve plain) (serve foreign) (told 132) (told 116) → ⊥
 terms-apart = long (serve plain) (serve foreign) 132 116 (λ e. omega arith)
+
+-- .. and another peer: two Vendor-Ids, which RFC 3588 allows and RFC 6733 does not.
+unfoldable doubled : List ℕ
+doubled =
+    let ids = avpBytes 260 (numberBytes 266 10415 ++ (numberBytes 266 10415 ++ numberBytes 258 16777216)) in
+    let base = numberBytes 277 1 ++ (avpBytes 264 (0x63 ∷ []) ++ (avpBytes 296 (0x72 ∷ []) ++ avpBytes 283 (0x72 ∷ []))) in
+    request 302 (avpBytes 263 (0x73 ∷ []) ++ (ids ++ (base ++ vendorBytes 601 (0x61 ∷ []))))
+
+abbrev older : Lent
+older = lent doubled (one 0 1 s) [] [] room (underCx 3588 0)
+
+abbrev newer : Lent
+newer = lent doubled (one 0 1 s) [] [] room (underCx 6733 0)
+
+older-call : serve older .call ≡ Answered (told 132)
+unfolding all doubled
+older-call = ap (λ (y : Served). y .call) (by older 1 0 registered-sound no-vectors refl)
+
+abbrev blamed : Answer
+blamed = record { length = 168; place = 32 }
+
+newer-call : serve newer .call ≡ Answered blamed
+unfolding all doubled
+newer-call = ap (λ (y : Served). y .call) (by newer 1 0 registered-sound no-vectors refl)
+
+peer-rest : (older .request ≡ newer .request) × Headers older newer × Publics older newer 1 1 × Users older newer 1 1 × Owners older newer 1 1
+peer-rest =
+    let l = one-table doubled doubled (one 0 1 s) [] [] [] room (underCx 3588 0) (underCx 6733 0) 1 in (
+      refl,
+      one-header doubled doubled (one 0 1 s) [] [] [] room (underCx 3588 0) (underCx 6733 0) 1,
+      publics-of older newer 1 l,
+      users-of older newer 1 l,
+      owners-of older newer 1 l,
+    )
+
+peer-apart : SameAnswer (serve older) (serve newer) (told 132) blamed → ⊥
+peer-apart e = let n : _≡_ {A = ℕ} 132 168 = ap (λ (a : Answer). a .length) (e .told) in omega arith
 
 -- THE HEADER: the host is `hss.`, four bytes long.
 unfoldable renamed : List ℕ

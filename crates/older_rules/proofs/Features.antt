@@ -1,10 +1,11 @@
 -- 02 [11]: a request without Supported-Features is served as before, whatever the set. What the rules were is in specs/WithoutFeatures.
-use Rattle.octets.specs.Standard.{ℕ, _+_, List, _++_, append-nil, Bool, true, false, cond, _&&_, _||_, true≢false, _≡_, refl, sym, ap, _∙_, length, eqb}
+use Rattle.octets.specs.Standard.{ℕ, _+_, List, [], append-nil, Bool, true, false, cond, _&&_, _||_, true≢false, _≡_, refl, sym, ap, _∙_, length, eqb}
 use Rattle.blocks.specs.Blocks.{blockOf}
 use Rattle.diameter.specs.Avp.{padded}
 use Rattle.diameter.specs.Message.{bodyOf}
 use Rattle.diameter.specs.Walk.{Walk, ended, faulty, avp, someAvp, behindFirst}
 use Rattle.pen.specs.Bytes.{ifThere}
+use Rattle.pen.specs.Groups.{ownFeatures}
 use Rattle.reading.specs.Features.{isFeatures, asksBeyond, callsList}
 use Rattle.reading.specs.Rules.{Seen, rule}
 use Rattle.reading.specs.declared.Dialect.{Dialect}
@@ -50,11 +51,11 @@ module _ (terms : Terms) (req : List ℕ) (none : NoFeatures (bodyOf req)) where
   unfolding callsList
   none-called = some-behind callsList (bodyOf req) (some-less isFeatures callsList (λ a e. rw e) (bodyOf req) none)
 
-  pub none-listed : listBytes terms req ≡ List.[]
+  pub none-listed : listBytes terms req ≡ []
   unfolding listBytes listCalled ifThere
   none-listed = go (eqb (headerFault (dialectOf terms req) req) 0)
     where
-      go : (x : Bool) → ifThere (x && calledIn (bodyOf req)) _ ≡ List.[]
+      go : (x : Bool) → ifThere (x && calledIn (bodyOf req)) (ownFeatures (terms .features)) ≡ []
       go true = rw none-called
       go false = refl
 

@@ -18,7 +18,8 @@ module _ (r s : Rules) (x : Lent) where
   AnswersAlike = (g : Given) → r .answer (x .terms) (x .request) (x .table) (x .profile) (x .vectors) g
       ≡ s .answer (x .terms) (x .request) (x .table) (x .profile) (x .vectors) g
 
-  found-same : (c : Checked) → AnswersAlike → ((count : ℕ) → c ≡ Sound count → decisionBy r x count ≡ decisionBy s x count) → serveFound r x c ≡ serveFound s x c
+  found-same : (c : Checked) → AnswersAlike → ((count : ℕ) → c ≡ Sound count → decisionBy r x count ≡ decisionBy s x count)
+      → serveFound r x c ≡ serveFound s x c
   unfolding serveFound tried answeredBy
   found-same (Sound count) a h = rw (h count refl, a (decisionBy s x count .given))
   found-same (Bad block) a h = refl

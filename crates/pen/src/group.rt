@@ -6,7 +6,8 @@ ghost use Prim.Native.Nat.{_+_, _*_, _/_, _≤_};
 ghost use lib.ListN.{length};
 ghost use Rattle.octets.specs.Run.{Wrote};
 ghost use Rattle.pen.specs.Bytes.{numberBytes, group};
-ghost use Rattle.pen.specs.Groups.{vendorApplication, experimental, failed, failedSize, vendorNumbers, words, capabilities, capabilitiesSize, ownFeatures};
+ghost use Rattle.pen.specs.Groups.{vendorApplication, experimental, failed, failedSize, vendorNumbers, words, capabilities, capabilitiesSize};
+ghost use Rattle.pen.specs.Groups.{ownFeatures};
 
 // A group of Vendor-Id 10415 and one number more.
 fn put_of_vendor(out: &mut [u8], code: u32, member: u32, n: u32) -> usize

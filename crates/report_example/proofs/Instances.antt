@@ -1,5 +1,5 @@
 -- Each theorem of the numbers has an instance: its hypotheses are met by the small month, or by a part of it.
-use Rattle.octets.specs.Standard.{ℕ, _+_, _%_, _^_, _≤_, _<_, max, List, [], _∷_, _++_, _≡_, refl, sym, ap, _∙_, inl, inr, arith, length, getD, take}
+use Rattle.octets.specs.Standard.{ℕ, _+_, _%_, _^_, _≤_, _<_, max, true, List, [], _∷_, _++_, _≡_, refl, sym, ap, _∙_, inl, inr, arith, length, getD, take}
 use Rattle.octets.specs.Standard.{drop, drop-at, lit≤, lit<}
 use Rattle.octets.specs.Run.{over}
 use Rattle.blocks.specs.Blocks.{blockOf}
@@ -33,6 +33,10 @@ use Rattle.worked_examples.proofs.Sample.{block, room, request, reply, common, 
 use Rattle.report_example.proofs.Calls.{lir, removal, strayed, scrap, file, here, gone, month, each, sound-here, sound-gone, comes, counts, counted-from}
 use Rattle.report_example.proofs.Calls.{all, located-counts}
 use Rattle.report_example.proofs.Month.{area, enough, month-requests, month-stop, month-number, month-events, month-table, counting}
+use Rattle.diameter.specs.Message.{bodyOf}
+use Rattle.diameter.specs.Put.{All}
+use Rattle.demands.specs.Peers.{byPeer, vendorIds, OneVendor}
+use Rattle.demands.proofs.Editions.{oneVendor, one-says}
 use Rattle.report_numbers.proofs.Numbers as numbers
 
 -- the month's length
@@ -315,9 +319,18 @@ met-peer : reported unheard area .table ≡ here
 unfolding unheard
 met-peer = numbers.report-peer unheard area refl .0
 
-met-peer-counts : wordIn (reported unheard area .area) 16 ≡ length (requestsOf unheard)
+met-peer-counts : wordIn (reported unheard area .area) 16 ≡ 4
 unfolding unheard month
-met-peer-counts = numbers.report-peer-counts unheard area refl enough short
+met-peer-counts = numbers.report-peer-counts unheard area refl enough short ∙ ap length month-requests
+
+-- the month's requests have one Vendor-Id each: its numbers are the same under RFC 6733
+just-one : All (λ (p : List ℕ). OneVendor (bodyOf p)) (lir ∷ removal ∷ lir ∷ strayed ∷ [])
+unfolding all oneVendor vendorIds
+just-one = (one-says (bodyOf lir) refl, (one-says (bodyOf removal) refl, (one-says (bodyOf lir) refl, (one-says (bodyOf strayed) refl, tt))))
+
+met-one-vendor : reported (byPeer month 6733) area ≡ reported month area
+unfolding month
+met-one-vendor = numbers.report-one-vendor month area (rw month-requests just-one)
 
 -- a question alone
 met-idle : (reported alone area .table ≡ here) × (alteredOver alone (requestsOf alone) ≡ 0)

@@ -17,7 +17,7 @@ use Rattle.calling.proofs.Kept.{table-checked, vectors-checked, taken}
 use Rattle.demands.specs.Call.{turnedAway}
 use Rattle.demands.specs.Frame.{succeeds}
 use Rattle.demands.proofs.Refusals.{refused-kept, answered-is}
-use Rattle.demands.proofs.Peers.{peer-call}
+use Rattle.demands.proofs.PeerCalls.{peer-call}
 use Rattle.demands.proofs.Frame.{failure-kept, question-kept, bytes-kept}
 use Rattle.reporting.specs.Row.{eventOf, next, row, left}
 use Rattle.reporting.specs.Report.{requestsOf, ran, reportedTable}

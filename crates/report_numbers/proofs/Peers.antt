@@ -9,7 +9,7 @@ use Rattle.calling.specs.Call.{Call, Answered, Refused}
 use Rattle.calling.specs.Lent.{Lent, asking, tableOnly}
 use Rattle.calling.specs.Serve.{Served, checkOf, checkValue, resultOf, serveTable}
 use Rattle.demands.specs.Peers.{byPeer, OneVendor}
-use Rattle.demands.proofs.Peers.{one-table, one-result}
+use Rattle.demands.proofs.PeerCalls.{one-table, one-result}
 use Rattle.reporting.specs.Row.{recordsAltered, eventBy, eventOf, next, row, left}
 use Rattle.reporting.specs.Report.{Reported, requestsOf, wordsOf, ran, reportedTable, reportBack, reported}
 

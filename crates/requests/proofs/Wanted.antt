@@ -1,6 +1,6 @@
 -- The Supported-Features of a request: the turns of the walk over its AVPs.
-use Rattle.octets.specs.Standard.{ℕ, _≤_, _<_, _≡_, refl, sym, _∙_, List, Bool, true, false, not, cond, _&&_, _||_, or-assoc, or-false, arith, length, drop, eqb}
-use Rattle.octets.specs.Standard.{eq-eqb, ne-eqb}
+use Rattle.octets.specs.Standard.{ℕ, _≤_, _<_, _≡_, refl, sym, _∙_, List, Bool, true, false, not, cond, _&&_, _||_, or-assoc, or-false, arith}
+use Rattle.octets.specs.Standard.{length, drop, eqb, ne-eqb}
 use Rattle.diameter.specs.Message.{bodyOf}
 use Rattle.diameter.specs.Reader.{readOf, ownOf}
 use Rattle.diameter.specs.Walk.{Walk, ended, faulty, avp, walk, someAvp}

@@ -29,7 +29,7 @@ use Rattle.assignment.specs.Assignment.{Assignment, plannedRecords}
 use Rattle.deciding.specs.Plans.{assignmentOf, planRead}
 use Rattle.deciding.specs.Rules.{inForce}
 use Rattle.deciding.specs.Decide.{Decision, performedBy, judgedBy, decideBy, decide}
-use Rattle.deciding.proofs.Tests.{each}
+use Rattle.deciding.proofs.Tests as tests
 use Rattle.deciding.specs.Deeds.{spentBy}
 use Rattle.seen_alike.specs.Alike.{AlikeTables}
 use Rattle.seen_alike.specs.Shown.{SameRecord, SameSight, numbersUpTo, Each, FoundAlike, BlockAlike}
@@ -191,7 +191,7 @@ module _ (t u : List ℕ) (count : ℕ) (sound : SoundTable t count) (alike : Al
         go : (j : Judged) → readIn dialect req ≡ j → judgedBy inForce dialect req t count v j .given ≡ judgedBy inForce dialect req u count v j .given
         go (bad f) e = refl
         go (fine seen) e =
-            each (λ (d b : Decision). d .given ≡ b .given) (beyondSet (dialect .terms) req) refl (ap (λ (p : Plan). p .given) (plan-same seen e))
+            tests.each (λ (d b : Decision). d .given ≡ b .given) (beyondSet (dialect .terms) req) refl (ap (λ (p : Plan). p .given) (plan-same seen e))
 
     pub vectors-same : decide dialect req t count v .vectors ≡ decide dialect req u count v .vectors
     unfolding decideBy judgedBy performedBy
@@ -200,5 +200,5 @@ module _ (t u : List ℕ) (count : ℕ) (sound : SoundTable t count) (alike : Al
         go : (j : Judged) → readIn dialect req ≡ j → judgedBy inForce dialect req t count v j .vectors ≡ judgedBy inForce dialect req u count v j .vectors
         go (bad f) e = refl
         go (fine seen) e =
-            each (λ (d b : Decision). d .vectors ≡ b .vectors) (beyondSet (dialect .terms) req) refl
+            tests.each (λ (d b : Decision). d .vectors ≡ b .vectors) (beyondSet (dialect .terms) req) refl
             (ap (λ (p : Plan). spentBy v (p .given .sent) (p .deed)) (plan-same seen e))

@@ -15,7 +15,6 @@ use Rattle.diameter.specs.Message.{commandOf}
 use Rattle.reading.specs.Kinds.{userName, visitedNetwork, authorizationType}
 use Rattle.reading.specs.Rules.{Seen}
 use Rattle.reading.specs.declared.Outcome.the-variants.{Base, Experimental}
-use Rattle.requests.specs.Judged.{fine}
 use Rattle.requests.specs.Request.{dialectOf, underCx, readIn, dataSeen, valueSeen}
 use Rattle.choices.specs.Choices.{authorization}
 use Rattle.choices.specs.Given.{givenServer}
@@ -28,6 +27,7 @@ use Rattle.calling.specs.Trial.{anyHolds}
 use Rattle.calling.proofs.Areas.{served-in}
 use Rattle.ndushavire.specs.Word.{checkWord}
 use Rattle.ndushavire.specs.Reads.{ReadsCheck}
+use Rattle.demands.specs.Call.{Decides}
 use Rattle.demands.specs.Sets.{Shares, Agrees, Disagrees, Stands, Belongs, Barred}
 use Rattle.pen.specs.Bytes.{avpBytes, vendorBytes, vendorNumber}
 use Rattle.worked_examples.proofs.Computed.{roomy}
@@ -61,9 +61,9 @@ is-uar = refl
 asked : Seen
 asked = seenIn (readIn (dialectOf (underCx 3588 0) asking) asking)
 
-asks : readIn (dialectOf (underCx 3588 0) asking) asking ≡ fine asked
+asks : Decides (dialectOf (underCx 3588 0) asking) asking asked
 unfolding opened asking asked
-asks = refl
+asks = record { read = refl; inside = refl }
 
 asked-public : dataSeen asked 8 ≡ 0x61 ∷ []
 unfolding opened asking asked
@@ -209,9 +209,9 @@ unnamed-uar = refl
 unnamed-asked : Seen
 unnamed-asked = seenIn (readIn (dialectOf (underCx 3588 0) (visitingAs 0x71)) (visitingAs 0x71))
 
-unnamed-asks : readIn (dialectOf (underCx 3588 0) (visitingAs 0x71)) (visitingAs 0x71) ≡ fine unnamed-asked
+unnamed-asks : Decides (dialectOf (underCx 3588 0) (visitingAs 0x71)) (visitingAs 0x71) unnamed-asked
 unfolding opened visitingAs unnamed-asked
-unnamed-asks = refl
+unnamed-asks = record { read = refl; inside = refl }
 
 no-record : (k : ℕ) → Belongs lonely 1 k (dataSeen unnamed-asked userName) → ⊥
 unfolding opened head line lonely visitingAs unnamed-asked

@@ -9,11 +9,11 @@ use Rattle.vectors.specs.VectorBlock.{vectorOf}
 use Rattle.diameter.specs.Message.{commandOf, bodyOf}
 use Rattle.reading.specs.Rules.{Seen}
 use Rattle.reading.specs.declared.Outcome.the-variants.{Base, Experimental}
-use Rattle.requests.specs.Judged.{fine}
 use Rattle.requests.specs.Request.{dialectOf, underCx, readIn, identities}
 use Rattle.calling.specs.Lent.{Lent, lent, tableOnly}
 use Rattle.calling.specs.Serve.{decisionBy, resultOf, serveBy, serve}
 use Rattle.older_rules.specs.WithBranch.{withBranch}
+use Rattle.demands.specs.Call.{Decides}
 use Rattle.demands.specs.Sets.{Stands}
 use Rattle.demands.specs.Unable.{AllUsed, StoresOther, NoneToSend}
 use Rattle.pen.specs.Bytes.{avpBytes, vendorBytes, vendorNumber}
@@ -100,7 +100,7 @@ unfolding opened head line family named
 stores-other =
     record {
       seen = seenIn (readIn (dialectOf (underCx 3588 0) (assignment 0 z)) (assignment 0 z));
-      read = refl;
+      read = record { read = refl; inside = refl };
       asks = refl;
       identity = named;
       named = refl;
@@ -128,9 +128,9 @@ unheard-sound = refl
 sar-seen : Seen
 sar-seen = seenIn (readIn (dialectOf (underCx 3588 0) (assignment 0 z)) (assignment 0 z))
 
-sar-read : readIn (dialectOf (underCx 3588 0) (assignment 0 z)) (assignment 0 z) ≡ fine sar-seen
+sar-read : Decides (dialectOf (underCx 3588 0) (assignment 0 z)) (assignment 0 z) sar-seen
 unfolding opened sar-seen
-sar-read = refl
+sar-read = record { read = refl; inside = refl }
 
 sar-names : identities (bodyOf (assignment 0 z)) ≡ named ∷ []
 unfolding opened named
@@ -156,9 +156,9 @@ is-naming = refl
 naming-seen : Seen
 naming-seen = seenIn (readIn (dialectOf (underCx 3588 0) naming) naming)
 
-naming-read : readIn (dialectOf (underCx 3588 0) naming) naming ≡ fine naming-seen
+naming-read : Decides (dialectOf (underCx 3588 0) naming) naming naming-seen
 unfolding opened naming naming-seen
-naming-read = refl
+naming-read = record { read = refl; inside = refl }
 
 naming-names : identities (bodyOf naming) ≡ named ∷ []
 unfolding opened naming named
@@ -181,7 +181,7 @@ unfolding opened head line family
 none-to-send =
     record {
       seen = seenIn (readIn (dialectOf (underCx 3588 0) (authentication 0 s)) (authentication 0 s));
-      read = refl;
+      read = record { read = refl; inside = refl };
       block = 1;
       public = record { from = lit≤ tt; to = lit≤ tt; name = refl };
       private = refl;
@@ -208,7 +208,7 @@ unfolding opened head line family
 none-left =
     record {
       seen = seenIn (readIn (dialectOf (underCx 3588 0) (authentication 1 s)) (authentication 1 s));
-      read = refl;
+      read = record { read = refl; inside = refl };
       block = 1;
       public = record { from = lit≤ tt; to = lit≤ tt; name = refl };
       private = refl;
@@ -227,9 +227,9 @@ met-mar-only = unreachable.mar-only (within none-asked) 3 (sound-front none-aske
 mar-seen : Seen
 mar-seen = seenIn (readIn (dialectOf (underCx 3588 0) (authentication 0 s)) (authentication 0 s))
 
-mar-read : readIn (dialectOf (underCx 3588 0) (authentication 0 s)) (authentication 0 s) ≡ fine mar-seen
+mar-read : Decides (dialectOf (underCx 3588 0) (authentication 0 s)) (authentication 0 s) mar-seen
 unfolding opened mar-seen
-mar-read = refl
+mar-read = record { read = refl; inside = refl }
 
 abbrev unheard-mar : Lent
 unheard-mar = lent (authentication 0 s) (head 0) [] [] room (underCx 3588 0)
@@ -262,9 +262,9 @@ is-otherwise = refl
 otherwise-seen : Seen
 otherwise-seen = seenIn (readIn (dialectOf (underCx 3588 0) otherwise) otherwise)
 
-otherwise-read : readIn (dialectOf (underCx 3588 0) otherwise) otherwise ≡ fine otherwise-seen
+otherwise-read : Decides (dialectOf (underCx 3588 0) otherwise) otherwise otherwise-seen
 unfolding opened otherwise otherwise-seen
-otherwise-read = refl
+otherwise-read = record { read = refl; inside = refl }
 
 a-stands : Stands (family 2 1 s) 3 1 (0x61 ∷ [])
 unfolding opened head line family

@@ -1,13 +1,13 @@
--- "Try these against it": document 01's five wrong servers, four that break document 02 [1], two that break [2], three that break [8], and four that break [10]. Each is a function
--- here, and at an input that is computed its outcome does not meet the promise.
-use Rattle.octets.specs.Standard.{ℕ, zero, suc, _≤_, _≡_, refl, sym, ap, _∙_, _≢_, List, [], _∷_, _++_, false, arith, length, getD, take, drop}
+-- "Try these against it": document 01's five wrong servers, and others that break document 02 [1], [2], [8], [10] and [11]. Each is a function here, and at an
+-- input that is computed its outcome does not meet the promise.
+use Rattle.octets.specs.Standard.{ℕ, zero, suc, _+_, _≤_, _≡_, refl, sym, ap, _∙_, _≢_, List, [], _∷_, _++_, false, arith, length, getD, take, drop}
 use Rattle.octets.specs.Run.{over}
 use Rattle.blocks.specs.declared.Checked.the-variants.{Sound, Bad}
 use Rattle.table.specs.Area.{sizeIn, tableIn, checkArea}
 use Rattle.table.proofs.Areas.{check-exact, sound-size-in}
 use Rattle.vectors.specs.VectorFile.{checkVectors}
-use Rattle.pen.specs.Bytes.{vendorHead, avpBytes, vendorBytes, numberBytes, vendorNumber}
-use Rattle.pen.specs.Groups.{failed}
+use Rattle.pen.specs.Bytes.{headBytes, vendorHead, avpBytes, vendorBytes, numberBytes, vendorNumber}
+use Rattle.pen.specs.Groups.{experimental, failed, ownFeatures}
 use Rattle.requests.specs.Request.{underCx}
 use Rattle.calling.specs.Lent.{Lent, lent, holding}
 use Rattle.calling.specs.Serve.{Served, checkOf, serveTable, serve}
@@ -18,7 +18,7 @@ use Rattle.ndushavire.specs.Reads.{numberIn, placeIn}
 use Rattle.ndushavire.specs.Promise.{CheckPromise, CheckVectorsPromise, DecidePromise}
 use Rattle.worked_examples.proofs.Computed.{known, come, roomy, no-vectors, registered-sound, unregistered-sound}
 use Rattle.worked_examples.proofs.Sample.{room, request, reply, answer, common, assignment, authentication, vector, item, challenges, one, waiting}
-use Rattle.worked_examples.proofs.Sample.{person, two, s, z, opened}
+use Rattle.worked_examples.proofs.Sample.{person, two, feature, assignmentWith, s, z, opened}
 
 -- what a call leaves
 record CallLeft : Type 0 where
@@ -337,17 +337,23 @@ spilling-fails f n h p = h (ap (drop 1024) (p .table-is) ∙ spacious-behind)
 
 -- Document 02 [10]. The removal with a second Vendor-Id in its 260, which stands at 32: a success under RFC 3588, B5009 under RFC 6733, with the whole 260 in
 -- Failed-AVP.
-twoIds : List ℕ
-twoIds = avpBytes 260 (numberBytes 266 10415 ++ (numberBytes 266 10415 ++ numberBytes 258 16777216))
-
-doubled : ℕ → Lent
-doubled peer =
+doubling : List ℕ → ℕ → Lent
+doubling members peer =
     let base = numberBytes 277 1 ++ (avpBytes 264 (0x63 ∷ []) ++ (avpBytes 296 (0x72 ∷ []) ++ avpBytes 283 (0x72 ∷ []))) in
     let own = vendorBytes 601 (0x61 ∷ []) ++ (vendorBytes 602 s ++ (vendorNumber 614 5 ++ vendorNumber 624 1)) in
-    lent (request 301 (avpBytes 263 (0x73 ∷ []) ++ (twoIds ++ (base ++ own)))) (one 0 1 s) [] [] room (underCx peer 0)
+    lent (request 301 (avpBytes 263 (0x73 ∷ []) ++ (avpBytes 260 members ++ (base ++ own)))) (one 0 1 s) [] [] room (underCx peer 0)
+
+members : List ℕ
+members = numberBytes 266 10415 ++ (numberBytes 266 10415 ++ numberBytes 258 16777216)
+
+twoIds : List ℕ
+twoIds = avpBytes 260 members
+
+doubled : ℕ → Lent
+doubled = doubling members
 
 older-served : serve (doubled 3588) ≡ comes (one 0 0 []) (answer (numberBytes 268 2001) [])
-unfolding opened twoIds doubled
+unfolding opened doubling members twoIds doubled
 older-served = serve-sound (doubled 3588) 1 registered-sound ∙ come (doubled 3588) roomy registered-sound no-vectors refl
 
 newer-served : serve (doubled 6733) ≡ record {
@@ -356,12 +362,20 @@ newer-served : serve (doubled 6733) ≡ record {
   vectors = [];
   buffer = over (answer (numberBytes 268 5009) (failed twoIds)) room;
 }
-unfolding opened twoIds doubled
+unfolding opened doubling members twoIds doubled
 newer-served = serve-sound (doubled 6733) 1 registered-sound ∙ come (doubled 6733) roomy registered-sound no-vectors refl
 
--- the last byte of the code of what Failed-AVP holds: 260 ends in 4, 266 in 10
-shown : List ℕ → ℕ
-shown o = getD o 127 0
+-- what Failed-AVP holds: 44 bytes
+shown : List ℕ → List ℕ
+shown o = take 44 (drop 124 o)
+
+-- The same with another Auth-Application-Id, which is judged before Vendor-Ids are counted: B5004, under both.
+misled : ℕ → Lent
+misled peer = doubling (numberBytes 266 10415 ++ (numberBytes 266 10415 ++ numberBytes 258 16777217)) peer
+
+misled-result : result (serve (misled 6733) .buffer) ≡ 140
+unfolding opened doubling misled result
+misled-result = ap (λ (y : Served). result (y .buffer)) (serve-sound (misled 6733) 1 registered-sound ∙ come (misled 6733) roomy registered-sound no-vectors refl)
 
 module _ (f : Server) (n : ℕ) where
   older-result : Meets f n (doubled 3588) → result (f n (doubled 3588) .buffer) ≡ 209
@@ -369,26 +383,35 @@ module _ (f : Server) (n : ℕ) where
   older-result p = ap result (p .buffer-is ∙ ap (λ (y : Served). y .buffer) older-served)
 
   newer-result : Meets f n (doubled 6733) → result (f n (doubled 6733) .buffer) ≡ 145
-  unfolding result opened twoIds
+  unfolding result opened members twoIds
   newer-result p = ap result (p .buffer-is ∙ ap (λ (y : Served). y .buffer) newer-served)
 
-  newer-shown : Meets f n (doubled 6733) → shown (f n (doubled 6733) .buffer) ≡ 4
-  unfolding shown opened twoIds
+  newer-shown : Meets f n (doubled 6733) → shown (f n (doubled 6733) .buffer) ≡ twoIds
+  unfolding shown opened members twoIds
   newer-shown p = ap shown (p .buffer-is ∙ ap (λ (y : Served). y .buffer) newer-served)
 
--- 15. one that gives B5004 for it, which ends in 140
-content-fails : (f : Server) (n : ℕ) → result (f n (doubled 6733) .buffer) ≡ 140 → Meets f n (doubled 6733) → ⊥
-content-fails f n e p = omega (arith, e, newer-result f n p)
+-- 15. one that gives anything but B5009 for it, as B5004, or nothing at all
+content-fails : (f : Server) (n : ℕ) → result (f n (doubled 6733) .buffer) ≢ 145 → Meets f n (doubled 6733) → ⊥
+content-fails f n h p = h (newer-result f n p)
 
--- 16. one that shows the second Vendor-Id in Failed-AVP
-member-fails : (f : Server) (n : ℕ) → shown (f n (doubled 6733) .buffer) ≡ 10 → Meets f n (doubled 6733) → ⊥
-member-fails f n e p = omega (arith, e, newer-shown f n p)
+-- 16. one that shows anything but the whole 260 in Failed-AVP, as the second Vendor-Id
+member-fails : (f : Server) (n : ℕ) → shown (f n (doubled 6733) .buffer) ≢ twoIds → Meets f n (doubled 6733) → ⊥
+member-fails f n h p = h (newer-shown f n p)
 
--- 17. one that does not look at the peer, and gives B5009 under RFC 3588 too
-newer-fails : (f : Server) (n : ℕ) → result (f n (doubled 3588) .buffer) ≡ 145 → Meets f n (doubled 3588) → ⊥
-newer-fails f n e p = omega (arith, e, older-result f n p)
+-- 17. one that returns another place than the 260's
+astray-fails : (f : Server) (n : ℕ) → placeIn (f n (doubled 6733) .word) ≢ 32 → Meets f n (doubled 6733) → ⊥
+unfolding opened
+astray-fails f n h p = h (ap placeIn (p .word-is ∙ ap (λ (y : Served). callWord (y .call)) newer-served))
 
--- 18. one that tries 12 after 1: under another number, with no buffer at all, it gives 1
+-- 18. one that gives anything but success under RFC 3588, as B5009 there too
+newer-fails : (f : Server) (n : ℕ) → result (f n (doubled 3588) .buffer) ≢ 209 → Meets f n (doubled 3588) → ⊥
+newer-fails f n h p = h (older-result f n p)
+
+-- 19. one that counts Vendor-Ids before it judges what is beside them
+counting-fails : (f : Server) (n : ℕ) → result (f n (misled 6733) .buffer) ≢ 140 → Meets f n (misled 6733) → ⊥
+counting-fails f n h p = h (ap result (p .buffer-is) ∙ misled-result)
+
+-- 20. one that gives anything but 12 under another number with no buffer at all, as 1
 unheard : Lent
 unheard = lent (assignment 5 s) (one 0 1 s) [] [] [] (underCx 6734 0)
 
@@ -396,7 +419,119 @@ unheard-call : serve unheard .call ≡ Refused 12 0
 unfolding opened unheard
 unheard-call = refl
 
-late-fails : (f : Server) (n : ℕ) → numberIn (f n unheard .word) ≡ 1 → Meets f n unheard → ⊥
-late-fails f n e p =
-    let h : numberIn (f n unheard .word) ≡ 12 = ap numberIn (p .word-is ∙ ap callWord unheard-call) in
-    omega (arith, e, h)
+late-fails : (f : Server) (n : ℕ) → numberIn (f n unheard .word) ≢ 12 → Meets f n unheard → ⊥
+late-fails f n h p = h (ap numberIn (p .word-is ∙ ap callWord unheard-call))
+
+-- Document 02 [11]. The removal with a 628, by a server that supports bits 0 and 2; and its answers, with the own list right after 296 or without it.
+wishing : List ℕ → Lent
+wishing avps = lent (assignmentWith avps 5 s) (one 0 1 s) [] [] room (underCx 3588 5)
+
+served : ℕ → List ℕ → List ℕ → Served
+served n after bytes = record { call = Answered (record { length = n; place = 0 }); table = after; vectors = []; buffer = over bytes room }
+
+abbrev removes : List ℕ → List ℕ → Type 0
+removes avps list = serve (wishing avps) ≡ served (116 + length list) (one 0 0 []) (answer (numberBytes 268 2001) list)
+
+abbrev refuses : List ℕ → Type 0
+refuses avps = serve (wishing avps) ≡ served 192 (one 0 1 s) (answer (experimental 5011) (ownFeatures 5))
+
+-- bit 1 without M; with M; no bit of another vendor's list, with M
+hoped-served : removes (feature 128 10415 1 2) (ownFeatures 5)
+unfolding opened wishing served
+hoped-served =
+    serve-sound (wishing (feature 128 10415 1 2)) 1 registered-sound ∙ come (wishing (feature 128 10415 1 2)) roomy registered-sound no-vectors refl
+
+wanted-served : refuses (feature 192 10415 1 2)
+unfolding opened wishing served
+wanted-served =
+    serve-sound (wishing (feature 192 10415 1 2)) 1 registered-sound ∙ come (wishing (feature 192 10415 1 2)) roomy registered-sound no-vectors refl
+
+foreign-served : refuses (feature 192 10416 1 0)
+unfolding opened wishing served
+foreign-served =
+    serve-sound (wishing (feature 192 10416 1 0)) 1 registered-sound ∙ come (wishing (feature 192 10416 1 0)) roomy registered-sound no-vectors refl
+
+-- 21. one that ignores M, and takes the removal for what it is, or alters the record otherwise
+unmarked-fails : (f : Server) (n : ℕ) → state (f n (wishing (feature 192 10415 1 2)) .table) ≢ 1 → Meets f n (wishing (feature 192 10415 1 2)) → ⊥
+unfolding opened state served
+unmarked-fails f n h p = h (ap state (p .table-is ∙ ap (λ (y : Served). y .table) wanted-served))
+
+-- 22. one that judges without M too, and leaves the record as it was
+marking-fails : (f : Server) (n : ℕ) → state (f n (wishing (feature 128 10415 1 2)) .table) ≢ 0 → Meets f n (wishing (feature 128 10415 1 2)) → ⊥
+unfolding opened state served
+marking-fails f n h p = h (ap state (p .table-is ∙ ap (λ (y : Served). y .table) hoped-served))
+
+-- 23. one that lets another vendor's list pass, since no bit of it is asked for
+bitless-fails : (f : Server) (n : ℕ) → state (f n (wishing (feature 192 10416 1 0)) .table) ≢ 1 → Meets f n (wishing (feature 192 10416 1 0)) → ⊥
+unfolding opened state served
+bitless-fails f n h p = h (ap state (p .table-is ∙ ap (λ (y : Served). y .table) foreign-served))
+
+-- 24. one that sends its list for each 628, or not at all
+both : Lent
+both = wishing (feature 128 10415 1 2 ++ feature 128 10415 1 2)
+
+both-served : serve both ≡ served 172 (one 0 0 []) (answer (numberBytes 268 2001) (ownFeatures 5))
+unfolding opened wishing served both
+both-served = serve-sound both 1 registered-sound ∙ come both roomy registered-sound no-vectors refl
+
+again-fails : (f : Server) (n : ℕ) → f n both .word ≢ 172 → Meets f n both → ⊥
+unfolding served
+again-fails f n h p = h (p .word-is ∙ ap (λ (y : Served). callWord (y .call)) both-served)
+
+-- 25. one that sends it for a 628 behind a length fault: the answer has 116 bytes and Failed-AVP with the header alone, 16
+cut : Lent
+cut = wishing (headBytes 999 0 7 ++ feature 128 10415 1 2)
+
+cut-served : serve cut ≡ record {
+  call = Answered (record { length = 132; place = 112 });
+  table = one 0 1 s;
+  vectors = [];
+  buffer = over (answer (numberBytes 268 5014) (failed (headBytes 999 0 8))) room;
+}
+unfolding opened wishing cut
+cut-served = serve-sound cut 1 registered-sound ∙ come cut roomy registered-sound no-vectors refl
+
+behind-fails : (f : Server) (n : ℕ) → f n cut .word ≢ word 0 112 132 → Meets f n cut → ⊥
+behind-fails f n h p = h (p .word-is ∙ ap (λ (y : Served). callWord (y .call)) cut-served)
+
+-- 26. one that gives X5011 before it looks for what is missing: the code of the answer's third AVP is 268, which ends in 12, and not 297
+lacking : Lent
+lacking = lent (request 301 (common ++ feature 192 10415 1 2)) (one 0 1 s) [] [] room (underCx 3588 5)
+
+lacking-served : serve lacking ≡ served 192 (one 0 1 s) (answer (numberBytes 268 5005) (ownFeatures 5 ++ failed (vendorBytes 602 [])))
+unfolding opened served lacking
+lacking-served = serve-sound lacking 1 registered-sound ∙ come lacking roomy registered-sound no-vectors refl
+
+third : List ℕ → ℕ
+third o = getD o 67 0
+
+early-fails : (f : Server) (n : ℕ) → third (f n lacking .buffer) ≢ 12 → Meets f n lacking → ⊥
+unfolding opened served third
+early-fails f n h p = h (ap third (p .buffer-is ∙ ap (λ (y : Served). y .buffer) lacking-served))
+
+-- 27. one that writes its list behind User-Name, which a registration's answer has: the code of the AVP behind 296, which ends at 116, is 628, which ends in 116
+naming : Lent
+naming = lent (assignmentWith (feature 128 10415 1 2) 1 s) (one 0 1 s) [] [] room (underCx 3588 5)
+
+naming-served : serve naming ≡ served 184 (one 0 1 s) (answer (numberBytes 268 2001) (ownFeatures 5 ++ avpBytes 1 (0x70 ∷ [])))
+unfolding opened served naming
+naming-served = serve-sound naming 1 registered-sound ∙ come naming roomy registered-sound no-vectors refl
+
+next : List ℕ → ℕ
+next o = getD o 119 0
+
+behind-name-fails : (f : Server) (n : ℕ) → next (f n naming .buffer) ≢ 116 → Meets f n naming → ⊥
+unfolding opened served next
+behind-name-fails f n h p = h (ap next (p .buffer-is ∙ ap (λ (y : Served). y .buffer) naming-served))
+
+-- 28. one that leaves it out where its set is empty
+empty : Lent
+empty = lent (assignmentWith (feature 128 10415 1 2) 5 s) (one 0 1 s) [] [] room (underCx 3588 0)
+
+empty-served : serve empty ≡ served 172 (one 0 0 []) (answer (numberBytes 268 2001) (ownFeatures 0))
+unfolding opened served empty
+empty-served = serve-sound empty 1 registered-sound ∙ come empty roomy registered-sound no-vectors refl
+
+empty-fails : (f : Server) (n : ℕ) → f n empty .word ≢ 172 → Meets f n empty → ⊥
+unfolding served
+empty-fails f n h p = h (p .word-is ∙ ap (λ (y : Served). callWord (y .call)) empty-served)
