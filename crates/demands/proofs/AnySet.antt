@@ -14,7 +14,7 @@ use Rattle.reading.specs.declared.Dialect.{Dialect}
 use Rattle.reading.specs.declared.Kind.{Kind}
 use Rattle.reading.specs.declared.Ruled.{Ruled}
 use Rattle.reading.specs.declared.Ruled.the-variants.{Taken, Skipped, Fault}
-use Rattle.reading.specs.declared.group.Group.the-variants.{Application, AuthDataItem, SupportedFeatures}
+use Rattle.reading.specs.declared.group.Group.the-variants.{Application, AuthDataItem, SupportedFeatures, UserIdentity}
 use Rattle.requests.specs.Judged.{Judged, bad, fine, nothing, onRule, judge}
 use Rattle.requests.specs.Request.{headerFault, missingFrom, missing, complete, readWalk, readIn}
 use Rattle.reply.specs.Pieces.{frontBytes, listBytes, topBytes}
@@ -42,6 +42,7 @@ module _ (command app peer : ℕ) where
     content-any (Members Application) a = refl
     content-any (Members AuthDataItem) a = refl
     content-any (Members SupportedFeatures) a = refl
+    content-any (Members UserIdentity) a = refl
 
     rule-any : (seen : Seen) (a : List ℕ) → rule (by set) seen a ≡ rule (by other) seen a
     unfolding rule useIn

@@ -161,7 +161,7 @@ module _ (a : Lent) where
   pub set-unread : (set other : ℕ) → readIn (dialectIn (withSet a set)) (a .request) ≡ readIn (dialectIn (withSet a other)) (a .request)
   set-unread = any.reading-any a
 
--- "A 628 HOLDS THESE THREE 4-BYTE MEMBERS ONCE EACH, ELSE B5004": in every command, wherever it stands and how often one came.
-pub members-else : (d : Dialect) (seen : Seen) (a : List ℕ) → kindOf a ≡ supportedFeatures → reserved (avpFlags a) ≡ 0
+-- "A 628 HOLDS THESE THREE 4-BYTE MEMBERS ONCE EACH, ELSE B5004": in every command of Cx, wherever it stands and how often one came.
+pub members-else : (d : Dialect) (seen : Seen) (a : List ℕ) → d .command ≢ 306 → kindOf a ≡ supportedFeatures → reserved (avpFlags a) ≡ 0
     → gathers featureMembers (walk (dataOf a)) ≡ false → rule d seen a ≡ Fault 5004
-members-else d seen a k r g = rule-is d a k seen ∙ rw (r, g)
+members-else d seen a other k r g = rule-is d a k other seen ∙ rw (r, g)

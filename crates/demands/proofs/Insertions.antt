@@ -5,6 +5,7 @@ use Rattle.octets.specs.Standard.{refl, sym, ap, _∙_, arith, zero-add, length
 use Rattle.pen.specs.Bytes.{ifThere}
 use Rattle.diameter.specs.Avp.{padded}
 use Rattle.diameter.specs.Walk.{Walk, ended, avp, walk, someAvp}
+use Rattle.diameter.specs.Message.{commandOf}
 use Rattle.diameter.specs.Put.{glue, Piece, bytesOf, avpsOf, Whole, All}
 use Rattle.diameter.proofs.Pieces.{walk-pieces, row-even, avps-joined, glue-glue}
 use Rattle.reading.specs.declared.Dialect.{Dialect}
@@ -64,12 +65,12 @@ inserted-joined ending j = j
 inserted-joined (keep q i) j = keep q (inserted-joined i j)
 inserted-joined (put u p i) j = put u p (inserted-joined i j)
 
--- the folds that pass over unknown kinds: the identities and the copies
-foreign-identities : {dialect : Dialect} {qs rs : List Piece} → Inserted (Foreign dialect) qs rs → (w : Walk)
+-- the folds that pass over unknown kinds: the identities, which every command of Cx knows, and the copies
+foreign-identities : (dialect : Dialect) → (dialect .command ≡ 306 → ⊥) → {qs rs : List Piece} → Inserted (Foreign dialect) qs rs → (w : Walk)
     → identities (glue (avpsOf rs) w) ≡ identities (glue (avpsOf qs) w)
 unfolding identities
-foreign-identities {dialect} =
-    inserted-same identities (λ a v w e. rw e) (λ u w p. rw (stranger-kind dialect (u .avp) publicIdentity (p .stranger) (identity-known dialect)))
+foreign-identities dialect other =
+    inserted-same identities (λ a v w e. rw e) (λ u w p. rw (stranger-kind dialect (u .avp) publicIdentity (p .stranger) (identity-known dialect other)))
 
 foreign-proxies : {dialect : Dialect} {qs rs : List Piece} → Inserted (Foreign dialect) qs rs → (w : Walk)
     → proxies (glue (avpsOf rs) w) ≡ proxies (glue (avpsOf qs) w)
@@ -236,9 +237,9 @@ module _ (head : List ℕ) (twenty : length head ≡ 20) (q : Piece) (qs rs : Li
           beyond = λ set. foreign-some (asksBeyond set) (λ a e. beyond-features set a e) (keep q i) (walk tail);
         })
 
-    both-named : identities (walk long) ≡ identities (walk short)
+    both-named : (commandOf head ≡ 306 → ⊥) → identities (walk long) ≡ identities (walk short)
     unfolding avpsOf glue
-    both-named = rw (long-walk, short-walk) (foreign-identities (keep q i) (walk tail))
+    both-named other = rw (long-walk, short-walk) (foreign-identities (dialectOf (x .terms) head) other (keep q i) (walk tail))
 
     both-served : {from : ℕ} {more : ℕ → ℕ} → more 0 ≡ 0
         → Moved (message head long) (message head short) from more (readBody (dialectOf (x .terms) head) head (walk long))

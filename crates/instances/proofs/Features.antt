@@ -158,4 +158,4 @@ met-3-features =
 -- A 628 WITHOUT ITS FEATURE-LIST: B5004, whatever came before
 met-members-else : (seen : Seen) → rule (dialectOf (underCx 3588 5) head) seen (vendorHead 628 40 ++ (numberBytes 266 10415 ++ vendorNumber 629 1)) ≡ Fault 5004
 unfolding all
-met-members-else seen = features.members-else (dialectOf (underCx 3588 5) head) seen _ refl refl refl
+met-members-else seen = features.members-else (dialectOf (underCx 3588 5) head) seen _ (λ e. omega (arith, e)) refl refl refl
