@@ -1,5 +1,5 @@
 -- How long an answer is at the most: it fits.
-use Rattle.octets.specs.Standard.{ℕ, _+_, _≤_, _%_, List, [], Bool, true, false, cond, _≡_, refl, arith, eqb, length}
+use Rattle.octets.specs.Standard.{ℕ, _+_, _≤_, _%_, List, [], Bool, true, false, cond, _≡_, refl, arith, eqb, length, length-append}
 use Rattle.record.specs.Fields.{stateOf, bitsOf, serverOf, pending}
 use Rattle.blocks.specs.Blocks.{blockOf, ofBlock}
 use Rattle.table.specs.SoundTable.{SoundTable}
@@ -8,11 +8,12 @@ use Rattle.reading.specs.declared.Terms.{Terms}
 use Rattle.requests.specs.Request.{sessionOf}
 use Rattle.parts.proofs.Fields.{part-length, server-field}
 use Rattle.refusals.specs.Passed.{Passed}
+use Rattle.envelope.specs.End.{endBytes}
 use Rattle.envelope.proofs.Copies.{session-proxies}
-use Rattle.envelope.proofs.Lengths.{front-length, origin-length, failed-short}
+use Rattle.envelope.proofs.Lengths.{front-length, header-length, origin-length, failed-short}
 use Rattle.user_data.specs.declared.References.{References}
 use Rattle.user_data.proofs.Sizes.{user-data-most}
-use Rattle.sh.specs.Answer.{recordBytes, toldBytes, bodyRoom}
+use Rattle.sh.specs.Answer.{recordBytes, toldBytes, shBody, shAnswer, bodyRoom}
 use Rattle.sh.specs.declared.telling.Telling.{Telling}
 
 record-most : (r : References) (b : List ℕ) → length (serverOf b) ≤ 96 → length (recordBytes r b) ≤ 728
@@ -40,3 +41,9 @@ module _ (t : List ℕ) (count : ℕ) (s : SoundTable t count) where
         failed-short req (g .verdict) (p .most),
         session-proxies req (p .least) (p .fours),
       )
+
+  pub answer-fits : (terms : Terms) (req o : List ℕ) (g : Telling) → Passed req o → length (shAnswer terms req t g) ≤ 36864
+  unfolding shAnswer shBody endBytes
+  answer-fits terms req o g p =
+      simp length-append
+      (omega (arith, answer-most terms req o g p, header-length req (g .verdict .result) (20 + length (shBody terms req t g)) (p .least)))

@@ -14,7 +14,7 @@ use Rattle.reading.specs.Verdicts.{faultOf}
 use Rattle.reading.specs.declared.Dialect.{Dialect}
 use Rattle.reading.specs.declared.Verdict.{Verdict}
 use Rattle.requests.specs.Found.{judgedOf}
-use Rattle.requests.specs.Judged.{bad, fine}
+use Rattle.requests.specs.Judged.{Judged, bad, fine}
 use Rattle.requests.specs.Request.{readSh, memberSeen, identityOf}
 use Rattle.requests.specs.declared.Walked.{Walked}
 use Rattle.requests.proofs.Faulting.{sh-placed}
@@ -74,24 +74,26 @@ unfolding tellRead
 read-blameless req t count seen =
     found-blameless (referencesOf (bodyOf req)) count (findPublic t count (identityOf seen)) (public-among t count (identityOf seen) refl)
 
+-- What is told of any request.
+pub tell-bounds : (d : Dialect) (req t : List ℕ) (count : ℕ) → 20 ≤ length req → length req ≤ 16384
+    → (tell d req t count .block ≤ count) × (tell d req t count .verdict .place ≤ 16384)
+unfolding tell tellJudged
+tell-bounds d req t count least most = go (readSh d req) refl
+  where
+    go : (j : Judged) → readSh d req ≡ j → (tellJudged req t count j .block ≤ count) × (tellJudged req t count j .verdict .place ≤ 16384)
+    go (bad v) e = (omega arith, omega (arith, sh-placed d req v least e .within))
+    go (fine seen) e = let b = read-blameless req t count seen in (b .within, omega (arith, b .nowhere))
+
 -- What the code leaves of a request: read, or at fault.
-module _ (d : Dialect) (req t places : List ℕ) (count : ℕ) (w : Walked) (is : judgedOf req places w ≡ readSh d req) {g : Telling} where
+module _ (d : Dialect) (req t places : List ℕ) (count : ℕ) (w : Walked) (is : judgedOf req places w ≡ readSh d req) (least : 20 ≤ length req)
+    (most : length req ≤ 16384) {g : Telling} where
+  tells : g ≡ tell d req t count → Tells d req t count g
+  tells e = let b = tell-bounds d req t count least most in record { telling-is = e; within = rw e (b .0); near = rw e (b .1) }
+
   pub read-tells : w ≡ walked.Read → g ≡ tellRead req t count (seenOf req places) → Tells d req t count g
   unfolding tell tellJudged
-  read-tells e h =
-      let b = read-blameless req t count (seenOf req places) in
-      record {
-        telling-is = h ∙ rw (judged-fine req places w (readSh d req) is e);
-        within = rw h (b .within);
-        near = rw h (omega (arith, b .nowhere));
-      }
+  read-tells e h = tells (h ∙ rw (judged-fine req places w (readSh d req) is e))
 
-  pub fault-tells : (f : Verdict) → w ≡ walked.Fault f → 20 ≤ length req → length req ≤ 16384 → g ≡ tellNone f → Tells d req t count g
+  pub fault-tells : (f : Verdict) → w ≡ walked.Fault f → g ≡ tellNone f → Tells d req t count g
   unfolding tell tellJudged
-  fault-tells f e least most h =
-      let q = judged-bad req places w (readSh d req) is f e in
-      record {
-        telling-is = h ∙ rw q;
-        within = rw h (omega arith);
-        near = rw h (omega (arith, sh-placed d req f least q .within));
-      }
+  fault-tells f e h = tells (h ∙ rw (judged-bad req places w (readSh d req) is f e))
