@@ -9,6 +9,7 @@ use Rattle.requests.specs.Request.{sessionOf}
 use Rattle.parts.proofs.Fields.{part-length, server-field}
 use Rattle.refusals.specs.Passed.{Passed}
 use Rattle.envelope.specs.End.{endBytes}
+use Rattle.envelope.specs.Header.{headerBytes}
 use Rattle.envelope.proofs.Copies.{session-proxies}
 use Rattle.envelope.proofs.Lengths.{front-length, header-length, origin-length, failed-short}
 use Rattle.user_data.specs.declared.References.{References}
@@ -42,8 +43,18 @@ module _ (t : List ℕ) (count : ℕ) (s : SoundTable t count) where
         session-proxies req (p .least) (p .fours),
       )
 
+  body-long : (terms : Terms) (req : List ℕ) (g : Telling) → length (shBody terms req t g) ≡ bodyRoom terms req t g
+  unfolding shBody endBytes
+  body-long terms req g = simp length-append
+
   pub answer-fits : (terms : Terms) (req o : List ℕ) (g : Telling) → Passed req o → length (shAnswer terms req t g) ≤ 36864
-  unfolding shAnswer shBody endBytes
+  unfolding shAnswer
   answer-fits terms req o g p =
-      simp length-append
-      (omega (arith, answer-most terms req o g p, header-length req (g .verdict .result) (20 + length (shBody terms req t g)) (p .least)))
+      let n = 20 + length (shBody terms req t g) in
+      omega (
+        arith,
+        length-append (headerBytes req (g .verdict .result) n) (shBody terms req t g),
+        header-length req (g .verdict .result) n (p .least),
+        body-long terms req g,
+        answer-most terms req o g p,
+      )
