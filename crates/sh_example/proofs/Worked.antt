@@ -78,7 +78,7 @@ cases =
     ∷ case (request 306 0 (common sh)) (tellNone (faultOf 3007))
     ∷ []
 
-pub worked : map (λ (c : Case). told (c .asked)) cases ≡ map (λ (c : Case). c .expected) cases
+worked : map (λ (c : Case). told (c .asked)) cases ≡ map (λ (c : Case). c .expected) cases
 unfolding opened told state name other success cases
 worked = refl
 
@@ -117,7 +117,7 @@ waits =
     ∷ 0x55 ∷ 0x73 ∷ 0x65 ∷ 0x72 ∷ 0x53 ∷ 0x74 ∷ 0x61 ∷ 0x74 ∷ 0x65 ∷ 0x3E ∷ 0x3C ∷ 0x2F ∷ 0x53 ∷ 0x68 ∷ 0x2D ∷ 0x49 ∷ 0x4D ∷ 0x53 ∷ 0x2D ∷ 0x44
     ∷ 0x61 ∷ 0x74 ∷ 0x61 ∷ 0x3E ∷ 0x3C ∷ 0x2F ∷ 0x53 ∷ 0x68 ∷ 0x2D ∷ 0x44 ∷ 0x61 ∷ 0x74 ∷ 0x61 ∷ 0x3E ∷ []
 
-pub answers : (answerTo (ask 0x61 (state ++ name)) ≡ reply (numberBytes 268 2001) (vendorBytes 702 both))
+answers : (answerTo (ask 0x61 (state ++ name)) ≡ reply (numberBytes 268 2001) (vendorBytes 702 both))
     × (answerTo (ask 0x62 name) ≡ reply (numberBytes 268 2001) (vendorBytes 702 neither))
     × (answerTo (ask 0x63 state) ≡ reply (numberBytes 268 2001) (vendorBytes 702 waits))
     × (answerTo (ask 0x61 other) ≡ reply (experimental 5100) [])
