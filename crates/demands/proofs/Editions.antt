@@ -54,7 +54,7 @@ row-other (suc zero) n = refl
 row-other (suc (suc zero)) n = absurd (n refl)
 row-other (suc (suc (suc k))) n =
     others (drop 2 known)
-    (refl, (refl, (refl, (refl, (refl, (refl, (refl, (refl, (refl, (refl, (refl, (refl, (refl, (refl, (refl, (refl, (refl, tt))))))))))))))))) k
+    (refl, (refl, (refl, (refl, (refl, (refl, (refl, (refl, (refl, (refl, (refl, (refl, (refl, (refl, (refl, (refl, (refl, (refl, (refl, tt))))))))))))))))))) k
 
 -- Vendor-Ids that fit are Vendor-Ids.
 vendors-fit : (w : Walk) → membersFitting vendorId w ≤ vendorIds w

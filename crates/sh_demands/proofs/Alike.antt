@@ -1,5 +1,5 @@
 -- Two tables of which a request sees the same get the same answer.
-use Rattle.octets.specs.Standard.{ℕ, zero, suc, List, [], Bool, true, false, cond, _≡_, refl, sym, ap, _∙_, arith, eqb, length}
+use Rattle.octets.specs.Standard.{ℕ, zero, suc, List, [], Bool, true, false, cond, _≡_, refl, sym, ap, _∙_, arith, eqb, ne-eqb, length}
 use Rattle.record.specs.Fields.{hostOf, realmOf, stateOf, bitsOf, serverOf, pending}
 use Rattle.blocks.specs.Blocks.{blockOf}
 use Rattle.table.specs.Area.{tableIn}
@@ -20,7 +20,8 @@ use Rattle.envelope.specs.Front.{originBytes}
 use Rattle.user_data.specs.declared.References.{References}
 use Rattle.sh.specs.Answer.{recordBytes, toldBytes, shBody, shAnswer}
 use Rattle.sh.specs.Referring.{referencesOf}
-use Rattle.sh.specs.Tell.{tellRecord, tellFound, tellRead, tellJudged, tell}
+use Rattle.reading.specs.Verdicts.{faultOf}
+use Rattle.sh.specs.Tell.{denied, tellRecord, tellFound, tellRead, tellJudged, tell}
 use Rattle.sh.specs.declared.telling.Telling.{Telling}
 use Rattle.sh_demands.specs.Shown.{SameShown, SameFound, SameSight}
 
@@ -40,11 +41,13 @@ record-same r b c s = rw (s .state, s .pends, s .server)
 module _ (t u : List ℕ) (r : References) where
   told-record : (j k : ℕ) → SameShown (blockOf t (suc j)) (blockOf u (suc k)) → SameTold t u (tellRecord r (suc j)) (tellRecord r (suc k))
   unfolding tellRecord toldBytes
-  told-record j k s = go (r .other) refl
+  told-record j k s = go (r .other)
     where
-      go : (x : Bool) → r .other ≡ x → SameTold t u (tellRecord r (suc j)) (tellRecord r (suc k))
-      go true e = rw e (record { verdict = refl; bytes = refl })
-      go false e = rw e (record { verdict = refl; bytes = record-same r _ _ s })
+      go : (x : Bool)
+          → SameTold t u (cond x (denied 5100) (record { verdict = faultOf 2001; block = suc j; asked = r }))
+          (cond x (denied 5100) (record { verdict = faultOf 2001; block = suc k; asked = r }))
+      go true = record { verdict = refl; bytes = refl }
+      go false = record { verdict = refl; bytes = rw (ne-eqb (suc j) 0 (omega arith), ne-eqb (suc k) 0 (omega arith)) (record-same r _ _ s) }
 
   told-found : (count many : ℕ) (f g : Found) → Among count f → Among many g → SameFound t u f g → SameTold t u (tellFound r f) (tellFound r g)
   unfolding tellFound toldBytes
@@ -54,6 +57,12 @@ module _ (t u : List ℕ) (r : References) where
   told-found count many (At (suc j)) Nothing a b s = absurd s
   told-found count many Nothing (At k) a b s = absurd s
   told-found count many Nothing Nothing a b s = record { verdict = refl; bytes = refl }
+
+whole-same : (terms : Terms) (req t u : List ℕ) (g h : Telling) → SameTold t u g h → hostOf (blockOf t 0) ≡ hostOf (blockOf u 0)
+    → realmOf (blockOf t 0) ≡ realmOf (blockOf u 0)
+    → shAnswer terms req t g ≡ shAnswer terms req u h
+unfolding shAnswer shBody originBytes
+whole-same terms req t u g h s a b = rw (s .bytes, s .verdict, a, b)
 
 -- What is told of two tables that show the same, and the answer.
 module _ (req : List ℕ) (peer : ℕ) (t u : List ℕ) (count many : ℕ) (sight : SameSight req peer t u count many) where
@@ -74,5 +83,4 @@ module _ (req : List ℕ) (peer : ℕ) (t u : List ℕ) (count many : ℕ) (sigh
   place-same = ap (λ (v : Verdict). v .place) (told-same .verdict)
 
   pub answer-same : shAnswer (underSh peer) req t (tell d req t count) ≡ shAnswer (underSh peer) req u (tell d req u many)
-  unfolding shAnswer shBody originBytes
-  answer-same = rw (told-same .verdict, told-same .bytes, sight .host, sight .realm)
+  answer-same = whole-same (underSh peer) req t u (tell d req t count) (tell d req u many) told-same (sight .host) (sight .realm)
