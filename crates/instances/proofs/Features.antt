@@ -2,7 +2,7 @@
 use Rattle.octets.specs.Standard.{ℕ, _≤_, _≡_, refl, sym, ap, _∙_, _≢_, inr, List, [], _∷_, _++_, length, true, false, true≢false, arith, lit≤, lit<}
 use Rattle.blocks.specs.declared.Checked.the-variants.{Sound}
 use Rattle.diameter.specs.Avp.{avpFlags, dataOf, reserved}
-use Rattle.diameter.specs.Message.{bodyOf}
+use Rattle.diameter.specs.Message.{bodyOf, commandOf}
 use Rattle.diameter.specs.Put.{Piece}
 use Rattle.diameter.specs.Walk.{walk, behindFirst}
 use Rattle.pen.specs.Bytes.{headBytes, wordBytes, vendorHead, numberBytes, vendorNumber}
@@ -156,6 +156,11 @@ met-3-features =
     ∙ ap (placed (placeNow (keep session put-plain))) hoped-so
 
 -- A 628 WITHOUT ITS FEATURE-LIST: B5004, whatever came before
+command-is : commandOf head ≢ 306
+unfolding all
+command-is = omega arith
+
 met-members-else : (seen : Seen) → rule (dialectOf (underCx 3588 5) head) seen (vendorHead 628 40 ++ (numberBytes 266 10415 ++ vendorNumber 629 1)) ≡ Fault 5004
 unfolding all
-met-members-else seen = features.members-else (dialectOf (underCx 3588 5) head) seen _ (λ e. omega (arith, e)) refl refl refl
+met-members-else seen =
+    features.members-else (dialectOf (underCx 3588 5) head) seen (vendorHead 628 40 ++ (numberBytes 266 10415 ++ vendorNumber 629 1)) command-is refl refl refl

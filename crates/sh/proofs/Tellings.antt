@@ -51,28 +51,33 @@ pub told-read : (req t places : List ℕ) (count : ℕ) (identity : List ℕ) (r
 unfolding tellRead
 told-read req t places count identity r f a b c d = d ∙ rw (c, b, a)
 
--- It is told of one of the records or of none, and no AVP is at fault.
+-- It is told of one of the records or of none, no AVP is at fault, and none is missing.
 record Blameless (count : ℕ) (g : Telling) : Type 0 where
   within : g .block ≤ count
   nowhere : g .verdict .place ≡ 0
+  whole : g .verdict .lacks ≡ 0
 
 record-blameless : (r : References) (count k : ℕ) → k ≤ count → Blameless count (tellRecord r k)
 unfolding tellRecord
 record-blameless r count k h = go (r .other) refl
   where
     go : (x : Bool) → r .other ≡ x → Blameless count (tellRecord r k)
-    go true e = rw e (record { within = omega arith; nowhere = refl })
-    go false e = rw e (record { within = h; nowhere = refl })
+    go true e = rw e (record { within = omega arith; nowhere = refl; whole = refl })
+    go false e = rw e (record { within = h; nowhere = refl; whole = refl })
 
 found-blameless : (r : References) (count : ℕ) (f : Found) → Among count f → Blameless count (tellFound r f)
 unfolding tellFound
 found-blameless r count (At k) l = record-blameless r count k (l .to k refl)
-found-blameless r count Nothing l = record { within = omega arith; nowhere = refl }
+found-blameless r count Nothing l = record { within = omega arith; nowhere = refl; whole = refl }
 
 read-blameless : (req t : List ℕ) (count : ℕ) (seen : Seen) → Blameless count (tellRead req t count seen)
 unfolding tellRead
 read-blameless req t count seen =
     found-blameless (referencesOf (bodyOf req)) count (findPublic t count (identityOf seen)) (public-among t count (identityOf seen) refl)
+
+pub read-clear : (req t : List ℕ) (count : ℕ) (seen : Seen)
+    → (tellRead req t count seen .verdict .place ≡ 0) × (tellRead req t count seen .verdict .lacks ≡ 0)
+read-clear req t count seen = let b = read-blameless req t count seen in (b .nowhere, b .whole)
 
 -- What is told of any request.
 pub tell-bounds : (d : Dialect) (req t : List ℕ) (count : ℕ) → 20 ≤ length req → length req ≤ 16384
