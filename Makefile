@@ -13,7 +13,7 @@ endif
 .DELETE_ON_ERROR:
 export PYTHONDONTWRITEBYTECODE := 1
 .PHONY: help run test quick clean fmt kit pages header examples tables texts aims stores programs reference installs cited narrow bench stack installable install uninstall
-.PHONY: unsound reports moves takes cuts recipes daemon peers differential noticed soak mutants stats definitions-check cases
+.PHONY: sees unsound reports moves takes cuts recipes daemon peers differential noticed soak mutants stats definitions-check cases
 
 MACHINE := $(shell uname -m)
 ifeq ($(MACHINE),x86_64)
@@ -69,7 +69,7 @@ target/bin/%: $(PROVED)
 	touch $@
 
 # The parts of make test, the longest first. What they need is made before, once, and what needs the archive waits for it alone.
-PARTS := stores differential daemon reference tables narrow texts examples installs recipes cited programs noticed takes pages kit fmt header aims unsound reports moves
+PARTS := stores differential daemon reference tables narrow texts examples installs recipes cited programs noticed takes pages kit fmt header aims unsound reports moves sees
 MADE := $(ARCHIVE) $(BINARY)
 JOBS := $(shell nproc)
 #: test               every test from fmt to noticed below, as many at a time as there are processors (JOBS=N): 3 to 5 minutes on two once all is proved
@@ -86,6 +86,10 @@ quick:
 #: fmt                whether crates/ is in the kit's layout
 fmt:
 	rt fmt --check
+
+#: sees               whether the second library's crates use of the first one's only the promises
+sees:
+	tests/sees.sh
 
 #: kit                whether .ci/run refuses another kit than the one that is pinned in KIT-ID
 kit:
