@@ -1,4 +1,3 @@
 pub mod Alike
 pub mod Demands
-pub mod Inserted
 pub mod Refusing

@@ -1,2 +1,1 @@
-pub mod Insertion
 pub mod Shown
