@@ -102,7 +102,7 @@ pages: target/c/maketable target/c/showtable
 	tests/pages.py
 	tests/stale-pages.py target/test/pages
 
-#: header             the C header by itself, in C and in C++; the version that library, header, programs, pkg-config and README say
+#: header             the C headers by themselves, in C and in C++; the version that library, header, programs, pkg-config and README say
 header: target/c/header target/c++/header target/c99/version
 	for header in target/c/header target/c++/header; do $$header; done
 	tests/version.sh $(RUN) target/c99/version
@@ -285,11 +285,11 @@ target/c/%: examples/%.c examples/load.h $(HEADER)
 	mkdir -p $(@D)
 	$(CC) -std=c99 $(STRICT) -o $@ $<
 
-target/c/header: tests/header.c $(HEADER)
+target/c/header: tests/header.c $(HEADER) include/ndushavire_sh.h
 	mkdir -p $(@D)
 	$(CC) -std=c99 $(STRICT) -o $@ $<
 
-target/c++/header: tests/header.c $(HEADER)
+target/c++/header: tests/header.c $(HEADER) include/ndushavire_sh.h
 	mkdir -p $(@D)
 	$(CXX) $(STRICT) -o $@ -x c++ $<
 
