@@ -13,7 +13,7 @@ endif
 .DELETE_ON_ERROR:
 export PYTHONDONTWRITEBYTECODE := 1
 .PHONY: help run test quick clean fmt kit pages header examples tables texts aims stores programs reference installs cited narrow bench stack installable install uninstall
-.PHONY: unsound reports moves takes cuts recipes daemon peers differential noticed soak mutants stats definitions-check cases
+.PHONY: sees unsound reports moves takes cuts recipes daemon peers differential noticed soak mutants stats definitions-check cases
 
 MACHINE := $(shell uname -m)
 ifeq ($(MACHINE),x86_64)
@@ -69,7 +69,7 @@ target/bin/%: $(PROVED)
 	touch $@
 
 # The parts of make test, the longest first. What they need is made before, once, and what needs the archive waits for it alone.
-PARTS := stores differential daemon reference tables narrow texts examples installs recipes cited programs noticed takes pages kit fmt header aims unsound reports moves
+PARTS := stores differential daemon reference tables narrow texts examples installs recipes cited programs noticed takes pages kit fmt header aims unsound reports moves sees
 MADE := $(ARCHIVE) $(BINARY)
 JOBS := $(shell nproc)
 #: test               every test from fmt to noticed below, as many at a time as there are processors (JOBS=N): 3 to 5 minutes on two once all is proved
@@ -87,6 +87,10 @@ quick:
 fmt:
 	rt fmt --check
 
+#: sees               whether the second library's crates use of the first one's only the promises
+sees:
+	tests/sees.sh
+
 #: kit                whether .ci/run refuses another kit than the one that is pinned in KIT-ID
 kit:
 	tests/kit.sh target/test/kit
@@ -98,7 +102,7 @@ pages: target/c/maketable target/c/showtable
 	tests/pages.py
 	tests/stale-pages.py target/test/pages
 
-#: header             the C header by itself, in C and in C++; the version that library, header, programs, pkg-config and README say
+#: header             the C headers by themselves, in C and in C++; the version that library, header, programs, pkg-config and README say
 header: target/c/header target/c++/header target/c99/version
 	for header in target/c/header target/c++/header; do $$header; done
 	tests/version.sh $(RUN) target/c99/version
@@ -281,11 +285,11 @@ target/c/%: examples/%.c examples/load.h $(HEADER)
 	mkdir -p $(@D)
 	$(CC) -std=c99 $(STRICT) -o $@ $<
 
-target/c/header: tests/header.c $(HEADER)
+target/c/header: tests/header.c $(HEADER) include/ndushavire_sh.h
 	mkdir -p $(@D)
 	$(CC) -std=c99 $(STRICT) -o $@ $<
 
-target/c++/header: tests/header.c $(HEADER)
+target/c++/header: tests/header.c $(HEADER) include/ndushavire_sh.h
 	mkdir -p $(@D)
 	$(CXX) $(STRICT) -o $@ -x c++ $<
 

@@ -1,8 +1,9 @@
 /* header: what ndushavire.h says by itself, in C and in C++, without the archive: its version in both forms, its limits, the
- * parts of a word, the words of a report, a table's edition and issue. Exit status: 0 all as it should be, 1 not so. */
+ * parts of a word, the words of a report, a table's edition and issue; and the numbers of ndushavire_sh.h. Exit status: 0 all as it
+ * should be, 1 not so. */
 #include <stdio.h>
 
-#include <ndushavire.h>
+#include <ndushavire_sh.h>
 
 static int wrong;
 
@@ -52,6 +53,7 @@ int main(void) {
     holds(sscanf(NDUSHAVIRE_VERSION, "%u.%u.%u%c", &major, &minor, &patch, &rest) == 3 && minor < 100 && patch < 100 &&
               major * 10000 + minor * 100 + patch == NDUSHAVIRE_VERSION_NUMBER,
           "NDUSHAVIRE_VERSION_NUMBER is not that of NDUSHAVIRE_VERSION");
+    holds(NDUSHAVIRE_SH_APPLICATION == 16777217 && NDUSHAVIRE_SH_STATE == 11 && NDUSHAVIRE_SH_SERVER_NAME == 12, "the numbers of Sh");
     holds(NDUSHAVIRE_TABLE_MAX == NDUSHAVIRE_BLOCK * (NDUSHAVIRE_RECORDS_MAX + 1),
           "NDUSHAVIRE_TABLE_MAX is not the header and the most records");
     holds(NDUSHAVIRE_VECTOR_FILE_MAX == NDUSHAVIRE_BLOCK * NDUSHAVIRE_VECTORS_MAX, "NDUSHAVIRE_VECTOR_FILE_MAX is not the most vectors");

@@ -35,6 +35,7 @@ STATEMENTS = {
     'rewrite/Reaching': '02 [6]',
     'seen_alike/Likeness': '02 [5]',
     'seen_alike/Moved': '02 [5]',
+    'sh_demands/Demands': '02 [12]',
     'taking/Taking': '02 [8]',
     'vectors_sent/Sending': '02 [1]',
 }
@@ -56,7 +57,7 @@ OTHERS = set('''
     'PKG_CONFIG_PATH=PREFIX/lib/pkgconfig', "awk '$1 < 10'", 'chmod a-w', 'freeDiameterd -c relay.conf', 'save()', 'save("SAA", "location", "0", "0")',
     'ims.mnc001.mcc001.3gppnetwork.org',
 }
-SAMPLE = re.compile(r'(sip|tel):\S+|<\w+/>|\d+ passed, 0 failed')
+SAMPLE = re.compile(r'(sip|tel):\S+|<[\w-]+/?>|\d+ passed, 0 failed')
 # What is made or installed and is not in the tree.
 MADE = ('live', 'cards', 'service', 'target', 'share', '..')
 
@@ -137,7 +138,7 @@ class Tree:
                 if part == 'proofs':
                     self.statements['%s/%s' % (crate, key[2])] = [name for name, stated in found if stated]
                     self.pages |= {'%s/%s' % (crate, key[2])} if PAGE.search(folded(text.partition('\nuse ')[0].replace('--', ''))) else set()
-        self.make, self.kit, self.header = read('Makefile'), read('KIT-ID').strip(), read('include/ndushavire.h')
+        self.make, self.kit, self.header = read('Makefile'), read('KIT-ID').strip(), read('include/ndushavire.h') + read('include/ndushavire_sh.h')
         self.targets = set(' '.join(re.findall(r'(?m)^\.PHONY: (.*)', self.make)).split())
         self.around = '\n'.join(read(path) for path in glob.glob('examples/*.[ch]') + glob.glob('include/*') + glob.glob('packaging/*'))
         self.edits = {path[len('crates/'):] for path in glob.glob('crates/*/must-fail/*.edit')}

@@ -19,7 +19,7 @@ ghost use Rattle.requests.specs.Features.{beyondSet, wantedOf};
 ghost use Rattle.requests.specs.Judged.{fine};
 ghost use Rattle.requests.specs.Request.{readIn};
 ghost use Rattle.deciding.specs.Decide.{faulted, decide};
-ghost use Rattle.deciding.specs.Passed.{Passed};
+ghost use Rattle.refusals.specs.Passed.{Passed};
 ghost use Rattle.deciding.specs.Answers.{Tells};
 
 // What is said of an answer: its length, and the place of the AVP at fault, 0 where none is; the request's command, the answer's result, and how many

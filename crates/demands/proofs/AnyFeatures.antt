@@ -10,7 +10,7 @@ use Rattle.reading.specs.Rules.{Seen, contentFault, rule}
 use Rattle.reading.specs.declared.Content.{Content}
 use Rattle.reading.specs.declared.Content.the-variants.{Free, Number, Sized, Members}
 use Rattle.reading.specs.declared.Dialect.{Dialect}
-use Rattle.reading.specs.declared.group.Group.the-variants.{Application, AuthDataItem, SupportedFeatures}
+use Rattle.reading.specs.declared.group.Group.the-variants.{Application, AuthDataItem, SupportedFeatures, UserIdentity}
 use Rattle.requests.specs.Features.{beyondSet}
 use Rattle.requests.specs.Judged.{Judged, bad, fine, nothing, judge}
 use Rattle.requests.specs.Request.{readIn}
@@ -44,6 +44,7 @@ module _ (command app peer features other : ℕ) where
   content-any (Members Application) a = refl
   content-any (Members AuthDataItem) a = refl
   content-any (Members SupportedFeatures) a = refl
+  content-any (Members UserIdentity) a = refl
 
   rule-any : (seen : Seen) (a : List ℕ) → rule this seen a ≡ rule that seen a
   unfolding rule useIn

@@ -21,7 +21,7 @@ use Rattle.reading.specs.declared.Ruled.{Ruled}
 use Rattle.reading.specs.declared.Ruled.the-variants.{Taken, Skipped, Fault}
 use Rattle.reading.specs.declared.Use.the-variants.{Needed}
 use Rattle.reading.specs.declared.group.Group.{Group}
-use Rattle.reading.specs.declared.group.Group.the-variants.{Application, AuthDataItem, SupportedFeatures}
+use Rattle.reading.specs.declared.group.Group.the-variants.{Application, AuthDataItem, SupportedFeatures, UserIdentity}
 use Rattle.requests.specs.Features.{beyondSet}
 use Rattle.requests.specs.Judged.{Judged, bad, fine, nothing, onRule, judge}
 use Rattle.requests.specs.Request.{headerFault, firstOther, readWalk, readIn}
@@ -43,6 +43,7 @@ isApplication (Sized least most) = false
 isApplication (Members Application) = true
 isApplication (Members AuthDataItem) = false
 isApplication (Members SupportedFeatures) = false
+isApplication (Members UserIdentity) = false
 
 others : (l : List Kind) → All (λ (k : Kind). isApplication (k .content) ≡ false) l → (i : ℕ) → isApplication (getD l i unknown .content) ≡ false
 others [] h i = refl
@@ -56,7 +57,7 @@ row-other (suc zero) n = refl
 row-other (suc (suc zero)) n = absurd (n refl)
 row-other (suc (suc (suc k))) n =
     others (drop 2 known)
-    (refl, (refl, (refl, (refl, (refl, (refl, (refl, (refl, (refl, (refl, (refl, (refl, (refl, (refl, (refl, (refl, (refl, tt))))))))))))))))) k
+    (refl, (refl, (refl, (refl, (refl, (refl, (refl, (refl, (refl, (refl, (refl, (refl, (refl, (refl, (refl, (refl, (refl, (refl, (refl, tt))))))))))))))))))) k
 
 -- Vendor-Ids that fit are Vendor-Ids.
 vendors-fit : (w : Walk) → membersFitting vendorId w ≤ vendorIds w
@@ -111,6 +112,7 @@ module _ (command app features : ℕ) where
   content-same (Members Application) a e = absurd (true≢false e)
   content-same (Members AuthDataItem) a e = refl
   content-same (Members SupportedFeatures) a e = refl
+  content-same (Members UserIdentity) a e = refl
 
   -- Under RFC 3588 a group is judged as it was when there was one edition only.
   pub older-group : (g : Group) (w : Walk) → groupFault older g w ≡ faultUnless (gathers (membersOf older g) w) 5004
@@ -118,6 +120,7 @@ module _ (command app features : ℕ) where
   older-group Application w = refl
   older-group AuthDataItem w = refl
   older-group SupportedFeatures w = refl
+  older-group UserIdentity w = refl
 
   abbrev fault : Dialect → List ℕ → ℕ
   fault d a = contentFault d (rowOf (kindOf a) .content) a
@@ -147,13 +150,14 @@ module _ (command app features : ℕ) where
   needed : (peer : ℕ) (a : List ℕ) → kindOf a ≡ application
       → useOf (record { command = command; terms = record { application = app; peer = peer; features = features } }) a ≡ Needed
   unfolding useIn rowOf known
-  needed peer a k = rw k (go (eqb command 300) (eqb command 301) (eqb command 302))
+  needed peer a k = rw k (go (eqb command 300) (eqb command 301) (eqb command 302) (eqb command 306))
     where
-      go : (x y z : Bool) → cond x Needed (cond y Needed (cond z Needed Needed)) ≡ Needed
-      go true y z = refl
-      go false true z = refl
-      go false false true = refl
-      go false false false = refl
+      go : (x y z u : Bool) → cond x Needed (cond y Needed (cond z Needed (cond u Needed Needed))) ≡ Needed
+      go true y z u = refl
+      go false true z u = refl
+      go false false true u = refl
+      go false false false true = refl
+      go false false false false = refl
 
   -- Such a 260, if no other rule blames it, is at fault by the newer edition and not by the older one.
   newer-fault : (a : List ℕ) → Second app a → fault newer a ≡ 5009

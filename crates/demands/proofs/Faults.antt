@@ -19,7 +19,7 @@ use Rattle.reading.specs.declared.Outcome.the-variants.{Base}
 use Rattle.reading.specs.declared.Ruled.{Ruled}
 use Rattle.reading.specs.declared.Ruled.the-variants.{Taken, Skipped, Fault}
 use Rattle.reading.specs.declared.Use.{Use}
-use Rattle.reading.specs.declared.Use.the-variants.{Unknown, Unnamed, Needed, Optional, Repeated}
+use Rattle.reading.specs.declared.Use.the-variants.{Unknown, Unnamed, Needed, Optional, Repeated, Several}
 use Rattle.reading.specs.declared.Verdict.{Verdict}
 use Rattle.requests.specs.Features.{beyondSet}
 use Rattle.requests.specs.Judged.{Judged, bad, fine, nothing, onRule, judge}
@@ -284,6 +284,7 @@ rule-number d seen a n e =
     used Needed x f = once x f
     used Optional x f = once x f
     used Repeated x f = holds (content-number d (rowOf (kindOf a) .content) a) (eqb c 0) refl f
+    used Several x f = holds (content-number d (rowOf (kindOf a) .content) a) (eqb c 0) refl f
 
     flags : (x : Bool) → cond (not x) (Fault 3009) (ofUse (useOf d a) (present (getD seen (kindOf a) none)) (avpFlags a) c) ≡ Fault n → OfRules n
     flags true f = used (useOf d a) (present (getD seen (kindOf a) none)) f

@@ -26,6 +26,7 @@ pub mod Peers
 pub mod Place
 pub mod Refusals
 pub mod Results
+pub mod Rows
 pub mod Sets
 pub mod TakingOver
 pub mod Together

@@ -31,7 +31,7 @@ pub extern "C" fn ndushavire_check(table: &[u8], profile: &[u8]) -> u64
     ensures { λ r. ⌜ CheckPromise (now (table .entry)) (now (profile .entry)) r ⌝ }
 {
     check_word(
-        calling::UNSOUND,
+        refusals::UNSOUND,
         table::area::check_area(table, profile.len()),
     )
 }

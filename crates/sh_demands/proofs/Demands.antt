@@ -1,0 +1,83 @@
+-- 02 [12], "The voicemail box asks too.", as theorems about `shServe`, which is what the exported call is promised to return and to leave, for anything lent.
+use Rattle.octets.specs.Standard.{ℕ, _%_, _≤_, List, _∷_, Bool, true, false, _≡_, refl, sym, ap, _∙_, arith, length, take, drop}
+use Rattle.octets.specs.Run.{over}
+use Rattle.blocks.specs.declared.Checked.{Checked}
+use Rattle.blocks.specs.declared.Checked.the-variants.{Sound}
+use Rattle.table.specs.Area.{tableIn, checkArea}
+use Rattle.diameter.specs.Put.{Piece, Whole, All}
+use Rattle.reading.specs.declared.Dialect.{Dialect}
+use Rattle.requests.specs.Request.{dialectOf, underSh, headerFaultSh}
+use Rattle.refusals.specs.Early.{checkValue, early}
+use Rattle.calling.specs.Call.{Answer, Call, Answered, Refused}
+use Rattle.ndushavire.specs.Reads.{callNumber, callValue}
+use Rattle.ndushavire_sh.specs.Lent.{Lent, lent, termsIn}
+use Rattle.ndushavire_sh.specs.Promise.{ShDecidePromise}
+use Rattle.ndushavire_sh.specs.Serve.{Served, trialsOf, toldOf, answerOf, refused, answered, shServe}
+use Rattle.demands.specs.Call.{Exactly}
+use Rattle.demands.specs.Insertion.{requestOf, Quiet, Inserted, keep, FirstMarked, faultBy, placeNow, behindRow}
+use Rattle.sh_demands.specs.Insertion.{asking, placed, blaming}
+use Rattle.sh_demands.specs.Shown.{SameSight}
+use Rattle.sh_demands.proofs.Alike.{place-same, answer-same}
+use Rattle.sh_demands.proofs.Inserted.{unmarked-same, mark-answered, fault-first}
+use Rattle.sh_demands.proofs.Refusing.{turnedAway, refusals, refused-kept, answer-is, answered-is, buffer-past, fits}
+
+-- ONE OUTCOME. Any two returns and buffers that meet the promise are the same, for every input, refusals too.
+pub sh-unique : (x : Lent) {r s : ℕ} {o p : List ℕ} → ShDecidePromise x r o → ShDecidePromise x s p → (r ≡ s) × (o ≡ p)
+sh-unique x a b = (a .word-is ∙ sym (b .word-is), a .buffer-is ∙ sym (b .buffer-is))
+
+-- DEMAND 1. Every call ends in an answer or in exactly one of six refusals, each given exactly when the papers say, tried in their order; a refusal leaves the
+-- buffer as it came, and an answer every byte past it. The table is lent to be read: there is none to leave.
+module _ (x : Lent) where
+  pub sh-demand-1 : Exactly (trialsOf x (checkArea (x .table) (length (x .profile)))) (callNumber (shServe x .call))
+  sh-demand-1 = refusals x
+
+  pub sh-demand-1-kept : turnedAway x ≡ true → shServe x .buffer ≡ x .buffer
+  sh-demand-1-kept = refused-kept x
+
+  pub sh-demand-1-past : drop (callValue (shServe x .call)) (shServe x .buffer) ≡ drop (callValue (shServe x .call)) (x .buffer)
+  sh-demand-1-past = buffer-past x
+
+  -- every answer fits
+  pub sh-demand-1-fits : early (termsIn x) (x .request) (x .buffer) ≡ 0 → (count : ℕ) → checkArea (x .table) (length (x .profile)) ≡ Sound count
+      → length (answerOf x count) ≤ 36864
+  sh-demand-1-fits = fits x
+
+-- DEMAND 2. A call that is not refused over a sound table is the decision: the call says its answer's length and the place of the AVP at fault, and the buffer
+-- is the answer's bytes over the buffer as it came.
+pub sh-demand-2 : (x : Lent) (count : ℕ) → checkArea (x .table) (length (x .profile)) ≡ Sound count → turnedAway x ≡ false
+    → (shServe x .call ≡ Answered (record { length = length (answerOf x count); place = toldOf x count .verdict .place }))
+    × (shServe x .buffer ≡ over (answerOf x count) (x .buffer))
+unfolding answered
+sh-demand-2 x count s e = let a = answered-is x count s e in (rw a, rw a)
+
+-- THE NEIGHBOUR'S LINE, for this server: tables that show the same of the identity asked about get the same answer, whatever else they hold.
+pub sh-neighbours-line : (req : List ℕ) (peer : ℕ) (area file o other foreign p : List ℕ) (count many : ℕ)
+    → SameSight req peer (tableIn area) (tableIn other) count many
+    → (answerOf (lent req area file o peer) count ≡ answerOf (lent req other foreign p peer) many)
+    × (toldOf (lent req area file o peer) count .verdict .place ≡ toldOf (lent req other foreign p peer) many .verdict .place)
+sh-neighbours-line req peer area file o other foreign p count many s =
+    (answer-same req peer (tableIn area) (tableIn other) count many s, place-same req peer (tableIn area) (tableIn other) count many s)
+
+-- DEMAND 3, over this server's own list of known kinds: of vendor 10415 it knows 700, 703 and 628 alone, so that 601, 602 and all others of the Cx server's are among the
+-- unknown ones here. A request is a header, a row of AVPs that pass (a), `q` and then `qs`, and any bytes behind them; the longer one has the row `q` and then `rs`,
+-- which is `qs` with AVPs of unknown kinds put in.
+module _ (head : List ℕ) (twenty : length head ≡ 20) (q : Piece) (qs rs : List Piece) (whole : All Whole (q ∷ qs)) (tail : List ℕ) (fours : length tail % 4 ≡ 0)
+    (most : length (requestOf head (q ∷ rs) tail) ≤ 16384) (x : Lent) where
+  abbrev dialect : Dialect
+  dialect = dialectOf (termsIn x) head
+
+  -- If none of them is marked M, the call comes to the same but for the place, which moves with its AVP, and leaves the same buffer.
+  pub sh-demand-3-unmarked : (i : Inserted (Quiet dialect) qs rs)
+      → shServe (asking x (requestOf head (q ∷ rs) tail)) ≡ placed (placeNow (keep q i)) (shServe (asking x (requestOf head (q ∷ qs) tail)))
+  sh-demand-3-unmarked = unmarked-same head twenty q qs rs whole tail fours most x
+
+  -- If one is, the answer is the one of B5001 with the first marked one in Failed-AVP, and its place ..
+  pub sh-demand-3-marked : (m : FirstMarked dialect qs rs) → faultBy (headerFaultSh dialect head) dialect (q ∷ m .front) ≡ false
+      → turnedAway (asking x (requestOf head (q ∷ qs) tail)) ≡ false
+      → shServe (asking x (requestOf head (q ∷ rs) tail)) ≡ blaming (asking x (requestOf head (q ∷ rs) tail)) 5001 (m .mark .avp) (behindRow (q ∷ m .before))
+  sh-demand-3-marked = mark-answered head twenty q qs rs whole tail fours most x
+
+  -- .. unless the header or an AVP before it breaks a reading rule: then the call gives what it gives without them, the place moved as above.
+  pub sh-demand-3-fault : (m : FirstMarked dialect qs rs) → faultBy (headerFaultSh dialect head) dialect (q ∷ m .front) ≡ true
+      → shServe (asking x (requestOf head (q ∷ rs) tail)) ≡ placed (placeNow (keep q (m .quiet))) (shServe (asking x (requestOf head (q ∷ qs) tail)))
+  sh-demand-3-fault = fault-first head twenty q qs rs whole tail fours most x

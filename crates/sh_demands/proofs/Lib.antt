@@ -1,0 +1,4 @@
+pub mod Alike
+pub mod Demands
+pub mod Inserted
+pub mod Refusing
