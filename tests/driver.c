@@ -16,7 +16,13 @@
  *     uint64_t ndushavire_decide(.., uint8_t *answer, size_t answer_len, uint32_t peer, uint32_t features);
  *     uint64_t ndushavire_report(.., uint8_t *report, size_t report_len, uint32_t peer, uint32_t features);
  *
- * Under an older header this file does not compile. */
+ * Under an older header this file does not compile.
+ *
+ * The entries of later requests are weak here: an archive without one of them still links, and a case of it ends the driver. */
+uint64_t ndushavire_export(const uint8_t *table, size_t table_len, const uint8_t *profile, size_t profile_len,
+                           uint8_t *list, size_t list_len) __attribute__((weak));
+uint64_t ndushavire_import(const uint8_t *list, size_t list_len, const uint8_t *header, size_t header_len,
+                           const uint8_t *profile, size_t profile_len, uint8_t *table, size_t table_len) __attribute__((weak));
 
 #define GUARD 64u             /* bytes before and after every slice */
 #define LONGEST (1u << 26)    /* a longer slice is a broken stream */
@@ -42,6 +48,14 @@ struct lent {
     struct slice slice[MOST];
     uint32_t number[MOST];
 };
+
+static void fail(const char *why)
+{
+    fprintf(stderr, "driver: %s\n", why);
+    exit(2);
+}
+
+static const char absent[] = "a case of an entry that this archive does not have";
 
 /* What an entry takes for one of its slices. */
 #define SLICE(s) lent->slice[s].at, lent->slice[s].length
@@ -81,6 +95,20 @@ static uint64_t take(const struct lent *lent)
     return ndushavire_take(SLICE(0), SLICE(1), SLICE(2));
 }
 
+static uint64_t export_list(const struct lent *lent)
+{
+    if (ndushavire_export == NULL)
+        fail(absent);
+    return ndushavire_export(SLICE(0), SLICE(1), SLICE(2));
+}
+
+static uint64_t import_list(const struct lent *lent)
+{
+    if (ndushavire_import == NULL)
+        fail(absent);
+    return ndushavire_import(SLICE(0), SLICE(1), SLICE(2), SLICE(3));
+}
+
 /* The entries by their number in the streams, from 1 on: a letter for each slice, r if it is lent to be read and w if
  * the entry may write to it; how many numbers; the call. */
 static const struct entry {
@@ -95,6 +123,8 @@ static const struct entry {
     {"wr", 1, forward},
     {"wr", 0, back},
     {"wrr", 0, take},
+    {"rrw", 0, export_list},
+    {"rrrw", 0, import_list},
 };
 
 struct bytes {
@@ -105,12 +135,6 @@ struct bytes {
 static struct bytes noise; /* what slices of noise and guards hold before a call */
 static struct bytes given; /* the slices as they came, one after another */
 static struct bytes place; /* the slices as the library has them, each between guards */
-
-static void fail(const char *why)
-{
-    fprintf(stderr, "driver: %s\n", why);
-    exit(2);
-}
 
 static void make_room(struct bytes *bytes, size_t room)
 {

@@ -3,7 +3,8 @@
 use std::borrow::Cow;
 
 use self::Lent::{Read, Written};
-use self::Slice::{Area, Buffer, Fresh, Profile, Report, Request, Requests, Table, Vectors};
+use self::Slice::{Area, Buffer, Fresh, Header, List, Profile, Report, Request, Requests, Table, Vectors};
+use crate::list;
 use crate::moves;
 use crate::report;
 use crate::serve;
@@ -27,6 +28,10 @@ pub enum Entry {
     Back = 6,
     /// Of a new table, into the working area.
     Take = 7,
+    /// Of a table, as a list.
+    Export = 8,
+    /// Of a list, as a table.
+    Import = 9,
 }
 
 #[derive(Clone, Copy, PartialEq, Eq, Debug)]
@@ -43,6 +48,9 @@ pub enum Slice {
     Vectors,
     Buffer,
     Report,
+    List,
+    /// A table's header block, without its records.
+    Header,
 }
 
 /// A slice that an entry takes: to read it, or to write to it too.
@@ -53,7 +61,7 @@ pub enum Lent {
 }
 
 /// Each entry, the slices that it takes, and how many numbers come behind them.
-const ENTRIES: [(Entry, &[Lent], usize); 7] = [
+const ENTRIES: [(Entry, &[Lent], usize); 9] = [
     (Entry::Check, &[Read(Table), Read(Profile)], 0),
     (Entry::Decide, &[Read(Request), Written(Table), Read(Profile), Written(Vectors), Written(Buffer)], 2),
     (Entry::CheckVectors, &[Read(Vectors)], 0),
@@ -65,6 +73,8 @@ const ENTRIES: [(Entry, &[Lent], usize); 7] = [
     (Entry::Forward, &[Written(Table), Read(Profile)], 1),
     (Entry::Back, &[Written(Table), Read(Profile)], 0),
     (Entry::Take, &[Written(Area), Read(Fresh), Read(Profile)], 0),
+    (Entry::Export, &[Read(Table), Read(Profile), Written(List)], 0),
+    (Entry::Import, &[Read(List), Read(Header), Read(Profile), Written(Table)], 0),
 ];
 
 /// What a slice holds before the call.
@@ -260,6 +270,18 @@ impl Case {
         Case { entry: Entry::Take, fill, slices, numbers: vec![] }
     }
 
+    /// An export into so many bytes.
+    pub fn export(fill: u8, table: Vec<u8>, profile: Vec<u8>, list: usize) -> Case {
+        let slices = vec![Held::Bytes(table), Held::Bytes(profile), Held::Noise(list)];
+        Case { entry: Entry::Export, fill, slices, numbers: vec![] }
+    }
+
+    /// An import into so many bytes.
+    pub fn import(fill: u8, list: Vec<u8>, header: Vec<u8>, profile: Vec<u8>, table: usize) -> Case {
+        let slices = vec![Held::Bytes(list), Held::Bytes(header), Held::Bytes(profile), Held::Noise(table)];
+        Case { entry: Entry::Import, fill, slices, numbers: vec![] }
+    }
+
     /// What a decision or a report is told of its peer and of the server.
     pub fn stated(&self) -> Stated {
         Stated::of(&self.numbers)
@@ -355,6 +377,14 @@ impl Case {
             (Entry::Take, [area, fresh, profile]) => {
                 let found = take::take(area.to_mut(), fresh, profile.len(), slip);
                 (serve::move_word(found), Why::TakenOver(found))
+            }
+            (Entry::Export, [table, profile, list]) => {
+                let found = list::export(table, profile.len(), list.to_mut(), slip);
+                (serve::move_word(found), Why::Listed(found))
+            }
+            (Entry::Import, [list, header, profile, table]) => {
+                let found = list::import(list, header, profile.len(), table.to_mut(), slip);
+                (serve::move_word(found), Why::Listed(found))
             }
             _ => unreachable!("a case has the slices that its entry takes"),
         };

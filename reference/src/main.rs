@@ -29,7 +29,8 @@ reference faults   [--silent]                               list the deliberate 
 reference mutants  --seed S [--from F] --count N            whether each deliberate fault is noticed
 reference cuts     --seed S [--from F] --count N [--fault NAME]
                                                             what the areas of cut take-overs read as
-kinds: tables, vectors, calls, reports, moves, takes; compare and stats alone: neighbours; compare alone: demand3, runs, breaches";
+kinds: tables, vectors, calls, reports, moves, takes, lists; compare and stats alone: neighbours;
+compare alone: demand3, runs, breaches";
 
 fn main() -> ExitCode {
     let arguments: Vec<String> = std::env::args().skip(1).collect();

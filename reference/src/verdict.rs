@@ -47,6 +47,8 @@ pub enum Why {
     CheckedVectors(Result<u32, u32>),
     Moved(Result<u32, Refusal>),
     TakenOver(Result<u32, Refusal>),
+    /// Exported as a list, or imported from one.
+    Listed(Result<u32, Refusal>),
     /// A report was made, to the end of its file or not.
     Reported,
     Refused(u32),

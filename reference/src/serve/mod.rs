@@ -29,11 +29,11 @@ pub fn check_word(number: u64, found: Result<u32, u32>) -> u64 {
     }
 }
 
-/// The return word of a move or a take-over: 0 with the record count, or the refusal.
+/// The return word of a move, a take-over, an export or an import: 0 with what it answers, or the refusal.
 pub fn move_word(found: Result<u32, Refusal>) -> u64 {
     match found {
-        Ok(count) => u64::from(count),
-        Err((number, block)) => u64::from(number) << 48 | u64::from(block),
+        Ok(value) => u64::from(value),
+        Err((number, value)) => u64::from(number) << 48 | u64::from(value),
     }
 }
 

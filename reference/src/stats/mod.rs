@@ -2,6 +2,7 @@
 
 mod authentication;
 mod features;
+mod lists;
 mod moves;
 mod peers;
 mod places;
@@ -43,6 +44,7 @@ impl Histogram {
             (Stream::Reports, _) => self.count_report(made, outcome),
             (Stream::Moves, _) => self.count_move(made, outcome),
             (Stream::Takes, _) => self.count_take(made, outcome),
+            (Stream::Lists, _) => self.count_list(made, outcome),
             _ => self.count_call(made, outcome, why),
         }
     }
@@ -109,12 +111,22 @@ impl Histogram {
         takes::rows(&made.case, outcome).into_iter().for_each(|row| self.add(row));
     }
 
+    fn count_list(&mut self, made: &Made, outcome: &Outcome) {
+        made.notes.iter().for_each(|note| self.add(format!("made by: {note}")));
+        lists::rows(&made.case, outcome).into_iter().for_each(|row| self.add(row));
+    }
+
     fn count_call(&mut self, made: &Made, outcome: &Outcome, why: &Why) {
         for note in &made.notes {
             self.add(format!("made by: {note}"));
         }
         let row = match why {
-            Why::Checked(_) | Why::CheckedVectors(_) | Why::Reported | Why::Moved(_) | Why::TakenOver(_) => return,
+            Why::Checked(_)
+            | Why::CheckedVectors(_)
+            | Why::Reported
+            | Why::Moved(_)
+            | Why::TakenOver(_)
+            | Why::Listed(_) => return,
             Why::Refused(6) => format!("refused 6 to {}", asker(&made.case.held(Slice::Request))),
             Why::Refused(5) if disagrees(&made.case) => "refused 5, a set disagrees".to_string(),
             Why::Refused(5) if made.notes.contains(&"a cut take-over") => "refused 5, a cut take-over".to_string(),

@@ -22,7 +22,12 @@ pub fn row(place: u64, case: &Case, why: &Why) -> Option<String> {
 
 fn unplaced(case: &Case, why: &Why) -> Option<&'static str> {
     Some(match why {
-        Why::Checked(_) | Why::CheckedVectors(_) | Why::Reported | Why::Moved(_) | Why::TakenOver(_) => return None,
+        Why::Checked(_)
+        | Why::CheckedVectors(_)
+        | Why::Reported
+        | Why::Moved(_)
+        | Why::TakenOver(_)
+        | Why::Listed(_) => return None,
         // Only with these is there a request to read.
         Why::Refused(5 | 6) => match read(Message(&case.held(Slice::Request)), case.stated(), Slip::NONE) {
             Err(finding) if finding.place != 0 => "a refusal, though an AVP is at fault",

@@ -2,6 +2,7 @@
 
 use super::authentication;
 use super::features;
+use super::lists;
 use super::moves;
 use super::peers;
 use super::places;
@@ -27,6 +28,7 @@ pub fn rows(stream: Stream) -> Vec<(String, u64)> {
         Stream::Reports => reports::wanted().into_iter().map(|(row, times)| (row, times * ONE_IN)).collect(),
         Stream::Moves => moves::wanted().into_iter().map(|(row, times)| (row, times * ONE_IN)).collect(),
         Stream::Takes => takes::wanted().into_iter().map(|(row, times)| (row, times * ONE_IN)).collect(),
+        Stream::Lists => lists::wanted().into_iter().map(|(row, times)| (row, times * ONE_IN)).collect(),
     }
 }
 
