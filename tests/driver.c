@@ -19,6 +19,9 @@
  * Under an older header this file does not compile.
  *
  * The entries of later requests are weak here: an archive without one of them still links, and a case of it ends the driver. */
+uint64_t ndushavire_sh_decide(const uint8_t *request, size_t request_len, const uint8_t *table, size_t table_len,
+                              const uint8_t *profile, size_t profile_len, uint8_t *answer, size_t answer_len,
+                              uint32_t peer) __attribute__((weak));
 uint64_t ndushavire_export(const uint8_t *table, size_t table_len, const uint8_t *profile, size_t profile_len,
                            uint8_t *list, size_t list_len) __attribute__((weak));
 uint64_t ndushavire_import(const uint8_t *list, size_t list_len, const uint8_t *header, size_t header_len,
@@ -109,6 +112,13 @@ static uint64_t import_list(const struct lent *lent)
     return ndushavire_import(SLICE(0), SLICE(1), SLICE(2), SLICE(3));
 }
 
+static uint64_t sh_decide(const struct lent *lent)
+{
+    if (ndushavire_sh_decide == NULL)
+        fail(absent);
+    return ndushavire_sh_decide(SLICE(0), SLICE(1), SLICE(2), SLICE(3), lent->number[0]);
+}
+
 /* The entries by their number in the streams, from 1 on: a letter for each slice, r if it is lent to be read and w if
  * the entry may write to it; how many numbers; the call. */
 static const struct entry {
@@ -125,6 +135,7 @@ static const struct entry {
     {"wrr", 0, take},
     {"rrw", 0, export_list},
     {"rrrw", 0, import_list},
+    {"rrrw", 1, sh_decide},
 };
 
 struct bytes {

@@ -22,7 +22,7 @@ pub fn word(entry: Entry, outcome: &Outcome) -> String {
         (Entry::Check, 5) => format!("block {value} is bad{place}"),
         (Entry::CheckVectors, 0) => format!("sound, {value} vectors{place}"),
         (Entry::CheckVectors, 6) => format!("vector block {value} is bad{place}"),
-        (Entry::Decide, 0) => format!("answered with {value} bytes{place}"),
+        (Entry::Decide | Entry::ShDecide, 0) => format!("answered with {value} bytes{place}"),
         (Entry::Forward | Entry::Back, 0) => format!("moved, {value} records{place}"),
         (Entry::Take, 0) => format!("taken over, {value} records{place}"),
         (Entry::Export, 0) => format!("exported to {value} bytes{place}"),
@@ -131,7 +131,8 @@ fn changed(name: &str, before: &[u8], own: &Change, given: &Change) {
 
 pub fn answer(whose: &str, case: &Case, outcome: &Outcome) {
     let (number, _, value) = outcome.parts();
-    if let (Entry::Decide, 0, Some(buffer)) = (case.entry, number, case.after(outcome, Slice::Buffer)) {
+    let decides = [Entry::Decide, Entry::ShDecide].contains(&case.entry);
+    if let (true, 0, Some(buffer)) = (decides, number, case.after(outcome, Slice::Buffer)) {
         println!("  the answer of {whose}:\n{}", lines(&buffer[..(value as usize).min(buffer.len())]));
     }
 }

@@ -4,10 +4,12 @@ use std::borrow::Cow;
 
 use self::Lent::{Read, Written};
 use self::Slice::{Area, Buffer, Fresh, Header, List, Profile, Report, Request, Requests, Table, Vectors};
+use crate::kinds::Dialect;
 use crate::list;
 use crate::moves;
 use crate::report;
 use crate::serve;
+use crate::sh;
 use crate::slip::Slip;
 use crate::stated::Stated;
 use crate::table;
@@ -32,6 +34,8 @@ pub enum Entry {
     Export = 8,
     /// Of a list, as a table.
     Import = 9,
+    /// The decision of Sh.
+    ShDecide = 10,
 }
 
 #[derive(Clone, Copy, PartialEq, Eq, Debug)]
@@ -61,7 +65,7 @@ pub enum Lent {
 }
 
 /// Each entry, the slices that it takes, and how many numbers come behind them.
-const ENTRIES: [(Entry, &[Lent], usize); 9] = [
+const ENTRIES: [(Entry, &[Lent], usize); 10] = [
     (Entry::Check, &[Read(Table), Read(Profile)], 0),
     (Entry::Decide, &[Read(Request), Written(Table), Read(Profile), Written(Vectors), Written(Buffer)], 2),
     (Entry::CheckVectors, &[Read(Vectors)], 0),
@@ -75,6 +79,7 @@ const ENTRIES: [(Entry, &[Lent], usize); 9] = [
     (Entry::Take, &[Written(Area), Read(Fresh), Read(Profile)], 0),
     (Entry::Export, &[Read(Table), Read(Profile), Written(List)], 0),
     (Entry::Import, &[Read(List), Read(Header), Read(Profile), Written(Table)], 0),
+    (Entry::ShDecide, &[Read(Request), Read(Table), Read(Profile), Written(Buffer)], 1),
 ];
 
 /// What a slice holds before the call.
@@ -152,6 +157,14 @@ impl Entry {
     /// The slices that it takes.
     pub fn lent(self) -> &'static [Lent] {
         self.row().0
+    }
+
+    /// The interface of a decision.
+    pub fn dialect(self) -> Dialect {
+        match self {
+            Entry::ShDecide => Dialect::Sh,
+            _ => Dialect::Cx,
+        }
     }
 
     /// How many numbers it takes.
@@ -236,6 +249,13 @@ impl Case {
         let mut slices: Vec<Held> = [request, table, profile, vectors].into_iter().map(Held::Bytes).collect();
         slices.push(Held::Noise(buffer));
         Case { entry: Entry::Decide, fill, slices, numbers: stated.numbers() }
+    }
+
+    /// A decision of Sh, with so many bytes for the answer.
+    pub fn sh_decide(fill: u8, request: Vec<u8>, table: Vec<u8>, profile: Vec<u8>, buffer: usize, peer: u32) -> Case {
+        let mut slices: Vec<Held> = [request, table, profile].into_iter().map(Held::Bytes).collect();
+        slices.push(Held::Noise(buffer));
+        Case { entry: Entry::ShDecide, fill, slices, numbers: vec![peer] }
     }
 
     pub fn check_vectors(fill: u8, vectors: Vec<u8>) -> Case {
@@ -385,6 +405,9 @@ impl Case {
             (Entry::Import, [list, header, profile, table]) => {
                 let found = list::import(list, header, profile.len(), table.to_mut(), slip);
                 (serve::move_word(found), Why::Listed(found))
+            }
+            (Entry::ShDecide, [request, table, profile, buffer]) => {
+                sh::user_data(request, table, profile, buffer.to_mut(), self.stated(), slip)
             }
             _ => unreachable!("a case has the slices that its entry takes"),
         };

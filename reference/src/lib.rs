@@ -32,9 +32,10 @@ pub mod refuse;
 
 pub mod serve;
 
-// Many calls in a row; the programs over files; what a person reads.
+// Many calls in a row; a call of the other interface; the programs over files; what a person reads.
 pub mod program;
 pub mod report;
+pub mod sh;
 pub mod show;
 
 // A call of an entry.

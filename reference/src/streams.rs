@@ -177,6 +177,12 @@ mod tests {
         assert_eq!(stream[..20], [9, 9, 4, 0, 0, 0, 0, 2, 0, 0, 2, 0, 0, 0, 0, 5, 0xC0, 0, 4, 0]);
         assert_eq!(Case::read(&mut &stream[..]).unwrap(), Some(import));
 
+        let voicemail = Case::sh_decide(9, vec![1, 2, 3], vec![4; 512], vec![7; 5], 36_864, 6733);
+        let stream = written(&voicemail);
+        assert_eq!(stream[..20], [10, 9, 4, 1, 0, 0, 0, 3, 0, 0, 2, 0, 0, 0, 0, 5, 0xC0, 0, 0x90, 0]);
+        assert_eq!(stream[20..24], [0, 0, 26, 77]);
+        assert_eq!(Case::read(&mut &stream[..]).unwrap(), Some(voicemail));
+
         let outcome = Outcome {
             word: 5 << 48 | 3,
             altered: 0,

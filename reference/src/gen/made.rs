@@ -19,10 +19,20 @@ pub enum Stream {
     Takes,
     /// The export of a table as a list, and the import of one.
     Lists,
+    /// The decision of Sh, over every kind of request.
+    Voicemail,
 }
 
-pub const STREAMS: [Stream; 7] =
-    [Stream::Tables, Stream::Vectors, Stream::Calls, Stream::Reports, Stream::Moves, Stream::Takes, Stream::Lists];
+pub const STREAMS: [Stream; 8] = [
+    Stream::Tables,
+    Stream::Vectors,
+    Stream::Calls,
+    Stream::Reports,
+    Stream::Moves,
+    Stream::Takes,
+    Stream::Lists,
+    Stream::Voicemail,
+];
 
 impl Stream {
     pub fn by_name(name: &str) -> Option<Stream> {
@@ -38,6 +48,7 @@ impl Stream {
             Stream::Moves => "moves",
             Stream::Takes => "takes",
             Stream::Lists => "lists",
+            Stream::Voicemail => "voicemail",
         }
     }
 }

@@ -41,5 +41,6 @@ pub fn make(stream: Stream, seed: u64, number: u64) -> Made {
         Stream::Moves => moves::case(&mut rng),
         Stream::Takes => takes::case(&mut rng),
         Stream::Lists => lists::case(&mut rng),
+        Stream::Voicemail => calls::of_sh(&mut rng),
     }
 }

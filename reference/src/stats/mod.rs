@@ -11,6 +11,7 @@ mod required;
 mod sets;
 mod sizes;
 mod takes;
+mod voicemail;
 
 use std::collections::{BTreeMap, BTreeSet};
 use std::ops::Range;
@@ -18,7 +19,9 @@ use std::ops::Range;
 use crate::block::{word_at, BLOCK};
 use crate::cases::{Case, Outcome, Slice};
 use crate::gen::{self, Made, Stream, FAR};
-use crate::kinds::{Command, Kind, EXPERIMENTAL_RESULT, FAILED_AVP, RESULT_CODE, SERVER_CAPABILITIES, USER_DATA};
+use crate::kinds::{
+    Command, Dialect, Kind, EXPERIMENTAL_RESULT, FAILED_AVP, RESULT_CODE, SERVER_CAPABILITIES, SH_USER_DATA, USER_DATA,
+};
 use crate::message::{Avp, Message};
 use crate::read::read_header;
 use crate::slip::Slip;
@@ -160,7 +163,11 @@ impl Histogram {
             _ => {}
         }
         if outcome.parts().0 == 0 {
-            features::rows(&made.case, outcome.parts().1, why).into_iter().for_each(|row| self.add(row));
+            let rows = match made.case.entry.dialect() {
+                Dialect::Cx => features::rows(&made.case, outcome.parts().1, why),
+                Dialect::Sh => voicemail::rows(&made.case, why),
+            };
+            rows.into_iter().for_each(|row| self.add(row));
             self.count_answer(&made.case, outcome, why);
         }
     }
@@ -174,6 +181,7 @@ impl Histogram {
         match decision.command {
             Some(Command::UserAuthorization) => format!("UAR: type {}, {state}: {result}", decision.asked_type),
             Some(Command::LocationInfo) => format!("LIR: {state}: {result}"),
+            Some(Command::UserData) => format!("UDR: {state}: {result}"),
             Some(Command::MultimediaAuth) => {
                 authentication::rows(decision).into_iter().for_each(|row| self.add(row));
                 format!("MAR: {state}: {result}")
@@ -229,6 +237,7 @@ impl Histogram {
                     self.add("answer: User-Data from past 65,536".to_string());
                 }
             }
+            SH_USER_DATA => self.add("answer: the document".to_string()),
             1 => self.add("answer: User-Name".to_string()),
             602 => self.add("answer: Server-Name".to_string()),
             612 => self.add("answer: an item".to_string()),
@@ -279,11 +288,12 @@ fn disagrees(case: &Case) -> bool {
 
 /// What a call that is refused by 6 would be answered as.
 fn asker(request: &[u8]) -> &'static str {
-    match read_header(Message(request), Slip::NONE) {
+    match read_header(Message(request), Dialect::Cx, Slip::NONE) {
         Ok(Command::UserAuthorization) => "a UAR",
         Ok(Command::ServerAssignment) => "a SAR",
         Ok(Command::LocationInfo) => "a LIR",
         Ok(Command::MultimediaAuth) => "a MAR",
+        Ok(Command::UserData) => "a UDR",
         Err(_) => "a header fault",
     }
 }
