@@ -189,6 +189,10 @@ COUNT_calls := 100000
 COUNT_reports := 20000
 COUNT_moves := 50000
 COUNT_takes := 50000
+COUNT_lists := 50000
+COUNT_voicemail := 100000
+COUNT_demand3-voicemail := 20000
+COUNT_neighbours-voicemail := 50000
 COUNT_demand3 := 20000
 COUNT_neighbours := 100000
 COUNT_runs := 2000
@@ -246,7 +250,7 @@ peers: target/c99/daemon target/c/maketable
 
 # After how many cases each deliberate fault of the independent program shows; what the cases are made of.
 COUNT_mutants := 100000
-#: mutants            whether 1,020 deliberate faults would be noticed, and after how many cases
+#: mutants            whether 1,331 deliberate faults would be noticed, and after how many cases
 mutants: $(BINARY)
 	@echo "mutants: seed $(SEED)"
 	$(BINARY) mutants --seed $(SEED) --count $(COUNT_mutants)
@@ -260,6 +264,9 @@ stats: $(BINARY)
 	$(BINARY) stats --kind reports --seed $(SEED) --count $(COUNT_reports)
 	$(BINARY) stats --kind moves --seed $(SEED) --count $(COUNT_moves)
 	$(BINARY) stats --kind takes --seed $(SEED) --count $(COUNT_takes)
+	$(BINARY) stats --kind lists --seed $(SEED) --count $(COUNT_lists)
+	$(BINARY) stats --kind voicemail --seed $(SEED) --count $(COUNT_voicemail)
+	$(BINARY) stats --kind neighbours-voicemail --seed $(SEED) --count $(COUNT_neighbours-voicemail)
 	$(BINARY) stats --kind neighbours --seed $(SEED) --count $(COUNT_neighbours)
 
 # The definitions beside the independent program: antt computes each case, which takes seconds; 24 make a quick trial.

@@ -100,7 +100,7 @@ def small(case):
 def fitting(reference):
     """Cases that fit, the smallest first."""
     found = []
-    few = [(kind, (1,), 4000) for kind in ('tables', 'vectors', 'reports', 'moves', 'takes')]
+    few = [(kind, (1,), 4000) for kind in ('tables', 'vectors', 'reports', 'moves', 'takes', 'lists', 'voicemail')]
     for kind, seeds, count in (*few, ('calls', range(1, 6), 20000)):
         for seed in seeds:
             found += [case for case in streams.cases(made(reference, kind, seed, count)) if fits(case)]
