@@ -1,9 +1,9 @@
 #!/usr/bin/env bash
-# daemon.sh ROOM MAKETABLE ARCHIVE CC..: builds the daemon that ndushavire(3) shows and runs it on a disk that fails (daemon.c). Then
+# daemon.sh ROOM MAKETABLE ARCHIVES CC..: builds the daemon that ndushavire(3) shows and runs it on a disk that fails (daemon.c). Then
 # it leaves out one thing after the other, of the page or of store.h, and sees that each is noticed. Then the same with the daemon of the
 # examples. RUN, if set, is the emulator.
 set -euo pipefail
-room=$1 maketable=$2 archive=$3
+room=$1 maketable=$2 archives=($3)
 shift 3
 compiler=("$@")
 run=(${RUN:+"$RUN"})
@@ -42,7 +42,7 @@ cp "$top"/examples/{fault,load,store}.h "$room/source/"
 
 source=source flags=()
 build() { # SOURCES PROGRAM [OPTION]
-    "${compiler[@]}" -std=c99 -O2 -Wall -Wextra -pedantic -Werror "${flags[@]}" "${@:3}" -I"$top/include" -I"$1" -o "$2" "$tests/daemon.c" "$archive"
+    "${compiler[@]}" -std=c99 -O2 -Wall -Wextra -pedantic -Werror "${flags[@]}" "${@:3}" -I"$top/include" -I"$1" -o "$2" "$tests/daemon.c" "${archives[@]}"
 }
 tried() { # PROGRAM
     "${run[@]}" "$1" "$disk" "$room/table" "$room/profile" "$room/vectors" "$room/question" "$room/assignment" "$room/challenge" "$room/rubbish"
