@@ -150,10 +150,9 @@ programs: target/bin/answer target/bin/tablecheck target/c/maketable
 unsound: target/c99/unsound
 	$(RUN) $<
 
-COUNT_asked := 20000
-#: voicemail          the Sh entry beside a model in C: every refusal, every order of the AVPs, and 20,000 random requests; table and profile are only read
+#: voicemail          the Sh entry by itself: each refusal and rule with the bytes of its answer, every order of the AVPs; table and profile file are only read
 voicemail: target/c99/voicemail
-	$(RUN) $< $(SEED) $(COUNT_asked)
+	$(RUN) $<
 
 COUNT_documents := 2000
 DOCUMENTS = tests/documents.py $(SEED)
@@ -161,7 +160,7 @@ DOCUMENTS = tests/documents.py $(SEED)
 documents: target/c99/driver
 	$(DOCUMENTS) $(COUNT_documents) $(DRIVER)
 
-#: parsed             the same of 100,000 answers, a minute; SEED=N runs a seed again
+#: parsed             the same of 100,000 answers, half a minute; SEED=N runs a seed again
 parsed: target/c99/driver
 	$(DOCUMENTS) 100000 $(DRIVER)
 
@@ -378,7 +377,7 @@ target/c99/unsound: tests/unsound.c bench/requests.h $(HEADER) $(ARCHIVE)
 	mkdir -p $(@D)
 	$(X86_CC) -std=c99 $(STRICT) -o $@ $< $(ARCHIVE)
 
-target/c99/voicemail: tests/voicemail.c tests/random-tables.h $(HEADER) $(SH_HEADER) $(ARCHIVES)
+target/c99/voicemail: tests/voicemail.c bench/requests.h $(HEADER) $(SH_HEADER) $(ARCHIVES)
 	mkdir -p $(@D)
 	$(X86_CC) -std=c99 $(STRICT) -o $@ $< $(ARCHIVES)
 
