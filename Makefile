@@ -222,7 +222,7 @@ cited: $(ARCHIVES) $(PROGRAMS)
 	RUN='$(RUN)' tests/cited.sh target/test/cited $(X86_CC)
 
 #: recipes            every command and script that a page prints, on the one layout, in the order in which an operator meets them
-recipes: $(ARCHIVES) $(PROGRAMS) $(OVER_ARCHIVE) target/c99/decide
+recipes: $(ARCHIVES) $(PROGRAMS) $(OVER_ARCHIVE) target/c99/decide target/c99/userdata
 	RUN='$(RUN)' tests/recipes.sh target/test/recipes '$(PROGRAM)' $(X86_CC)
 
 #: differential       the libraries beside the independent program on 810,000 new cases and 2,000 runs of calls; SEED=N runs a seed again

@@ -81,7 +81,7 @@ for edition in '' 3588 6733; do
     asks sip:bob@isle 11 10 | gets 0 'another reference' 'answered, 144 bytes'
 done
 peer=()
-[ "$(grep -c -E '000013E[CD]' "$room/said")" = 1 ] || fail "X5100 is not in the answer: $(cat "$room/said")"
+[ "$(grep -c -E '000013EC' "$room/said")" = 1 ] || fail "X5100 is not in the answer: $(cat "$room/said")"
 
 # What is at fault, and where.
 message 306 01000001 "$front$(identity sip:bob@isle)$(references 11)$(avp 601 c0 "$(hex sip:bob@isle)")" >"$room/unknown"
