@@ -255,7 +255,7 @@ cuts: target/c99/takes target/c99/cuts target/c99/take target/c99/cut-take
 # 5,000,000 tables, and as many vector files, calls and calls of Sh. Each round has the next seed: with SEED=N ROUNDS=M a run that was stopped goes on.
 ROUNDS := 50
 COUNT_round := 100000
-#: soak               5,000,000 tables, and as many vector files, calls and calls of Sh, compared, a quarter of an hour; SEED=N ROUNDS=M goes on where it was stopped
+#: soak               5,000,000 tables, and as many vector files, calls and calls of Sh, compared, 15 minutes; SEED=N ROUNDS=M goes on where it was stopped
 soak: target/c99/driver $(BINARY)
 	@for ((round = 0; round < $(ROUNDS); round++)); do \
 	    echo "soak: SEED=$$(($(SEED) + round)) ROUNDS=$$(($(ROUNDS) - round))"; \

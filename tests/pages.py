@@ -7,7 +7,7 @@
   which module or crate (`crate/Module`: `name`; `name` in `file`; `module::name`), it stands there.
 - The tables of docs/ARCHITECTURE.md name every theorem of the pages of statements, each in the table of its request, and say in every row what is proved.
 - docs/PROVED.md names every must-fail edit, every wrong server and every wrong reporter.
-- Functions, constants and options of the manual pages are those of the header and the examples.
+- Functions, constants and options of the manual pages are those of the headers and the examples.
 - Of docs/LANDINGS.md, which is history, only the newest note is read, and there no sentence that tells what was; but that note, and that of each request,
   tells the check's time."""
 import functools, glob, os, re, sys
@@ -137,7 +137,7 @@ class Tree:
                 if part == 'proofs':
                     self.statements['%s/%s' % (crate, key[2])] = [name for name, stated in found if stated]
                     self.pages |= {'%s/%s' % (crate, key[2])} if PAGE.search(folded(text.partition('\nuse ')[0].replace('--', ''))) else set()
-        self.make, self.kit, self.header = read('Makefile'), read('KIT-ID').strip(), read('include/ndushavire.h')
+        self.make, self.kit, self.header = read('Makefile'), read('KIT-ID').strip(), ''.join(map(read, sorted(glob.glob('include/*'))))
         self.targets = set(' '.join(re.findall(r'(?m)^\.PHONY: (.*)', self.make)).split())
         self.around = '\n'.join(read(path) for path in glob.glob('examples/*.[ch]') + glob.glob('include/*') + glob.glob('packaging/*'))
         self.edits = {path[len('crates/'):] for path in glob.glob('crates/*/must-fail/*.edit')}
