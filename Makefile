@@ -51,12 +51,12 @@ help:
 	@sed -n 's/^#: //p' $(firstword $(MAKEFILE_LIST))
 
 # The sample, and four answers of the program answer over it in a form to read: to a header alone, to the question where bob is, to an
-# assignment of erin's line, and to a challenge of her card. A program of the kit runs with the kit's own loader and C library, on either
+# assignment of erin's line, and to a challenge of her card; and what a voicemail box is told of bob. A program of the kit runs with the kit's own loader and C library, on either
 # machine.
 PROGRAM = $(RUN) $(KIT)/toolchain/lib/ld-linux-x86-64.so.2 --library-path $(KIT)/toolchain/lib
 SHOWN := examples/no-avps $(addprefix tests/captured/,icscf-20-lir scscf-12-sar mar-33)
-#: run                the sample table and vectors, checked, and four answers from them in a form to read
-run: target/c/maketable target/c99/check target/bin/answer $(BINARY)
+#: run                the sample table and vectors, checked, and five answers from them in a form to read
+run: target/c/maketable target/c99/check target/c99/userdata target/bin/answer $(BINARY)
 	@mkdir -p target/run
 	target/c/maketable table examples/households.txt >target/run/table
 	target/c/maketable profile examples/households.txt >target/run/profile
@@ -67,6 +67,8 @@ run: target/c/maketable target/c99/check target/bin/answer $(BINARY)
 	    printf %b "$$(sed '/^#/d; s/ //g; s/../\\x&/g' $$request.hex | tr -d '\n')" | \
 	        (cd target/run && $(PROGRAM) ../bin/answer) | $(BINARY) show | sed -E 's/  [0-9a-f]{8}( [0-9a-f]{2,8})*$$//'; \
 	done
+	@printf '\n%s\n' "examples/voicemail.hex: $$(sed -n 's/^# asked: //p' examples/voicemail.hex)"
+	@$(RUN) target/c99/userdata target/run/table target/run/profile examples/voicemail.hex | tail -n 1
 
 target/bin/%: $(PROVED)
 	$(RT) check $*
@@ -473,9 +475,9 @@ target/bench/report target/bench/moves target/bench/takes: target/bench/%: bench
 	$(CC) -std=c99 $(STRICT) -o $@ $< $(TIMED)
 
 # One program for both bindings: which it is says the environment that it is run in.
-target/c99/stack: bench/stack.c bench/requests.h bench/samples.h bench/vectors.h examples/load.h $(HEADER) $(ARCHIVE)
+target/c99/stack: bench/stack.c bench/requests.h bench/samples.h bench/vectors.h examples/load.h $(HEADER) $(SH_HEADER) $(ARCHIVES)
 	mkdir -p $(@D)
-	$(X86_CC) -std=c99 $(STRICT) -Wl,-z,lazy -o $@ $< $(ARCHIVE)
+	$(X86_CC) -std=c99 $(STRICT) -Wl,-z,lazy -o $@ $< $(ARCHIVES)
 
 target/bench/libreference_c.a: bench/reference.rs $(BINARY)
 	mkdir -p $(@D)
