@@ -789,8 +789,8 @@ def isle(issue, users=120):
 
 
 def issue_of(answer):
-    """The issue that an answer was given from: of its host, which is in the header, and of its server, which is in a record."""
-    host, server = all_of(answer, 264), all_of(answer, 602)
+    """The issue that an answer was given from: of its host, which is in the header, and of its server, which is in a record; over Sh it is in the document."""
+    host, server = all_of(answer, 264), all_of(answer, 602) or re.findall(b"<SCSCFName>(.*)</SCSCFName>", b"".join(all_of(answer, 702)))
     found = re.fullmatch(rb"hss(\d+)\.isle", host[0])
     want(found and server == [b"sip:s%s.isle:6060" % found.group(1)], "an answer of half a table: %s, %s" % (host, server))
     return int(found.group(1))
@@ -837,7 +837,7 @@ def taken(room):
         """From the old table, and from some question on from the new one."""
         got, until = [], time.time() + min(last, PATIENCE)
         while (not got or got[-1] != issue) and time.time() < until:
-            got.append(issue_of(client.ask(lir(10 + len(got) % 30))))
+            got.append(issue_of(client.ask((lir, udr)[len(got) % 2](10 + len(got) % 30))))
         want(got[-1] == issue and got == sorted(got), "the tables that answers come from: %s" % sorted(set(got)))
         return len(got)
 
