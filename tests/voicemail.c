@@ -244,6 +244,7 @@ typedef struct {
     const char *document;
     const Part *failed;
     int session; /* whether the Session-Id is copied */
+    const Part *proxies[2];
 } Expected;
 
 static void put_expected(Request *to, const Request *r, const Expected *e)
@@ -276,6 +277,8 @@ static void put_expected(Request *to, const Request *r, const Expected *e)
         members[0] = group_part(279, 0, e->failed, 1);
         put_part(to, &members[0]);
     }
+    for (size_t i = 0; i < 2 && e->proxies[i] != NULL; i++)
+        put_part(to, e->proxies[i]);
     end(to);
 }
 
@@ -308,14 +311,14 @@ static const char *document_of(const char *name, const char *state)
 
 static void tells(const char *about, const Request *r, const char *name, const char *state)
 {
-    const Expected e = {'B', 2001, 0, document_of(name, state), NULL, 1};
+    const Expected e = {'B', 2001, 0, document_of(name, state), NULL, 1, {NULL, NULL}};
 
     brings(about, r, e);
 }
 
 static void result(const char *about, const Request *r, char kind, uint32_t number)
 {
-    const Expected e = {kind, number, 0, NULL, NULL, 1};
+    const Expected e = {kind, number, 0, NULL, NULL, 1, {NULL, NULL}};
 
     brings(about, r, e);
 }
@@ -323,7 +326,7 @@ static void result(const char *about, const Request *r, char kind, uint32_t numb
 /* A fault of the AVP at a place, which Failed-AVP holds as it is given. */
 static void fault(const char *about, const Request *r, uint32_t number, size_t place, const Part *given)
 {
-    const Expected e = {'B', number, place, NULL, given, 1};
+    const Expected e = {'B', number, place, NULL, given, 1, {NULL, NULL}};
 
     brings(about, r, e);
 }
@@ -418,6 +421,18 @@ static void headers(void)
         r.bytes[of[i].at] = of[i].byte;
         result(of[i].about, &r, 'B', of[i].result);
     }
+    for (unsigned set = 1; set < 16; set++) { /* several at once: the first in the order is told */
+        Request r = ask("sip:bob@isle");
+        if (set & 1)
+            r.bytes[0] = 0;
+        if (set & 2)
+            r.bytes[4] |= 0x20;
+        if (set & 4)
+            r.bytes[7] = 47; /* 303 */
+        if (set & 8)
+            r.bytes[11] = 0;
+        result("several faults of the header", &r, 'B', set & 1 ? 5011 : set & 2 ? 3008 : set & 4 ? 3001 : 3007);
+    }
     for (uint32_t command = 300; command < 313; command++) {
         Request r = ask("sip:bob@isle");
         spell(r.bytes + 4, 0xC0000000u + command);
@@ -451,7 +466,7 @@ static void readings(void)
     make_parts(parts, "sip:bob@isle");
     r = request_of(parts + 1, PARTS - 1);
     const Part session = text_part(263, 0, "");
-    const Expected no_session = {'B', 5005, 0, NULL, &session, 0};
+    const Expected no_session = {'B', 5005, 0, NULL, &session, 0, {NULL, NULL}};
     brings("no Session-Id", &r, no_session);
 
     /* What is unknown here: with M it is a fault, without M it is skipped; what is known and not named, or repeats, is skipped. */
@@ -483,10 +498,12 @@ static void readings(void)
     add(&r, text_part(293, 0, "hss.isle"));
     add(&r, text_part(1, 0, "somebody else"));
     tells("features, routes, another User-Name", &r, NULL, "1");
-    const Part again = text_part(1, 0, "bob@isle");
-    place = r.length;
-    add(&r, again);
-    fault("a second User-Name", &r, 5009, place, &again);
+    const Part again[] = {text_part(1, 0, "bob@isle"), text_part(293, 0, "hss.isle")};
+    for (size_t i = 0; i < 2; i++) {
+        Request more = r;
+        add(&more, again[i]);
+        fault("a second User-Name or Destination-Host", &more, 5009, r.length, &again[i]);
+    }
     for (size_t i = SESSION; i < REFERENCE; i++) {
         make_parts(parts, "sip:bob@isle");
         r = request_of(parts, PARTS);
@@ -494,6 +511,51 @@ static void readings(void)
         add(&r, parts[i]);
         fault("an AVP twice", &r, 5009, place, &parts[i]);
     }
+
+    /* Reserved flags, of what is known and of what is not; lengths that are too short, go past the end, or have no room for the header. */
+    static const uint32_t flagged[] = {282, 703, 999};
+    for (size_t i = 0; i < 3; i++)
+        for (unsigned bit = 1; bit < 32; bit *= 2) {
+            Part more = word_part(flagged[i], flagged[i] == 703 ? VENDOR : 0, 11);
+            more.bytes[4] = (uint8_t)((more.bytes[4] & 0x80) | bit);
+            r = ask("sip:bob@isle");
+            place = r.length;
+            add(&r, more);
+            fault("a reserved flag", &r, 3009, place, &more);
+        }
+    static const struct {
+        uint32_t code, word, kept;
+        size_t length;
+    } cut[] = {{282, 0x40000007u, 8, 8},    {282, 0x4000000Du, 8, 12}, {703, 0xC000000Bu, 12, 12},
+               {703, 0xC0000011u, 12, 16}, {703, 0xC0000010u, 0, 8},  {282, 0, 0, 4}};
+    for (size_t i = 0; i < sizeof cut / sizeof cut[0]; i++) {
+        Part more = word_part(cut[i].code, cut[i].code == 703 ? VENDOR : 0, 11), header;
+        spell(more.bytes + 4, cut[i].word);
+        more.length = cut[i].length;
+        header = more;
+        header.length = cut[i].kept;
+        header.bytes[7] = (uint8_t)cut[i].kept; /* a header alone, or nothing of one that is cut off */
+        r = ask("sip:bob@isle");
+        place = r.length;
+        add(&r, more);
+        fault("a wrong length", &r, 5014, place, &header);
+    }
+
+    /* Proxy-Infos go back, last and with zero padding, from a request that is told and from one with a fault. */
+    const Part proxies[] = {text_part(284, 0, "p1.isle"), text_part(284, 0, "another")};
+    const Part public_part = text_part(601, VENDOR, "sip:bob@isle");
+    r = ask("sip:bob@isle");
+    add(&r, proxies[0]);
+    r.bytes[r.length - 1] = 0xFF; /* padding */
+    place = r.length;
+    Request faulty = r;
+    add(&r, proxies[1]);
+    const Expected told = {'B', 2001, 0, document_of(NULL, "1"), NULL, 1, {&proxies[0], &proxies[1]}};
+    brings("proxies", &r, told);
+    add(&faulty, public_part);
+    add(&faulty, proxies[1]);
+    const Expected turned_away = {'B', 5001, place, NULL, &public_part, 1, {&proxies[0], &proxies[1]}};
+    brings("proxies around a fault", &faulty, turned_away);
 
     /* Data-Reference has 4 bytes; Auth-Session-State is 1; the group is Sh's. */
     static const char *const lengths[] = {"", "abc", "abcde", "abcdefgh"};
