@@ -415,10 +415,10 @@ target/cxx/%: examples/%.c examples/load.h examples/fault.h examples/hex.h examp
 # ---- the benchmarks, native on every machine
 ifeq ($(MACHINE),x86_64)
 TUNE := -march=native
-TIMED := $(ARCHIVE)
+TIMED := $(ARCHIVES)
 else
 TUNE := -mcpu=native
-TIMED := target/native/libndushavire.a
+TIMED := target/native/libndushavire_sh.a target/native/libndushavire.a
 endif
 CHECKED := 1-short 16-short 300-short 4096-short 4096-ims 4096-long
 SECOND := 4096-short-2 4096-long-2 4096-short-2-1 4096-short-2-2 4096-short-2-4 4096-long-2-4 4096-alike-2-4 4096-alike-2-1
@@ -450,8 +450,8 @@ else
 	@echo 'Bound lazily: not measured, since programs are linked statically here.'
 endif
 
-target/native/libndushavire.a: bench/native-lib $(PROVED)
-	bench/native-lib ndushavire
+target/native/lib%.a: bench/native-lib $(PROVED)
+	bench/native-lib $*
 
 # The least that a check of a file can do, for any x86-64 or Arm and for this machine's own processor.
 target/bench/sum-plain.o: bench/sum.c
@@ -462,7 +462,7 @@ target/bench/sum-native.o: bench/sum.c
 	mkdir -p $(@D)
 	$(CC) -O3 $(TUNE) -DSUM=sum_native -c -o $@ $<
 
-TIMER := bench/aims.h bench/requests.h bench/samples.h bench/timing.h bench/vectors.h examples/load.h $(HEADER) $(TIMED) target/bench/libreference_c.a
+TIMER := bench/aims.h bench/requests.h bench/samples.h bench/timing.h bench/vectors.h examples/load.h $(HEADER) $(SH_HEADER) $(TIMED) target/bench/libreference_c.a
 SUMS := target/bench/sum-plain.o target/bench/sum-native.o
 
 target/bench/check target/bench/vectors: target/bench/%: bench/%.c $(TIMER) $(SUMS)
