@@ -35,8 +35,9 @@ bytes_of "$tests/captured/scscf-12-sar.hex" >"$room/assignment"
 bytes_of "$tests/captured/mar-33.hex" >"$room/challenge"
 bytes_of "$tests/captured/mar-16.hex" >"$room/rubbish"
 
-# The first display of the page's examples, as C.
-sed -n '/^\.Sh EXAMPLES/,/^\.Ed/{/^\.Bd/,/^\.Ed/p}' "$top/man/ndushavire.3" | sed '/^\./d; s/\\e/\\/g; s/\\&//g' >"$room/source/example.c"
+# The first display of a page's examples, as C.
+shown() { sed -n '/^\.Sh EXAMPLES/,/^\.Ed/{/^\.Bd/,/^\.Ed/p}' "$top/man/$1" | sed '/^\./d; s/\\e/\\/g; s/\\&//g'; } # PAGE
+shown ndushavire.3 >"$room/source/example.c"
 grep -q -F 'ndushavire_decide(' "$room/source/example.c" || fail 'the page has no daemon'
 cp "$top"/examples/{fault,load,store}.h "$room/source/"
 
@@ -49,6 +50,14 @@ tried() { # PROGRAM
 }
 build "$room/source" "$room/daemon"
 tried "$room/daemon"
+# ndushavire_sh(3) has the calls of both libraries in the place of that one: the daemon goes on as before.
+cp -r "$room/source" "$room/both"
+shown ndushavire_sh.3 | sed 's/^/    /' >"$room/both/calls"
+grep -q -F 'ndushavire_sh_decide(' "$room/both/calls" || fail 'the page of Sh has no call'
+sed -i -e "/^    uint64_t word = ndushavire_decide(/,/;\$/{/;\$/r $room/both/calls" -e 'd}' -e 's/^#include <ndushavire.h>/#include <ndushavire_sh.h>/' "$room/both/example.c"
+grep -q '^    if (request_len >= ' "$room/both/example.c" || fail 'the calls of both libraries have no place'
+build "$room/both" "$room/both/daemon"
+tried "$room/both/daemon"
 
 # With one thing left out the run must end with status 1.
 without() { # ABOUT FILE SED..
