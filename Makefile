@@ -51,8 +51,8 @@ help:
 	@sed -n 's/^#: //p' $(firstword $(MAKEFILE_LIST))
 
 # The sample, and four answers of the program answer over it in a form to read: to a header alone, to the question where bob is, to an
-# assignment of erin's line, and to a challenge of her card; and what a voicemail box is told of bob. A program of the kit runs with the kit's own loader and C library, on either
-# machine.
+# assignment of erin's line, and to a challenge of her card; and what a voicemail box is told of bob. A program of the kit runs with the
+# kit's own loader and C library, on either machine.
 PROGRAM = $(RUN) $(KIT)/toolchain/lib/ld-linux-x86-64.so.2 --library-path $(KIT)/toolchain/lib
 SHOWN := examples/no-avps $(addprefix tests/captured/,icscf-20-lir scscf-12-sar mar-33)
 #: run                the sample table and vectors, checked, and five answers from them in a form to read
@@ -158,13 +158,9 @@ voicemail: target/c99/voicemail
 
 COUNT_documents := 2000
 DOCUMENTS = tests/documents.py $(SEED)
-#: documents          2,000 answers of the Sh entry, whose documents an XML parser reads as they were meant
+#: documents          2,000 answers of the Sh entry, whose documents an XML parser reads as they were meant; SEED=N runs a seed again
 documents: target/c99/driver
 	$(DOCUMENTS) $(COUNT_documents) $(DRIVER)
-
-#: parsed             the same of 100,000 answers, half a minute; SEED=N runs a seed again
-parsed: target/c99/driver
-	$(DOCUMENTS) 100000 $(DRIVER)
 
 COUNT_months := 5000
 #: reports            the report beside as many decisions, over 5,000 random files of requests; SEED=N runs a seed again
@@ -253,6 +249,10 @@ cuts: target/c99/takes target/c99/cuts target/c99/take target/c99/cut-take
 	$(RUN) $< $(SEED) 500000
 	$(CUT) '' target/c99/cuts target/c99/take target/c99/cut-take $(SEED) 2000 1000
 	$(CUT) target/test/cuts target/c99/cuts target/c99/take target/c99/cut-take $(SEED) 100 20
+
+#: parsed             100,000 answers of the Sh entry, whose documents an XML parser reads as they were meant, half a minute
+parsed: target/c99/driver
+	$(DOCUMENTS) 100000 $(DRIVER)
 
 # 5,000,000 tables, and as many vector files, calls and calls of Sh. Each round has the next seed: with SEED=N ROUNDS=M a run that was stopped goes on.
 ROUNDS := 50
