@@ -137,7 +137,7 @@ class Tree:
                 if part == 'proofs':
                     self.statements['%s/%s' % (crate, key[2])] = [name for name, stated in found if stated]
                     self.pages |= {'%s/%s' % (crate, key[2])} if PAGE.search(folded(text.partition('\nuse ')[0].replace('--', ''))) else set()
-        self.make, self.kit, self.header = read('Makefile'), read('KIT-ID').strip(), ''.join(map(read, sorted(glob.glob('include/*'))))
+        self.make, self.kit, self.header = read('Makefile'), read('KIT-ID').strip(), read('include/ndushavire.h') + read('include/ndushavire_sh.h')
         self.targets = set(' '.join(re.findall(r'(?m)^\.PHONY: (.*)', self.make)).split())
         self.around = '\n'.join(read(path) for path in glob.glob('examples/*.[ch]') + glob.glob('include/*') + glob.glob('packaging/*'))
         self.edits = {path[len('crates/'):] for path in glob.glob('crates/*/must-fail/*.edit')}
