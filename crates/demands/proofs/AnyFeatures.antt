@@ -56,7 +56,8 @@ module _ (command app peer features other : ℕ) where
   judge-any at (avp a w) seen = rw (rule-any seen a) (on-same (rule that seen a) seen a at _ _ (λ s. judge-any (at + padded (length a)) w s))
 
 -- "reading", of a call
-pub reading-any : (a : Lent) (features other : ℕ) → readIn (dialectIn (withFeatures a features)) (a .request) ≡ readIn (dialectIn (withFeatures a other)) (a .request)
+pub reading-any : (a : Lent) (features other : ℕ)
+    → readIn (dialectIn (withFeatures a features)) (a .request) ≡ readIn (dialectIn (withFeatures a other)) (a .request)
 reading-any a features other =
     read-same (commandOf (a .request)) (a .terms .application) (a .terms .peer) (a .terms .peer) features other (a .request)
     (judge-any (commandOf (a .request)) (a .terms .application) (a .terms .peer) features other 20 (bodyOf (a .request)) nothing)

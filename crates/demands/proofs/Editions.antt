@@ -1,6 +1,7 @@
 -- Reading under the two editions of the base standard: the same, or the newer one blames a 260 for its second Vendor-Id.
 use Rattle.octets.specs.Standard.{ℕ, zero, suc, _+_, _≤_, _<_, List, [], _∷_, none, Bool, true, false, cond, not, _&&_, _||_, true≢false, _≡_, refl, sym}
-use Rattle.octets.specs.Standard.{ap, _∙_, _⊎_, inl, inr, _≢_, arith, length, getD, drop, length-drop, eqb, leb, ltb, eqb-true, eqb-false, leb-true, ltb-true, lt-ltb}
+use Rattle.octets.specs.Standard.{ap, _∙_, _⊎_, inl, inr, _≢_, arith, length, getD, drop, length-drop, eqb, leb, ltb, eqb-true, eqb-false, leb-true}
+use Rattle.octets.specs.Standard.{ltb-true, lt-ltb}
 use Rattle.octets.proofs.All.{and-left, and-right}
 use Rattle.diameter.specs.Avp.{padded, avpFlags, dataOf, reserved, sound}
 use Rattle.diameter.specs.AvpAt.{present, avpAt}
@@ -10,9 +11,8 @@ use Rattle.diameter.specs.Walk.{Walk, ended, faulty, avp, walk}
 use Rattle.diameter.proofs.Walks.{walk-nil}
 use Rattle.reading.specs.Contents.{faultUnless}
 use Rattle.reading.specs.Groups.{vendorId, applicationMembers, membersOf, isOf, fits, membersFitting, gathers, rfc3588, rfc6733, tooOften, groupFault}
-use Rattle.reading.specs.Kinds.{known, unknown, application, kindOf, rowOf, useIn, useOf, isNeeded}
+use Rattle.reading.specs.Kinds.{known, unknown, application, kindOf, rowOf, useIn, useOf}
 use Rattle.reading.specs.Rules.{Seen, contentFault, ruleBy, rule}
-use Rattle.reading.specs.Verdicts.{lackOf}
 use Rattle.reading.specs.declared.Content.{Content}
 use Rattle.reading.specs.declared.Content.the-variants.{Free, Number, Sized, Members}
 use Rattle.reading.specs.declared.Dialect.{Dialect}
@@ -24,7 +24,7 @@ use Rattle.reading.specs.declared.group.Group.{Group}
 use Rattle.reading.specs.declared.group.Group.the-variants.{Application, AuthDataItem, SupportedFeatures}
 use Rattle.requests.specs.Features.{beyondSet}
 use Rattle.requests.specs.Judged.{Judged, bad, fine, nothing, onRule, judge}
-use Rattle.requests.specs.Request.{headerFault, firstOther, missingFrom, missing, complete, readWalk, readIn}
+use Rattle.requests.specs.Request.{headerFault, firstOther, readWalk, readIn}
 use Rattle.deciding.specs.Decide.{judgedBy, decideBy, decide}
 use Rattle.deciding.specs.Plans.{planRead}
 use Rattle.deciding.specs.Rules.{inForce}
@@ -182,7 +182,8 @@ module _ (command app features : ℕ) where
   unfolding rule ruleBy
   too-often seen a s = go (eqb (reserved (avpFlags a)) 0) (present (getD seen (kindOf a) none)) refl refl
     where
-      go : (x y : Bool) → eqb (reserved (avpFlags a)) 0 ≡ x → present (getD seen (kindOf a) none) ≡ y → (rule newer seen a ≡ rule older seen a) ⊎ Unblamed seen a
+      go : (x y : Bool) → eqb (reserved (avpFlags a)) 0 ≡ x → present (getD seen (kindOf a) none) ≡ y
+          → (rule newer seen a ≡ rule older seen a) ⊎ Unblamed seen a
       go false y f g = inl (rw f)
       go true true f g = inl (rw (f, needed rfc6733 a (s .kind), needed rfc3588 a (s .kind), g))
       go true false f g = inr (record { flags = f; before = g; second = s })

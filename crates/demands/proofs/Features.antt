@@ -34,7 +34,7 @@ use Rattle.calling.proofs.Kept.{taken}
 use Rattle.ndushavire.specs.Reads.{callPlace}
 use Rattle.older_rules.specs.WithoutFeatures.{NoFeatures, beforeFeatures}
 use Rattle.demands.specs.Call.{turnedAway}
-use Rattle.demands.specs.Features.{withFeatures, Beyond, unsupportedBody, unsupportedBytes, answersUnsupported, Called, ownList, bodyWith, answerWith}
+use Rattle.demands.specs.Features.{withFeatures, Beyond, unsupportedBody, unsupportedBytes, answersUnsupported, Called, ownList, answerWith}
 use Rattle.demands.specs.Features.{AnsweredWith, ComesTo, holdsMembers}
 use Rattle.demands.specs.Insertion.{Foreign}
 use Rattle.demands.specs.Place.{ruleFault, Blames, blaming}
@@ -85,8 +85,8 @@ module _ (a : Lent) where
   abbrev x : Lent
   x = tableOnly a
 
-  -- "WITH M SET, A REQUEST THAT ASKS FOR A BIT OUTSIDE THE SET, OR FOR ANOTHER LIST OR VENDOR, GETS X5011." The result that a call has, if it is not refused, is
-  -- this one exactly then: reading finds no fault, nothing is missing, and some 628 with M asks for it.
+  -- "WITH M SET, A REQUEST THAT ASKS FOR A BIT OUTSIDE THE SET, OR FOR ANOTHER LIST OR VENDOR, GETS X5011." The result that a call has, if it is not refused,
+  -- is this one exactly then: reading finds no fault, nothing is missing, and some 628 with M asks for it.
   pub beyond-exactly : (resultOf x ≡ Experimental 5011) ↔ Beyond a
   beyond-exactly = (only, given)
     where
@@ -107,8 +107,8 @@ module _ (a : Lent) where
   beyond-served b away =
       ap (overArea (a .table)) (refused-table x (record { seen = b .seen; read = b .read; beyond = beyond-holds a b }) away) ∙ rw (put-same (a .table))
 
-  -- "AFTER THE MISSING-AVP CHECK"; "it is no reading rule, so in demand 3 "AVP unsupported" goes before it": where reading finds a fault, an unknown kind with M
-  -- among them, or misses an AVP, result and place are reading's, and nothing is altered.
+  -- "AFTER THE MISSING-AVP CHECK"; "it is no reading rule, so in demand 3 "AVP unsupported" goes before it": where reading finds a fault, an unknown kind with
+  -- M among them, or misses an AVP, result and place are reading's, and nothing is altered.
   pub reading-first : (v : Verdict) → readIn (dialectIn a) (a .request) ≡ bad v → turnedAway x ≡ false
       → (resultOf x ≡ v .result) × (callPlace (serve a .call) ≡ v .place) × (serve a .table ≡ a .table) × (serve a .vectors ≡ a .vectors)
   unfolding answeredBy
@@ -170,12 +170,13 @@ module _ (a : Lent) where
   pub without-features : NoFeatures (bodyOf (a .request)) → serveBy beforeFeatures a ≡ serve a
   without-features n = ap (overArea (a .table)) (older.without-features x n)
 
-  -- So is it with all features alike. They show in X5011 and in the own list alone: reading finds the same, and where nothing is asked for beyond either of two,
-  -- result and place are the same, and the same is left of area and vectors.
+  -- So is it with all features alike. They show in X5011 and in the own list alone: reading finds the same, and where nothing is asked for beyond either of
+  -- two, result and place are the same, and the same is left of area and vectors.
   pub features-unseen : NoFeatures (bodyOf (a .request)) → (features other : ℕ) → serve (withFeatures a features) ≡ serve (withFeatures a other)
   features-unseen n features other = ap (overArea (a .table)) (any.served-any x n features other)
 
-  pub features-unread : (features other : ℕ) → readIn (dialectIn (withFeatures a features)) (a .request) ≡ readIn (dialectIn (withFeatures a other)) (a .request)
+  pub features-unread : (features other : ℕ)
+      → readIn (dialectIn (withFeatures a features)) (a .request) ≡ readIn (dialectIn (withFeatures a other)) (a .request)
   features-unread = any.reading-any a
 
   pub features-idle : (features other : ℕ) → (Beyond (withFeatures a features) → ⊥) → (Beyond (withFeatures a other) → ⊥)
@@ -197,7 +198,8 @@ module _ (a : Lent) where
       r : Beyond (withFeatures x other) → ⊥
       r b = m (record { seen = b .seen; read = b .read; one = b .one; among = b .among; asks = b .asks })
 
-  -- "A 628 HOLDS THESE THREE 4-BYTE MEMBERS ONCE EACH, ELSE B5004", with the whole 628 in Failed-AVP, and its place: in any command, and how often one came before.
+  -- "A 628 HOLDS THESE THREE 4-BYTE MEMBERS ONCE EACH, ELSE B5004", with the whole 628 in Failed-AVP, and its place: in any command, however often one
+  -- came before.
   pub members-else : (place : ℕ) → ComesTo (dialectIn a) (a .request) place → holdsMembers (avpAt (a .request) place) ≡ false
       → headerFault (dialectIn a) (a .request) ≡ 0 → firstOther (bodyOf (a .request)) ≡ false → turnedAway x ≡ false
       → serve a ≡ blaming a 5004 (avpAt (a .request) place) place

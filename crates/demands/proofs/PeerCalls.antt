@@ -1,5 +1,5 @@
 -- Calls over a table of its exact length under the two editions: the same, if what is read of the request is.
-use Rattle.octets.specs.Standard.{ℕ, List, [], _∷_, Bool, true, false, cond, _||_, true≢false, _≡_, refl, sym, ap, _∙_}
+use Rattle.octets.specs.Standard.{List, [], _∷_, Bool, true, false, cond, _||_, true≢false, _≡_, refl, sym, ap, _∙_}
 use Rattle.diameter.specs.Message.{bodyOf, commandOf}
 use Rattle.reading.specs.Groups.{rfc3588, rfc6733}
 use Rattle.requests.specs.Features.{listCalled}

@@ -23,8 +23,8 @@ use Rattle.demands.proofs.PeerCalls.{reads-same, one-table, away-same, 
 use Rattle.demands.proofs.Place.{place-answer, place-blames}
 
 module _ (a : Lent) where
-  -- "A MESSAGE WITH JUST ONE IS TREATED ALIKE UNDER BOTH". If none of the 260s among the request's AVPs up to its first length fault has two Vendor-Ids, the call
-  -- comes to the same in both editions, and leaves the same area, vectors and buffer. Nothing else is asked of the request: it may have any faults.
+  -- "A MESSAGE WITH JUST ONE IS TREATED ALIKE UNDER BOTH". If none of the 260s among the request's AVPs up to its first length fault has two Vendor-Ids, the
+  -- call comes to the same in both editions, and leaves the same area, vectors and buffer. Nothing else is asked of the request: it may have any faults.
   pub one-vendor : OneVendor (bodyOf (a .request)) → serve (byPeer a rfc6733) ≡ serve (byPeer a rfc3588)
   one-vendor o = ap (overArea (a .table)) (one-table (tableOnly a) o)
 

@@ -37,8 +37,8 @@ module _ (x : Lent) where
   answer = answered x (decision x (checkValue (checkOf x)))
 
   -- What holds of 5, and of each that returns 0 besides, holds of all seven.
-  seven : (Q : Trial → Type 0) → ((h : Bool) (n : ℕ) → 1 ≤ n → (n ≤ 6) ⊎ (n ≡ 12) → n ≢ 5 → Q (record { holds = h; number = n; besides = 0 })) → Q (unsound (checkOf x))
-      → All Q (trials x)
+  seven : (Q : Trial → Type 0) → ((h : Bool) (n : ℕ) → 1 ≤ n → (n ≤ 6) ⊎ (n ≡ 12) → n ≢ 5 → Q (record { holds = h; number = n; besides = 0 }))
+      → Q (unsound (checkOf x)) → All Q (trials x)
   seven Q o f = (
     o _ 12 (omega arith) (inr refl) (omega arith),
     (
@@ -199,7 +199,8 @@ refused-alike x req other a b c e =
     rw (a, b, c) (tried-alike (refused (asking x other)) (answer (asking x req)) (answer (asking x other)) (trials (asking x other)) e)
 
 -- what the first five let pass is refused by 5, over a table whose check answers a bad block
-pub unsound-refused : (x : Lent) (k : ℕ) → anyHolds (earlyTrials (x .terms) (x .request) (x .buffer)) ≡ false → checkOf x ≡ Bad k → serveTable x .call ≡ Refused 5 k
+pub unsound-refused : (x : Lent) (k : ℕ) → anyHolds (earlyTrials (x .terms) (x .request) (x .buffer)) ≡ false → checkOf x ≡ Bad k
+    → serveTable x .call ≡ Refused 5 k
 unfolding serveTableBy serveFound anyHolds tried refused
 unsound-refused x k none e =
     rw e

@@ -6,10 +6,8 @@ use Rattle.octets.specs.Name.{same}
 use Rattle.octets.proofs.Names.{same-eq, same-yes, same-no}
 use Rattle.blocks.specs.Blocks.{blockOf}
 use Rattle.blocks.specs.Changed.{isOne}
-use Rattle.blocks.specs.declared.Checked.{Checked}
 use Rattle.blocks.specs.declared.Checked.the-variants.{Sound}
 use Rattle.table.specs.Named.{privateAt}
-use Rattle.table.specs.SoundTable.{SoundTable}
 use Rattle.vectors.specs.Chosen.{unusedHere, unusedAt, unusedOf, packed}
 use Rattle.vectors.specs.Scheme.{scheme}
 use Rattle.vectors.specs.Sendable.{countFrom}
@@ -35,7 +33,7 @@ use Rattle.deciding.specs.Plans.{marPlan, planRead}
 use Rattle.deciding.specs.Decide.{performedBy, judgedBy, decideBy}
 use Rattle.deciding.proofs.Tests.{either}
 use Rattle.calling.specs.Lent.{Lent, dialectIn}
-use Rattle.calling.specs.Serve.{checkOf, checkValue, decision, resultOf}
+use Rattle.calling.specs.Serve.{checkOf, decision, resultOf}
 use Rattle.demands.specs.Call.{Decides}
 use Rattle.demands.specs.Sets.{Stands, Belongs}
 use Rattle.demands.specs.Unable.{AllUsed, NoneToSend}

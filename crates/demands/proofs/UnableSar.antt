@@ -5,10 +5,8 @@ use Rattle.octets.specs.Standard.{arith, length}
 use Rattle.octets.proofs.All.{and-left}
 use Rattle.octets.proofs.Names.{same-eq, same-refl, same-yes, same-no}
 use Rattle.blocks.specs.Changed.{isOne}
-use Rattle.blocks.specs.declared.Checked.{Checked}
 use Rattle.blocks.specs.declared.Checked.the-variants.{Sound}
 use Rattle.table.specs.Named.{privateAt}
-use Rattle.table.specs.SoundTable.{SoundTable}
 use Rattle.lookup.specs.Find.{isAt, findPublic, findPrivate}
 use Rattle.lookup.specs.declared.Found.{Found}
 use Rattle.lookup.specs.declared.Found.the-variants.{At, Nothing}
@@ -41,7 +39,7 @@ use Rattle.deciding.specs.Plans.{assignmentOf, sarPlan, planRead}
 use Rattle.deciding.specs.Decide.{performedBy, judgedBy, decideBy}
 use Rattle.deciding.proofs.Tests.{either}
 use Rattle.calling.specs.Lent.{Lent, dialectIn}
-use Rattle.calling.specs.Serve.{checkOf, checkValue, decision, resultOf}
+use Rattle.calling.specs.Serve.{checkOf, resultOf}
 use Rattle.demands.specs.Call.{Decides}
 use Rattle.demands.specs.Sets.{Stands, Belongs}
 use Rattle.demands.specs.Unable.{StoresOther}

@@ -1,5 +1,5 @@
 -- X5011 is given before all decisions, and by none of them: what a request that is decided upon comes to is another result.
-use Rattle.octets.specs.Standard.{ℕ, List, [], _∷_, Bool, true, false, cond, not, _&&_, true≢false, _≡_, refl, sym, ap, _∙_, eqb}
+use Rattle.octets.specs.Standard.{ℕ, List, [], _∷_, Bool, true, false, not, _&&_, true≢false, _≡_, refl, sym, ap, _∙_, eqb}
 use Rattle.vectors.specs.declared.choice.Sent.{Sent}
 use Rattle.lookup.specs.Find.{findServer}
 use Rattle.lookup.specs.declared.Found.{Found}
@@ -22,7 +22,7 @@ use Rattle.choices.specs.declared.choice.Choice.{Choice}
 use Rattle.choices.specs.declared.choice.Choice.the-variants.{Alone, Server, Capabilities, First}
 use Rattle.choices.specs.declared.choice.Sought.{Sought}
 use Rattle.choices.specs.declared.plan.Finding.{Finding}
-use Rattle.choices.specs.declared.plan.Finding.the-variants.{Denied, Fine}
+use Rattle.choices.specs.declared.plan.Finding.the-variants.{Fine}
 use Rattle.choices.specs.declared.plan.Plan.{Plan}
 use Rattle.choices.specs.declared.plan.Sar.{Sar}
 use Rattle.choices.specs.declared.plan.Survey.{Survey}

@@ -7,17 +7,15 @@ use Rattle.diameter.specs.Avp.{avpFlags, dataOf, reserved, marked}
 use Rattle.diameter.specs.AvpAt.{present}
 use Rattle.diameter.specs.Message.{bodyOf}
 use Rattle.diameter.specs.Walk.{Walk, ended, faulty, avp, walk, someAvp, behindFirst}
-use Rattle.reading.specs.Features.{isFeatures, bitOf, clearOrIn, bitOutside, memberValue, asksOther, asks, asksBeyond, passes, callsList}
+use Rattle.reading.specs.Features.{isFeatures, bitOf, clearOrIn, bitOutside, asksOther, asks, asksBeyond, passes, callsList}
 use Rattle.reading.specs.Groups.{featureMembers, membersOf, gathers, tooOften, groupFault}
 use Rattle.reading.specs.Kinds.{known, kindOf, rowOf, useIn, useOf, supportedFeatures}
-use Rattle.reading.specs.Rules.{Seen, contentFault, ofContent, ofUse, ruleBy, rule}
+use Rattle.reading.specs.Rules.{Seen, contentFault, ofContent, ruleBy, rule}
 use Rattle.reading.specs.declared.Dialect.{Dialect}
-use Rattle.reading.specs.declared.Ruled.{Ruled}
-use Rattle.reading.specs.declared.Ruled.the-variants.{Taken, Skipped, Fault}
+use Rattle.reading.specs.declared.Ruled.the-variants.{Taken, Fault}
 use Rattle.reading.specs.declared.Use.{Use}
 use Rattle.reading.specs.declared.Use.the-variants.{Repeated}
-use Rattle.reading.specs.declared.Terms.{Terms}
-use Rattle.requests.specs.Features.{beyondSet, calledIn, listCalled}
+use Rattle.requests.specs.Features.{beyondSet, listCalled}
 use Rattle.requests.specs.Judged.{fine}
 use Rattle.requests.specs.Request.{headerFault, readIn}
 use Rattle.calling.specs.Lent.{Lent, dialectIn}

@@ -1,23 +1,21 @@
 -- Supported-Features: the removal with one, by a server that supports bits 0 and 2; the theorems of its page at it, computed.
-use Rattle.octets.specs.Standard.{ℕ, _≤_, _≡_, refl, sym, ap, _∙_, _≢_, inr, List, [], _∷_, _++_, some, length, set, true, false, true≢false, arith, lit≤}
+use Rattle.octets.specs.Standard.{ℕ, _≤_, _≡_, refl, sym, ap, _∙_, _≢_, inr, List, [], _∷_, _++_, some, length, set, false, true≢false, arith, lit≤}
 use Rattle.octets.specs.Standard.{lit<}
 use Rattle.blocks.specs.declared.Checked.the-variants.{Sound}
 use Rattle.diameter.specs.AvpAt.{avpAt}
 use Rattle.diameter.specs.Message.{bodyOf}
 use Rattle.diameter.specs.Put.{Piece}
-use Rattle.diameter.specs.Walk.{walk, behindFirst}
 use Rattle.pen.specs.Bytes.{headBytes, wordBytes, vendorHead, numberBytes, vendorNumber}
-use Rattle.pen.specs.Groups.{experimental, failed, ownFeatures}
+use Rattle.pen.specs.Groups.{experimental, ownFeatures}
 use Rattle.reading.specs.Kinds.{kindOf, supportedFeatures}
 use Rattle.reading.specs.Rules.{Seen, ruleBy}
 use Rattle.reading.specs.Verdicts.{faultAt}
 use Rattle.reading.specs.declared.Outcome.the-variants.{Base, Experimental}
 use Rattle.reading.specs.declared.Use.the-variants.{Needed}
-use Rattle.requests.specs.Features.{listCalled}
 use Rattle.requests.specs.Judged.{Judged, bad, fine, nothing}
 use Rattle.requests.specs.Request.{dialectOf, underCx, readIn}
-use Rattle.calling.specs.Lent.{Lent, lent, tableOnly, dialectIn}
-use Rattle.calling.specs.Serve.{Served, answerOf, decided, resultOf, serveBy, serve}
+use Rattle.calling.specs.Lent.{Lent, lent, tableOnly}
+use Rattle.calling.specs.Serve.{answerOf, decided, resultOf, serveBy, serve}
 use Rattle.calling.specs.Trial.{anyHolds}
 use Rattle.calling.proofs.Areas.{serve-sound}
 use Rattle.ndushavire.specs.Reads.{callPlace}
@@ -25,9 +23,9 @@ use Rattle.older_rules.specs.WithoutFeatures.{NoFeatures, beforeFeatures}
 use Rattle.worked_examples.proofs.Computed.{knownTrials, come, held, roomy, no-vectors}
 use Rattle.worked_examples.proofs.Sample.{room, answer, s}
 use Rattle.demands.specs.Call.{turnedAway}
-use Rattle.demands.specs.Features.{withFeatures, Among, here, later, Beyond, answersUnsupported, Called, ownList, answerWith, AnsweredWith, ComesTo}
+use Rattle.demands.specs.Features.{withFeatures, here, later, Beyond, answersUnsupported, Called, ownList, answerWith, AnsweredWith, ComesTo}
 use Rattle.demands.specs.Place.{first, pastTaken, blaming}
-use Rattle.demands.specs.Insertion.{requestOf, Quiet, Inserted, keep, put, putBefore, placeNow, placed}
+use Rattle.demands.specs.Insertion.{requestOf, Quiet, Inserted, keep, put, placeNow, placed}
 use Rattle.demands.proofs.Demands.{demand-3-unmarked}
 use Rattle.demands.proofs.Wanting.{beyond-holds, called-holds}
 use Rattle.instances.proofs.Asked.{table, removed, head, session, rest, sar, comes, plain, loud, all, isWhole, allWhole, all-whole, kept, of-area}

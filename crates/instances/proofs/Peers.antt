@@ -21,7 +21,8 @@ use Rattle.demands.specs.Peers.{byPeer, vendorIds, OneVendor, ComesTo, ToldApar
 use Rattle.demands.proofs.Demands.{demand-3-unmarked}
 use Rattle.demands.proofs.Editions.{oneVendor, one-says}
 use Rattle.demands.proofs.Peers.{one-vendor, second-told, several-pass, peers-differ, peer-exactly, peer-refused}
-use Rattle.instances.proofs.Asked.{removed, base, head, session, common, own, sar, asked, comes, blamed, plain, all, isWhole, allWhole, all-whole, kept, of-area}
+use Rattle.instances.proofs.Asked.{removed, base, head, session, common, own, sar, asked, comes, blamed, plain, all, isWhole, allWhole, all-whole}
+use Rattle.instances.proofs.Asked.{kept, of-area}
 use Rattle.instances.proofs.Calls.{sound-table}
 
 -- one Vendor-Id: the same under both

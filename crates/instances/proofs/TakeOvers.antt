@@ -2,7 +2,7 @@
 use Rattle.octets.specs.Standard.{ℕ, true, false, _≡_, refl, ap, _∙_, List, [], arith, eqb, ltb, ne-eqb, lt-ltb, lit<, lit≤}
 use Rattle.record.specs.Fields.{countOf}
 use Rattle.blocks.specs.Blocks.{blockOf}
-use Rattle.blocks.specs.declared.Checked.the-variants.{Sound, Bad}
+use Rattle.blocks.specs.declared.Checked.the-variants.{Sound}
 use Rattle.table.specs.Area.{checkArea}
 use Rattle.taking.specs.TakeOver.{takeOver}
 use Rattle.taking.specs.Torn.{lowerBlock}

@@ -1,5 +1,5 @@
 -- 02 [11]: a request without Supported-Features is served as before, whatever the set. What the rules were is in specs/WithoutFeatures.
-use Rattle.octets.specs.Standard.{ℕ, _+_, List, [], append-nil, Bool, true, false, cond, _&&_, _||_, true≢false, _≡_, refl, sym, ap, _∙_, length, eqb}
+use Rattle.octets.specs.Standard.{ℕ, _+_, List, [], append-nil, Bool, true, false, _&&_, _||_, _≡_, refl, sym, _∙_, length, eqb}
 use Rattle.blocks.specs.Blocks.{blockOf}
 use Rattle.diameter.specs.Avp.{padded}
 use Rattle.diameter.specs.Message.{bodyOf}
@@ -9,13 +9,12 @@ use Rattle.pen.specs.Groups.{ownFeatures}
 use Rattle.reading.specs.Features.{isFeatures, asksBeyond, callsList}
 use Rattle.reading.specs.Rules.{Seen, rule}
 use Rattle.reading.specs.declared.Dialect.{Dialect}
-use Rattle.reading.specs.declared.Outcome.{Outcome}
 use Rattle.reading.specs.declared.Ruled.{Ruled}
 use Rattle.reading.specs.declared.Ruled.the-variants.{Taken, Skipped, Fault}
 use Rattle.reading.specs.declared.Terms.{Terms}
 use Rattle.requests.specs.Features.{beyondSet, calledIn, listCalled}
 use Rattle.requests.specs.Judged.{Judged, nothing, onRule, judge}
-use Rattle.requests.specs.Request.{dialectOf, headerFault, firstOther, readWalk, readIn}
+use Rattle.requests.specs.Request.{dialectOf, headerFault, readWalk, readIn}
 use Rattle.choices.specs.declared.Given.{Given}
 use Rattle.reply.specs.Pieces.{originBytes, listBytes, topBytes}
 use Rattle.answering.specs.Answer.{bodyBytes, answerBytes}

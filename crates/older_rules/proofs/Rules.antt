@@ -1,5 +1,5 @@
 -- Rules that check a table alike, decide alike over a sound one, and say so alike, are one call.
-use Rattle.octets.specs.Standard.{ℕ, List, _≡_, refl, length}
+use Rattle.octets.specs.Standard.{ℕ, _≡_, refl, length}
 use Rattle.blocks.specs.declared.Checked.{Checked}
 use Rattle.blocks.specs.declared.Checked.the-variants.{Sound, Bad}
 use Rattle.reading.specs.Rules.{Seen}

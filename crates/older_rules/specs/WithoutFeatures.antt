@@ -16,11 +16,10 @@ use Rattle.reading.specs.Kinds.{sessionId}
 use Rattle.reading.specs.Rules.{Seen, ruleBy, rule}
 use Rattle.reading.specs.Verdicts.{faultAt, faultOf, lackOf}
 use Rattle.reading.specs.declared.Dialect.{Dialect}
-use Rattle.reading.specs.declared.Outcome.{Outcome}
 use Rattle.reading.specs.declared.Ruled.{Ruled}
 use Rattle.reading.specs.declared.Terms.{Terms}
 use Rattle.reading.specs.declared.Use.the-variants.{Unknown}
-use Rattle.requests.specs.Judged.{Judged, bad, fine, nothing, onRule, judge}
+use Rattle.requests.specs.Judged.{Judged, bad, fine, nothing, onRule}
 use Rattle.requests.specs.Request.{headerFault, firstOther, complete, sessionOf}
 use Rattle.choices.specs.declared.Given.{Given}
 use Rattle.reply.specs.Pieces.{frontBytes, originBytes, headerBytes}

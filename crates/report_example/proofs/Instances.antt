@@ -1,5 +1,5 @@
 -- Each theorem of the numbers has an instance: its hypotheses are met by the small month, or by a part of it.
-use Rattle.octets.specs.Standard.{ℕ, _+_, _%_, _^_, _≤_, _<_, max, true, List, [], _∷_, _++_, _≡_, refl, sym, ap, _∙_, inl, inr, arith, length, getD, take}
+use Rattle.octets.specs.Standard.{ℕ, _+_, _%_, _^_, _≤_, _<_, max, List, [], _∷_, _++_, _≡_, refl, sym, ap, _∙_, inl, inr, arith, length, getD, take}
 use Rattle.octets.specs.Standard.{drop, drop-at, lit≤, lit<}
 use Rattle.octets.specs.Run.{over}
 use Rattle.blocks.specs.Blocks.{blockOf}

@@ -143,8 +143,10 @@ unfolding unspent cards
 unspent-cards =
     let x = lent mar idle [] fresh room (underCx 3588 0) in
     ap (unspent cards) cards-requests
-    ∙ ap (λ (y : Lent). eventOf y ∷ eventOf (tableOnly (lent mar (serve x .table) [] fresh (serve x .buffer) (underCx 3588 0))) ∷ []) (only-sound x 1 idle-sound)
-    ∙ ap (λ (s : Served). eventOf x ∷ eventOf (tableOnly (lent mar (s .table) [] fresh (s .buffer) (underCx 3588 0))) ∷ []) (serve-sound x 1 idle-sound ∙ sent-comes)
+    ∙ ap (λ (y : Lent). eventOf y ∷ eventOf (tableOnly (lent mar (serve x .table) [] fresh (serve x .buffer) (underCx 3588 0))) ∷ [])
+    (only-sound x 1 idle-sound)
+    ∙ ap (λ (s : Served). eventOf x ∷ eventOf (tableOnly (lent mar (s .table) [] fresh (s .buffer) (underCx 3588 0))) ∷ [])
+    (serve-sound x 1 idle-sound ∙ sent-comes)
     ∙ ap (λ (y : Lent). eventOf x ∷ eventOf y ∷ []) (only-sound (lent mar named [] fresh sent (underCx 3588 0)) 1 named-sound)
     ∙ rw (sent-counts, again-counts)
 

@@ -12,7 +12,7 @@ use Rattle.counting.specs.Counted.{howMany}
 use Rattle.counting.specs.declared.Event.{Event}
 use Rattle.calling.specs.Lent.{Lent, asking}
 use Rattle.calling.specs.Trial.{anyHolds}
-use Rattle.calling.specs.Serve.{unknownPeer, smallBuffer, checkOf, checkValue, answered, answeredBy, resultOf, serveTable}
+use Rattle.calling.specs.Serve.{unknownPeer, smallBuffer, checkOf, checkValue, answeredBy, resultOf, serveTable}
 use Rattle.calling.proofs.Kept.{table-checked, vectors-checked, taken}
 use Rattle.demands.specs.Call.{turnedAway}
 use Rattle.demands.specs.Frame.{succeeds}

@@ -1,5 +1,5 @@
 -- A report under the two editions of the base standard: the same, if no request of the file has a 260 with two Vendor-Ids.
-use Rattle.octets.specs.Standard.{ℕ, List, [], _∷_, cond, _≡_, refl, ap, _∙_, length, ltb}
+use Rattle.octets.specs.Standard.{ℕ, List, [], _∷_, _≡_, refl, ap, _∙_}
 use Rattle.diameter.specs.Message.{bodyOf}
 use Rattle.diameter.specs.Put.{All}
 use Rattle.reading.specs.Groups.{rfc3588, rfc6733}
@@ -7,11 +7,11 @@ use Rattle.rewrite.specs.Change.{alteredUpTo}
 use Rattle.counting.specs.declared.Event.{Event}
 use Rattle.calling.specs.Call.{Call, Answered, Refused}
 use Rattle.calling.specs.Lent.{Lent, asking, tableOnly}
-use Rattle.calling.specs.Serve.{Served, checkOf, checkValue, resultOf, serveTable}
+use Rattle.calling.specs.Serve.{Served, checkOf, checkValue, serveTable}
 use Rattle.demands.specs.Peers.{byPeer, OneVendor}
 use Rattle.demands.proofs.PeerCalls.{one-table, one-result}
 use Rattle.reporting.specs.Row.{recordsAltered, eventBy, eventOf, next, row, left}
-use Rattle.reporting.specs.Report.{Reported, requestsOf, wordsOf, ran, reportedTable, reportBack, reported}
+use Rattle.reporting.specs.Report.{requestsOf, wordsOf, ran, reportedTable, reportBack, reported}
 
 -- what a report makes of a call
 event-same : (x : Lent) → OneVendor (bodyOf (x .request)) → eventOf (byPeer x rfc6733) ≡ eventOf (byPeer x rfc3588)

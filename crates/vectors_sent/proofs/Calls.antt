@@ -4,7 +4,7 @@ use Rattle.vectors.specs.Chosen.{unusedOf, sentOf}
 use Rattle.vectors.specs.Marked.{spent}
 use Rattle.vectors.specs.VectorFile.{SoundVectors}
 use Rattle.calling.specs.Lent.{Lent, dialectIn}
-use Rattle.calling.specs.Trial.{anyHolds, Trial}
+use Rattle.calling.specs.Trial.{anyHolds}
 use Rattle.calling.specs.Serve.{checkOf, trials, refused, answeredBy, serveTable, checkValue, decided}
 use Rattle.calling.proofs.Kept.{taken, serve-either, answered-is}
 use Rattle.vectors_sent.specs.Sent.{sentBy, Challenges, userOf, askedBy}

@@ -464,9 +464,9 @@ listed o = take 56 (drop 116 o)
 abbrev Unsupported : Lent → Type 0
 Unsupported x = serve x ≡ leaves 192 0 (one 0 1 s) (answer (experimental 5011) (ownFeatures 5))
 
-otherwise-fails : (f : Server) (n : ℕ) {x : Lent} → Unsupported x → verdict 32 (f n x .buffer) ≢ experimental 5011 → Meets f n x → ⊥
+unlike-it : (f : Server) (n : ℕ) {x : Lent} → Unsupported x → verdict 32 (f n x .buffer) ≢ experimental 5011 → Meets f n x → ⊥
 unfolding opened verdict
-otherwise-fails f n e h p = h (ap (verdict 32) (buffer-given f n e p))
+unlike-it f n e h p = h (ap (verdict 32) (buffer-given f n e p))
 
 -- a bit outside the set
 wanted-served : Unsupported (wishing want)
@@ -475,7 +475,7 @@ wanted-served = supported 5 (assignmentWith want 5 s) refl
 
 -- 21. one that gives anything but X5011 for it, as one that ignores M
 unmarked-fails : (f : Server) (n : ℕ) → verdict 32 (f n (wishing want) .buffer) ≢ experimental 5011 → Meets f n (wishing want) → ⊥
-unmarked-fails f n h p = otherwise-fails f n wanted-served h p
+unmarked-fails f n h p = unlike-it f n wanted-served h p
 
 -- 22. one that alters the record all the same
 altering-fails : (f : Server) (n : ℕ) → f n (wishing want) .table ≢ one 0 1 s → Meets f n (wishing want) → ⊥
@@ -502,7 +502,7 @@ unfolding opened supporting otherVendor
 other-vendor-served = supported 5 (assignmentWith otherVendor 5 s) refl
 
 bitless-fails : (f : Server) (n : ℕ) → verdict 32 (f n (wishing otherVendor) .buffer) ≢ experimental 5011 → Meets f n (wishing otherVendor) → ⊥
-bitless-fails f n h p = otherwise-fails f n other-vendor-served h p
+bitless-fails f n h p = unlike-it f n other-vendor-served h p
 
 otherList : List ℕ
 otherList = feature 192 10415 2 0
@@ -512,7 +512,7 @@ unfolding opened supporting otherList
 other-list-served = supported 5 (assignmentWith otherList 5 s) refl
 
 other-list-fails : (f : Server) (n : ℕ) → verdict 32 (f n (wishing otherList) .buffer) ≢ experimental 5011 → Meets f n (wishing otherList) → ⊥
-other-list-fails f n h p = otherwise-fails f n other-list-served h p
+other-list-fails f n h p = unlike-it f n other-list-served h p
 
 -- 27. one that decides before X5011: for an identity in no record (X5001), 28. for none (the SAR's B5005), and 29. for two (its B5009)
 stranger : Lent
@@ -523,7 +523,7 @@ unfolding opened supporting want stranger
 stranger-served = supported 5 (stranger .request) refl
 
 deciding-fails : (f : Server) (n : ℕ) → verdict 32 (f n stranger .buffer) ≢ experimental 5011 → Meets f n stranger → ⊥
-deciding-fails f n h p = otherwise-fails f n stranger-served h p
+deciding-fails f n h p = unlike-it f n stranger-served h p
 
 nobody : Lent
 nobody = registering want
@@ -533,7 +533,7 @@ unfolding opened supporting want nobody
 nobody-served = supported 5 (nobody .request) refl
 
 needing-fails : (f : Server) (n : ℕ) → verdict 32 (f n nobody .buffer) ≢ experimental 5011 → Meets f n nobody → ⊥
-needing-fails f n h p = otherwise-fails f n nobody-served h p
+needing-fails f n h p = unlike-it f n nobody-served h p
 
 couple : Lent
 couple = registering (want ++ (vendorBytes 601 (0x61 ∷ []) ++ vendorBytes 601 (0x62 ∷ [])))
@@ -543,7 +543,7 @@ unfolding opened supporting want couple
 couple-served = supported 5 (couple .request) refl
 
 several-fails : (f : Server) (n : ℕ) → verdict 32 (f n couple .buffer) ≢ experimental 5011 → Meets f n couple → ⊥
-several-fails f n h p = otherwise-fails f n couple-served h p
+several-fails f n h p = unlike-it f n couple-served h p
 
 -- 30. one that marks a vector for a MAR that gets X5011
 demanding : Lent
