@@ -29,16 +29,16 @@
 extern "C" {
 #endif
 
-#define NDUSHAVIRE_SH_APPLICATION 16777217       /* the Sh interface's, in the header of each of its messages */
-#define NDUSHAVIRE_SH_USER_DATA 306              /* the command of a User-Data-Request */
-#define NDUSHAVIRE_SH_REGISTRATION_STATE 11      /* a Data-Reference (703): IMSUserState */
-#define NDUSHAVIRE_SH_SERVER_NAME 12             /* another: SCSCFName; every other one gets X5100 */
+#define NDUSHAVIRE_SH_APPLICATION 16777217     /* Sh, in a message's header and for the daemon's Capabilities-Exchange */
+#define NDUSHAVIRE_SH_USER_DATA 306            /* the command of a User-Data-Request */
+#define NDUSHAVIRE_SH_STATE 11                 /* a Data-Reference (703): IMSUserState, the registration state */
+#define NDUSHAVIRE_SH_SERVER_NAME 12           /* another: SCSCFName, if a name is stored; every other one gets X5100 */
 
 /* The registration state that is told, the number in IMSUserState. A line that is registered and pending besides is told as registered. */
-#define NDUSHAVIRE_SH_NOT_REGISTERED 0           /* state 0, not pending */
-#define NDUSHAVIRE_SH_REGISTERED 1               /* state 1 */
-#define NDUSHAVIRE_SH_UNREGISTERED_SERVICES 2    /* state 2: not registered, and a call server is kept for it */
-#define NDUSHAVIRE_SH_AUTHENTICATION_PENDING 3   /* state 0, pending */
+#define NDUSHAVIRE_SH_NOT_REGISTERED 0         /* state 0, not pending */
+#define NDUSHAVIRE_SH_REGISTERED 1             /* state 1 */
+#define NDUSHAVIRE_SH_UNREGISTERED_SERVICES 2  /* state 2: not registered, and a call server is kept for it */
+#define NDUSHAVIRE_SH_AUTHENTICATION_PENDING 3 /* state 0, pending */
 
 /* Answers one User-Data-Request and alters nothing but the answer. The word's value is the answer's length, and its place says which AVP of the request
  * is at fault, as with ndushavire_decide; the buffer's bytes past the answer stay as they were.
