@@ -7,7 +7,7 @@
   which module or crate (`crate/Module`: `name`; `name` in `file`; `module::name`), it stands there.
 - The tables of docs/ARCHITECTURE.md name every theorem of the pages of statements, each in the table of its request, and say in every row what is proved.
 - docs/PROVED.md names every must-fail edit, every wrong server and every wrong reporter.
-- Functions, constants and options of the manual pages are those of the header and the examples.
+- Functions, constants and options of the manual pages are those of the headers and the examples.
 - Of docs/LANDINGS.md, which is history, only the newest note is read, and there no sentence that tells what was; but that note, and that of each request,
   tells the check's time."""
 import functools, glob, os, re, sys

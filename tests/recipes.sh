@@ -109,8 +109,8 @@ await() { # FILE PATTERN ABOUT
 mkdir -p "$bin" "$tree/target/c" "$tree/target/c99" "$tree/target/staticlib"
 ln -s "$top/examples" "$top/include" "$top/tests" "$tree/"
 ln -s "$top/target/c/maketable" "$tree/target/c/"
-ln -s "$top/target/staticlib/libndushavire.a" "$tree/target/staticlib/"
-for name in check decide; do wrap "$tree/target/c99/$name" "${RUN-} '$top/target/c99/$name'"; done
+ln -s "$top/target/staticlib/libndushavire"{,_sh}.a "$tree/target/staticlib/"
+for name in check decide userdata; do wrap "$tree/target/c99/$name" "${RUN-} '$top/target/c99/$name'"; done
 compiler="$(command -v "$1") ${*:2}"
 for name in cc gcc; do wrap "$bin/$name" "$compiler"; done
 printf '#!/bin/sh\nexec %s +%%s-%%N\n' "$(command -v date)" >"$bin/date" # no two switches have one date
