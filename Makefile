@@ -13,7 +13,7 @@ endif
 .DELETE_ON_ERROR:
 export PYTHONDONTWRITEBYTECODE := 1
 .PHONY: help run test quick clean fmt kit pages header examples tables texts aims stores programs reference installs cited narrow bench stack installable install uninstall
-.PHONY: sees unsound reports moves takes cuts recipes daemon peers differential noticed soak mutants stats definitions-check cases
+.PHONY: sees sh unsound reports moves takes cuts recipes daemon peers differential noticed soak mutants stats definitions-check cases
 
 MACHINE := $(shell uname -m)
 ifeq ($(MACHINE),x86_64)
@@ -34,6 +34,7 @@ RT := mkdir -p target && flock target/rt.lock rt
 
 STRICT := -O2 -Wall -Wextra -pedantic -Werror -Iinclude
 ARCHIVE := target/staticlib/libndushavire.a
+ARCHIVE_SH := target/staticlib/libndushavire_sh.a
 HEADER := include/ndushavire.h
 BINARY := reference/target/release/reference
 PROVED := crates.txt $(shell find crates -name '*.rt' -o -name '*.antt' -o -type d)
@@ -69,8 +70,8 @@ target/bin/%: $(PROVED)
 	touch $@
 
 # The parts of make test, the longest first. What they need is made before, once, and what needs the archive waits for it alone.
-PARTS := stores differential daemon reference tables narrow texts examples installs recipes cited programs noticed takes pages kit fmt header aims unsound reports moves sees
-MADE := $(ARCHIVE) $(BINARY)
+PARTS := stores differential daemon reference tables narrow texts examples installs recipes cited programs noticed takes pages kit fmt header aims unsound reports moves sees sh
+MADE := $(ARCHIVE) $(ARCHIVE_SH) $(BINARY)
 JOBS := $(shell nproc)
 #: test               every test from fmt to noticed below, as many at a time as there are processors (JOBS=N): 3 to 5 minutes on two once all is proved
 test:
@@ -90,6 +91,13 @@ fmt:
 #: sees               whether the second library's crates use of the first one's only the promises
 sees:
 	tests/sees.sh
+
+#: sh                 User-Data-Requests over the sample, by a program that links both archives
+sh: target/c99/sh target/c/maketable
+	@mkdir -p target/test/sh
+	target/c/maketable table examples/households.txt >target/test/sh/table
+	target/c/maketable profile examples/households.txt >target/test/sh/profile
+	$(RUN) $< target/test/sh/table target/test/sh/profile
 
 #: kit                whether .ci/run refuses another kit than the one that is pinned in KIT-ID
 kit:
@@ -277,6 +285,9 @@ cases: $(BINARY)
 $(ARCHIVE): $(PROVED)
 	$(RT) staticlib ndushavire
 
+$(ARCHIVE_SH): $(PROVED)
+	$(RT) staticlib ndushavire_sh
+
 $(BINARY): $(REFERENCE)
 	cd reference && cargo build --offline --release --quiet
 	touch $@
@@ -345,6 +356,10 @@ target/narrow/driver target/narrow/decide: tests/narrow.c $(HEADER) $(ARCHIVE)
 target/c99/version: tests/version.c $(HEADER) $(ARCHIVE)
 	mkdir -p $(@D)
 	$(X86_CC) -std=c99 $(STRICT) -o $@ $< $(ARCHIVE)
+
+target/c99/sh: tests/sh.c examples/load.h $(HEADER) include/ndushavire_sh.h $(ARCHIVE_SH) $(ARCHIVE)
+	mkdir -p $(@D)
+	$(X86_CC) -std=c99 $(STRICT) -o $@ $< $(ARCHIVE_SH) $(ARCHIVE)
 
 target/c99/unsound: tests/unsound.c bench/requests.h $(HEADER) $(ARCHIVE)
 	mkdir -p $(@D)
