@@ -214,12 +214,12 @@ module _ (a : Lent) where
 
   -- .. and one that does is at fault in no command, however often one came before: no call is answered with its place.
   pub members-pass : (place : ℕ) → ComesTo (dialectIn a) (a .request) place → holdsMembers (avpAt (a .request) place) ≡ true
-      → headerFault (dialectIn a) (a .request) ≡ 0 → callPlace (serve a .call) ≢ place
-  members-pass place c m h e =
-      let r : rule (dialectIn a) (c .seen) (avpAt (a .request) place) ≡ Taken =
-      rule-is (dialectIn a) (avpAt (a .request) place) (c .kind) (of-cx (dialectIn a) (a .request) h) (c .seen) ∙ rw (c .flags, m) in
+      → callPlace (serve a .call) ≢ place
+  members-pass place c m e =
       let l = reaches-least (dialectIn a) (a .request) (c .reached) in
       let b = place-blames a (λ z. omega (arith, e, z, l .0)) in
+      let r : rule (dialectIn a) (c .seen) (avpAt (a .request) place) ≡ Taken =
+      rule-is (dialectIn a) (avpAt (a .request) place) (c .kind) (of-cx (dialectIn a) (a .request) (b .fault .header)) (c .seen) ∙ rw (c .flags, m) in
       faults.taken-passes (dialectIn a) (a .request) place (c .seen) (c .reached) (c .whole) r (b .result) (callPlace (serve a .call)) (b .fault) e
 
 -- "DEMAND 3'S UNKNOWN KINDS NO LONGER INCLUDE 628": no AVP that it puts into a request is one.

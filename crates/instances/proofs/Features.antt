@@ -204,7 +204,7 @@ comes-to-right = record { seen = set nothing 1 (some (session .avp)); reached = 
 
 met-members-pass : callPlace (serve (asked hoping) .call) ≢ 32
 unfolding all members hope with hoping
-met-members-pass = features.members-pass (asked hoping) 32 comes-to-right refl refl
+met-members-pass = features.members-pass (asked hoping) 32 comes-to-right refl
 
 -- WHATEVER THE FEATURES: asked for without M, the removal is the same with none of them and with all
 idle-none : Beyond (withFeatures (asked hoping) 0) → ⊥
