@@ -19,7 +19,7 @@ use Rattle.lookup.specs.Find.{firstFrom, publicIs, findPublic}
 use Rattle.diameter.specs.Avp.{padded, headOf, vendorOf, valueOf, sound}
 use Rattle.diameter.specs.Walk.{walkFrom, walk, someAvp}
 use Rattle.diameter.specs.AvpAt.{avpOf}
-use Rattle.pen.specs.Bytes.{wordBytes, padding, vendorHead, copied, avpBytes, vendorBytes, numberBytes, vendorNumber, group, ifThere}
+use Rattle.pen.specs.Bytes.{wordBytes, headBytes, padding, vendorHead, copied, avpBytes, vendorBytes, numberBytes, vendorNumber, group, ifThere}
 use Rattle.pen.specs.Groups.{vendorApplication, experimental, failed}
 use Rattle.reading.specs.Kinds.{known, kindFrom, kindBy, rowOf, useIn}
 use Rattle.reading.specs.Contents.{numberFault, plainFault}
@@ -73,9 +73,13 @@ line k public state bits server =
 unfoldable pub server : List ℕ
 server = 0x3C ∷ 0x26 ∷ 0x73 ∷ []
 
--- `a` registered at `<&s`, and pending; `b` not registered; `c` pending at `<&s`; `d` unregistered there
+-- `>"'`
+unfoldable pub quotes : List ℕ
+quotes = 0x3E ∷ 0x22 ∷ 0x27 ∷ []
+
+-- `a` registered at `<&s`, and pending; `b` not registered; `c` pending at `<&s`; `d` unregistered at `>"'`
 unfoldable pub table : List ℕ
-table = header 4 ++ (line 1 0x61 1 1 server ++ (line 2 0x62 0 0 [] ++ (line 3 0x63 0 1 server ++ line 4 0x64 2 0 server)))
+table = header 4 ++ (line 1 0x61 1 1 server ++ (line 2 0x62 0 0 [] ++ (line 3 0x63 0 1 server ++ line 4 0x64 2 0 quotes)))
 
 -- a request of a command and an application with a body
 unfoldable pub request : ℕ → ℕ → List ℕ → List ℕ
@@ -98,6 +102,20 @@ udr avps = request 306 1 (common sh ++ avps)
 unfoldable pub identity : ℕ → List ℕ
 identity public = vendorBytes 700 (vendorBytes 601 (public ∷ []))
 
+-- a 601 at the top level, where it is unknown, with the flags
+unfoldable pub outside : ℕ → ℕ → List ℕ
+outside flags public = headBytes 601 flags 13 ++ (wordBytes 10415 ++ (public ∷ 0 ∷ 0 ∷ 0 ∷ []))
+
+-- 703 of 11, 12 and 10
+unfoldable pub state : List ℕ
+state = vendorNumber 703 11
+
+unfoldable pub name : List ℕ
+name = vendorNumber 703 12
+
+unfoldable pub other : List ℕ
+other = vendorNumber 703 10
+
 unfoldable pub ask : ℕ → List ℕ → List ℕ
 ask public references = udr (identity public ++ references)
 
@@ -113,7 +131,7 @@ reply result rest =
 
 -- all that a case opens
 unfoldable pub opened : ℕ
-unfolding host realm field wordsOf checked header line server table request common udr identity ask reply allBelow orderOf alikeAt same be16At be24At be32At putBe24
+unfolding host realm field wordsOf checked header line server quotes table request common udr identity outside state name other ask reply allBelow orderOf alikeAt same be16At be24At be32At putBe24
     zeros zeroBetween over sumWords hostOf realmOf publicOf privateOf serverOf headerOf soundHeader usedPlace soundPlace sameByte otherPlace newPlace
     soundNetworks recordOf soundRecord sameSet agreeing blockOf firstBad negated sizeIn tableIn checkArea publicAt risesAt standsAt agreesWith agreesAt
     soundAt checkRecords checkTable firstFrom publicIs findPublic padded headOf vendorOf valueOf sound walkFrom walk someAvp avpOf padding vendorHead copied

@@ -1,23 +1,13 @@
 -- User-Data-Requests computed from the definitions: what is told, and an answer byte by byte.
-use Rattle.octets.specs.Standard.{ℕ, _≡_, refl, List, [], _∷_, _++_, map, true, false, length, replicate}
-use Rattle.octets.specs.Run.{over}
-use Rattle.blocks.specs.declared.Checked.the-variants.{Sound}
-use Rattle.table.specs.Area.{checkArea}
-use Rattle.pen.specs.Bytes.{avpBytes, vendorBytes, numberBytes, vendorNumber, vendorHead, headBytes, wordBytes}
-use Rattle.pen.specs.Groups.{experimental}
+use Rattle.octets.specs.Standard.{ℕ, _≡_, refl, List, [], _∷_, _++_, map, true, false, set}
+use Rattle.pen.specs.Bytes.{avpBytes, vendorBytes, numberBytes, vendorHead}
+use Rattle.pen.specs.Groups.{experimental, failed}
 use Rattle.reading.specs.Verdicts.{faultAt, faultOf, lackOf}
-use Rattle.reading.specs.declared.Outcome.the-variants.{Base, Experimental}
-use Rattle.reading.specs.declared.Verdict.{Verdict}
 use Rattle.requests.specs.Request.{cx, sh, dialectOf, underSh}
 use Rattle.sh.specs.Answer.{shAnswer}
 use Rattle.sh.specs.Tell.{tell, tellNone, denied}
 use Rattle.sh.specs.declared.telling.Telling.{Telling}
-use Rattle.sh_example.proofs.Sample.{table, request, common, udr, identity, ask, reply, opened}
-
--- the sample's table is sound, in an area that is longer
-sound : checkArea (table ++ (0xFF ∷ [])) 0 ≡ Sound 4
-unfolding opened
-sound = refl
+use Rattle.sh_example.proofs.Sample.{table, request, common, udr, identity, outside, state, name, other, ask, reply, opened}
 
 -- WHAT IS TOLD: of a request by a peer that follows RFC 3588
 told : List ℕ → Telling
@@ -29,16 +19,6 @@ record Case : Type 0 where
 
 abbrev case : List ℕ → Telling → Case
 case asked expected = record { asked = asked; expected = expected }
-
--- 703 of 11, 12 and 10
-state : List ℕ
-state = vendorNumber 703 11
-
-name : List ℕ
-name = vendorNumber 703 12
-
-other : List ℕ
-other = vendorNumber 703 10
 
 -- a success: the record's block, and whether its state and its name were asked for
 success : ℕ → Telling
@@ -68,18 +48,33 @@ cases =
     ∷ case (ask 0x61 (vendorBytes 703 (0 ∷ 0 ∷ 0 ∷ 0 ∷ 11 ∷ []))) (tellNone (faultAt 5014 140))
     -- kinds of the Cx server at the top level are unknown here: with M B5001; 628 is skipped with M, whatever it holds
     ∷ case (udr (vendorBytes 602 (0x73 ∷ []) ++ (identity 0x61 ++ state))) (tellNone (faultAt 5001 112))
-    ∷ case (udr ((headBytes 601 128 13 ++ (wordBytes 10415 ++ (0x61 ∷ 0 ∷ 0 ∷ 0 ∷ []))) ++ (identity 0x61 ++ (state ++ name)))) (success 1)
+    ∷ case (udr (outside 192 0x61 ++ (identity 0x61 ++ state))) (tellNone (faultAt 5001 112))
+    ∷ case (udr (outside 128 0x62 ++ (identity 0x61 ++ (state ++ name)))) (success 1)
+    ∷ case (udr (outside 128 0x61 ++ state)) (tellNone (lackOf 20))
     ∷ case (udr (vendorBytes 628 (0x61 ∷ []) ++ (identity 0x61 ++ (state ++ name)))) (success 1)
     -- a User-Name is optional, and comes once
     ∷ case (udr (avpBytes 1 (0x70 ∷ []) ++ (identity 0x61 ++ (state ++ name)))) (success 1)
     ∷ case (udr (avpBytes 1 (0x70 ∷ []) ++ avpBytes 1 (0x70 ∷ []))) (tellNone (faultAt 5009 124))
-    -- another command, another application
+    -- another version, the E bit set; another command, another application
+    ∷ case (set (ask 0x61 state) 0 2) (tellNone (faultOf 5011))
+    ∷ case (set (ask 0x61 state) 4 0xE0) (tellNone (faultOf 3008))
     ∷ case (request 302 1 (common sh)) (tellNone (faultOf 3001))
     ∷ case (request 306 0 (common sh)) (tellNone (faultOf 3007))
     ∷ []
 
+-- two Vendor-Ids in 260: B5009 for a peer that follows RFC 6733
+vendors : List ℕ
+vendors =
+    avpBytes 263 (0x73 ∷ []) ++ (avpBytes 260 (numberBytes 266 10415 ++ (numberBytes 266 10415 ++ numberBytes 258 sh)) ++
+    (numberBytes 277 1 ++ (avpBytes 264 (0x63 ∷ []) ++ (avpBytes 296 (0x72 ∷ []) ++ (avpBytes 283 (0x72 ∷ []) ++ (identity 0x61 ++ (state ++ name)))))))
+
+editions : (told (request 306 1 vendors) ≡ success 1)
+    × (tell (dialectOf (underSh 6733) (request 306 1 vendors)) (request 306 1 vendors) table 4 ≡ tellNone (faultAt 5009 32))
+unfolding opened told success vendors
+editions = (refl, refl)
+
 worked : map (λ (c : Case). told (c .asked)) cases ≡ map (λ (c : Case). c .expected) cases
-unfolding opened told state name other success cases
+unfolding opened told success cases
 worked = refl
 
 -- THE ANSWERS, byte by byte
@@ -121,5 +116,7 @@ answers : (answerTo (ask 0x61 (state ++ name)) ≡ reply (numberBytes 268 2001) 
     × (answerTo (ask 0x62 name) ≡ reply (numberBytes 268 2001) (vendorBytes 702 neither))
     × (answerTo (ask 0x63 state) ≡ reply (numberBytes 268 2001) (vendorBytes 702 waits))
     × (answerTo (ask 0x61 other) ≡ reply (experimental 5100) [])
-unfolding opened told state name other answerTo both neither waits
-answers = (refl, refl, refl, refl)
+    × (answerTo (udr state) ≡ reply (numberBytes 268 5005) (failed (vendorBytes 700 [])))
+    × (answerTo (udr (identity 0x61)) ≡ reply (numberBytes 268 5005) (failed (vendorBytes 703 (0 ∷ 0 ∷ 0 ∷ 0 ∷ []))))
+unfolding opened told answerTo both neither waits
+answers = (refl, refl, refl, refl, refl, refl)
