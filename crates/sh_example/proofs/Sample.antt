@@ -77,6 +77,10 @@ server = 0x3C ∷ 0x26 ∷ 0x73 ∷ []
 unfoldable pub quotes : List ℕ
 quotes = 0x3E ∷ 0x22 ∷ 0x27 ∷ []
 
+-- .. as it is told: `&gt;&quot;&apos;`
+unfoldable pub marks : List ℕ
+marks = 0x26 ∷ 0x67 ∷ 0x74 ∷ 0x3B ∷ 0x26 ∷ 0x71 ∷ 0x75 ∷ 0x6F ∷ 0x74 ∷ 0x3B ∷ 0x26 ∷ 0x61 ∷ 0x70 ∷ 0x6F ∷ 0x73 ∷ 0x3B ∷ []
+
 -- `a` registered at `<&s`, and pending; `b` not registered; `c` pending at `<&s`; `d` unregistered at `>"'`
 unfoldable pub table : List ℕ
 table = header 4 ++ (line 1 0x61 1 1 server ++ (line 2 0x62 0 0 [] ++ (line 3 0x63 0 1 server ++ line 4 0x64 2 0 quotes)))
@@ -131,14 +135,14 @@ reply result rest =
 
 -- all that a case opens
 unfoldable pub opened : ℕ
-unfolding host realm field wordsOf checked header line server quotes table request common udr identity outside state name other ask reply allBelow orderOf alikeAt same be16At be24At be32At putBe24
-    zeros zeroBetween over sumWords hostOf realmOf publicOf privateOf serverOf headerOf soundHeader usedPlace soundPlace sameByte otherPlace newPlace
-    soundNetworks recordOf soundRecord sameSet agreeing blockOf firstBad negated sizeIn tableIn checkArea publicAt risesAt standsAt agreesWith agreesAt
-    soundAt checkRecords checkTable firstFrom publicIs findPublic padded headOf vendorOf valueOf sound walkFrom walk someAvp avpOf padding vendorHead copied
-    avpBytes vendorBytes numberBytes vendorNumber group ifThere vendorApplication experimental failed known kindFrom kindBy rowOf useIn numberFault plainFault
-    applicationMembers identityMembers membersOf isOf fits unlike onlyOf membersFitting enough enoughAt gathers tooOften groupFault contentFault ruleBy rule
-    numberOf nothing judge headerFaultSh missingFrom missing complete readWalk readSh headPart alone failedOf sample exampleOf failedBy wrongLength tried
-    proxy proxies endBytes resultBytes frontBytes originBytes flagsOf headerBytes escapes escapeBy escapeOf escaped userState nameText stateText nameElement
-    stateElement shText userDataBytes recordBytes toldBytes shBody shAnswer refers refersOther referencesOf tellRecord tellFound tellRead tellJudged tell
-    refused answered serveChecked
+unfolding host realm field wordsOf checked header line server quotes marks table request common udr identity outside state name other ask reply allBelow
+    orderOf alikeAt same be16At be24At be32At putBe24 zeros zeroBetween over sumWords hostOf realmOf publicOf privateOf serverOf headerOf soundHeader
+    usedPlace soundPlace sameByte otherPlace newPlace soundNetworks recordOf soundRecord sameSet agreeing blockOf firstBad negated sizeIn tableIn checkArea
+    publicAt risesAt standsAt agreesWith agreesAt soundAt checkRecords checkTable firstFrom publicIs findPublic padded headOf vendorOf valueOf sound walkFrom
+    walk someAvp avpOf padding vendorHead copied avpBytes vendorBytes numberBytes vendorNumber group ifThere vendorApplication experimental failed known
+    kindFrom kindBy rowOf useIn numberFault plainFault applicationMembers identityMembers membersOf isOf fits unlike onlyOf membersFitting enough enoughAt
+    gathers tooOften groupFault contentFault ruleBy rule numberOf nothing judge headerFaultSh missingFrom missing complete readWalk readSh headPart alone
+    failedOf sample exampleOf failedBy wrongLength tried proxy proxies endBytes resultBytes frontBytes originBytes flagsOf headerBytes escapes escapeBy
+    escapeOf escaped userState nameText stateText nameElement stateElement shText userDataBytes recordBytes toldBytes shBody shAnswer refers refersOther
+    referencesOf tellRecord tellFound tellRead tellJudged tell refused answered serveChecked
 opened = 0

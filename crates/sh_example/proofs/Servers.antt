@@ -19,7 +19,7 @@ use Rattle.ndushavire.specs.Word.{word, callWord}
 use Rattle.ndushavire_sh.specs.Lent.{Lent, lent, termsIn, dialectIn}
 use Rattle.ndushavire_sh.specs.Promise.{ShDecidePromise}
 use Rattle.ndushavire_sh.specs.Serve.{Served, refused, answered, serveChecked, shServe}
-use Rattle.sh_example.proofs.Sample.{table, request, common, udr, identity, outside, state, name, other, ask, reply, opened}
+use Rattle.sh_example.proofs.Sample.{table, marks, request, common, udr, identity, outside, state, name, other, ask, reply, opened}
 
 -- what a call leaves
 record CallLeft : Type 0 where
@@ -111,19 +111,16 @@ verdict : ℕ → List ℕ → List ℕ
 verdict size o = take size (drop 64 o)
 
 -- 1. One that does not escape a quote: `d` is at `>"'`, and the name told must be `&gt;&quot;&apos;`.
-told : List ℕ
-told = 0x26 ∷ 0x67 ∷ 0x74 ∷ 0x3B ∷ 0x26 ∷ 0x71 ∷ 0x75 ∷ 0x6F ∷ 0x74 ∷ 0x3B ∷ 0x26 ∷ 0x61 ∷ 0x70 ∷ 0x6F ∷ 0x73 ∷ 0x3B ∷ []
-
 nameIn : List ℕ → List ℕ
 nameIn o = take 16 (drop 195 o)
 
 quote-served : shServe (asking (ask 0x64 name))
-    ≡ leaves 248 0 (reply (numberBytes 268 2001) (vendorBytes 702 (opening ++ (nameStart ++ (told ++ (nameEnd ++ closing))))))
-unfolding opened asking told
+    ≡ leaves 248 0 (reply (numberBytes 268 2001) (vendorBytes 702 (opening ++ (nameStart ++ (marks ++ (nameEnd ++ closing))))))
+unfolding opened asking
 quote-served = served (ask 0x64 name) refl
 
-quote-fails : (f : Server) → nameIn (f (asking (ask 0x64 name)) .buffer) ≢ told → Meets f (asking (ask 0x64 name)) → ⊥
-unfolding opened told nameIn
+quote-fails : (f : Server) → nameIn (f (asking (ask 0x64 name)) .buffer) ≢ marks → Meets f (asking (ask 0x64 name)) → ⊥
+unfolding opened nameIn
 quote-fails f h p = h (ap nameIn (buffer-given f quote-served p))
 
 -- 2. One that tells state 0 pending as 0: the digit of `c` must be 3.

@@ -4,10 +4,11 @@ use Rattle.pen.specs.Bytes.{avpBytes, vendorBytes, numberBytes, vendorHead}
 use Rattle.pen.specs.Groups.{experimental, failed}
 use Rattle.reading.specs.Verdicts.{faultAt, faultOf, lackOf}
 use Rattle.requests.specs.Request.{cx, sh, dialectOf, underSh}
+use Rattle.user_data.specs.UserData.{opening, nameStart, nameEnd, stateStart, stateEnd, closing}
 use Rattle.sh.specs.Answer.{shAnswer}
 use Rattle.sh.specs.Tell.{tell, tellNone, denied}
 use Rattle.sh.specs.declared.telling.Telling.{Telling}
-use Rattle.sh_example.proofs.Sample.{table, request, common, udr, identity, outside, state, name, other, ask, reply, opened}
+use Rattle.sh_example.proofs.Sample.{table, marks, request, common, udr, identity, outside, state, name, other, ask, reply, opened}
 
 -- WHAT IS TOLD: of a request by a peer that follows RFC 3588
 told : List ℕ → Telling
@@ -112,11 +113,28 @@ waits =
     ∷ 0x55 ∷ 0x73 ∷ 0x65 ∷ 0x72 ∷ 0x53 ∷ 0x74 ∷ 0x61 ∷ 0x74 ∷ 0x65 ∷ 0x3E ∷ 0x3C ∷ 0x2F ∷ 0x53 ∷ 0x68 ∷ 0x2D ∷ 0x49 ∷ 0x4D ∷ 0x53 ∷ 0x2D ∷ 0x44
     ∷ 0x61 ∷ 0x74 ∷ 0x61 ∷ 0x3E ∷ 0x3C ∷ 0x2F ∷ 0x53 ∷ 0x68 ∷ 0x2D ∷ 0x44 ∷ 0x61 ∷ 0x74 ∷ 0x61 ∷ 0x3E ∷ []
 
+-- the state's element of a digit, the name's of some bytes; a Proxy-Info
+stateAs : ℕ → List ℕ
+stateAs digit = stateStart ++ (digit ∷ stateEnd)
+
+nameAs : List ℕ → List ℕ
+nameAs bytes = nameStart ++ (bytes ++ nameEnd)
+
+passed : List ℕ
+passed = avpBytes 284 (avpBytes 280 (0x70 ∷ []) ++ avpBytes 33 (0x71 ∷ []))
+
 answers : (answerTo (ask 0x61 (state ++ name)) ≡ reply (numberBytes 268 2001) (vendorBytes 702 both))
     × (answerTo (ask 0x62 name) ≡ reply (numberBytes 268 2001) (vendorBytes 702 neither))
     × (answerTo (ask 0x63 state) ≡ reply (numberBytes 268 2001) (vendorBytes 702 waits))
+    × (answerTo (ask 0x62 state) ≡ reply (numberBytes 268 2001) (vendorBytes 702 (opening ++ stateAs 0x30 ++ closing)))
+    × (answerTo (ask 0x64 (state ++ name)) ≡ reply (numberBytes 268 2001) (vendorBytes 702 (opening ++ nameAs marks ++ stateAs 0x32 ++ closing)))
+    × (answerTo (udr (identity 0x62 ++ (passed ++ name))) ≡ reply (numberBytes 268 2001) (vendorBytes 702 (opening ++ closing) ++ passed))
+    × (answerTo (ask 0x65 other) ≡ reply (experimental 5001) [])
     × (answerTo (ask 0x61 other) ≡ reply (experimental 5100) [])
     × (answerTo (udr state) ≡ reply (numberBytes 268 5005) (failed (vendorBytes 700 [])))
     × (answerTo (udr (identity 0x61)) ≡ reply (numberBytes 268 5005) (failed (vendorBytes 703 (0 ∷ 0 ∷ 0 ∷ 0 ∷ []))))
-unfolding opened told answerTo both neither waits
-answers = (refl, refl, refl, refl, refl, refl)
+    -- of another command or application: E is set, the header is as it came, and 260 has the own application
+    × (answerTo (request 302 1 (common sh)) ≡ set (set (reply (numberBytes 268 3001) []) 4 0x60) 7 0x2E)
+    × (answerTo (request 306 0 (common cx)) ≡ set (set (reply (numberBytes 268 3007) []) 4 0x60) 11 0)
+unfolding opened told answerTo both neither waits stateAs nameAs passed
+answers = (refl, refl, refl, refl, refl, refl, refl, refl, refl, refl, refl, refl)
