@@ -1,7 +1,7 @@
 -- Wrong servers of the Sh interface, and calls that are computed: at an input whose outcome is known, what a wrong server gives does not meet the promise,
 -- whatever else it gives.
-use Rattle.octets.specs.Standard.{ℕ, _≡_, refl, ap, _∙_, _≢_, List, [], _∷_, _++_, Bool, false, length, getD, take, drop, set, replicate, length-replicate}
-use Rattle.octets.specs.Standard.{ltb}
+use Rattle.octets.specs.Standard.{ℕ, _≡_, refl, sym, ap, _∙_, _≢_, List, [], _∷_, _++_, Bool, false, length, getD, take, drop, set, replicate, length-replicate}
+use Rattle.octets.specs.Standard.{arith, ltb}
 use Rattle.octets.specs.Run.{over}
 use Rattle.blocks.specs.declared.Checked.{Checked}
 use Rattle.blocks.specs.declared.Checked.the-variants.{Sound, Bad}
@@ -19,7 +19,7 @@ use Rattle.ndushavire.specs.Word.{word, callWord}
 use Rattle.ndushavire_sh.specs.Lent.{Lent, lent, termsIn, dialectIn}
 use Rattle.ndushavire_sh.specs.Promise.{ShDecidePromise}
 use Rattle.ndushavire_sh.specs.Serve.{Served, refused, answered, serveChecked, shServe}
-use Rattle.sh_example.proofs.Sample.{table, marks, request, common, udr, identity, outside, state, name, other, ask, reply, opened}
+use Rattle.sh_example.proofs.Sample.{table, quotes, marks, request, common, udr, identity, outside, state, name, other, ask, reply, opened}
 
 -- what a call leaves
 record CallLeft : Type 0 where
@@ -110,6 +110,15 @@ leaves size place bytes = record { call = Answered (record { length = size; plac
 verdict : ℕ → List ℕ → List ℕ
 verdict size o = take size (drop 64 o)
 
+-- One that is right but for one byte of its answers: it is the least wrong of those below.
+changed : ℕ → ℕ → Server
+changed i v x = record { word = truly x .word; buffer = set (truly x .buffer) i v }
+
+changed-fails : (i v : ℕ) (x : Lent) {y : Served} → shServe x ≡ y → getD (set (y .buffer) i v) i 0 ≢ getD (y .buffer) i 0 → Meets (changed i v) x → ⊥
+unfolding changed truly
+changed-fails i v x e h p =
+    h (ap (λ (o : List ℕ). getD o i 0) (sym (ap (λ (y : Served). set (y .buffer) i v) e) ∙ buffer-given (changed i v) e p))
+
 -- 1. One that does not escape a quote: `d` is at `>"'`, and the name told must be `&gt;&quot;&apos;`.
 nameIn : List ℕ → List ℕ
 nameIn o = take 16 (drop 195 o)
@@ -122,6 +131,14 @@ quote-served = served (ask 0x64 name) refl
 quote-fails : (f : Server) → nameIn (f (asking (ask 0x64 name)) .buffer) ≢ marks → Meets f (asking (ask 0x64 name)) → ⊥
 unfolding opened nameIn
 quote-fails f h p = h (ap nameIn (buffer-given f quote-served p))
+
+unescaping : Server
+unescaping x =
+    record { word = 236; buffer = over (reply (numberBytes 268 2001) (vendorBytes 702 (opening ++ (nameStart ++ (quotes ++ (nameEnd ++ closing)))))) (x .buffer) }
+
+unescaping-fails : Meets unescaping (asking (ask 0x64 name)) → ⊥
+unfolding opened unescaping nameIn asking
+unescaping-fails = quote-fails unescaping (λ e. omega (arith, ap (λ (o : List ℕ). getD o 0 0) e))
 
 -- 2. One that tells state 0 pending as 0: the digit of `c` must be 3.
 abbrev stateData : ℕ → List ℕ
@@ -138,6 +155,10 @@ pending-fails : (f : Server) → digitIn (f (asking (ask 0x63 state)) .buffer) �
 unfolding opened digitIn
 pending-fails f h p = h (ap digitIn (buffer-given f pending-served p))
 
+not-pending-fails : Meets (changed 198 0x30) (asking (ask 0x63 state)) → ⊥
+unfolding opened
+not-pending-fails = changed-fails 198 0x30 (asking (ask 0x63 state)) pending-served (λ e. omega (arith, e))
+
 -- 3. One that answers with the Cx application, or any but Sh's, in 260.
 applicationIn : List ℕ → List ℕ
 applicationIn o = take 32 (drop 32 o)
@@ -145,6 +166,10 @@ applicationIn o = take 32 (drop 32 o)
 application-fails : (f : Server) → applicationIn (f (asking (ask 0x63 state)) .buffer) ≢ vendorApplication sh → Meets f (asking (ask 0x63 state)) → ⊥
 unfolding opened applicationIn
 application-fails f h p = h (ap applicationIn (buffer-given f pending-served p))
+
+of-cx-fails : Meets (changed 63 0) (asking (ask 0x63 state)) → ⊥
+unfolding opened
+of-cx-fails = changed-fails 63 0 (asking (ask 0x63 state)) pending-served (λ e. omega (arith, e))
 
 -- .. or that takes a request with the Cx application in its 260: B5004
 foreign : Lent
@@ -169,6 +194,10 @@ beside-served = served (udr (outside 128 0x62 ++ (identity 0x61 ++ state))) refl
 beside-fails : (f : Server) → digitIn (f beside .buffer) ≢ 0x31 → Meets f beside → ⊥
 unfolding opened digitIn
 beside-fails f h p = h (ap digitIn (buffer-given f beside-served p))
+
+of-b-fails : Meets (changed 198 0x30) beside → ⊥
+unfolding opened
+of-b-fails = changed-fails 198 0x30 beside beside-served (λ e. omega (arith, e))
 
 -- .. alone, or with M
 lone : Lent
@@ -201,6 +230,10 @@ neither-served = served (ask 0x65 other) refl
 order-fails : (f : Server) → verdict 32 (f (asking (ask 0x65 other)) .buffer) ≢ experimental 5001 → Meets f (asking (ask 0x65 other)) → ⊥
 unfolding opened verdict
 order-fails f h p = h (ap (verdict 32) (buffer-given f neither-served p))
+
+reference-first-fails : Meets (changed 95 0xEC) (asking (ask 0x65 other)) → ⊥
+unfolding opened
+reference-first-fails = changed-fails 95 0xEC (asking (ask 0x65 other)) neither-served (λ e. omega (arith, e))
 
 -- 6. One that writes past its answer.
 past-fails : (f : Server) → drop 132 (f (asking (ask 0x65 other)) .buffer) ≢ drop 132 room → Meets f (asking (ask 0x65 other)) → ⊥
