@@ -110,7 +110,7 @@ leaves size place bytes = record { call = Answered (record { length = size; plac
 verdict : ℕ → List ℕ → List ℕ
 verdict size o = take size (drop 64 o)
 
--- One that is right but for one byte of its answers: it is the least wrong of those below.
+-- One that is right but for one byte of its answers.
 changed : ℕ → ℕ → Server
 changed i v x = record { word = truly x .word; buffer = set (truly x .buffer) i v }
 
@@ -134,7 +134,8 @@ quote-fails f h p = h (ap nameIn (buffer-given f quote-served p))
 
 unescaping : Server
 unescaping x =
-    record { word = 236; buffer = over (reply (numberBytes 268 2001) (vendorBytes 702 (opening ++ (nameStart ++ (quotes ++ (nameEnd ++ closing)))))) (x .buffer) }
+    let text = opening ++ (nameStart ++ (quotes ++ (nameEnd ++ closing))) in
+    record { word = 236; buffer = over (reply (numberBytes 268 2001) (vendorBytes 702 text)) (x .buffer) }
 
 unescaping-fails : Meets unescaping (asking (ask 0x64 name)) → ⊥
 unfolding opened unescaping nameIn asking
@@ -240,6 +241,10 @@ past-fails : (f : Server) → drop 132 (f (asking (ask 0x65 other)) .buffer) ≢
 unfolding opened
 past-fails f h p = h (ap (drop 132) (buffer-given f neither-served p))
 
+-- .. or that looks past the count in its area, and refuses it by 5 or returns anything but the answer's length
+longer-fails : (f : Server) → f (asking (ask 0x65 other)) .word ≢ word 0 0 132 → Meets f (asking (ask 0x65 other)) → ⊥
+longer-fails f h p = h (word-given f neither-served p)
+
 -- 7. One that says another place, or another length: a 703 of five bytes stands at 140.
 wide : Lent
 wide = asking (ask 0x61 (vendorBytes 703 (0 ∷ 0 ∷ 0 ∷ 0 ∷ 11 ∷ [])))
@@ -255,8 +260,9 @@ place-fails f h p = h (word-given f wide-served p)
 abbrev turned : ℕ → ℕ → Lent → Served
 turned number besides x = record { call = Refused number besides; buffer = x .buffer }
 
+-- a request of one byte, and nothing besides
 nothing : ℕ → Lent
-nothing peer = lent [] [] [] [] peer
+nothing peer = lent (1 ∷ []) [] [] [] peer
 
 -- over an area of no bytes
 bare : List ℕ → Lent
@@ -274,17 +280,24 @@ bare-served : (req : List ℕ) {y : Served} → known false (Bad 0) [] (bare req
 unfolding bare
 bare-served req e = come (bare req) roomy bare-bad bare-table e
 
-refusals : (shServe (nothing 0) ≡ turned 12 0 (nothing 0))
-    × (shServe (nothing 3588) ≡ turned 1 0 (nothing 3588))
-    × (shServe (bare []) ≡ turned 2 0 (bare []))
+peer-served : shServe (nothing 0) ≡ turned 12 0 (nothing 0)
+unfolding opened nothing
+peer-served = refl
+
+refusals : (shServe (nothing 3588) ≡ turned 1 0 (nothing 3588))
+    × (shServe (bare (1 ∷ [])) ≡ turned 2 0 (bare (1 ∷ [])))
     × (shServe (bare (replicate 20 0)) ≡ turned 3 0 (bare (replicate 20 0)))
     × (shServe (bare (set (ask 0x61 state) 4 0x40)) ≡ turned 4 0 (bare (set (ask 0x61 state) 4 0x40)))
     × (shServe (bare (ask 0x61 state)) ≡ turned 5 0 (bare (ask 0x61 state)))
 unfolding opened nothing bare
 refusals =
-    (refl, refl, bare-served [] refl, bare-served (replicate 20 0) refl, bare-served (set (ask 0x61 state) 4 0x40) refl, bare-served (ask 0x61 state) refl)
+    (refl, bare-served (1 ∷ []) refl, bare-served (replicate 20 0) refl, bare-served (set (ask 0x61 state) 4 0x40) refl, bare-served (ask 0x61 state) refl)
 
--- 8. One that answers over an unsound table, or names another block than the first bad one, here block 2, or writes into the buffer.
+-- 8. One that tries another refusal before 12, or does not try it.
+peer-fails : (f : Server) → f (nothing 0) .word ≢ word 12 0 0 → Meets f (nothing 0) → ⊥
+peer-fails f h p = h (word-given f peer-served p)
+
+-- 9. One that answers over an unsound table, or names another block than the first bad one, here block 2, or writes into the buffer.
 broken : Lent
 broken = lent (ask 0x61 state) (set area 1024 9) [] room 3588
 

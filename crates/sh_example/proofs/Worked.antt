@@ -47,7 +47,7 @@ cases =
     ∷ case (udr ((vendorHead 700 25 ++ (vendorHead 601 13 ++ (0x61 ∷ 0 ∷ 0 ∷ 0 ∷ []))) ++ (state ++ name))) (success 1)
     ∷ case (udr (identity 0x61 ++ identity 0x61)) (tellNone (faultAt 5009 140))
     ∷ case (ask 0x61 (vendorBytes 703 (0 ∷ 0 ∷ 0 ∷ 0 ∷ 11 ∷ []))) (tellNone (faultAt 5014 140))
-    -- kinds of the Cx server at the top level are unknown here: with M B5001; 628 is skipped with M, whatever it holds
+    -- kinds of the Cx server at the top level are unknown here: with M B5001, else skipped; 628 is skipped with M, whatever it holds
     ∷ case (udr (vendorBytes 602 (0x73 ∷ []) ++ (identity 0x61 ++ state))) (tellNone (faultAt 5001 112))
     ∷ case (udr (outside 192 0x61 ++ (identity 0x61 ++ state))) (tellNone (faultAt 5001 112))
     ∷ case (udr (outside 128 0x62 ++ (identity 0x61 ++ (state ++ name)))) (success 1)
