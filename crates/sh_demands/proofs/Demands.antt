@@ -10,16 +10,24 @@ use Rattle.requests.specs.Request.{dialectOf, underSh, headerFaultSh}
 use Rattle.refusals.specs.Early.{checkValue, early}
 use Rattle.calling.specs.Call.{Answer, Call, Answered, Refused}
 use Rattle.ndushavire.specs.Reads.{callNumber, callValue}
-use Rattle.ndushavire_sh.specs.Lent.{Lent, lent, termsIn}
+use Rattle.blocks.specs.Blocks.{blockOf}
+use Rattle.reading.specs.Rules.{Seen}
+use Rattle.reading.specs.declared.Outcome.the-variants.{Base, Experimental}
+use Rattle.requests.specs.Judged.{fine}
+use Rattle.requests.specs.Request.{readSh, identityOf}
+use Rattle.sh.specs.Tell.{denied}
+use Rattle.ndushavire_sh.specs.Lent.{Lent, lent, termsIn, dialectIn}
 use Rattle.ndushavire_sh.specs.Promise.{ShDecidePromise}
 use Rattle.ndushavire_sh.specs.Serve.{Served, trialsOf, toldOf, answerOf, refused, answered, shServe}
 use Rattle.demands.specs.Call.{Exactly}
 use Rattle.demands.specs.Insertion.{requestOf, Quiet, Inserted, keep, FirstMarked, faultBy, placeNow, behindRow}
 use Rattle.sh_demands.specs.Insertion.{asking, placed, blaming}
+use Rattle.sh_demands.specs.Saying.{Holds, asksOther, Known, saying, Says}
 use Rattle.sh_demands.specs.Shown.{SameSight}
 use Rattle.sh_demands.proofs.Alike.{place-same, answer-same}
 use Rattle.sh_demands.proofs.Inserted.{unmarked-same, mark-answered, fault-first}
 use Rattle.sh_demands.proofs.Refusing.{turnedAway, refusals, refused-kept, answer-is, answered-is, buffer-past, fits}
+use Rattle.sh_demands.proofs.Saying.{unknown-only, other-only, known-only, says-unknown, says-other, says-record}
 
 -- ONE OUTCOME. Any two returns and buffers that meet the promise are the same, for every input, refusals too.
 pub sh-unique : (x : Lent) {r s : ℕ} {o p : List ℕ} → ShDecidePromise x r o → ShDecidePromise x s p → (r ≡ s) × (o ≡ p)
@@ -49,6 +57,29 @@ pub sh-demand-2 : (x : Lent) (count : ℕ) → checkArea (x .table) (length (x .
     × (shServe x .buffer ≡ over (answerOf x count) (x .buffer))
 unfolding answered
 sh-demand-2 x count s e = let a = answered-is x count s e in (rw a, rw a)
+
+-- WHAT IT SAYS. A request that was read, over a sound table: the answer is X5001 exactly when no record has the identity asked about; X5100 exactly when one has
+-- and some Data-Reference is neither 11 nor 12; else B2001, and its 702, read back, says the stored server name and the state of the record with that identity.
+module _ (x : Lent) (count : ℕ) (sound : checkArea (x .table) (length (x .profile)) ≡ Sound count) (seen : Seen)
+    (read : readSh (dialectIn x) (x .request) ≡ fine seen) where
+  pub sh-unknown : turnedAway x ≡ false → ((k : ℕ) → Holds x count (identityOf seen) k → ⊥) → shServe x ≡ saying x (denied 5001)
+  sh-unknown = says-unknown x count sound seen read
+
+  pub sh-unknown-only : toldOf x count .verdict .result ≡ Experimental 5001 → (k : ℕ) → Holds x count (identityOf seen) k → ⊥
+  sh-unknown-only = unknown-only x count sound seen read
+
+  pub sh-other : turnedAway x ≡ false → (k : ℕ) → Holds x count (identityOf seen) k → asksOther x ≡ true → shServe x ≡ saying x (denied 5100)
+  sh-other = says-other x count sound seen read
+
+  pub sh-other-only : toldOf x count .verdict .result ≡ Experimental 5100 → Known x count (identityOf seen) true
+  sh-other-only = other-only x count sound seen read
+
+  pub sh-says : turnedAway x ≡ false → (k : ℕ) → Holds x count (identityOf seen) k → asksOther x ≡ false
+      → Says x (blockOf (tableIn (x .table)) k) (shServe x)
+  sh-says = says-record x count sound seen read
+
+  pub sh-says-only : toldOf x count .verdict .result ≡ Base 2001 → Known x count (identityOf seen) false
+  sh-says-only = known-only x count sound seen read
 
 -- THE NEIGHBOUR'S LINE, for this server: tables that show the same of the identity asked about get the same answer, whatever else they hold.
 pub sh-neighbours-line : (req : List ℕ) (peer : ℕ) (area file o other foreign p : List ℕ) (count many : ℕ)

@@ -2,3 +2,4 @@ pub mod Alike
 pub mod Demands
 pub mod Inserted
 pub mod Refusing
+pub mod Saying
