@@ -21,12 +21,13 @@ use Rattle.ndushavire_sh.specs.Promise.{ShDecidePromise}
 use Rattle.ndushavire_sh.specs.Serve.{Served, trialsOf, toldOf, answerOf, refused, answered, shServe}
 use Rattle.demands.specs.Call.{Exactly}
 use Rattle.demands.specs.Insertion.{requestOf, Quiet, Inserted, keep, FirstMarked, faultBy, placeNow, behindRow}
+use Rattle.sh_demands.specs.Call.{turnedAway}
 use Rattle.sh_demands.specs.Insertion.{asking, placed, blaming}
 use Rattle.sh_demands.specs.Saying.{Holds, asksOther, Known, saying, Says}
 use Rattle.sh_demands.specs.Shown.{SameSight}
 use Rattle.sh_demands.proofs.Alike.{place-same, answer-same}
 use Rattle.sh_demands.proofs.Inserted.{unmarked-same, mark-answered, fault-first}
-use Rattle.sh_demands.proofs.Refusing.{turnedAway, refusals, refused-kept, answer-is, answered-is, buffer-past, fits}
+use Rattle.sh_demands.proofs.Refusing.{refusals, refused-kept, answer-is, answered-is, buffer-past, fits}
 use Rattle.sh_demands.proofs.Returning.{number-most, besides-none, besides-block, answer-long, word-reads, answer-within, buffer-length}
 use Rattle.sh_demands.proofs.Saying.{unknown-only, other-only, known-only, says-unknown, says-other, says-record}
 

@@ -17,7 +17,8 @@ use Rattle.ndushavire.specs.Word.{callWord}
 use Rattle.ndushavire_sh.specs.Lent.{Lent, termsIn, dialectIn}
 use Rattle.ndushavire_sh.specs.Serve.{Served, trialsOf, toldOf, refused, answerOf, answered, serveChecked, shServe}
 use Rattle.demands.proofs.Firm.{check-most, answer-reads, refusal-reads}
-use Rattle.sh_demands.proofs.Refusing.{turnedAway, fits}
+use Rattle.sh_demands.specs.Call.{turnedAway}
+use Rattle.sh_demands.proofs.Refusing.{fits}
 
 -- an unsound file's first bad block
 bad-block : (c : Checked) → isBad c ≡ true → c ≡ Bad (checkValue c)

@@ -25,8 +25,9 @@ use Rattle.sh.specs.Tell.{denied, tellRecord, tellFound, tellRead, tellJudged, 
 use Rattle.sh.specs.declared.telling.Telling.{Telling}
 use Rattle.ndushavire_sh.specs.Lent.{Lent, dialectIn}
 use Rattle.ndushavire_sh.specs.Serve.{toldOf, answered, shServe}
+use Rattle.sh_demands.specs.Call.{turnedAway}
 use Rattle.sh_demands.specs.Saying.{Holds, asksOther, Known, saying, Says}
-use Rattle.sh_demands.proofs.Refusing.{turnedAway, answered-is}
+use Rattle.sh_demands.proofs.Refusing.{answered-is}
 
 module _ (x : Lent) (count : ℕ) (sound : checkArea (x .table) (length (x .profile)) ≡ Sound count) (seen : Seen)
     (read : readSh (dialectIn x) (x .request) ≡ fine seen) where
