@@ -37,8 +37,9 @@ use Rattle.demands.proofs.Messages.{message-dialect, message-fault-by, message-
 use Rattle.demands.proofs.Moved.{Moved, faults, same, past-bytes}
 use Rattle.demands.proofs.Rows.{foreign-proxies, foreign-some, quiet-foreign, none-before, placeBehind, long-walk, short-walk, long-fit, short-fit, unmarked-moved}
 use Rattle.demands.proofs.Rows.{marked-inserted, before-whole, fault-moved, mark-judges, mark-failed}
+use Rattle.sh_demands.specs.Call.{turnedAway}
 use Rattle.sh_demands.specs.Insertion.{asking, placed, faultBody, faultBytes, blaming}
-use Rattle.sh_demands.proofs.Refusing.{turnedAway, answer-is}
+use Rattle.sh_demands.proofs.Refusing.{answer-is}
 
 -- What every refusal keeps goes through the trials to the answer.
 tried-through : {X : Type 0} (f : X → X) (give : Trial → X) (o p : X) → ((r : Trial) → f (give r) ≡ give r) → o ≡ f p → (rs : List Trial)

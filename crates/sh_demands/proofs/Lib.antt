@@ -2,3 +2,5 @@ pub mod Alike
 pub mod Demands
 pub mod Inserted
 pub mod Refusing
+pub mod Returning
+pub mod Saying

@@ -8,16 +8,17 @@ use Rattle.table.specs.Area.{tableIn, checkArea}
 use Rattle.table.specs.SoundTable.{SoundTable}
 use Rattle.refusals.specs.Early.{checkValue, early}
 use Rattle.refusals.specs.Passed.{Passed}
-use Rattle.refusals.specs.Trial.{Trial, anyHolds}
+use Rattle.refusals.specs.Trial.{Trial}
 use Rattle.refusals.proofs.Passing.{passes}
 use Rattle.refusals.proofs.Trials.{tried-by}
-use Rattle.calling.specs.Call.{Call, Answered, Refused}
+use Rattle.calling.specs.Call.{Answer, Call, Answered, Refused}
 use Rattle.sh.proofs.Rooms.{answer-fits}
 use Rattle.ndushavire.specs.Reads.{callNumber, callValue}
 use Rattle.ndushavire_sh.specs.Lent.{Lent, termsIn}
 use Rattle.ndushavire_sh.specs.Serve.{Served, trialsOf, refused, answerOf, answered, serveChecked, shServe}
 use Rattle.demands.specs.Call.{Exactly}
 use Rattle.demands.proofs.Trials.{exactly}
+use Rattle.sh_demands.specs.Call.{turnedAway}
 
 module _ (x : Lent) where
   abbrev checked : Checked
@@ -26,12 +27,8 @@ module _ (x : Lent) where
   abbrev answer : Served
   answer = answered x (checkValue checked)
 
-  -- one of the refusals holds
-  abbrev pub turnedAway : Bool
-  turnedAway = anyHolds (trialsOf x checked)
-
   -- What holds of any refusal, and of the answer, holds of the call.
-  any-call : (P : Bool → Served → Type 0) → ((r : Trial) → P true (refused x r)) → P false answer → P turnedAway (shServe x)
+  any-call : (P : Bool → Served → Type 0) → ((r : Trial) → P true (refused x r)) → P false answer → P (turnedAway x) (shServe x)
   unfolding serveChecked
   any-call P f o = tried-by P (λ r. Unit) (refused x) answer (λ r q h. f r) o (trialsOf x checked) (tt, (tt, (tt, (tt, (tt, (tt, tt))))))
 
@@ -48,14 +45,20 @@ module _ (x : Lent) where
         ),
       )
 
-  pub refused-kept : turnedAway ≡ true → shServe x .buffer ≡ x .buffer
+  pub refused-kept : turnedAway x ≡ true → shServe x .buffer ≡ x .buffer
   unfolding refused
   refused-kept = any-call (λ b s. b ≡ true → s .buffer ≡ x .buffer) (λ r e. refl) (λ e. absurd (true≢false (sym e)))
 
-  pub answer-is : turnedAway ≡ false → shServe x ≡ answer
+  -- what is answered is not refused
+  pub answered-taken : (a : Answer) → shServe x .call ≡ Answered a → turnedAway x ≡ false
+  unfolding refused
+  answered-taken a =
+      any-call (λ b s. s .call ≡ Answered a → b ≡ false) (λ r e. let n : _≡_ {A = ℕ} 0 1 = cc in absurd (omega arith)) (λ e. refl)
+
+  pub answer-is : turnedAway x ≡ false → shServe x ≡ answer
   answer-is = any-call (λ b s. b ≡ false → s ≡ answer) (λ r e. absurd (true≢false e)) (λ e. refl)
 
-  pub answered-is : (count : ℕ) → checked ≡ Sound count → turnedAway ≡ false → shServe x ≡ answered x count
+  pub answered-is : (count : ℕ) → checked ≡ Sound count → turnedAway x ≡ false → shServe x ≡ answered x count
   answered-is count s e = answer-is e ∙ ap (λ (c : Checked). answered x (checkValue c)) s
 
   pub buffer-past : drop (callValue (shServe x .call)) (shServe x .buffer) ≡ drop (callValue (shServe x .call)) (x .buffer)
