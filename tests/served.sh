@@ -59,6 +59,7 @@ ends 1 -f 4294967295 "$room/none" "$room/none"
 # By another version's header it does not start.
 mkdir "$room/other"
 sed 's/\(NDUSHAVIRE_VERSION_NUMBER\) \([0-9][0-9]*\) /\1 (\2 - 100) /' "$top/include/ndushavire.h" >"$room/other/ndushavire.h"
+cp "$top/include/ndushavire_sh.h" "$room/other/"
 include=$room/other build "$room/source" "$room/other/daemon" cut
 program=$room/other/daemon ends 1 "$room/none" "$room/none"
 grep -q '^daemon: the library: it is of another version than the header' "$room/complaint" || fail "by another header it says '$(cat "$room/complaint")'"
