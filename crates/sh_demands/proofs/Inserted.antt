@@ -1,5 +1,5 @@
 -- Demand 3 for the Sh server: AVPs of kinds that it does not know put into a request after its first AVP.
-use Rattle.octets.specs.Standard.{ℕ, zero, suc, _+_, _%_, _≤_, List, [], _∷_, _++_, Bool, true, false, cond, _&&_, not, _≡_, refl, sym, ap, _∙_, arith}
+use Rattle.octets.specs.Standard.{ℕ, zero, suc, _+_, _%_, _≤_, _<_, List, [], _∷_, _++_, Bool, true, false, cond, _&&_, not, _≡_, refl, sym, ap, _∙_, arith}
 use Rattle.octets.specs.Standard.{eqb, zero-add, ne-eqb, length}
 use Rattle.octets.specs.Run.{over}
 use Rattle.blocks.specs.Blocks.{blockOf}
@@ -21,6 +21,7 @@ use Rattle.lookup.specs.Find.{findPublic}
 use Rattle.failed.specs.Failing.{failedBy}
 use Rattle.refusals.specs.Early.{checkValue, wrongSize, wrongLength, noRequest}
 use Rattle.refusals.specs.Trial.{Trial, tried}
+use Rattle.refusals.proofs.Trials.{tried-alike}
 use Rattle.envelope.specs.End.{failedPart, proxies, endBytes}
 use Rattle.envelope.specs.Header.{headerBytes}
 use Rattle.user_data.specs.declared.References.{References}
@@ -38,6 +39,7 @@ use Rattle.demands.proofs.Rows.{foreign-proxies, foreign-some, quiet-foreign, n
 use Rattle.demands.proofs.Rows.{marked-inserted, before-whole, fault-moved, mark-judges, mark-failed}
 use Rattle.sh_demands.specs.Call.{turnedAway}
 use Rattle.sh_demands.specs.Insertion.{asking, placed, faultBody, faultBytes, blaming}
+use Rattle.sh_demands.proofs.Blaming.{fault-bytes-are}
 use Rattle.sh_demands.proofs.Refusing.{answer-is}
 
 -- What every refusal keeps goes through the trials to the answer.
@@ -148,6 +150,17 @@ module _ (x : Lent) (req other : List ℕ) (size : wrongSize req ≡ wrongSize o
   turned-same : turnedAway (asking x req) ≡ turnedAway (asking x other)
   turned-same = rw (size, long, asks)
 
+  -- where one of them holds, the answer does not matter, and there is no place to move
+  refused-through : (f : ℕ → ℕ) → turnedAway (asking x other) ≡ true → shServe (asking x req) ≡ placed f (shServe (asking x other))
+  unfolding serveChecked refused
+  refused-through f e =
+      let c = checkArea (x .table) (length (x .profile)) in
+      let here = answered (asking x req) (checkValue c) in
+      let there = answered (asking x other) (checkValue c) in
+      rw (size, long, asks)
+      (tried-through (placed f) (refused (asking x other)) (placed f here) here (λ r. refl) refl (trialsOf (asking x other) c)
+      ∙ ap (placed f) (tried-alike (refused (asking x other)) here there (trialsOf (asking x other) c) e))
+
 -- Data-References are known to Sh, so no AVP of an unknown kind is one.
 refers-less : (n : ℕ) (a : List ℕ) → eqb (kindOf a) dataReference ≡ false → refers n a ≡ false
 unfolding refers
@@ -226,6 +239,10 @@ module _ (head : List ℕ) (twenty : length head ≡ 20) (q : Piece) (qs rs : Li
         (s .0) in
         rw (e, s .1))
 
+    pub both-refused : (f : ℕ → ℕ) → turnedAway (asking x (message head c)) ≡ true
+        → shServe (asking x (message head b)) ≡ placed f (shServe (asking x (message head c)))
+    both-refused = refused-through x (message head b) (message head c) size-same length-same asks-same
+
     both-turned : turnedAway (asking x (message head b)) ≡ turnedAway (asking x (message head c))
     both-turned = turned-same x (message head b) (message head c) size-same length-same asks-same
 
@@ -237,11 +254,15 @@ module _ (head : List ℕ) (twenty : length head ≡ 20) (q : Piece) (qs rs : Li
 
   -- one is the first that is marked: a fault before it decides, or it does
   module _ (m : FirstMarked dialect qs rs) where
+    pub fault-more : (more : ℕ → ℕ) → more 0 ≡ 0
+        → ((p : ℕ) → 20 ≤ p → p < placeBehind q (m .front) → putBefore (keep q (m .quiet)) 20 p ≡ more p)
+        → faultBy fault dialect (q ∷ m .front) ≡ true → shServe (asking x (message head b)) ≡ placed (later more) (shServe (asking x (message head c)))
+    fault-more more start before e =
+        both-served (marked-inserted m) start (fault-moved head twenty q qs rs whole tail fours most dialect fault m more start before e)
+
     pub fault-first : faultBy fault dialect (q ∷ m .front) ≡ true
         → shServe (asking x (message head b)) ≡ placed (placeNow (keep q (m .quiet))) (shServe (asking x (message head c)))
-    fault-first e =
-        both-served (marked-inserted m) (none-before q (m .quiet))
-        (fault-moved head twenty q qs rs whole tail fours most dialect fault m (putBefore (keep q (m .quiet)) 20) (none-before q (m .quiet)) (λ p l h. refl) e)
+    fault-first = fault-more (putBefore (keep q (m .quiet)) 20) (none-before q (m .quiet)) (λ p l h. refl)
 
     abbrev place : ℕ
     place = placeBehind q (m .before)
@@ -257,8 +278,8 @@ module _ (head : List ℕ) (twenty : length head ≡ 20) (q : Piece) (qs rs : Li
 
     mark-bytes : (t : List ℕ)
         → shAnswer (termsIn x) (message head b) t (tellNone (faultAt 5001 place)) ≡ faultBytes (termsIn x) (message head b) t 5001 (m .mark .avp)
-    unfolding shAnswer shBody toldBytes endBytes
-    mark-bytes t = rw (mark-failed head twenty q qs rs whole tail fours most dialect fault m)
+    mark-bytes t =
+        fault-bytes-are (termsIn x) (message head b) t 5001 place (m .mark .avp) (mark-failed head twenty q qs rs whole tail fours most dialect fault m)
 
     pub mark-answered : faultBy fault dialect (q ∷ m .front) ≡ false → turnedAway (asking x (message head c)) ≡ false
         → shServe (asking x (message head b)) ≡ blaming (asking x (message head b)) 5001 (m .mark .avp) (behindRow (q ∷ m .before))

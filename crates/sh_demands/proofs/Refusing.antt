@@ -28,7 +28,7 @@ module _ (x : Lent) where
   answer = answered x (checkValue checked)
 
   -- What holds of any refusal, and of the answer, holds of the call.
-  any-call : (P : Bool → Served → Type 0) → ((r : Trial) → P true (refused x r)) → P false answer → P (turnedAway x) (shServe x)
+  pub any-call : (P : Bool → Served → Type 0) → ((r : Trial) → P true (refused x r)) → P false answer → P (turnedAway x) (shServe x)
   unfolding serveChecked
   any-call P f o = tried-by P (λ r. Unit) (refused x) answer (λ r q h. f r) o (trialsOf x checked) (tt, (tt, (tt, (tt, (tt, (tt, tt))))))
 

@@ -124,7 +124,7 @@ module _ (x : Lent) where
       let g = neither (isBad checked) _ (f .1) in
       record { none = rw (a .0, b .0, c .0, d .0, f .0); table = good-count checked (g .0) }
 
-  passed : turnedAway x ≡ false → Passed (x .request) (x .buffer)
+  pub passed : turnedAway x ≡ false → Passed (x .request) (x .buffer)
   passed e = passes (termsIn x) (x .request) (x .buffer) refl (omega (arith, taken e .none))
 
   short : turnedAway x ≡ false → length (answerOf x (checkValue checked)) ≤ 36864
