@@ -19,9 +19,11 @@ use Rattle.reading.specs.declared.Dialect.{Dialect}
 use Rattle.reading.specs.declared.Kind.{Kind}
 use Rattle.reading.specs.declared.Ruled.{Ruled}
 use Rattle.reading.specs.declared.Ruled.the-variants.{Taken, Skipped, Fault}
+use Rattle.reading.specs.declared.Use.{Use}
 use Rattle.reading.specs.declared.Use.the-variants.{Needed}
 use Rattle.reading.specs.declared.group.Group.{Group}
 use Rattle.reading.specs.declared.group.Group.the-variants.{Application, AuthDataItem, SupportedFeatures, UserIdentity}
+use Rattle.reading.proofs.Columns.{use-any}
 use Rattle.requests.specs.Features.{beyondSet}
 use Rattle.requests.specs.Judged.{Judged, bad, fine, nothing, onRule, judge}
 use Rattle.requests.specs.Request.{headerFault, firstOther, readWalk, readIn}
@@ -149,15 +151,8 @@ module _ (command app features : ℕ) where
 
   needed : (peer : ℕ) (a : List ℕ) → kindOf a ≡ application
       → useOf (record { command = command; terms = record { application = app; peer = peer; features = features } }) a ≡ Needed
-  unfolding useIn rowOf known
-  needed peer a k = rw k (go (eqb command 300) (eqb command 301) (eqb command 302) (eqb command 306))
-    where
-      go : (x y z u : Bool) → cond x Needed (cond y Needed (cond z Needed (cond u Needed Needed))) ≡ Needed
-      go true y z u = refl
-      go false true z u = refl
-      go false false true u = refl
-      go false false false true = refl
-      go false false false false = refl
+  unfolding rowOf known
+  needed peer a k = rw k (use-any (λ (u : Use). u ≡ Needed) _ (rowOf application) (λ e. refl) refl refl refl refl)
 
   -- Such a 260, if no other rule blames it, is at fault by the newer edition and not by the older one.
   newer-fault : (a : List ℕ) → Second app a → fault newer a ≡ 5009

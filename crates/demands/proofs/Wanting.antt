@@ -5,19 +5,21 @@ use Rattle.octets.specs.All.{allBelow}
 use Rattle.octets.proofs.All.{and-left, and-right, all-at}
 use Rattle.diameter.specs.Avp.{avpFlags, dataOf, reserved, marked}
 use Rattle.diameter.specs.AvpAt.{present}
-use Rattle.diameter.specs.Message.{versionOf, messageFlags, bodyOf}
+use Rattle.diameter.specs.Message.{bodyOf}
 use Rattle.diameter.specs.Walk.{Walk, ended, faulty, avp, walk, someAvp, behindFirst}
 use Rattle.reading.specs.Features.{isFeatures, bitOf, clearOrIn, bitOutside, asksOther, asks, asksBeyond, passes, callsList}
 use Rattle.reading.specs.Groups.{featureMembers, membersOf, gathers, tooOften, groupFault}
-use Rattle.reading.specs.Kinds.{known, kindOf, rowOf, useIn, useOf, isUnknown, supportedFeatures}
+use Rattle.reading.specs.Kinds.{known, kindOf, rowOf, useIn, useOf, isUnknown, sh, supportedFeatures}
 use Rattle.reading.specs.Rules.{Seen, contentFault, ofContent, ruleBy, rule}
 use Rattle.reading.specs.declared.Dialect.{Dialect}
 use Rattle.reading.specs.declared.Ruled.the-variants.{Taken, Fault}
 use Rattle.reading.specs.declared.Use.{Use}
-use Rattle.reading.specs.declared.Use.the-variants.{Unnamed, Repeated}
+use Rattle.reading.specs.declared.Use.the-variants.{Repeated}
 use Rattle.requests.specs.Features.{beyondSet, listCalled}
 use Rattle.requests.specs.Judged.{fine}
-use Rattle.requests.specs.Request.{cx, spoken, headerFault, readIn}
+use Rattle.requests.specs.Request.{headerFault, readIn}
+use Rattle.requests.proofs.Insert.{features-known}
+use Rattle.requests.proofs.Kept.{header-spoken}
 use Rattle.calling.specs.Lent.{Lent, dialectIn}
 use Rattle.taking.proofs.Conditions.{all-fails}
 use Rattle.demands.specs.Features.{Among, here, later, vendorIn, listIn, bitsIn, Outside, Asks, Beyond, Called}
@@ -130,10 +132,10 @@ unfolding beyondSet
 beyond-holds a b = some-holds (asksBeyond (a .terms .features)) (bodyOf (a .request)) (b .one) (b .among) (asks-holds (a .terms .features) (b .one) (b .asks))
 
 -- THE RULES, of a 628: it is named and may come again in every command of Cx, so that (c) and (h) alone decide
-module _ (d : Dialect) (a : List ℕ) (k : kindOf a ≡ supportedFeatures) (other : d .command ≡ 306 → ⊥) where
+module _ (d : Dialect) (a : List ℕ) (k : kindOf a ≡ supportedFeatures) (other : d .terms .application ≡ sh → ⊥) where
   pub repeated : useOf d a ≡ Repeated
   unfolding useIn rowOf known
-  repeated = rw (k, ne-eqb (d .command) 306 other) (go (eqb (d .command) 300) (eqb (d .command) 301) (eqb (d .command) 302))
+  repeated = rw (k, ne-eqb (d .terms .application) sh other) (go (eqb (d .command) 300) (eqb (d .command) 301) (eqb (d .command) 302))
     where
       go : (x y z : Bool) → cond x Repeated (cond y Repeated (cond z Repeated Repeated)) ≡ Repeated
       go true y z = refl
@@ -174,29 +176,11 @@ module _ (d : Dialect) (a : List ℕ) (k : kindOf a ≡ supportedFeatures) (othe
 
 -- In no command is it unknown: Sh knows it and does not name it.
 pub never-unknown : (d : Dialect) (a : List ℕ) → kindOf a ≡ supportedFeatures → isUnknown (useOf d a) ≡ false
-unfolding useIn rowOf known
-never-unknown d a k = rw k (go (eqb (d .command) 300) (eqb (d .command) 301) (eqb (d .command) 302) (eqb (d .command) 306))
-  where
-    go : (x y z w : Bool) → isUnknown (cond x Repeated (cond y Repeated (cond z Repeated (cond w Unnamed Repeated)))) ≡ false
-    go true y z w = refl
-    go false true z w = refl
-    go false false true w = refl
-    go false false false true = refl
-    go false false false false = refl
+never-unknown d a k = rw k (features-known d)
 
--- THE OWN LIST. A header without a fault has a command of Cx.
-unspoken : (version error : Bool) → _≡_ {A = ℕ} (cond version 5011 (cond error 3008 3001)) 0 → ⊥
-unspoken true error e = omega arith
-unspoken false true e = omega arith
-unspoken false false e = omega arith
-
-pub of-cx : (d : Dialect) (req : List ℕ) → headerFault d req ≡ 0 → d .command ≡ 306 → ⊥
-unfolding headerFault
-of-cx d req e c = go (spoken d) refl
-  where
-    go : (x : Bool) → spoken d ≡ x → ⊥
-    go true f = omega (arith, c, leb-true (d .command) 303 (and-right (eqb (d .terms .application) cx && leb 300 (d .command)) _ f))
-    go false f = unspoken (not (eqb (versionOf req) 1)) (eqb (messageFlags req / 32 % 2) 1) (rw f at e)
+-- THE OWN LIST. A header without a fault is one of Cx.
+pub of-cx : (d : Dialect) (req : List ℕ) → headerFault d req ≡ 0 → d .terms .application ≡ sh → ⊥
+of-cx d req e s = omega (arith, s, header-spoken d req e .0)
 
 pub called-says : (a : Lent) → listCalled (a .terms) (a .request) ≡ true → Called a
 unfolding listCalled callsList

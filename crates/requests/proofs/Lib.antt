@@ -4,6 +4,6 @@ pub mod Kept
 pub mod Naming
 pub mod Placed
 pub mod Requests
-pub mod Scheme
+pub mod Sole
 pub mod Turns
 pub mod Wanted

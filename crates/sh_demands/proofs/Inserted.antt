@@ -9,7 +9,7 @@ use Rattle.diameter.specs.Avp.{valueOf}
 use Rattle.diameter.specs.Message.{bodyOf}
 use Rattle.diameter.specs.Put.{glue, Piece, bytesOf, avpsOf, Whole, All}
 use Rattle.diameter.specs.Walk.{Walk, avp, walk, someAvp}
-use Rattle.reading.specs.Kinds.{known, kindOf, rowOf, useIn, isUnknown, dataReference}
+use Rattle.reading.specs.Kinds.{known, kindOf, rowOf, useIn, isUnknown, sh, dataReference}
 use Rattle.reading.specs.Rules.{Seen}
 use Rattle.reading.specs.Verdicts.{faultAt}
 use Rattle.reading.specs.declared.Dialect.{Dialect}
@@ -17,7 +17,6 @@ use Rattle.reading.specs.declared.Terms.{Terms}
 use Rattle.reading.specs.declared.Verdict.{Verdict}
 use Rattle.requests.specs.Judged.{Judged, bad, fine}
 use Rattle.requests.specs.Request.{dialectOf, underSh, spokenSh, headerFaultSh, readWalk, readSh, sessionOf, identityOf}
-use Rattle.requests.proofs.Kept.{sh-command}
 use Rattle.lookup.specs.Find.{findPublic}
 use Rattle.failed.specs.Failing.{failedBy}
 use Rattle.refusals.specs.Early.{checkValue, wrongSize, wrongLength, noRequest}
@@ -103,10 +102,10 @@ module _ (head : List ℕ) (twenty : length head ≡ 20) (b c : List ℕ) (x : L
   abbrev short : List ℕ
   short = message head c
 
-  module _ (refs : d .command ≡ 306 → referencesOf (walk b) ≡ referencesOf (walk c)) (t : List ℕ) (count : ℕ) where
+  module _ (refs : referencesOf (walk b) ≡ referencesOf (walk c)) (t : List ℕ) (count : ℕ) where
     read-same : (seen : Seen) → readSh d short ≡ fine seen → tellRead long t count seen ≡ tellRead short t count seen
     unfolding tellRead
-    read-same seen is = rw (message-body head twenty b, message-body head twenty c, refs (sh-command d short seen is))
+    read-same seen is = rw (message-body head twenty b, message-body head twenty c, refs)
 
     judged-same : {from : ℕ} {more : ℕ → ℕ} → more 0 ≡ 0 → {j k : Judged} → readSh d short ≡ k → Moved long short from more j k
         → SameAnswered long short t (tellJudged long t count j) (tellJudged short t count k)
@@ -149,7 +148,7 @@ module _ (x : Lent) (req other : List ℕ) (size : wrongSize req ≡ wrongSize o
   turned-same : turnedAway (asking x req) ≡ turnedAway (asking x other)
   turned-same = rw (size, long, asks)
 
--- Data-References are known to a User-Data-Request, so no AVP of an unknown kind is one.
+-- Data-References are known to Sh, so no AVP of an unknown kind is one.
 refers-less : (n : ℕ) (a : List ℕ) → eqb (kindOf a) dataReference ≡ false → refers n a ≡ false
 unfolding refers
 refers-less n a e = rw e
@@ -158,11 +157,11 @@ other-less : (a : List ℕ) → eqb (kindOf a) dataReference ≡ false → refer
 unfolding refersOther
 other-less a e = rw e
 
-reference-known : (d : Dialect) → d .command ≡ 306 → isUnknown (useIn d (rowOf dataReference)) ≡ false
+reference-known : (d : Dialect) → d .terms .application ≡ sh → isUnknown (useIn d (rowOf dataReference)) ≡ false
 unfolding useIn rowOf known
 reference-known d e = rw e
 
-foreign-references : (d : Dialect) → d .command ≡ 306 → {qs rs : List Piece} → Inserted (Foreign d) qs rs → (w : Walk)
+foreign-references : (d : Dialect) → d .terms .application ≡ sh → {qs rs : List Piece} → Inserted (Foreign d) qs rs → (w : Walk)
     → referencesOf (glue (avpsOf rs) w) ≡ referencesOf (glue (avpsOf qs) w)
 unfolding referencesOf
 foreign-references d e i w =
@@ -198,9 +197,9 @@ module _ (head : List ℕ) (twenty : length head ≡ 20) (q : Piece) (qs rs : Li
     unfolding avpsOf glue
     copies-same = rw (walks .0, walks .1) (foreign-proxies (keep q i) (walk tail))
 
-    refs-same : dialect .command ≡ 306 → referencesOf (walk b) ≡ referencesOf (walk c)
+    refs-same : referencesOf (walk b) ≡ referencesOf (walk c)
     unfolding avpsOf glue
-    refs-same e = rw (walks .0, walks .1) (foreign-references dialect e (keep q i) (walk tail))
+    refs-same = rw (walks .0, walks .1) (foreign-references dialect refl (keep q i) (walk tail))
 
     fits : Fit b × Fit c
     fits = (long-fit head twenty q qs rs whole tail fours most dialect i, short-fit head twenty q qs rs whole tail fours most dialect i)
