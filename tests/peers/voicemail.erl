@@ -1,5 +1,5 @@
-%% Erlang's diameter as a voicemail box: User-Data-Requests of Sh, made and read by sh.dia. Each document that comes is read by xmerl, by both of its parsers, and
-%% compared with the table on disk. One connection carries Cx as well, by which a line is registered and removed as call servers would have it.
+%% Erlang's diameter as a voicemail box: User-Data-Requests of Sh and their answers by sh.dia. Each document that comes is read by xmerl, by both of its
+%% parsers, and compared with the table on disk. One connection carries Cx as well, by which a line is registered and removed as by call servers.
 %% erl -noshell -s voicemail run ADDRESS PORT EDITION TABLE: EDITION is the base standard that the daemon states of its peer.
 -module(voicemail).
 -export([run/1]).
@@ -80,7 +80,7 @@ wanted({_, State, Name}, References) ->
 %% ---- what is told
 
 tell_line({Public, State, Name} = Line) ->
-    Asked = [{both, [?STATE]}, {box, [?NAME]}, {both, [?STATE, ?NAME]}, {box, [?NAME, ?STATE]}, {both, [?STATE, ?STATE]}, {box, [?NAME, ?STATE, ?NAME, ?STATE]}],
+    Asked = [{both, [?STATE]}, {box, [?NAME]}, {both, [?STATE, ?NAME]}, {box, [?NAME, ?STATE]}, {both, [?STATE, ?STATE]}, {box, [?NAME, ?STATE, ?NAME]}],
     [tells(Service, Line, References) || {Service, References} <- Asked],
     say("~ts: state ~b, ~ts: ~b documents", [Public, State, named(Name), length(Asked)]).
 
@@ -149,10 +149,12 @@ unusual(Edition) ->
      {"Destination-Host", ['UDR', {'Destination-Host', ["hss.isle"]} | Asked], []},
      {"all that 001 has without M",
       ['UDR', {'DRMP', [0]}, {'Wildcarded-Public-Identity', ["sip:!.*!@isle"]}, {'Wildcarded-IMPU', ["sip:!.*!@isle"]}, {'Identity-Set', [0, 3]},
-       {'Session-Priority', [0]}, {'Requested-Nodes', [1]}, {'Serving-Node-Indication', [0]}, {'Pre-paging-Supported', [1]}, {'Local-Time-Zone-Indication', [1]},
-       {'UDR-Flags', [3]}, {'Call-Reference-Info', [[{'Call-Reference-Number', "1"}, {'AS-Number', "2"}]]}, {'OC-Supported-Features', [[]]} | Asked], []},
-     {"two Proxy-Infos, which come back, and a Route-Record", ['UDR', {'Proxy-Info', Proxies}, {'Route-Record', ["r.isle"]} | Asked], ["p1.isle", "p2.isle"]}] ++
-    [{"two Vendor-Ids in 260, by RFC 3588", bare([vendor(), vendor()], [avp(703, 10415, <<?NAME:32>>), avp(703, 10415, <<?STATE:32>>)]), []} || Edition == 3588].
+       {'Session-Priority', [0]}, {'Requested-Nodes', [1]}, {'Serving-Node-Indication', [0]}, {'Pre-paging-Supported', [1]},
+       {'Local-Time-Zone-Indication', [1]}, {'UDR-Flags', [3]}, {'Call-Reference-Info', [[{'Call-Reference-Number', "1"}, {'AS-Number', "2"}]]},
+       {'OC-Supported-Features', [[{'AVP', [#diameter_avp{code = 622, data = <<1:64>>}]}]]} | Asked], []},
+     {"two Proxy-Infos, which come back, and a Route-Record",
+      ['UDR', {'Proxy-Info', Proxies}, {'Route-Record', ["r.isle"]} | Asked], ["p1.isle", "p2.isle"]}] ++
+    [{"two Vendor-Ids in 260, by RFC 3588", bare([vendor(), vendor()], [avp(703, 10415, <<Of:32>>) || Of <- [?NAME, ?STATE]]), []} || Edition == 3588].
 
 taken({What, Request, Proxies}, Line) ->
     {_, Fields} = Answer = asked(box, Request),
