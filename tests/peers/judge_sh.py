@@ -12,6 +12,8 @@ from judge import said
 
 SH, TGPP, STATE, NAME = "16777217", "10415", "11", "12"
 RESULTS = {"B2001", "B3001", "B5001", "B5004", "B5005", "B5009", "B5014", "X5001", "X5100"}
+# An answer's AVPs, in this order; the last is a relay's.
+ORDER = ["263", "260", "268", "297", "277", "264", "296", "702", "279", "284", "282"]
 # AVPs of document 001 that the dictionary of tshark 4.0 does not have.
 NOT_THERE = ("Unknown AVP 720 ",)
 
@@ -100,9 +102,8 @@ def wrong_pair(request, answer):
         return "it is called %s" % answer.named
     if answer.command != request.command:
         return "it is a %s for a %s" % (answer.command, request.command)
-    if (answer.codes.count("702") == 1) != (answer.result() == "B2001") or answer.codes.count("702") > 1:
-        return "%s has the AVPs %s" % (answer.result(), answer.codes)
-    if ("279" in answer.codes) != answer.result().startswith("B5"):
+    counts = [answer.codes.count(code) for code in ("702", "279")]
+    if counts != [answer.result() == "B2001", answer.result().startswith("B5")] or answer.codes != sorted(answer.codes, key=ORDER.index):
         return "%s has the AVPs %s" % (answer.result(), answer.codes)
     return wrong_document(request, answer) if answer.result() == "B2001" else None
 
@@ -158,7 +159,7 @@ def main():
     print("judge_sh.py: its complaints of what was sent wrong on purpose, or of what its dictionary does not have: %s" % said(fine))
     wrong += ["no answer was %s" % one for one in sorted(RESULTS - set(answers))]
     wrong += ["%d requests and %d answers" % (sum(requests.values()), sum(answers.values()))] if sum(requests.values()) != sum(answers.values()) else []
-    wrong += [] if judge(damaged(sys.argv[1]))[4] else ["of a copy with a damaged answer tshark says nothing"]
+    wrong += [] if wrong or judge(damaged(sys.argv[1]))[4] else ["of a copy with a damaged answer tshark says nothing"]
     for one in wrong[:20]:
         print("judge_sh.py: WRONG: " + one)
     return 1 if wrong else 0

@@ -154,7 +154,7 @@ unusual(Edition) ->
        {'OC-Supported-Features', [[{'AVP', [#diameter_avp{code = 622, data = <<1:64>>}]}]]} | Asked], []},
      {"two Proxy-Infos, which come back, and a Route-Record",
       ['UDR', {'Proxy-Info', Proxies}, {'Route-Record', ["r.isle"]} | Asked], ["p1.isle", "p2.isle"]}] ++
-    [{"two Vendor-Ids in 260, by RFC 3588", bare([vendor(), vendor()], [avp(703, 10415, <<Of:32>>) || Of <- [?NAME, ?STATE]]), []} || Edition == 3588].
+    [{"two Vendor-Ids in 260, by RFC 3588", bare([vendor(), vendor()], [group(1), reference(?NAME), reference(?STATE)]), []} || Edition == 3588].
 
 taken({What, Request, Proxies}, Line) ->
     {_, Fields} = Answer = asked(box, Request),
@@ -186,19 +186,29 @@ wrong(Edition) ->
      {"DSAI-Tag, with M", ['UDR', Desk, State, {'DSAI-Tag', ["tag"]}], {b, 5001}, [711]},
      {"260 of Cx", ['UDR', Desk, State, {'Vendor-Specific-Application-Id', [{'Vendor-Id', 10415}, {'Auth-Application-Id', [16777216]}]}], {b, 5004}, [260]},
      {"277 of 0", ['UDR', Desk, State, {'Auth-Session-State', 0}], {b, 5004}, [277]},
-     {"no 703", bare([vendor()], []), {b, 5005}, [703]},
-     {"a 703 of 3 bytes", bare([vendor()], [avp(703, 10415, <<0, 0, ?STATE>>)]), {b, 5014}, [703]},
-     {"two 700", bare([vendor()], [desk(), avp(703, 10415, <<?STATE:32>>)]), {b, 5009}, [700]}] ++
-    [{"two Vendor-Ids in 260, by RFC 6733", bare([vendor(), vendor()], [avp(703, 10415, <<?STATE:32>>)]), {b, 5009}, [260]} || Edition == 6733].
+     {"no 700", bare([vendor()], [reference(?STATE)]), {b, 5005}, [700]},
+     {"no 703", bare([vendor()], [group(1)]), {b, 5005}, [703]},
+     {"two identities in 700", bare([vendor()], [group(2), reference(?STATE)]), {b, 5004}, [700]},
+     {"two 700", bare([vendor()], [group(1), group(1), reference(?STATE)]), {b, 5009}, [700]},
+     {"two User-Names", bare([vendor()], [group(1), reference(?STATE), avp(1, undefined, <<"a">>), avp(1, undefined, <<"a">>)]), {b, 5009}, [1]},
+     {"an identity outside of 700, with M", bare([vendor()], [group(1), desk(), reference(?STATE)]), {b, 5001}, [601]},
+     {"a 703 of 3 bytes", bare([vendor()], [group(1), avp(703, 10415, <<0, 0, ?STATE>>)]), {b, 5014}, [703]},
+     {"data reference 256 + 11", bare([vendor()], [group(1), reference(256 + ?STATE)]), {x, 5100}, []}] ++
+    [{"two Vendor-Ids in 260, by RFC 6733", bare([vendor(), vendor()], [group(1), reference(?STATE)]), {b, 5009}, [260]} || Edition == 6733].
 
 identity(Public) -> {'User-Identity', [{'Public-Identity', [Public]}]}.
 
-%% A request that no grammar allows, as AVPs: what 260 has before the application, and what comes behind the 700.
+%% A request that no grammar allows, as AVPs: what 260 has before the application, and what comes behind those that every request has.
 bare(Vendors, More) ->
     ['UDR', avp(263, undefined, iolist_to_binary(diameter:session_id("box.isle"))), avp(260, undefined, Vendors ++ [avp(258, undefined, <<16777217:32>>)]),
-     avp(277, undefined, <<1:32>>), avp(264, undefined, <<"box.isle">>), avp(296, undefined, <<"isle">>), avp(283, undefined, <<"isle">>), desk() | More].
+     avp(277, undefined, <<1:32>>), avp(264, undefined, <<"box.isle">>), avp(296, undefined, <<"isle">>), avp(283, undefined, <<"isle">>) | More].
 
-desk() -> avp(700, 10415, [avp(601, 10415, <<"sip:desk@isle">>)]).
+%% A 700 with so many identities.
+group(Count) -> avp(700, 10415, lists:duplicate(Count, desk())).
+
+desk() -> avp(601, 10415, <<"sip:desk@isle">>).
+
+reference(Number) -> avp(703, 10415, <<Number:32>>).
 
 vendor() -> avp(266, undefined, <<10415:32>>).
 
