@@ -92,10 +92,12 @@ tells(Service, {Public, _, _} = Line, References) ->
     {_, #{'Session-Id' := Session}} = Answer = asked(Service, ['UDR', {'Session-Id', Session}, identity(Public), {'Data-Reference', References}]),
     tells(Answer, wanted(Line, References)).
 
+%% How many bytes the document has.
 tells(Answer, Wanted) ->
     {b, 2001} = client:result(Answer),
     {Wanted, Wanted, Wanted} = {Wanted, tree(document(Answer)), events(document(Answer))},
-    counted(documents).
+    counted(documents),
+    byte_size(document(Answer)).
 
 %% The answer to a request, with the AVPs that such an answer has, and no others.
 asked(Service, Request) ->
@@ -255,7 +257,7 @@ life(Table) ->
          {"removed by SAR of type 5", sar(5, Odd), 0, ""},
          {"called while it is away, SAR of type 3, from a server with 96 quotes for a name", sar(3, Longest), 2, Longest},
          {"removed again", sar(5, Longest), 0, ""}],
-    [step(Table, Step) || Step <- Steps],
+    713 = lists:max([step(Table, Step) || Step <- Steps]), % the longest that there can be, by SH.md
     %% XML has no U+0001: SH.md says that a strict reader refuses the document.
     cx(sar(1, [1])),
     Answer = asked(both, ['UDR', identity("sip:gina@isle"), {'Data-Reference', [?NAME]}]),
@@ -269,8 +271,9 @@ life(Table) ->
 step(Table, {What, Request, State, Name}) ->
     cx(Request),
     {_, State, Name} = Line = line_of("sip:gina@isle", Table),
-    tells(both, Line, [?STATE, ?NAME]),
-    say("gina, ~s: state ~b, ~ts", [What, State, named(Name)]).
+    Size = tells(both, Line, [?STATE, ?NAME]),
+    say("gina, ~s: state ~b, ~ts", [What, State, named(Name)]),
+    Size.
 
 cx(none) -> ok;
 cx(Request) -> {b, 2001} = client:result(client:ask(both, Request)).
