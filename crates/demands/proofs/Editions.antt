@@ -30,7 +30,7 @@ use Rattle.requests.specs.Request.{headerFault, firstOther, readWalk, readIn}
 use Rattle.deciding.specs.Decide.{judgedBy, decideBy, decide}
 use Rattle.deciding.specs.Plans.{planRead}
 use Rattle.deciding.specs.Rules.{inForce}
-use Rattle.demands.specs.Place.{behindAt, ReadingReaches, first, pastTaken, pastSkipped, lengthFault, ruleFault, AtFault}
+use Rattle.demands.specs.Place.{behindAt, ReadingReaches, first, pastTaken, pastSkipped, lengthFault, ruleFault, AtFaultBy}
 use Rattle.demands.specs.Peers.{vendorIds, OneVendor, Second, ComesTo}
 use Rattle.older_rules.proofs.Features.{on-same}
 use Rattle.demands.proofs.Dialects.{spoken}
@@ -290,12 +290,13 @@ module _ (command app features : ℕ) where
     unblamed : (d : Dialect) (place : ℕ) (c : ComesTo d req place) → d .terms .application ≡ app → Unblamed (c .seen) (avpAt req place)
     unblamed d place c e = record { flags = rw (c .flags); before = c .before; second = rw (← e) (c .second) }
 
-    pub newer-breaks : (place : ℕ) → ComesTo newer req place → headerFault newer req ≡ 0 → firstOther (bodyOf req) ≡ false → AtFault newer req 5009 place
+    pub newer-breaks : {header : ℕ} (place : ℕ) → ComesTo newer req place → header ≡ 0 → firstOther (bodyOf req) ≡ false
+        → AtFaultBy header newer req 5009 place
     newer-breaks place c h f =
         let b = ruleFault 5009 (c .whole) (newer-rule (c .seen) (avpAt req place) (unblamed newer place c refl)) in
         record { header = h; session = f; seen = c .seen; reached = c .reached; breaks = b }
 
-    pub older-passes : (place : ℕ) → ComesTo older req place → (n at : ℕ) → AtFault older req n at → at ≢ place
+    pub older-passes : {header : ℕ} (place : ℕ) → ComesTo older req place → (n at : ℕ) → AtFaultBy header older req n at → at ≢ place
     older-passes place c n at f =
         taken-passes older req place (c .seen) (c .reached) (c .whole) (older-rule (c .seen) (avpAt req place) (unblamed older place c refl)) n at f
 

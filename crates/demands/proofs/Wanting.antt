@@ -1,6 +1,6 @@
 -- What a request wants of features: the tests of the definitions, and what they say of its AVPs, in both directions.
-use Rattle.octets.specs.Standard.{ℕ, _/_, _%_, List, Bool, true, false, cond, not, _&&_, _||_, true≢false, _≡_, refl, sym, ap, _∙_, _⊎_, inl, inr, _≢_}
-use Rattle.octets.specs.Standard.{arith, leb, leb-true, eqb, eqb-true, eqb-false, eq-eqb, ne-eqb, getD, none}
+use Rattle.octets.specs.Standard.{ℕ, List, Bool, true, false, cond, not, _&&_, _||_, true≢false, _≡_, refl, sym, ap, _∙_, _⊎_, inl, inr, _≢_}
+use Rattle.octets.specs.Standard.{arith, eqb, eqb-true, eqb-false, eq-eqb, ne-eqb, getD, none}
 use Rattle.octets.specs.All.{allBelow}
 use Rattle.octets.proofs.All.{and-left, and-right, all-at}
 use Rattle.diameter.specs.Avp.{avpFlags, dataOf, reserved, marked}

@@ -1,0 +1,25 @@
+-- The kinds that a server knows, by vendor (0: without V) and code: those of the table whose use in a dialect is not unknown.
+use Prim.Native.Nat.{ℕ}
+use mathlib.Core.Bool.{Bool, true, false}
+use mathlib.Core.List.{List, [], _∷_}
+use Rattle.reading.specs.Kinds.{known, useIn, isUnknown}
+use Rattle.reading.specs.declared.Dialect.{Dialect}
+use Rattle.reading.specs.declared.Kind.{Kind}
+use Rattle.reading.specs.declared.Use.{Use}
+
+abbrev pub unless : Bool → ℕ × ℕ → List (ℕ × ℕ) → List (ℕ × ℕ)
+unless true k ks = ks
+unless false k ks = k ∷ ks
+
+unfoldable pub kindsBy : (Kind → Use) → List Kind → List (ℕ × ℕ)
+kindsBy f [] = []
+kindsBy f (k ∷ ks) = unless (isUnknown (f k)) (k .vendor, k .code) (kindsBy f ks)
+
+-- those of the Cx server: document 01's, with 607 and 612 of 02 [1] and 628 of 02 [11], in the table's order
+abbrev pub ofCx : List (ℕ × ℕ)
+ofCx =
+    (0, 263) ∷ (0, 260) ∷ (0, 277) ∷ (0, 264) ∷ (0, 296) ∷ (0, 283) ∷ (0, 1) ∷ (10415, 601) ∷ (10415, 600) ∷ (10415, 612) ∷ (10415, 607) ∷ (10415, 602)
+    ∷ (10415, 614) ∷ (10415, 624) ∷ (10415, 623) ∷ (0, 293) ∷ (0, 284) ∷ (0, 282) ∷ (10415, 628) ∷ []
+
+abbrev pub kindsOf : Dialect → List (ℕ × ℕ)
+kindsOf d = kindsBy (useIn d) known
