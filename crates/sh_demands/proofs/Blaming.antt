@@ -13,6 +13,7 @@ use Rattle.refusals.specs.Early.{checkValue}
 use Rattle.envelope.specs.End.{endBytes}
 use Rattle.sh.specs.Answer.{toldBytes, shBody, shAnswer}
 use Rattle.sh.specs.Tell.{tellNone, tellJudged, tell}
+use Rattle.sh.specs.declared.telling.Telling.{Telling}
 use Rattle.sh.proofs.Tellings.{read-clear}
 use Rattle.ndushavire.specs.Reads.{callPlace}
 use Rattle.ndushavire_sh.specs.Lent.{Lent, termsIn, dialectIn}
@@ -80,7 +81,7 @@ module _ (x : Lent) where
       ∙ rw (fault-told p b, fault-bytes-are (termsIn x) (x .request) (tableIn (x .table)) n p _ (failed-there (x .request) n p h))
 
   pub blames-result : (p : ℕ) (b : Blames x p) → resultOf x ≡ Base (b .result)
-  blames-result p b = rw (fault-told p b)
+  blames-result p b = ap (λ (g : Telling). g .verdict .result) (fault-told p b)
 
   pub place-blamed : place ≢ 0 → Blames x place
   unfolding readSh

@@ -158,8 +158,8 @@ module _ (x : Lent) (req other : List ℕ) (size : wrongSize req ≡ wrongSize o
       let here = answered (asking x req) (checkValue c) in
       let there = answered (asking x other) (checkValue c) in
       rw (size, long, asks)
-      (tried-through (placed f) (refused (asking x other)) (placed f here) here (λ r. refl) refl (trialsOf (asking x other) c)
-      ∙ ap (placed f) (tried-alike (refused (asking x other)) here there (trialsOf (asking x other) c) e))
+      (tried-alike (refused (asking x other)) here (placed f there) (trialsOf (asking x other) c) e
+      ∙ tried-through (placed f) (refused (asking x other)) (placed f there) there (λ r. refl) refl (trialsOf (asking x other) c))
 
 -- Data-References are known to Sh, so no AVP of an unknown kind is one.
 refers-less : (n : ℕ) (a : List ℕ) → eqb (kindOf a) dataReference ≡ false → refers n a ≡ false

@@ -1,7 +1,7 @@
 -- 02 [10], "The newer base standard", and 02 [8], the longer working area, for the Sh server, as theorems about `shServe`.
 use Rattle.octets.specs.Standard.{ℕ, List, _++_, false, _≡_, refl, ap, _∙_, _≢_, arith, length}
-use Rattle.blocks.specs.declared.Checked.{Checked}
 use Rattle.table.specs.Area.{sizeIn, tableIn, checkArea}
+use Rattle.table.specs.Check.{checkTable}
 use Rattle.table.proofs.Areas.{in-all, read-front}
 use Rattle.diameter.specs.AvpAt.{avpAt}
 use Rattle.diameter.specs.Message.{commandOf, bodyOf}
@@ -10,7 +10,6 @@ use Rattle.requests.specs.Judged.{nothing}
 use Rattle.requests.specs.Request.{sh, headerFaultSh, firstOther, readSh}
 use Rattle.failed.specs.Failing.{failedOf}
 use Rattle.refusals.specs.Early.{checkValue}
-use Rattle.refusals.specs.Trial.{Trial, tried}
 use Rattle.envelope.specs.Front.{frontBytes}
 use Rattle.sh.specs.Answer.{shBody, shAnswer}
 use Rattle.sh.specs.Tell.{tellJudged, tell}
@@ -33,7 +32,7 @@ module _ (x : Lent) (one : OneVendor (bodyOf (x .request))) where
   unfolding readSh headerFaultSh
   reads-same =
       read-same-by (commandOf (x .request)) sh rfc6733 rfc3588 0 0 (x .request)
-      (walk-same (commandOf (x .request)) sh 0 20 (bodyOf (x .request)) nothing one) _
+      (walk-same (commandOf (x .request)) sh 0 20 (bodyOf (x .request)) nothing one) (headerFaultSh (dialectIn (byPeer x rfc3588)) (x .request))
 
   told-same : (k : ℕ) → toldOf (byPeer x rfc6733) k ≡ toldOf (byPeer x rfc3588) k
   unfolding tell
@@ -71,9 +70,17 @@ module _ (x : Lent) (place : ℕ) where
       older-passes (commandOf (x .request)) sh 0 (x .request) place c (b .result) (callPlace (shServe (byPeer x rfc3588) .call)) (b .fault) e
 
 -- "THE WORKING AREA MAY BE LONGER THAN THE TABLE": two areas with the same table in front come to the same; so whatever stands behind a table is not looked at.
-pub sh-area : (x : Lent) (area : List ℕ) → tableIn area ≡ tableIn (x .table) → shServe (over x area) ≡ shServe x
-unfolding checkArea
-sh-area x area e = rw e
+module _ (x : Lent) (area : List ℕ) (e : tableIn area ≡ tableIn (x .table)) where
+  answered-over : (k : ℕ) → answered (over x area) k ≡ answered x k
+  unfolding answered
+  answered-over k = rw e
+
+  pub sh-area : shServe (over x area) ≡ shServe x
+  unfolding checkArea serveChecked refused
+  sh-area =
+      let c = checkArea (x .table) (length (x .profile)) in
+      ap (serveChecked (over x area)) (ap (λ (t : List ℕ). checkTable t (length (x .profile))) e)
+      ∙ tried-same (refused (over x area)) (refused x) _ _ (λ r. refl) (trialsOf x c) (λ h. answered-over (checkValue c))
 
 pub sh-behind : (x : Lent) (rest : List ℕ) → length (x .table) ≡ sizeIn (x .table) → shServe (over x (x .table ++ rest)) ≡ shServe x
 sh-behind x rest e = sh-area x (x .table ++ rest) (read-front (x .table) rest e ∙ rw (in-all (x .table) (omega (arith, e))))
