@@ -6,9 +6,9 @@ use Rattle.table.specs.Area.{tableIn, checkArea}
 use Rattle.diameter.specs.Put.{Piece, Whole, All}
 use Rattle.reading.specs.Kinds.{known, useIn, userIdentity}
 use Rattle.reading.specs.declared.Dialect.{Dialect}
-use Rattle.requests.specs.Request.{dialectOf, underSh, headerFaultSh}
+use Rattle.requests.specs.Request.{dialectOf, headerFaultSh}
 use Rattle.refusals.specs.Early.{early}
-use Rattle.calling.specs.Call.{Answer, Call, Answered, Refused}
+use Rattle.calling.specs.Call.{Answer, Answered, Refused}
 use Rattle.ndushavire.specs.Reads.{callNumber, callValue, callIn, Reads}
 use Rattle.ndushavire.specs.Word.{callWord}
 use Rattle.blocks.specs.Blocks.{blockOf}
@@ -20,7 +20,7 @@ use Rattle.requests.proofs.Sole.{Asks, read-identity}
 use Rattle.sh.specs.Tell.{denied}
 use Rattle.ndushavire_sh.specs.Lent.{Lent, lent, termsIn, dialectIn}
 use Rattle.ndushavire_sh.specs.Promise.{ShDecidePromise}
-use Rattle.ndushavire_sh.specs.Serve.{Served, trialsOf, toldOf, answerOf, refused, answered, shServe}
+use Rattle.ndushavire_sh.specs.Serve.{trialsOf, toldOf, answerOf, refused, answered, shServe}
 use Rattle.demands.specs.Call.{Exactly}
 use Rattle.demands.specs.Insertion.{requestOf, Quiet, Inserted, keep, FirstMarked, faultBy, placeNow, behindRow, Longer}
 use Rattle.demands.specs.Knowing.{kindsBy, kindsOf}
@@ -32,7 +32,7 @@ use Rattle.sh_demands.specs.Shown.{SameSight}
 use Rattle.sh_demands.proofs.Alike.{place-same, answer-same}
 use Rattle.sh_demands.proofs.Inserted.{unmarked-same, mark-answered, fault-first}
 use Rattle.sh_demands.proofs.Longer.{longer-newer}
-use Rattle.sh_demands.proofs.Refusing.{refusals, refused-kept, answer-is, answered-is, buffer-past, fits}
+use Rattle.sh_demands.proofs.Refusing.{refusals, refused-kept, answered-is, buffer-past, fits}
 use Rattle.sh_demands.proofs.Returning.{number-most, besides-none, besides-block, answer-long, word-reads, answer-within, buffer-length}
 use Rattle.sh_demands.proofs.Saying.{unknown-only, other-only, known-only, says-unknown, says-other, says-record}
 

@@ -1,5 +1,5 @@
 -- Which answer a User-Data-Request gets that was read, and what its 702 says.
-use Rattle.octets.specs.Standard.{ℕ, _≤_, List, Bool, true, false, true≢false, _≡_, _≢_, refl, sym, ap, _∙_, arith, eqb, ne-eqb, length}
+use Rattle.octets.specs.Standard.{ℕ, List, Bool, true, false, _≡_, _≢_, refl, sym, ap, _∙_, arith, eqb, ne-eqb, length}
 use Rattle.record.specs.Fields.{stateOf, bitsOf, serverOf, pending}
 use Rattle.blocks.specs.Blocks.{blockOf}
 use Rattle.blocks.specs.declared.Checked.the-variants.{Sound}

@@ -1,12 +1,12 @@
 -- What 702 says of the server name and the state is what it was given.
-use Rattle.octets.specs.Standard.{ℕ, _+_, _≤_, Bool, true, false, cond, _&&_, _≡_, refl, sym, ap, _∙_, List, [], _∷_, _++_, append-assoc, arith, eqb, ltb}
-use Rattle.octets.specs.Standard.{length, ne-eqb, append-nil, Option, none, some}
+use Rattle.octets.specs.Standard.{ℕ, _+_, _≤_, Bool, true, false, cond, _&&_, _≡_, refl, List, [], _∷_, _++_, append-assoc, arith, eqb, ltb}
+use Rattle.octets.specs.Standard.{length, ne-eqb, append-nil, none, some}
 use Rattle.markup.specs.Escapes.{escapes, escapeBy, escapeOf, escaped, begins}
 use Rattle.markup.proofs.Escaping.{each-byte, escape-other, unescaped-escaped}
 use Rattle.pen.specs.Bytes.{ifThere}
-use Rattle.user_data.specs.UserData.{opening, nameStart, nameEnd, stateStart, stateEnd, closing, userState, nameText, stateText, nameElement, stateElement}
+use Rattle.user_data.specs.UserData.{opening, nameEnd, stateStart, closing, userState, nameText, stateText, nameElement, stateElement}
 use Rattle.user_data.specs.UserData.{shText, shData}
-use Rattle.user_data.specs.Elements.{behind, upTo, insideIf, inside, unescapedIf, nameTold, stateTold}
+use Rattle.user_data.specs.Elements.{behind, upTo, nameTold, stateTold}
 use Rattle.user_data.specs.declared.References.{References}
 
 -- No tag begins in an escaped name, since `<` is none of its bytes.
