@@ -1,8 +1,7 @@
 -- Demand 3: AVPs of unknown kinds put into a request after its first AVP. Without M nothing changes; the first with M is B5001, unless a fault before it
 -- decides. What reading makes of them is proofs/Rows'.
-use Rattle.octets.specs.Standard.{ℕ, _+_, _%_, _≤_, _<_, List, [], _∷_, _++_, Bool, true, false, not, _||_, true≢false, _≡_}
+use Rattle.octets.specs.Standard.{ℕ, _+_, _%_, _≤_, _<_, List, _∷_, _++_, Bool, true, false, not, _||_, true≢false, _≡_}
 use Rattle.octets.specs.Standard.{refl, sym, ap, _∙_, length, eqb}
-use Rattle.diameter.specs.Message.{commandOf}
 use Rattle.diameter.specs.Walk.{Walk, avp, walk, someAvp}
 use Rattle.diameter.specs.Put.{glue, Piece, bytesOf, avpsOf, Whole, All}
 use Rattle.reading.specs.declared.Dialect.{Dialect}

@@ -17,8 +17,7 @@ use Rattle.sh.specs.declared.telling.Telling.{Telling}
 use Rattle.sh.proofs.Tellings.{read-clear}
 use Rattle.ndushavire.specs.Reads.{callPlace}
 use Rattle.ndushavire_sh.specs.Lent.{Lent, termsIn, dialectIn}
-use Rattle.ndushavire_sh.specs.Serve.{Served, toldOf, refused, answered, shServe}
-use Rattle.demands.specs.Place.{AtFaultBy}
+use Rattle.ndushavire_sh.specs.Serve.{toldOf, refused, answered, shServe}
 use Rattle.demands.proofs.Faults.{fine-bad, same-place, fault-read-by, read-fault-by, fault-least, fault-fours, fault-within}
 use Rattle.demands.proofs.Moved.{failed-there}
 use Rattle.sh_demands.specs.Call.{turnedAway}

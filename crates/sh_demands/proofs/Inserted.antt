@@ -1,44 +1,37 @@
 -- Demand 3 for the Sh server: AVPs of kinds that it does not know put into a request after its first AVP.
-use Rattle.octets.specs.Standard.{ℕ, zero, suc, _+_, _%_, _≤_, _<_, List, [], _∷_, _++_, Bool, true, false, cond, _&&_, not, _≡_, refl, sym, ap, _∙_, arith}
+use Rattle.octets.specs.Standard.{ℕ, zero, suc, _+_, _%_, _≤_, _<_, List, [], _∷_, _++_, Bool, true, false, cond, not, _≡_, refl, sym, _∙_, arith}
 use Rattle.octets.specs.Standard.{eqb, zero-add, ne-eqb, length}
-use Rattle.octets.specs.Run.{over}
-use Rattle.blocks.specs.Blocks.{blockOf}
-use Rattle.blocks.specs.declared.Checked.{Checked}
 use Rattle.table.specs.Area.{tableIn, checkArea}
-use Rattle.diameter.specs.Avp.{valueOf}
-use Rattle.diameter.specs.Message.{bodyOf}
 use Rattle.diameter.specs.Put.{glue, Piece, bytesOf, avpsOf, Whole, All}
-use Rattle.diameter.specs.Walk.{Walk, avp, walk, someAvp}
+use Rattle.diameter.specs.Walk.{Walk, avp, walk}
 use Rattle.reading.specs.Kinds.{known, kindOf, rowOf, useIn, isUnknown, sh, dataReference}
 use Rattle.reading.specs.Rules.{Seen}
 use Rattle.reading.specs.Verdicts.{faultAt}
 use Rattle.reading.specs.declared.Dialect.{Dialect}
 use Rattle.reading.specs.declared.Terms.{Terms}
 use Rattle.reading.specs.declared.Verdict.{Verdict}
-use Rattle.requests.specs.Judged.{Judged, bad, fine}
-use Rattle.requests.specs.Request.{dialectOf, underSh, spokenSh, headerFaultSh, readWalk, readSh, sessionOf, identityOf}
-use Rattle.lookup.specs.Find.{findPublic}
+use Rattle.requests.specs.Judged.{Judged, fine}
+use Rattle.requests.specs.Request.{dialectOf, spokenSh, headerFaultSh, readSh, sessionOf}
 use Rattle.failed.specs.Failing.{failedBy}
 use Rattle.refusals.specs.Early.{checkValue, wrongSize, wrongLength, noRequest}
 use Rattle.refusals.specs.Trial.{Trial, tried}
 use Rattle.refusals.proofs.Trials.{tried-alike}
-use Rattle.envelope.specs.End.{failedPart, proxies, endBytes}
+use Rattle.envelope.specs.End.{proxies, endBytes}
 use Rattle.envelope.specs.Header.{headerBytes}
-use Rattle.user_data.specs.declared.References.{References}
 use Rattle.sh.specs.Answer.{toldBytes, shBody, shAnswer}
 use Rattle.sh.specs.Referring.{refers, refersOther, referencesOf}
-use Rattle.sh.specs.Tell.{denied, tellNone, tellRecord, tellFound, tellRead, tellJudged, tell}
+use Rattle.sh.specs.Tell.{tellNone, tellRead, tellJudged, tell}
 use Rattle.sh.specs.declared.telling.Telling.{Telling}
 use Rattle.sh.proofs.Tellings.{read-clear}
 use Rattle.ndushavire_sh.specs.Lent.{Lent, termsIn, dialectIn}
-use Rattle.ndushavire_sh.specs.Serve.{Served, trialsOf, refused, toldOf, answerOf, answered, serveChecked, shServe}
+use Rattle.ndushavire_sh.specs.Serve.{trialsOf, refused, toldOf, answered, serveChecked, shServe}
 use Rattle.demands.specs.Insertion.{message, requestOf, Foreign, Quiet, Inserted, keep, FirstMarked, faultBy, putBefore, later, placeNow, behindRow}
 use Rattle.demands.proofs.Messages.{message-dialect, message-fault-by, message-flags, message-rest, message-body, readBodyBy, Fit, size-right, length-right}
 use Rattle.demands.proofs.Moved.{Moved, faults, same, past-bytes}
 use Rattle.demands.proofs.Rows.{foreign-proxies, foreign-some, quiet-foreign, none-before, placeBehind, long-walk, short-walk, long-fit, short-fit, unmarked-moved}
 use Rattle.demands.proofs.Rows.{marked-inserted, before-whole, fault-moved, mark-judges, mark-failed}
 use Rattle.sh_demands.specs.Call.{turnedAway}
-use Rattle.sh_demands.specs.Insertion.{asking, placed, faultBody, faultBytes, blaming}
+use Rattle.sh_demands.specs.Insertion.{asking, placed, faultBytes, blaming}
 use Rattle.sh_demands.proofs.Blaming.{fault-bytes-are}
 use Rattle.sh_demands.proofs.Refusing.{answer-is}
 
