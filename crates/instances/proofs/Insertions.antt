@@ -16,7 +16,7 @@ use Rattle.requests.specs.Request.{dialectOf, underCx}
 use Rattle.demands.specs.Call.{turnedAway}
 use Rattle.demands.specs.Insertion.{requestOf, Foreign, Quiet, Inserted, ending, keep, put, putBefore, placeNow, placed, FirstMarked, Cut, Longer}
 use Rattle.demands.specs.Insertion.{Mark, firstMark, newer}
-use Rattle.demands.specs.Knowing.{ofCx, kindsOf}
+use Rattle.demands.specs.Knowing.{kindsOfCx, kindsOf}
 use Rattle.demands.proofs.Demands.{demand-3, demand-3-unmarked, demand-3-table, demand-3-marked, demand-3-fault, demand-3-cases, demand-3-any}
 use Rattle.demands.proofs.Demands.{demand-3-kinds}
 use Rattle.instances.proofs.Asked.{table, removed, vendor, headOf, head, session, application, common, own, rest, sar, asked, comesTo, comes, blamed}
@@ -250,6 +250,6 @@ unfolding all loudly longer-loudly cut-sar firstMark kept
 met-3-left = demand-3 (asked (sar s 5)) (requestOf head (session ∷ loudly) []) longer-loudly .table _ refl
 
 -- The kinds that are known: the same under a command that is the Sh server's, so that its 700 and 703 are unknown here.
-met-3-kinds : kindsOf (record { command = 306; terms = underCx 3588 0 }) ≡ ofCx
+met-3-kinds : kindsOf (record { command = 306; terms = underCx 3588 0 }) ≡ kindsOfCx
 unfolding all
 met-3-kinds = demand-3-kinds (asked (requestOf (headOf 0x32) (session ∷ rest s 5) [])) refl

@@ -19,7 +19,7 @@ use Rattle.sh_example.proofs.Servers.{stateData}
 use Rattle.sh_demands.specs.Call.{turnedAway}
 use Rattle.sh_demands.specs.Insertion as insertion
 use Rattle.sh_demands.specs.Insertion.{placed, blaming, newer}
-use Rattle.sh_demands.specs.Knowing.{ofSh}
+use Rattle.sh_demands.specs.Knowing.{kindsOfSh}
 use Rattle.sh_demands.proofs.Demands.{sh-kinds, sh-demand-3, sh-demand-3-unmarked, sh-demand-3-marked, sh-demand-3-fault}
 
 -- A request for the state of `a`, with a 703 of some bytes: a header by the command's last byte, Session-Id and the row behind it.
@@ -64,11 +64,11 @@ unfolding opened base vendor session common message glue bytesOf avpsOf anyHolds
 all = 0
 
 -- THE KINDS: under 306 and under 300 the same thirteen.
-met-kinds : kindsOf (record { command = 306; terms = underSh 3588 }) ≡ ofSh
+met-kinds : kindsOf (record { command = 306; terms = underSh 3588 }) ≡ kindsOfSh
 unfolding all
 met-kinds = sh-kinds (asking (asks head (rest right)))
 
-met-kinds-other : kindsOf (record { command = 300; terms = underSh 3588 }) ≡ ofSh
+met-kinds-other : kindsOf (record { command = 300; terms = underSh 3588 }) ≡ kindsOfSh
 unfolding all
 met-kinds-other = sh-kinds (asking (asks otherHead (rest right)))
 
