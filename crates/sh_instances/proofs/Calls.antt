@@ -8,7 +8,7 @@ use Rattle.refusals.specs.Early.{earlyTrials, early}
 use Rattle.refusals.specs.Trial.{anyHolds}
 use Rattle.calling.specs.Call.{Answer, Answered, Refused}
 use Rattle.ndushavire.specs.Word.{callWord}
-use Rattle.ndushavire.specs.Reads.{callNumber, callValue, Reads}
+use Rattle.ndushavire.specs.Reads.{callNumber, Reads}
 use Rattle.ndushavire_sh.specs.Lent.{Lent, termsIn}
 use Rattle.ndushavire_sh.specs.Promise.{ShDecidePromise}
 use Rattle.ndushavire_sh.specs.Serve.{Served, toldOf, answerOf, trialsOf, shServe}

@@ -1,26 +1,29 @@
 -- Demand 3 of the Sh server: its hypotheses can be met by a User-Data-Request and what is put into it, a 601 without M and a 602 with M, which are unknown here.
 use Rattle.octets.specs.Standard.{ℕ, _≡_, refl, ap, _∙_, Bool, true, false, _≤_, List, [], _∷_, _++_, Option, none, some, length, set, lit≤}
-use Rattle.blocks.specs.declared.Checked.the-variants.{Sound}
 use Rattle.diameter.specs.Put.{Piece, glue, bytesOf, avpsOf}
 use Rattle.pen.specs.Bytes.{wordBytes, headBytes, vendorHead, vendorBytes, numberBytes}
 use Rattle.pen.specs.Groups.{failed}
+use Rattle.reading.specs.Kinds.{useOf, isUnknown}
+use Rattle.reading.specs.Rules.{rule}
 use Rattle.reading.specs.declared.Dialect.{Dialect}
+use Rattle.reading.specs.declared.Ruled.the-variants.{Skipped}
+use Rattle.requests.specs.Judged.{nothing}
 use Rattle.requests.specs.Request.{sh, dialectOf, underSh, headerFaultSh}
 use Rattle.refusals.specs.Trial.{anyHolds}
 use Rattle.ndushavire_sh.specs.Lent.{Lent, termsIn}
 use Rattle.ndushavire_sh.specs.Serve.{Served, shServe}
 use Rattle.demands.specs.Insertion.{message, requestOf, Foreign, Quiet, Inserted, ending, keep, put, putBefore, placeNow, FirstMarked, Cut, Longer}
 use Rattle.demands.specs.Insertion.{faultBy, behindRow, Mark, firstMark}
-use Rattle.demands.specs.Knowing.{kindsOf}
+use Rattle.demands.specs.Knowing.{isAmong, kindsOf}
 use Rattle.instances.proofs.Asked.{base, vendor, session, common, isWhole, allWhole, all-whole, kept}
-use Rattle.sh_example.proofs.Computed.{held, room, roomy, area, area-sound, asking, served, leaves}
+use Rattle.sh_example.proofs.Computed.{held, roomy, area, area-sound, asking, served, leaves}
 use Rattle.sh_example.proofs.Sample.{reply, opened}
 use Rattle.sh_example.proofs.Servers.{stateData}
 use Rattle.sh_demands.specs.Call.{turnedAway}
 use Rattle.sh_demands.specs.Insertion as insertion
 use Rattle.sh_demands.specs.Insertion.{placed, blaming, newer}
 use Rattle.sh_demands.specs.Knowing.{kindsOfSh}
-use Rattle.sh_demands.proofs.Demands.{sh-kinds, sh-demand-3, sh-demand-3-unmarked, sh-demand-3-marked, sh-demand-3-fault}
+use Rattle.sh_demands.proofs.Demands.{sh-kinds, sh-others, sh-features, sh-demand-3, sh-demand-3-unmarked, sh-demand-3-marked, sh-demand-3-fault}
 
 -- A request for the state of `a`, with a 703 of some bytes: a header by the command's last byte, Session-Id and the row behind it.
 unfoldable headOf : ℕ → List ℕ
@@ -72,7 +75,16 @@ met-kinds-other : kindsOf (record { command = 300; terms = underSh 3588 }) ≡ k
 unfolding all
 met-kinds-other = sh-kinds (asking (asks otherHead (rest right)))
 
--- so both are of unknown kinds, under any header
+-- a 601 and a 602 are none of these, so unknown; a 628 with M is skipped whatever it holds, here a byte
+met-others : (isUnknown (useOf (dialectOf (underSh 3588) head) (quiet .avp)) ≡ true) × (isUnknown (useOf (dialectOf (underSh 3588) head) (loud .avp)) ≡ true)
+unfolding all isAmong
+met-others = (sh-others (asking head) (quiet .avp) refl, sh-others (asking head) (loud .avp) refl)
+
+met-features : rule (dialectOf (underSh 3588) head) nothing (vendor 628 (0x61 ∷ []) .avp) ≡ Skipped
+unfolding all
+met-features = sh-features (asking head) nothing (vendor 628 (0x61 ∷ []) .avp) refl refl
+
+-- so both can be put in, under any header
 module _ (top : List ℕ) where
   abbrev dialect : Dialect
   dialect = dialectOf (underSh 3588) top
@@ -89,7 +101,7 @@ module _ (top : List ℕ) where
   unfolding all
   is-quiet = record { foreign = foreign-quiet; unmarked = refl }
 
-  -- the 602 between a front and a back; with the 601 behind the front's first
+  -- the 602 between a front and a back
   markedAt : (front back : List Piece) → FirstMarked dialect (front ++ back) (front ++ (loud ∷ back))
   unfolding all
   markedAt front back =

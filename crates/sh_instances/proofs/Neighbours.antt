@@ -1,6 +1,5 @@
 -- The neighbour's line, of the Sh server: two tables that differ in everything they may differ in, and behind one of them a whole stale record and a last piece.
 use Rattle.octets.specs.Standard.{ℕ, _≤_, false, _≡_, refl, sym, ap, _∙_, List, [], _∷_, _++_, length, take, length-replicate, lit≤}
-use Rattle.record.specs.Fields.{publicOf}
 use Rattle.blocks.specs.Blocks.{blockOf}
 use Rattle.blocks.specs.declared.Checked.the-variants.{Sound}
 use Rattle.table.specs.Area.{tableIn, checkArea}
@@ -8,11 +7,9 @@ use Rattle.table.proofs.Areas.{read-front, sound-size-in}
 use Rattle.lookup.specs.Find.{findPublic}
 use Rattle.lookup.specs.declared.Found.the-variants.{At}
 use Rattle.reading.specs.Rules.{Seen}
-use Rattle.requests.specs.Judged.{Judged, fine}
+use Rattle.requests.specs.Judged.{fine}
 use Rattle.requests.specs.Request.{dialectOf, underSh, readSh, identityOf}
 use Rattle.calling.specs.Call.{Answer, Answered}
-use Rattle.seen_alike.specs.Shown.{Each}
-use Rattle.neighbour.specs.Seen.{headerApart, SameApart, SameLine, records, having}
 use Rattle.neighbour_example.proofs.Tables as tables
 use Rattle.neighbour_example.proofs.Tables.{first, second, behind, profiles, others, large, all, first-in, second-in, first-sound, second-exact, header-a}
 use Rattle.neighbour_example.proofs.Tables.{same-c, c-one, c-two}
@@ -20,7 +17,7 @@ use Rattle.worked_examples.proofs.Sample.{z}
 use Rattle.ndushavire_sh.specs.Lent.{Lent, lent}
 use Rattle.ndushavire_sh.specs.Serve.{Served, toldOf, answerOf, shServe}
 use Rattle.sh_example.proofs.Computed.{come, known, room, roomy, area, area-table, asking}
-use Rattle.sh_example.proofs.Sample.{header, line, server, table, state, name, ask, opened}
+use Rattle.sh_example.proofs.Sample.{header, line, server, state, name, ask, opened}
 use Rattle.sh_demands.specs.Shown.{SameShown, SameFound, SameSight}
 use Rattle.sh_demands.proofs.Demands.{sh-neighbours-line}
 use Rattle.sh_neighbour.specs.Asked.{SameAsked}
@@ -109,9 +106,13 @@ shown : SameShown (blockOf (tableIn area) 3) (blockOf (tableIn lone) 1)
 unfolding opened area lone
 shown = record { state = refl; pends = refl; server = refl }
 
+found-alike : (seen : Seen) → readSh (dialectOf (underSh 3588) asked) asked ≡ fine seen
+    → SameFound (tableIn area) (tableIn lone) (findPublic (tableIn area) 4 (identityOf seen)) (findPublic (tableIn lone) 1 (identityOf seen))
+found-alike seen e = rw (named-so seen e, found-area, found-lone) shown
+
 sees-alike : SameSight asked 3588 (tableIn area) (tableIn lone) 4 1
 unfolding opened area lone
-sees-alike = record { host = refl; realm = refl; found = λ seen e. rw (named-so seen e, found-area, found-lone) shown }
+sees-alike = record { host = refl; realm = refl; found = found-alike }
 
 met-neighbours-line : (answerOf (asking asked) 4 ≡ answerOf (lent asked lone [] [] 3588) 1)
     × (toldOf (asking asked) 4 .verdict .place ≡ toldOf (lent asked lone [] [] 3588) 1 .verdict .place)

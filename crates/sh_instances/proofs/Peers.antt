@@ -1,6 +1,6 @@
 -- The two editions of the base standard, and areas longer than their table, of the Sh server: a request whose 260 has one Vendor-Id, one whose 260 has two.
-use Rattle.octets.specs.Standard.{ℕ, _≡_, refl, ap, _≢_, List, [], _∷_, _++_, some, set, false, lit≤, length}
-use Rattle.table.specs.Area.{sizeIn, tableIn, checkArea}
+use Rattle.octets.specs.Standard.{ℕ, _≡_, refl, _≢_, List, [], _∷_, _++_, some, set, false, lit≤, length}
+use Rattle.table.specs.Area.{sizeIn, tableIn}
 use Rattle.table.specs.Check.{checkTable}
 use Rattle.table.proofs.Areas.{sound-size-in}
 use Rattle.blocks.specs.declared.Checked.the-variants.{Sound}
@@ -13,7 +13,7 @@ use Rattle.requests.specs.Request.{sh, dialectOf, underSh}
 use Rattle.refusals.specs.Trial.{anyHolds}
 use Rattle.ndushavire.specs.Reads.{callPlace}
 use Rattle.ndushavire_sh.specs.Lent.{Lent, lent}
-use Rattle.ndushavire_sh.specs.Serve.{Served, shServe}
+use Rattle.ndushavire_sh.specs.Serve.{shServe}
 use Rattle.demands.specs.Place.{first, pastTaken}
 use Rattle.demands.specs.Peers.{vendorIds, OneVendor, ComesTo}
 use Rattle.demands.proofs.Editions.{oneVendor, one-says}
@@ -21,8 +21,7 @@ use Rattle.sh_example.proofs.Computed.{come, held, room, roomy, area, area-soun
 use Rattle.sh_example.proofs.Sample.{table, line, request, identity, state, ask, reply, opened}
 use Rattle.sh_example.proofs.Servers.{stateData}
 use Rattle.sh_demands.specs.Call.{turnedAway}
-use Rattle.sh_demands.specs.Insertion.{blaming}
-use Rattle.sh_demands.specs.Peers.{byPeer, over}
+use Rattle.sh_demands.specs.Peers.{byPeer, overArea}
 use Rattle.sh_demands.proofs.Peers.{sh-one-vendor, sh-second-told, sh-several-pass, sh-area, sh-behind}
 
 -- one Vendor-Id: the same under both
@@ -84,12 +83,12 @@ table-sound = refl
 table-exact : length table ≡ sizeIn table
 table-exact = sound-size-in table 0 4 table-sound
 
-met-behind : shServe (over alone (table ++ behind)) ≡ shServe alone
+met-behind : shServe (overArea alone (table ++ behind)) ≡ shServe alone
 met-behind = sh-behind alone behind table-exact
 
 same-front : tableIn (table ++ behind) ≡ tableIn area
 unfolding opened area behind
 same-front = refl
 
-met-area : shServe (over (asking (ask 0x61 state)) (table ++ behind)) ≡ shServe (asking (ask 0x61 state))
+met-area : shServe (overArea (asking (ask 0x61 state)) (table ++ behind)) ≡ shServe (asking (ask 0x61 state))
 met-area = sh-area (asking (ask 0x61 state)) (table ++ behind) same-front

@@ -1,29 +1,26 @@
 -- The place, of the Sh server: the hypotheses of its theorems can be met, by requests that are computed.
-use Rattle.octets.specs.Standard.{ℕ, _≤_, _<_, _≡_, refl, sym, ap, _∙_, true, false, List, [], _∷_, _++_, map, arith, length, take, drop, set}
+use Rattle.octets.specs.Standard.{ℕ, _≤_, _<_, _≡_, refl, sym, ap, true, false, List, [], _∷_, _++_, map, arith, length, take, set}
 use Rattle.blocks.specs.declared.Checked.the-variants.{Sound}
 use Rattle.pen.specs.Bytes.{avpBytes, vendorBytes, vendorHead, numberBytes}
 use Rattle.pen.specs.Groups.{failed}
-use Rattle.reading.specs.declared.Outcome.{Outcome}
-use Rattle.reading.specs.declared.Outcome.the-variants.{Base, Experimental}
+use Rattle.reading.specs.declared.Outcome.the-variants.{Base}
 use Rattle.requests.specs.Judged.{nothing}
 use Rattle.requests.specs.Request.{sh, dialectOf, underSh, headerFaultSh}
 use Rattle.refusals.specs.Trial.{anyHolds}
-use Rattle.sh.specs.Tell.{tell}
 use Rattle.ndushavire.specs.Reads.{callPlace, placeIn}
 use Rattle.ndushavire.specs.Word.{word, callWord}
-use Rattle.ndushavire_sh.specs.Lent.{Lent}
 use Rattle.ndushavire_sh.specs.Promise.{ShDecidePromise}
 use Rattle.ndushavire_sh.specs.Serve.{Served, shServe}
 use Rattle.demands.specs.Frame.{succeeds}
 use Rattle.demands.specs.Place.{first, pastTaken, ruleFault, OfRules, AtFaultBy}
-use Rattle.sh_example.proofs.Computed.{known, held, room, roomy, area, area-sound, area-table, asking, served, leaves}
+use Rattle.sh_example.proofs.Computed.{known, held, roomy, area, area-sound, asking, served, leaves}
 use Rattle.sh_example.proofs.Sample.{table, request, common, udr, identity, outside, state, name, ask, reply, opened}
 use Rattle.sh_demands.specs.Call.{turnedAway}
 use Rattle.sh_demands.specs.Place.{Blames, resultOf}
 use Rattle.sh_demands.proofs.Place.{sh-place-word, sh-place-answer, sh-place-is, sh-place-blames, sh-place-least, sh-place-within, sh-place-bytes}
 use Rattle.sh_demands.proofs.Place.{sh-place-result, sh-place-none, sh-place-refused, sh-place-header, sh-place-first, sh-place-told, sh-place-missing}
 use Rattle.sh_demands.proofs.Place.{sh-place-experimental, sh-place-success, sh-place-most}
-use Rattle.sh_instances.proofs.Says.{unknown, seenOf, read-unknown}
+use Rattle.sh_instances.proofs.Says.{unknown, seenOf, read-unknown, result-so}
 
 -- A 703 of five bytes, (g). Reading takes seven AVPs, the first at 20, and comes to it at 140.
 unfoldable wide : List ℕ
@@ -101,10 +98,6 @@ behindName = request 306 1 (avpBytes 1 (0x70 ∷ []) ++ (common sh ++ (identity 
 met-first : callPlace (shServe (asking behindName) .call) ≡ 0
 unfolding opened behindName
 met-first = sh-place-first (asking behindName) refl
-
--- the result over the area
-result-so : (req : List ℕ) {r : Outcome} → tell (dialectOf (underSh 3588) req) req table 4 .verdict .result ≡ r → resultOf (asking req) ≡ r
-result-so req e = rw (area-sound, area-table) e
 
 -- told: `e` is in no record. No 700, B5005; X5001; a success
 met-told : callPlace (shServe (asking unknown) .call) ≡ 0

@@ -1,24 +1,29 @@
 -- What the Sh server says: an identity that no record has, another data reference, and a record's name and state, told and read back; each both ways.
-use Rattle.octets.specs.Standard.{ℕ, zero, suc, _≤_, _≡_, refl, sym, ap, _∙_, _≢_, List, [], _∷_, _++_, Option, none, some, true, false, arith, length, getD, lit≤}
-use Rattle.record.specs.Fields.{serverOf}
+use Rattle.octets.specs.Standard.{ℕ, zero, suc, _≤_, _≡_, refl, sym, ap, _∙_, _≢_, List, [], _∷_, _++_, none, some, true, false, arith, getD, lit≤}
 use Rattle.blocks.specs.Blocks.{blockOf}
+use Rattle.blocks.specs.declared.Checked.{Checked}
 use Rattle.table.specs.Area.{tableIn}
 use Rattle.table.specs.Named.{publicAt}
 use Rattle.diameter.specs.Avp.{dataOf}
 use Rattle.pen.specs.Groups.{experimental}
 use Rattle.reading.specs.Kinds.{userIdentity}
 use Rattle.reading.specs.Rules.{Seen}
+use Rattle.reading.specs.declared.Outcome.{Outcome}
 use Rattle.reading.specs.declared.Outcome.the-variants.{Base, Experimental}
 use Rattle.requests.specs.Judged.{Judged, bad, fine, nothing}
 use Rattle.requests.specs.Request.{dialectOf, underSh, readSh, identityOf}
 use Rattle.requests.proofs.Sole.{Asks}
+use Rattle.refusals.specs.Early.{checkValue}
 use Rattle.refusals.specs.Trial.{anyHolds}
-use Rattle.user_data.specs.Elements.{nameTold, stateTold}
-use Rattle.ndushavire_sh.specs.Lent.{Lent}
-use Rattle.ndushavire_sh.specs.Serve.{Served, toldOf, shServe}
-use Rattle.sh_example.proofs.Computed.{held, room, roomy, area, area-sound, area-table, asking, leaves}
-use Rattle.sh_example.proofs.Sample.{table, quotes, state, name, other, ask, reply, opened}
+use Rattle.markup.specs.Escapes.{noneBare}
+use Rattle.user_data.specs.Elements.{inside, nameTold, stateTold}
+use Rattle.user_data.specs.UserData.{nameStart, nameEnd}
+use Rattle.sh.specs.Tell.{tell}
+use Rattle.ndushavire_sh.specs.Serve.{toldOf, shServe}
+use Rattle.sh_example.proofs.Computed.{held, roomy, area, area-sound, area-table, asking, leaves}
+use Rattle.sh_example.proofs.Sample.{table, marks, state, name, other, ask, reply, opened}
 use Rattle.sh_demands.specs.Call.{turnedAway}
+use Rattle.sh_demands.specs.Place.{resultOf}
 use Rattle.sh_demands.specs.Saying.{Holds, Known, Says}
 use Rattle.sh_demands.proofs.Demands.{sh-unknown, sh-unknown-only, sh-other, sh-other-only, sh-says, sh-says-only, sh-identity}
 
@@ -82,6 +87,13 @@ taken-unnamed : Taken unnamed
 unfolding opened anyHolds unnamed
 taken-unnamed = held (asking unnamed) roomy area-sound refl
 
+-- the result over the area
+pub result-so : (req : List ℕ) {r : Outcome} → tell (dialectOf (underSh 3588) req) req table 4 .verdict .result ≡ r → resultOf (asking req) ≡ r
+result-so req e =
+    ap (λ (c : Checked). toldOf (asking req) (checkValue c) .verdict .result) area-sound
+    ∙ ap (λ (t : List ℕ). tell (dialectOf (underSh 3588) req) req t 4 .verdict .result) area-table
+    ∙ e
+
 -- "THE ONE PUBLIC-IDENTITY": that of the 700 is `d`, its 601's data
 named-both : identityOf (seenOf both) ≡ 0x64 ∷ []
 unfolding opened both
@@ -117,9 +129,9 @@ met-unknown : shServe (asking unknown) ≡ leaves 132 0 (reply (experimental 500
 unfolding opened unknown area
 met-unknown = sh-unknown (asking unknown) 4 area-sound (seenOf unknown) read-unknown taken-unknown none-has
 
-told-unknown : toldOf (asking unknown) 4 .verdict .result ≡ Experimental 5001
+told-unknown : resultOf (asking unknown) ≡ Experimental 5001
 unfolding opened unknown
-told-unknown = rw area-table
+told-unknown = result-so unknown refl
 
 met-unknown-only : (k : ℕ) → Holds (asking unknown) 4 (identityOf (seenOf unknown)) k → ⊥
 met-unknown-only = sh-unknown-only (asking unknown) 4 area-sound (seenOf unknown) read-unknown told-unknown
@@ -133,9 +145,9 @@ met-other : shServe (asking another) ≡ leaves 132 0 (reply (experimental 5100)
 unfolding opened another area
 met-other = sh-other (asking another) 4 area-sound (seenOf another) read-another taken-another 1 has-a refl
 
-told-another : toldOf (asking another) 4 .verdict .result ≡ Experimental 5100
+told-another : resultOf (asking another) ≡ Experimental 5100
 unfolding opened another
-told-another = rw area-table
+told-another = result-so another refl
 
 met-other-only : Known (asking another) 4 (identityOf (seenOf another)) true
 met-other-only = sh-other-only (asking another) 4 area-sound (seenOf another) read-another told-another
@@ -152,6 +164,14 @@ says-d = sh-says (asking both) 4 area-sound (seenOf both) read-both taken-both 4
 met-says-name : nameTold (says-d .text) ≡ some (0x3E ∷ 0x22 ∷ 0x27 ∷ [])
 unfolding opened both area
 met-says-name = says-d .name
+
+-- between the tags `&gt;&quot;&apos;`, in which nothing is bare
+met-says-shown : inside nameStart nameEnd (says-d .text) ≡ some marks
+unfolding opened both area
+met-says-shown = says-d .shown
+
+met-says-clean : noneBare marks ≡ true
+met-says-clean = says-d .clean marks met-says-shown
 
 met-says-state : stateTold (says-d .text) ≡ some (0x32 ∷ [])
 unfolding opened both area
@@ -173,9 +193,9 @@ met-says-zero : stateTold (says-b .text) ≡ some (0x30 ∷ [])
 unfolding opened unnamed area
 met-says-zero = says-b .state
 
-told-both : toldOf (asking both) 4 .verdict .result ≡ Base 2001
+told-both : resultOf (asking both) ≡ Base 2001
 unfolding opened both
-told-both = rw area-table
+told-both = result-so both refl
 
 met-says-only : Known (asking both) 4 (identityOf (seenOf both)) false
 met-says-only = sh-says-only (asking both) 4 area-sound (seenOf both) read-both told-both
