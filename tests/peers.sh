@@ -169,11 +169,11 @@ else
 fi
 
 # ---- Erlang
-compiled() { diameterc cx.dia && diameterc sh.dia && erlc cx.erl sh.erl client.erl strict.erl voicemail.erl; }
+compiled() { diameterc cx.dia && diameterc sh.dia && erlc cx.erl sh.erl client.erl "$1.erl"; } # MODULE
 client() { # ABOUT WHAT MODULE ARGUMENT..
     local log=$3-$1.log
     if ! there erl erlc diameterc; then cannot "$1: $2" 'erl, erlc or diameterc is missing'; return; fi
-    [ -e voicemail.beam ] || compiled >erlc.log 2>&1 || { fails "$1: $2: the clients do not compile" erlc.log; return; }
+    [ -e "$3.beam" ] || compiled "$3" >erlc.log 2>&1 || { fails "$1: $2: it does not compile" erlc.log; return; }
     if timeout 90 erl -noshell -s "$3" run "${@:4}" >"$log" 2>&1; then
         cat "$log"
         passes "$1: $2"
@@ -181,8 +181,10 @@ client() { # ABOUT WHAT MODULE ARGUMENT..
         fails "$1: $2" "$log" "daemon-$1.log"
     fi
 }
+reads_xml() { erl -noshell -eval 'case code:which(xmerl_scan) of non_existing -> halt(1); _ -> halt(0) end.'; }
 erlang() { # ABOUT ADDRESS EDITION: that of the base standard which the daemon states of who comes
     client "$1" "Erlang's diameter as a strict client" strict "$2" 3868
+    if there erl && ! reads_xml; then cannot "$1: Erlang's diameter as a voicemail box" 'xmerl is missing'; return; fi
     client "$1" "Erlang's diameter as a voicemail box" voicemail "$2" 3868 "$3" live/table
 }
 
@@ -269,7 +271,13 @@ if [ -n "$capture_pid" ]; then
     kill -INT "$capture_pid"
     wait "$capture_pid" || true
     if ./judge.py wire.pcapng; then passes 'tshark: every answer of the daemon'; else fails 'tshark: every answer of the daemon'; fi
-    if ./judge_sh.py wire.pcapng; then passes 'tshark: every request and answer of Sh'; else fails 'tshark: every request and answer of Sh'; fi
+    if ! ls voicemail-*.log >/dev/null 2>&1; then
+        cannot "tshark's judgement of Sh" 'nobody asked'
+    elif ./judge_sh.py wire.pcapng; then
+        passes 'tshark: every request and answer of Sh'
+    else
+        fails 'tshark: every request and answer of Sh'
+    fi
 else
     cannot "tshark's judgement" 'tshark is missing'
     cannot "tshark's judgement of Sh" 'tshark is missing'
