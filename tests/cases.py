@@ -118,19 +118,18 @@ def small(case):
     return files and (request <= 900 or request > 16384)
 
 
-def fitting(reference, kinds):
-    """Cases that fit, the smallest first, each with its outcome. Each kind has its seeds and how many cases of each are made."""
+def fitting(reference):
+    """Cases that fit, the smallest first."""
     found = []
-    for kind, seeds, count in kinds:
+    few = [(kind, (1,), 4000) for kind in ('tables', 'vectors', 'reports', 'moves', 'takes')]
+    for kind, seeds, count in (*few, ('voicemail', (1,), 10000), ('calls', range(1, 6), 20000)):
         for seed in seeds:
             found += [case for case in streams.cases(made(reference, kind, seed, count)) if fits(case)]
-    found.sort(key=lambda case: len(case.whole))
-    return found, list(outcomes(run(reference, 'outcomes', given=b''.join(case.whole for case in found))))
+    return sorted(found, key=lambda case: len(case.whole))
 
 
-FEW = [(kind, (1,), 4000) for kind in ('tables', 'vectors', 'reports', 'moves', 'takes')]
-KINDS = *FEW, ('voicemail', (1,), 10000), ('calls', range(1, 6), 20000)
-LISTS = ('lists', (1,), 4000),  # which the libraries do not have: a fault that shows in them, and in no small case besides, is left out
+def outcomes_of(reference, found):
+    return list(outcomes(run(reference, 'outcomes', given=b''.join(case.whole for case in found))))
 
 
 def showing(reference, fault, found, told):
@@ -146,14 +145,16 @@ def showing(reference, fault, found, told):
 
 
 def telling(reference, found, told):
-    """For each deliberate fault of the independent program the first case that shows it, unless one for a fault before does."""
-    kept, lists = [], fitting(reference, LISTS)
+    """For each deliberate fault of the independent program the first case that shows it, unless one for a fault before does. The libraries have no lists: a
+    fault that shows in a list, and in none of the smallest cases, is left out."""
+    kept, lists = [], list(streams.cases(made(reference, 'lists', 1, 2000)))
+    listed = lists, outcomes_of(reference, lists)
     for line in run(reference, 'faults').decode().splitlines():
         fault = line.split()[0]
         if kept and showing(reference, fault, *zip(*kept)):
             continue
         case = showing(reference, fault, found[:1000], told[:1000])
-        if case is None and showing(reference, fault, *lists):
+        if case is None and showing(reference, fault, *listed):
             continue
         case = case or showing(reference, fault, found[1000:], told[1000:])
         if case is None:
@@ -166,7 +167,8 @@ def telling(reference, found, told):
 def chosen(reference):
     """The smallest case for each fault and for each result, then for each result over each edition, then with what the answer carries, and
     more while there is room."""
-    found, told = fitting(reference, KINDS)
+    found = fitting(reference)
+    told = outcomes_of(reference, found)
     results, editions, rows = (collections.defaultdict(list) for _ in range(3))
     for case, outcome in zip(found, told):
         if small(case):

@@ -36,6 +36,8 @@ STATEMENTS = {
     'seen_alike/Likeness': '02 [5]',
     'seen_alike/Moved': '02 [5]',
     'sh_demands/Demands': '02 [12]',
+    'sh_demands/Peers': '02 [12]',
+    'sh_demands/Place': '02 [12]',
     'sh_neighbour/Neighbour': '02 [12]',
     'taking/Taking': '02 [8]',
     'vectors_sent/Sending': '02 [1]',

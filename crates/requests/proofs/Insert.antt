@@ -1,5 +1,5 @@
 -- Demand 3 over walks: an unknown kind without M is passed over; one with M is B5001, unless an AVP in front of it is at fault.
-use Rattle.octets.specs.Standard.{ℕ, _+_, _≡_, refl, sym, ap, _∙_, fun-ext, List, [], _∷_, Bool, true, false, cond, true≢false, length, eqb, eqb-true}
+use Rattle.octets.specs.Standard.{ℕ, _+_, _≡_, refl, sym, ap, _∙_, fun-ext, List, [], _∷_, Bool, true, false, true≢false, length, eqb, eqb-true}
 use Rattle.diameter.specs.Avp.{padded, avpFlags, reserved, marked}
 use Rattle.diameter.specs.Walk.{Walk, ended, avp}
 use Rattle.diameter.specs.Put.{glue}

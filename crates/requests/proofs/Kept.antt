@@ -1,7 +1,7 @@
 -- What a request that was read holds: what the dialect needs came, and each AVP that was taken keeps rule (h).
 use Rattle.octets.specs.Standard.{ℕ, zero, suc, _+_, _/_, _%_, _≤_, _<_, add-zero, add-suc, suc-add, _≡_, refl, sym, ap, _∙_, List, [], _∷_, Option, none, some}
 use Rattle.octets.specs.Standard.{Option·none-ne-some, Bool, true, false, not, cond, _&&_, true≢false, _⊎_, inl, inr, arith, length, getD, set}
-use Rattle.octets.specs.Standard.{replicate, eqb, leb, eqb-true, leb-true, ne-eqb}
+use Rattle.octets.specs.Standard.{replicate, eqb, leb, eqb-true, leb-true}
 use Rattle.octets.proofs.All.{and-left, and-right}
 use Rattle.octets.proofs.Chains.{chain-says}
 use Rattle.diameter.specs.Avp.{padded, avpFlags, dataOf, reserved, marked}
@@ -29,7 +29,7 @@ use Rattle.requests.specs.Request.{readWalk, readBy, readIn, readSh, giv
 abbrev pub AllKept : Dialect → Seen → Type 0
 AllKept dialect seen = (k : ℕ) (a : List ℕ) → getD seen k none ≡ some a → contentFault dialect (rowOf k .content) a ≡ 0
 
-bad-fine : {A : Type 0} (v : Verdict) (seen : Seen) → bad v ≡ fine seen → A
+pub bad-fine : {A : Type 0} (v : Verdict) (seen : Seen) → bad v ≡ fine seen → A
 bad-fine v seen e = let z : _≡_ {A = ℕ} 0 1 = cc in absurd (omega arith)
 
 -- an AVP with bad content is not taken
@@ -125,7 +125,7 @@ by-fine fault dialect req seen e = go (eqb fault 0) e
     go true d = walk-fine dialect (bodyOf req) seen d
     go false d = bad-fine _ _ d
 
-request-fine : (dialect : Dialect) (req : List ℕ) (seen : Seen) → readIn dialect req ≡ fine seen
+pub request-fine : (dialect : Dialect) (req : List ℕ) (seen : Seen) → readIn dialect req ≡ fine seen
     → (judge dialect 20 (bodyOf req) nothing ≡ fine seen) × (missing dialect seen ≡ 0)
 unfolding readIn
 request-fine dialect req seen e = by-fine (headerFault dialect req) dialect req seen e

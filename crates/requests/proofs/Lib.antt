@@ -1,4 +1,5 @@
 pub mod Faulting
+pub mod Featured
 pub mod Insert
 pub mod Kept
 pub mod Naming
