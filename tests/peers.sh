@@ -282,7 +282,7 @@ if there freeDiameterd openssl; then
     finish "$relay_pid" || true
     daemon_down kamailio-relay
 else
-    for what in 'freeDiameter connects' "Erlang's diameter" 'a voicemail box' 'it comes back' "Kamailio's phones" 'an application server' 'a call server by TLS'; do
+    for what in 'freeDiameter connects' "Erlang's diameter" 'a voicemail box' 'it comes back' "Kamailio's phones" 'an application server' 'TLS'; do
         cannot "relay: $what" 'freeDiameterd or openssl is missing'
     done
 fi
