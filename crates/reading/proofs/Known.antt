@@ -76,7 +76,8 @@ row-with n k {code} {vendor} {content} e h d w = d ∙ ap (row code vendor conte
 above : {n k : ℕ} → n ≤ k → (k ≡ n → ⊥) → suc n ≤ k
 above h e = omega arith
 
-pub row-past : (k : ℕ) {u : Uses} {r : Kind} → u ≡ everywhere Unknown → r ≡ row 0 0 Free u → (k ≡ sessionId → ⊥) → (k ≡ application → ⊥) → (k ≡ sessionState → ⊥) → (k ≡ originHost → ⊥)
+pub row-past : (k : ℕ) {u : Uses} {r : Kind} → u ≡ everywhere Unknown → r ≡ row 0 0 Free u
+    → (k ≡ sessionId → ⊥) → (k ≡ application → ⊥) → (k ≡ sessionState → ⊥) → (k ≡ originHost → ⊥)
     → (k ≡ originRealm → ⊥) → (k ≡ destinationRealm → ⊥) → (k ≡ userName → ⊥) → (k ≡ publicIdentity → ⊥) → (k ≡ visitedNetwork → ⊥)
     → (k ≡ authDataItem → ⊥) → (k ≡ numberAuthItems → ⊥) → (k ≡ serverName → ⊥) → (k ≡ assignmentType → ⊥) → (k ≡ dataAvailable → ⊥)
     → (k ≡ authorizationType → ⊥) → (k ≡ destinationHost → ⊥) → (k ≡ proxyInfo → ⊥) → (k ≡ routeRecord → ⊥)

@@ -97,7 +97,8 @@ module _ (d : Dialect) (other : d .terms .application ≡ sh → ⊥) where
           by false k = refl
 
       go : (x : Ruled) → rule d seen a ≡ x → onRule x seen a at (judge d (at + padded (length a)) w) ≡ fine out
-          → ((σ τ : Seen) → supportedFeatures < length σ → judge d (at + padded (length a)) w σ ≡ fine τ → Untaken τ → (someAvp isFeatures w ≡ false) × Untaken σ)
+          → ((σ τ : Seen) → supportedFeatures < length σ → judge d (at + padded (length a)) w σ ≡ fine τ → Untaken τ
+          → (someAvp isFeatures w ≡ false) × Untaken σ)
           → (someAvp isFeatures (avp a w) ≡ false) × Untaken seen
       go Taken r f next =
           let n = next (set seen (kindOf a) (some a)) out (rw length-set room) f u in
@@ -110,7 +111,8 @@ pub none-taken : (d : Dialect) (req : List ℕ) (seen : Seen) → readIn d req �
     → someAvp isFeatures (bodyOf req) ≡ false
 unfolding nothing
 none-taken d req seen e u =
-    judge-none d (λ s. omega (arith, s, read-spoken d req seen e .0)) 20 (bodyOf req) nothing seen (rw (length-replicate {A = Option (List ℕ)} kinds none) (omega arith)) (request-fine d req seen e .0) u .0
+    judge-none d (λ s. omega (arith, s, read-spoken d req seen e .0)) 20 (bodyOf req) nothing seen
+    (rw (length-replicate {A = Option (List ℕ)} kinds none) (omega arith)) (request-fine d req seen e .0) u .0
 
 -- where no AVP passes a test, none passes a test that asks more, nor behind the first
 some-less : (p q : List ℕ → Bool) → ((a : List ℕ) → p a ≡ false → q a ≡ false) → (w : Walk) → someAvp p w ≡ false → someAvp q w ≡ false

@@ -260,7 +260,8 @@ module _ (dialect : Dialect) (req : List ℕ) (seen : Seen) (e : readIn dialect 
     where
       go : (dialect .command ≡ 301) ⊎ ((dialect .command ≡ 300 → ⊥) × (dialect .command ≡ 301 → ⊥) × (dialect .command ≡ 302 → ⊥))
           → (300 ≤ dialect .command) × (dialect .command ≤ 303)
-          → isNeeded (cond (eqb (dialect .command) 300) Unnamed (cond (eqb (dialect .command) 301) Needed (cond (eqb (dialect .command) 302) Unnamed Needed))) ≡ true
+          → isNeeded (cond (eqb (dialect .command) 300) Unnamed (cond (eqb (dialect .command) 301) Needed (cond (eqb (dialect .command) 302) Unnamed Needed)))
+          ≡ true
       go (inl c) r = rw c
       go (inr (a, b, c)) r = let n : dialect .command ≡ 303 = omega arith in rw n
 

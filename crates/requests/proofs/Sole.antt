@@ -1,4 +1,5 @@
--- A group of one AVP: the 612 of a MAR that was read holds a 608 and nothing else, and the scheme is its data; the 700 of a UDR a 601, and the identity is its data.
+-- A group of one AVP: the 612 of a MAR that was read holds a 608 and nothing else, and the scheme is its data; the 700 of a UDR a 601, and the identity is its
+-- data.
 use Rattle.octets.specs.Standard.{ℕ, _<_, _≡_, refl, sym, _∙_, List, [], _∷_, Option, none, some, Bool, true, false, cond, true≢false, arith, length}
 use Rattle.octets.specs.Standard.{getD, take}
 use Rattle.diameter.specs.Avp.{avpLen, dataOf, sound}

@@ -1,18 +1,21 @@
 -- 02 [12], "The voicemail box asks too.", as theorems about `shServe`, which is what the exported call is promised to return and to leave, for anything lent.
-use Rattle.octets.specs.Standard.{ℕ, _%_, _≤_, List, _∷_, true, false, _≡_, refl, _≢_, _⊎_, sym, _∙_, length, drop}
+use Rattle.octets.specs.Standard.{ℕ, _%_, _≤_, List, _∷_, true, false, _≡_, refl, _≢_, _⊎_, sym, ap, _∙_, length, drop}
 use Rattle.octets.specs.Run.{over}
+use Rattle.blocks.specs.declared.Checked.{Checked}
 use Rattle.blocks.specs.declared.Checked.the-variants.{Sound, Bad}
 use Rattle.table.specs.Area.{tableIn, checkArea}
 use Rattle.diameter.specs.Put.{Piece, Whole, All}
-use Rattle.reading.specs.Kinds.{known, useIn, userIdentity}
+use Rattle.diameter.specs.Avp.{avpFlags, reserved}
+use Rattle.reading.specs.Kinds.{known, kindOf, rowOf, useIn, useOf, isUnknown, supportedFeatures, userIdentity}
 use Rattle.reading.specs.declared.Dialect.{Dialect}
 use Rattle.requests.specs.Request.{dialectOf, headerFaultSh}
-use Rattle.refusals.specs.Early.{early}
+use Rattle.refusals.specs.Early.{early, checkValue}
 use Rattle.calling.specs.Call.{Answer, Answered, Refused}
 use Rattle.ndushavire.specs.Reads.{callNumber, callValue, callIn, Reads}
 use Rattle.ndushavire.specs.Word.{callWord}
 use Rattle.blocks.specs.Blocks.{blockOf}
-use Rattle.reading.specs.Rules.{Seen}
+use Rattle.reading.specs.Rules.{Seen, ruleBy, rule}
+use Rattle.reading.specs.declared.Ruled.the-variants.{Skipped}
 use Rattle.reading.specs.declared.Outcome.the-variants.{Base, Experimental}
 use Rattle.requests.specs.Judged.{fine}
 use Rattle.requests.specs.Request.{readSh, identityOf}
@@ -23,11 +26,13 @@ use Rattle.ndushavire_sh.specs.Promise.{ShDecidePromise}
 use Rattle.ndushavire_sh.specs.Serve.{trialsOf, toldOf, answerOf, refused, answered, shServe}
 use Rattle.demands.specs.Call.{Exactly}
 use Rattle.demands.specs.Insertion.{requestOf, Quiet, Inserted, keep, FirstMarked, faultBy, placeNow, behindRow, Longer}
-use Rattle.demands.specs.Knowing.{kindsBy, kindsOf}
+use Rattle.demands.specs.Knowing.{kindsBy, isAmong, kindsOf}
+use Rattle.demands.proofs.Knowing.{others-unknown}
 use Rattle.sh_demands.specs.Call.{turnedAway}
 use Rattle.sh_demands.specs.Insertion.{asking, placed, blaming, Newer}
-use Rattle.sh_demands.specs.Knowing.{ofSh}
-use Rattle.sh_demands.specs.Saying.{Holds, asksOther, Known, saying, Says}
+use Rattle.sh_demands.specs.Knowing.{kindsOfSh}
+use Rattle.sh_demands.specs.Place.{resultOf}
+use Rattle.sh_demands.specs.Saying.{Holds, refersElse, Known, saying, Says}
 use Rattle.sh_demands.specs.Shown.{SameSight}
 use Rattle.sh_demands.proofs.Alike.{place-same, answer-same}
 use Rattle.sh_demands.proofs.Inserted.{unmarked-same, mark-answered, fault-first}
@@ -99,26 +104,30 @@ sh-demand-2 x count s e = let a = answered-is x count s e in (rw a, rw a)
 -- and some Data-Reference is neither 11 nor 12; else B2001, and its 702, read back, says the stored server name and the state of the record with that identity.
 module _ (x : Lent) (count : ℕ) (sound : checkArea (x .table) (length (x .profile)) ≡ Sound count) (seen : Seen)
     (read : readSh (dialectIn x) (x .request) ≡ fine seen) where
+  counted : toldOf x count .verdict .result ≡ resultOf x
+  counted = ap (λ (c : Checked). toldOf x (checkValue c) .verdict .result) (sym sound)
+
   pub sh-unknown : turnedAway x ≡ false → ((k : ℕ) → Holds x count (identityOf seen) k → ⊥) → shServe x ≡ saying x (denied 5001)
   sh-unknown = says-unknown x count sound seen read
 
-  pub sh-unknown-only : toldOf x count .verdict .result ≡ Experimental 5001 → (k : ℕ) → Holds x count (identityOf seen) k → ⊥
-  sh-unknown-only = unknown-only x count sound seen read
+  pub sh-unknown-only : resultOf x ≡ Experimental 5001 → (k : ℕ) → Holds x count (identityOf seen) k → ⊥
+  sh-unknown-only e = unknown-only x count sound seen read (counted ∙ e)
 
-  pub sh-other : turnedAway x ≡ false → (k : ℕ) → Holds x count (identityOf seen) k → asksOther x ≡ true → shServe x ≡ saying x (denied 5100)
+  pub sh-other : turnedAway x ≡ false → (k : ℕ) → Holds x count (identityOf seen) k → refersElse x ≡ true → shServe x ≡ saying x (denied 5100)
   sh-other = says-other x count sound seen read
 
-  pub sh-other-only : toldOf x count .verdict .result ≡ Experimental 5100 → Known x count (identityOf seen) true
-  sh-other-only = other-only x count sound seen read
+  pub sh-other-only : resultOf x ≡ Experimental 5100 → Known x count (identityOf seen) true
+  sh-other-only e = other-only x count sound seen read (counted ∙ e)
 
-  pub sh-says : turnedAway x ≡ false → (k : ℕ) → Holds x count (identityOf seen) k → asksOther x ≡ false
+  pub sh-says : turnedAway x ≡ false → (k : ℕ) → Holds x count (identityOf seen) k → refersElse x ≡ false
       → Says x (blockOf (tableIn (x .table)) k) (shServe x)
   sh-says = says-record x count sound seen read
 
-  pub sh-says-only : toldOf x count .verdict .result ≡ Base 2001 → Known x count (identityOf seen) false
-  sh-says-only = known-only x count sound seen read
+  pub sh-says-only : resultOf x ≡ Base 2001 → Known x count (identityOf seen) false
+  sh-says-only e = known-only x count sound seen read (counted ∙ e)
 
--- THE NEIGHBOUR'S LINE, for this server: tables that show the same of the identity asked about get the same answer, whatever else they hold.
+-- THE NEIGHBOUR'S LINE of a call stands in `sh_neighbour`; it rests on this: tables that show the same of the identity asked about get the same answer, whatever
+-- else they hold.
 pub sh-neighbours-line : (req : List ℕ) (peer : ℕ) (area file o other foreign p : List ℕ) (count many : ℕ)
     → SameSight req peer (tableIn area) (tableIn other) count many
     → (answerOf (lent req area file o peer) count ≡ answerOf (lent req other foreign p peer) many)
@@ -127,9 +136,17 @@ sh-neighbours-line req peer area file o other foreign p count many s =
     (answer-same req peer (tableIn area) (tableIn other) count many s, place-same req peer (tableIn area) (tableIn other) count many s)
 
 -- "OVER ITS OWN LIST OF KNOWN KINDS: document 01's of vendor 0, and with V and 10415 the kinds 700, 703 and 628; every other is unknown", whatever the command.
-pub sh-kinds : (x : Lent) → kindsOf (dialectIn x) ≡ ofSh
+pub sh-kinds : (x : Lent) → kindsOf (dialectIn x) ≡ kindsOfSh
 unfolding kindsBy known useIn
 sh-kinds x = refl
+
+pub sh-others : (x : Lent) (u : List ℕ) → isAmong kindsOfSh u ≡ false → isUnknown (useOf (dialectIn x) u) ≡ true
+sh-others x u = others-unknown (dialectIn x) u (sh-kinds x)
+
+-- "628 IS SKIPPED HERE", with M too and whatever it holds, wherever reading comes to one without a reserved flag.
+pub sh-features : (x : Lent) (seen : Seen) (a : List ℕ) → kindOf a ≡ supportedFeatures → reserved (avpFlags a) ≡ 0 → rule (dialectIn x) seen a ≡ Skipped
+unfolding rule ruleBy rowOf known useIn
+sh-features x seen a k r = rw (k, r)
 
 -- "THE ONE PUBLIC-IDENTITY THAT 700 MUST HOLD": the 700 of a request that was read holds a 601 of vendor 10415 and nothing else, and the identity asked about is
 -- the data of that 601.

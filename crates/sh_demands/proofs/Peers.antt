@@ -23,7 +23,7 @@ use Rattle.demands.proofs.Faults.{avp-own, reaches-least}
 use Rattle.demands.proofs.PeerCalls.{tried-same}
 use Rattle.sh_demands.specs.Call.{turnedAway}
 use Rattle.sh_demands.specs.Insertion.{blaming}
-use Rattle.sh_demands.specs.Peers.{byPeer, over}
+use Rattle.sh_demands.specs.Peers.{byPeer, overArea}
 use Rattle.sh_demands.specs.Place.{Blames}
 use Rattle.sh_demands.proofs.Place.{sh-place-answer, sh-place-blames}
 
@@ -71,16 +71,16 @@ module _ (x : Lent) (place : ℕ) where
 
 -- "THE WORKING AREA MAY BE LONGER THAN THE TABLE": two areas with the same table in front come to the same; so whatever stands behind a table is not looked at.
 module _ (x : Lent) (area : List ℕ) (e : tableIn area ≡ tableIn (x .table)) where
-  answered-over : (k : ℕ) → answered (over x area) k ≡ answered x k
+  answered-over : (k : ℕ) → answered (overArea x area) k ≡ answered x k
   unfolding answered
   answered-over k = rw e
 
-  pub sh-area : shServe (over x area) ≡ shServe x
+  pub sh-area : shServe (overArea x area) ≡ shServe x
   unfolding checkArea serveChecked refused
   sh-area =
       let c = checkArea (x .table) (length (x .profile)) in
-      ap (serveChecked (over x area)) (ap (λ (t : List ℕ). checkTable t (length (x .profile))) e)
-      ∙ tried-same (refused (over x area)) (refused x) _ _ (λ r. refl) (trialsOf x c) (λ h. answered-over (checkValue c))
+      ap (serveChecked (overArea x area)) (ap (λ (t : List ℕ). checkTable t (length (x .profile))) e)
+      ∙ tried-same (refused (overArea x area)) (refused x) _ _ (λ r. refl) (trialsOf x c) (λ h. answered-over (checkValue c))
 
-pub sh-behind : (x : Lent) (rest : List ℕ) → length (x .table) ≡ sizeIn (x .table) → shServe (over x (x .table ++ rest)) ≡ shServe x
+pub sh-behind : (x : Lent) (rest : List ℕ) → length (x .table) ≡ sizeIn (x .table) → shServe (overArea x (x .table ++ rest)) ≡ shServe x
 sh-behind x rest e = sh-area x (x .table ++ rest) (read-front (x .table) rest e ∙ rw (in-all (x .table) (omega (arith, e))))

@@ -6,5 +6,5 @@ use Rattle.ndushavire_sh.specs.Lent.{Lent}
 abbrev pub byPeer : Lent → ℕ → Lent
 byPeer x peer = record { request = x .request; table = x .table; profile = x .profile; buffer = x .buffer; peer = peer }
 
-abbrev pub over : Lent → List ℕ → Lent
-over x area = record { request = x .request; table = area; profile = x .profile; buffer = x .buffer; peer = x .peer }
+abbrev pub overArea : Lent → List ℕ → Lent
+overArea x area = record { request = x .request; table = area; profile = x .profile; buffer = x .buffer; peer = x .peer }
