@@ -94,7 +94,7 @@ met-1-number : ((callNumber (shServe broken .call) ≤ 5) ⊎ (callNumber (shSer
     × ((callNumber (shServe (nothing 0) .call) ≤ 5) ⊎ (callNumber (shServe (nothing 0) .call) ≡ 12))
 met-1-number = (sh-demand-1-number broken, sh-demand-1-number (nothing 0))
 
--- EXACTLY WHEN: of 5, the last trial, none before it holds, and it holds of the one table and not of the other; the number is 0 where none holds, and only there.
+-- EXACTLY WHEN: of 5, the last trial, none before it holds, and it holds of the one table and not of the other; the number is 0 just where none holds.
 broken-trials : trialsOf broken (checkArea (broken .table) (length (broken .profile)))
     ≡ earlyTrials (termsIn broken) (broken .request) (broken .buffer) ++ (record { holds = true; number = 5; besides = 2 } ∷ [])
 unfolding broken

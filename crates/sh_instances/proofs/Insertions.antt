@@ -1,4 +1,4 @@
--- Demand 3 of the Sh server: its hypotheses can be met by a User-Data-Request and what is put into it, a 601 without M and a 602 with M, which are unknown here.
+-- Demand 3 of the Sh server: its hypotheses can be met by a User-Data-Request and what is put into it, a 601 without M and a 602 with M, both unknown here.
 use Rattle.octets.specs.Standard.{ℕ, _≡_, refl, ap, _∙_, Bool, true, false, _≤_, List, [], _∷_, _++_, Option, none, some, length, set, lit≤}
 use Rattle.diameter.specs.Put.{Piece, glue, bytesOf, avpsOf}
 use Rattle.pen.specs.Bytes.{wordBytes, headBytes, vendorHead, vendorBytes, numberBytes}

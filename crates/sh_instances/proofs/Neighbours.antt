@@ -1,5 +1,6 @@
--- The neighbour's line, of the Sh server: two tables that differ in everything they may differ in, and behind one of them a whole stale record and a last piece.
+-- The neighbour's line, of the Sh server: two tables that differ in all they may differ in, and behind one of them a whole stale record and a last piece.
 use Rattle.octets.specs.Standard.{ℕ, _≤_, false, _≡_, refl, sym, ap, _∙_, List, [], _∷_, _++_, length, take, length-replicate, lit≤}
+use Rattle.record.specs.Fields.{publicOf}
 use Rattle.blocks.specs.Blocks.{blockOf}
 use Rattle.blocks.specs.declared.Checked.the-variants.{Sound}
 use Rattle.table.specs.Area.{tableIn, checkArea}
@@ -7,12 +8,12 @@ use Rattle.table.proofs.Areas.{read-front, sound-size-in}
 use Rattle.lookup.specs.Find.{findPublic}
 use Rattle.lookup.specs.declared.Found.the-variants.{At}
 use Rattle.reading.specs.Rules.{Seen}
-use Rattle.requests.specs.Judged.{fine}
+use Rattle.requests.specs.Judged.{Judged, fine}
 use Rattle.requests.specs.Request.{dialectOf, underSh, readSh, identityOf}
 use Rattle.calling.specs.Call.{Answer, Answered}
 use Rattle.neighbour_example.proofs.Tables as tables
 use Rattle.neighbour_example.proofs.Tables.{first, second, behind, profiles, others, large, all, first-in, second-in, first-sound, second-exact, header-a}
-use Rattle.neighbour_example.proofs.Tables.{same-c, c-one, c-two}
+use Rattle.neighbour_example.proofs.Tables.{same-c, One, Two, c-one, c-two}
 use Rattle.worked_examples.proofs.Sample.{z}
 use Rattle.ndushavire_sh.specs.Lent.{Lent, lent}
 use Rattle.ndushavire_sh.specs.Serve.{Served, toldOf, answerOf, shServe}
@@ -24,30 +25,35 @@ use Rattle.sh_neighbour.specs.Asked.{SameAsked}
 use Rattle.sh_neighbour.proofs.Neighbour.{sh-neighbour, sh-neighbour-same}
 use Rattle.sh_instances.proofs.Says.{seenIn, seenOf}
 
--- what a request that was read saw is that, and names what it names
-seen-so : (req : List ℕ) (seen : Seen) → readSh (dialectOf (underSh 3588) req) req ≡ fine seen → seenOf req ≡ seen
-seen-so req seen e = ap seenIn e
+-- a request that was read asks about what was seen of it
+named-so : (req id : List ℕ) → identityOf (seenOf req) ≡ id → (seen : Seen) → readSh (dialectOf (underSh 3588) req) req ≡ fine seen → identityOf seen ≡ id
+named-so req id n seen e = ap (λ (j : Judged). identityOf (seenIn j)) (sym e) ∙ n
 
--- THE REQUEST asks for the state and the name of `c`: record 3 of the one table, record 4 of the other, registered at `s` in both.
+-- THE REQUESTS: for state and name of `c`, which is record 3 of the one table and record 4 of the other, registered at `s` in both; for the state of `w`,
+-- which no record has.
 unfoldable asked : List ℕ
 asked = ask 0x63 (state ++ name)
+
+unfoldable strange : List ℕ
+strange = ask 0x77 state
 
 named-c : identityOf (seenOf asked) ≡ 0x63 ∷ []
 unfolding opened asked
 named-c = refl
 
-named-so : (seen : Seen) → readSh (dialectOf (underSh 3588) asked) asked ≡ fine seen → identityOf seen ≡ 0x63 ∷ []
-named-so seen e = ap identityOf (sym (seen-so asked seen e)) ∙ named-c
+named-w : identityOf (seenOf strange) ≡ 0x77 ∷ []
+unfolding opened strange
+named-w = refl
 
 -- behind the second table: `c` once more, in a stale record that says another state and server, and a last piece
 unfoldable stale : List ℕ
 stale = tables.line 7 8 0x63 0x70 2 0 z 0 0 0 ++ behind
 
-abbrev here : Lent
-here = lent asked first profiles room 3588
+abbrev here : List ℕ → Lent
+here req = lent req first profiles room 3588
 
-abbrev there : Lent
-there = lent asked (second ++ stale) others large 3588
+abbrev there : List ℕ → List ℕ → Lent
+there req buffer = lent req (second ++ stale) others buffer 3588
 
 stale-in : tableIn (second ++ stale) ≡ second
 stale-in = read-front second stale (sound-size-in second (length others) 6 second-exact)
@@ -56,39 +62,63 @@ there-sound : checkArea (second ++ stale) (length others) ≡ Sound 6
 unfolding checkArea
 there-sound = rw stale-in second-exact
 
--- one and the other differ in the count, the issue, the check word; so do the lines of `c`, and the block; their profiles are the same bytes
-asks-alike : SameAsked here there 4 6
-asks-alike =
+w-one : One publicOf 0x77 ≡ []
+unfolding all
+w-one = refl
+
+w-two : Two publicOf 0x77 ≡ []
+unfolding all
+w-two = refl
+
+-- the tables differ in the count, the issue and the check word, in the other lines, and in block and issue of `c`, whose profiles are the same bytes
+alike-c : (buffer : List ℕ) → SameAsked (here asked) (there asked buffer) 4 6
+alike-c buffer =
     record {
       request = refl;
       peer = refl;
       header = rw stale-in (rw second-in at header-a);
-      lines = λ seen e. rw (named-so seen e, stale-in, c-one, rw second-in at c-two) (same-c, tt);
+      lines = λ seen e. rw (named-so asked (0x63 ∷ []) named-c seen e, stale-in, c-one, rw second-in at c-two) (same-c, tt);
     }
 
-abbrev told : Answer
-told = record { length = 268; place = 0 }
+alike-w : (buffer : List ℕ) → SameAsked (here strange) (there strange buffer) 4 6
+alike-w buffer =
+    record {
+      request = refl;
+      peer = refl;
+      header = rw stale-in (rw second-in at header-a);
+      lines = λ seen e. rw (named-so strange (0x77 ∷ []) named-w seen e, stale-in, w-one, rw second-in at w-two) tt;
+    }
 
-here-call : shServe here .call ≡ Answered told
+-- both are answered over the first table: B2001 and X5001, by their lengths
+abbrev told : ℕ → Answer
+told n = record { length = n; place = 0 }
+
+here-so : (req : List ℕ) (n : ℕ) → known false (Sound 4) first (here req) .call ≡ Answered (told n) → shServe (here req) .call ≡ Answered (told n)
+here-so req n e = ap (λ (y : Served). y .call) (come (here req) {y = known false (Sound 4) first (here req)} roomy first-sound first-in refl) ∙ e
+
+here-c : shServe (here asked) .call ≡ Answered (told 268)
 unfolding opened all asked
-here-call = ap (λ (y : Served). y .call) (come here {y = known false (Sound 4) first here} roomy first-sound first-in refl)
+here-c = here-so asked 268 refl
+
+here-w : shServe (here strange) .call ≡ Answered (told 136)
+unfolding opened all strange
+here-w = here-so strange 136 refl
 
 large-enough : 36864 ≤ length large
 unfolding large
 large-enough = rw (length-replicate {A = ℕ} 36865 7) (lit≤ tt)
 
--- THE THEOREM: over the other table and another buffer the same length, and the same 268 bytes
-met-neighbour : (shServe there .call ≡ Answered told) × (take 268 (shServe there .buffer) ≡ take 268 (shServe here .buffer))
-met-neighbour = sh-neighbour here there 4 6 first-sound there-sound asks-alike told here-call large-enough
+-- THE THEOREM: over the other table and another buffer the same length, and the same bytes; over the same buffer the same call
+met-neighbour : (shServe (there asked large) .call ≡ Answered (told 268))
+    × (take 268 (shServe (there asked large) .buffer) ≡ take 268 (shServe (here asked) .buffer))
+met-neighbour = sh-neighbour (here asked) (there asked large) 4 6 first-sound there-sound (alike-c large) (told 268) here-c large-enough
 
--- over the same buffer the same call
-abbrev there-too : Lent
-there-too = lent asked (second ++ stale) others room 3588
+met-neighbour-none : (shServe (there strange large) .call ≡ Answered (told 136))
+    × (take 136 (shServe (there strange large) .buffer) ≡ take 136 (shServe (here strange) .buffer))
+met-neighbour-none = sh-neighbour (here strange) (there strange large) 4 6 first-sound there-sound (alike-w large) (told 136) here-w large-enough
 
-met-neighbour-same : shServe here ≡ shServe there-too
-met-neighbour-same =
-    sh-neighbour-same here there-too 4 6 first-sound there-sound
-    (record { request = refl; peer = refl; header = asks-alike .header; lines = asks-alike .lines }) refl
+met-neighbour-same : shServe (here asked) ≡ shServe (there asked room)
+met-neighbour-same = sh-neighbour-same (here asked) (there asked room) 4 6 first-sound there-sound (alike-c room) refl
 
 -- WHAT IT SEES AT ALL: `c` is pending at `<&s` in record 3 of one table, and in the only record of another, which has another bit set besides.
 unfoldable lone : List ℕ
@@ -108,7 +138,7 @@ shown = record { state = refl; pends = refl; server = refl }
 
 found-alike : (seen : Seen) → readSh (dialectOf (underSh 3588) asked) asked ≡ fine seen
     → SameFound (tableIn area) (tableIn lone) (findPublic (tableIn area) 4 (identityOf seen)) (findPublic (tableIn lone) 1 (identityOf seen))
-found-alike seen e = rw (named-so seen e, found-area, found-lone) shown
+found-alike seen e = rw (named-so asked (0x63 ∷ []) named-c seen e, found-area, found-lone) shown
 
 sees-alike : SameSight asked 3588 (tableIn area) (tableIn lone) 4 1
 unfolding opened area lone
