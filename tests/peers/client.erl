@@ -17,7 +17,7 @@ run(Name, Trials) ->
             halt(0)
     catch
         error:Why:Where ->
-            io:format("~s: ~tp ~tp~n", [Name, Why, Where]),
+            io:format("~s: ~0tp ~0tp~n", [Name, Why, Where]),
             halt(1)
     end.
 
