@@ -1,14 +1,16 @@
-/* decide TABLE PROFILE NAMES ..: times one decision on each table, beside the checks that are part of it and the
+/* decide TABLE PROFILE NAMES ..: times one decision on each table, of Cx or of Sh, beside the checks that are part of it and the
  * reference's decision in Rust. Over a table with tiny names, of which a request can hold 1,000, removals
  * are timed. Every request leaves the table as the first call made it, and what it marks in the vector file, which is empty
  * but for a MAR, is unmarked again, so that each call does the same work. As in all benchmarks the peer follows RFC 6733, by which one rule more is
  * asked, and no feature is supported. */
 #define _POSIX_C_SOURCE 199309L
+#include <ndushavire_sh.h>
+
 #include "aims.h"
 #include "timing.h"
 #include "vectors.h"
 
-/* The aims, where there is one: UAR, which goes over the table once more, LIR and SAR type 1 at the most records, against the
+/* The aims, where there is one: UAR, which goes over the table once more, LIR, UDR and SAR type 1 at the most records, against the
  * check alone, and a MAR against both checks; from 16 records on, against Rust; 1,000 identities at the most records, against 1. */
 static const Aim NONE = {"", 0}, UAR_AIM = {"<= 1.35", 135}, CHECK_AIM = {"<= 1.1", 110}, CHECKS_AIM = {"<= 1.2", 120};
 static const Aim RUST_AIM = {"< 1.0", 99}, REMOVAL_AIM = {"<= 3.0", 300};
@@ -16,6 +18,9 @@ static const Aim RUST_AIM = {"< 1.0", 99}, REMOVAL_AIM = {"<= 3.0", 300};
 uint64_t reference_serve(const uint8_t *request, size_t request_len, uint8_t *table, size_t table_len,
                          const uint8_t *profile, size_t profile_len, uint8_t *vectors, size_t vectors_len, uint8_t *answer,
                          size_t answer_len);
+
+uint64_t reference_sh_serve(const uint8_t *request, size_t request_len, const uint8_t *table, size_t table_len,
+                            const uint8_t *profile, size_t profile_len, uint8_t *answer, size_t answer_len);
 
 typedef struct {
     const Sample *of;
@@ -26,6 +31,9 @@ typedef struct {
 
 static uint64_t decide(const void *call) {
     const Call *c = (const Call *)call;
+    if (ndushavire_sh_meant(c->request->bytes))
+        return ndushavire_sh_decide(c->request->bytes, c->request->length, c->table, c->of->table_len, c->of->profile, c->of->profile_len,
+                                    c->answer, NDUSHAVIRE_ANSWER_ROOM, NDUSHAVIRE_RFC_6733);
     const uint64_t word = ndushavire_decide(c->request->bytes, c->request->length, c->table, c->of->table_len, c->of->profile,
                                             c->of->profile_len, c->vectors.bytes, c->vectors.length, c->answer, NDUSHAVIRE_ANSWER_ROOM,
                                             NDUSHAVIRE_RFC_6733, NDUSHAVIRE_NO_FEATURES);
@@ -41,6 +49,9 @@ static uint64_t check(const void *call) {
 
 static uint64_t rust(const void *call) {
     const Call *c = (const Call *)call;
+    if (ndushavire_sh_meant(c->request->bytes))
+        return reference_sh_serve(c->request->bytes, c->request->length, c->table, c->of->table_len, c->of->profile, c->of->profile_len,
+                                  c->answer, NDUSHAVIRE_ANSWER_ROOM);
     const uint64_t word = reference_serve(c->request->bytes, c->request->length, c->table, c->of->table_len, c->of->profile,
                                           c->of->profile_len, c->vectors.bytes, c->vectors.length, c->answer, NDUSHAVIRE_ANSWER_ROOM);
     unmark(&c->vectors);
@@ -140,6 +151,8 @@ static int measure_all(const Sample *s) {
     measure(s, &request, "UAR", UAR_AIM);
     ask_location(&request, registered);
     measure(s, &request, "LIR", CHECK_AIM);
+    ask_user_data(&request, registered);
+    measure(s, &request, "UDR", CHECK_AIM);
     ask_assignment(&request, s->table, s->records, registered, 1, 1);
     measure(s, &request, "SAR type 1", CHECK_AIM);
     measure_authentication(s, &request, registered);

@@ -1,4 +1,4 @@
-/* requests.h: requests as call servers send them, about the records of a table. */
+/* requests.h: requests as call servers and a voicemail box send them, about the records of a table. */
 #ifndef REQUESTS_H
 #define REQUESTS_H
 
@@ -7,7 +7,7 @@
 #include <stdlib.h>
 #include <string.h>
 
-enum { CX = 16777216, VENDOR = 10415 };
+enum { CX = 16777216, OF_SH = 16777217, VENDOR = 10415 };
 enum { NOT_REGISTERED = 0, REGISTERED = 1 };
 
 typedef struct {
@@ -185,6 +185,21 @@ static inline void ask_authentication(Request *r, const uint8_t *record, uint32_
     put(r, 608, VENDOR, scheme);
     put_word(r, 607, VENDOR, number);
     put(r, 602, VENDOR, name);
+    end(r);
+}
+
+/* Is this line registered, and with which call server? It is of Sh, whose application stands in the header and in 260. */
+static inline void ask_user_data(Request *r, const uint8_t *record) {
+    const Name identity = public_of(record);
+    begin(r, 306);
+    spell(r->bytes + 8, OF_SH);
+    spell(r->bytes + r->length - 16, OF_SH); /* behind it stands 277 */
+    put_number(r, 700);
+    put_number(r, 0xC0000000u + 24 + (uint32_t)(identity.length + 3) / 4 * 4);
+    put_number(r, VENDOR);
+    put(r, 601, VENDOR, identity);
+    put_word(r, 703, VENDOR, 11);
+    put_word(r, 703, VENDOR, 12);
     end(r);
 }
 

@@ -1,4 +1,4 @@
-/* daemon [-a ADDRESS] [-p PORT] [-e EDITION[=HOST]].. [-f FEATURES] LIVE CARDS: the smallest whole daemon over the library, to be copied: what
+/* daemon [-a ADDRESS] [-p PORT] [-e EDITION[=HOST]].. [-f FEATURES] LIVE CARDS: the smallest whole daemon over both libraries, to be copied: what
  * ndushavire(3) tells, running.
  * LIVE is the folder of table and profile, or a link to it; CARDS is that of the vector file, vectors. It listens on 127.0.0.1, port 3868,
  * unless it is told otherwise, and stays in the foreground. Its log goes to standard error, which somebody must read, or it is a file: a
@@ -7,7 +7,8 @@
  * - One thread, one loop over poll. No peer is waited for: one that sends a byte a minute, or reads nothing, has its place and no more. Of one
  *   that sends much at once 16 KiB are served, and then come the others.
  * - CER, DWR and DPR are answered here (base.h). Every other message goes to ndushavire_decide, unless it is a SAR or a MAR that came before
- *   and its answer is remembered (remember.h).
+ *   and its answer is remembered (remember.h), or is of the Sh interface: those go to ndushavire_sh_decide, which only reads the table. A CEA names
+ *   both applications, Cx and Sh, to every peer.
  * - What a call altered is stored and flushed before the answer is sent, the vector file and then the table (files.h, store.h). What cannot be
  *   stored is undone and not answered: the peer asks again. Only a SAR or a MAR that succeeds alters anything: that is proved.
  * - A table that is put in the live one's place is taken over if it is sound; if not, the log says why. One of edition 2 that is put beside it,
@@ -29,7 +30,7 @@
 #include <signal.h>
 #include <sys/socket.h>
 
-#include <ndushavire.h>
+#include <ndushavire_sh.h>
 
 #include "base.h"
 #include "fault.h"
@@ -125,14 +126,14 @@ static void greet(Peer *peer, const uint8_t *request, size_t length) {
     }
     write_name(peer->name, sizeof peer->name, host + 8, avp_length(host) - 8);
     peer->edition = edition_followed(statements, stated, host + 8, avp_length(host) - 8);
-    const int common = names_cx(request + HEADER, length - HEADER);
+    const int common = names_ours(request + HEADER, length - HEADER);
     put_answer(reply, request, table.bytes, common ? SUCCESS : NO_COMMON_APPLICATION);
     put_capabilities(reply, address, own_address(peer, address));
     send_later(peer, reply, message_length(reply));
     peer->open = common;
     peer->ending = !common;
     if (common) say("peer %s: open, RFC %lu", peer->name, (unsigned long)peer->edition);
-    else say("peer %s: it does not speak Cx", peer->name);
+    else say("peer %s: it speaks neither Cx nor Sh", peer->name);
 }
 
 /* CER, DWR, DPR, and the answers to ours. */
@@ -149,14 +150,19 @@ static void serve_base(Peer *peer, const uint8_t *message, size_t length) {
     send_later(peer, reply, message_length(reply));
 }
 
-/* ---- the library's requests */
+/* ---- the libraries' requests */
+
+/* Whether a request is of the Sh interface. */
+static int is_sh(const uint8_t *request, size_t length) { return length >= HEADER && ndushavire_sh_meant(request); }
 
 /* Whether a request may alter a file. */
 static int may_alter(const uint8_t *request, size_t length) {
-    return length >= HEADER && (command_of(request) == SERVER_ASSIGNMENT || command_of(request) == MULTIMEDIA_AUTH);
+    return length >= HEADER && !is_sh(request, length) && (command_of(request) == SERVER_ASSIGNMENT || command_of(request) == MULTIMEDIA_AUTH);
 }
 
 static uint64_t decide_once(const Peer *peer, const uint8_t *request, size_t length) {
+    if (is_sh(request, length))
+        return ndushavire_sh_decide(request, length, table.bytes, table.length, profile.bytes, profile.length, answer, sizeof answer, peer->edition);
     return ndushavire_decide(request, length, table.bytes, table.length, profile.bytes, profile.length, vectors.bytes, vectors.length, answer,
                              sizeof answer, peer->edition, features);
 }
@@ -189,7 +195,7 @@ static void log_challenge(const Peer *peer, const uint8_t *request, size_t reque
     const unsigned long base = base_result(answer, length);
     const uint8_t *user = find_avp(request + HEADER, request_len - HEADER, 1);
     char name[NAME_ROOM] = "";
-    if (command_of(answer) != MULTIMEDIA_AUTH || base == SUCCESS) return;
+    if (command_of(answer) != MULTIMEDIA_AUTH || is_sh(request, request_len) || base == SUCCESS) return;
     if (user != NULL) write_name(name, sizeof name, user + 8, avp_length(user) - 8);
     say("peer %s: no challenge for %s: %c%lu", peer->name, name, base != 0 ? 'B' : 'X', base != 0 ? base : experimental_result(answer, length));
 }

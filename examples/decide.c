@@ -7,46 +7,12 @@
  * and then the table, each whole, before it sends the answer, as store.h does: in a new file, flushed, renamed over the old
  * one, and the folder flushed. Blocks written in place are not enough, since a removal that is half on disk is a sound table.
  * Exit status: 0 answered, 1 refused, 2 a file cannot be read, standard output cannot be written, or the arguments are others. */
-#include <ctype.h>
-
 #include <ndushavire.h>
 
 #include "fault.h"
+#include "hex.h"
 #include "load.h"
 #include "stated.h"
-
-/* Turns hexadecimal text into bytes, in place, and gives their number. */
-static size_t from_hex(uint8_t *text, size_t length) {
-    static const char digits[] = "0123456789abcdef";
-    size_t digit = 0;
-    int comment = 0;
-    for (size_t i = 0; i < length; i++) {
-        const int c = tolower(text[i]);
-        comment = c == '#' || (comment && c != '\n');
-        if (comment || isspace(c)) continue;
-        const char *at = c != 0 ? strchr(digits, c) : NULL;
-        if (at == NULL) {
-            fprintf(stderr, "decide: a request is hexadecimal digits\n");
-            exit(2);
-        }
-        const uint8_t value = (uint8_t)(at - digits);
-        text[digit / 2] = (uint8_t)(digit % 2 == 0 ? value << 4 : text[digit / 2] | value);
-        digit++;
-    }
-    if (digit % 2 != 0) {
-        fprintf(stderr, "decide: half a byte at the request's end\n");
-        exit(2);
-    }
-    return digit / 2;
-}
-
-/* Four bytes to a word and eight words to a line. */
-static void print_hex(const uint8_t *bytes, size_t length) {
-    for (size_t i = 0; i < length; i++) {
-        const char *after = i + 1 == length || i % 32 == 31 ? "\n" : i % 4 == 3 ? " " : "";
-        printf("%02X%s", bytes[i], after);
-    }
-}
 
 /* A file as it is lent, and as it was. */
 typedef struct {
@@ -90,7 +56,7 @@ int main(int argc, char **argv) {
     uint8_t *profile = load(argv[2], &profile_len);
     uint8_t *request = load(argv[4], &request_len);
     static uint8_t answer[NDUSHAVIRE_ANSWER_ROOM];
-    request_len = from_hex(request, request_len);
+    request_len = from_hex("decide", request, request_len);
 
     uint64_t word = ndushavire_decide(request, request_len, table.lent, table.length, profile, profile_len, vectors.lent, vectors.length,
                                       answer, sizeof answer, stated.peer, stated.features);

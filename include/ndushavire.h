@@ -26,7 +26,7 @@
  *
  * Threads. A call is reentrant; it sets no errno and raises no signal. Calls on different tables and vectors may run at
  * once and share one profile. While a call runs that writes, no one else may read or write its table or area, its vectors, its answer
- * or its report. Checks of one table, or of one vector file, may run beside each other.
+ * or its report. Checks of one table, or of one vector file, may run beside each other, and so may calls of ndushavire_sh_decide.
  *
  * The profile file is what call servers are sent of each line: bytes without a structure of their own, into which the
  * table's records point. Table and profile file are a pair, made, checked and kept together.
@@ -78,7 +78,8 @@
  * learn that there are none.
  *
  * What comes here. User-Authorization, Server-Assignment, Location-Info and Multimedia-Auth requests. The base protocol's
- * own (Capabilities-Exchange, Device-Watchdog, Disconnect-Peer) are the daemon's: a call would answer each with B3001.
+ * own (Capabilities-Exchange, Device-Watchdog, Disconnect-Peer) are the daemon's: a call would answer each with B3001. So it would a User-Data-Request
+ * of the Sh interface, which is for the second library, ndushavire_sh.h.
  *
  * Versions. Before 1.0.0 a new minor version may add parameters, functions and numbers: compile the daemon anew with
  * the header that came with the archive, since the linker cannot tell one from another; a daemon that compares ndushavire_version()
@@ -94,8 +95,8 @@
 extern "C" {
 #endif
 
-#define NDUSHAVIRE_VERSION "0.13.0"
-#define NDUSHAVIRE_VERSION_NUMBER 1300 /* the same to compare: major x 10,000 + minor x 100 + patch */
+#define NDUSHAVIRE_VERSION "0.14.0"
+#define NDUSHAVIRE_VERSION_NUMBER 1400 /* the same to compare: major x 10,000 + minor x 100 + patch */
 
 #define NDUSHAVIRE_ANSWER_ROOM 36864       /* the least answer buffer, in bytes: no answer is longer */
 #define NDUSHAVIRE_REQUEST_MIN 20          /* the shortest request, a Diameter header alone */

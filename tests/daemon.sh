@@ -1,9 +1,9 @@
 #!/usr/bin/env bash
-# daemon.sh ROOM MAKETABLE ARCHIVE CC..: builds the daemon that ndushavire(3) shows and runs it on a disk that fails (daemon.c). Then
+# daemon.sh ROOM MAKETABLE ARCHIVES CC..: builds the daemon that ndushavire(3) shows and runs it on a disk that fails (daemon.c). Then
 # it leaves out one thing after the other, of the page or of store.h, and sees that each is noticed. Then the same with the daemon of the
 # examples. RUN, if set, is the emulator.
 set -euo pipefail
-room=$1 maketable=$2 archive=$3
+room=$1 maketable=$2 archives=($3)
 shift 3
 compiler=("$@")
 run=(${RUN:+"$RUN"})
@@ -35,20 +35,29 @@ bytes_of "$tests/captured/scscf-12-sar.hex" >"$room/assignment"
 bytes_of "$tests/captured/mar-33.hex" >"$room/challenge"
 bytes_of "$tests/captured/mar-16.hex" >"$room/rubbish"
 
-# The first display of the page's examples, as C.
-sed -n '/^\.Sh EXAMPLES/,/^\.Ed/{/^\.Bd/,/^\.Ed/p}' "$top/man/ndushavire.3" | sed '/^\./d; s/\\e/\\/g; s/\\&//g' >"$room/source/example.c"
+# The first display of a page's examples, as C.
+shown() { sed -n '/^\.Sh EXAMPLES/,/^\.Ed/{/^\.Bd/,/^\.Ed/p}' "$top/man/$1" | sed '/^\./d; s/\\e/\\/g; s/\\&//g'; } # PAGE
+shown ndushavire.3 >"$room/source/example.c"
 grep -q -F 'ndushavire_decide(' "$room/source/example.c" || fail 'the page has no daemon'
 cp "$top"/examples/{fault,load,store}.h "$room/source/"
 
 source=source flags=()
 build() { # SOURCES PROGRAM [OPTION]
-    "${compiler[@]}" -std=c99 -O2 -Wall -Wextra -pedantic -Werror "${flags[@]}" "${@:3}" -I"$top/include" -I"$1" -o "$2" "$tests/daemon.c" "$archive"
+    "${compiler[@]}" -std=c99 -O2 -Wall -Wextra -pedantic -Werror "${flags[@]}" "${@:3}" -I"$top/include" -I"$1" -o "$2" "$tests/daemon.c" "${archives[@]}"
 }
 tried() { # PROGRAM
     "${run[@]}" "$1" "$disk" "$room/table" "$room/profile" "$room/vectors" "$room/question" "$room/assignment" "$room/challenge" "$room/rubbish"
 }
 build "$room/source" "$room/daemon"
 tried "$room/daemon"
+# ndushavire_sh(3) has the calls of both libraries in the place of that one: the daemon goes on as before.
+cp -r "$room/source" "$room/both"
+shown ndushavire_sh.3 | sed 's/^/    /' >"$room/both/calls"
+grep -q -F 'ndushavire_sh_decide(' "$room/both/calls" || fail 'the page of Sh has no call'
+sed -i -e "/^    uint64_t word = ndushavire_decide(/,/;\$/{/;\$/r $room/both/calls" -e 'd}' -e 's/^#include <ndushavire.h>/#include <ndushavire_sh.h>/' "$room/both/example.c"
+grep -q '^    if (request_len >= ' "$room/both/example.c" || fail 'the calls of both libraries have no place'
+build "$room/both" "$room/both/daemon"
+tried "$room/both/daemon"
 
 # With one thing left out the run must end with status 1.
 without() { # ABOUT FILE SED..

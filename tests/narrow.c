@@ -1,5 +1,5 @@
 /*
- * The little box: it stands between a program and the library's entries, and makes each call on a thread whose stack is
+ * The little box: it stands between a program and the libraries' entries, and makes each call on a thread whose stack is
  * 16 KiB, above pages that nobody may touch. A call that needs more is told of, and ends the program with status 3.
  * SPENT in the environment is how many bytes of the stack are used up before the call, to see that this is noticed.
  */
@@ -42,6 +42,10 @@ uint64_t __real_ndushavire_take(uint8_t *area, size_t area_len, const uint8_t *f
                                 size_t profile_len);
 uint64_t __wrap_ndushavire_take(uint8_t *area, size_t area_len, const uint8_t *fresh, size_t fresh_len, const uint8_t *profile,
                                 size_t profile_len);
+uint64_t __real_ndushavire_sh_decide(const uint8_t *request, size_t request_len, const uint8_t *table, size_t table_len, const uint8_t *profile,
+                                     size_t profile_len, uint8_t *answer, size_t answer_len, uint32_t peer);
+uint64_t __wrap_ndushavire_sh_decide(const uint8_t *request, size_t request_len, const uint8_t *table, size_t table_len, const uint8_t *profile,
+                                     size_t profile_len, uint8_t *answer, size_t answer_len, uint32_t peer);
 
 /* The call that is made next: what it is lent, in its order, and the word that it returned. */
 static struct {
@@ -63,6 +67,7 @@ static void report(void) { lent.word = __real_ndushavire_report(READ(0), WRITTEN
 static void forward(void) { lent.word = __real_ndushavire_forward(WRITTEN(0), READ(1), lent.number[0]); }
 static void back(void) { lent.word = __real_ndushavire_back(WRITTEN(0), READ(1)); }
 static void take(void) { lent.word = __real_ndushavire_take(WRITTEN(0), READ(1), READ(2)); }
+static void sh_decide(void) { lent.word = __real_ndushavire_sh_decide(READ(0), READ(1), READ(2), WRITTEN(3), lent.number[0]); }
 
 static void (*call)(void);
 static size_t spent;
@@ -211,4 +216,15 @@ uint64_t __wrap_ndushavire_take(uint8_t *area, size_t area_len, const uint8_t *f
     lend_read(1, fresh, fresh_len);
     lend_read(2, profile, profile_len);
     return narrow(take);
+}
+
+uint64_t __wrap_ndushavire_sh_decide(const uint8_t *request, size_t request_len, const uint8_t *table, size_t table_len, const uint8_t *profile,
+                                     size_t profile_len, uint8_t *answer, size_t answer_len, uint32_t peer)
+{
+    lend_read(0, request, request_len);
+    lend_read(1, table, table_len);
+    lend_read(2, profile, profile_len);
+    lend_written(3, answer, answer_len);
+    lent.number[0] = peer;
+    return narrow(sh_decide);
 }

@@ -1,8 +1,8 @@
 #!/usr/bin/env bash
-# served.sh ROOM MAKETABLE ARCHIVE CC..: builds the daemon of the examples and gives it to a client of its own (client.py). Then it puts one
+# served.sh ROOM MAKETABLE ARCHIVES CC..: builds the daemon of the examples and gives it to a client of its own (client.py). Then it puts one
 # fault after the other into the daemon, and sees that the client notices each. RUN, if set, is the emulator.
 set -euo pipefail
-room=$1 maketable=$2 archive=$3
+room=$1 maketable=$2 archives=($3)
 shift 3
 compiler=("$@")
 run=(${RUN:+"$RUN"})
@@ -22,13 +22,13 @@ command -v python3 >/dev/null || fail 'python3 is missing (Debian: python3)'
 cp -r "$top/examples" "$room/source"
 
 # Three trials are about peers that wait in vain, and have a daemon with little patience; the others may run on a machine that is slow.
-hasty='greeting slow ending' others='cut many garbage replaced declined two_users laid_over sizes taken taken_over_kills put_in timed_out editions features last_good twice full kills'
+hasty='greeting slow ending' others='cut many garbage replaced declined two_users laid_over sizes taken taken_over_kills put_in timed_out editions features voicemail last_good twice full kills'
 include=$top/include
 build() { # SOURCES PROGRAM TRIAL [OPTION]
     local flags=(-DLOOK_AGAIN=1 "${@:4}")
     [[ " $hasty " != *" $3 "* ]] || flags+=(-DQUIET=3 -DGREETING=1 -DFAREWELL=1)
     "${compiler[@]}" -std=c99 -O2 -Wall -Wextra -pedantic -Werror -Wno-unused -I"$include" "${flags[@]}" -include "$tests/slow-disk.h" \
-        -o "$2" "$1/daemon.c" "$archive"
+        -o "$2" "$1/daemon.c" "${archives[@]}"
 }
 build "$room/source" "$room/hasty" slow
 build "$room/source" "$room/daemon" cut
@@ -59,6 +59,7 @@ ends 1 -f 4294967295 "$room/none" "$room/none"
 # By another version's header it does not start.
 mkdir "$room/other"
 sed 's/\(NDUSHAVIRE_VERSION_NUMBER\) \([0-9][0-9]*\) /\1 (\2 - 100) /' "$top/include/ndushavire.h" >"$room/other/ndushavire.h"
+cp "$top/include/ndushavire_sh.h" "$room/other/"
 include=$room/other build "$room/source" "$room/other/daemon" cut
 program=$room/other/daemon ends 1 "$room/none" "$room/none"
 grep -q '^daemon: the library: it is of another version than the header' "$room/complaint" || fail "by another header it says '$(cat "$room/complaint")'"
@@ -125,6 +126,13 @@ with 'an X5011 of which the log blames what has no M' features daemon.c 's/ \&\&
 with 'an X5011 of which the log does not know another list' features daemon.c 's/ || number_in(avp, FEATURE_LIST_ID) != 1//'
 with 'an X5011 of which the log does not know another vendor' features daemon.c 's/(number_in(avp, VENDOR_ID) != VENDOR_3GPP || /(/'
 with 'an X5011 of which the log has the first bits of all' features daemon.c 's/ \&\& !asks_too_much(avp); left -= span/ \&\& four_bytes(avp) != SUPPORTED_FEATURES; left -= span/'
+with 'a User-Data-Request that goes to the Cx server' voicemail daemon.c 's/^    if (is_sh(request, length))$/    if (0)/'
+with 'a request of Sh by its command' voicemail daemon.c 's/ndushavire_sh_meant(request); }/command_of(request) == NDUSHAVIRE_SH_USER_DATA_REQUEST; }/'
+with 'a CEA without Sh' voicemail base.h 's/^    put_application(answer, SH);//'
+with 'a CEA without Cx' voicemail base.h 's/^    put_application(answer, CX);//'
+with 'a peer of Sh alone that is turned away' voicemail base.h 's/ || application == SH || / || /'
+with 'an edition that is not the voicemail box'"'"'s' voicemail daemon.c 's/sizeof answer, peer->edition);/sizeof answer, NDUSHAVIRE_RFC_3588);/'
+with 'a MAR of Sh, logged as one of Cx' voicemail daemon.c 's/ || is_sh(request, request_len) || / || /'
 with 'an answer that is sent before its work is stored' kills daemon.c \
     -e 's/^    if (may_alter(request, length) \&\& succeeded.*/    send_later(peer, answer, answer_len);\n    write_some(peer);\n&/' \
     -e '/remember_for_twice(outcome/,/^}/s/^    send_later.*//' -e 's/^static void hang_up(Peer/static void write_some(Peer *peer);\n&/'

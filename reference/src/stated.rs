@@ -25,9 +25,9 @@ impl Stated {
         vec![self.peer, self.features]
     }
 
-    /// Of a call's numbers.
+    /// Of a call's numbers; Sh is told of no features.
     pub fn of(numbers: &[u32]) -> Stated {
-        Stated { peer: numbers[0], features: numbers[1] }
+        Stated { peer: numbers[0], features: numbers.get(1).copied().unwrap_or(0) }
     }
 
     pub fn has_known_peer(self) -> bool {

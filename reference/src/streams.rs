@@ -167,6 +167,22 @@ mod tests {
         assert_eq!(stream[..16], [7, 9, 3, 0, 0x80, 0, 2, 0, 0, 0, 0, 5, 0, 0, 0, 2]);
         assert_eq!(Case::read(&mut &stream[..]).unwrap(), Some(take));
 
+        let export = Case::export(9, vec![4; 512], vec![7; 5], 300);
+        let stream = written(&export);
+        assert_eq!(stream[..16], [8, 9, 3, 0, 0, 0, 2, 0, 0, 0, 0, 5, 0xC0, 0, 1, 44]);
+        assert_eq!(Case::read(&mut &stream[..]).unwrap(), Some(export));
+
+        let import = Case::import(9, vec![1, 2], vec![4; 512], vec![7; 5], 1024);
+        let stream = written(&import);
+        assert_eq!(stream[..20], [9, 9, 4, 0, 0, 0, 0, 2, 0, 0, 2, 0, 0, 0, 0, 5, 0xC0, 0, 4, 0]);
+        assert_eq!(Case::read(&mut &stream[..]).unwrap(), Some(import));
+
+        let voicemail = Case::sh_decide(9, vec![1, 2, 3], vec![4; 512], vec![7; 5], 36_864, 6733);
+        let stream = written(&voicemail);
+        assert_eq!(stream[..20], [10, 9, 4, 1, 0, 0, 0, 3, 0, 0, 2, 0, 0, 0, 0, 5, 0xC0, 0, 0x90, 0]);
+        assert_eq!(stream[20..24], [0, 0, 26, 77]);
+        assert_eq!(Case::read(&mut &stream[..]).unwrap(), Some(voicemail));
+
         let outcome = Outcome {
             word: 5 << 48 | 3,
             altered: 0,
@@ -180,7 +196,7 @@ mod tests {
 
     #[test]
     fn a_case_is_read_only_as_its_entry_takes_it() {
-        for (at, byte) in [(0, 1), (0, 9), (2, 4), (3, 0), (4, 0x80), (8, 0), (16, 0), (4, 0x20)] {
+        for (at, byte) in [(0, 1), (0, 99), (2, 4), (3, 0), (4, 0x80), (8, 0), (16, 0), (4, 0x20)] {
             let mut stream = written(&decide());
             stream[at] = byte;
             assert!(Case::read(&mut &stream[..]).is_err(), "byte {at} is {byte}");

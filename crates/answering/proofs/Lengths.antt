@@ -11,9 +11,10 @@ use Rattle.failed.specs.Failing.{failedBy}
 use Rattle.choices.specs.declared.Given.{Given}
 use Rattle.parts.specs.Profile.{profileAt}
 use Rattle.reply.specs.Pieces.{topBytes, givenBytes}
-use Rattle.reply.proofs.Lengths.{front-length, header-length, origin-length, list-length, names-length, data-length}
+use Rattle.envelope.proofs.Lengths.{front-length, header-length, origin-length}
+use Rattle.reply.proofs.Lengths.{list-length, names-length, data-length}
 use Rattle.answering.specs.Answer.{failedPart, proxies, endBytes, restBytes, bodyBytes, answerBytes}
-use Rattle.answering.proofs.Copies.{session-proxies}
+use Rattle.envelope.proofs.Copies.{session-proxies}
 
 -- 3,772 bytes are bounded by the table's fields and by 16 vectors; the rest comes from the request and from the profile file
 module _ (t : List ℕ) (count : ℕ) (s : SoundTable t count) (terms : Terms) (req file v : List ℕ) (g : Given) (good : Sendable v (g .sent)) where

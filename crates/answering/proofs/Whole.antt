@@ -7,8 +7,8 @@ use Rattle.requests.specs.Features.{listCalled, wantedOf}
 use Rattle.requests.specs.declared.features.Wanted.{Wanted}
 use Rattle.choices.specs.declared.Given.{Given}
 use Rattle.reply.specs.Pieces.{topBytes, headerBytes}
-use Rattle.reply.proofs.Rooms.{room-left, room-right}
-use Rattle.reply.proofs.Lengths.{header-length}
+use Rattle.envelope.proofs.Rooms.{room-left, room-right}
+use Rattle.envelope.proofs.Lengths.{header-length}
 use Rattle.answering.specs.Answer.{restBytes, bodyBytes, answerBytes}
 
 -- whether the own list is called for

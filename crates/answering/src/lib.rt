@@ -2,9 +2,9 @@
 pub mod last;
 
 use choices::Given;
+use envelope::header;
 use reading::Dialect;
 use reply::front;
-use reply::header;
 use requests::features::Wanted;
 ghost use mathlib.Core.Path.{_≡_};
 ghost use Prim.Native.Nat.{_+_, _≤_};

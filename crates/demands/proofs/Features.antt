@@ -16,11 +16,12 @@ use Rattle.reading.specs.declared.Outcome.the-variants.{Experimental}
 use Rattle.reading.specs.declared.Ruled.the-variants.{Taken, Fault}
 use Rattle.reading.specs.declared.Terms.{Terms}
 use Rattle.reading.specs.declared.Use.{Use}
-use Rattle.reading.specs.declared.Use.the-variants.{Unknown, Unnamed, Needed, Optional, Repeated}
+use Rattle.reading.specs.declared.Use.the-variants.{Unknown, Unnamed, Needed, Optional, Repeated, Several}
 use Rattle.reading.specs.declared.Verdict.{Verdict}
 use Rattle.requests.specs.Features.{listCalled}
 use Rattle.requests.specs.Judged.{bad, nothing}
 use Rattle.requests.specs.Request.{headerFault, firstOther, readIn}
+use Rattle.requests.proofs.Featured.{rule-is}
 use Rattle.choices.specs.Given.{givenFault}
 use Rattle.failed.specs.Failing.{failedBy, failedOf}
 use Rattle.reply.specs.Pieces.{identityBytes, nameBytes, dataBytes, givenBytes, listBytes, topBytes}
@@ -45,7 +46,7 @@ use Rattle.demands.proofs.Fitting.{fits}
 use Rattle.demands.proofs.Place.{place-answer, place-blames}
 use Rattle.demands.proofs.Refusals.{answer-is}
 use Rattle.demands.proofs.Undecided.{Unsupported, unsupported-only, unsupported-decides}
-use Rattle.demands.proofs.Wanting.{beyond-says, beyond-holds, repeated, rule-is, called-says, called-holds}
+use Rattle.demands.proofs.Wanting.{beyond-says, beyond-holds, never-unknown, of-cx, called-says, called-holds}
 use Rattle.older_rules.proofs.Features as older
 use Rattle.demands.proofs.AnyFeatures as any
 
@@ -63,9 +64,6 @@ module _ (terms : Terms) (req t file v : List ℕ) where
 read-decides : (d : Dialect) (req t : List ℕ) (count : ℕ) (v : List ℕ) (f : Verdict) → readIn d req ≡ bad f → decide d req t count v ≡ faulted t v f
 unfolding decideBy judgedBy
 read-decides d req t count v f e = rw e
-
-unknown-repeated : Unknown ≡ Repeated → ⊥
-unknown-repeated e = true≢false (ap isUnknown e)
 
 -- over a table of its exact length
 refused-table : (x : Lent) → Unsupported (dialectIn x) (x .request) → turnedAway x ≡ false
@@ -206,7 +204,7 @@ module _ (a : Lent) where
   unfolding failedOf
   members-else place c m h f away =
       let r : rule (dialectIn a) (c .seen) (avpAt (a .request) place) ≡ Fault 5004 =
-      rule-is (dialectIn a) (avpAt (a .request) place) (c .kind) (c .seen) ∙ rw (c .flags, m) in
+      rule-is (dialectIn a) (avpAt (a .request) place) (c .kind) (of-cx (dialectIn a) (a .request) h) (c .seen) ∙ rw (c .flags, m) in
       let b : Blames x place =
       record {
         taken = away;
@@ -219,15 +217,15 @@ module _ (a : Lent) where
   pub members-pass : (place : ℕ) → ComesTo (dialectIn a) (a .request) place → holdsMembers (avpAt (a .request) place) ≡ true
       → callPlace (serve a .call) ≢ place
   members-pass place c m e =
-      let r : rule (dialectIn a) (c .seen) (avpAt (a .request) place) ≡ Taken =
-      rule-is (dialectIn a) (avpAt (a .request) place) (c .kind) (c .seen) ∙ rw (c .flags, m) in
       let l = reaches-least (dialectIn a) (a .request) (c .reached) in
       let b = place-blames a (λ z. omega (arith, e, z, l .0)) in
+      let r : rule (dialectIn a) (c .seen) (avpAt (a .request) place) ≡ Taken =
+      rule-is (dialectIn a) (avpAt (a .request) place) (c .kind) (of-cx (dialectIn a) (a .request) (b .fault .header)) (c .seen) ∙ rw (c .flags, m) in
       faults.taken-passes (dialectIn a) (a .request) place (c .seen) (c .reached) (c .whole) r (b .result) (callPlace (serve a .call)) (b .fault) e
 
 -- "DEMAND 3'S UNKNOWN KINDS NO LONGER INCLUDE 628": no AVP that it puts into a request is one.
 pub features-known : (d : Dialect) (u : Piece) → Foreign d u → kindOf (u .avp) ≢ supportedFeatures
-features-known d u f k = let z : Unknown ≡ Repeated = sym (f .stranger) ∙ repeated d (u .avp) k in absurd (unknown-repeated z)
+features-known d u f k = true≢false (sym (ap isUnknown (f .stranger)) ∙ never-unknown d (u .avp) k)
 
 -- "HERE ALONE M ON A KNOWN KIND COUNTS": of a kind that is known, no rule looks at M; what a 628 with M asks for is asked by `Beyond` alone.
 pub mark-idle : (u : Use) → isUnknown u ≡ false → (again : Bool) (flags other content : ℕ) → reserved flags ≡ reserved other
@@ -238,3 +236,4 @@ mark-idle Unnamed h again flags other content e = rw e
 mark-idle Needed h again flags other content e = rw e
 mark-idle Optional h again flags other content e = rw e
 mark-idle Repeated h again flags other content e = rw e
+mark-idle Several h again flags other content e = rw e

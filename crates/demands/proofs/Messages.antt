@@ -10,9 +10,10 @@ use Rattle.reading.specs.declared.Terms.{Terms}
 use Rattle.reading.specs.Features.{asksBeyond}
 use Rattle.requests.specs.Features.{beyondSet, calledIn, listCalled}
 use Rattle.requests.specs.Judged.{Judged, bad}
+use Rattle.requests.proofs.Kept.{read-spoken}
 use Rattle.diameter.specs.Message.{commandOf, bodyOf}
 use Rattle.reading.specs.Verdicts.{faultOf}
-use Rattle.requests.specs.Request.{dialectOf, headerFault, readWalk, readIn, identities, sessionOf}
+use Rattle.requests.specs.Request.{dialectOf, sh, spoken, headerFaultBy, headerFault, readWalk, readIn, identities, sessionOf}
 use Rattle.choices.specs.Given.{givenFault}
 use Rattle.choices.specs.declared.Given.{Given}
 use Rattle.deciding.specs.Rules.{inForce}
@@ -79,14 +80,17 @@ module _ (head : List ℕ) (twenty : length head ≡ 20) (body : List ℕ) where
   pub message-dialect : (terms : Terms) → dialectOf terms (message head body) ≡ dialectOf terms head
   message-dialect terms = rw message-command
 
-  pub message-fault : (dialect : Dialect) → headerFault dialect (message head body) ≡ headerFault dialect head
-  unfolding headerFault
-  message-fault dialect =
+  pub message-fault-by : (has : Bool) (dialect : Dialect) → headerFaultBy has dialect (message head body) ≡ headerFaultBy has dialect head
+  message-fault-by has dialect =
       rw (
         message-at 0 (omega arith) (omega arith) (omega arith) (omega arith),
         message-flags,
         be32-alike (message head body) head 8 8 (λ j l. message-at (8 + j) (omega arith) (omega arith) (omega arith) (omega arith)),
       )
+
+  pub message-fault : (dialect : Dialect) → headerFault dialect (message head body) ≡ headerFault dialect head
+  unfolding headerFault
+  message-fault dialect = message-fault-by (spoken dialect) dialect
 
   pub message-rest : take 15 (drop 5 (message head body)) ≡ take 15 (drop 5 head)
   unfolding message
@@ -104,12 +108,15 @@ module _ (head : List ℕ) (twenty : length head ≡ 20) (body : List ℕ) where
   pub message-field : n < 16777216 → be24At (message head body) 1 ≡ n
   message-field h = be24-alike (message head body) (putBe24 head 1 n) 1 1 (λ j l. message-put (1 + j) (omega arith)) ∙ field-put head 1 n (omega arith) h
 
--- reading a message: its header's fault, else its walk
+-- reading a message: its header's fault, else its walk; at the Cx server
+unfoldable pub readBodyBy : ℕ → Dialect → Walk → Judged
+readBodyBy n d w = cond (eqb n 0) (readWalk d w) (bad (faultOf n))
+
 unfoldable pub readBody : Dialect → List ℕ → Walk → Judged
-readBody d head w = cond (eqb (headerFault d head) 0) (readWalk d w) (bad (faultOf (headerFault d head)))
+readBody d head w = readBodyBy (headerFault d head) d w
 
 pub message-read : (d : Dialect) (head : List ℕ) → length head ≡ 20 → (body : List ℕ) → readIn d (message head body) ≡ readBody d head (walk body)
-unfolding readIn readBody
+unfolding readIn readBody readBodyBy
 message-read d head twenty body = rw (message-fault head twenty body d, message-body head twenty body)
 
 -- a body within the limits; no message of such a body is refused by its length
@@ -227,9 +234,9 @@ module _ (x : Lent) (head : List ℕ) (twenty : length head ≡ 20) (b c : List 
   answered-same h d e s p = rw (answer-same (x .table) (x .profile) (x .vectors) (d .given) (e .given) (s .given), s .table, s .vectors, p)
 
   module _ {from : ℕ} {more : ℕ → ℕ} (none : more 0 ≡ 0) (read : Moved long short from more (readBody dialect head (walk b)) (readBody dialect head (walk c)))
-      (named : identities (walk b) ≡ identities (walk c)) where
-    both-named : identities (bodyOf long) ≡ identities (bodyOf short)
-    both-named = rw (message-body head twenty b, message-body head twenty c) named
+      (named : (x .terms .application ≡ sh → ⊥) → identities (walk b) ≡ identities (walk c)) where
+    both-named : (x .terms .application ≡ sh → ⊥) → identities (bodyOf long) ≡ identities (bodyOf short)
+    both-named other = rw (message-body head twenty b, message-body head twenty c) (named other)
 
     judged-same : (t : List ℕ) (count : ℕ) (v : List ℕ) {j k : Judged} → readIn dialect short ≡ k → Moved long short from more j k
         → SameDecision long short (judgedBy inForce dialect long t count v j) (judgedBy inForce dialect short t count v k)
@@ -239,7 +246,7 @@ module _ (x : Lent) (head : List ℕ) (twenty : length head ≡ 20) (b c : List 
         rw beyond-same
         (each (SameDecision long short) (beyondSet (x .terms) short)
         (record { given = blameless-same long short (givenFault featureUnsupported) (refl, refl); table = refl; vectors = refl })
-        (plan-same long short t count v seen both-named dialect is))
+        (plan-same long short t count v seen (both-named (λ z. omega (arith, z, read-spoken dialect short seen is .0))) dialect is))
 
     -- the place is the verdict's, or both have none
     judged-place : (t : List ℕ) (count : ℕ) (v : List ℕ) {j k : Judged} → Moved long short from more j k

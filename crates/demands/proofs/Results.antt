@@ -18,7 +18,7 @@ use Rattle.reading.specs.declared.Outcome.the-variants.{Base, Experimental}
 use Rattle.reading.specs.declared.Ruled.{Ruled}
 use Rattle.reading.specs.declared.Ruled.the-variants.{Taken, Skipped, Fault}
 use Rattle.reading.specs.declared.Use.{Use}
-use Rattle.reading.specs.declared.Use.the-variants.{Unknown, Unnamed, Needed, Optional, Repeated}
+use Rattle.reading.specs.declared.Use.the-variants.{Unknown, Unnamed, Needed, Optional, Repeated, Several}
 use Rattle.reading.specs.declared.Verdict.{Verdict}
 use Rattle.requests.specs.Features.{beyondSet}
 use Rattle.requests.specs.Judged.{Judged, bad, fine, nothing, onRule, judge}
@@ -82,6 +82,7 @@ use-ruling Unnamed earlier flags n l = tt
 use-ruling Needed earlier flags n l = either Ruling earlier refl (content-ruling n l)
 use-ruling Optional earlier flags n l = either Ruling earlier refl (content-ruling n l)
 use-ruling Repeated earlier flags n l = content-ruling n l
+use-ruling Several earlier flags n l = content-ruling n l
 
 rule-ruling : (d : Dialect) (seen : Seen) (a : List ℕ) → Ruling (rule d seen a)
 unfolding rule ruleBy isOne

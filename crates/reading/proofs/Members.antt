@@ -15,9 +15,10 @@ use Rattle.reading.specs.declared.Content.the-variants.{Free, Number}
 use Rattle.reading.specs.declared.Dialect.{Dialect}
 use Rattle.reading.specs.declared.Member.{Member}
 use Rattle.reading.specs.declared.group.Group.{Group}
-use Rattle.reading.specs.declared.group.Group.the-variants.{Application, AuthDataItem, SupportedFeatures}
+use Rattle.reading.specs.declared.group.Group.the-variants.{Application, AuthDataItem, SupportedFeatures, UserIdentity}
 use Rattle.reading.specs.Contents.{plainFault}
-use Rattle.reading.specs.Groups.{member, nobody, anyNumber, vendorId, applicationMembers, itemMembers, featureMembers, membersOf}
+use Rattle.reading.specs.Groups.{member, nobody, anyNumber, vendorId, applicationMembers, soleMember, itemMembers, identityMembers, featureMembers}
+use Rattle.reading.specs.Groups.{membersOf}
 use Rattle.reading.specs.Groups.{isOf, fits, unlike, isOther, onlyOf}
 use Rattle.reading.specs.Groups.{membersFitting, enough, enoughAt, gathers, rfc6733, tooOften, groupFault}
 use Rattle.diameter.specs.declared.Read.the-variants as read
@@ -29,9 +30,13 @@ module _ (d : Dialect) (g : Group) where
     unfolding membersOf
     member-application e m = m ∙ rw e
 
-    pub member-item : g ≡ AuthDataItem → r ≡ getD itemMembers k nobody → r ≡ getD (membersOf d g) k nobody
-    unfolding membersOf
+    pub member-item : g ≡ AuthDataItem → r ≡ getD (soleMember 608) k nobody → r ≡ getD (membersOf d g) k nobody
+    unfolding membersOf itemMembers
     member-item e m = m ∙ rw e
+
+    pub member-identity : g ≡ UserIdentity → r ≡ getD (soleMember 601) k nobody → r ≡ getD (membersOf d g) k nobody
+    unfolding membersOf identityMembers
+    member-identity e m = m ∙ rw e
 
     pub member-feature : g ≡ SupportedFeatures → r ≡ getD featureMembers k nobody → r ≡ getD (membersOf d g) k nobody
     unfolding membersOf
@@ -49,6 +54,10 @@ module _ (d : Dialect) (g : Group) where
   unfolding membersOf featureMembers
   size-feature e = rw e
 
+  pub size-identity : g ≡ UserIdentity → 1 ≡ length (membersOf d g)
+  unfolding membersOf identityMembers
+  size-identity e = rw e
+
 -- 260's
 module _ (application k : ℕ) {r : Member} where
   pub first-member : k ≡ 0 → r ≡ vendorId → r ≡ getD (applicationMembers application) k nobody
@@ -63,15 +72,13 @@ module _ (application k : ℕ) {r : Member} where
   unfolding applicationMembers
   no-member e f m = let past : 2 ≤ k = omega arith in m ∙ sym (List·getD-eq-default (applicationMembers application) nobody past)
 
--- 612's
-module _ (k : ℕ) {r : Member} where
-  pub only-member : k ≡ 0 → r ≡ member 608 10415 Free false → r ≡ getD itemMembers k nobody
-  unfolding itemMembers
+-- 612's and 700's
+module _ (code k : ℕ) {r : Member} where
+  pub only-member : k ≡ 0 → r ≡ member code 10415 Free false → r ≡ getD (soleMember code) k nobody
   only-member e m = m ∙ rw e
 
-  pub no-second : (k ≡ 0 → ⊥) → r ≡ nobody → r ≡ getD itemMembers k nobody
-  unfolding itemMembers
-  no-second e m = let past : 1 ≤ k = omega arith in m ∙ sym (List·getD-eq-default itemMembers nobody past)
+  pub no-second : (k ≡ 0 → ⊥) → r ≡ nobody → r ≡ getD (soleMember code) k nobody
+  no-second e m = let past : 1 ≤ k = omega arith in m ∙ sym (List·getD-eq-default (soleMember code) nobody past)
 
 -- 628's
 module _ (k : ℕ) {r : Member} where
@@ -196,6 +203,10 @@ module _ (d : Dialect) (g : Group) where
   pub often-feature : (w : Walk) → g ≡ SupportedFeatures → false ≡ tooOften d g w
   unfolding tooOften
   often-feature w e = rw e
+
+  pub often-identity : (w : Walk) → g ≡ UserIdentity → false ≡ tooOften d g w
+  unfolding tooOften
+  often-identity w e = rw e
 
   module _ (w : Walk) (x : Bool) (ex : x ≡ gathers (membersOf d g) w) where
     pub group-bad : x ≡ false → 5004 ≡ groupFault d g w

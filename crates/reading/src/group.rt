@@ -16,14 +16,15 @@ ghost use lib.ListN.{length, getD};
 ghost use Rattle.diameter.specs.Avp.{dataOf};
 ghost use Rattle.diameter.specs.Reader.{between, ownOf, Here};
 ghost use Rattle.diameter.specs.Walk.{walk};
-ghost use Rattle.reading.specs.Groups.{member, nobody, vendorId, applicationMembers, itemMembers, featureMembers, membersOf};
+ghost use Rattle.reading.specs.Groups.{member, nobody, vendorId, applicationMembers, soleMember, featureMembers, membersOf};
 ghost use Rattle.reading.specs.Groups.{isOf, fits, isOther, onlyOf, membersFitting, enough, gathers, tooOften, groupFault};
 
-// The groups that a request's AVPs may be: 260, 612 and 628.
+// The groups that a request's AVPs may be: 260, 612, 628 and 700.
 pub enum Group {
     Application,
     AuthDataItem,
     SupportedFeatures,
+    UserIdentity,
 }
 
 // A member: code, vendor (0: without V), content, and whether it may come more than once.
@@ -66,17 +67,12 @@ fn application_member(application: u32, k: usize) -> Member
     }
 }
 
-// "612 holds exactly one 608 and nothing else"
-fn item_member(k: usize) -> Member
-    ensures { λ r. ⌜ r ≡ getD itemMembers k nobody ⌝ }
+// "612 holds exactly one 608 and nothing else"; "the one Public-Identity that 700 must hold"
+fn sole_member(code: u32, k: usize) -> Member
+    ensures { λ r. ⌜ r ≡ getD (soleMember code) k nobody ⌝ }
 {
     match k {
-        0 => member(
-            codes::SIP_AUTHENTICATION_SCHEME,
-            codes::VENDOR,
-            Content::Free,
-            false,
-        ),
+        0 => member(code, codes::VENDOR, Content::Free, false),
         _ => member(0, 0, Content::Free, false),
     }
 }
@@ -110,8 +106,9 @@ fn member_of(d: Dialect, g: Group, k: usize) -> Member
     let terms = d.terms;
     match g {
         Group::Application => application_member(terms.application, k),
-        Group::AuthDataItem => item_member(k),
+        Group::AuthDataItem => sole_member(codes::SIP_AUTHENTICATION_SCHEME, k),
         Group::SupportedFeatures => feature_member(k),
+        Group::UserIdentity => sole_member(codes::PUBLIC_IDENTITY, k),
     }
 }
 
@@ -122,6 +119,7 @@ fn size_of(d: Dialect, g: Group) -> usize
         Group::Application => 2,
         Group::AuthDataItem => 1,
         Group::SupportedFeatures => 3,
+        Group::UserIdentity => 1,
     }
 }
 
@@ -240,6 +238,7 @@ fn too_often(d: Dialect, g: Group, s: &[u8], a: Avp) -> bool
         }
         Group::AuthDataItem => false,
         Group::SupportedFeatures => false,
+        Group::UserIdentity => false,
     }
 }
 

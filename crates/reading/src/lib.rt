@@ -40,6 +40,8 @@ pub const LIR: usize = 302;
 
 pub const MAR: usize = 303;
 
+pub const UDR: usize = 306;
+
 // "B is a base Result-Code, X an Experimental-Result of vendor 10415. They share numbers and never stand for one another."
 pub enum Outcome {
     Base(u32),
@@ -71,24 +73,31 @@ pub enum Content {
     Members(Group),
 }
 
-// What a dialect makes of a kind of AVP.
+// What a dialect makes of a kind of AVP. Of the kinds that it names: needed once, optional and once, any number, needed and any number.
 pub enum Use {
     Unknown,
     Unnamed,
     Needed,
     Optional,
     Repeated,
+    Several,
 }
 
-// A kind of AVP: its code and vendor, its content, and what each command makes of it.
-pub struct Kind {
-    pub code: u32,
-    pub vendor: u32,
-    pub content: Content,
+// What is made of a kind in a UAR, in a SAR, in a LIR, in a MAR, and on Sh, whose one command is the UDR.
+pub struct Uses {
     pub uar: Use,
     pub sar: Use,
     pub lir: Use,
     pub mar: Use,
+    pub udr: Use,
+}
+
+// A kind of AVP: its code and vendor, its content, and what is made of it.
+pub struct Kind {
+    pub code: u32,
+    pub vendor: u32,
+    pub content: Content,
+    pub uses: Uses,
 }
 
 // A member of a group: its code and vendor (0: without V), its content, and whether it may come more than once.

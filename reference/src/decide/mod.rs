@@ -19,6 +19,7 @@ use crate::vectors::Vectors;
 use crate::verdict::{Decision, Stored, Verdict, Why};
 
 pub use chosen::MOST_SENT;
+pub use lookup::by_public;
 pub use supported::asks_too_much;
 
 /// What a decision is made over.
@@ -46,7 +47,10 @@ fn decided<'a>(request: &Request<'a>, files: Files<'a>, slip: Slip) -> Verdict<'
         Command::ServerAssignment => {
             (request.assignment_type, assignment::server_assignment(request, table, files.profile, slip))
         }
-        Command::MultimediaAuth => (0, authentication::multimedia_auth(request, table, files.vectors, slip)),
+        // A request of Cx has no other command.
+        Command::MultimediaAuth | Command::UserData => {
+            (0, authentication::multimedia_auth(request, table, files.vectors, slip))
+        }
     };
     astray::verdict(&mut verdict, request, table, slip);
     let asked = asked_records(request, table);

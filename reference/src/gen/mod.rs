@@ -6,6 +6,7 @@ mod calls;
 mod checks;
 pub mod damage;
 mod features;
+pub mod lists;
 mod made;
 pub mod model;
 pub mod moves;
@@ -39,5 +40,7 @@ pub fn make(stream: Stream, seed: u64, number: u64) -> Made {
         Stream::Reports => reports::case(&mut rng),
         Stream::Moves => moves::case(&mut rng),
         Stream::Takes => takes::case(&mut rng),
+        Stream::Lists => lists::case(&mut rng),
+        Stream::Voicemail => calls::of_sh(&mut rng),
     }
 }

@@ -1,8 +1,9 @@
 //! Rules (g) and (h): what an AVP of a named kind holds.
 
 use super::features::features;
-use super::groups::{members_have_sound_lengths, scheme, vendor_ids};
+use super::groups::{members_have_sound_lengths, vendor_ids};
 use super::peers::several_vendors;
+use super::single::{identity, scheme};
 use crate::block::word_at;
 use crate::kinds::{Command, Kind};
 use crate::message::{header_alone, Avp};
@@ -95,13 +96,15 @@ fn has_good_content(avp: Avp, kind: Kind, command: Command, stated: Stated, slip
             Some(Fault::ServerNameFreeInAuthentication) if command == Command::MultimediaAuth => true,
             _ => (1..=LONGEST_SERVER_NAME).contains(&avp.data.len()),
         },
-        Kind::VendorSpecificApplicationId => vendor_ids(avp.members(), slip).is_some(),
+        Kind::VendorSpecificApplicationId => vendor_ids(avp.members(), command.dialect(), slip).is_some(),
         Kind::SipNumberAuthItems => match slip.0 {
             Some(Fault::ZeroAskedIsContent) => value() != 0,
             Some(Fault::ManyAskedIsContent) => value() <= 16,
             _ => true,
         },
         Kind::SipAuthDataItem => scheme(avp.members(), slip).is_some(),
+        Kind::UserIdentity => identity(avp.members(), slip).is_some(),
+        Kind::DataReference => [11, 12].contains(&value()) || !slip.is(Fault::ReferenceIsContent),
         Kind::SupportedFeatures => match features(avp.members(), slip) {
             Some(asked) => asked.bits & !stated.features == 0 || !slip.is(Fault::FeatureBitsAreContent),
             None => false,

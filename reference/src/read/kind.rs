@@ -1,15 +1,16 @@
 //! Of which known kind an AVP is.
 
-use crate::kinds::{Command, Kind, FEATURE_LIST, FEATURE_LIST_ID, KINDS, VENDOR};
+use crate::kinds::{Command, Dialect, Kind, FEATURE_LIST, FEATURE_LIST_ID, VENDOR};
 use crate::message::Avp;
 use crate::slip::{Fault, Slip};
 
 pub fn kind_of(avp: Avp, command: Command, slip: Slip) -> Option<Kind> {
-    let exactly = Kind::of(avp.vendor, avp.code);
+    let dialect = command.dialect();
+    let exactly = dialect.kind(avp.vendor, avp.code);
     match (slip.0, exactly) {
-        (Some(Fault::UnknownByCodeAlone), _) => KINDS.iter().copied().find(|kind| kind.code() == avp.code),
-        (Some(Fault::VendorZeroIsNone), _) => Kind::of(avp.vendor.filter(|vendor| *vendor != 0), avp.code),
-        (Some(Fault::CodeIn16Bits), _) => Kind::of(avp.vendor, avp.code & 0xFFFF),
+        (Some(Fault::UnknownByCodeAlone), _) => dialect.kinds().into_iter().find(|kind| kind.code() == avp.code),
+        (Some(Fault::VendorZeroIsNone), _) => dialect.kind(avp.vendor.filter(|vendor| *vendor != 0), avp.code),
+        (Some(Fault::CodeIn16Bits), _) => dialect.kind(avp.vendor, avp.code & 0xFFFF),
         (Some(Fault::AuthKindsUnknownElsewhere), Some(Kind::SipNumberAuthItems | Kind::SipAuthDataItem)) => {
             exactly.filter(|_| command == Command::MultimediaAuth)
         }
@@ -28,14 +29,34 @@ pub fn kind_of(avp: Avp, command: Command, slip: Slip) -> Option<Kind> {
             let member = avp.vendor == Some(VENDOR) && matches!(avp.code, FEATURE_LIST_ID | FEATURE_LIST);
             member.then(|| unnamed(command))
         }
+        (Some(_), _) if dialect == Dialect::Sh => in_sh(avp, exactly, command, slip),
+        (Some(Fault::ShKindsKnownInCx), None) => {
+            let of_sh = Dialect::Sh.kind(avp.vendor, avp.code);
+            of_sh.map(|_| unnamed(command))
+        }
         _ => exactly,
     }
+}
+
+/// A kind of Sh, as a faulty program knows it.
+fn in_sh(avp: Avp, exactly: Option<Kind>, command: Command, slip: Slip) -> Option<Kind> {
+    let of_cx = Kind::of(avp.vendor, avp.code);
+    let is_one = match slip.0 {
+        Some(Fault::CxKindsKnownInSh) => of_cx.is_some(),
+        Some(Fault::IdentityKnownInSh) => of_cx == Some(Kind::PublicIdentity),
+        Some(Fault::ServerNameKnownInSh) => of_cx == Some(Kind::ServerName),
+        Some(Fault::AuthKindsKnownInSh) => matches!(of_cx, Some(Kind::SipNumberAuthItems | Kind::SipAuthDataItem)),
+        Some(Fault::FeaturesUnknownInSh) if exactly == Some(Kind::SupportedFeatures) => return None,
+        _ => false,
+    };
+    exactly.or_else(|| is_one.then(|| unnamed(command)))
 }
 
 /// A kind that the command does not name: what a faulty program takes for known is skipped as this is.
 fn unnamed(command: Command) -> Kind {
     match command {
         Command::MultimediaAuth => Kind::UserAuthorizationType,
+        Command::UserData => Kind::SupportedFeatures,
         _ => Kind::SipAuthDataItem,
     }
 }

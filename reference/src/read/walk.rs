@@ -121,8 +121,11 @@ fn is_named(kind: Kind, command: Command, slip: Slip) -> bool {
     let assigned = matches!(kind, Kind::ServerAssignmentType | Kind::UserDataAlreadyAvailable);
     let authorized = matches!(kind, Kind::VisitedNetworkIdentifier | Kind::UserAuthorizationType);
     let in_authentication = command == Command::MultimediaAuth;
-    if slip.is(Fault::FeaturesUnnamed) && kind == Kind::SupportedFeatures {
-        return false;
+    match (slip.0, kind) {
+        (Some(Fault::FeaturesUnnamed), Kind::SupportedFeatures) => return false,
+        (Some(Fault::FeaturesNamedInSh), Kind::SupportedFeatures) => return true,
+        (Some(Fault::UserNameUnnamedInSh), Kind::UserName) if command == Command::UserData => return false,
+        _ => {}
     }
     kind.is_named_in(command)
         || (slip.is(Fault::AssignmentNamedInAuthentication) && in_authentication && assigned)
@@ -166,6 +169,9 @@ fn may_repeat(kind: Kind, command: Command, slip: Slip) -> bool {
         (Some(Fault::ItemRepeats), Kind::SipAuthDataItem) => true,
         (Some(Fault::NumberRepeats), Kind::SipNumberAuthItems) => true,
         (Some(Fault::FeaturesOnce), Kind::SupportedFeatures) => false,
+        (Some(Fault::ReferenceOnce), Kind::DataReference) => false,
+        (Some(Fault::UserIdentityRepeats), Kind::UserIdentity) => true,
+        (Some(Fault::UserNameRepeatsInSh), Kind::UserName) => command == Command::UserData,
         _ => kind.may_repeat_in(command),
     }
 }

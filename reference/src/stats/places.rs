@@ -2,7 +2,7 @@
 
 use crate::cases::{Case, Slice};
 use crate::message::Message;
-use crate::read::read;
+use crate::read::fault_of;
 use crate::slip::Slip;
 use crate::verdict::{Code, Why};
 
@@ -22,12 +22,20 @@ pub fn row(place: u64, case: &Case, why: &Why) -> Option<String> {
 
 fn unplaced(case: &Case, why: &Why) -> Option<&'static str> {
     Some(match why {
-        Why::Checked(_) | Why::CheckedVectors(_) | Why::Reported | Why::Moved(_) | Why::TakenOver(_) => return None,
+        Why::Checked(_)
+        | Why::CheckedVectors(_)
+        | Why::Reported
+        | Why::Moved(_)
+        | Why::TakenOver(_)
+        | Why::Listed(_) => return None,
         // Only with these is there a request to read.
-        Why::Refused(5 | 6) => match read(Message(&case.held(Slice::Request)), case.stated(), Slip::NONE) {
-            Err(finding) if finding.place != 0 => "a refusal, though an AVP is at fault",
-            _ => "a refusal",
-        },
+        Why::Refused(5 | 6) => {
+            let request = case.held(Slice::Request);
+            match fault_of(Message(&request), case.entry.dialect(), case.stated(), Slip::NONE) {
+                Some(finding) if finding.place != 0 => "a refusal, though an AVP is at fault",
+                _ => "a refusal",
+            }
+        }
         Why::Refused(_) => "a refusal",
         Why::Header(_) => "a header fault",
         Why::Rule('b', _) => "(b)",

@@ -7,7 +7,7 @@ use crate::gen::made::Made;
 use crate::gen::peers;
 use crate::gen::tables;
 use crate::gen::twists;
-use crate::kinds::{Command, Kind};
+use crate::kinds::{Command, Dialect, Kind};
 use crate::rng::Rng;
 
 pub const NOTES: [&str; 6] = [
@@ -20,7 +20,7 @@ pub const NOTES: [&str; 6] = [
 ];
 
 pub fn case(rng: &mut Rng) -> Made {
-    let mut call = if rng.once_in(5) { assignment_at_fault(rng) } else { right(rng) };
+    let mut call = if rng.once_in(5) { assignment_at_fault(rng) } else { right(rng, Dialect::Cx) };
     call.stated = peers::known(rng);
     let (set, request) = (call.stated.features, &mut call.request);
     // Those that the request came with ask for anything.

@@ -5,7 +5,7 @@ use crate::gen::asks;
 use crate::gen::features;
 use crate::gen::tables::FAR;
 use crate::gen::twists;
-use crate::kinds::{Command, APPLICATION};
+use crate::kinds::{Command, Dialect};
 use crate::message::{E, P, R};
 use crate::refuse::MOST_REQUEST;
 use crate::rng::Rng;
@@ -74,9 +74,9 @@ pub fn header(rng: &mut Rng) -> Vec<u8> {
         1 => rng.between(300, 303) as u32 | 1 << rng.between(16, 23),
         _ => rng.between(300, 303) as u32,
     };
-    let application = if rng.once_in(4) { APPLICATION + 1 } else { APPLICATION };
+    let of = if rng.once_in(4) { Dialect::Sh } else { Dialect::Cx };
     let mut bytes = vec![version, 0, 0, 20];
-    for word in [u32::from(flags) << 24 | command, application, rng.word(), rng.word()] {
+    for word in [u32::from(flags) << 24 | command, of.application(), rng.word(), rng.word()] {
         bytes.extend(word.to_be_bytes());
     }
     bytes

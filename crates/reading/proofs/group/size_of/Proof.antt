@@ -1,4 +1,4 @@
-use Rattle.reading.proofs.Members.{size-application, size-item, size-feature}
+use Rattle.reading.proofs.Members.{size-application, size-item, size-feature, size-identity}
 use Rattle.octets.specs.Standard.{needs}
 use Rattle.reading.proofs.group.size_of.Statement.{statement}
 use Rattle.reading.proofs.group.size_of.Tie as tie
@@ -10,6 +10,8 @@ size-of-spec =
     (λ c. search needs)
     (λ c. search needs)
     (λ c. search needs)
+    (λ c. search needs)
     (λ c. search (needs, size-application))
     (λ c. search (needs, size-item))
-    (λ c. search (needs, size-feature)))
+    (λ c. search (needs, size-feature))
+    (λ c. search (needs, size-identity)))

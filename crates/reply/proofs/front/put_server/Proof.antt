@@ -1,4 +1,4 @@
-use Rattle.reply.proofs.Rooms.{wrote-most}
+use Rattle.envelope.proofs.Rooms.{wrote-most}
 use Rattle.reply.proofs.Written.{origin-first, called-room, wrote-server}
 use Rattle.octets.specs.Standard.{needs}
 use Rattle.reply.proofs.front.put_server.Statement.{statement}
