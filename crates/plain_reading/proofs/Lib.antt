@@ -5,3 +5,5 @@ pub mod Ruling
 pub mod Taking
 pub mod AsWalked
 pub mod Turns
+pub mod Reached
+pub mod Worked

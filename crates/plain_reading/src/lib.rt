@@ -73,7 +73,7 @@ fn wide(place: u16) -> usize
     place as usize
 }
 
-fn place_at(list: &[u16], i: usize) -> usize
+pub fn place_at(list: &[u16], i: usize) -> usize
     requires { ⌜ i < length (now list) ⌝ }
     ensures { λ r. ⌜ r ≡ getD (now (list .entry)) i 0 ⌝ }
 {
@@ -389,7 +389,7 @@ fn read_body(req: &[u8], d: Dialect, list: &[u16], places: &mut [usize; kinds::K
 }
 
 // "Header, in order: version not 1, B5011; E bit set, B3008; command not 300 to 302, B3001; application not 16777216, B3007." 303 joined later.
-fn header_fault(req: &[u8], d: Dialect) -> u32
+pub fn header_fault(req: &[u8], d: Dialect) -> u32
     requires { ⌜ 20 ≤ length (now req) ⌝ }
     ensures { λ r. ⌜ r ≡ headerFault d (now (req .entry)) ⌝ }
 {
