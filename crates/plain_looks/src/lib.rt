@@ -12,11 +12,17 @@ ghost use lib.ListN.{length, getD};
 ghost use mathlib.Core.Option.{none};
 ghost use Rattle.octets.specs.Run.{Wrote};
 ghost use Rattle.reading.specs.Places.{seenOf};
-ghost use Rattle.plain_looks.specs.Looks.{sessionIn, callsAt, asksAt, calledBy, asksBy, wantedBy, proxyBy, proxiesBy};
+ghost use Rattle.diameter.specs.Message.{bodyOf};
+ghost use Rattle.requests.specs.Features.{wantedOf};
+ghost use Rattle.requests.specs.Request.{sessionOf};
+ghost use Rattle.envelope.specs.End.{proxies};
+ghost use Rattle.plain_reading.specs.Listed.{placesOf};
+ghost use Rattle.plain_looks.specs.Looks.{callsAt, asksAt, calledBy, asksBy, proxyBy};
 
 // "Session-Id if it is the first AVP and passes (a) to (c)", else nothing.
 pub fn session<'a>(req: &'a [u8], list: &'a [u16]) -> &'a [u8]
-    ensures { λ r. ⌜ (now r ≡ sessionIn (seenOf (now (req .entry)) (now (list .entry)))) × (length (now r) ≤ length (now (req .entry))) ⌝ }
+    requires { ⌜ now list ≡ placesOf (now req) ⌝ }
+    ensures { λ r. ⌜ (now r ≡ sessionOf (bodyOf (now (req .entry)))) × (length (now r) ≤ length (now (req .entry))) ⌝ }
 {
     if list.len() == 0 {
         return &req[..0];
@@ -80,8 +86,8 @@ fn asks(req: &[u8], set: u32, list: &[u16]) -> bool
 
 // "a request with no header fault"
 pub fn wanted(req: &[u8], terms: Terms, list: &[u16]) -> Wanted
-    requires { ⌜ 20 ≤ length (now req) ⌝ }
-    ensures { λ r. ⌜ r ≡ wantedBy terms (now (req .entry)) (seenOf (now (req .entry)) (now (list .entry))) ⌝ }
+    requires { ⌜ (20 ≤ length (now req)) × (now list ≡ placesOf (now req)) ⌝ }
+    ensures { λ r. ⌜ r ≡ wantedOf terms (now (req .entry)) ⌝ }
 {
     let d = requests::dialect(req, terms);
     Wanted {
@@ -107,8 +113,8 @@ fn put_proxy(out: &mut [u8], req: &[u8], list: &[u16], i: usize) -> usize
 
 // "every Proxy-Info before the first length fault, other faults or not"
 pub fn put_proxies(out: &mut [u8], req: &[u8], list: &[u16]) -> usize
-    requires { ⌜ length (proxiesBy (seenOf (now req) (now list))) ≤ length (now out) ⌝ }
-    ensures { λ r. ⌜ Wrote (proxiesBy (seenOf (now (req .entry)) (now (list .entry)))) (now (out .entry)) (now (out .exit)) r ⌝ }
+    requires { ⌜ (now list ≡ placesOf (now req)) × (length (proxies (bodyOf (now req))) ≤ length (now out)) ⌝ }
+    ensures { λ r. ⌜ Wrote (proxies (bodyOf (now (req .entry)))) (now (out .entry)) (now (out .exit)) r ⌝ }
 {
     let mut n = 0;
     let mut i = 0;

@@ -73,10 +73,10 @@ unfolding kindBy kindFrom known vendorOf be32At
 kind-nothing = refl
 
 module _ (s list : List ℕ) (i : ℕ) (low : i < length list) (place : ℕ) (ep : place ≡ getD list i 0) (r : Read) (e : r ≡ readOf place (drop place s)) where
-  part-cut : {p : ℕ} → r ≡ read.Fault p → getD (seenOf s list) i none ≡ none
+  pub part-cut : {p : ℕ} → r ≡ read.Fault p → getD (seenOf s list) i none ≡ none
   part-cut d = rw (seen-at s list i low, ← ep) (read-none s place r e d)
 
-  part-whole : (a : Avp) → r ≡ read.Avp a → getD (seenOf s list) i none ≡ some (ownOf s a)
+  pub part-whole : (a : Avp) → r ≡ read.Avp a → getD (seenOf s list) i none ≡ some (ownOf s a)
   part-whole a d = rw (seen-at s list i low, ← ep) (read-says s place r e a d .part)
 
   pub kind-cut : {p : ℕ} → r ≡ read.Fault p → 0 ≡ kindAt (seenOf s list) i
