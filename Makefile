@@ -194,6 +194,8 @@ COUNT_moves := 50000
 COUNT_takes := 50000
 COUNT_lists := 50000
 COUNT_voicemail := 100000
+COUNT_rows := 20000
+COUNT_plain := 100000
 COUNT_demand3-voicemail := 20000
 COUNT_neighbours-voicemail := 50000
 COUNT_demand3 := 20000
@@ -246,7 +248,7 @@ peers: target/c99/daemon target/c/maketable
 
 # After how many cases each deliberate fault of the independent program shows; what the cases are made of.
 COUNT_mutants := 100000
-#: mutants            whether 1,331 deliberate faults would be noticed, and after how many cases
+#: mutants            whether 1,377 deliberate faults would be noticed, and after how many cases
 mutants: $(BINARY)
 	@echo "mutants: seed $(SEED)"
 	$(BINARY) mutants --seed $(SEED) --count $(COUNT_mutants)
@@ -262,6 +264,7 @@ stats: $(BINARY)
 	$(BINARY) stats --kind takes --seed $(SEED) --count $(COUNT_takes)
 	$(BINARY) stats --kind lists --seed $(SEED) --count $(COUNT_lists)
 	$(BINARY) stats --kind voicemail --seed $(SEED) --count $(COUNT_voicemail)
+	$(BINARY) stats --kind rows --seed $(SEED) --count $(COUNT_rows)
 	$(BINARY) stats --kind neighbours-voicemail --seed $(SEED) --count $(COUNT_neighbours-voicemail)
 	$(BINARY) stats --kind neighbours --seed $(SEED) --count $(COUNT_neighbours)
 

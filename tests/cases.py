@@ -15,7 +15,8 @@ from streams import answer, avps, made, outcomes, run
 MOST = 930_000  # bytes of cases
 CX = 10415
 RULES = tuple(('B', n) for n in (5001, 5004, 5014, 3009, 5011, 3008, 3001, 3007))
-KNOWN = {(n, 0) for n in (263, 260, 277, 264, 296, 293, 283, 1, 284, 282)} | {(n, CX) for n in (601, 600, 623, 602, 614, 624, 607, 612, 628)}
+KNOWN = {(n, 0) for n in (263, 260, 277, 264, 296, 293, 283, 1, 284, 282)} | {(n, CX) for n in (601, 600, 623, 602, 614, 624, 607, 612, 628, 700, 703)}
+DECISIONS = 2, 10  # the entries that answer one request
 EFFECTS = ('B', 2001), ('X', 2004), ('X', 5007)
 
 
@@ -43,8 +44,8 @@ def row(case, outcome):
     """What a case comes to, and what its answer carries."""
     if case.entry == 4:
         return month(case, outcome)
-    if outcome.word >> 48 or case.entry != 2:
-        several = case.entry != 2 or outcome.word >> 48 >= 5  # a bad block has many causes
+    if outcome.word >> 48 or case.entry not in DECISIONS:
+        several = case.entry not in DECISIONS or outcome.word >> 48 >= 5  # a bad block has many causes
         return (case.entry, outcome.word, streams.sizes(case).get('request', 0) > 16384), case.fill % 6 if several else 0
     held = streams.slices(case)
     asked, table = held['request'], held['table']
@@ -56,10 +57,10 @@ def row(case, outcome):
             said = 'X', number(dict(avps(data))[298, 0])
         elif kind == (279, 0):
             carried.append((279, next((k if k in KNOWN else 0 for k, _ in avps(data)), None)))
-        elif kind[0] in (1, 602, 603, 606, 612, 628):
+        elif kind[0] in (1, 602, 603, 606, 612, 628, 702):
             carried.append(kind)
     command, given = int.from_bytes(asked[5:8], 'big'), list(avps(asked[20:]))
-    result = command if command in (300, 301, 302, 303) else 0, said
+    result = case.entry, command if command in (300, 301, 302, 303, 306) else 0, said
     if command == 301 and said not in RULES:
         names = [data for kind, data in given if kind == (601, CX)]
         result += (next((number(data) for kind, data in given if kind == (614, CX)), None),)
@@ -99,7 +100,7 @@ def small(case):
 def fitting(reference):
     """Cases that fit, the smallest first."""
     found = []
-    few = [(kind, (1,), 4000) for kind in ('tables', 'vectors', 'reports', 'moves', 'takes', 'lists', 'voicemail')]
+    few = [(kind, (1,), 4000) for kind in ('tables', 'vectors', 'reports', 'moves', 'takes', 'lists', 'voicemail', 'rows')]
     for kind, seeds, count in (*few, ('calls', range(1, 6), 20000)):
         for seed in seeds:
             found += [case for case in streams.cases(made(reference, kind, seed, count)) if fits(case)]

@@ -22,6 +22,13 @@
 uint64_t ndushavire_sh_decide(const uint8_t *request, size_t request_len, const uint8_t *table, size_t table_len,
                               const uint8_t *profile, size_t profile_len, uint8_t *answer, size_t answer_len,
                               uint32_t peer) __attribute__((weak));
+uint64_t ndushavire_plain(const uint8_t *request, size_t request_len, uint8_t *table, size_t table_len,
+                          const uint8_t *profile, size_t profile_len, uint8_t *vectors, size_t vectors_len,
+                          uint8_t *answer, size_t answer_len, uint32_t peer, uint32_t features) __attribute__((weak));
+uint64_t ndushavire_row(const uint8_t *requests, size_t requests_len, uint8_t *table, size_t table_len,
+                        const uint8_t *profile, size_t profile_len, uint8_t *vectors, size_t vectors_len,
+                        uint8_t *answers, size_t answers_len, uint8_t *words, size_t words_len,
+                        uint32_t peer, uint32_t features) __attribute__((weak));
 uint64_t ndushavire_export(const uint8_t *table, size_t table_len, const uint8_t *profile, size_t profile_len,
                            uint8_t *list, size_t list_len) __attribute__((weak));
 uint64_t ndushavire_import(const uint8_t *list, size_t list_len, const uint8_t *header, size_t header_len,
@@ -119,6 +126,20 @@ static uint64_t sh_decide(const struct lent *lent)
     return ndushavire_sh_decide(SLICE(0), SLICE(1), SLICE(2), SLICE(3), lent->number[0]);
 }
 
+static uint64_t row(const struct lent *lent)
+{
+    if (ndushavire_row == NULL)
+        fail(absent);
+    return ndushavire_row(SLICE(0), SLICE(1), SLICE(2), SLICE(3), SLICE(4), SLICE(5), lent->number[0], lent->number[1]);
+}
+
+static uint64_t plain(const struct lent *lent)
+{
+    if (ndushavire_plain == NULL)
+        fail(absent);
+    return ndushavire_plain(SLICE(0), SLICE(1), SLICE(2), SLICE(3), SLICE(4), lent->number[0], lent->number[1]);
+}
+
 /* The entries by their number in the streams, from 1 on: a letter for each slice, r if it is lent to be read and w if
  * the entry may write to it; how many numbers; the call. */
 static const struct entry {
@@ -136,6 +157,8 @@ static const struct entry {
     {"rrw", 0, export_list},
     {"rrrw", 0, import_list},
     {"rrrw", 1, sh_decide},
+    {"rwrwww", 2, row},
+    {"rwrww", 2, plain},
 };
 
 struct bytes {

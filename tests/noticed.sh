@@ -7,7 +7,8 @@ reference=$1
 driver=("${@:2}")
 tried=0
 # A fault shows once in 1,600 pairs; a run has some 25 calls.
-declare -A count=([tables]=2000 [vectors]=2000 [calls]=2000 [reports]=1000 [moves]=2000 [takes]=2000 [lists]=2000 [voicemail]=2000 [demand3-voicemail]=8000 [neighbours-voicemail]=4000 [demand3]=8000 [neighbours]=4000 [breaches]=100 [runs]=50)
+declare -A count=([tables]=2000 [vectors]=2000 [calls]=2000 [reports]=1000 [moves]=2000 [takes]=2000 [lists]=2000 [voicemail]=2000
+    [rows]=1000 [plain]=2000 [demand3-voicemail]=8000 [neighbours-voicemail]=4000 [demand3]=8000 [neighbours]=4000 [breaches]=100 [runs]=50)
 
 ends() { # STATUS KIND DRIVER..
     local status=0
@@ -16,7 +17,7 @@ ends() { # STATUS KIND DRIVER..
     tried=$((tried + 1))
 }
 
-for kind in tables vectors calls reports moves takes lists voicemail demand3 demand3-voicemail neighbours neighbours-voicemail breaches runs; do
+for kind in tables vectors calls reports moves takes lists voicemail rows plain demand3 demand3-voicemail neighbours neighbours-voicemail breaches runs; do
     ends 0 "$kind" "$reference" outcomes
     ends 1 "$kind" true
 done
@@ -30,6 +31,7 @@ for of in tables:EqualIdentitiesTaken tables:PrefixTaken vectors:XresOf3Taken ve
     tables:LongerAreaRefused calls:LongerAreaNotDecided reports:LongerAreaNotReported takes:EqualIssueTaken takes:FoundUpToOldCount \
     takes:FreshOfEdition1Taken takes:RefusedTakeWrites takes:RestOfAreaCleared runs:TakeWritesNothing \
     lists:QuoteNotDoubled lists:ThirteenTellsLine lists:LoneLfTaken lists:RoomNotAsked lists:RefusedImportWritesLines lists:ImportReturnsCount \
+    rows:RowShortBeforeEnd rows:RowStopUndone rows:RowAnswersInSlots rows:RowAlteredAtEnd rows:RowWordsWithoutPlace plain:PendingStays \
     voicemail:ReferenceBeforeIdentity voicemail:EscapedTwice voicemail:PendingNotTold voicemail:MsisdnBesideIdentityTaken voicemail:OwnListInSh \
     demand3-voicemail:IdentityKnownInSh demand3-voicemail:MarkIgnored neighbours-voicemail:IdentityWithoutCase neighbours-voicemail:LastRecordNotFound \
     neighbours:NameOfAnySubscription neighbours:FreeOfNumberCounts neighbours:StaleRecordsDecided neighbours:LastRecordNotFound \
