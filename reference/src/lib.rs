@@ -38,6 +38,9 @@ pub mod report;
 pub mod sh;
 pub mod show;
 
+// A row of calls.
+pub mod row;
+
 // A call of an entry.
 pub mod cases;
 

@@ -30,7 +30,7 @@ reference faults   [--silent]                               list the deliberate 
 reference mutants  --seed S [--from F] --count N            whether each deliberate fault is noticed
 reference cuts     --seed S [--from F] --count N [--fault NAME]
                                                             what the areas of cut take-overs read as
-kinds: tables, vectors, calls, reports, moves, takes, lists, voicemail;
+kinds: tables, vectors, calls, reports, moves, takes, lists, voicemail, rows, plain;
 compare and stats alone: neighbours, neighbours-voicemail; compare alone: demand3, demand3-voicemail, runs, breaches";
 
 fn main() -> ExitCode {

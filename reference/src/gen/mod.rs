@@ -28,6 +28,7 @@ pub use made::{Made, Stream, STREAMS};
 pub use runs::{run, Step};
 pub use tables::FAR;
 
+use crate::cases::{Case, Entry};
 use crate::rng::Rng;
 
 /// Case `number` of the stream; it depends on nothing else.
@@ -42,5 +43,12 @@ pub fn make(stream: Stream, seed: u64, number: u64) -> Made {
         Stream::Takes => takes::case(&mut rng),
         Stream::Lists => lists::case(&mut rng),
         Stream::Voicemail => calls::of_sh(&mut rng),
+        Stream::Rows => reports::row(&mut rng),
+        Stream::Plain => plain(calls::case(&mut rng)),
     }
+}
+
+/// The same call of the plain engine.
+fn plain(made: Made) -> Made {
+    Made { case: Case { entry: Entry::Plain, ..made.case }, ..made }
 }

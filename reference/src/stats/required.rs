@@ -7,6 +7,7 @@ use super::moves;
 use super::peers;
 use super::places;
 use super::reports;
+use super::rows;
 use super::sets;
 use super::takes;
 use super::voicemail;
@@ -21,16 +22,17 @@ use crate::read::SEVERAL;
 const ONE_IN: u64 = 1000;
 
 /// How each row begins, and in how many cases there is to be one.
-pub fn rows(stream: Stream) -> Vec<(String, u64)> {
+pub fn of_stream(stream: Stream) -> Vec<(String, u64)> {
     match stream {
         Stream::Tables => of_tables(),
         Stream::Vectors => of_vectors(),
-        Stream::Calls => of_calls(),
+        Stream::Calls | Stream::Plain => of_calls(),
         Stream::Reports => reports::wanted().into_iter().map(|(row, times)| (row, times * ONE_IN)).collect(),
         Stream::Moves => moves::wanted().into_iter().map(|(row, times)| (row, times * ONE_IN)).collect(),
         Stream::Takes => takes::wanted().into_iter().map(|(row, times)| (row, times * ONE_IN)).collect(),
         Stream::Lists => lists::wanted().into_iter().map(|(row, times)| (row, times * ONE_IN)).collect(),
         Stream::Voicemail => of_voicemail(),
+        Stream::Rows => rows::wanted().into_iter().map(|(row, times)| (row, times * ONE_IN)).collect(),
     }
 }
 
