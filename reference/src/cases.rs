@@ -387,6 +387,7 @@ impl Case {
     }
 
     pub fn outcome_and_why(&self, slip: Slip) -> (Outcome, Why) {
+        let slip = if self.entry == Entry::Plain { slip } else { slip.in_others() };
         let before: Vec<Cow<[u8]>> = self.slices.iter().map(|held| held.bytes(self.fill)).collect();
         let mut lent: Vec<Cow<[u8]>> = before.iter().map(|bytes| Cow::Borrowed(&bytes[..])).collect();
         let (word, why) = match (self.entry, &mut lent[..]) {
@@ -394,9 +395,10 @@ impl Case {
                 let found = table::check_with(table, profile.len(), slip);
                 (serve::check_word(5, found), Why::Checked(found))
             }
-            (Entry::Decide | Entry::Plain, [request, table, profile, vectors, buffer]) => {
+            (entry @ (Entry::Decide | Entry::Plain), [request, table, profile, vectors, buffer]) => {
                 let (table, vectors, buffer) = (table.to_mut(), vectors.to_mut(), buffer.to_mut());
-                serve::serve(request, table, profile, vectors, buffer, self.stated(), slip)
+                let engine = if entry == Entry::Plain { serve::plain } else { serve::serve };
+                engine(request, table, profile, vectors, buffer, self.stated(), slip)
             }
             (Entry::CheckVectors, [vectors]) => {
                 let found = vectors::check_with(vectors, slip);

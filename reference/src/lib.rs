@@ -57,5 +57,6 @@ pub mod stats;
 pub mod compare;
 
 pub mod demand3;
+pub mod engines;
 pub mod neighbours;
 pub mod runs;

@@ -3,20 +3,21 @@
 use std::ops::Range;
 
 use crate::gen::{make, Stream, STREAMS};
-use crate::slip::{Fault, Slip, FAULTS, SILENT};
+use crate::slip::{is_plains, Fault, Slip, FAULTS, SILENT};
 
 /// Prints for each fault after how many cases one shows it; true if every fault is noticed, and none of those that no case can show.
 pub fn mutants(seed: u64, numbers: Range<u64>) -> bool {
     let mut noticed: Vec<Option<(Stream, u64)>> = vec![None; FAULTS.len()];
     let mut heard: Vec<Option<(Stream, u64)>> = vec![None; SILENT.len()];
     for (tried, number) in (1..).zip(numbers) {
-        // The plain engine's cases are those of `calls`.
-        for stream in STREAMS.into_iter().filter(|stream| *stream != Stream::Plain) {
+        for stream in STREAMS {
             let case = make(stream, seed, number).case;
             let truly = case.outcome(Slip::NONE);
             let all = noticed.iter_mut().zip(FAULTS).chain(heard.iter_mut().zip(SILENT));
             for (place, (fault, _)) in all {
-                if place.is_none() && case.outcome(Slip::of(*fault)) != truly {
+                // The plain engine's cases are those of `calls`: only what it alone does wrong shows there first.
+                let is_asked = (stream == Stream::Plain) == is_plains(*fault);
+                if is_asked && place.is_none() && case.outcome(Slip::of(*fault)) != truly {
                     *place = Some((stream, tried));
                 }
             }

@@ -16,6 +16,53 @@ impl Slip {
     pub fn is(self, fault: Fault) -> bool {
         self.0 == Some(fault)
     }
+
+    /// As the plain engine has it: a fault that it alone has is one of its own, or one that the others could have too.
+    pub fn in_plain(self) -> Slip {
+        match PLAIN.iter().find(|(own, _)| self.is(*own)) {
+            Some((_, done)) => Slip::of(*done),
+            None => self,
+        }
+    }
+
+    /// As every other entry has it: what the plain engine alone does wrong is no fault there.
+    pub fn in_others(self) -> Slip {
+        match self.0 {
+            Some(fault) if is_plains(fault) => Slip::NONE,
+            _ => self,
+        }
+    }
+}
+
+/// The faults that the plain engine alone has, and what each is when it is done.
+const PLAIN: &[(Fault, Fault)] = &[
+    (Fault::PlainListOf2045, Fault::PlainListOf2045),
+    (Fault::PlainListOf1024, Fault::PlainListOf1024),
+    (Fault::PlainCutOffNotListed, Fault::PlainCutOffNotListed),
+    (Fault::PlainPlacesIn12Bits, Fault::PlainPlacesIn12Bits),
+    (Fault::PlainByLetter, Fault::PlainByLetter),
+    (Fault::PlainLastFault, Fault::PlainLastFault),
+    (Fault::PlainSeveralVendorsLast, Fault::SeveralVendorsAfterMissing),
+    (Fault::PlainJudgesUnnamed, Fault::UnnamedJudged),
+    (Fault::PlainFirstRuleEverywhere, Fault::PlainFirstRuleEverywhere),
+    (Fault::PlainCountsNeighbours, Fault::PlainCountsNeighbours),
+    (Fault::PlainProxyInfoUpToFault, Fault::ProxyInfoUpToFault),
+    (Fault::PlainOwnListPastLengthFault, Fault::OwnListPastLengthFault),
+    (Fault::PlainOwnListUpToFault, Fault::OwnListUpToFault),
+    (Fault::PlainPlaceNeverTold, Fault::PlaceNeverTold),
+    (Fault::PlainPeerLast, Fault::PeerLast),
+    (Fault::PlainVectorsNotAsked, Fault::VectorsNotAsked),
+    (Fault::PlainNeighboursMustAgree, Fault::NeighboursMustAgree),
+    (Fault::PlainLastRecordNotFound, Fault::LastRecordNotFound),
+    (Fault::PlainFeaturesNotAsked, Fault::FeaturesNotAsked),
+    (Fault::PlainPendingStays, Fault::PendingStays),
+    (Fault::PlainUsedSentAgain, Fault::UsedSentAgain),
+    (Fault::PlainClearsRestOfBuffer, Fault::RestOfBufferCleared),
+];
+
+/// Whether the plain engine alone has it.
+pub fn is_plains(fault: Fault) -> bool {
+    PLAIN.iter().any(|(own, _)| *own == fault)
 }
 
 macro_rules! faults {
@@ -1324,6 +1371,30 @@ faults! {
     RowTellsStop: "a row answers the byte at which it stopped",
     RowTellsZero: "a row answers 0",
 
+    // The plain engine alone: its list, its passes, and what it shares with no other.
+    PlainListOf2045: "the plain engine lists 2,045 places",
+    PlainListOf1024: "the plain engine lists 1,024 places",
+    PlainCutOffNotListed: "the plain engine does not list an AVP whose header is cut off",
+    PlainPlacesIn12Bits: "the plain engine tells places in 12 bits",
+    PlainByLetter: "the plain engine picks the fault by its letter, then by its place",
+    PlainLastFault: "the plain engine picks the fault that comes last",
+    PlainSeveralVendorsLast: "the plain engine asks for several Vendor-Ids after what is missing",
+    PlainJudgesUnnamed: "the plain engine judges known kinds that the command does not name",
+    PlainFirstRuleEverywhere: "the plain engine asks (b) of every AVP",
+    PlainCountsNeighbours: "the plain engine asks (f) only of AVPs behind one of their own kind",
+    PlainProxyInfoUpToFault: "the plain engine copies Proxy-Info up to the faulty AVP",
+    PlainOwnListPastLengthFault: "the plain engine sees a 628 behind a length fault",
+    PlainOwnListUpToFault: "the plain engine sees a 628 up to the faulty AVP",
+    PlainPlaceNeverTold: "the plain engine tells place 0 always",
+    PlainPeerLast: "the plain engine gives refusal 12 after 6",
+    PlainVectorsNotAsked: "the plain engine never gives refusal 6",
+    PlainNeighboursMustAgree: "the plain engine compares only records of a set that follow one another",
+    PlainLastRecordNotFound: "the plain engine does not look at the last record",
+    PlainFeaturesNotAsked: "the plain engine never gives X5011",
+    PlainPendingStays: "the plain engine leaves the pending bit",
+    PlainUsedSentAgain: "the plain engine sends used vectors again",
+    PlainClearsRestOfBuffer: "the plain engine clears the buffer past the answer",
+
     // The voicemail box: calls and reading.
     PeerNotAskedInSh: "the Sh entry takes any peer edition",
     LongerAreaRefusedInSh: "the Sh entry refuses bytes past the table",
@@ -1476,4 +1547,20 @@ faults! {
 
 pub fn by_name(name: &str) -> Option<Fault> {
     FAULTS.iter().chain(SILENT).map(|(fault, _)| *fault).find(|fault| format!("{fault:?}") == name)
+}
+
+#[cfg(test)]
+mod tests {
+    use super::*;
+
+    #[test]
+    fn the_plain_engines_faults_are_those_that_are_named_so() {
+        for (fault, _) in FAULTS {
+            assert_eq!(is_plains(*fault), format!("{fault:?}").starts_with("Plain"), "{fault:?}");
+            assert_eq!(is_plains(*fault), Slip::of(*fault).in_others().0.is_none());
+        }
+        for (_, done) in PLAIN {
+            assert!(Slip::of(*done).in_plain().is(*done));
+        }
+    }
 }

@@ -22,7 +22,7 @@ pub mod takes;
 pub mod twists;
 pub mod vectors;
 
-pub use calls::{MIXED, OF_FEATURES, OF_PEERS, OF_SETS};
+pub use calls::{MANY, MIXED, OF_FEATURES, OF_PEERS, OF_SETS};
 pub use checks::CUTS;
 pub use made::{Made, Stream, STREAMS};
 pub use runs::{run, Step};

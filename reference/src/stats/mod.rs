@@ -28,7 +28,7 @@ use crate::read::read_header;
 use crate::slip::Slip;
 use crate::table::{Table, LONGEST_PROFILE};
 use crate::verdict::{Code, Decision, Why};
-use sizes::size;
+use sizes::{many_places, size};
 
 /// How many times as many cases are counted, where a row has too few, before it is told of.
 pub const ROUNDS: u64 = 10;
@@ -172,6 +172,8 @@ impl Histogram {
             _ => {}
         }
         if outcome.parts().0 == 0 {
+            let places = Message(&made.case.held(Slice::Request)).avps().places();
+            many_places(places).into_iter().for_each(|row| self.add(row.to_string()));
             let rows = match made.case.entry.dialect() {
                 Dialect::Cx => features::rows(&made.case, outcome.parts().1, why),
                 Dialect::Sh => voicemail::rows(&made.case, why),
