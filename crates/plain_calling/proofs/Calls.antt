@@ -8,9 +8,11 @@ use Rattle.vectors.specs.VectorFile.{checkVectors}
 use Rattle.rewrite.specs.Change.{alteredUpTo}
 use Rattle.reading.specs.declared.Dialect.{Dialect}
 use Rattle.reading.specs.declared.Terms.{Terms}
+use Rattle.requests.specs.Features.{wantedOf}
 use Rattle.requests.specs.Found.{judgedOf}
 use Rattle.requests.specs.Request.{dialectOf, readIn}
 use Rattle.requests.specs.declared.Walked.{Walked}
+use Rattle.requests.specs.declared.features.Wanted.{Wanted}
 use Rattle.refusals.proofs.Passing.{lets, none, passes}
 use Rattle.deciding.specs.Answers.{Tells}
 use Rattle.deciding.specs.Decide.{decide}
@@ -29,6 +31,10 @@ use Rattle.plain_deciding.specs.declared.Said.{Said}
 use Rattle.plain_calling.specs.Comes.{Comes}
 use Rattle.plain_calling.specs.declared.Came.{Came}
 use Rattle.plain_calling.specs.declared.Came.the-variants as came
+
+-- what is wanted by the terms of the dialect
+pub wanted-own : (req : List ℕ) (terms : Terms) (d : Dialect) (w : Wanted) → d ≡ dialectOf terms req → w ≡ wantedOf terms req → w ≡ wantedOf (d .terms) req
+wanted-own req terms d w e f = f ∙ rw e
 
 -- The request is read as the definition reads it.
 pub list-read : (d : Dialect) (req found list : List ℕ) (w : Walked) → list ≡ placesOf req → judgedOf req found w ≡ plainRead d req list

@@ -1,5 +1,5 @@
-use Rattle.calling.proofs.Calls.{checked-sound, dialect-own, wanted-own}
-use Rattle.plain_calling.proofs.Calls.{over-good, over-bad}
+use Rattle.calling.proofs.Calls.{checked-sound, dialect-own}
+use Rattle.plain_calling.proofs.Calls.{wanted-own, over-good, over-bad}
 use Rattle.octets.specs.Standard.{needs}
 use Rattle.plain_calling.proofs.over_table.Statement.{statement}
 use Rattle.plain_calling.proofs.over_table.Tie as tie
