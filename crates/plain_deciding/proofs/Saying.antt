@@ -1,11 +1,12 @@
 -- The numbers of a SAR; what is said of an answer is part of what `deciding` tells of it.
-use Rattle.octets.specs.Standard.{ℕ, List, Bool, false, _≡_, refl, eqb}
+use Rattle.octets.specs.Standard.{ℕ, _≤_, List, Bool, false, _≡_, refl, length, eqb}
 use Rattle.octets.specs.Run.{Wrote}
 use Rattle.record.specs.Fields.{keepOf}
 use Rattle.blocks.specs.Blocks.{blockOf}
 use Rattle.reading.specs.Kinds.{userName, assignmentType, dataAvailable}
 use Rattle.reading.specs.Rules.{Seen}
 use Rattle.reading.specs.declared.Dialect.{Dialect}
+use Rattle.reading.specs.declared.Terms.{Terms}
 use Rattle.reading.specs.declared.Verdict.{Verdict}
 use Rattle.requests.specs.Features.{beyondSet}
 use Rattle.requests.specs.Judged.{fine}
@@ -21,8 +22,11 @@ use Rattle.deciding.specs.Answers.{Planned}
 use Rattle.deciding.specs.Decide.{faulted, decide}
 use Rattle.deciding.specs.Deeds.{carriedOut}
 use Rattle.deciding.specs.Plans.{numbersIn}
-use Rattle.deciding.proofs.Answering.{fault-tells, plan-tells}
+use Rattle.deciding.proofs.Answering.{fault-tells, plan-tells, plan-room}
 use Rattle.deciding.proofs.Deciding.{numbers-read}
+use Rattle.table.specs.SoundTable.{SoundTable}
+use Rattle.vectors.specs.Sendable.{Sendable}
+use Rattle.refusals.specs.Passed.{Passed}
 use Rattle.plain_deciding.specs.Says.{Says}
 
 pub numbers-are : (t : List ℕ) (seen : Seen) {n already k : ℕ} {kind : AssignmentType} {named : Bool} {h : List ℕ} → n ≡ valueSeen seen assignmentType
@@ -36,6 +40,14 @@ pub fault-says : (dialect : Dialect) (req t : List ℕ) (count : ℕ) (v : List 
 fault-says dialect req t count v f is file before after g n e w =
     let s = fault-tells dialect req t count v f is file before after g n e w in
     record { answers = s .answers; place-is = s .place-is }
+
+module _ (dialect : Dialect) (req t : List ℕ) (count : ℕ) (v : List ℕ) (seen : Seen) (is : readIn dialect req ≡ fine seen) (p : Plan)
+    (plans : Planned dialect req t count v seen p) (g : Given) (e : g ≡ p .given) where
+  pub plan-fits : (file o : List ℕ) (terms : Terms) → Passed req o → SoundTable t count → length (answerBytes terms req t file v g) ≤ 36864
+  plan-fits file o terms q s = rw e (plan-room dialect req t count v seen p file o terms plans is q s)
+
+  pub plan-sends : Sendable v (g .sent)
+  plan-sends = rw e (plans .sendable)
 
 pub plan-says : (dialect : Dialect) (req t : List ℕ) (count : ℕ) (v : List ℕ) (seen : Seen) → readIn dialect req ≡ fine seen → (p : Plan)
     → Planned dialect req t count v seen p → beyondSet (dialect .terms) req ≡ false → (file before after : List ℕ) (n : ℕ)

@@ -8,6 +8,7 @@ use choices::plan::Plan;
 use choices::plan::Sar;
 use choices::plan::Settling;
 use choices::types;
+use plain_answering::Carried;
 use plain_assignment::effects;
 use reading::Outcome;
 use reading::Verdict;
@@ -33,11 +34,14 @@ ghost use Rattle.requests.specs.Judged.{fine};
 ghost use Rattle.requests.specs.Request.{readIn, dataSeen};
 ghost use Rattle.assignment.specs.Assignment.{storedName};
 ghost use Rattle.refusals.specs.Passed.{Passed};
+ghost use Rattle.octets.specs.Run.{Wrote};
+ghost use Rattle.answering.specs.Answer.{answerBytes};
 ghost use Rattle.deciding.specs.Answers.{Planned};
 ghost use Rattle.deciding.specs.Decide.{faulted, decide};
 ghost use Rattle.deciding.specs.DeedFits.{DeedFits};
 ghost use Rattle.deciding.specs.Deeds.{carriedOut, spentBy};
 ghost use Rattle.deciding.specs.Plans.{numbersIn, uarPlan, sarPlan, lirPlan, marPlan};
+ghost use Rattle.plain_reading.specs.Listed.{placesOf};
 ghost use Rattle.plain_deciding.specs.Says.{Says};
 
 // "Otherwise the call returns the answer's length"; 02 [2]: "the place of the AVP at fault, or 0".
@@ -195,24 +199,30 @@ fn spend(v: &mut [u8], sent: Sent, d: Deed)
     }
 }
 
+// What an answer stands on, with the fault that a request came to, or with the places of its AVPs.
+pub struct Blamed {
+    pub ground: Ground,
+    pub fault: Verdict,
+}
+
+pub struct Held {
+    pub ground: Ground,
+    pub found: [usize; kinds::KINDS],
+}
+
 // Both, once the answer stands.
-pub fn carry(
-    t: &mut [u8],
-    count: usize,
-    v: &mut [u8],
-    req: &[u8],
-    found: [usize; kinds::KINDS],
-    p: Plan,
-)
-    requires { ⌜ SoundTable (now t) count × SoundVectors (now v) × DeedFits count (dataSeen (seenOf (now req) found) serverName) (p .deed)
-        × Sendable (now v) (p .given .sent) ⌝ }
-    ensures { λ _. ⌜ (now (t .exit) ≡ carriedOut (now (req .entry)) (now (t .entry)) count (seenOf (now (req .entry)) found) (p .deed))
+fn carry(t: &mut [u8], v: &mut [u8], req: &[u8], h: Held, p: Plan)
+    requires { ⌜ SoundTable (now t) (h .ground .count) × SoundVectors (now v)
+        × DeedFits (h .ground .count) (dataSeen (seenOf (now req) (h .found)) serverName) (p .deed) × Sendable (now v) (p .given .sent) ⌝ }
+    ensures { λ _. ⌜ (now (t .exit) ≡ carriedOut (now (req .entry)) (now (t .entry)) (h .ground .count) (seenOf (now (req .entry)) (h .found)) (p .deed))
         × (now (v .exit) ≡ spentBy (now (v .entry)) (p .given .sent) (p .deed)) ⌝ }
 {
+    let ground = h.ground;
+    let found = h.found;
     let d = p.deed;
     let g = p.given;
     let sent = g.sent;
-    carry_out(t, count, req, found, d);
+    carry_out(t, ground.count, req, found, d);
     spend(v, sent, d);
 }
 
@@ -220,51 +230,85 @@ pub fn carry(
 pub fn answer_fault(
     out: &mut [u8],
     req: &[u8],
+    list: &[u16],
     t: &[u8],
     file: &[u8],
     v: &[u8],
-    ground: Ground,
-    f: Verdict,
+    b: Blamed,
 ) -> Said
-    requires { ⌜ Passed (now req) (now out) × SoundTable (now t) (ground .count) × SoundVectors (now v)
-        × (ground .wanted ≡ wantedOf (ground .dialect .terms) (now req))
-        × (decide (ground .dialect) (now req) (now t) (ground .count) (now v) ≡ faulted (now t) (now v) f) × (f .place ≤ 16384) ⌝ }
-    ensures { λ r. ⌜ Says (ground .dialect) (now (req .entry)) (now (t .entry)) (ground .count) (now (file .entry)) (now (v .entry))
+    requires { ⌜ Passed (now req) (now out) × (now list ≡ placesOf (now req)) × SoundTable (now t) (b .ground .count) × SoundVectors (now v)
+        × (b .ground .wanted ≡ wantedOf (b .ground .dialect .terms) (now req))
+        × (decide (b .ground .dialect) (now req) (now t) (b .ground .count) (now v) ≡ faulted (now t) (now v) (b .fault)) × (b .fault .place ≤ 16384) ⌝ }
+    ensures { λ r. ⌜ Says (b .ground .dialect) (now (req .entry)) (now (t .entry)) (b .ground .count) (now (file .entry)) (now (v .entry))
         (now (out .entry)) (now (out .exit)) r
-        × (now (t .entry) ≡ decide (ground .dialect) (now (req .entry)) (now (t .entry)) (ground .count) (now (v .entry)) .table)
-        × (now (v .entry) ≡ decide (ground .dialect) (now (req .entry)) (now (t .entry)) (ground .count) (now (v .entry)) .vectors) ⌝ }
+        × (now (t .entry) ≡ decide (b .ground .dialect) (now (req .entry)) (now (t .entry)) (b .ground .count) (now (v .entry)) .table)
+        × (now (v .entry) ≡ decide (b .ground .dialect) (now (req .entry)) (now (t .entry)) (b .ground .count) (now (v .entry)) .vectors) ⌝ }
 {
+    let ground = b.ground;
+    let f = b.fault;
     let place = f.place;
-    let length = answering::answer(out, req, t, file, v, ground, giving::faulty(f));
+    let given = giving::faulty(f);
+    let length = plain_answering::answer(out, req, list, t, file, v, Carried { ground, given });
     Said {
         length: length as u32,
         place: place as u16,
     }
 }
 
+// What is planned, and how long the answer is.
+struct Written {
+    plan: Plan,
+    length: usize,
+}
+
 // The answer to a request that was read and asks for nothing unsupported: written from the table and the vectors as they came.
+fn answer_planned(
+    out: &mut [u8],
+    req: &[u8],
+    list: &[u16],
+    t: &[u8],
+    file: &[u8],
+    v: &[u8],
+    h: Held,
+) -> Written
+    requires { ⌜ Passed (now req) (now out) × (now list ≡ placesOf (now req)) × SoundTable (now t) (h .ground .count) × SoundVectors (now v)
+        × (h .ground .wanted ≡ wantedOf (h .ground .dialect .terms) (now req))
+        × (readIn (h .ground .dialect) (now req) ≡ fine (seenOf (now req) (h .found))) ⌝ }
+    ensures { λ r. ⌜ (r .length ≤ 36864)
+        × Planned (h .ground .dialect) (now (req .entry)) (now (t .entry)) (h .ground .count) (now (v .entry)) (seenOf (now (req .entry)) (h .found)) (r .plan)
+        × Wrote (answerBytes (h .ground .dialect .terms) (now (req .entry)) (now (t .entry)) (now (file .entry)) (now (v .entry)) (r .plan .given))
+        (now (out .entry)) (now (out .exit)) (r .length) ⌝ }
+{
+    let ground = h.ground;
+    let found = h.found;
+    let plan = plan_read(req, t, v, ground, found);
+    let given = plan.given;
+    let length = plain_answering::answer(out, req, list, t, file, v, Carried { ground, given });
+    Written { plan, length }
+}
+
+// Then what is planned is done.
 fn answer_read(
     out: &mut [u8],
     req: &[u8],
+    list: &[u16],
     t: &mut [u8],
     file: &[u8],
     v: &mut [u8],
-    ground: Ground,
-    found: [usize; kinds::KINDS],
+    h: Held,
 ) -> Said
-    requires { ⌜ Passed (now req) (now out) × SoundTable (now t) (ground .count) × SoundVectors (now v)
-        × (ground .wanted ≡ wantedOf (ground .dialect .terms) (now req)) × (beyondSet (ground .dialect .terms) (now req) ≡ false)
-        × (readIn (ground .dialect) (now req) ≡ fine (seenOf (now req) found)) ⌝ }
-    ensures { λ r. ⌜ Says (ground .dialect) (now (req .entry)) (now (t .entry)) (ground .count) (now (file .entry)) (now (v .entry))
+    requires { ⌜ Passed (now req) (now out) × (now list ≡ placesOf (now req)) × SoundTable (now t) (h .ground .count) × SoundVectors (now v)
+        × (h .ground .wanted ≡ wantedOf (h .ground .dialect .terms) (now req)) × (beyondSet (h .ground .dialect .terms) (now req) ≡ false)
+        × (readIn (h .ground .dialect) (now req) ≡ fine (seenOf (now req) (h .found))) ⌝ }
+    ensures { λ r. ⌜ Says (h .ground .dialect) (now (req .entry)) (now (t .entry)) (h .ground .count) (now (file .entry)) (now (v .entry))
         (now (out .entry)) (now (out .exit)) r
-        × (now (t .exit) ≡ decide (ground .dialect) (now (req .entry)) (now (t .entry)) (ground .count) (now (v .entry)) .table)
-        × (now (v .exit) ≡ decide (ground .dialect) (now (req .entry)) (now (t .entry)) (ground .count) (now (v .entry)) .vectors) ⌝ }
+        × (now (t .exit) ≡ decide (h .ground .dialect) (now (req .entry)) (now (t .entry)) (h .ground .count) (now (v .entry)) .table)
+        × (now (v .exit) ≡ decide (h .ground .dialect) (now (req .entry)) (now (t .entry)) (h .ground .count) (now (v .entry)) .vectors) ⌝ }
 {
-    let p = plan_read(req, t, v, ground, found);
-    let length = answering::answer(out, req, t, file, v, ground, p.given);
-    carry(t, ground.count, v, req, found, p);
+    let w = answer_planned(out, req, list, t, file, v, h);
+    carry(t, v, req, h, w.plan);
     Said {
-        length: length as u32,
+        length: w.length as u32,
         place: 0,
     }
 }
@@ -273,28 +317,29 @@ fn answer_read(
 pub fn answer_fine(
     out: &mut [u8],
     req: &[u8],
+    list: &[u16],
     t: &mut [u8],
     file: &[u8],
     v: &mut [u8],
-    ground: Ground,
-    found: [usize; kinds::KINDS],
+    h: Held,
 ) -> Said
-    requires { ⌜ Passed (now req) (now out) × SoundTable (now t) (ground .count) × SoundVectors (now v)
-        × (ground .wanted ≡ wantedOf (ground .dialect .terms) (now req))
-        × (readIn (ground .dialect) (now req) ≡ fine (seenOf (now req) found)) ⌝ }
-    ensures { λ r. ⌜ Says (ground .dialect) (now (req .entry)) (now (t .entry)) (ground .count) (now (file .entry)) (now (v .entry))
+    requires { ⌜ Passed (now req) (now out) × (now list ≡ placesOf (now req)) × SoundTable (now t) (h .ground .count) × SoundVectors (now v)
+        × (h .ground .wanted ≡ wantedOf (h .ground .dialect .terms) (now req))
+        × (readIn (h .ground .dialect) (now req) ≡ fine (seenOf (now req) (h .found))) ⌝ }
+    ensures { λ r. ⌜ Says (h .ground .dialect) (now (req .entry)) (now (t .entry)) (h .ground .count) (now (file .entry)) (now (v .entry))
         (now (out .entry)) (now (out .exit)) r
-        × (now (t .exit) ≡ decide (ground .dialect) (now (req .entry)) (now (t .entry)) (ground .count) (now (v .entry)) .table)
-        × (now (v .exit) ≡ decide (ground .dialect) (now (req .entry)) (now (t .entry)) (ground .count) (now (v .entry)) .vectors) ⌝ }
+        × (now (t .exit) ≡ decide (h .ground .dialect) (now (req .entry)) (now (t .entry)) (h .ground .count) (now (v .entry)) .table)
+        × (now (v .exit) ≡ decide (h .ground .dialect) (now (req .entry)) (now (t .entry)) (h .ground .count) (now (v .entry)) .vectors) ⌝ }
 {
+    let ground = h.ground;
     let wanted = ground.wanted;
     if wanted.beyond {
-        let f = Verdict {
+        let fault = Verdict {
             result: Outcome::Experimental(experimental::FEATURE_UNSUPPORTED),
             place: 0,
             lacks: 0,
         };
-        return answer_fault(out, req, t, file, v, ground, f);
+        return answer_fault(out, req, list, t, file, v, Blamed { ground, fault });
     }
-    answer_read(out, req, t, file, v, ground, found)
+    answer_read(out, req, list, t, file, v, h)
 }

@@ -20,7 +20,7 @@ ghost use Rattle.plain_reading.specs.Listed.{placesOf};
 ghost use Rattle.plain_looks.specs.Looks.{callsAt, asksAt, calledBy, asksBy, proxyBy};
 
 // "Session-Id if it is the first AVP and passes (a) to (c)", else nothing.
-pub fn session<'a>(req: &'a [u8], list: &'a [u16]) -> &'a [u8]
+pub fn session<'a>(req: &'a [u8], list: &[u16]) -> &'a [u8]
     requires { ⌜ now list ≡ placesOf (now req) ⌝ }
     ensures { λ r. ⌜ (now r ≡ sessionOf (bodyOf (now (req .entry)))) × (length (now r) ≤ length (now (req .entry))) ⌝ }
 {

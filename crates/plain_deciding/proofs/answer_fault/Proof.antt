@@ -1,6 +1,6 @@
+use Rattle.octets.specs.Standard.{needs}
 use Rattle.deciding.proofs.Answering.{fault-sendable, fault-room, fault-table, fault-vectors}
 use Rattle.plain_deciding.proofs.Saying.{fault-says}
-use Rattle.octets.specs.Standard.{needs}
 use Rattle.plain_deciding.proofs.answer_fault.Statement.{statement}
 use Rattle.plain_deciding.proofs.answer_fault.Tie as tie
 

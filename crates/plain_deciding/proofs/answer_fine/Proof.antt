@@ -1,5 +1,5 @@
-use Rattle.deciding.proofs.Answering.{beyond-decided, beyond-none}
 use Rattle.octets.specs.Standard.{needs}
+use Rattle.deciding.proofs.Answering.{beyond-decided, beyond-none}
 use Rattle.plain_deciding.proofs.answer_fine.Statement.{statement}
 use Rattle.plain_deciding.proofs.answer_fine.Tie as tie
 
