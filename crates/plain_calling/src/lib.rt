@@ -1,6 +1,8 @@
 // One call without cleverness: the refusals in order, the table and the vector file checked, every AVP's place listed, the request read, decided, answered.
 use answering::Ground;
 use blocks::Checked;
+use plain_deciding::Blamed;
+use plain_deciding::Held;
 use plain_deciding::Said;
 use reading::Dialect;
 use reading::Terms;
@@ -66,8 +68,12 @@ fn answer(
     let mut found = [0; kinds::KINDS];
     let w = read(req, dialect, list, &mut found);
     match w {
-        Walked::Read => plain_deciding::answer_fine(out, req, t, file, v, ground, found),
-        Walked::Fault(f) => plain_deciding::answer_fault(out, req, t, file, v, ground, f),
+        Walked::Read => {
+            plain_deciding::answer_fine(out, req, list, t, file, v, Held { ground, found })
+        }
+        Walked::Fault(fault) => {
+            plain_deciding::answer_fault(out, req, list, t, file, v, Blamed { ground, fault })
+        }
     }
 }
 

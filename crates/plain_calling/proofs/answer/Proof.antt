@@ -12,7 +12,7 @@ answer-spec =
     (λ c. search needs)
     (λ c κs. search (needs, judged-fine))
     (λ c. search needs)
-    (λ c κs. search (needs, fault-decided, fault-near))
+    (λ c κs. (search needs, search needs, search needs, search needs, search needs, search (needs, fault-decided), search (needs, fault-near)))
     (λ c. search needs)
     (λ c. search needs)
     (λ c. search needs)
