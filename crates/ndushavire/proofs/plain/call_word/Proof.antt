@@ -1,6 +1,6 @@
 use Rattle.octets.specs.Standard.{needs}
-use Rattle.ndushavire_plain.proofs.call_word.Statement.{statement}
-use Rattle.ndushavire_plain.proofs.call_word.Tie as tie
+use Rattle.ndushavire.proofs.plain.call_word.Statement.{statement}
+use Rattle.ndushavire.proofs.plain.call_word.Tie as tie
 
 pub call-word-spec : {M : Type 1} → statement M
 call-word-spec =

@@ -1,7 +1,7 @@
-use Rattle.ndushavire_plain.proofs.Same.{word-promised}
+use Rattle.ndushavire.proofs.Words.{plain-promised}
 use Rattle.octets.specs.Standard.{needs}
-use Rattle.ndushavire_plain.proofs.ndushavire_plain.Statement.{statement}
-use Rattle.ndushavire_plain.proofs.ndushavire_plain.Tie as tie
+use Rattle.ndushavire.proofs.ndushavire_plain.Statement.{statement}
+use Rattle.ndushavire.proofs.ndushavire_plain.Tie as tie
 
 pub ndushavire-plain-spec : {M : Type 1} → statement M
 ndushavire-plain-spec =
@@ -12,4 +12,4 @@ ndushavire-plain-spec =
     (λ c. search needs)
     (λ c. search needs)
     (λ c. search needs)
-    (λ c. search (needs, word-promised)))
+    (λ c. search (needs, plain-promised)))
