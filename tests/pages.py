@@ -23,6 +23,7 @@ STATEMENTS = {
     'demands/Firm': ANY,
     'demands/Peers': '02 [10]',
     'demands/Place': '02 [2]',
+    'demands/Plain': '02 [13]',
     'demands/Sets': '02 [6]',
     'demands/TakingOver': '02 [8]',
     'demands/Together': '02 [6]',
