@@ -8,3 +8,4 @@ pub mod Place
 pub mod Sets
 pub mod TakingOver
 pub mod Unable
+pub mod Plain
