@@ -220,7 +220,8 @@ def main():
         print('plain.py: not noticed: %s' % what, file=sys.stderr)
     if not missed:
         crates = {path.split('/')[1] for path in files if path.startswith('crates/plain_')}
-        print('plain.py: the code of %d crates shares with the quick engine what has no trick in it; each of %d things put in is noticed' % (len(crates), tried))
+        print('plain.py: the code of %d crates shares with the quick engine what has no trick in it; each of %d things put in is noticed' % (
+            len(crates), tried))
     return bool(missed)
 
 
