@@ -8,4 +8,3 @@ pub mod Place
 pub mod Sets
 pub mod TakingOver
 pub mod Unable
-pub mod Plain
