@@ -43,9 +43,9 @@ ANSWERING = 'plain_answering'
 WRITERS = {'envelope': 'front::put_start header::put_header last::put_failed', 'reply': 'front::put_server given::put_given'}
 ANSWER = {'answering': 'answer'}
 
-# The effect on one block, below which alone the sum as the machine has its words, and names by eights of bytes, are.
+# The effect on one block, below which alone the sum as the machine has its words, names by eights of bytes, and masks are.
 EFFECTS = {'rewrite::change_if', 'vectors::mark::spend'}
-QUICK = re.compile(r'octets::(sum::|name::(?!smaller$))')
+QUICK = re.compile(r'octets::(sum::|name::(?!smaller$)|run::(mask|set_bits|set_past)$|number::le)')
 
 
 def plain(text):
