@@ -232,12 +232,6 @@ differential: target/c99/driver $(BINARY)
 	    $(BINARY) compare --kind $${of%:*} --seed $(SEED) --count $${of#*:} -- $(DRIVER); \
 	done
 
-COUNT_engines := 1000000
-#: plain              the plain engine beside the quick one and the independent program, word, table, vectors and buffer, on 1,000,000 calls; COUNT_engines=N
-plain: target/c99/driver $(BINARY)
-	@echo "plain: seed $(SEED), $(COUNT_engines) calls of either engine"
-	$(BINARY) compare --kind plain --seed $(SEED) --count $(COUNT_engines) -- $(DRIVER)
-
 COUNT_narrow := 10000
 #: narrow             requests that real software sent, 10,000 calls, and 1,000 calls of both engines, of Sh, reports, checks, moves and take-overs on a thread whose stack is 16 KiB; half a minute
 narrow: target/narrow/decide target/narrow/driver target/c/maketable $(BINARY)
@@ -250,6 +244,12 @@ noticed: target/c99/overstep target/c99/driver $(BINARY)
 	tests/noticed.sh $(BINARY) $(RUN) target/c99/overstep
 	@echo "breaches: seed $(SEED), $(COUNT_breaches) pairs of each"
 	$(BINARY) compare --kind breaches --seed $(SEED) --count $(COUNT_breaches) -- $(DRIVER)
+
+COUNT_engines := 1000000
+#: plain              the plain engine beside the quick one and the independent program, word, table, vectors and buffer, on 1,000,000 calls; COUNT_engines=N
+plain: target/c99/driver $(BINARY)
+	@echo "plain: seed $(SEED), $(COUNT_engines) calls of either engine"
+	$(BINARY) compare --kind plain --seed $(SEED) --count $(COUNT_engines) -- $(DRIVER)
 
 #: cuts               the whole of that, two minutes: 1,000,000 sets of blocks, 1,000 kills within a table of 4,096, and some of it with files on disk
 cuts: target/c99/takes target/c99/cuts target/c99/take target/c99/cut-take
