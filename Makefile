@@ -13,7 +13,7 @@ endif
 .DELETE_ON_ERROR:
 export PYTHONDONTWRITEBYTECODE := 1
 .PHONY: help run test quick clean fmt kit pages header examples tables texts aims stores programs reference installs cited narrow bench stack installable install uninstall
-.PHONY: unsound reports moves takes cuts recipes daemon peers differential noticed soak mutants stats definitions-check cases
+.PHONY: unsound reports moves takes cuts recipes daemon peers differential plain noticed soak mutants stats definitions-check cases
 .PHONY: voicemail documents parsed promises
 
 MACHINE := $(shell uname -m)
@@ -110,9 +110,10 @@ header: target/c/header target/c++/header target/c99/version
 	for header in target/c/header target/c++/header; do $$header; done
 	tests/version.sh $(RUN) target/c99/version
 
-#: promises           whether the Sh server's crates use of the first library only what it promises; which symbols the two archives have, and none twice
+#: promises           whether the Sh server's crates use of the first library only what it promises, and the plain engine's nothing with a trick; which symbols the archives have
 promises: $(ARCHIVES)
 	tests/promises.py
+	tests/plain.py
 	RUN='$(RUN)' tests/symbols.sh target/test/symbols $(ARCHIVE) $(SH_ARCHIVE) $(X86_CC)
 
 #: examples           the C examples: worked answers, refusals, AVPs at fault, requests that real software sent, a voicemail box, the month's numbers, moves, take-overs
@@ -201,10 +202,11 @@ ifndef SEED
 SEED := $(shell od -An -N4 -tu4 /dev/urandom | tr -d ' ')
 endif
 DRIVER = $(RUN) target/c99/driver
-KINDS := tables vectors calls voicemail reports moves takes demand3 demand3-voicemail neighbours neighbours-voicemail runs
+KINDS := tables vectors calls plain voicemail reports moves takes demand3 demand3-voicemail neighbours neighbours-voicemail runs
 COUNT_tables := 200000
 COUNT_vectors := 100000
 COUNT_calls := 100000
+COUNT_plain := 20000
 COUNT_voicemail := 100000
 COUNT_reports := 20000
 COUNT_moves := 50000
@@ -223,7 +225,7 @@ cited: $(ARCHIVES) $(PROGRAMS)
 recipes: $(ARCHIVES) $(PROGRAMS) $(OVER_ARCHIVE) target/c99/decide target/c99/userdata
 	RUN='$(RUN)' tests/recipes.sh target/test/recipes '$(PROGRAM)' $(X86_CC)
 
-#: differential       the libraries beside the independent program on 810,000 new cases and 2,000 runs of calls; SEED=N runs a seed again
+#: differential       the libraries beside the independent program on 830,000 new cases, of which 20,000 go to both engines, and 2,000 runs of calls; SEED=N runs a seed again
 differential: target/c99/driver $(BINARY)
 	@for of in $(foreach kind,$(KINDS),$(kind):$(COUNT_$(kind))); do \
 	    echo "differential run: seed $(SEED), $${of#*:} $${of%:*}"; \
@@ -231,7 +233,7 @@ differential: target/c99/driver $(BINARY)
 	done
 
 COUNT_narrow := 10000
-#: narrow             requests that real software sent, 10,000 calls, and 1,000 calls of Sh, reports, checks, moves and take-overs on a thread whose stack is 16 KiB; half a minute
+#: narrow             requests that real software sent, 10,000 calls, and 1,000 calls of both engines, of Sh, reports, checks, moves and take-overs on a thread whose stack is 16 KiB; half a minute
 narrow: target/narrow/decide target/narrow/driver target/c/maketable $(BINARY)
 	RUN='$(RUN)' tests/captured.sh target/test/narrow target/c/maketable $(BINARY) target/narrow/decide
 	tests/narrow.sh $(BINARY) $(SEED) $(COUNT_narrow) $(RUN) target/narrow/driver
@@ -242,6 +244,12 @@ noticed: target/c99/overstep target/c99/driver $(BINARY)
 	tests/noticed.sh $(BINARY) $(RUN) target/c99/overstep
 	@echo "breaches: seed $(SEED), $(COUNT_breaches) pairs of each"
 	$(BINARY) compare --kind breaches --seed $(SEED) --count $(COUNT_breaches) -- $(DRIVER)
+
+COUNT_engines := 1000000
+#: plain              the plain engine beside the quick one and the independent program, word, table, vectors and buffer, on 1,000,000 calls; COUNT_engines=N
+plain: target/c99/driver $(BINARY)
+	@echo "plain: seed $(SEED), $(COUNT_engines) calls of either engine"
+	$(BINARY) compare --kind plain --seed $(SEED) --count $(COUNT_engines) -- $(DRIVER)
 
 #: cuts               the whole of that, two minutes: 1,000,000 sets of blocks, 1,000 kills within a table of 4,096, and some of it with files on disk
 cuts: target/c99/takes target/c99/cuts target/c99/take target/c99/cut-take
@@ -272,7 +280,7 @@ peers: target/c99/daemon target/c/maketable
 
 # After how many cases each deliberate fault of the independent program shows; what the cases are made of.
 COUNT_mutants := 100000
-#: mutants            whether 1,331 deliberate faults would be noticed, and after how many cases
+#: mutants            whether 1,399 deliberate faults would be noticed, and after how many cases
 mutants: $(BINARY)
 	@echo "mutants: seed $(SEED)"
 	$(BINARY) mutants --seed $(SEED) --count $(COUNT_mutants)
@@ -360,7 +368,7 @@ target/c99/driver: tests/driver.c $(HEADER) $(SH_HEADER) $(ARCHIVES)
 
 target/c99/overstep: tests/overstep.c tests/driver.c $(HEADER) $(SH_HEADER) $(ARCHIVES)
 	mkdir -p $(@D)
-	$(X86_CC) -std=c99 $(STRICT) -Wl,--wrap=ndushavire_check,--wrap=ndushavire_check_vectors,--wrap=ndushavire_sh_decide -o $@ \
+	$(X86_CC) -std=c99 $(STRICT) -Wl,--wrap=ndushavire_check,--wrap=ndushavire_check_vectors,--wrap=ndushavire_plain,--wrap=ndushavire_sh_decide -o $@ \
 	    tests/overstep.c tests/driver.c $(ARCHIVES)
 
 target/narrow/driver: tests/driver.c
@@ -369,7 +377,7 @@ target/narrow/decide: examples/decide.c examples/load.h examples/fault.h example
 target/narrow/driver target/narrow/decide: tests/narrow.c $(HEADER) $(SH_HEADER) $(ARCHIVES)
 	mkdir -p $(@D)
 	$(X86_CC) -std=c99 $(STRICT) -pthread -Wl,-z,now \
-	    $(foreach entry,check check_vectors decide report forward back take sh_decide,-Wl,--wrap=ndushavire_$(entry)) -o $@ $(filter %.c,$^) $(ARCHIVES)
+	    $(foreach entry,check check_vectors decide plain report forward back take sh_decide,-Wl,--wrap=ndushavire_$(entry)) -o $@ $(filter %.c,$^) $(ARCHIVES)
 
 target/c99/version: tests/version.c $(HEADER) $(ARCHIVE)
 	mkdir -p $(@D)
@@ -424,19 +432,21 @@ CHECKED := 1-short 16-short 300-short 4096-short 4096-ims 4096-long
 SECOND := 4096-short-2 4096-long-2 4096-short-2-1 4096-short-2-2 4096-short-2-4 4096-long-2-4 4096-alike-2-4 4096-alike-2-1
 DECIDED := 1-short 16-short 300-short 4096-short 1-tiny 16-tiny 300-tiny 4096-tiny
 REPORTED := 16-short 300-short 4096-short
+PLAINLY := 16-short 300-short 4096-short 4096-short-2-4
 TAKEN := 16-short-2 300-short-2 4096-short-2 4096-long-2 4096-short-2-4
 # A program's arguments: each table, its profile file and how its names are. A table is named by its records, its names, for edition 2 by 2 and,
 # if it has sets, by how many records are in each.
 samples = $(foreach size,$(1),target/bench/$(size).table target/bench/$(size).profile $(word 2,$(subst -, ,$(size))))
 
-#: bench              times beside the aims, two minutes once their parts are made; a missed aim is marked
-bench: $(addprefix target/bench/,check vectors moves takes decide report) $(patsubst %,target/bench/%.table,$(sort $(CHECKED) $(SECOND) $(TAKEN) $(DECIDED)))
+#: bench              times beside the aims, and what the plain engine takes beside the quick one, two minutes once their parts are made; a missed aim is marked
+bench: $(addprefix target/bench/,check vectors moves takes decide plain report) $(patsubst %,target/bench/%.table,$(sort $(CHECKED) $(SECOND) $(TAKEN) $(DECIDED)))
 	@{ $(CC) --version | head -n 1; \
 	   target/bench/check $(call samples,$(CHECKED) $(SECOND)); \
 	   target/bench/moves $(call samples,$(CHECKED)); \
 	   target/bench/takes $(call samples,$(TAKEN)); \
 	   target/bench/vectors $(call samples,$(CHECKED)); \
 	   target/bench/decide $(call samples,$(DECIDED)); \
+	   target/bench/plain $(call samples,$(PLAINLY)); \
 	   target/bench/report $(call samples,$(REPORTED)); } | tee target/bench/figures
 	@bench/summary.sh target/bench/figures
 
@@ -471,7 +481,7 @@ target/bench/check target/bench/vectors: target/bench/%: bench/%.c $(TIMER) $(SU
 target/bench/decide: bench/decide.c $(TIMER)
 	$(CC) -std=c99 $(STRICT) -o $@ $< $(TIMED) target/bench/libreference_c.a -lpthread -ldl -lm
 
-target/bench/report target/bench/moves target/bench/takes: target/bench/%: bench/%.c $(TIMER)
+target/bench/report target/bench/moves target/bench/takes target/bench/plain: target/bench/%: bench/%.c $(TIMER)
 	$(CC) -std=c99 $(STRICT) -o $@ $< $(TIMED)
 
 # One program for both bindings: which it is says the environment that it is run in.

@@ -29,6 +29,12 @@ static void decide(void) {
                              vectors.length, answer, sizeof answer, NDUSHAVIRE_RFC_6733, NDUSHAVIRE_NO_FEATURES);
 }
 
+static void plain(void) {
+    static uint8_t answer[NDUSHAVIRE_ANSWER_ROOM];
+    word = ndushavire_plain(request.bytes, request.length, s->table, s->table_len, s->profile, s->profile_len, vectors.bytes,
+                            vectors.length, answer, sizeof answer, NDUSHAVIRE_RFC_6733, NDUSHAVIRE_NO_FEATURES);
+}
+
 static void sh_decide(void) {
     static uint8_t answer[NDUSHAVIRE_ANSWER_ROOM];
     word = ndushavire_sh_decide(request.bytes, request.length, s->table, s->table_len, s->profile, s->profile_len, answer, sizeof answer, NDUSHAVIRE_RFC_6733);
@@ -53,7 +59,7 @@ static struct {
     const char *name;
     size_t most;
 } entries[] = {{check, "check", 0}, {check_vectors, "vector check", 0}, {forward, "move forward", 0},
-               {back, "move back", 0}, {take, "take-over", 0}, {decide, "decide", 0}, {report, "report", 0}, {sh_decide, "Sh", 0}};
+               {back, "move back", 0}, {take, "take-over", 0}, {decide, "decide", 0}, {plain, "plain engine", 0}, {report, "report", 0}, {sh_decide, "Sh", 0}};
 enum { ENTRIES = sizeof entries / sizeof entries[0] };
 static int lazily, sets; /* how memset and the like are bound; whether the table has sets, for which the check has more to call */
 static uint32_t due;     /* the number that the calls return */
@@ -85,12 +91,21 @@ static int within(void (*call)(void), const char *what) {
     return lazily || bytes <= AIM;
 }
 
-/* A decision of the request, which is kept for the report. */
+/* A decision of the request, which is kept for the report; and the same by the plain engine, over what the quick one found. */
 static int decides(const char *what) {
+    static uint8_t table[NDUSHAVIRE_TABLE_MAX], file[NDUSHAVIRE_VECTOR_FILE_MAX];
     if (month_len + request.length > sizeof month) abort();
     memcpy(month + month_len, request.bytes, request.length);
     month_len += request.length;
-    return within(decide, what);
+    memcpy(table, s->table, s->table_len);
+    memcpy(file, vectors.bytes, vectors.length);
+    const int passes = within(decide, what);
+    const uint64_t quick = word;
+    memcpy(s->table, table, s->table_len);
+    memcpy(vectors.bytes, file, vectors.length);
+    const int passes_too = within(plain, "  plain engine");
+    if (word != quick) fprintf(stderr, "stack: %s: the plain engine returns another word\n", what);
+    return passes & passes_too & (word == quick);
 }
 
 /* A report over all of them, of which none is refused: a refused one would tell little. */

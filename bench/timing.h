@@ -32,7 +32,7 @@ static double turn(Subject *subject, const void *sample, long calls) {
 }
 
 /* The median time of one call of each subject, in microseconds. */
-static void medians(Subject *const subject[], int subjects, const void *sample, double median[]) {
+static inline void medians(Subject *const subject[], int subjects, const void *sample, double median[]) {
     static double took[SUBJECTS_MOST][ROUNDS];
     long calls[SUBJECTS_MOST];
     for (int i = 0; i < subjects; i++) calls[i] = 1 + (long)(TURN / turn(subject[i], sample, 3));

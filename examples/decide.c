@@ -1,5 +1,5 @@
-/* decide [-e EDITION] [-f FEATURES] TABLE PROFILE VECTORS REQUEST: answers one request, and shows what the call returned and changed, and where it hurts
- * if an AVP of the request is at fault. EDITION is that of the base standard which the peer follows, 3588 unless it is given, or 6733; every
+/* decide [-p] [-e EDITION] [-f FEATURES] TABLE PROFILE VECTORS REQUEST: answers one request, and shows what the call returned and changed, and where it
+ * hurts if an AVP of the request is at fault. With -p, the first argument then, the plain engine is asked: it says the same. EDITION is that of the base standard which the peer follows, 3588 unless it is given, or 6733; every
  * other is refused by 12. FEATURES are the bits of list 1 that the server supports, as a number, decimal or with 0x: 0 unless it is given.
  * VECTORS may be /dev/null: there are no vectors then. REQUEST is text: hexadecimal digits, blanks between bytes as you like,
  * and comments from # to the line's end.
@@ -45,9 +45,12 @@ static void free_both(File file) {
 
 int main(int argc, char **argv) {
     Stated stated;
+    const int plain = argc > 1 && strcmp(argv[1], "-p") == 0;
+    argc -= plain;
+    argv += plain;
     const int first = take_stated(argc, argv, &stated);
     if (first == 0 || argc - first != 4) {
-        fprintf(stderr, "usage: decide [-e EDITION] [-f FEATURES] TABLE PROFILE VECTORS REQUEST\n");
+        fprintf(stderr, "usage: decide [-p] [-e EDITION] [-f FEATURES] TABLE PROFILE VECTORS REQUEST\n");
         return 2;
     }
     argv += first - 1;
@@ -58,8 +61,8 @@ int main(int argc, char **argv) {
     static uint8_t answer[NDUSHAVIRE_ANSWER_ROOM];
     request_len = from_hex("decide", request, request_len);
 
-    uint64_t word = ndushavire_decide(request, request_len, table.lent, table.length, profile, profile_len, vectors.lent, vectors.length,
-                                      answer, sizeof answer, stated.peer, stated.features);
+    uint64_t word = (plain ? ndushavire_plain : ndushavire_decide)(request, request_len, table.lent, table.length, profile, profile_len, vectors.lent,
+                                                                   vectors.length, answer, sizeof answer, stated.peer, stated.features);
     const unsigned long value = ndushavire_value(word);
     if (ndushavire_answered(word)) { /* so both files are whole blocks */
         printf("answered, %lu bytes\n", value);

@@ -8,9 +8,9 @@
  * Who owns what. The caller owns every byte. All slices (request, table, profile, vectors, answer, requests, report, area, fresh) are lent
  * for the length of the call and none is kept: the library has no state of its own, opens no file, takes no memory and
  * starts nothing. The slices of one call must not overlap. Every pointer is non-null, also where its length is 0.
- * Only these write: ndushavire_decide and ndushavire_report, to the answer, the table and the vectors, and the second also to its report;
- * ndushavire_forward and ndushavire_back, to their table; and ndushavire_take, to its area. What must outlive the process is for the caller
- * to store.
+ * Only these write: ndushavire_decide, ndushavire_plain and ndushavire_report, to the answer, the table and the vectors, and the last also to its
+ * report; ndushavire_forward and ndushavire_back, to their table; and ndushavire_take, to its area. What must outlive the process is for the
+ * caller to store.
  *
  * What a call can alter, of table and vectors; all of this is proved, so nobody has to compare files to see that nothing changed.
  * - ndushavire_decide alters the table only under a SAR (301) or a MAR (303) that is answered with a success, a result of 2xxx, B or X;
@@ -18,6 +18,7 @@
  *   A UAR (300), a LIR (302), a request of any other command, every answer with an error, a header's fault too, and every refusal
  *   leave both as they came. What it alters in a table: state, pending, server name and check word of records of the one private
  *   identity asked about, and so never the header or a length; in a vector file: the mark and the check word of the vectors sent.
+ * - ndushavire_plain alters what ndushavire_decide alters.
  * - ndushavire_report alters both as its requests do, one after the other, and nothing under 15.
  * - ndushavire_forward and ndushavire_back write to every block of a table that they move, the edition, the issue number and the check
  *   word, and nothing if they refuse.
@@ -31,8 +32,8 @@
  * The profile file is what call servers are sent of each line: bytes without a structure of their own, into which the
  * table's records point. Table and profile file are a pair, made, checked and kept together.
  *
- * The working area. A table may lie in an area that is longer than it: ndushavire_decide, ndushavire_check and ndushavire_report take one of at
- * least 512 x (count + 1) bytes, and look at nothing past that, neither blocks nor a last piece of under 512 bytes. What stands there stays
+ * The working area. A table may lie in an area that is longer than it: ndushavire_decide, ndushavire_plain, ndushavire_check and ndushavire_report
+ * take one of at least 512 x (count + 1) bytes, and look at nothing past that, neither blocks nor a last piece of under 512 bytes. What stands there stays
  * and does not matter. A shorter one has block 0 bad. Everything else that takes a table takes it alone, of its exact length: both
  * moves, and the new table of a take-over.
  *
@@ -56,7 +57,8 @@
  * Stack. A call takes under 12 KiB by itself, most of it to remember the sets that the check has met. It calls memset and memcpy, and a
  * first call that is bound lazily takes what the dynamic linker takes besides: some 3.2 KB on x86-64 with AVX-512, where decisions then
  * took up to 13,352 bytes and reports up to 14,504. For a small stack link with -Wl,-z,now, as pkg-config does: all is bound at the start. The
- * archive has no unwind tables: a debugger's backtrace ends at the call.
+ * archive has no unwind tables: a debugger's backtrace ends at the call. ndushavire_plain remembers
+ * no sets, and has a list of places of 4 KiB instead.
  *
  * The peer. RFC 3588 and RFC 6733 are editions of the base standard that differ here in one point: by the newer one a
  * Vendor-Specific-Application-Id (260) holds one Vendor-Id, and by the older one it may hold several. The daemon states for each peer which of the two
@@ -95,8 +97,8 @@
 extern "C" {
 #endif
 
-#define NDUSHAVIRE_VERSION "0.14.0"
-#define NDUSHAVIRE_VERSION_NUMBER 1400 /* the same to compare: major x 10,000 + minor x 100 + patch */
+#define NDUSHAVIRE_VERSION "0.15.0"
+#define NDUSHAVIRE_VERSION_NUMBER 1500 /* the same to compare: major x 10,000 + minor x 100 + patch */
 
 #define NDUSHAVIRE_ANSWER_ROOM 36864       /* the least answer buffer, in bytes: no answer is longer */
 #define NDUSHAVIRE_REQUEST_MIN 20          /* the shortest request, a Diameter header alone */
@@ -144,6 +146,14 @@ extern "C" {
 uint64_t ndushavire_decide(const uint8_t *request, size_t request_len, uint8_t *table, size_t table_len,
                            const uint8_t *profile, size_t profile_len, uint8_t *vectors, size_t vectors_len,
                            uint8_t *answer, size_t answer_len, uint32_t peer, uint32_t features);
+
+/* The plain engine: a second server, written to be read. It takes what ndushavire_decide takes, meets the same promise, and so returns the same word and
+ * leaves the same table, vectors and answer for every input, refusals too: that is proved. It is not for service: it compares the records of a set pair by
+ * pair and looks up every name from the first record on, and so takes far longer over a large table. It is for whoever wants to see what the library
+ * does, with docs/PLAIN.md beside it, or wants to hold the quick engine against it; no daemon needs it. */
+uint64_t ndushavire_plain(const uint8_t *request, size_t request_len, uint8_t *table, size_t table_len,
+                          const uint8_t *profile, size_t profile_len, uint8_t *vectors, size_t vectors_len,
+                          uint8_t *answer, size_t answer_len, uint32_t peer, uint32_t features);
 
 /* Checks a table against its profile file. The word's number is 0 and its value the record count, or 5 and the first
  * bad block. Of a sound table in a longer area the first 512 x (value + 1) bytes were looked at: they are the table. */
@@ -225,7 +235,7 @@ uint32_t ndushavire_version(void);
 /* The parts of a word: number << 48 | place << 32 | value. */
 static inline uint32_t ndushavire_number(uint64_t word) { return (uint32_t)(word >> 48); }
 
-/* Of an answer by ndushavire_decide: the place of the AVP at fault, the byte of the request at which it begins, counted from
+/* Of an answer by ndushavire_decide or ndushavire_plain: the place of the AVP at fault, the byte of the request at which it begins, counted from
  * the message's first byte, which is byte 0. So it is 20 or more, and at least 4 bytes of the request stand there, the AVP's
  * code; the rest of its header may be cut off. It is for the log, beside the peer, the result and the bytes from there on, as
  * examples/fault.h prints them. Of a fault within a group it is the group's place. Under B5014 the AVP before it may be the one
@@ -237,7 +247,7 @@ static inline uint32_t ndushavire_place(uint64_t word) { return (uint32_t)(word 
 /* The answer's length is this part alone: the word of an answer with a place is a far greater number. */
 static inline uint32_t ndushavire_value(uint64_t word) { return (uint32_t)(word & 0xFFFFFFFFu); }
 
-/* Of ndushavire_decide: whether there is an answer. */
+/* Of ndushavire_decide and ndushavire_plain: whether there is an answer. */
 static inline int ndushavire_answered(uint64_t word) { return ndushavire_number(word) == NDUSHAVIRE_DONE; }
 
 /* Of ndushavire_check and ndushavire_check_vectors: whether the file is sound. */

@@ -1,7 +1,7 @@
 #!/usr/bin/env bash
 # captured.sh ROOM MAKETABLE REFERENCE DECIDE..: each request in captured/, as real software sent it, gets from each DECIDE
 # what the independent program answers, with the result that its head names, rewrites the block that it should and uses the vectors
-# that it should, and no other, by either edition of the base standard and whatever features are supported, since none of them asks for any; and the AVP
+# that it should, and no other, by either engine and either edition of the base standard and whatever features are supported, since none of them asks for any; and the AVP
 # at fault is named in the two that have one. An address in a request has a word in its head. RUN, if set, is the emulator that runs a DECIDE.
 set -euo pipefail
 room=$1 maketable=$2 reference=$(cd "$(dirname "$3")" && pwd)/${3##*/}
@@ -83,7 +83,7 @@ for request in "$(dirname "$0")"/captured/*.hex; do
         for block in ${used[$name]-}; do echo "vector block $block used"; done
     } >"$room/expected"
     for decide in "$@"; do
-        for edition in '' '-e 3588' '-e 6733' '-f 0xFFFFFFFF' '-e 6733 -f 3'; do
+        for edition in '' -p '-e 3588' '-p -e 3588' '-e 6733' '-p -e 6733' '-f 0xFFFFFFFF' '-e 6733 -f 3' '-p -e 6733 -f 3'; do
             ${RUN:+"$RUN"} "$decide" $edition "$room/table" "$room/profile" "$room/vectors" "$request" >"$room/said" ||
                 fail "$name: $decide $edition does not answer"
             diff "$room/expected" "$room/said" >&2 || fail "$name: $decide $edition does otherwise than the independent program"
@@ -91,4 +91,4 @@ for request in "$(dirname "$0")"/captured/*.hex; do
     done
     tried=$((tried + 1))
 done
-echo "captured.sh: $tried requests of real software, each answered as it should be by both editions"
+echo "captured.sh: $tried requests of real software, each answered as it should be by both editions and both engines"

@@ -1,5 +1,5 @@
 #!/usr/bin/env bash
-# decide.sh ROOM MAKETABLE DECIDE..: each DECIDE gives the worked answer over the sample, the refusals that a request, a table
+# decide.sh ROOM MAKETABLE DECIDE..: each DECIDE gives, by either engine, the worked answer over the sample, the refusals that a request, a table
 # or a vector file can bring about, and says which vectors were used, and which AVP of a request is at fault; and over the family of
 # docs/TABLE.md what a set shares. Peers of both editions get the same, byte by byte, but for a second Vendor-Id; and so they do whatever features
 # are supported, unless they ask for some. RUN, if set, is the emulator that runs a DECIDE.
@@ -21,13 +21,15 @@ peer=() # the options -e and -f, if they are given
 
 # The request on standard input gets what the file EXPECTED has, and DECIDE ends with STATUS.
 gets() { # EXPECTED STATUS ABOUT
-    local decide status
+    local decide engine status
     cat >"$request"
     for decide in "${decides[@]}"; do
-        status=0
-        "${run[@]}" "$decide" "${peer[@]}" "$table" "$profile" "$vectors" "$request" >"$room/said" 2>"$room/errors" || status=$?
-        cmp -s "$room/said" "$1" || { echo "decide.sh: $3: $decide says"; cat "$room/said"; echo 'and should say'; cat "$1"; exit 1; } >&2
-        [ "$status" = "$2" ] || { echo "decide.sh: $3: $decide ends with status $status instead of $2"; cat "$room/errors"; exit 1; } >&2
+        for engine in '' -p; do
+            status=0
+            "${run[@]}" "$decide" $engine "${peer[@]}" "$table" "$profile" "$vectors" "$request" >"$room/said" 2>"$room/errors" || status=$?
+            cmp -s "$room/said" "$1" || { echo "decide.sh: $3: $decide $engine says"; cat "$room/said"; echo 'and should say'; cat "$1"; exit 1; } >&2
+            [ "$status" = "$2" ] || { echo "decide.sh: $3: $decide $engine ends with status $status instead of $2"; cat "$room/errors"; exit 1; } >&2
+        done
     done
     tried=$((tried + 1))
 }

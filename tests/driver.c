@@ -78,8 +78,13 @@ static uint64_t sh_decide(const struct lent *lent)
     return ndushavire_sh_decide(SLICE(0), SLICE(1), SLICE(2), SLICE(3), lent->number[0]);
 }
 
+static uint64_t plain(const struct lent *lent)
+{
+    return ndushavire_plain(SLICE(0), SLICE(1), SLICE(2), SLICE(3), SLICE(4), lent->number[0], lent->number[1]);
+}
+
 /* The entries by their number in the streams, from 1 on: a letter for each slice, r if it is lent to be read and w if
- * the entry may write to it; how many numbers; the call. Numbers 8 and 9 are those of entries that neither library has. */
+ * the entry may write to it; how many numbers; the call. Numbers 8, 9 and 11 are those of entries that neither library has. */
 static const struct entry {
     const char *slices;
     unsigned numbers;
@@ -95,6 +100,8 @@ static const struct entry {
     {NULL, 0, NULL},
     {NULL, 0, NULL},
     {"rrrw", 1, sh_decide},
+    {NULL, 0, NULL},
+    {"rwrww", 2, plain},
 };
 
 struct bytes {

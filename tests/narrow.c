@@ -28,6 +28,12 @@ uint64_t __real_ndushavire_decide(const uint8_t *request, size_t request_len, ui
 uint64_t __wrap_ndushavire_decide(const uint8_t *request, size_t request_len, uint8_t *table, size_t table_len, const uint8_t *profile,
                                   size_t profile_len, uint8_t *vectors, size_t vectors_len, uint8_t *answer, size_t answer_len, uint32_t peer,
                                   uint32_t features);
+uint64_t __real_ndushavire_plain(const uint8_t *request, size_t request_len, uint8_t *table, size_t table_len, const uint8_t *profile,
+                                 size_t profile_len, uint8_t *vectors, size_t vectors_len, uint8_t *answer, size_t answer_len, uint32_t peer,
+                                 uint32_t features);
+uint64_t __wrap_ndushavire_plain(const uint8_t *request, size_t request_len, uint8_t *table, size_t table_len, const uint8_t *profile,
+                                 size_t profile_len, uint8_t *vectors, size_t vectors_len, uint8_t *answer, size_t answer_len, uint32_t peer,
+                                 uint32_t features);
 uint64_t __real_ndushavire_report(const uint8_t *requests, size_t requests_len, uint8_t *table, size_t table_len, const uint8_t *profile,
                                   size_t profile_len, uint8_t *vectors, size_t vectors_len, uint8_t *answer, size_t answer_len, uint8_t *report,
                                   size_t report_len, uint32_t peer, uint32_t features);
@@ -63,6 +69,7 @@ static struct {
 static void check(void) { lent.word = __real_ndushavire_check(READ(0), READ(1)); }
 static void check_vectors(void) { lent.word = __real_ndushavire_check_vectors(READ(0)); }
 static void decide(void) { lent.word = __real_ndushavire_decide(READ(0), WRITTEN(1), READ(2), WRITTEN(3), WRITTEN(4), NUMBERS); }
+static void plain(void) { lent.word = __real_ndushavire_plain(READ(0), WRITTEN(1), READ(2), WRITTEN(3), WRITTEN(4), NUMBERS); }
 static void report(void) { lent.word = __real_ndushavire_report(READ(0), WRITTEN(1), READ(2), WRITTEN(3), WRITTEN(4), WRITTEN(5), NUMBERS); }
 static void forward(void) { lent.word = __real_ndushavire_forward(WRITTEN(0), READ(1), lent.number[0]); }
 static void back(void) { lent.word = __real_ndushavire_back(WRITTEN(0), READ(1)); }
@@ -165,9 +172,10 @@ uint64_t __wrap_ndushavire_check_vectors(const uint8_t *vectors, size_t vectors_
     return narrow(check_vectors);
 }
 
-uint64_t __wrap_ndushavire_decide(const uint8_t *request, size_t request_len, uint8_t *table, size_t table_len, const uint8_t *profile,
-                                  size_t profile_len, uint8_t *vectors, size_t vectors_len, uint8_t *answer, size_t answer_len, uint32_t peer,
-                                  uint32_t features)
+/* Both engines are lent the same. */
+static uint64_t narrow_engine(void (*engine)(void), const uint8_t *request, size_t request_len, uint8_t *table, size_t table_len,
+                              const uint8_t *profile, size_t profile_len, uint8_t *vectors, size_t vectors_len, uint8_t *answer, size_t answer_len,
+                              uint32_t peer, uint32_t features)
 {
     lend_read(0, request, request_len);
     lend_written(1, table, table_len);
@@ -176,7 +184,21 @@ uint64_t __wrap_ndushavire_decide(const uint8_t *request, size_t request_len, ui
     lend_written(4, answer, answer_len);
     lent.number[0] = peer;
     lent.number[1] = features;
-    return narrow(decide);
+    return narrow(engine);
+}
+
+uint64_t __wrap_ndushavire_decide(const uint8_t *request, size_t request_len, uint8_t *table, size_t table_len, const uint8_t *profile,
+                                  size_t profile_len, uint8_t *vectors, size_t vectors_len, uint8_t *answer, size_t answer_len, uint32_t peer,
+                                  uint32_t features)
+{
+    return narrow_engine(decide, request, request_len, table, table_len, profile, profile_len, vectors, vectors_len, answer, answer_len, peer, features);
+}
+
+uint64_t __wrap_ndushavire_plain(const uint8_t *request, size_t request_len, uint8_t *table, size_t table_len, const uint8_t *profile,
+                                 size_t profile_len, uint8_t *vectors, size_t vectors_len, uint8_t *answer, size_t answer_len, uint32_t peer,
+                                 uint32_t features)
+{
+    return narrow_engine(plain, request, request_len, table, table_len, profile, profile_len, vectors, vectors_len, answer, answer_len, peer, features);
 }
 
 uint64_t __wrap_ndushavire_report(const uint8_t *requests, size_t requests_len, uint8_t *table, size_t table_len, const uint8_t *profile,

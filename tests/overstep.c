@@ -1,7 +1,7 @@
 /*
- * Libraries that overstep: they stand between the driver and the two checks and the decision of Sh, say what each says, and alter a
- * byte that is not theirs to alter, around or inside of the last slice, or of the table that Sh only reads. OVERSTEP in the environment
- * says which; the driver must tell of it.
+ * Libraries that overstep: they stand between the driver and the two checks, the plain engine and the decision of Sh, say what each says,
+ * and alter a byte that is not theirs to alter, around or inside of the last slice, or of the profile file or table that an engine only reads.
+ * OVERSTEP in the environment says which; the driver must tell of it.
  */
 #include <stddef.h>
 #include <stdint.h>
@@ -13,6 +13,12 @@ uint64_t __real_ndushavire_check(const uint8_t *table, size_t table_len, const u
 uint64_t __wrap_ndushavire_check(const uint8_t *table, size_t table_len, const uint8_t *profile, size_t profile_len);
 uint64_t __real_ndushavire_check_vectors(const uint8_t *vectors, size_t vectors_len);
 uint64_t __wrap_ndushavire_check_vectors(const uint8_t *vectors, size_t vectors_len);
+uint64_t __real_ndushavire_plain(const uint8_t *request, size_t request_len, uint8_t *table, size_t table_len, const uint8_t *profile,
+                                 size_t profile_len, uint8_t *vectors, size_t vectors_len, uint8_t *answer, size_t answer_len, uint32_t peer,
+                                 uint32_t features);
+uint64_t __wrap_ndushavire_plain(const uint8_t *request, size_t request_len, uint8_t *table, size_t table_len, const uint8_t *profile,
+                                 size_t profile_len, uint8_t *vectors, size_t vectors_len, uint8_t *answer, size_t answer_len, uint32_t peer,
+                                 uint32_t features);
 uint64_t __real_ndushavire_sh_decide(const uint8_t *request, size_t request_len, const uint8_t *table, size_t table_len, const uint8_t *profile,
                                      size_t profile_len, uint8_t *answer, size_t answer_len, uint32_t peer);
 uint64_t __wrap_ndushavire_sh_decide(const uint8_t *request, size_t request_len, const uint8_t *table, size_t table_len, const uint8_t *profile,
@@ -44,6 +50,17 @@ uint64_t __wrap_ndushavire_check_vectors(const uint8_t *vectors, size_t vectors_
     uint64_t word = __real_ndushavire_check_vectors(vectors, vectors_len);
 
     overstep(vectors, vectors_len);
+    return word;
+}
+
+uint64_t __wrap_ndushavire_plain(const uint8_t *request, size_t request_len, uint8_t *table, size_t table_len, const uint8_t *profile,
+                                 size_t profile_len, uint8_t *vectors, size_t vectors_len, uint8_t *answer, size_t answer_len, uint32_t peer,
+                                 uint32_t features)
+{
+    uint64_t word = __real_ndushavire_plain(request, request_len, table, table_len, profile, profile_len, vectors, vectors_len, answer,
+                                            answer_len, peer, features);
+
+    overstep(profile, profile_len);
     return word;
 }
 

@@ -23,6 +23,7 @@ STATEMENTS = {
     'demands/Firm': ANY,
     'demands/Peers': '02 [10]',
     'demands/Place': '02 [2]',
+    'demands/Plain': '02 [13]',
     'demands/Sets': '02 [6]',
     'demands/TakingOver': '02 [8]',
     'demands/Together': '02 [6]',
@@ -45,7 +46,7 @@ STATEMENTS = {
 WITH_STEPS = {'rewrite/Reaching', 'seen_alike/Likeness'}
 # Modules of proofs/, in whatever crate, that docs/PROVED.md cites under "Proved" and that are no such pages: examples, instances, wrong servers, single laws.
 NO_STATEMENTS = set('''
-    Areas Challenges Editions Escaping Examples Family Features Members Moves Peers Readings Room Servers Sole Sound TakeOvers Worked
+    Areas AsWalked Challenges Editions Escaping Examples Family Features Listing Members Moves Peers Reached Readings Room Same Servers Sole Sound TakeOvers Worked
 '''.split())
 # The crates that have wrong servers or wrong reporters, each with a theorem `.. -fails`.
 WRONG = ('report_example', 'sets_example', 'sh_example', 'taking_example', 'wrong_servers')

@@ -45,6 +45,8 @@ int main(void) {
     wrong |= ndushavire_version() != NDUSHAVIRE_VERSION_NUMBER || ndushavire_check(table, 512, request, 0) != (uint64_t)5 << 48;
     wrong |= ndushavire_decide(request, 20, table, 512, request, 0, vectors, 0, answer, sizeof answer, 3588, 0) != (uint64_t)5 << 48;
     wrong |= ndushavire_decide(request, 20, table, 512, request, 0, vectors, 0, answer, sizeof answer, 0, 0) != (uint64_t)12 << 48;
+    wrong |= ndushavire_plain(request, 20, table, 512, request, 0, vectors, 0, answer, sizeof answer, 3588, 0) != (uint64_t)5 << 48;
+    wrong |= ndushavire_plain(request, 20, table, 512, request, 0, vectors, 0, answer, sizeof answer, 0, 0) != (uint64_t)12 << 48;
 #endif
 #if SH
     wrong |= ndushavire_sh_decide(request, 20, table, 512, request, 0, answer, sizeof answer, 3588) != (uint64_t)5 << 48;

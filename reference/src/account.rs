@@ -22,13 +22,16 @@ pub fn word(entry: Entry, outcome: &Outcome) -> String {
         (Entry::Check, 5) => format!("block {value} is bad{place}"),
         (Entry::CheckVectors, 0) => format!("sound, {value} vectors{place}"),
         (Entry::CheckVectors, 6) => format!("vector block {value} is bad{place}"),
-        (Entry::Decide | Entry::ShDecide, 0) => format!("answered with {value} bytes{place}"),
+        (Entry::Decide | Entry::ShDecide | Entry::Plain, 0) => format!("answered with {value} bytes{place}"),
         (Entry::Forward | Entry::Back, 0) => format!("moved, {value} records{place}"),
         (Entry::Take, 0) => format!("taken over, {value} records{place}"),
         (Entry::Export, 0) => format!("exported to {value} bytes{place}"),
         (Entry::Export, 13) => format!("block {value} cannot be listed{place}"),
         (Entry::Import, 0) => format!("imported to {value} bytes{place}"),
         (Entry::Import, 14) => format!("no export has line {value}{place}"),
+        (Entry::Row, 0) => format!("a row of {value} words to the file's end{place}"),
+        (Entry::Row, 7) => format!("a row of {value} words up to a broken piece{place}"),
+        (Entry::Row, 15) => format!("a row of {value} words up to its room's end{place}"),
         (Entry::Report, 0) => format!("reported to the file's end, value {value}{place}"),
         (Entry::Report, 7) => format!("reported up to a broken piece, value {value}{place}"),
         (_, number) => format!("refused {number}, value {value}{place}"),
@@ -131,7 +134,7 @@ fn changed(name: &str, before: &[u8], own: &Change, given: &Change) {
 
 pub fn answer(whose: &str, case: &Case, outcome: &Outcome) {
     let (number, _, value) = outcome.parts();
-    let decides = [Entry::Decide, Entry::ShDecide].contains(&case.entry);
+    let decides = [Entry::Decide, Entry::ShDecide, Entry::Plain].contains(&case.entry);
     if let (true, 0, Some(buffer)) = (decides, number, case.after(outcome, Slice::Buffer)) {
         println!("  the answer of {whose}:\n{}", lines(&buffer[..(value as usize).min(buffer.len())]));
     }

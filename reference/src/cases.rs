@@ -3,11 +3,14 @@
 use std::borrow::Cow;
 
 use self::Lent::{Read, Written};
-use self::Slice::{Area, Buffer, Fresh, Header, List, Profile, Report, Request, Requests, Table, Vectors};
+use self::Slice::{
+    Answers, Area, Buffer, Fresh, Header, List, Profile, Report, Request, Requests, Table, Vectors, Words,
+};
 use crate::kinds::Dialect;
 use crate::list;
 use crate::moves;
 use crate::report;
+use crate::row;
 use crate::serve;
 use crate::sh;
 use crate::slip::Slip;
@@ -36,6 +39,10 @@ pub enum Entry {
     Import = 9,
     /// The decision of Sh.
     ShDecide = 10,
+    /// The decision over requests laid end to end.
+    Row = 11,
+    /// The plain engine, which decides the same.
+    Plain = 12,
 }
 
 #[derive(Clone, Copy, PartialEq, Eq, Debug)]
@@ -55,6 +62,9 @@ pub enum Slice {
     List,
     /// A table's header block, without its records.
     Header,
+    /// Of a row: its answers one behind another, and its words.
+    Answers,
+    Words,
 }
 
 /// A slice that an entry takes: to read it, or to write to it too.
@@ -64,10 +74,13 @@ pub enum Lent {
     Written(Slice),
 }
 
+/// What a decision takes, by either engine.
+const DECIDED: &[Lent] = &[Read(Request), Written(Table), Read(Profile), Written(Vectors), Written(Buffer)];
+
 /// Each entry, the slices that it takes, and how many numbers come behind them.
-const ENTRIES: [(Entry, &[Lent], usize); 10] = [
+const ENTRIES: [(Entry, &[Lent], usize); 12] = [
     (Entry::Check, &[Read(Table), Read(Profile)], 0),
-    (Entry::Decide, &[Read(Request), Written(Table), Read(Profile), Written(Vectors), Written(Buffer)], 2),
+    (Entry::Decide, DECIDED, 2),
     (Entry::CheckVectors, &[Read(Vectors)], 0),
     (
         Entry::Report,
@@ -80,6 +93,12 @@ const ENTRIES: [(Entry, &[Lent], usize); 10] = [
     (Entry::Export, &[Read(Table), Read(Profile), Written(List)], 0),
     (Entry::Import, &[Read(List), Read(Header), Read(Profile), Written(Table)], 0),
     (Entry::ShDecide, &[Read(Request), Read(Table), Read(Profile), Written(Buffer)], 1),
+    (
+        Entry::Row,
+        &[Read(Requests), Written(Table), Read(Profile), Written(Vectors), Written(Answers), Written(Words)],
+        2,
+    ),
+    (Entry::Plain, DECIDED, 2),
 ];
 
 /// What a slice holds before the call.
@@ -277,6 +296,11 @@ impl Case {
         Case { entry: Entry::Report, fill, slices, numbers: stated.numbers() }
     }
 
+    /// A row over these files, with so many bytes for answers and for words.
+    pub fn row(fill: u8, requests: Vec<u8>, files: [Vec<u8>; 3], answers: usize, words: usize, stated: Stated) -> Case {
+        Case { entry: Entry::Row, ..Case::report(fill, requests, files, answers, words, stated) }
+    }
+
     /// A move forward, with an issue number, or back.
     pub fn moved(fill: u8, table: Vec<u8>, profile: Vec<u8>, issue: Option<u32>) -> Case {
         let entry = if issue.is_some() { Entry::Forward } else { Entry::Back };
@@ -363,6 +387,7 @@ impl Case {
     }
 
     pub fn outcome_and_why(&self, slip: Slip) -> (Outcome, Why) {
+        let slip = if self.entry == Entry::Plain { slip } else { slip.in_others() };
         let before: Vec<Cow<[u8]>> = self.slices.iter().map(|held| held.bytes(self.fill)).collect();
         let mut lent: Vec<Cow<[u8]>> = before.iter().map(|bytes| Cow::Borrowed(&bytes[..])).collect();
         let (word, why) = match (self.entry, &mut lent[..]) {
@@ -370,9 +395,10 @@ impl Case {
                 let found = table::check_with(table, profile.len(), slip);
                 (serve::check_word(5, found), Why::Checked(found))
             }
-            (Entry::Decide, [request, table, profile, vectors, buffer]) => {
+            (entry @ (Entry::Decide | Entry::Plain), [request, table, profile, vectors, buffer]) => {
                 let (table, vectors, buffer) = (table.to_mut(), vectors.to_mut(), buffer.to_mut());
-                serve::serve(request, table, profile, vectors, buffer, self.stated(), slip)
+                let engine = if entry == Entry::Plain { serve::plain } else { serve::serve };
+                engine(request, table, profile, vectors, buffer, self.stated(), slip)
             }
             (Entry::CheckVectors, [vectors]) => {
                 let found = vectors::check_with(vectors, slip);
@@ -386,6 +412,18 @@ impl Case {
                     vectors: vectors.to_mut(),
                     buffer: buffer.to_mut(),
                     report: report.to_mut(),
+                    stated: self.stated(),
+                },
+                slip,
+            ),
+            (Entry::Row, [requests, table, profile, vectors, answers, words]) => row::row(
+                row::Lent {
+                    requests,
+                    table: table.to_mut(),
+                    profile,
+                    vectors: vectors.to_mut(),
+                    answers: answers.to_mut(),
+                    words: words.to_mut(),
                     stated: self.stated(),
                 },
                 slip,

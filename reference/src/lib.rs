@@ -38,6 +38,9 @@ pub mod report;
 pub mod sh;
 pub mod show;
 
+// A row of calls.
+pub mod row;
+
 // A call of an entry.
 pub mod cases;
 
@@ -54,5 +57,6 @@ pub mod stats;
 pub mod compare;
 
 pub mod demand3;
+pub mod engines;
 pub mod neighbours;
 pub mod runs;

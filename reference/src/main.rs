@@ -8,6 +8,7 @@ use reference::cases::Case;
 use reference::compare;
 use reference::cuts;
 use reference::demand3;
+use reference::engines;
 use reference::gen::{self, Stream};
 use reference::kinds::Dialect;
 use reference::mutants;
@@ -30,7 +31,7 @@ reference faults   [--silent]                               list the deliberate 
 reference mutants  --seed S [--from F] --count N            whether each deliberate fault is noticed
 reference cuts     --seed S [--from F] --count N [--fault NAME]
                                                             what the areas of cut take-overs read as
-kinds: tables, vectors, calls, reports, moves, takes, lists, voicemail;
+kinds: tables, vectors, calls, reports, moves, takes, lists, voicemail, rows, plain;
 compare and stats alone: neighbours, neighbours-voicemail; compare alone: demand3, demand3-voicemail, runs, breaches";
 
 fn main() -> ExitCode {
@@ -76,6 +77,7 @@ fn run(arguments: &[String]) -> Result<bool, String> {
                 Some("neighbours") => neighbours::compare(Dialect::Cx, seed, numbers, command),
                 Some("neighbours-voicemail") => neighbours::compare(Dialect::Sh, seed, numbers, command),
                 Some("breaches") => neighbours::breaches(seed, numbers, command),
+                Some("plain") => engines::compare(seed, numbers, command),
                 Some("runs") => runs::compare(seed, numbers, command),
                 _ => compare::compare(options.stream()?, seed, numbers, command),
             }

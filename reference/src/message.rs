@@ -145,6 +145,19 @@ impl<'a> Received<'a> {
         Ok((avp, Received { at: self.at + end, bytes: bytes.get(end..).unwrap_or(&[]) }))
     }
 
+    /// At how many places AVPs begin, up to the first length fault and with it.
+    pub fn places(self) -> usize {
+        let (mut places, mut rest) = (0, self);
+        while !rest.is_empty() {
+            places += 1;
+            match rest.first(Slip::NONE) {
+                Ok((_, after)) => rest = after,
+                Err(_) => break,
+            }
+        }
+        places
+    }
+
     /// The AVPs before the first length fault.
     pub fn sound(self, slip: Slip) -> Vec<Avp<'a>> {
         let mut avps = Vec::new();

@@ -3,7 +3,7 @@
 use std::ops::Range;
 
 use crate::gen::{make, Stream, STREAMS};
-use crate::slip::{Fault, Slip, FAULTS, SILENT};
+use crate::slip::{is_plains, Fault, Slip, FAULTS, SILENT};
 
 /// Prints for each fault after how many cases one shows it; true if every fault is noticed, and none of those that no case can show.
 pub fn mutants(seed: u64, numbers: Range<u64>) -> bool {
@@ -15,7 +15,9 @@ pub fn mutants(seed: u64, numbers: Range<u64>) -> bool {
             let truly = case.outcome(Slip::NONE);
             let all = noticed.iter_mut().zip(FAULTS).chain(heard.iter_mut().zip(SILENT));
             for (place, (fault, _)) in all {
-                if place.is_none() && case.outcome(Slip::of(*fault)) != truly {
+                // The plain engine's cases are those of `calls`: only what it alone does wrong shows there first.
+                let is_asked = (stream == Stream::Plain) == is_plains(*fault);
+                if is_asked && place.is_none() && case.outcome(Slip::of(*fault)) != truly {
                     *place = Some((stream, tried));
                 }
             }

@@ -16,6 +16,53 @@ impl Slip {
     pub fn is(self, fault: Fault) -> bool {
         self.0 == Some(fault)
     }
+
+    /// As the plain engine has it: a fault that it alone has is one of its own, or one that the others could have too.
+    pub fn in_plain(self) -> Slip {
+        match PLAIN.iter().find(|(own, _)| self.is(*own)) {
+            Some((_, done)) => Slip::of(*done),
+            None => self,
+        }
+    }
+
+    /// As every other entry has it: what the plain engine alone does wrong is no fault there.
+    pub fn in_others(self) -> Slip {
+        match self.0 {
+            Some(fault) if is_plains(fault) => Slip::NONE,
+            _ => self,
+        }
+    }
+}
+
+/// The faults that the plain engine alone has, and what each is when it is done.
+const PLAIN: &[(Fault, Fault)] = &[
+    (Fault::PlainListOf2045, Fault::PlainListOf2045),
+    (Fault::PlainListOf1024, Fault::PlainListOf1024),
+    (Fault::PlainCutOffNotListed, Fault::PlainCutOffNotListed),
+    (Fault::PlainPlacesIn12Bits, Fault::PlainPlacesIn12Bits),
+    (Fault::PlainByLetter, Fault::PlainByLetter),
+    (Fault::PlainLastFault, Fault::PlainLastFault),
+    (Fault::PlainSeveralVendorsLast, Fault::SeveralVendorsAfterMissing),
+    (Fault::PlainJudgesUnnamed, Fault::UnnamedJudged),
+    (Fault::PlainFirstRuleEverywhere, Fault::PlainFirstRuleEverywhere),
+    (Fault::PlainCountsNeighbours, Fault::PlainCountsNeighbours),
+    (Fault::PlainProxyInfoUpToFault, Fault::ProxyInfoUpToFault),
+    (Fault::PlainOwnListPastLengthFault, Fault::OwnListPastLengthFault),
+    (Fault::PlainOwnListUpToFault, Fault::OwnListUpToFault),
+    (Fault::PlainPlaceNeverTold, Fault::PlaceNeverTold),
+    (Fault::PlainPeerLast, Fault::PeerLast),
+    (Fault::PlainVectorsNotAsked, Fault::VectorsNotAsked),
+    (Fault::PlainNeighboursMustAgree, Fault::NeighboursMustAgree),
+    (Fault::PlainLastRecordNotFound, Fault::LastRecordNotFound),
+    (Fault::PlainFeaturesNotAsked, Fault::FeaturesNotAsked),
+    (Fault::PlainPendingStays, Fault::PendingStays),
+    (Fault::PlainUsedSentAgain, Fault::UsedSentAgain),
+    (Fault::PlainClearsRestOfBuffer, Fault::RestOfBufferCleared),
+];
+
+/// Whether the plain engine alone has it.
+pub fn is_plains(fault: Fault) -> bool {
+    PLAIN.iter().any(|(own, _)| *own == fault)
 }
 
 macro_rules! faults {
@@ -1276,6 +1323,78 @@ faults! {
     ConfidentialityKeyLeftOut: "an item has no 625",
     KeysLeftOut: "an item has no keys",
 
+    // The row.
+    RowShortBeforeEnd: "a row at the file's end and without room stops by 15",
+    RowShortBeforeBroken: "a row at a broken request and without room stops by 15",
+    RowEndIsBroken: "a row that is used up ends by 7",
+    RowBrokenIsEnd: "a row ends by 0 at a broken request",
+    RowBrokenCounted: "a row's word counts the broken request",
+    RowShortIsEleven: "a row without room stops by 11",
+    RowAnswersNotAsked: "a row does not ask for room for an answer",
+    RowWordsNotAsked: "a row does not ask for room for a word",
+    RowLeastAnswersRefused: "a row needs more than 36,864 bytes for an answer",
+    RowAnswersByteShortTaken: "a row takes 36,863 bytes for an answer",
+    RowLeastWordsRefused: "a row needs more than 8 bytes for a word",
+    RowWordsByteShortTaken: "a row takes 7 bytes for a word",
+    RowNeedsRoomForAll: "a row needs room for the longest answers to all requests before it begins",
+    RowNeedsWordsForAll: "a row needs room for the words of all requests before it begins",
+    RowStopUndone: "a row that stops by 7 or 15 leaves table and vectors as they came",
+    RowStopClearsWords: "a row that stops by 7 or 15 clears its words",
+    RowStopsAtRefusal: "a row stops at the first refused request",
+    RowPeerRefusesAll: "an unknown peer edition refuses a row",
+    RowUnsoundTableRefusesAll: "an unsound table refuses a row",
+    RowUnsoundVectorsRefuseAll: "an unsound vector file refuses a row",
+    RowTableNotCarried: "each request of a row finds the table as it came",
+    RowVectorsNotCarried: "each request of a row finds the vectors as they came",
+    RowOfOlderPeers: "each request of a row is of a peer that follows RFC 3588",
+    RowOfNoFeatures: "each request of a row meets an empty set of features",
+    RowRefusedUnworded: "a refused request of a row has no word",
+    RowRefusedTakesRoom: "a refused request of a row has room among the answers",
+    RowAnswersOverwritten: "the answers of a row are written over one another",
+    RowAnswersInSlots: "the answers of a row begin 36,864 bytes apart",
+    RowWordsLittleEndian: "the words of a row have their lowest byte first",
+    RowWordsOf4Bytes: "the words of a row have 4 bytes",
+    RowWordsWithoutPlace: "the words of a row have no place",
+    RowWordsWithoutNumber: "the words of a row have no number",
+    RestOfRowAnswersCleared: "a row clears what is past its answers",
+    RestOfRowWordsCleared: "a row clears what is past its words",
+    RowAlteredNotTold: "a row's own word does not tell of altered records",
+    RowMarkedNotTold: "a row's own word does not tell of marked vectors",
+    RowFlagsTurned: "a row's own word has 2 for altered records and 1 for marked vectors",
+    RowMarkedIsAltered: "a row's own word takes a marked vector for an altered record too",
+    RowAlteredByRewriting: "a row's own word takes a record rewritten to what it was for an altered one",
+    RowAlteredAtEnd: "a row's own word tells only of records that are other ones at the end",
+    RowAlteredByLast: "a row's own word tells only of records that the last request altered",
+    RowAlteredCounted: "a row's own word counts the altered records",
+    RowTellsAnswered: "a row answers how many requests were answered",
+    RowTellsBytes: "a row answers how many bytes its answers have",
+    RowTellsStop: "a row answers the byte at which it stopped",
+    RowTellsZero: "a row answers 0",
+
+    // The plain engine alone: its list, its passes, and what it shares with no other.
+    PlainListOf2045: "the plain engine lists 2,045 places",
+    PlainListOf1024: "the plain engine lists 1,024 places",
+    PlainCutOffNotListed: "the plain engine does not list an AVP whose header is cut off",
+    PlainPlacesIn12Bits: "the plain engine tells places in 12 bits",
+    PlainByLetter: "the plain engine picks the fault by its letter, then by its place",
+    PlainLastFault: "the plain engine picks the fault that comes last",
+    PlainSeveralVendorsLast: "the plain engine asks for several Vendor-Ids after what is missing",
+    PlainJudgesUnnamed: "the plain engine judges known kinds that the command does not name",
+    PlainFirstRuleEverywhere: "the plain engine asks (b) of every AVP",
+    PlainCountsNeighbours: "the plain engine asks (f) only of AVPs behind one of their own kind",
+    PlainProxyInfoUpToFault: "the plain engine copies Proxy-Info up to the faulty AVP",
+    PlainOwnListPastLengthFault: "the plain engine sees a 628 behind a length fault",
+    PlainOwnListUpToFault: "the plain engine sees a 628 up to the faulty AVP",
+    PlainPlaceNeverTold: "the plain engine tells place 0 always",
+    PlainPeerLast: "the plain engine gives refusal 12 after 6",
+    PlainVectorsNotAsked: "the plain engine never gives refusal 6",
+    PlainNeighboursMustAgree: "the plain engine compares only records of a set that follow one another",
+    PlainLastRecordNotFound: "the plain engine does not look at the last record",
+    PlainFeaturesNotAsked: "the plain engine never gives X5011",
+    PlainPendingStays: "the plain engine leaves the pending bit",
+    PlainUsedSentAgain: "the plain engine sends used vectors again",
+    PlainClearsRestOfBuffer: "the plain engine clears the buffer past the answer",
+
     // The voicemail box: calls and reading.
     PeerNotAskedInSh: "the Sh entry takes any peer edition",
     LongerAreaRefusedInSh: "the Sh entry refuses bytes past the table",
@@ -1428,4 +1547,20 @@ faults! {
 
 pub fn by_name(name: &str) -> Option<Fault> {
     FAULTS.iter().chain(SILENT).map(|(fault, _)| *fault).find(|fault| format!("{fault:?}") == name)
+}
+
+#[cfg(test)]
+mod tests {
+    use super::*;
+
+    #[test]
+    fn the_plain_engines_faults_are_those_that_are_named_so() {
+        for (fault, _) in FAULTS {
+            assert_eq!(is_plains(*fault), format!("{fault:?}").starts_with("Plain"), "{fault:?}");
+            assert_eq!(is_plains(*fault), Slip::of(*fault).in_others().0.is_none());
+        }
+        for (_, done) in PLAIN {
+            assert!(Slip::of(*done).in_plain().is(*done));
+        }
+    }
 }

@@ -183,6 +183,17 @@ mod tests {
         assert_eq!(stream[20..24], [0, 0, 26, 77]);
         assert_eq!(Case::read(&mut &stream[..]).unwrap(), Some(voicemail));
 
+        let row = Case::row(9, vec![1, 2, 3], [vec![4; 512], vec![], vec![7; 5]], 36_864, 16, Stated::NEWER);
+        let stream = written(&row);
+        assert_eq!(stream[..4], [11, 9, 6, 2]);
+        assert_eq!(stream[20..36], [0xC0, 0, 0x90, 0, 0xC0, 0, 0, 16, 0, 0, 26, 77, 0, 0, 0, 0]);
+        assert_eq!(Case::read(&mut &stream[..]).unwrap(), Some(row));
+
+        let plain = Case { entry: Entry::Plain, ..decide() };
+        let stream = written(&plain);
+        assert_eq!((stream[0], &stream[1..]), (12, &written(&decide())[1..]));
+        assert_eq!(Case::read(&mut &stream[..]).unwrap(), Some(plain));
+
         let outcome = Outcome {
             word: 5 << 48 | 3,
             altered: 0,

@@ -52,6 +52,8 @@ pub enum Why {
     Listed(Result<u32, Refusal>),
     /// A report was made, to the end of its file or not.
     Reported,
+    /// A row was decided, to the end of its file or not.
+    Rowed,
     Refused(u32),
     /// A fault of the header, with its result.
     Header(u32),

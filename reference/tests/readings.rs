@@ -17,7 +17,7 @@ fn spans(column: &str) -> impl Iterator<Item = &str> {
 }
 
 /// Each request's heading, and its readings that cases can show.
-fn requests() -> [(&'static str, Vec<u32>); 10] {
+fn requests() -> [(&'static str, Vec<u32>); 12] {
     [
         // 19 is about programs over files.
         ("The authentication request", (1..=25).filter(|number| *number != 19).collect()),
@@ -35,6 +35,9 @@ fn requests() -> [(&'static str, Vec<u32>); 10] {
         // 15 is about crates.
         ("The voicemail box", (1..=14).collect()),
         ("A list for the billing desk", (1..=14).collect()),
+        ("The row", (1..=3).collect()),
+        // 5 is about the stack, 6 about crates.
+        ("The plain engine", (1..=4).collect()),
     ]
 }
 
@@ -78,7 +81,9 @@ fn every_fault_about_a_request_goes_against_a_reading() {
     let of_lists = ["export", "import", "listed", "a list", " line", "refusal 13", "refusal 14", "refusal 15"];
     let is_about = |what: &str| {
         let before = [&words[..], &of_place, &of_report, &of_editions, &of_sets, &of_areas, &of_peers, &of_features];
-        let all = [before.concat(), of_lists.to_vec(), of_voicemail.to_vec()].concat();
+        let all =
+            [before.concat(), of_lists.to_vec(), of_voicemail.to_vec(), vec!["a row", "of a row", "the plain engine"]]
+                .concat();
         all.into_iter().any(|word| what.contains(word))
     };
     for (fault, what) in FAULTS.iter().filter(|(_, what)| is_about(what)) {

@@ -25,6 +25,7 @@ pub mod NamedTwice
 pub mod PeerCalls
 pub mod Peers
 pub mod Place
+pub mod Plain
 pub mod Refusals
 pub mod Results
 pub mod Rows

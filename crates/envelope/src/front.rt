@@ -26,7 +26,7 @@ fn put_result(out: &mut [u8], o: Outcome) -> usize
 }
 
 // A Session-Id, the application, the result, and 277 of 1.
-fn put_start(out: &mut [u8], session: &[u8], terms: Terms, o: Outcome) -> usize
+pub fn put_start(out: &mut [u8], session: &[u8], terms: Terms, o: Outcome) -> usize
     requires { ⌜ copiedSize (length (now session)) + 32 + length (resultBytes o) + 12 ≤ length (now out) ⌝ }
     ensures { λ r. ⌜ (r ≤ length (now (out .entry))) × Wrote (frontBytes terms (now (session .entry)) o) (now (out .entry)) (now (out .exit)) r ⌝ }
 {

@@ -13,7 +13,7 @@ ghost use Rattle.failed.specs.Failing.{failedBy};
 ghost use Rattle.envelope.specs.End.{failedPart, proxy, proxies, endBytes};
 
 // Failed-AVP, where there is one.
-fn put_failed(out: &mut [u8], req: &[u8], v: Verdict) -> usize
+pub fn put_failed(out: &mut [u8], req: &[u8], v: Verdict) -> usize
     requires { ⌜ length (failedPart (failedBy (now req) v)) ≤ length (now out) ⌝ }
     ensures { λ r. ⌜ Wrote (failedPart (failedBy (now (req .entry)) v)) (now (out .entry)) (now (out .exit)) r ⌝ }
 {

@@ -24,6 +24,7 @@ use Rattle.worked_examples.proofs.Sample.{header, room, request, answer, s, z}
 use Rattle.demands.specs.Call.{turnedAway, answerTo}
 use Rattle.demands.specs.Frame.{succeeds, subscriptionOf}
 use Rattle.demands.proofs.Demands.{promised, promised-table, promised-exact, checked, checked-vectors, demand-1, demand-1-number, demand-1-none}
+use Rattle.demands.proofs.Plain.{plain-same}
 use Rattle.demands.proofs.Demands.{demand-1-block, demand-1-length, demand-1-fits, demand-1-within, demand-1-word, demand-1-kept, demand-2}
 use Rattle.demands.proofs.Demands.{demand-2-failure, demand-2-others, demand-2-header, demand-2-bytes, demand-2-bits, demand-2-size, demand-2-sound}
 use Rattle.demands.proofs.Demands.{demand-2-question, demand-2-room, demand-2-past}
@@ -67,6 +68,10 @@ promise = record { word-is = sym (ap callWord removal-call); table-is = refl; ve
 
 met-promised : serve (asked (sar s 5)) .call ≡ Answered (record { length = 116; place = 0 })
 met-promised = ap (λ (x : Served). x .call) (promised (asked (sar s 5)) {r = 116} promise)
+
+-- so it is what the plain engine returns
+met-plain : {r : ℕ} {t v o : List ℕ} → DecidePromise (asked (sar s 5)) r t v o → r ≡ 116
+met-plain p = plain-same (asked (sar s 5)) p promise .0
 
 met-promised-table : serveTable (tableOnly (asked (sar s 5))) .call ≡ Answered (record { length = 116; place = 0 })
 met-promised-table = ap (λ (x : Served). x .call) (promised-table (asked (sar s 5)) {r = 116} promise)

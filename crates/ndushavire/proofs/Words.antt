@@ -7,6 +7,8 @@ use Rattle.calling.specs.Leaves.{callOf, Comes}
 use Rattle.calling.specs.Lent.{Lent}
 use Rattle.calling.specs.Serve.{serve}
 use Rattle.calling.specs.declared.Came.{Came}
+use Rattle.plain_calling.specs.Comes as plain
+use Rattle.plain_calling.specs.declared.Came as came
 use Rattle.moving.specs.Outcomes.{AfterMove, came, forward, back}
 use Rattle.moving.specs.declared.Move.{Move}
 use Rattle.reporting.specs.Counts.{Reports}
@@ -26,6 +28,12 @@ vectors-kept vectors c r e f = record { answer = f ∙ ap (checkWord 6) e }
 -- The call as a word.
 pub word-promised : (x : Lent) {c : Came} {w : ℕ} {t' v' o' : List ℕ} → Comes (serve x) c t' v' o' → w ≡ callWord (callOf c) → DecidePromise x w t' v' o'
 word-promised x s e =
+    record { word-is = e ∙ ap callWord (s .call-is); table-is = s .table-is; vectors-is = s .vectors-is; buffer-is = s .buffer-is }
+
+-- The same of the plain engine's call.
+pub plain-promised : (x : Lent) {c : came.Came} {w : ℕ} {t' v' o' : List ℕ} → plain.Comes (serve x) c t' v' o' → w ≡ callWord (plain.callOf c)
+    → DecidePromise x w t' v' o'
+plain-promised x s e =
     record { word-is = e ∙ ap callWord (s .call-is); table-is = s .table-is; vectors-is = s .vectors-is; buffer-is = s .buffer-is }
 
 -- The report's number as a word.

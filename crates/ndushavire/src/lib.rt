@@ -1,4 +1,5 @@
 // What the daemon calls.
+pub mod plain;
 pub mod word;
 
 use blocks::Checked;
@@ -78,6 +79,30 @@ pub extern "C" fn ndushavire_decide(
     call_word(calling::call(request, table, profile, vectors, answer, terms))
 }
 
+// "A plain engine beside the quick one": for a reader, not for service. "it returns the same, and leaves the same table and buffer, for every input,
+// editions and features included": its promise is that of `ndushavire_decide`.
+#[no_mangle]
+pub extern "C" fn ndushavire_plain(
+    request: &[u8],
+    table: &mut [u8],
+    profile: &[u8],
+    vectors: &mut [u8],
+    answer: &mut [u8],
+    peer: u32,
+    features: u32,
+) -> u64
+    ensures { λ r. ⌜ DecidePromise
+        (lent (now (request .entry)) (now (table .entry)) (now (profile .entry)) (now (vectors .entry)) (now (answer .entry)) (underCx peer features))
+        r (now (table .exit)) (now (vectors .exit)) (now (answer .exit)) ⌝ }
+{
+    let terms = Terms {
+        application: codes::CX,
+        peer,
+        features,
+    };
+    plain::call_word(plain_calling::call(request, table, profile, vectors, answer, terms))
+}
+
 // "A report over a file of many requests laid end to end": it is written to an area of its own, as 145 numbers of 64 bits.
 #[no_mangle]
 pub extern "C" fn ndushavire_report(
@@ -148,8 +173,8 @@ pub extern "C" fn ndushavire_take(area: &mut [u8], fresh: &[u8], profile: &[u8])
     take_word(taking::take(area, fresh, profile.len()))
 }
 
-// Which library was linked, so that a daemon can tell it from the header that it was compiled with: 0.14.0, as NDUSHAVIRE_VERSION_NUMBER has it.
-const VERSION: u32 = 1400;
+// Which library was linked, so that a daemon can tell it from the header that it was compiled with: 0.15.0, as NDUSHAVIRE_VERSION_NUMBER has it.
+const VERSION: u32 = 1500;
 
 #[no_mangle]
 pub extern "C" fn ndushavire_version() -> u32

@@ -24,7 +24,7 @@ fn put_list(out: &mut [u8], req: &[u8], terms: Terms, listed: bool) -> usize
 }
 
 // Who answers, and what the server supports.
-fn put_server(
+pub fn put_server(
     out: &mut [u8],
     req: &[u8],
     t: &[u8],

@@ -21,9 +21,13 @@ pub enum Stream {
     Lists,
     /// The decision of Sh, over every kind of request.
     Voicemail,
+    /// The decision over requests laid end to end.
+    Rows,
+    /// The plain engine's decision, over the cases of `Calls`.
+    Plain,
 }
 
-pub const STREAMS: [Stream; 8] = [
+pub const STREAMS: [Stream; 10] = [
     Stream::Tables,
     Stream::Vectors,
     Stream::Calls,
@@ -32,6 +36,8 @@ pub const STREAMS: [Stream; 8] = [
     Stream::Takes,
     Stream::Lists,
     Stream::Voicemail,
+    Stream::Rows,
+    Stream::Plain,
 ];
 
 impl Stream {
@@ -49,6 +55,8 @@ impl Stream {
             Stream::Takes => "takes",
             Stream::Lists => "lists",
             Stream::Voicemail => "voicemail",
+            Stream::Rows => "rows",
+            Stream::Plain => "plain",
         }
     }
 }

@@ -22,12 +22,13 @@ pub mod takes;
 pub mod twists;
 pub mod vectors;
 
-pub use calls::{MIXED, OF_FEATURES, OF_PEERS, OF_SETS};
+pub use calls::{MANY, MIXED, OF_FEATURES, OF_PEERS, OF_SETS};
 pub use checks::CUTS;
 pub use made::{Made, Stream, STREAMS};
 pub use runs::{run, Step};
 pub use tables::FAR;
 
+use crate::cases::{Case, Entry};
 use crate::rng::Rng;
 
 /// Case `number` of the stream; it depends on nothing else.
@@ -42,5 +43,12 @@ pub fn make(stream: Stream, seed: u64, number: u64) -> Made {
         Stream::Takes => takes::case(&mut rng),
         Stream::Lists => lists::case(&mut rng),
         Stream::Voicemail => calls::of_sh(&mut rng),
+        Stream::Rows => reports::row(&mut rng),
+        Stream::Plain => plain(calls::case(&mut rng)),
     }
+}
+
+/// The same call of the plain engine.
+fn plain(made: Made) -> Made {
+    Made { case: Case { entry: Entry::Plain, ..made.case }, ..made }
 }

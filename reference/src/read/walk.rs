@@ -19,10 +19,13 @@ pub fn walk<'a>(
     if slip.is(Fault::LengthsJudgedFirst) {
         lengths_fit(avps, slip)?;
     }
+    if matches!(slip.0, Some(Fault::PlainByLetter | Fault::PlainLastFault)) {
+        picked(avps, command, stated, slip)?;
+    }
     let mut found: Vec<(Kind, Avp)> = Vec::new();
     let mut rest = avps;
     while !rest.is_empty() {
-        let is_first = rest.at == avps.at;
+        let is_first = rest.at == avps.at || slip.is(Fault::PlainFirstRuleEverywhere);
         let (avp, after) = rest.first(slip).map_err(|fault| length_fault(fault, rest.at, slip))?;
         let padding = &rest.bytes[avp.whole.len()..rest.bytes.len() - after.bytes.len()];
         rest = after;
@@ -43,6 +46,34 @@ fn lengths_fit<'a>(avps: Received<'a>, slip: Slip) -> Result<(), Finding<'a>> {
         (_, rest) = rest.first(slip).map_err(|fault| length_fault(fault, rest.at, slip))?;
     }
     Ok(())
+}
+
+/// The fault that a program picks which goes by letters first, or takes the last.
+fn picked<'a>(avps: Received<'a>, command: Command, stated: Stated, slip: Slip) -> Result<(), Finding<'a>> {
+    let (mut faults, mut found, mut rest) = (Vec::new(), Vec::new(), avps);
+    while !rest.is_empty() {
+        let is_first = rest.at == avps.at;
+        let (avp, after) = match rest.first(slip) {
+            Ok(both) => both,
+            Err(fault) => {
+                faults.push(('a', length_fault(fault, rest.at, slip)));
+                break;
+            }
+        };
+        rest = after;
+        match judge(avp, is_first, command, &found, stated, slip) {
+            Ok(kind) => found.extend(kind.map(|kind| (kind, avp))),
+            Err(finding) => {
+                let letter = if let Why::Rule(letter, _) = finding.why { letter } else { 'h' };
+                faults.push((letter, finding));
+                let kind = kind_of(avp, command, slip).filter(|kind| is_named(*kind, command, slip));
+                found.extend(kind.map(|kind| (kind, avp)));
+            }
+        }
+    }
+    let by_letter = slip.is(Fault::PlainByLetter);
+    let one = if by_letter { faults.into_iter().min_by_key(|(letter, _)| *letter) } else { faults.pop() };
+    one.map_or(Ok(()), |(_, finding)| Err(finding))
 }
 
 fn length_fault<'a>(fault: LengthFault, place: usize, slip: Slip) -> Finding<'a> {
@@ -107,7 +138,8 @@ fn judge<'a>(
     if slip.is(Fault::ContentBeforeCount) || (slip.is(Fault::SeveralVendorsBeforeCount) && is_several) {
         content.clone()?;
     }
-    let earlier = before.iter().find(|(it, _)| *it == kind);
+    let asked = if slip.is(Fault::PlainCountsNeighbours) { before.len().saturating_sub(1) } else { 0 };
+    let earlier = before[asked..].iter().find(|(it, _)| *it == kind);
     if let (Some((_, earlier)), false) = (earlier, may_repeat(kind, command, slip)) {
         let failed = Failed::Whole(if slip.is(Fault::FirstOfTwoFails) { *earlier } else { avp });
         return Err(Finding { result: 5009, failed, place: avp.at, why: Why::Rule('f', kind.name()) });

@@ -1,9 +1,9 @@
 //! Deliberate faults of a whole call: what it looks at and alters besides.
 
-use crate::block::{mend, put_word, BLOCK, CHECK_WORD};
+use crate::block::{mend, put_word, word_at, BLOCK, CHECK_WORD};
 use crate::decide::asks_too_much;
 use crate::kinds::Command;
-use crate::message::Message;
+use crate::message::{LengthFault, Message, HEADER};
 use crate::read::features_of;
 use crate::slip::{Fault, Slip};
 use crate::stated::Stated;
@@ -27,6 +27,33 @@ pub fn seen(area: &[u8], profile_length: usize, slip: Slip) -> Option<Vec<u8>> {
         seen = longer;
     }
     Some(seen)
+}
+
+/// What a faulty program reads of a request: up to the AVPs that its list has room for, or up to one whose header is cut off.
+pub fn listed(request: &[u8], slip: Slip) -> Option<Vec<u8>> {
+    let most = match slip.0 {
+        Some(Fault::PlainListOf2045) => 2045,
+        Some(Fault::PlainListOf1024) => 1024,
+        Some(Fault::PlainCutOffNotListed) => usize::MAX,
+        _ => return None,
+    };
+    if request.len() < HEADER || word_at(request, 0) & 0xFF_FFFF != request.len() as u32 {
+        return None;
+    }
+    let mut rest = Message(request).avps();
+    for _ in 0..most {
+        if rest.is_empty() {
+            return None;
+        }
+        rest = match rest.first(Slip::NONE) {
+            Ok((_, after)) => after,
+            Err(LengthFault::CutOff) if most == usize::MAX => break,
+            Err(_) => return None,
+        };
+    }
+    let mut listed = request[..rest.at].to_vec();
+    put_word(&mut listed, 0, word_at(request, 0) & !0xFF_FFFF | rest.at as u32);
+    Some(listed)
 }
 
 /// What a faulty program does past the table, having rewritten these records.

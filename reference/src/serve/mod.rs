@@ -62,6 +62,22 @@ pub fn serve(
     (done.word, done.why)
 }
 
+/// The same by the plain engine.
+pub fn plain(
+    request: &[u8],
+    table: &mut [u8],
+    profile: &[u8],
+    vectors: &mut [u8],
+    buffer: &mut [u8],
+    stated: Stated,
+    slip: Slip,
+) -> (u64, Why) {
+    let slip = slip.in_plain();
+    let listed = astray::listed(request, slip);
+    let (word, why) = serve(listed.as_deref().unwrap_or(request), table, profile, vectors, buffer, stated, slip);
+    (if slip.is(Fault::PlainPlacesIn12Bits) { word & !(0xF000 << 32) } else { word }, why)
+}
+
 /// One call. Table, vectors and buffer are changed only if the request is answered. What is past the table in its area stays.
 pub fn call(
     request: &[u8],

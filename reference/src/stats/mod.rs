@@ -8,6 +8,7 @@ mod peers;
 mod places;
 mod reports;
 mod required;
+mod rows;
 mod sets;
 mod sizes;
 mod takes;
@@ -27,7 +28,7 @@ use crate::read::read_header;
 use crate::slip::Slip;
 use crate::table::{Table, LONGEST_PROFILE};
 use crate::verdict::{Code, Decision, Why};
-use sizes::size;
+use sizes::{many_places, size};
 
 /// How many times as many cases are counted, where a row has too few, before it is told of.
 pub const ROUNDS: u64 = 10;
@@ -48,6 +49,7 @@ impl Histogram {
             (Stream::Moves, _) => self.count_move(made, outcome),
             (Stream::Takes, _) => self.count_take(made, outcome),
             (Stream::Lists, _) => self.count_list(made, outcome),
+            (Stream::Rows, _) => self.count_row(made, outcome),
             _ => self.count_call(made, outcome, why),
         }
     }
@@ -104,6 +106,12 @@ impl Histogram {
         reports::rows(&made.case, outcome).into_iter().for_each(|row| self.add(row));
     }
 
+    fn count_row(&mut self, made: &Made, outcome: &Outcome) {
+        let notes: BTreeSet<&&str> = made.notes.iter().collect();
+        notes.iter().for_each(|note| self.add(format!("made by: {note}")));
+        rows::rows(&made.case, outcome).into_iter().for_each(|row| self.add(row));
+    }
+
     fn count_move(&mut self, made: &Made, outcome: &Outcome) {
         made.notes.iter().for_each(|note| self.add(format!("made by: {note}")));
         moves::rows(&made.case, outcome).into_iter().for_each(|row| self.add(row));
@@ -127,6 +135,7 @@ impl Histogram {
             Why::Checked(_)
             | Why::CheckedVectors(_)
             | Why::Reported
+            | Why::Rowed
             | Why::Moved(_)
             | Why::TakenOver(_)
             | Why::Listed(_) => return,
@@ -163,6 +172,8 @@ impl Histogram {
             _ => {}
         }
         if outcome.parts().0 == 0 {
+            let places = Message(&made.case.held(Slice::Request)).avps().places();
+            many_places(places).into_iter().for_each(|row| self.add(row.to_string()));
             let rows = match made.case.entry.dialect() {
                 Dialect::Cx => features::rows(&made.case, outcome.parts().1, why),
                 Dialect::Sh => voicemail::rows(&made.case, why),
@@ -256,7 +267,7 @@ impl Histogram {
     /// Rows that must be there and have fewer cases than chance explains.
     pub fn thin_rows(&self, stream: Stream) -> Vec<String> {
         let mut thin = Vec::new();
-        for (wanted, one_in) in required::rows(stream) {
+        for (wanted, one_in) in required::of_stream(stream) {
             let count: u64 = self.rows.iter().filter(|(row, _)| row.starts_with(&wanted)).map(|(_, count)| count).sum();
             let least = least(self.cases, one_in);
             if count < least {
@@ -300,7 +311,7 @@ fn asker(request: &[u8]) -> &'static str {
 
 /// How each row begins that the cases of a stream must show.
 pub fn required_rows(stream: Stream) -> Vec<String> {
-    required::rows(stream).into_iter().map(|(row, _)| row).collect()
+    required::of_stream(stream).into_iter().map(|(row, _)| row).collect()
 }
 
 /// The result of an answer.

@@ -25,6 +25,7 @@ fn unplaced(case: &Case, why: &Why) -> Option<&'static str> {
         Why::Checked(_)
         | Why::CheckedVectors(_)
         | Why::Reported
+        | Why::Rowed
         | Why::Moved(_)
         | Why::TakenOver(_)
         | Why::Listed(_) => return None,

@@ -7,13 +7,15 @@ use super::moves;
 use super::peers;
 use super::places;
 use super::reports;
+use super::rows;
 use super::sets;
+use super::sizes::MOST_PLACES;
 use super::takes;
 use super::voicemail;
 use crate::gen::damage::damages;
 use crate::gen::twists::twists;
 use crate::gen::vectors::damage::{DAMAGES, OVER_THE_MOST};
-use crate::gen::{Stream, CUTS, MIXED, OF_FEATURES, OF_PEERS, OF_SETS};
+use crate::gen::{Stream, CUTS, MANY, MIXED, OF_FEATURES, OF_PEERS, OF_SETS};
 use crate::kinds::{needed, Command, Dialect, Kind};
 use crate::read::SEVERAL;
 
@@ -21,16 +23,17 @@ use crate::read::SEVERAL;
 const ONE_IN: u64 = 1000;
 
 /// How each row begins, and in how many cases there is to be one.
-pub fn rows(stream: Stream) -> Vec<(String, u64)> {
+pub fn of_stream(stream: Stream) -> Vec<(String, u64)> {
     match stream {
         Stream::Tables => of_tables(),
         Stream::Vectors => of_vectors(),
-        Stream::Calls => of_calls(),
+        Stream::Calls | Stream::Plain => of_calls(),
         Stream::Reports => reports::wanted().into_iter().map(|(row, times)| (row, times * ONE_IN)).collect(),
         Stream::Moves => moves::wanted().into_iter().map(|(row, times)| (row, times * ONE_IN)).collect(),
         Stream::Takes => takes::wanted().into_iter().map(|(row, times)| (row, times * ONE_IN)).collect(),
         Stream::Lists => lists::wanted().into_iter().map(|(row, times)| (row, times * ONE_IN)).collect(),
         Stream::Voicemail => of_voicemail(),
+        Stream::Rows => rows::wanted().into_iter().map(|(row, times)| (row, times * ONE_IN)).collect(),
     }
 }
 
@@ -118,12 +121,18 @@ fn of_calls() -> Vec<(String, u64)> {
     wanted.extend(moves::editions().into_iter().map(|row| format!("decided over {row}")));
     wanted.push("request: 16,384 bytes".to_string());
     wanted.push("request: over 65,536 bytes".to_string());
-    let made =
-        twists(Dialect::Cx).map(|twist| twist.name).chain(MIXED).chain(OF_SETS).chain(OF_PEERS).chain(OF_FEATURES);
+    let made = twists(Dialect::Cx)
+        .map(|twist| twist.name)
+        .chain(MIXED)
+        .chain(OF_SETS)
+        .chain(OF_PEERS)
+        .chain(OF_FEATURES)
+        .chain(MANY);
     wanted.extend(made.map(|name| format!("made by: {name}")));
     wanted.extend(["UAR", "SAR", "LIR", "MAR"].map(|command| format!("refused 6 to a {command}")));
     let mut rows: Vec<(String, u64)> = wanted.into_iter().map(|row| (row, ONE_IN)).collect();
     rows.push(("refused 6 to a header fault".to_string(), 10 * ONE_IN));
+    rows.extend(MOST_PLACES.map(|(_, row)| (row.to_string(), 5 * ONE_IN)));
     rows.extend(features::wanted().into_iter().map(|(row, times)| (row, times * ONE_IN)));
     rows.extend(peers::wanted().into_iter().map(|(row, times)| (row, times * ONE_IN)));
     rows.extend(authentication::wanted().into_iter().map(|(row, times)| (row, times * ONE_IN)));

@@ -10,3 +10,12 @@ pub fn size(records: usize) -> String {
         _ => "4,096".to_string(),
     }
 }
+
+/// The least number of places where AVPs begin, for each row that is about many of them; the most that a request can have first.
+pub const MOST_PLACES: [(usize, &str); 3] =
+    [(2046, "places: 2,046"), (2045, "places: 2,045"), (1025, "places: 1,025 to 2,044")];
+
+/// The row of a request with so many.
+pub fn many_places(places: usize) -> Option<&'static str> {
+    MOST_PLACES.iter().find(|(least, _)| places >= *least).map(|(_, row)| *row)
+}

@@ -145,6 +145,49 @@ pub fn far_fault(rng: &mut Rng, dialect: Dialect) -> Made {
     call.finish(rng)
 }
 
+/// What requests with many AVPs are made by.
+pub const NOTES: [&str; 2] = ["many AVPs beside the own ones", "nothing but AVPs of 8 bytes"];
+
+/// As many AVPs of 8 bytes as a request has room for: beside those that it needs, or from its first on, 2,045 of them. Then 4 bytes are left, which
+/// hold nothing or one more that is cut off. One of them, the last as often as not, may be at fault.
+pub fn places(rng: &mut Rng) -> Made {
+    let mut call = right(rng, Dialect::Cx);
+    let alone = rng.once_in(3);
+    call.notes.push(NOTES[alone as usize]);
+    if alone {
+        call.request.pieces = vec![Piece::of(rng, Kind::SessionId, vec![])];
+    }
+    let cut_off = rng.coin();
+    let room = (MOST_REQUEST - call.request.length()) / 8;
+    let count = if alone || rng.coin() { room } else { rng.between(room / 3, room) };
+    let kind = *rng.pick(&[Kind::ProxyInfo, Kind::RouteRecord, Kind::RouteRecord]);
+    let small = |rng: &mut Rng| match rng.below(3) {
+        0 => Piece::new(rng, None, 70_000, 0, vec![]),
+        _ => Piece::of(rng, kind, vec![]),
+    };
+    let first = rng.between(1, call.request.pieces.len());
+    let behind = call.request.pieces.split_off(first);
+    let before = if behind.is_empty() { count } else { rng.below(count + 1) };
+    call.request.pieces.extend((0..before).map(|_| small(rng)));
+    call.request.pieces.extend(behind);
+    call.request.pieces.extend((before..count).map(|_| small(rng)));
+    if rng.coin() {
+        let last = call.request.pieces.len() - 1;
+        let at = if rng.coin() { last } else { rng.between(1.min(last), last) };
+        let piece = &mut call.request.pieces[at];
+        match rng.below(5) {
+            0 => piece.flags |= 1 << rng.below(5),
+            1 => piece.told_length = Some(*rng.pick(&[0, 7, 9, 12])),
+            2 => (piece.code, piece.flags) = (70_000, M),
+            _ => (piece.code, piece.flags) = (Kind::SessionId.code(), M),
+        }
+    }
+    if cut_off && call.request.length() + 4 <= MOST_REQUEST {
+        call.request.tail = kind.code().to_be_bytes().to_vec();
+    }
+    call.finish(rng)
+}
+
 /// A request brought to 16,384 bytes, or a little under or over, by AVPs that may repeat.
 pub fn request(rng: &mut Rng, dialect: Dialect) -> Made {
     let mut call = right(rng, dialect).noted("about 16,384 bytes");

@@ -11,6 +11,7 @@ mod sets;
 mod user_data;
 
 pub use features::NOTES as OF_FEATURES;
+pub use long::NOTES as MANY;
 pub use mixed::NOTES as MIXED;
 pub use peers::NOTES as OF_PEERS;
 pub use sets::NOTES as OF_SETS;
@@ -73,6 +74,7 @@ pub fn case(rng: &mut Rng) -> Made {
         89..=90 => refused::unknown_peer(rng, dialect),
         91..=95 => peers::case(rng, dialect),
         96..=109 => features::case(rng),
+        110..=111 => long::places(rng),
         _ => plain(rng, dialect),
     }
 }

@@ -1,21 +1,19 @@
-//! Cases of the report: files of requests laid end to end, some of them broken, with table and vectors carried along.
+//! Cases of the report and of the row: files of requests laid end to end, some of them broken, with table and vectors carried along.
 
 mod month;
 mod pieces;
+mod rows;
 
-use super::damage;
 use super::made::Made;
-use super::model::TableModel;
 use super::peers;
-use super::vectors;
-use crate::block::BLOCK;
 use crate::cases::Case;
 use crate::refuse::LEAST_BUFFER;
 use crate::report::LEAST_REPORT;
 use crate::rng::Rng;
 use crate::stated::Stated;
-use crate::table::Table;
 use month::{Files, Month};
+
+pub use rows::{case as row, NOTES as OF_ROWS};
 
 /// What a case may be noted as.
 pub const NOTES: [&str; 20] = [
@@ -55,44 +53,15 @@ pub fn case(rng: &mut Rng) -> Made {
         return longest(rng);
     }
     let mut notes = vec![];
-    let records = if rng.once_in(30) { 0 } else { rng.between(1, 8) };
-    let mut month = Month::new(rng, records);
-    let many = match rng.below(20) {
-        0 => 0,
-        1..=3 => 1,
-        4..=14 => rng.between(2, 8),
-        15..=18 => rng.between(9, 16),
-        _ => rng.between(17, 40),
-    };
-    for _ in 0..many {
-        let (piece, note) = pieces::piece(rng, &month);
-        month.add(piece);
-        notes.push(note);
-    }
-    let mut requests = std::mem::take(&mut month.requests);
-    if rng.coin() {
-        let (bytes, note) = pieces::broken(rng, &month);
-        requests.extend(bytes);
-        notes.push(note);
-        if rng.once_in(4) {
-            notes.push("requests behind the broken one");
-            for _ in 0..rng.between(1, 3) {
-                requests.extend(pieces::right(rng, &month));
-            }
-        }
-    }
-    finish(rng, requests, month.came, month.stated, notes)
+    let month = pieces::month(rng, &mut notes);
+    finish(rng, month, notes)
 }
 
 /// So many requests of 20 bytes and a few more, over a table that has few records or none: counts that pass 8 or 16 bits.
 fn headers(rng: &mut Rng, count: usize, note: &'static str) -> Made {
     let records = rng.below(2);
     let month = Month::new(rng, records);
-    let some: Vec<Vec<u8>> = (0..rng.between(1, 4)).map(|_| pieces::header(rng)).collect();
-    let mut requests = Vec::new();
-    for _ in 0..count + rng.below(50) {
-        requests.extend(rng.pick(&some));
-    }
+    let requests = pieces::headers(rng, count);
     plain(rng, requests, Files { vectors: vec![], ..month.came }, month.stated, note)
 }
 
@@ -124,8 +93,8 @@ fn plain(rng: &mut Rng, requests: Vec<u8>, files: Files, stated: Stated, note: &
 }
 
 /// Mostly with sound files and room for all; now and then not.
-fn finish(rng: &mut Rng, requests: Vec<u8>, files: Files, mut stated: Stated, mut notes: Vec<&'static str>) -> Made {
-    let Files { mut table, mut profile, mut vectors } = files;
+fn finish(rng: &mut Rng, month: Month, mut notes: Vec<&'static str>) -> Made {
+    let Month { came: mut files, mut stated, requests, .. } = month;
     let mut buffer = LEAST_BUFFER;
     if rng.once_in(16) {
         notes.push("another buffer");
@@ -150,24 +119,8 @@ fn finish(rng: &mut Rng, requests: Vec<u8>, files: Files, mut stated: Stated, mu
             2000,
         ]);
     }
-    if rng.once_in(16) {
-        notes.push("damaged table");
-        (table, profile) = damaged(rng, table, profile);
-    }
-    if rng.once_in(16) {
-        notes.push("damaged vectors");
-        match vectors.is_empty() {
-            true => vectors.resize(rng.between(1, BLOCK), 0),
-            false => drop(vectors::damage::damage(rng, &mut vectors, &mut Vec::new())),
-        }
-    }
+    files.spoil(rng, &mut notes);
+    let Files { table, profile, vectors } = files;
     let case = Case::report(rng.byte(), requests, [table, profile, vectors], buffer, area, stated);
     Made { case, notes, damaged: None }
-}
-
-fn damaged(rng: &mut Rng, table: Vec<u8>, profile: Vec<u8>) -> (Vec<u8>, Vec<u8>) {
-    let model = TableModel::of(Table(&table));
-    let mut subject = damage::Subject { model, bytes: table, profile };
-    damage::damage(rng, &mut subject, &mut Vec::new());
-    (subject.bytes, subject.profile)
 }

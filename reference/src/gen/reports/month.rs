@@ -1,6 +1,8 @@
 //! A month in the making: the files as they came, and as the requests so far left them.
 
+use crate::block::BLOCK;
 use crate::gen::areas;
+use crate::gen::damage;
 use crate::gen::model::{RecordModel, TableModel};
 use crate::gen::peers;
 use crate::gen::sets;
@@ -8,7 +10,7 @@ use crate::gen::tables::{self, Sound};
 use crate::gen::vectors::{self, model};
 use crate::refuse::LEAST_BUFFER;
 use crate::rng::Rng;
-use crate::serve::serve;
+use crate::serve::{parts, serve};
 use crate::slip::Slip;
 use crate::stated::Stated;
 use crate::table::{Table, LONGEST_SERVER_NAME};
@@ -32,6 +34,29 @@ pub struct Month {
     pub requests: Vec<u8>,
     /// The pieces so far, to be sent again.
     pub earlier: Vec<Vec<u8>>,
+    /// How long the answer to each of them is; 0 if it was refused.
+    pub answers: Vec<usize>,
+}
+
+impl Files {
+    /// Now and then damaged.
+    pub fn spoil(&mut self, rng: &mut Rng, notes: &mut Vec<&'static str>) {
+        if rng.once_in(16) {
+            notes.push("damaged table");
+            let model = TableModel::of(Table(&self.table));
+            let (bytes, profile) = (std::mem::take(&mut self.table), std::mem::take(&mut self.profile));
+            let mut subject = damage::Subject { model, bytes, profile };
+            damage::damage(rng, &mut subject, &mut Vec::new());
+            (self.table, self.profile) = (subject.bytes, subject.profile);
+        }
+        if rng.once_in(16) {
+            notes.push("damaged vectors");
+            match self.vectors.is_empty() {
+                true => self.vectors.resize(rng.between(1, BLOCK), 0),
+                false => drop(vectors::damage::damage(rng, &mut self.vectors, &mut Vec::new())),
+            }
+        }
+    }
 }
 
 impl Month {
@@ -64,7 +89,7 @@ impl Month {
 
     fn over(came: Files, stated: Stated) -> Month {
         let (now, buffer) = (came.clone(), vec![0; LEAST_BUFFER]);
-        Month { came, now, buffer, stated, requests: Vec::new(), earlier: Vec::new() }
+        Month { came, now, buffer, stated, requests: Vec::new(), earlier: Vec::new(), answers: Vec::new() }
     }
 
     /// The table as it is now.
@@ -75,7 +100,9 @@ impl Month {
     /// Adds a request, and does what it does.
     pub fn add(&mut self, piece: Vec<u8>) {
         let Files { table, profile, vectors } = &mut self.now;
-        serve(&piece, table, profile, vectors, &mut self.buffer, self.stated, Slip::NONE);
+        let (word, _) = serve(&piece, table, profile, vectors, &mut self.buffer, self.stated, Slip::NONE);
+        let (number, _, length) = parts(word);
+        self.answers.push(if number == 0 { length as usize } else { 0 });
         self.requests.extend(&piece);
         self.earlier.push(piece);
     }

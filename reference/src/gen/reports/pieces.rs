@@ -9,6 +9,60 @@ use crate::kinds::{Command, Dialect};
 use crate::message::{E, P, R};
 use crate::refuse::MOST_REQUEST;
 use crate::rng::Rng;
+use crate::table::{LONGEST_SERVER_NAME, NOT_REGISTERED};
+
+/// A month of few requests, half of them with a broken one at the end or near it.
+pub fn month(rng: &mut Rng, notes: &mut Vec<&'static str>) -> Month {
+    let records = if rng.once_in(30) { 0 } else { rng.between(1, 8) };
+    let mut month = Month::new(rng, records);
+    let many = match rng.below(20) {
+        0 => 0,
+        1..=3 => 1,
+        4..=14 => rng.between(2, 8),
+        15..=18 => rng.between(9, 16),
+        _ => rng.between(17, 40),
+    };
+    for _ in 0..many {
+        let (piece, note) = piece(rng, &month);
+        month.add(piece);
+        notes.push(note);
+    }
+    if rng.coin() {
+        let (mut bytes, note) = broken(rng, &month);
+        notes.push(note);
+        if rng.once_in(4) {
+            notes.push("requests behind the broken one");
+            for _ in 0..rng.between(1, 3) {
+                bytes.extend(right(rng, &month));
+            }
+        }
+        month.requests.extend(bytes);
+    }
+    month
+}
+
+/// So many requests of 20 bytes and a few more, of few kinds.
+pub fn headers(rng: &mut Rng, count: usize) -> Vec<u8> {
+    let some: Vec<Vec<u8>> = (0..rng.between(1, 4)).map(|_| header(rng)).collect();
+    (0..count + rng.below(50)).flat_map(|_| rng.pick(&some).clone()).collect()
+}
+
+/// A registration of a record that has none, and its removal, which leaves the bytes that there were; nothing if there is no such record.
+pub fn undone(rng: &mut Rng, month: &Month) -> Vec<Vec<u8>> {
+    let records = month.table().records;
+    let fresh: Vec<_> = records.iter().filter(|it| it.state == NOT_REGISTERED && !it.is_pending()).collect();
+    if fresh.is_empty() {
+        return vec![];
+    }
+    let public = rng.pick(&fresh).public.clone();
+    let name = vec![b's'; rng.between(1, LONGEST_SERVER_NAME)];
+    [*rng.pick(&[1, 3]), *rng.pick(&[4, 5, 8, 11])]
+        .map(|asked_type| {
+            let mut own = asks::assignment(rng, asked_type, vec![public.clone()], None, name.clone());
+            asks::surround(rng, Command::ServerAssignment, &mut own).encode()
+        })
+        .to_vec()
+}
 
 /// A request that is cut out rightly, whatever comes of it.
 pub fn piece(rng: &mut Rng, month: &Month) -> (Vec<u8>, &'static str) {

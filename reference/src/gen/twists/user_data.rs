@@ -4,8 +4,8 @@ use super::shape::{always, if_it_fits, some_avp, Twist};
 use super::single::{other_bytes, other_member, other_members};
 use crate::gen::asks::{data_reference, identity_group, ABSENT};
 use crate::gen::names;
-use crate::gen::request::{Piece, RequestModel};
-use crate::kinds::{Kind, MSISDN, VENDOR};
+use crate::gen::request::{application, Piece, RequestModel};
+use crate::kinds::{Dialect, Kind, MSISDN, VENDOR};
 use crate::message::M;
 use crate::rng::Rng;
 use crate::table::LONGEST_IDENTITY;
@@ -31,6 +31,24 @@ pub const TWISTS: &[Twist] = &[
         }
         r.insert(rng, again);
         Some(())
+    }),
+    always("UDR: a neighbouring command", 3, |rng, r| {
+        r.command = *rng.pick(&[305, 307, 307, 308]);
+    }),
+    always("UDR: the application of Cx", 3, |rng, r| {
+        r.application = Dialect::Cx.application();
+        if rng.once_in(3) {
+            let at = r.place(Kind::VendorSpecificApplicationId);
+            at.into_iter().for_each(|at| r.pieces[at].data = application(rng, Dialect::Cx));
+        }
+    }),
+    always("UDR: a kind of Cx", 5, |rng, r| {
+        let name = names::any(rng, LONGEST_IDENTITY);
+        let kind =
+            *rng.pick(&[Kind::PublicIdentity, Kind::ServerName, Kind::SipNumberAuthItems, Kind::SipAuthDataItem]);
+        let mut piece = Piece::of(rng, kind, name);
+        piece.flags &= if rng.once_in(4) { !M } else { 0xFF };
+        r.insert(rng, piece);
     }),
     always("UDR: User-Names", 4, |rng, r| {
         for _ in 0..rng.between(1, 2) {

@@ -1,0 +1,9 @@
+pub mod Each
+pub mod Listing
+pub mod Picking
+pub mod Ruling
+pub mod Taking
+pub mod AsWalked
+pub mod Turns
+pub mod Reached
+pub mod Worked

@@ -1,0 +1,4 @@
+pub mod Listed
+pub mod Broken
+pub mod Passes
+pub mod Plain
