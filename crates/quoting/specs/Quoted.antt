@@ -1,6 +1,6 @@
 -- 02 [14]: "names quoted, the quote doubled, bytes outside 32 to 126 refused".
 use Prim.Native.Nat.{ℕ, zero, suc, _+_}
-use mathlib.Core.Bool.{Bool, true, false, _&&_, cond}
+use mathlib.Core.Bool.{Bool, true, false, _&&_, not, cond}
 use mathlib.Core.List.{List, [], _∷_, _++_}
 use mathlib.Core.Option.{Option, none, some}
 use lib.Dec.{eqb, leb}
@@ -30,7 +30,7 @@ doubled (x ∷ s) = listedByte x ++ doubled s
 unfoldable pub quoted : List ℕ → List ℕ
 quoted name = 34 ∷ (doubled name ++ (34 ∷ []))
 
-unfoldable pub quotedSize : List ℕ → ℕ
+abbrev pub quotedSize : List ℕ → ℕ
 quotedSize name = length (doubled name) + 2
 
 -- one byte of a name more, if what follows it is a name's
@@ -44,6 +44,15 @@ nameFrom false [] = none
 nameFrom true [] = some []
 nameFrom false (x ∷ s) = cond (eqb x 34) (nameFrom true s) (cond (isListed x) (andByte x (nameFrom false s)) none)
 nameFrom true (x ∷ s) = cond (eqb x 34) (andByte 34 (nameFrom false s)) (some [])
+
+-- bytes of a name before one that goes on
+abbrev pub andName : List ℕ → Option (List ℕ) → Option (List ℕ)
+andName done none = none
+andName done (some name) = some (done ++ name)
+
+-- the byte at a place closes a name: a quote that no other follows
+abbrev pub closesAt : List ℕ → ℕ → Bool
+closesAt s i = eqb (getD s i 0) 34 && not (eqb (getD s (i + 1) 0) 34)
 
 -- a name of at most so many bytes
 abbrev pub atMost : ℕ → Option (List ℕ) → Option (List ℕ)

@@ -1,9 +1,12 @@
 // Names of a list: quoted, the quote doubled; written and read.
 ghost use mathlib.Core.Path.{_≡_};
-ghost use Prim.Native.Nat.{_≤_};
-ghost use lib.ListN.{length, drop};
+ghost use mathlib.Core.Bool.{false};
+ghost use mathlib.Core.List.{[], _∷_, _++_};
+ghost use Prim.Native.Nat.{_+_, _<_, _≤_};
+ghost use lib.ListN.{length, getD, drop};
 ghost use Rattle.octets.specs.Run.{Wrote};
-ghost use Rattle.quoting.specs.Quoted.{isListed, listable, listedByte, width, doubled, quoted, quotedSize, nameIn, asName, taken};
+ghost use Rattle.quoting.specs.Quoted.{isListed, listable, listedByte, width, doubled, quoted, quotedSize, closesAt, nameFrom};
+ghost use Rattle.quoting.specs.Quoted.{nameIn, asName, taken};
 
 const QUOTE: u8 = 34;
 
@@ -58,23 +61,40 @@ pub fn size(name: &[u8]) -> usize
     n + 2
 }
 
+// Writes a byte.
+pub fn put_one(out: &mut [u8], x: u8)
+    requires { ⌜ 1 ≤ length (now out) ⌝ }
+    ensures { λ _. ⌜ Wrote (x ∷ []) (now (out .entry)) (now (out .exit)) 1 ⌝ }
+{
+    out[0] = x;
+}
+
+// Writes a byte twice.
+fn put_twice(out: &mut [u8], x: u8)
+    requires { ⌜ 2 ≤ length (now out) ⌝ }
+    ensures { λ _. ⌜ Wrote (x ∷ x ∷ []) (now (out .entry)) (now (out .exit)) 2 ⌝ }
+{
+    out[0] = x;
+    out[1] = x;
+}
+
 // Writes a byte of a name.
 fn put_byte(out: &mut [u8], x: u8) -> usize
     requires { ⌜ length (listedByte x) ≤ length (now out) ⌝ }
-    ensures { λ r. ⌜ Wrote (listedByte x) (now (out .entry)) (now (out .exit)) r ⌝ }
+    ensures { λ r. ⌜ (r ≤ length (now (out .entry))) × Wrote (listedByte x) (now (out .entry)) (now (out .exit)) r ⌝ }
 {
-    out[0] = x;
     if x == QUOTE {
-        out[1] = x;
+        put_twice(out, x);
         return 2;
     }
+    put_one(out, x);
     1
 }
 
 // Writes a name without the quotes around it.
 fn put_doubled(out: &mut [u8], name: &[u8]) -> usize
     requires { ⌜ length (doubled (now name)) ≤ length (now out) ⌝ }
-    ensures { λ r. ⌜ Wrote (doubled (now (name .entry))) (now (out .entry)) (now (out .exit)) r ⌝ }
+    ensures { λ r. ⌜ (r ≤ length (now (out .entry))) × Wrote (doubled (now (name .entry))) (now (out .entry)) (now (out .exit)) r ⌝ }
 {
     let mut n = 0;
     for i in 0..name.len() {
@@ -83,13 +103,14 @@ fn put_doubled(out: &mut [u8], name: &[u8]) -> usize
     n
 }
 
-// Writes a quote.
-fn put_quote(out: &mut [u8]) -> usize
-    requires { ⌜ 1 ≤ length (now out) ⌝ }
-    ensures { λ r. ⌜ (r ≡ 1) × Wrote (34 ∷ []) (now (out .entry)) (now (out .exit)) r ⌝ }
+// Writes a name and the quote that closes it.
+fn put_closed(out: &mut [u8], name: &[u8]) -> usize
+    requires { ⌜ length (doubled (now name)) + 1 ≤ length (now out) ⌝ }
+    ensures { λ r. ⌜ (r ≤ length (now (out .entry))) × Wrote (doubled (now (name .entry)) ++ (34 ∷ [])) (now (out .entry)) (now (out .exit)) r ⌝ }
 {
-    out[0] = QUOTE;
-    1
+    let n = put_doubled(out, name);
+    put_one(&mut out[n..], QUOTE);
+    n + 1
 }
 
 // Writes a name in its quotes.
@@ -97,9 +118,8 @@ pub fn put(out: &mut [u8], name: &[u8]) -> usize
     requires { ⌜ quotedSize (now name) ≤ length (now out) ⌝ }
     ensures { λ r. ⌜ (r ≡ quotedSize (now (name .entry))) × Wrote (quoted (now (name .entry))) (now (out .entry)) (now (out .exit)) r ⌝ }
 {
-    put_quote(out);
-    let n = 1 + put_doubled(&mut out[1..], name);
-    n + put_quote(&mut out[n..])
+    put_one(out, QUOTE);
+    1 + put_closed(&mut out[1..], name)
 }
 
 // Whether the byte at a place closes a name: a quote that no other follows.
@@ -107,28 +127,37 @@ fn closes(s: &[u8], i: usize) -> bool
     requires { ⌜ i < length (now s) ⌝ }
     ensures { λ r. ⌜ r ≡ closesAt (now (s .entry)) i ⌝ }
 {
-    if s[i] == QUOTE {
-        octets::byte_or_zero(s, i + 1) != QUOTE
-    } else {
-        false
-    }
+    (s[i] == QUOTE) & !(octets::byte_or_zero(s, i + 1) == QUOTE)
 }
 
-// A name that begins inside its quotes: the place of the closing one, and its length.
-fn inside(s: &[u8]) -> Name
-    ensures { λ r. ⌜ r ≡ asInside (nameFrom false (now (s .entry))) ⌝ }
+// The place after the byte of a name that is listed at a place.
+fn after(s: &[u8], i: usize) -> usize
+    requires { ⌜ (i < length (now s)) × (closesAt (now s) i ≡ false) ⌝ }
+    ensures { λ r. ⌜ (r ≡ i + width (getD (now (s .entry)) i 0)) × (i < r) × (r ≤ length (now (s .entry))) ⌝ }
 {
-    let mut i = 0;
+    i + width(s[i])
+}
+
+// The name that goes on behind an opening quote.
+fn behind_quote(s: &[u8]) -> Name
+    requires { ⌜ 1 ≤ length (now s) ⌝ }
+    ensures { λ r. ⌜ r ≡ asName (nameFrom false (drop 1 (now (s .entry)))) ⌝ }
+{
+    let mut i = 1;
     let mut n = 0;
     while i < s.len() {
         if closes(s, i) {
-            return Name { size: i + 1, length: n };
+            return Name {
+                size: i + 1,
+                length: n,
+            };
         }
-        if !is_listed(s[i]) {
+        if is_listed(s[i]) {
+            i = after(s, i);
+            n += 1;
+        } else {
             return Name { size: 0, length: 0 };
         }
-        i += width(s[i]);
-        n += 1;
     }
     Name { size: 0, length: 0 }
 }
@@ -137,21 +166,19 @@ fn inside(s: &[u8]) -> Name
 pub fn read(s: &[u8], most: usize) -> Name
     ensures { λ r. ⌜ r ≡ asName (nameIn most (now (s .entry))) ⌝ }
 {
-    if octets::byte_or_zero(s, 0) == QUOTE {
-        let n = inside(&s[1..]);
-        if (0 < n.size) & (n.length <= most) {
-            return Name {
-                size: n.size + 1,
-                length: n.length,
-            };
-        }
+    if s.len() == 0 {
+        return Name { size: 0, length: 0 };
+    }
+    let n = behind_quote(s);
+    if (s[0] == QUOTE) & (n.length <= most) {
+        return n;
     }
     Name { size: 0, length: 0 }
 }
 
 // Copies n bytes of a name that are listed at the front of a slice, each doubled quote once.
 pub fn copy(out: &mut [u8], s: &[u8], n: usize)
-    requires { ⌜ n ≤ length (now out) ⌝ }
+    requires { ⌜ (n ≤ length (now out)) × (n ≤ 255) ⌝ }
     ensures { λ _. ⌜ Wrote (taken n (now (s .entry))) (now (out .entry)) (now (out .exit)) n ⌝ }
 {
     let mut i = 0;
