@@ -1,0 +1,1 @@
+// A list read back as a table: import.

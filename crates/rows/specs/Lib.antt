@@ -1,0 +1,3 @@
+pub mod Block
+pub mod Row
+pub mod RowIn

@@ -1,0 +1,1 @@
+// The line of a record: written, and read back as a block.
