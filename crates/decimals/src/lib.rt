@@ -79,7 +79,7 @@ fn with_digit(value: usize, x: usize) -> usize
 
 // How many of the first ten bytes are digits, up to the first that is none, and the number that they make.
 fn digits(s: &[u8]) -> Number
-    ensures { λ r. ⌜ (r .size ≡ pastDigits (now (s .entry)) 10 0) × (r .value ≡ valueOf (now (s .entry)) (r .size)) ⌝ }
+    ensures { λ r. ⌜ (r .size ≡ pastDigits (now (s .entry)) 10 0) × (r .value ≡ valueOf (now (s .entry)) (r .size)) × (r .size ≤ 10) ⌝ }
 {
     let mut i = 0;
     let mut value = 0;
@@ -97,7 +97,7 @@ fn digits(s: &[u8]) -> Number
 
 // A number at the front of a slice, of at most so much.
 pub fn read(s: &[u8], most: usize) -> Number
-    ensures { λ r. ⌜ r ≡ asNumber (numberIn most (now (s .entry))) ⌝ }
+    ensures { λ r. ⌜ (r ≡ asNumber (numberIn most (now (s .entry)))) × (r .size ≤ 10) ⌝ }
 {
     let d = digits(s);
     if (size(d.value) == d.size) & (d.value <= most) {

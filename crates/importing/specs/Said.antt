@@ -2,7 +2,6 @@
 use Prim.Native.Nat.{ℕ, zero, suc, _+_, _-_}
 use mathlib.Core.Bool.{Bool, _&&_, cond}
 use mathlib.Core.List.{List}
-use mathlib.Core.Option.{Option, none, some}
 use lib.Dec.{eqb, leb}
 use lib.ListN.{length, take, drop}
 use Rattle.octets.specs.Name.{same}
@@ -13,16 +12,10 @@ use Rattle.blocks.specs.declared.Checked.{Checked}
 use Rattle.blocks.specs.declared.Checked.the-variants.{Sound, Bad}
 use Rattle.table.specs.Check.{soundAt}
 use Rattle.table.specs.Named.{publicAt}
-use Rattle.rows.specs.Row.{Row, lineOf}
-use Rattle.rows.specs.RowIn.{rowIn}
+use Rattle.rows.specs.RowIn.{rowIn, rowSize}
 use Rattle.rows.specs.Block.{blockSaid}
 use Rattle.listing.specs.ListOf.{firstLine}
 use Rattle.importing.specs.Above.{above}
-
--- how long the line of a row is, none where there is no row
-abbrev pub rowSize : Option Row → ℕ
-rowSize none = 0
-rowSize (some r) = length (lineOf r)
 
 -- where the line of record n + 1 begins
 unfoldable pub placeOf : List ℕ → ℕ → ℕ

@@ -30,13 +30,17 @@ unfoldable pub writing : List ℕ → List ℕ → AfterList
 writing area w = cond (ltb (length area) (length w)) (refusing area 15 0) (came (Written (length w)) (over w area))
 
 -- "13, a name that cannot be listed, with its block"
-abbrev pub exportPast : List ℕ → List ℕ → Checked → AfterList
+unfoldable pub exportPast : List ℕ → List ℕ → Checked → AfterList
 exportPast t area (Sound count) = writing area (listOf t)
 exportPast t area (Bad k) = refusing area 13 k
 
--- "Export of an unsound table, or one of edition 1 (block 0), is 5"
-abbrev pub exportChecked : List ℕ → List ℕ → Checked → AfterList
-exportChecked t area (Sound count) = cond (eqb (editionOf (blockOf t 0)) 2) (exportPast t area (firstUnlisted t count)) (refusing area 5 0)
+-- "Export of .. one of edition 1 (block 0), is 5"
+unfoldable pub exportSound : List ℕ → List ℕ → ℕ → AfterList
+exportSound t area count = cond (eqb (editionOf (blockOf t 0)) 2) (exportPast t area (firstUnlisted t count)) (refusing area 5 0)
+
+-- "Export of an unsound table .. is 5"
+unfoldable pub exportChecked : List ℕ → List ℕ → Checked → AfterList
+exportChecked t area (Sound count) = exportSound t area count
 exportChecked t area (Bad k) = refusing area 5 k
 
 -- a table beside a profile file of such a length

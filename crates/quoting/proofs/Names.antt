@@ -1,5 +1,5 @@
 -- Names that can be listed, and how long they are in the list: the turns of the loops.
-use Rattle.octets.specs.Standard.{ℕ, suc, _+_, _<_, _≤_, Bool, true, false, _&&_, cond, _≡_, refl, sym, _∙_, ap, arith, add-one, eqb, leb, le-leb, eq-eqb, ne-eqb}
+use Rattle.octets.specs.Standard.{ℕ, suc, _+_, _*_, _<_, _≤_, Bool, true, false, _&&_, cond, _≡_, refl, sym, _∙_, ap, arith, add-one, eqb, leb, le-leb, eq-eqb, ne-eqb}
 use Rattle.octets.specs.Standard.{List, [], _∷_, _++_, append-assoc, length, drop, getD, length-append, drop-cons, drop-of-length-le}
 use Rattle.octets.proofs.All.{and-left, and-right}
 use Rattle.quoting.specs.Quoted.{isListed, listable, listedByte, width, doubled, quoted, quotedSize}
@@ -71,3 +71,8 @@ pub doubled-append : (s t : List ℕ) → doubled (s ++ t) ≡ doubled s ++ doub
 unfolding doubled
 doubled-append [] t = refl
 doubled-append (x ∷ s) t = rw (doubled-append s t, append-assoc (listedByte x) (doubled s) (doubled t))
+
+pub doubled-most : (s : List ℕ) → length (doubled s) ≤ 2 * length s
+unfolding doubled
+doubled-most [] = omega arith
+doubled-most (x ∷ s) = omega (arith, length-append (listedByte x) (doubled s), byte-width x, width-some x .1, doubled-most s)

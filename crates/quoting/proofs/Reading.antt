@@ -1,5 +1,5 @@
 -- Reading a name: the turns of the loop; what was written is read, and what is read is what is written.
-use Rattle.octets.specs.Standard.{ℕ, zero, suc, _+_, _<_, _≤_, Bool, true, false, _&&_, not, cond, true≢false, _≡_, refl, sym, _∙_, ap, arith, add-one}
+use Rattle.octets.specs.Standard.{ℕ, zero, suc, _+_, _*_, _<_, _≤_, Bool, true, false, _&&_, not, cond, true≢false, _≡_, refl, sym, _∙_, ap, arith, add-one}
 use Rattle.octets.specs.Standard.{eqb, leb, ltb, eqb-true, eqb-false, eq-eqb, ne-eqb, le-leb, leb-true, ltb-true, ltb-false, and-true}
 use Rattle.octets.specs.Standard.{List, [], _∷_, _++_, append-assoc, append-nil, length, drop, getD, length-append, drop-cons, drop-of-length-le}
 use Rattle.octets.specs.Standard.{List·getD-eq-default, drop-at, Option, none, some}
@@ -7,7 +7,7 @@ use Rattle.octets.proofs.All.{and-left, and-right}
 use Rattle.quoting.specs.Quoted.{isListed, listable, listedByte, width, doubled, quoted, quotedSize, andByte, andName, closesAt, nameFrom, atMost}
 use Rattle.quoting.specs.Quoted.{nameIn, asName, taken}
 use Rattle.quoting.specs.declared.Name.{Name}
-use Rattle.quoting.proofs.Names.{byte-width, doubled-append, quoted-length}
+use Rattle.quoting.proofs.Names.{byte-width, doubled-append, doubled-most, quoted-length}
 
 -- Part of a name is read, and the rest goes on at place i.
 pub record Begun (s : List ℕ) (i n : ℕ) : Type 0 where
@@ -157,6 +157,13 @@ module _ (s : List ℕ) (most : ℕ) where
         pick : (o : Option (List ℕ)) → n ≡ asName o → leb (n .length) most ≡ true → n ≡ asName (atMost most o)
         pick none f l = f
         pick (some name) f l = let k : leb (length name) most ≡ true = rw f at l in rw k f
+
+    pub name-size : (eqb (getD s 0 0) 34 && leb (n .length) most) ≡ true → n .size ≤ 2 * most + 2
+    name-size t = pick (nameFrom false (drop 1 s)) e (leb-true (n .length) most (and-right (eqb (getD s 0 0) 34) _ t))
+      where
+        pick : (o : Option (List ℕ)) → n ≡ asName o → n .length ≤ most → n .size ≤ 2 * most + 2
+        pick none f l = rw f (omega arith)
+        pick (some name) f l = let k : length name ≤ most = rw f at l in rw f (omega (arith, doubled-most name))
 
     pub name-not : (eqb (getD s 0 0) 34 && leb (n .length) most) ≡ false → record { size = 0; length = 0 } ≡ asName (nameIn most s)
     name-not t = rw (by-front h) (go (eqb (getD s 0 0) 34) t)

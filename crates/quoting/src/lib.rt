@@ -2,7 +2,7 @@
 ghost use mathlib.Core.Path.{_≡_};
 ghost use mathlib.Core.Bool.{false};
 ghost use mathlib.Core.List.{[], _∷_, _++_};
-ghost use Prim.Native.Nat.{_+_, _<_, _≤_};
+ghost use Prim.Native.Nat.{_+_, _*_, _<_, _≤_};
 ghost use lib.ListN.{length, getD, drop};
 ghost use Rattle.octets.specs.Run.{Wrote};
 ghost use Rattle.quoting.specs.Quoted.{isListed, listable, listedByte, width, doubled, quoted, quotedSize, closesAt, nameFrom};
@@ -164,7 +164,7 @@ fn behind_quote(s: &[u8]) -> Name
 
 // A name in quotes at the front of a slice, of at most so many bytes.
 pub fn read(s: &[u8], most: usize) -> Name
-    ensures { λ r. ⌜ r ≡ asName (nameIn most (now (s .entry))) ⌝ }
+    ensures { λ r. ⌜ (r ≡ asName (nameIn most (now (s .entry)))) × (r .size ≤ 2 * most + 2) ⌝ }
 {
     if s.len() == 0 {
         return Name { size: 0, length: 0 };

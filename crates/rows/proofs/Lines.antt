@@ -19,7 +19,7 @@ fits (m ∷ ms) [] = false
 fits (m ∷ ms) (n ∷ ns) = leb n m && leb m 4294967295 && fits ms ns
 
 -- none of the limits is greater than 32 bits hold
-unfoldable small : List ℕ → Bool
+unfoldable pub small : List ℕ → Bool
 small [] = true
 small (m ∷ ms) = leb m 4294967295 && small ms
 
@@ -58,10 +58,10 @@ numbers-written (m ∷ ms) (n ∷ ns) rest e =
       numbers-written ms ns rest (and-right (leb n m && leb m 4294967295) (fits ms ns) e),
     )
 
-record ReadNumbers (ms s ns : List ℕ) : Type 0 where
-  within : fits ms ns ≡ true
-  rest : List ℕ
-  whole : s ≡ numbersLine ns ++ rest
+pub record ReadNumbers (ms s ns : List ℕ) : Type 0 where
+  pub within : fits ms ns ≡ true
+  pub rest : List ℕ
+  pub whole : s ≡ numbersLine ns ++ rest
 
 -- a byte that stands at the front of a list, and two
 first-byte : (s : List ℕ) (x : ℕ) → 0 < x → eqb (getD s 0 0) x ≡ true → s ≡ x ∷ drop 1 s
@@ -88,7 +88,7 @@ number-after m s v e = go (eqb (getD s 0 0) 44) refl e
         let p = number.written-read m (drop 1 s) v g in
         (p .within, first-byte s 44 (omega arith) f ∙ ap (λ (l : List ℕ). 44 ∷ l) (p .front ∙ rw (drop-drop (digitCount v) 1 s)))
 
-name-after : (m : ℕ) (s v : List ℕ) → nameAfter m s ≡ some v
+pub name-after : (m : ℕ) (s v : List ℕ) → nameAfter m s ≡ some v
     → (listable v ≡ true) × (length v ≤ m) × (s ≡ 44 ∷ (quoted v ++ drop (1 + quotedSize v) s))
 unfolding nameAfter
 name-after m s v e = go (eqb (getD s 0 0) 44) refl e
@@ -100,7 +100,7 @@ name-after m s v e = go (eqb (getD s 0 0) 44) refl e
         let p = name.written-read m (drop 1 s) v g in
         (p .named, p .within, first-byte s 44 (omega arith) f ∙ ap (λ (l : List ℕ). 44 ∷ l) (p .front ∙ rw (drop-drop (quotedSize v) 1 s)))
 
-numbers-read : (ms s ns : List ℕ) → small ms ≡ true → numbersIn ms s ≡ some ns → ReadNumbers ms s ns
+pub numbers-read : (ms s ns : List ℕ) → small ms ≡ true → numbersIn ms s ≡ some ns → ReadNumbers ms s ns
 unfolding small fits numbersLine numbersIn
 numbers-read [] s ns t e = go (endsLine s) refl e
   where

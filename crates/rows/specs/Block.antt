@@ -21,27 +21,25 @@ unfoldable pub wordsBytes : List ℕ → List ℕ
 wordsBytes [] = []
 wordsBytes (n ∷ ns) = wordBytes n ++ wordsBytes ns
 
--- number i of a row
-abbrev pub numberOf : Row → ℕ → ℕ
-numberOf r i = getD (r .numbers) i 0
-
--- "0 kind 2; 1 edition ..; 4-7 block number; 8 state; 9 bits ..; 10 roaming; 11, 12 counts ..; 13, 14, 15 lengths .."
-abbrev pub frontBytes : ℕ → Row → List ℕ
-frontBytes k r =
-    2 ∷ 2 ∷ 0 ∷ 0 ∷ k / 16777216 % 256 ∷ k / 65536 % 256 ∷ k / 256 % 256 ∷ k % 256 ∷ numberOf r 0 ∷ (numberOf r 1 + 2 * numberOf r 2 + 4 * numberOf r 3)
-    ∷ numberOf r 4 ∷ numberOf r 5 ∷ numberOf r 10 ∷ length (r .public) ∷ length (r .private) ∷ length (r .server) ∷ []
+-- "0 kind 2; 1 edition ..; 4-7 block number; 8 state; 9 bits ..; 10 roaming; 11, 12 counts ..; 13, 14, 15 lengths ..", of the numbers of a row
+abbrev pub frontBytes : ℕ → List ℕ → ℕ → ℕ → ℕ → List ℕ
+frontBytes k ns p q r =
+    2 ∷ 2 ∷ 0 ∷ 0 ∷ k / 16777216 % 256 ∷ k / 65536 % 256 ∷ k / 256 % 256 ∷ k % 256 ∷ getD ns 0 0 ∷ (getD ns 1 0 + 2 * getD ns 2 0 + 4 * getD ns 3 0)
+    ∷ getD ns 4 0 ∷ getD ns 5 0 ∷ getD ns 10 0 ∷ p ∷ q ∷ r ∷ []
 
 -- "16-143, 144-271, 272-367 these names"
-unfoldable pub namesBytes : Row → List ℕ
-namesBytes r = padded 128 (r .public) ++ (padded 128 (r .private) ++ padded 96 (r .server))
+unfoldable pub namesBytes : List ℕ → List ℕ → List ℕ → List ℕ
+namesBytes a b c = padded 128 a ++ (padded 128 b ++ padded 96 c)
 
 -- "368-383, 384-399 capabilities ..; 400-403 and 404-405 profile start and length"; 406-407 the set
-unfoldable pub restBytes : Row → List ℕ
-restBytes r = wordsBytes (take 4 (drop 6 (r .numbers))) ++ (wordsBytes (take 5 (drop 11 (r .numbers))) ++ (halfBytes (numberOf r 16) ++ halfBytes (numberOf r 17)))
+unfoldable pub restBytes : List ℕ → List ℕ
+restBytes ns = wordsBytes (take 4 (drop 6 ns)) ++ (wordsBytes (take 5 (drop 11 ns)) ++ (halfBytes (getD ns 16 0) ++ halfBytes (getD ns 17 0)))
 
 -- then the issue, 408-411, and zeros
 unfoldable pub unsealed : ℕ → ℕ → Row → List ℕ
-unsealed issue k r = frontBytes k r ++ (namesBytes r ++ (restBytes r ++ (wordBytes issue ++ replicate 100 0)))
+unsealed issue k r =
+    frontBytes k (r .numbers) (length (r .public)) (length (r .private)) (length (r .server))
+    ++ (namesBytes (r .public) (r .private) (r .server) ++ (restBytes (r .numbers) ++ (wordBytes issue ++ replicate 100 0)))
 
 unfoldable pub blockFrom : ℕ → ℕ → Row → List ℕ
 blockFrom issue k r = sealed (unsealed issue k r)

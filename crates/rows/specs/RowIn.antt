@@ -7,7 +7,7 @@ use lib.Dec.{eqb}
 use lib.ListN.{length, getD, drop}
 use Rattle.decimals.specs.Decimal.{digitCount, numberIn}
 use Rattle.quoting.specs.Quoted.{quotedSize, nameIn}
-use Rattle.rows.specs.Row.{Row}
+use Rattle.rows.specs.Row.{Row, lineOf}
 
 abbrev pub andThen : {A B : Type 0} → Option A → (A → Option B) → Option B
 andThen none f = none
@@ -53,3 +53,8 @@ rowIn s =
     andThen (nameAfter 96 (drop (thirdAt a b) s)) (λ (c : List ℕ).
     andThen (numbersIn most (drop (numbersAt a b c) s)) (λ (ns : List ℕ).
     some (record { public = a; private = b; server = c; numbers = ns })))))
+
+-- how long the line of a row is, none where there is no row
+abbrev pub rowSize : Option Row → ℕ
+rowSize none = 0
+rowSize (some r) = length (lineOf r)

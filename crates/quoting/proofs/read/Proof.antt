@@ -1,5 +1,5 @@
 use Rattle.octets.specs.Standard.{needs}
-use Rattle.quoting.proofs.Reading.{name-empty, name-read, name-not}
+use Rattle.quoting.proofs.Reading.{name-empty, name-read, name-size, name-not}
 use Rattle.quoting.proofs.read.Statement.{statement}
 use Rattle.quoting.proofs.read.Tie as tie
 
@@ -10,5 +10,5 @@ read-spec =
     (λ c. search (needs, name-empty))
     (λ c κs. search needs)
     (λ c. search needs)
-    (λ c. search (needs, name-read))
+    (λ c. (search (needs, name-read), search (needs, name-size)))
     (λ c. search (needs, name-not)))
