@@ -1,3 +1,4 @@
 pub mod Above
 pub mod Accepts
 pub mod Given
+pub mod Importing

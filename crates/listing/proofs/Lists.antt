@@ -1,7 +1,7 @@
 -- The list of a table, line by line: how long it is, and its turns.
 use Rattle.octets.specs.Standard.{ℕ, zero, suc, _+_, _-_, _*_, _<_, _≤_, Bool, true, false, _&&_, _≡_, refl, sym, _∙_, ap, arith, add-one, ltb, ltb-true}
 use Rattle.octets.specs.Standard.{ltb-false, List, [], _∷_, _++_, append-assoc, append-nil, length, length-append, length-take, length-drop, midOf, putMid}
-use Rattle.octets.specs.Run.{Wrote}
+use Rattle.octets.specs.Run.{over, Wrote}
 use Rattle.octets.proofs.Writes.{then, lent, back, named}
 use Rattle.record.specs.Fields.{countOf, publicOf, privateOf, serverOf}
 use Rattle.record.specs.HeaderBlock.{headerOf}
@@ -13,7 +13,7 @@ use Rattle.table.proofs.Sound.{TableTests, sound-tests, sound-limits, sound-siz
 use Rattle.blocks.specs.declared.Checked.{Checked}
 use Rattle.quoting.specs.Quoted.{listable}
 use Rattle.rows.specs.Row.{rowOf, lineOf}
-use Rattle.rows.proofs.Written.{line-short}
+use Rattle.rows.proofs.Written.{line-short, former-room, latter-room}
 use Rattle.listing.specs.ListOf.{firstLine, linesOf, listOf, listableAt, firstUnlisted}
 
 pub first-length : length firstLine ≡ 121
@@ -29,6 +29,14 @@ listable-read t k b x y z e ex ey ez ep eq er = rw (ep, eq, er, ex, ey, ez, e)
 pub unlisted-all : (t : List ℕ) (count : ℕ) → firstUnlisted t count ≡ firstBad (listableAt t) count (count + 1 - 1) 1
 unfolding firstUnlisted
 unlisted-all t count = let e : count + 1 - 1 ≡ count = omega arith in rw e
+
+-- The line of a block that is lent.
+module _ (t : List ℕ) (k : ℕ) {b : List ℕ} (e : b ≡ blockOf t k) where
+  pub line-fits : {m : ℕ} → length (lineOf (rowOf (blockOf t k))) ≤ m → length (lineOf (rowOf b)) ≤ m
+  line-fits h = rw e h
+
+  pub line-at : {o xs : List ℕ} {r : ℕ} → Wrote (lineOf (rowOf b)) o xs r → Wrote (lineOf (rowOf (blockOf t k))) o xs r
+  line-at w = rw (← e) w
 
 -- A line more.
 lines-next : (t : List ℕ) (k : ℕ) → linesOf t (k + 1) ≡ linesOf t k ++ lineOf (rowOf (blockOf t (k + 1)))
@@ -47,6 +55,10 @@ lines-le t k (suc n) h = go (ltb k (suc n)) refl (lines-le t k n)
         omega (arith, length-append (linesOf t n) (lineOf (rowOf (blockOf t (suc n)))))
     go false e r = let q : k ≡ suc n = omega (arith, ltb-false k (suc n) e) in rw q (omega arith)
 
+pub lines-none : (t o : List ℕ) → Wrote (linesOf t 0) o o 0
+unfolding linesOf over
+lines-none t o = record { count = refl; bytes = refl }
+
 module _ (t : List ℕ) (count : ℕ) (s : SoundTable t count) where
   pub list-is : listOf t ≡ firstLine ++ linesOf t count
   unfolding listOf headerOf
@@ -55,9 +67,12 @@ module _ (t : List ℕ) (count : ℕ) (s : SoundTable t count) where
   -- no line is longer than its space
   pub short-at : (k : ℕ) → 1 ≤ k → k ≤ count → {b : List ℕ} → b ≡ blockOf t k → length (lineOf (rowOf b)) ≤ 1024
   unfolding recordOf
-  short-at k a b {x} e =
+  short-at k a b e =
       let l : Limits (recordOf (blockOf t k)) = sound-limits t count s k a b in
       rw e (line-short (blockOf t k) (l .public) (l .private) (l .server))
+
+  pub size-short : (k : ℕ) {b : List ℕ} {r : ℕ} → 1 ≤ k → k ≤ count → b ≡ blockOf t k → r ≡ length (lineOf (rowOf b)) → r ≤ 1024
+  size-short k a b e f = omega (arith, short-at k a b e)
 
   pub size-at : (k : ℕ) {b : List ℕ} {r : ℕ} → b ≡ blockOf t k → r ≡ length (lineOf (rowOf b)) → r ≡ length (lineOf (rowOf (blockOf t k)))
   size-at k e f = f ∙ ap (λ (x : List ℕ). length (lineOf (rowOf x))) e
@@ -86,28 +101,30 @@ module _ (t : List ℕ) (count : ℕ) (s : SoundTable t count) where
 
   -- The turns of the loop that writes.
   module _ (o : List ℕ) where
-    pub list-none : {xs : List ℕ} {r : ℕ} → Wrote firstLine o xs r → Wrote (firstLine ++ linesOf t 0) o xs r
-    unfolding linesOf
-    list-none w = named (sym (append-nil firstLine)) refl w
-
-    module _ (k n : ℕ) (xs : List ℕ) (h : k < count) (w : Wrote (firstLine ++ linesOf t k) o xs n) (l : length xs ≡ length o)
-        (fits : length (listOf t) ≤ length o) where
-      pub line-room : length (lineOf (rowOf (blockOf t (k + 1)))) ≤ length (midOf n (length xs - n) xs)
-      line-room =
-          let e : length (listOf t) ≡ length firstLine + length (linesOf t count) = ap length list-is ∙ length-append firstLine (linesOf t count) in
+    module _ (k n : ℕ) (xs : List ℕ) (h : k < count) (w : Wrote (linesOf t k) o xs n) where
+      pub line-room : length xs ≡ length o → length (linesOf t count) ≤ length o
+          → length (lineOf (rowOf (blockOf t (k + 1)))) ≤ length (midOf n (length xs - n) xs)
+      line-room l fits =
           let m : length (linesOf t (k + 1)) ≤ length (linesOf t count) = lines-le t (k + 1) count (omega arith) in
-          let c : n ≡ length firstLine + length (linesOf t k) = w .count ∙ length-append firstLine (linesOf t k) in
           let d : length (linesOf t (k + 1)) ≡ length (linesOf t k) + length (lineOf (rowOf (blockOf t (k + 1)))) =
           ap length (lines-next t k) ∙ length-append (linesOf t k) (lineOf (rowOf (blockOf t (k + 1)))) in
-          simp (length-take, length-drop) (omega arith)
+          simp (length-take, length-drop) (omega (arith, w .count))
 
       pub line-more : {ys : List ℕ} {r : ℕ} → Wrote (lineOf (rowOf (blockOf t (k + 1)))) (midOf n (length xs - n) xs) ys r
-          → Wrote (firstLine ++ linesOf t (k + 1)) o (putMid n (length xs - n) xs ys) (n + r)
-      line-more v =
-          named (append-assoc firstLine (linesOf t k) (lineOf (rowOf (blockOf t (k + 1)))) ∙ ap (λ (z : List ℕ). firstLine ++ z) (sym (lines-next t k))) refl (then w v)
+          → Wrote (linesOf t (k + 1)) o (putMid n (length xs - n) xs ys) (n + r)
+      line-more v = named (sym (lines-next t k)) refl (then w v)
 
-    pub list-all : (k n : ℕ) {xs : List ℕ} → k ≤ count → count ≤ k → Wrote (firstLine ++ linesOf t k) o xs n → Wrote (listOf t) o xs n
-    list-all k n a b w = let q : k ≡ count = omega arith in named (rw q (sym list-is)) refl w
+    pub lines-all : (k n : ℕ) {xs : List ℕ} → k ≤ count → count ≤ k → Wrote (linesOf t k) o xs n → Wrote (linesOf t count) o xs n
+    lines-all k n a b w = let q : k ≡ count = omega arith in named (rw q) refl w
 
+    -- the first line, and the others behind it
     pub first-room : length (listOf t) ≤ length o → length firstLine ≤ length o
-    first-room h = omega (arith, ap length list-is, length-append firstLine (linesOf t count))
+    first-room h = former-room firstLine (linesOf t count) o (rw list-is at h)
+
+    pub lines-room : {xs : List ℕ} {n : ℕ} → length (listOf t) ≤ length o → Wrote firstLine o xs n → length xs ≡ length o
+        → length (linesOf t count) ≤ length (midOf n (length xs - n) xs)
+    lines-room h w l = latter-room firstLine (linesOf t count) o (rw list-is at h) w l
+
+    pub wrote-list : {xs ys : List ℕ} {n r : ℕ} → Wrote firstLine o xs n → Wrote (linesOf t count) (lent n xs) ys r
+        → Wrote (listOf t) o (back n xs ys) (length (listOf t))
+    wrote-list w v = let all : Wrote (firstLine ++ linesOf t count) o _ _ = then w v in named (sym list-is) (all .count ∙ ap length (sym list-is)) all

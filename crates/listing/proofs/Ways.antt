@@ -7,6 +7,7 @@ use Rattle.blocks.specs.declared.Checked.{Checked}
 use Rattle.blocks.specs.declared.Checked.the-variants.{Sound, Bad}
 use Rattle.table.specs.Check.{checkTable}
 use Rattle.table.specs.SoundTable.{SoundTable}
+use Rattle.table.proofs.Sound.{sound-size}
 use Rattle.listing.specs.ListOf.{listOf, firstUnlisted}
 use Rattle.listing.specs.Export.{came, writing, exportPast, exportSound, exportChecked, exported}
 use Rattle.listing.specs.declared.Listed.{Listed}
@@ -60,3 +61,6 @@ module _ (t area : List ℕ) where
 
 pub checked-sound : (t : List ℕ) (file count : ℕ) {c : Checked} → c ≡ checkTable t file → c ≡ Sound count → SoundTable t count
 checked-sound t file count e f = record { file = file; checked = sym e ∙ f }
+
+pub table-long : (t : List ℕ) (count : ℕ) → SoundTable t count → 1 < length t
+table-long t count s = omega (arith, sound-size t count s)

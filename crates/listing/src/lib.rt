@@ -12,7 +12,7 @@ ghost use Rattle.blocks.specs.Blocks.{blockOf};
 ghost use Rattle.table.specs.Check.{checkTable};
 ghost use Rattle.table.specs.SoundTable.{SoundTable};
 ghost use Rattle.rows.specs.Row.{rowOf, lineOf};
-ghost use Rattle.listing.specs.ListOf.{firstLine, listOf, listableAt, firstUnlisted};
+ghost use Rattle.listing.specs.ListOf.{firstLine, linesOf, listOf, listableAt, firstUnlisted};
 ghost use Rattle.listing.specs.Export.{came, writing, exportPast, exportSound, exportChecked, exported};
 
 // The refusals, by their numbers.
@@ -31,7 +31,7 @@ pub enum Listed {
 // Writes the first line.
 fn put_first(out: &mut [u8]) -> usize
     requires { ⌜ length firstLine ≤ length (now out) ⌝ }
-    ensures { λ r. ⌜ (r ≡ 121) × Wrote firstLine (now (out .entry)) (now (out .exit)) r ⌝ }
+    ensures { λ r. ⌜ (r ≤ length (now (out .entry))) × Wrote firstLine (now (out .entry)) (now (out .exit)) r ⌝ }
 {
     run::copy(
         out,
@@ -95,16 +95,25 @@ fn put_at(out: &mut [u8], t: &[u8], count: usize, k: usize) -> usize
     rows::put_line(out, block(t, k))
 }
 
-// Writes the list.
-fn put_list(out: &mut [u8], t: &[u8], count: usize) -> usize
-    requires { ⌜ SoundTable (now t) count × (length (listOf (now t)) ≤ length (now out)) ⌝ }
-    ensures { λ r. ⌜ Wrote (listOf (now (t .entry))) (now (out .entry)) (now (out .exit)) r ⌝ }
+// Writes the lines of all records.
+fn put_lines(out: &mut [u8], t: &[u8], count: usize) -> usize
+    requires { ⌜ SoundTable (now t) count × (length (linesOf (now t) count) ≤ length (now out)) ⌝ }
+    ensures { λ r. ⌜ Wrote (linesOf (now (t .entry)) count) (now (out .entry)) (now (out .exit)) r ⌝ }
 {
-    let mut n = put_first(out);
+    let mut n = 0;
     for k in 0..count {
         n += put_at(&mut out[n..], t, count, k + 1);
     }
     n
+}
+
+// Writes the list.
+fn put_list(out: &mut [u8], t: &[u8], count: usize)
+    requires { ⌜ SoundTable (now t) count × (length (listOf (now t)) ≤ length (now out)) ⌝ }
+    ensures { λ _. ⌜ Wrote (listOf (now (t .entry))) (now (out .entry)) (now (out .exit)) (length (listOf (now (t .entry)))) ⌝ }
+{
+    let n = put_first(out);
+    put_lines(&mut out[n..], t, count);
 }
 
 // Writes the list if the area holds it.

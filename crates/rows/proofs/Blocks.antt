@@ -112,7 +112,7 @@ module _ (b : List ℕ) (k : ℕ) (h : Header) (file : ℕ) (size : length b ≡
       let long : length (take 508 b) ≡ 508 = length-take-le 508 b (omega arith) in
       let full : length (unsealed (h .issue) k (rowOf b)) ≡ 512 = ap length whole ∙ length-append (take 508 b) (replicate 4 0) ∙ omega (arith, length-replicate {A = ℕ} 4 0) in
       seal-alike (unsealed (h .issue) k (rowOf b)) b full size
-      (λ i l. rw whole (List·getD-append (take 508 b) (replicate 4 0) 0 i (omega arith) ∙ getD-take 508 b i 0 l))
+      (λ i l. ap (λ (y : List ℕ). getD y i 0) whole ∙ List·getD-append (take 508 b) (replicate 4 0) 0 i (omega arith) ∙ getD-take 508 b i 0 l)
       ∙ sealed-held b bytes (tests .sum)
 
 -- Numbers that fit: how many they are, and each of them.

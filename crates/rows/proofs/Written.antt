@@ -11,7 +11,7 @@ use Rattle.quoting.proofs.Names.{doubled-most, quoted-length}
 use Rattle.quoting.proofs.Writing.{going-room}
 use Rattle.rows.specs.Row.{Row, numbersOf, rowOf, numbersLine, lineOf}
 use Rattle.rows.specs.Written.{numberBytes, numberSize, numbersBytes, statesOf, wordsAt, profileNumbers, formerNumbers, optionalNumbers, lastNumbers}
-use Rattle.rows.specs.Written.{allNumbers, namesLine, namesSize}
+use Rattle.rows.specs.Written.{latterNumbers, allNumbers, namesLine, namesSize}
 
 pub wrote-number : (n : ℕ) {b xs ys : List ℕ} {r : ℕ} → Wrote (44 ∷ []) b xs 1 → Wrote (decimal n) (lent 1 xs) ys r
     → Wrote (numberBytes n) b (back 1 xs ys) (1 + r)
@@ -95,32 +95,39 @@ module _ (b o : List ℕ) where
       unfolding lastNumbers
       end-room h l = latter-room (numbersBytes x) (13 ∷ 10 ∷ []) o (rw ex h) w l
 
+      pub last-within : length (lastNumbers b) ≤ length o → n + 2 ≤ length o
+      unfolding lastNumbers
+      last-within h = let k : length (numbersBytes x ++ (13 ∷ 10 ∷ [])) ≤ length o = rw ex h in omega (arith, w .count, length-append (numbersBytes x) (13 ∷ 10 ∷ []))
+
       pub wrote-last : {ys : List ℕ} → Wrote (13 ∷ 10 ∷ []) (lent n xs) ys 2 → Wrote (lastNumbers b) o (back n xs ys) (n + 2)
       unfolding lastNumbers
       wrote-last v = named (rw ex) refl (then w v)
 
-  pub all-former : length (allNumbers b) ≤ length o → length (formerNumbers b) ≤ length o
+  pub optional-room : length (latterNumbers b) ≤ length o → length (optionalNumbers b) ≤ length o
+  unfolding latterNumbers
+  optional-room h = former-room (optionalNumbers b) (lastNumbers b) o h
+
+  pub former-all : length (allNumbers b) ≤ length o → length (formerNumbers b) ≤ length o
   unfolding allNumbers
-  all-former h = former-room (formerNumbers b) (optionalNumbers b ++ lastNumbers b) o h
+  former-all h = former-room (formerNumbers b) (latterNumbers b) o h
 
-  module _ {xs : List ℕ} {m : ℕ} (w : Wrote (formerNumbers b) o xs m) (h : length (allNumbers b) ≤ length o) (l : length xs ≡ length o) where
-    pub all-optional : length (optionalNumbers b) ≤ length (midOf m (length xs - m) xs)
+  module _ {xs : List ℕ} {n : ℕ} (l : length xs ≡ length o) where
+    pub last-room : Wrote (optionalNumbers b) o xs n → length (latterNumbers b) ≤ length o → length (lastNumbers b) ≤ length (midOf n (length xs - n) xs)
+    unfolding latterNumbers
+    last-room w h = latter-room (optionalNumbers b) (lastNumbers b) o h w l
+
+    pub latter-all : Wrote (formerNumbers b) o xs n → length (allNumbers b) ≤ length o → length (latterNumbers b) ≤ length (midOf n (length xs - n) xs)
     unfolding allNumbers
-    all-optional = omega (arith, latter-room (formerNumbers b) (optionalNumbers b ++ lastNumbers b) o h w l, length-append (optionalNumbers b) (lastNumbers b))
+    latter-all w h = latter-room (formerNumbers b) (latterNumbers b) o h w l
 
-    module _ {ys : List ℕ} {r : ℕ} (v : Wrote (optionalNumbers b) (lent m xs) ys r) where
-      both : Wrote (formerNumbers b ++ optionalNumbers b) o (back m xs ys) (m + r)
-      both = then w v
+  module _ {xs ys : List ℕ} {n r : ℕ} where
+    pub wrote-latter : Wrote (optionalNumbers b) o xs n → Wrote (lastNumbers b) (lent n xs) ys r → Wrote (latterNumbers b) o (back n xs ys) (n + r)
+    unfolding latterNumbers
+    wrote-latter w v = then w v
 
-      grouped : (formerNumbers b ++ optionalNumbers b) ++ lastNumbers b ≡ allNumbers b
-      unfolding allNumbers
-      grouped = append-assoc (formerNumbers b) (optionalNumbers b) (lastNumbers b)
-
-      pub all-last : {zs : List ℕ} {n : ℕ} → zs ≡ back m xs ys → n ≡ m + r → length zs ≡ length o → length (lastNumbers b) ≤ length (midOf n (length zs - n) zs)
-      all-last e f k = latter-room (formerNumbers b ++ optionalNumbers b) (lastNumbers b) o (rw grouped h) (named refl (sym f) (rw e both)) k
-
-      pub wrote-all : {zs : List ℕ} {k : ℕ} → Wrote (lastNumbers b) (lent (m + r) (back m xs ys)) zs k → Wrote (allNumbers b) o (back (m + r) (back m xs ys) zs) (m + r + k)
-      wrote-all z = named grouped refl (then both z)
+    pub wrote-all : Wrote (formerNumbers b) o xs n → Wrote (latterNumbers b) (lent n xs) ys r → Wrote (allNumbers b) o (back n xs ys) (n + r)
+    unfolding allNumbers
+    wrote-all w v = then w v
 
 -- The names.
 module _ (a b c : List ℕ) {o x1 x2 x3 x4 x5 : List ℕ} {m r s : ℕ} where
@@ -143,17 +150,21 @@ numbers-front (x ∷ xs) ys =
     ap (λ (l : List ℕ). 44 ∷ l) (ap (λ (l : List ℕ). decimal x ++ l) (numbers-front xs ys) ∙ sym (append-assoc (decimal x) (numbersBytes xs) (numbersLine ys)))
 
 all-numbers : (b : List ℕ) → allNumbers b ≡ numbersLine (numbersOf b)
-unfolding allNumbers formerNumbers optionalNumbers lastNumbers numbersOf numbersLine numbersBytes
+unfolding allNumbers formerNumbers latterNumbers optionalNumbers lastNumbers numbersOf numbersLine numbersBytes
 all-numbers b =
+    let d : List ℕ = profileNumbers b in
+    let o : List ℕ = wordsAt b 384 ++ d in
+    let n : List ℕ = optionalCount b ∷ o in
+    let m : List ℕ = wordsAt b 368 ++ n in
     sym
-    (numbers-front (statesOf b) _
+    (numbers-front (statesOf b) m
     ∙ ap (λ (l : List ℕ). numbersBytes (statesOf b) ++ l)
-    (numbers-front (wordsAt b 368) _
+    (numbers-front (wordsAt b 368) n
     ∙ ap (λ (l : List ℕ). numbersBytes (wordsAt b 368) ++ l)
-    (numbers-front (optionalCount b ∷ []) _
+    (numbers-front (optionalCount b ∷ []) o
     ∙ ap (λ (l : List ℕ). numbersBytes (optionalCount b ∷ []) ++ l)
-    (numbers-front (wordsAt b 384) _ ∙ ap (λ (l : List ℕ). numbersBytes (wordsAt b 384) ++ l) (last-numbers (profileNumbers b)))))
-    ∙ regroup (numbersBytes (statesOf b)) (numbersBytes (wordsAt b 368)) (numbersBytes (wordsAt b 384)) (numbersBytes (profileNumbers b) ++ (13 ∷ 10 ∷ [])))
+    (numbers-front (wordsAt b 384) d ∙ ap (λ (l : List ℕ). numbersBytes (wordsAt b 384) ++ l) (last-numbers d))))
+    ∙ regroup (numbersBytes (statesOf b)) (numbersBytes (wordsAt b 368)) (numbersBytes (wordsAt b 384)) (numbersBytes d ++ (13 ∷ 10 ∷ [])))
   where
     last-numbers : (ns : List ℕ) → numbersLine ns ≡ numbersBytes ns ++ (13 ∷ 10 ∷ [])
     last-numbers ns = ap numbersLine (sym (append-nil ns)) ∙ numbers-front ns []

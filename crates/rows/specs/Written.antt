@@ -36,8 +36,11 @@ optionalNumbers b = numberBytes (optionalCount b) ++ numbersBytes (wordsAt b 384
 unfoldable pub lastNumbers : List ℕ → List ℕ
 lastNumbers b = numbersBytes (profileNumbers b) ++ (13 ∷ 10 ∷ [])
 
+unfoldable pub latterNumbers : List ℕ → List ℕ
+latterNumbers b = optionalNumbers b ++ lastNumbers b
+
 unfoldable pub allNumbers : List ℕ → List ℕ
-allNumbers b = formerNumbers b ++ (optionalNumbers b ++ lastNumbers b)
+allNumbers b = formerNumbers b ++ latterNumbers b
 
 -- three names with commas between them
 unfoldable pub namesLine : List ℕ → List ℕ → List ℕ → List ℕ

@@ -10,7 +10,7 @@ ghost use Rattle.octets.specs.Number.{be32At};
 ghost use Rattle.octets.specs.Run.{Wrote};
 ghost use Rattle.rows.specs.Row.{rowOf, lineOf};
 ghost use Rattle.rows.specs.Written.{numberBytes, numberSize, numbersBytes, statesOf, wordsAt, profileNumbers, formerNumbers};
-ghost use Rattle.rows.specs.Written.{optionalNumbers, lastNumbers, allNumbers, namesLine, namesSize};
+ghost use Rattle.rows.specs.Written.{optionalNumbers, lastNumbers, latterNumbers, allNumbers, namesLine, namesSize};
 
 const COMMA: u8 = 44;
 
@@ -133,14 +133,22 @@ fn put_last(out: &mut [u8], b: &[u8]) -> usize
     n + 2
 }
 
+// Writes the numbers of a record from its optional capabilities on, and the line's end.
+fn put_latter(out: &mut [u8], b: &[u8]) -> usize
+    requires { ⌜ (length (now b) ≡ 512) × (length (latterNumbers (now b)) ≤ length (now out)) ⌝ }
+    ensures { λ r. ⌜ (r ≤ length (now (out .entry))) × Wrote (latterNumbers (now (b .entry))) (now (out .entry)) (now (out .exit)) r ⌝ }
+{
+    let n = put_optional(out, b);
+    n + put_last(&mut out[n..], b)
+}
+
 // Writes all numbers of a record, and the line's end.
 fn put_all(out: &mut [u8], b: &[u8]) -> usize
     requires { ⌜ (length (now b) ≡ 512) × (length (allNumbers (now b)) ≤ length (now out)) ⌝ }
     ensures { λ r. ⌜ (r ≤ length (now (out .entry))) × Wrote (allNumbers (now (b .entry))) (now (out .entry)) (now (out .exit)) r ⌝ }
 {
-    let m = put_former(out, b);
-    let n = m + put_optional(&mut out[m..], b);
-    n + put_last(&mut out[n..], b)
+    let n = put_former(out, b);
+    n + put_latter(&mut out[n..], b)
 }
 
 // Writes the names of a record.

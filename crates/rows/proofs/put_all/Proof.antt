@@ -1,5 +1,5 @@
 use Rattle.octets.specs.Standard.{needs}
-use Rattle.rows.proofs.Written.{all-former, all-optional, all-last, wrote-all}
+use Rattle.rows.proofs.Written.{former-all, latter-all, wrote-all}
 use Rattle.rows.proofs.put_all.Statement.{statement}
 use Rattle.rows.proofs.put_all.Tie as tie
 
@@ -7,16 +7,11 @@ pub put-all-spec : {M : Type 1} → statement M
 put-all-spec =
     tie.close
     (tie.spec
-    (λ c κs. search (needs, all-former))
+    (λ c κs. search (needs, former-all))
     (λ c. search needs)
     (λ c. search needs)
     (λ c. search needs)
-    (λ c κs. search (needs, all-optional))
-    (λ c. search needs)
-    (λ c. search needs)
-    (λ c. search needs)
-    (λ c. search needs)
-    (λ c κs. search (needs, all-last))
+    (λ c κs. search (needs, latter-all))
     (λ c. search needs)
     (λ c. search needs)
     (λ c. search (needs, wrote-all)))

@@ -1,5 +1,5 @@
 use Rattle.octets.specs.Standard.{needs}
-use Rattle.rows.proofs.Written.{profile-room, end-room, wrote-last}
+use Rattle.rows.proofs.Written.{profile-room, end-room, last-within, wrote-last}
 use Rattle.rows.proofs.put_last.Statement.{statement}
 use Rattle.rows.proofs.put_last.Tie as tie
 
@@ -16,4 +16,4 @@ put-last-spec =
     (λ c κs. search (needs, end-room))
     (λ c. search needs)
     (λ c. search needs)
-    (λ c. search (needs, wrote-last)))
+    (λ c. (search (needs, last-within), search (needs, wrote-last))))

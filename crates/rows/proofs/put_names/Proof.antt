@@ -29,4 +29,4 @@ put-names-spec =
     (λ c κs. search needs)
     (λ c. search needs)
     (λ c. search needs)
-    (λ c. search (needs, wrote-names)))
+    (λ c. (search needs, search (needs, wrote-names))))
