@@ -18,13 +18,13 @@ strings-some (suc n) = omega arith
 times : (a b s : ℕ) → a ≤ b → a * s ≤ b * s
 times a b s h = mul-le-mul-right s h
 
-least : (x : ℕ) (s : List ℕ) → listable (x ∷ s) ≡ true → (32 ≤ x) × (x ≤ 126)
+pub least : (x : ℕ) (s : List ℕ) → listable (x ∷ s) ≡ true → (32 ≤ x) × (x ≤ 126)
 unfolding listable
 least x s e =
     let l : isListed x ≡ true = and-left (isListed x) (listable s) e in
     (leb-true 32 x (and-left (leb 32 x) (leb x 126) l), leb-true x 126 (and-right (leb 32 x) (leb x 126) l))
 
-others : (x : ℕ) (s : List ℕ) → listable (x ∷ s) ≡ true → listable s ≡ true
+pub others : (x : ℕ) (s : List ℕ) → listable (x ∷ s) ≡ true → listable s ≡ true
 unfolding listable
 others x s e = and-right (isListed x) (listable s) e
 

@@ -1,4 +1,5 @@
 pub mod Above
+pub mod High
 pub mod Accepts
 pub mod Given
 pub mod Importing

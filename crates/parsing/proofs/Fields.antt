@@ -107,7 +107,7 @@ module _ (s : List ℕ) (a b c : Name) (ea : a ≡ asName (nameIn 128 s)) (eb : 
       third : (x y : List ℕ) (o : Option (List ℕ)) → a ≡ asName (some x) → b ≡ asNameAfter (some y) → c ≡ asNameAfter o
           → answer (ltb 0 (a .size) && ltb 0 (b .size) && ltb 0 (c .size))
           ≡ asNames (andThen o (λ (z : List ℕ). some (record { public = x; private = y; server = z; numbers = [] })))
-      third x y none p q r = rw (p, q, r)
+      third x y none p q r = rw (p, q, r, and-false)
       third x y (some z) p q r = rw (p, q, r, lt-ltb 0 (quotedSize x) (omega arith), lt-ltb 0 (1 + quotedSize y) (omega arith), lt-ltb 0 (1 + quotedSize z) (omega arith))
 
       second : (x : List ℕ) (o : Option (List ℕ)) → a ≡ asName (some x) → b ≡ asNameAfter o → nameAfter 128 (drop (secondAt x) s) ≡ o

@@ -46,16 +46,24 @@ module _ (s : List ℕ) (at : ℕ) where
     unfolding numbersIn
     next = rw (add-one i, drop-cons most i 0 h)
 
-    pub reading-not : n .size ≡ 0 → (0 ≡ endOf at (numbersIn most (drop at s))) × Held (numbersIn most (drop at s)) out
-    reading-not z = pick (numberAfter (getD most i 0) (drop p s)) refl e
+    not-read : n .size ≡ 0 → (0 ≡ endOf at (numbersIn most (drop at s))) × Held (numbersIn most (drop at s)) out
+    not-read z = pick (numberAfter (getD most i 0) (drop p s)) refl e
       where
         none-is : numbersIn most (drop at s) ≡ none → (0 ≡ endOf at (numbersIn most (drop at s))) × Held (numbersIn most (drop at s)) out
         none-is f = rw f (refl, record { numbers = λ ns g. let y : _≡_ {A = ℕ} 0 1 = cc in absurd (omega arith) })
 
         pick : (o : Option ℕ) → numberAfter (getD most i 0) (drop p s) ≡ o → n ≡ asNumberAfter o
             → (0 ≡ endOf at (numbersIn most (drop at s))) × Held (numbersIn most (drop at s)) out
-        pick none f g = none-is (r .left ∙ ap (andNumbers (take i out)) (next ∙ rw f))
+        pick none f g =
+            let q : numbersIn (drop i most) (drop p s) ≡ none = next ∙ rw f in
+            none-is (r .left ∙ ap (andNumbers (take i out)) q)
         pick (some v) f g = let y : n .size ≡ 1 + digitCount v = rw g in absurd (omega arith)
+
+    pub not-end : n .size ≡ 0 → 0 ≡ endOf at (numbersIn most (drop at s))
+    not-end z = not-read z .0
+
+    pub not-held : n .size ≡ 0 → Held (numbersIn most (drop at s)) out
+    not-held z = not-read z .1
 
     pub reading-more : (n .size ≡ 0 → ⊥) → length out ≡ 18 → Reading s at (set out i (n .value)) (i + 1) (p + n .size)
     reading-more z l = pick (numberAfter (getD most i 0) (drop p s)) refl e
@@ -66,14 +74,14 @@ module _ (s : List ℕ) (at : ℕ) where
         pick : (o : Option ℕ) → numberAfter (getD most i 0) (drop p s) ≡ o → n ≡ asNumberAfter o → Reading s at (set out i (n .value)) (i + 1) (p + n .size)
         pick none f g = absurd (z (rw g))
         pick (some v) f g =
+            let after : Option (List ℕ) = numbersIn (drop (i + 1) most) (drop (1 + digitCount v) (drop p s)) in
+            let q : numbersIn (drop i most) (drop p s) ≡ andThen after (λ (vs : List ℕ). some (v ∷ vs)) = next ∙ rw f in
+            let l : numbersIn most (drop at s) ≡ andNumbers (take i out ++ (v ∷ [])) after =
+            r .left ∙ ap (andNumbers (take i out)) q ∙ and-more (take i out) v after in
             rw g
             (record {
               place = rw (took v, lines-snoc (take i out) v) (omega (arith, r .place));
-              left =
-                  r .left
-                  ∙ ap (andNumbers (take i out)) (next ∙ rw f)
-                  ∙ and-more (take i out) v (numbersIn (drop (i + 1) most) (drop (1 + digitCount v) (drop p s)))
-                  ∙ rw (drop-drop (1 + digitCount v) p s, took v);
+              left = l ∙ rw (drop-drop (1 + digitCount v) p s, took v);
             })
 
   module _ (out : List ℕ) (i p : ℕ) (r : Reading s at out i p) (a : i ≤ 18) (b : 18 ≤ i) (l : length out ≡ 18) {x : Bool} (e : x ≡ endsLine (drop p s)) where
@@ -83,16 +91,28 @@ module _ (s : List ℕ) (at : ℕ) where
     whole : take i out ≡ out
     whole = take-all i out (omega arith)
 
-    pub reading-end : x ≡ true → (p + 2 ≡ endOf at (numbersIn most (drop at s))) × Held (numbersIn most (drop at s)) out
+    ended : x ≡ true → (p + 2 ≡ endOf at (numbersIn most (drop at s))) × Held (numbersIn most (drop at s)) out
     unfolding numbersIn
-    reading-end t =
+    ended t =
         let k : endsLine (drop p s) ≡ true = sym e ∙ t in
         let o : numbersIn most (drop at s) ≡ some out = r .left ∙ rw (whole, eighteen, k, append-nil out) in
         rw o (r .place ∙ rw whole, record { numbers = λ ns g. cc })
 
-    pub reading-open : x ≡ false → (0 ≡ endOf at (numbersIn most (drop at s))) × Held (numbersIn most (drop at s)) out
+    unended : x ≡ false → (0 ≡ endOf at (numbersIn most (drop at s))) × Held (numbersIn most (drop at s)) out
     unfolding numbersIn
-    reading-open t =
+    unended t =
         let k : endsLine (drop p s) ≡ false = sym e ∙ t in
         let o : numbersIn most (drop at s) ≡ none = r .left ∙ rw (whole, eighteen, k) in
         rw o (refl, record { numbers = λ ns g. let y : _≡_ {A = ℕ} 0 1 = cc in absurd (omega arith) })
+
+    pub end-place : x ≡ true → p + 2 ≡ endOf at (numbersIn most (drop at s))
+    end-place t = ended t .0
+
+    pub end-held : x ≡ true → Held (numbersIn most (drop at s)) out
+    end-held t = ended t .1
+
+    pub open-place : x ≡ false → 0 ≡ endOf at (numbersIn most (drop at s))
+    open-place t = unended t .0
+
+    pub open-held : x ≡ false → Held (numbersIn most (drop at s)) out
+    open-held t = unended t .1

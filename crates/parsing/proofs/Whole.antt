@@ -128,16 +128,22 @@ numbers-sized s after at end e z h = go (numbersIn most (drop at s)) refl e
 
 -- The answer: no names, no numbers, or a block.
 module _ (s b : List ℕ) (issue k : ℕ) (n : Names) (e : n ≡ asNames (namesIn s)) where
-  pub read-nameless : n .numbers ≡ 0 → (0 ≡ rowSize (rowIn s)) × (b ≡ blockOver issue k (rowIn s) b)
-  read-nameless z = go (namesIn s) refl e
+  nameless : n .numbers ≡ 0 → (0 ≡ rowSize (rowIn s)) × (b ≡ blockOver issue k (rowIn s) b)
+  nameless z = go (namesIn s) refl e
     where
       go : (o : Option Row) → namesIn s ≡ o → n ≡ asNames o → (0 ≡ rowSize (rowIn s)) × (b ≡ blockOver issue k (rowIn s) b)
       go none f g = let r : rowIn s ≡ none = row-parts s ∙ rw f in rw r (refl, refl)
       go (some r) f g = let y : n .numbers ≡ numbersAt (r .public) (r .private) (r .server) = rw g in absurd (omega arith)
 
+  pub nameless-size : n .numbers ≡ 0 → 0 ≡ rowSize (rowIn s)
+  nameless-size z = nameless z .0
+
+  pub nameless-block : n .numbers ≡ 0 → b ≡ blockOver issue k (rowIn s) b
+  nameless-block z = nameless z .1
+
   module _ (end : ℕ) (f : end ≡ endOf (n .numbers) (numbersIn most (drop (n .numbers) s))) (there : n .numbers ≡ 0 → ⊥) where
-    pub read-numberless : end ≡ 0 → (0 ≡ rowSize (rowIn s)) × (b ≡ blockOver issue k (rowIn s) b)
-    read-numberless z = go (namesIn s) refl e
+    numberless : end ≡ 0 → (0 ≡ rowSize (rowIn s)) × (b ≡ blockOver issue k (rowIn s) b)
+    numberless z = go (namesIn s) refl e
       where
         pick : (r : Row) → namesIn s ≡ some r → n ≡ asNames (some r) → (o : Option (List ℕ)) → numbersIn most (drop (n .numbers) s) ≡ o → end ≡ endOf (n .numbers) o
             → (0 ≡ rowSize (rowIn s)) × (b ≡ blockOver issue k (rowIn s) b)
@@ -149,6 +155,12 @@ module _ (s b : List ℕ) (issue k : ℕ) (n : Names) (e : n ≡ asNames (namesI
         go : (o : Option Row) → namesIn s ≡ o → n ≡ asNames o → (0 ≡ rowSize (rowIn s)) × (b ≡ blockOver issue k (rowIn s) b)
         go none g h = absurd (there (rw h))
         go (some r) g h = pick r g h (numbersIn most (drop (n .numbers) s)) refl f
+
+    pub numberless-size : end ≡ 0 → 0 ≡ rowSize (rowIn s)
+    numberless-size z = numberless z .0
+
+    pub numberless-block : end ≡ 0 → b ≡ blockOver issue k (rowIn s) b
+    numberless-block z = numberless z .1
 
     module _ (ns y : List ℕ) (held : Held (numbersIn most (drop (n .numbers) s)) ns) (wrote : y ≡ blockFrom issue k (rowTaken s n ns)) (some-end : end ≡ 0 → ⊥) where
       row-whole : rowIn s ≡ some (rowTaken s n ns) × (end ≡ length (lineOf (rowTaken s n ns)))
@@ -168,5 +180,8 @@ module _ (s b : List ℕ) (issue k : ℕ) (n : Names) (e : n ≡ asNames (namesI
           go none g h = absurd (there (rw h))
           go (some r) g h = pick r g h (numbersIn most (drop (n .numbers) s)) refl f
 
-      pub read-whole : (end ≡ rowSize (rowIn s)) × (y ≡ blockOver issue k (rowIn s) b)
-      read-whole = rw (row-whole .0) (row-whole .1, wrote)
+      pub whole-size : end ≡ rowSize (rowIn s)
+      whole-size = rw (row-whole .0) (row-whole .1)
+
+      pub whole-block : y ≡ blockOver issue k (rowIn s) b
+      whole-block = rw (row-whole .0) wrote

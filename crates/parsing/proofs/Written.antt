@@ -1,9 +1,9 @@
 -- The block that a line says, written piece by piece.
 use Rattle.octets.specs.Standard.{ℕ, zero, suc, _+_, _-_, _*_, _<_, _≤_, min, Bool, true, false, _≡_, refl, sym, _∙_, ap, arith, add-one, leb, leb-true}
 use Rattle.octets.specs.Standard.{leb-false, List, [], _∷_, _++_, append-assoc, append-nil, length, take, drop, getD, replicate, length-append, length-replicate}
-use Rattle.octets.specs.Standard.{drop-cons, drop-of-length-le, length-drop, take-all}
+use Rattle.octets.specs.Standard.{sets, drop-cons, drop-of-length-le, length-drop, length-take-le, take-all}
 use Rattle.octets.specs.Run.{over, Wrote}
-use Rattle.octets.proofs.Writes.{Going, going-none, going-more, going-end, then, lent, back, named}
+use Rattle.octets.proofs.Writes.{Going, going-none, going-more, going-end, over-sets, then, lent, back, named}
 use Rattle.blocks.specs.Sealed.{sealed}
 use Rattle.quoting.specs.Quoted.{taken}
 use Rattle.rows.specs.Row.{Row}
@@ -16,6 +16,9 @@ pub taken-length : (n : ℕ) (s : List ℕ) → length (taken n s) ≡ n
 unfolding taken
 taken-length zero s = refl
 taken-length (suc n) s = ap suc (taken-length n _)
+
+pub wrote-front : (k : ℕ) (ns : List ℕ) (p q r : ℕ) (b : List ℕ) → 16 ≤ length b → Wrote (frontBytes k ns p q r) b (sets b 0 (frontBytes k ns p q r)) 16
+wrote-front k ns p q r b h = record { count = refl; bytes = over-sets (frontBytes k ns p q r) b h }
 
 -- a place past the end is as good as the end
 drop-least : (s : List ℕ) (at p : ℕ) → p ≡ min at (length s) → drop p s ≡ drop at s
@@ -60,13 +63,20 @@ module _ (b ws : List ℕ) where
       let q : drop i ws ≡ [] = drop-of-length-le ws {i = i} h in
       named refl (omega arith) (going-end (rw q at g))
 
-pub wrote-rest : (ns : List ℕ) {b p q r : List ℕ} {m k : ℕ} → Wrote (wordsBytes (take 4 (drop 6 ns))) b p m
-    → Wrote (wordsBytes (take 5 (drop 11 ns))) (lent 16 p) q k → Wrote (halfBytes (getD ns 16 0) ++ halfBytes (getD ns 17 0)) (lent 36 (back 16 p q)) r 4
-    → m ≡ 16 → k ≡ 20 → Wrote (restBytes ns) b (back 36 (back 16 p q) r) 40
+pub wrote-rest : (ns : List ℕ) {b p q r : List ℕ} → Sized ns → Wrote (wordsBytes (take 4 (drop 6 ns))) b p (4 * length (take 4 (drop 6 ns)))
+    → Wrote (wordsBytes (take 5 (drop 11 ns))) (lent 16 p) q (4 * length (take 5 (drop 11 ns)))
+    → Wrote (halfBytes (getD ns 16 0) ++ halfBytes (getD ns 17 0)) (lent 36 (back 16 p q)) r 4
+    → Wrote (restBytes ns) b (back 36 (back 16 p q) r) 40
 unfolding restBytes
-wrote-rest ns u v w e f =
+wrote-rest ns n u v w =
+    let e : 4 * length (take 4 (drop 6 ns)) ≡ 16 = omega (arith, n .count, length-take-le 4 (drop 6 ns) (omega (arith, n .count, length-drop 6 ns))) in
+    let f : 4 * length (take 5 (drop 11 ns)) ≡ 20 = omega (arith, n .count, length-take-le 5 (drop 11 ns) (omega (arith, n .count, length-drop 11 ns))) in
     named (append-assoc (wordsBytes (take 4 (drop 6 ns))) (wordsBytes (take 5 (drop 11 ns))) (halfBytes (getD ns 16 0) ++ halfBytes (getD ns 17 0))) refl
     (then (named refl (omega arith) (then (named refl e u) (named refl f v))) w)
+
+pub wrote-issue : (issue : ℕ) {b p q : List ℕ} → Wrote (wordBytes issue) b p 4 → Wrote (replicate 100 0) (lent 4 p) q 100
+    → Wrote (wordBytes issue ++ replicate 100 0) b (back 4 p q) 104
+wrote-issue issue u v = then u v
 
 -- The whole block.
 module _ (s : List ℕ) (n : Names) (ns : List ℕ) (k issue : ℕ) where

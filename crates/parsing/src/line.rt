@@ -44,6 +44,7 @@ const MOST: [usize; 18] = [
 
 // A name behind a comma, at a place of a line.
 fn name_after(s: &[u8], at: usize, most: usize) -> Name
+    requires { ⌜ most ≤ 128 ⌝ }
     ensures { λ r. ⌜ (r ≡ asNameAfter (nameAfter most (drop at (now (s .entry))))) × (r .size ≤ 2 * most + 3) ⌝ }
 {
     if at < s.len() {
