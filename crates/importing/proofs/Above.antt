@@ -9,7 +9,7 @@ use Rattle.octets.proofs.Names.{never}
 use Rattle.quoting.specs.Quoted.{isListed, listable}
 use Rattle.importing.specs.Above.{stringsOf, above}
 
-strings-some : (n : ℕ) → 1 ≤ stringsOf n
+pub strings-some : (n : ℕ) → 1 ≤ stringsOf n
 unfolding stringsOf
 strings-some zero = omega arith
 strings-some (suc n) = omega arith

@@ -65,9 +65,9 @@ module _ (header : List ℕ) (file : ℕ) (t : List ℕ) (x : Exportable header 
 
   counted : countOf header ≡ count
   unfolding headerOf
-  counted = rw (← x .header-block) (tests .counted)
+  counted = ap (λ (b : List ℕ). countOf b) (sym (x .header-block)) ∙ tests .counted
 
-  block-whole : (k : ℕ) → k ≤ count → length (blockOf t k) ≡ 512
+  pub block-whole : (k : ℕ) → k ≤ count → length (blockOf t k) ≡ 512
   block-whole k h = block-length t k (omega (arith, tests .size))
 
   names : (k : ℕ) → 1 ≤ k → k ≤ count → listableAt t k ≡ true

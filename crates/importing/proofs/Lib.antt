@@ -3,3 +3,4 @@ pub mod High
 pub mod Accepts
 pub mod Given
 pub mod Importing
+pub mod Next
