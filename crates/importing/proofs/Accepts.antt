@@ -85,7 +85,7 @@ module _ (list header : List ℕ) (fit : FitHeader header) where
     kind-two =
         let t : RecordTests (blockOf said (suc n)) (suc n) (headerOf header) file = record-says _ _ _ _ record-good in
         let s = chain-says (eqb (getD (blockOf said (suc n)) 0 0) 2) (_ ∷ _ ∷ _ ∷ []) (t .head) in
-        rw (said-block (suc n) h) at (eqb-true _ _ (s 0))
+        rw (said-block (suc n) h) at (eqb-true (getD (blockOf said (suc n)) 0 0) 2 (s 0))
 
     pub record Row-there : Type 0 where
       pub row : Row

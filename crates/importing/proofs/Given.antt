@@ -30,7 +30,7 @@ use Rattle.listing.specs.ListOf.{firstLine, linesOf, listOf, listableAt, firstU
 use Rattle.listing.proofs.Lists.{list-is}
 use Rattle.importing.specs.Above.{above}
 use Rattle.importing.specs.Said.{placeOf, saidAt, tableSaid, enoughAt, holdsAt, isTitled, overRecords, firstWrong}
-use Rattle.importing.proofs.Above.{above-less}
+use Rattle.importing.proofs.Falling.{above-less}
 
 -- a sound table of edition 2 under a header block and beside a profile file, whose every name can be listed
 pub record Exportable (header : List ℕ) (file : ℕ) (t : List ℕ) : Type 0 where

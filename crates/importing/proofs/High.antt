@@ -7,7 +7,7 @@ use Rattle.octets.proofs.All.{and-left, and-right}
 use Rattle.octets.proofs.Runs.{past-zero}
 use Rattle.quoting.specs.Quoted.{isListed, listable}
 use Rattle.importing.specs.Above.{stringsOf, above, tildes}
-use Rattle.importing.proofs.Above.{least, others}
+use Rattle.importing.proofs.Falling.{least, others}
 
 -- The turns of the loop over the first bytes.
 module _ (s : List ℕ) where
@@ -39,10 +39,13 @@ module _ (s : List ℕ) where
   tilde-end i left h = let d : 126 - i ≡ 0 = omega arith in sym (left ∙ rw d)
 
 -- A byte of a name that can be listed.
-pub listed-most : (s : List ℕ) (i : ℕ) → listable s ≡ true → i < length s → getD s i 0 ≤ 126
+listed-most : (s : List ℕ) (i : ℕ) → listable s ≡ true → i < length s → getD s i 0 ≤ 126
 listed-most [] i e h = absurd (omega arith)
 listed-most (x ∷ s) zero e h = least x s e .1
 listed-most (x ∷ s) (suc i) e h = listed-most s i (others x s e) (omega arith)
+
+pub listed-byte : (s : List ℕ) (i b : ℕ) → listable s ≡ true → i < length s → b ≡ getD s i 0 → b ≤ 126
+listed-byte s i b e h f = omega (arith, listed-most s i e h)
 
 -- There are more strings the longer they may be.
 strings-many : (m : ℕ) → 9121 ≤ stringsOf (m + 2)
@@ -82,9 +85,12 @@ module _ (s : List ℕ) (left : ℕ) (few : left ≤ 4096) (listed : listable s 
   pub enough-other : {x : Bool} → x ≡ tildes 126 s → x ≡ false → true ≡ leb left (above 128 s)
   enough-other e f = sym (le-leb left (above 128 s) (omega (arith, many 126 s listed (sym e ∙ f))))
 
-  module _ {x : Bool} (e : x ≡ tildes 126 s) (f : x ≡ true) where
+  pub is-high : {x : Bool} → x ≡ tildes 126 s → x ≡ true → tildes 126 s ≡ true
+  is-high e f = sym e ∙ f
+
+  module _ (tall : tildes 126 s ≡ true) where
     above-is : above 128 s ≡ above 2 (drop 126 s)
-    above-is = high 126 2 s (sym e ∙ f)
+    above-is = high 126 2 s tall
 
     pub enough-short : length s < 127 → true ≡ leb left (above 128 s)
     unfolding above stringsOf

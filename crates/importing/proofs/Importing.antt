@@ -35,7 +35,7 @@ module _ (header : List ℕ) (file : ℕ) (t : List ℕ) (x : Exportable header 
       eq-eqb (length header) 512 l also rw (x .header-block) at (s .header) also eq-eqb (editionOf header) 2 (x .edition)
 
   pub import-gives : (area : List ℕ) → imported (listOf t) header file area ≡ writing area t
-  unfolding imported importPast
+  unfolding imported
   import-gives area = rw (header-fit, given.whole header file t x, given.said header file t x)
 
 -- Import is refused neither by 5 nor by 14: the list is an export's.
@@ -103,7 +103,7 @@ module _ (list header : List ℕ) (file : ℕ) (bytes : Bytes header) (fit : fit
           ended false p q = bad-sound (Bad (n + 1)) (n + 1) c refl q
           ended true p q =
               let m : count ≡ n = good-count good count n count 1 f in
-              built t (rw (← m) at f) (rw (← m) at (eqb-true _ _ p))
+              built t (rw (← m) at f) (rw (← m) at (eqb-true (placeOf list n) (length list) p))
 
       titled : (y : Bool) → isTitled list ≡ y → cond y (overRecords list (firstBad good count count 1)) (Bad 0) ≡ Sound c → AnExport
       titled false t f = bad-sound (Bad 0) 0 c refl f

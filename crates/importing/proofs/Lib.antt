@@ -1,4 +1,4 @@
-pub mod Above
+pub mod Falling
 pub mod High
 pub mod Accepts
 pub mod Given

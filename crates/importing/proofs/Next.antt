@@ -6,7 +6,7 @@ use Rattle.octets.specs.Name.{orderOf}
 use Rattle.octets.specs.declared.name.Order.the-variants.{Less, Equal, Greater}
 use Rattle.quoting.specs.Quoted.{isListed, listable}
 use Rattle.importing.specs.Above.{stringsOf, above}
-use Rattle.importing.proofs.Above.{strings-some, least, others}
+use Rattle.importing.proofs.Falling.{strings-some, least, others}
 
 unfoldable pub next : ℕ → List ℕ → List ℕ
 next zero s = s
@@ -42,7 +42,7 @@ next-above (suc n) (x ∷ s) e l h = go (ltb 0 (above n s)) refl (next-above n s
         rw d (omega (arith, suc-mul (126 - suc x) (stringsOf n), strings-some n))
 
 pub next-less : (n : ℕ) (s : List ℕ) → listable s ≡ true → length s ≤ n → 0 < above n s → orderOf s (next n s) ≡ Less
-unfolding next orderOf above
+unfolding next orderOf above stringsOf
 next-less zero [] e l h = absurd (omega arith)
 next-less zero (x ∷ s) e l h = absurd (omega arith)
 next-less (suc n) [] e l h = refl
@@ -67,7 +67,7 @@ next-listed (suc n) (x ∷ s) e l h = go (ltb 0 (above n s)) refl (next-listed n
         rw (le-leb 32 (suc x) a, le-leb (suc x) 126 c)
 
 pub next-length : (n : ℕ) (s : List ℕ) → length s ≤ n → 0 < above n s → (1 ≤ length (next n s)) × (length (next n s) ≤ n)
-unfolding next above
+unfolding next above stringsOf
 next-length zero [] l h = absurd (omega arith)
 next-length zero (x ∷ s) l h = absurd (omega arith)
 next-length (suc n) [] l h = (omega arith, omega arith)

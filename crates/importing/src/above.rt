@@ -37,14 +37,11 @@ fn below(name: &[u8], i: usize) -> usize
     GREATEST - octets::byte(name, i)
 }
 
-// Whether so many names, no more than a table has, are left above one.
-pub fn enough(name: &[u8], left: usize) -> bool
-    requires { ⌜ (length (now name) ≤ 128) × (left ≤ 4096) × (listable (now name) ≡ true) ⌝ }
+// Whether so many names are left above a name that begins so.
+fn enough_high(name: &[u8], left: usize) -> bool
+    requires { ⌜ (length (now name) ≤ 128) × (left ≤ 4096) × (listable (now name) ≡ true) × (tildes 126 (now name) ≡ true) ⌝ }
     ensures { λ r. ⌜ r ≡ leb left (above 128 (now (name .entry))) ⌝ }
 {
-    if !tildes(name) {
-        return true;
-    }
     if name.len() < 127 {
         return true;
     }
@@ -53,4 +50,16 @@ pub fn enough(name: &[u8], left: usize) -> bool
         return left <= 96 * c + 95;
     }
     left <= 96 * c + below(name, 127)
+}
+
+// Whether so many names, no more than a table has, are left above one.
+pub fn enough(name: &[u8], left: usize) -> bool
+    requires { ⌜ (length (now name) ≤ 128) × (left ≤ 4096) × (listable (now name) ≡ true) ⌝ }
+    ensures { λ r. ⌜ r ≡ leb left (above 128 (now (name .entry))) ⌝ }
+{
+    if tildes(name) {
+        enough_high(name, left)
+    } else {
+        true
+    }
 }
