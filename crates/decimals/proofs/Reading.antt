@@ -1,14 +1,14 @@
 -- Reading a number: the turns of the loop; what was written is read, and what is read is what is written.
-use Rattle.octets.specs.Standard.{ℕ, zero, suc, _+_, _-_, _*_, _/_, _%_, _^_, _<_, _≤_, Bool, true, false, _&&_, cond, _≡_, refl, sym, _∙_, ap, arith}
-use Rattle.octets.specs.Standard.{add-one, eqb, leb, ltb, eqb-true, eq-eqb, le-leb, leb-true, ltb-true, ltb-false, lt-leb, true≢false}
-use Rattle.octets.specs.Standard.{List, [], _∷_, _++_, append-assoc, length, take, drop, getD, take-suc, List·getD-append, List·getD-eq-default}
-use Rattle.octets.specs.Standard.{getD-append-add, take-append-drop, Option, none, some, lit<, pow-le-pow-right, zero-add}
+use Rattle.octets.specs.Standard.{ℕ, zero, suc, _+_, _-_, _*_, _/_, _%_, _^_, _<_, _≤_, Bool, true, false, _&&_, cond, _≡_, refl, sym, _∙_, arith}
+use Rattle.octets.specs.Standard.{add-one, eqb, leb, ltb, eqb-true, eq-eqb, le-leb, leb-true, ltb-true, ltb-false, true≢false}
+use Rattle.octets.specs.Standard.{List, [], _∷_, _++_, length, take, drop, getD, take-suc, List·getD-append, List·getD-eq-default}
+use Rattle.octets.specs.Standard.{getD-append-add, take-append-drop, none, some, lit<, pow-le-pow-right, zero-add}
 use lib.Seq.{getD-at}
 use Rattle.octets.proofs.All.{and-left, and-right}
 use Rattle.octets.proofs.Numbers.{Bytes}
-use Rattle.decimals.specs.Decimal.{digitsMore, digitCount, digitsOf, decimal, isDigit, pastDigits, valueOf, numberBy, numberIn, asNumber}
+use Rattle.decimals.specs.Decimal.{digitCount, digitsOf, decimal, isDigit, pastDigits, valueOf, numberIn, asNumber}
 use Rattle.decimals.specs.declared.Number.{Number}
-use Rattle.decimals.proofs.Sizes.{size-enough, size-few, size-some, digits-length, decimal-length}
+use Rattle.decimals.proofs.Sizes.{size-enough, size-few, digits-length}
 
 -- The turns: nothing yet, a digit more, no digit, and ten.
 module _ (s : List ℕ) where

@@ -1,6 +1,6 @@
 -- How many digits a number has: the turns of the loop that counts them, and that they are enough.
-use Rattle.octets.specs.Standard.{ℕ, zero, suc, _+_, _-_, _*_, _/_, _^_, _<_, _≤_, Bool, true, false, _&&_, cond, _≡_, refl, sym, _∙_, ap, arith, ltb, leb}
-use Rattle.octets.specs.Standard.{lt-ltb, le-ltb, ltb-true, ltb-false, leb-true, leb-false, lt-leb, le-leb, length, length-append}
+use Rattle.octets.specs.Standard.{ℕ, zero, suc, _+_, _-_, _/_, _^_, _<_, _≤_, Bool, true, false, _&&_, cond, _≡_, refl, arith, ltb, leb}
+use Rattle.octets.specs.Standard.{lt-ltb, le-ltb, ltb-true, ltb-false, leb-true, leb-false, length, length-append}
 use Rattle.octets.proofs.All.{and-left, and-right}
 use Rattle.decimals.specs.Decimal.{digitsMore, digitCount, digitsOf, decimal}
 

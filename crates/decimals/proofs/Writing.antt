@@ -1,5 +1,5 @@
 -- The turns of the loop that writes a number from its last digit on.
-use Rattle.octets.specs.Standard.{ℕ, suc, _+_, _-_, _/_, _%_, _<_, _≤_, _≡_, refl, sym, _∙_, ap, arith, add-one, List, [], _∷_, _++_, append-assoc}
+use Rattle.octets.specs.Standard.{ℕ, suc, _+_, _-_, _/_, _%_, _<_, _≤_, _≡_, sym, _∙_, ap, arith, List, [], _∷_, _++_, append-assoc}
 use Rattle.octets.specs.Standard.{append-nil, length, take, drop, getD, set, take-append-drop, take-suc, set-at, length-take-le}
 use Rattle.octets.specs.Run.{over, Wrote}
 use Rattle.decimals.specs.Decimal.{digitCount, digitsOf, decimal}

@@ -1,34 +1,28 @@
 -- A list that has no wrong line: the table that it says is one that export can list, and this is its list.
-use Rattle.octets.specs.Standard.{ℕ, zero, suc, _+_, _-_, _*_, _/_, _%_, _<_, _≤_, Bool, true, false, _&&_, cond, true≢false, _≡_, refl, sym, _∙_, ap, arith}
-use Rattle.octets.specs.Standard.{add-one, eqb, leb, ltb, eqb-true, ltb-true, ltb-false, List, [], _∷_, _++_, append-assoc, append-nil, length, length-append}
-use Rattle.octets.specs.Standard.{take, drop, getD, replicate, length-replicate, getD-replicate, take-append-drop, drop-drop, drop-of-length-le, take-at, Option, none}
-use Rattle.octets.specs.Standard.{some, List·getD-append, getD-append-add}
-use mir.Syntax.{w8}
-use mir.Val.{Fits}
-use Rattle.octets.specs.Name.{same}
-use Rattle.octets.proofs.All.{and-left, and-right}
+use Rattle.octets.specs.Standard.{ℕ, zero, suc, _+_, _-_, _*_, _<_, _≤_, true, _≡_, refl, sym, _∙_, ap, arith}
+use Rattle.octets.specs.Standard.{eqb, eqb-true, List, [], _∷_, _++_, append-assoc, append-nil, length}
+use Rattle.octets.specs.Standard.{take, drop, getD, length-replicate, take-append-drop, drop-drop, drop-of-length-le, Option, none}
+use Rattle.octets.specs.Standard.{some}
+use Rattle.octets.proofs.All.{and-left}
 use Rattle.octets.proofs.Chains.{chain-says, _also_}
 use Rattle.octets.proofs.Names.{same-eq}
-use Rattle.octets.proofs.Numbers.{Bytes}
 use Rattle.record.specs.Fields.{countOf, issueOf, editionOf, publicOf, privateOf, serverOf}
 use Rattle.record.specs.HeaderBlock.{headerOf, soundHeader}
 use Rattle.record.specs.RecordBlock.{recordOf, soundRecord}
 use Rattle.record.proofs.Tests.{RecordTests, record-says}
-use Rattle.blocks.specs.Blocks.{blockOf, tableOf, firstBad}
-use Rattle.blocks.specs.declared.Checked.{Checked}
-use Rattle.blocks.specs.declared.Checked.the-variants.{Sound, Bad}
+use Rattle.blocks.specs.Blocks.{blockOf}
+use Rattle.blocks.specs.declared.Checked.the-variants.{Sound}
 use Rattle.blocks.proofs.Blocks.{table-length, table-block}
-use Rattle.blocks.proofs.First.{all-good, good-each, good-count, bad-sound}
+use Rattle.blocks.proofs.First.{all-good}
 use Rattle.table.specs.Check.{checkTable, soundAt, standsAt, risesAt, agreesAt}
-use Rattle.table.proofs.Sound.{TableTests, table-holds}
-use Rattle.quoting.specs.Quoted.{listable}
+use Rattle.table.proofs.Sound.{table-holds}
 use Rattle.rows.specs.Row.{Row, rowOf, lineOf}
-use Rattle.rows.specs.RowIn.{rowIn, rowSize}
-use Rattle.rows.specs.Block.{blockFrom, blockSaid}
+use Rattle.rows.specs.RowIn.{rowIn}
+use Rattle.rows.specs.Block.{blockSaid}
 use Rattle.rows.proofs.Lines as line
 use Rattle.rows.proofs.Blocks.{row-said, said-length}
 use Rattle.listing.specs.ListOf.{firstLine, linesOf, listOf, listableAt, firstUnlisted}
-use Rattle.importing.specs.Said.{placeOf, saidAt, tableSaid, enoughAt, holdsAt, isTitled, overRecords, firstWrong}
+use Rattle.importing.specs.Said.{placeOf, saidAt, tableSaid, isTitled}
 use Rattle.importing.specs.Import.{fitHeader}
 
 -- what the header block says
@@ -152,7 +146,8 @@ module _ (list header : List ℕ) (fit : FitHeader header) where
         let e : take (length firstLine) list ≡ firstLine = same-eq (take (length firstLine) list) firstLine title in
         rw (append-nil firstLine) (sym (take-append-drop (length firstLine) list) ∙ rw e)
     front (suc n) h =
-        let l : lineOf (rowOf (blockOf said (suc n))) ++ drop (placeOf list (suc n)) list ≡ drop (placeOf list n) list = sym (line-here file n h (each (suc n) (omega arith) h)) in
+        let l : lineOf (rowOf (blockOf said (suc n))) ++ drop (placeOf list (suc n)) list ≡ drop (placeOf list n) list =
+        sym (line-here file n h (each (suc n) (omega arith) h)) in
         front n (omega arith)
         ∙ sym
         (append-assoc firstLine (linesOf said n ++ lineOf (rowOf (blockOf said (suc n)))) (drop (placeOf list (suc n)) list)

@@ -1,9 +1,9 @@
 -- How many names stand above one: fewer above a later one, so that rising names leave enough for those that follow.
-use Rattle.octets.specs.Standard.{ℕ, zero, suc, _+_, _-_, _*_, _<_, _≤_, Bool, true, false, _&&_, cond, _≡_, refl, sym, _∙_, ap, arith, leb, ltb, ltb-true}
-use Rattle.octets.specs.Standard.{ltb-false, leb-true, le-leb, List, [], _∷_, length}
+use Rattle.octets.specs.Standard.{ℕ, zero, suc, _+_, _-_, _*_, _<_, _≤_, Bool, true, false, cond, _≡_, refl, arith, leb, ltb, ltb-true}
+use Rattle.octets.specs.Standard.{ltb-false, leb-true, List, [], _∷_, length}
 use native.Mathlib.Nat.{mul-le-mul-right, suc-mul}
 use Rattle.octets.specs.Name.{orderOf}
-use Rattle.octets.specs.declared.name.Order.the-variants.{Less, Equal, Greater}
+use Rattle.octets.specs.declared.name.Order.the-variants.{Less, Greater}
 use Rattle.octets.proofs.All.{and-left, and-right}
 use Rattle.octets.proofs.Names.{never}
 use Rattle.quoting.specs.Quoted.{isListed, listable}

@@ -1,19 +1,17 @@
 -- A table that export can list: its list says it, and no line of it is wrong.
-use Rattle.octets.specs.Standard.{ℕ, zero, suc, _+_, _-_, _*_, _<_, _≤_, Bool, true, false, _&&_, cond, _≡_, refl, sym, _∙_, ap, arith, add-one, eqb, leb}
-use Rattle.octets.specs.Standard.{ltb, leb-true, le-leb, eq-eqb, eqb-true, List, [], _∷_, _++_, append-assoc, append-nil, length, length-append, take, drop}
-use Rattle.octets.specs.Standard.{length-take, take-at, drop-at, take-all, length-take-le, length-drop, getD, Option, none, some}
-use Rattle.octets.specs.Name.{same}
+use Rattle.octets.specs.Standard.{ℕ, zero, suc, _+_, _-_, _<_, _≤_, true, _&&_, _≡_, refl, sym, _∙_, ap, arith}
+use Rattle.octets.specs.Standard.{le-leb, eq-eqb, List, [], _++_, append-assoc, append-nil, length, length-append, take, drop}
+use Rattle.octets.specs.Standard.{length-take, take-at, drop-at, some}
 use Rattle.octets.proofs.All.{and-left, and-right}
 use Rattle.octets.proofs.Chains.{_also_}
 use Rattle.octets.proofs.Names.{same-refl}
-use Rattle.octets.proofs.Numbers.{Bytes, word-lt}
-use Rattle.record.specs.Fields.{countOf, issueOf, editionOf, publicOf, privateOf, serverOf, publicSize, privateSize, serverSize}
+use Rattle.octets.proofs.Numbers.{Bytes}
+use Rattle.record.specs.Fields.{countOf, editionOf, publicOf, privateOf, serverOf}
 use Rattle.record.specs.HeaderBlock.{headerOf}
 use Rattle.record.specs.RecordBlock.{recordOf, soundRecord}
-use Rattle.record.proofs.Tests.{Limits, HeaderTests, header-says}
-use Rattle.blocks.specs.Blocks.{blockOf, tableOf, firstBad}
-use Rattle.blocks.specs.declared.Checked.{Checked}
-use Rattle.blocks.specs.declared.Checked.the-variants.{Sound, Bad}
+use Rattle.record.proofs.Tests.{Limits}
+use Rattle.blocks.specs.Blocks.{blockOf, firstBad}
+use Rattle.blocks.specs.declared.Checked.the-variants.{Sound}
 use Rattle.blocks.proofs.Blocks.{table-is, table-same, block-length, block-bytes}
 use Rattle.blocks.proofs.First.{all-good, good-each}
 use Rattle.table.specs.Check.{checkTable, soundAt}
@@ -21,15 +19,14 @@ use Rattle.table.specs.Named.{publicAt}
 use Rattle.table.specs.SoundTable.{SoundTable}
 use Rattle.table.proofs.Sound.{TableTests, table-says, tests-sound, sound-limits, sound-rises}
 use Rattle.quoting.specs.Quoted.{listable}
-use Rattle.rows.specs.Row.{Row, numbersOf, rowOf, lineOf}
-use Rattle.rows.specs.RowIn.{most, rowIn, rowSize}
-use Rattle.rows.specs.Block.{blockSaid}
+use Rattle.rows.specs.Row.{rowOf, lineOf}
+use Rattle.rows.specs.RowIn.{rowIn}
 use Rattle.rows.proofs.Lines as line
 use Rattle.rows.proofs.Blocks.{block-said, numbers-fit}
 use Rattle.listing.specs.ListOf.{firstLine, linesOf, listOf, listableAt, firstUnlisted}
 use Rattle.listing.proofs.Lists.{list-is}
 use Rattle.importing.specs.Above.{above}
-use Rattle.importing.specs.Said.{placeOf, saidAt, tableSaid, enoughAt, holdsAt, isTitled, overRecords, firstWrong}
+use Rattle.importing.specs.Said.{placeOf, saidAt, tableSaid, enoughAt, holdsAt, isTitled, firstWrong}
 use Rattle.importing.proofs.Falling.{above-less}
 
 -- a sound table of edition 2 under a header block and beside a profile file, whose every name can be listed
@@ -82,7 +79,8 @@ module _ (header : List ℕ) (file : ℕ) (t : List ℕ) (x : Exportable header 
 
   public-listed : (k : ℕ) → 1 ≤ k → k ≤ count → listable (publicAt t k) ≡ true
   unfolding listableAt publicAt
-  public-listed k a b = and-left (listable (publicOf (blockOf t k))) _ (and-left (listable (publicOf (blockOf t k)) && listable (privateOf (blockOf t k))) _ (names k a b))
+  public-listed k a b =
+      and-left (listable (publicOf (blockOf t k))) _ (and-left (listable (publicOf (blockOf t k)) && listable (privateOf (blockOf t k))) _ (names k a b))
 
   -- each record has a row that a line can have
   fitting : (k : ℕ) → 1 ≤ k → k ≤ count → line.Fitting (rowOf (blockOf t k))
@@ -108,7 +106,8 @@ module _ (header : List ℕ) (file : ℕ) (t : List ℕ) (x : Exportable header 
       let e : suc n + (count - suc n) ≡ count = omega arith in
       let s : linesOf t count ≡ linesOf t (suc n) ++ more t (suc n) (count - suc n) = ap (linesOf t) (sym e) ∙ lines-split t (suc n) (count - suc n) in (
         more t (suc n) (count - suc n),
-        list-is t count sound ∙ ap (λ (l : List ℕ). firstLine ++ l) (s ∙ append-assoc (linesOf t n) (lineOf (rowOf (blockOf t (suc n)))) (more t (suc n) (count - suc n)))
+        list-is t count sound
+            ∙ ap (λ (l : List ℕ). firstLine ++ l) (s ∙ append-assoc (linesOf t n) (lineOf (rowOf (blockOf t (suc n)))) (more t (suc n) (count - suc n)))
             ∙ sym (append-assoc firstLine (linesOf t n) (lineOf (rowOf (blockOf t (suc n))) ++ more t (suc n) (count - suc n))),
       )
 
@@ -171,12 +170,14 @@ module _ (header : List ℕ) (file : ℕ) (t : List ℕ) (x : Exportable header 
   titled : isTitled (listOf t) ≡ true
   unfolding isTitled
   titled =
-      let e : take (length firstLine) (listOf t) ≡ firstLine = ap (take (length firstLine)) (list-is t count sound) ∙ take-at firstLine (linesOf t count) (length firstLine) refl in
+      let e : take (length firstLine) (listOf t) ≡ firstLine =
+      ap (take (length firstLine)) (list-is t count sound) ∙ take-at firstLine (linesOf t count) (length firstLine) refl in
       rw e (same-refl firstLine)
 
   pub whole : firstWrong (listOf t) header file ≡ Sound count
   unfolding firstWrong
   whole =
-      let f : firstBad (holdsAt (listOf t) header file) count count 1 ≡ Sound count = all-good (holdsAt (listOf t) header file) count count 1 (λ j a b. holds j a (omega arith)) in
+      let f : firstBad (holdsAt (listOf t) header file) count count 1 ≡ Sound count =
+      all-good (holdsAt (listOf t) header file) count count 1 (λ j a b. holds j a (omega arith)) in
       let e : placeOf (listOf t) count ≡ length (listOf t) = place count (omega arith) ∙ ap length (sym (list-is t count sound)) in
       rw (titled, counted, f, eq-eqb (placeOf (listOf t) count) (length (listOf t)) e)

@@ -1,11 +1,10 @@
 -- Names that begin with the greatest byte 126 times, and how many stand above each of them; above every other there are enough.
-use Rattle.octets.specs.Standard.{ℕ, zero, suc, _+_, _-_, _*_, _<_, _≤_, Bool, true, false, _&&_, cond, true≢false, _≡_, refl, sym, _∙_, ap, arith, add-one}
-use Rattle.octets.specs.Standard.{eqb, leb, eqb-true, eqb-false, eq-eqb, ne-eqb, leb-true, le-leb, ltb, ltb-true, ltb-false, List, [], _∷_, length, drop, getD}
-use Rattle.octets.specs.Standard.{drop-cons, drop-of-length-le, length-drop, List·getD-eq-default, getD-drop}
+use Rattle.octets.specs.Standard.{ℕ, zero, suc, _+_, _-_, _*_, _<_, _≤_, Bool, true, false, _&&_, true≢false, _≡_, refl, sym, _∙_, ap, arith, add-one}
+use Rattle.octets.specs.Standard.{eqb, leb, eqb-true, eqb-false, eq-eqb, ne-eqb, le-leb, ltb, ltb-true, ltb-false, List, [], _∷_, length, drop, getD}
+use Rattle.octets.specs.Standard.{drop-cons, drop-of-length-le, List·getD-eq-default}
 use native.Mathlib.Nat.{mul-le-mul-right}
 use Rattle.octets.proofs.All.{and-left, and-right}
-use Rattle.octets.proofs.Runs.{past-zero}
-use Rattle.quoting.specs.Quoted.{isListed, listable}
+use Rattle.quoting.specs.Quoted.{listable}
 use Rattle.importing.specs.Above.{stringsOf, above, tildes}
 use Rattle.importing.proofs.Falling.{least, others}
 
@@ -100,7 +99,8 @@ module _ (s : List ℕ) (left : ℕ) (few : left ≤ 4096) (listed : listable s 
       pub enough-127 : length s < 128 → leb left (96 * c + 95) ≡ leb left (above 128 s)
       unfolding above stringsOf
       enough-127 l =
-          let d : drop 126 s ≡ getD s 126 0 ∷ [] = drop-cons s 126 0 (omega arith) ∙ ap (λ (y : List ℕ). getD s 126 0 ∷ y) (drop-of-length-le s {i = 127} (omega arith)) in
+          let d : drop 126 s ≡ getD s 126 0 ∷ [] =
+          drop-cons s 126 0 (omega arith) ∙ ap (λ (y : List ℕ). getD s 126 0 ∷ y) (drop-of-length-le s {i = 127} (omega arith)) in
           let a : above 128 s ≡ 96 * c + 95 = above-is ∙ rw d (omega arith) in
           rw a
 
@@ -109,6 +109,7 @@ module _ (s : List ℕ) (left : ℕ) (few : left ≤ 4096) (listed : listable s 
       enough-128 d ed l m =
           let t : drop 126 s ≡ getD s 126 0 ∷ getD s 127 0 ∷ [] =
           drop-cons s 126 0 (omega arith)
-          ∙ ap (λ (y : List ℕ). getD s 126 0 ∷ y) (drop-cons s 127 0 (omega arith) ∙ ap (λ (y : List ℕ). getD s 127 0 ∷ y) (drop-of-length-le s {i = 128} (omega arith))) in
+          ∙ ap (λ (y : List ℕ). getD s 126 0 ∷ y) (drop-cons s 127 0 (omega arith)
+          ∙ ap (λ (y : List ℕ). getD s 127 0 ∷ y) (drop-of-length-le s {i = 128} (omega arith))) in
           let a : above 128 s ≡ 96 * c + d = above-is ∙ rw t (omega arith) in
           rw a

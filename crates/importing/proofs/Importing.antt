@@ -1,12 +1,12 @@
 -- The page of import: it accepts exactly what export can write, and gives back the table's bytes.
-use Rattle.octets.specs.Standard.{ℕ, zero, suc, _+_, _*_, _<_, _≤_, Bool, true, false, _&&_, cond, _≡_, refl, sym, _∙_, ap, arith, eqb, eq-eqb, eqb-true}
-use Rattle.octets.specs.Standard.{ltb, List, [], _∷_, _++_, length, take, drop, getD, Option, none, some}
-use Rattle.octets.proofs.All.{and-left, and-right}
+use Rattle.octets.specs.Standard.{ℕ, zero, suc, _+_, _≤_, Bool, true, false, cond, _≡_, refl, arith, eqb, eq-eqb, eqb-true}
+use Rattle.octets.specs.Standard.{List, length, drop, Option, none, some}
+use Rattle.octets.proofs.All.{and-left}
 use Rattle.octets.proofs.Chains.{_also_}
 use Rattle.octets.proofs.Numbers.{Bytes}
 use Rattle.record.specs.Fields.{countOf, issueOf, editionOf}
-use Rattle.record.specs.HeaderBlock.{headerOf, soundHeader}
-use Rattle.blocks.specs.Blocks.{blockOf, tableOf, firstBad}
+use Rattle.record.specs.HeaderBlock.{headerOf}
+use Rattle.blocks.specs.Blocks.{tableOf, firstBad}
 use Rattle.blocks.specs.declared.Checked.{Checked}
 use Rattle.blocks.specs.declared.Checked.the-variants.{Sound, Bad}
 use Rattle.blocks.proofs.First.{good-each, good-count, bad-sound}
@@ -18,9 +18,9 @@ use Rattle.rows.specs.Block.{blockSaid}
 use Rattle.rows.proofs.Lines as line
 use Rattle.rows.proofs.Octets.{Octets, append-bytes, zeros-bytes, said-bytes}
 use Rattle.listing.specs.ListOf.{listOf}
-use Rattle.listing.specs.Export.{AfterList, refusing, writing}
+use Rattle.listing.specs.Export.{writing}
 use Rattle.importing.specs.Said.{placeOf, saidAt, tableSaid, enoughAt, holdsAt, isTitled, overRecords, firstWrong}
-use Rattle.importing.specs.Import.{fitHeader, importPast, imported}
+use Rattle.importing.specs.Import.{fitHeader, imported}
 use Rattle.importing.proofs.Accepts as accepts
 use Rattle.importing.proofs.Given as given
 use Rattle.importing.proofs.Given.{Exportable}

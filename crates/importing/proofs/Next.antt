@@ -1,10 +1,10 @@
 -- The name right above one: where a name is left above, this is the lowest of them, and one fewer is left above it.
-use Rattle.octets.specs.Standard.{ℕ, zero, suc, _+_, _-_, _*_, _<_, _≤_, Bool, true, false, _&&_, cond, _≡_, refl, sym, _∙_, ap, arith, leb, ltb, ltb-true}
+use Rattle.octets.specs.Standard.{ℕ, zero, suc, _+_, _-_, _*_, _<_, _≤_, Bool, true, false, cond, _≡_, refl, arith, ltb, ltb-true}
 use Rattle.octets.specs.Standard.{ltb-false, lt-ltb, le-ltb, le-leb, List, [], _∷_, length}
 use native.Mathlib.Nat.{suc-mul}
 use Rattle.octets.specs.Name.{orderOf}
-use Rattle.octets.specs.declared.name.Order.the-variants.{Less, Equal, Greater}
-use Rattle.quoting.specs.Quoted.{isListed, listable}
+use Rattle.octets.specs.declared.name.Order.the-variants.{Less}
+use Rattle.quoting.specs.Quoted.{listable}
 use Rattle.importing.specs.Above.{stringsOf, above}
 use Rattle.importing.proofs.Falling.{strings-some, least, others}
 

@@ -20,6 +20,7 @@ abbrev pub importPast : List ℕ → List ℕ → List ℕ → Checked → After
 importPast list header area (Sound count) = writing area (tableSaid list header)
 importPast list header area (Bad k) = refusing area 14 (k + 1)
 
--- "Import of an exported list, with the same header block and profile file, gives back the table's bytes"; "5 .. import under an unsound or edition 1 header block"
+-- "Import of an exported list, with the same header block and profile file, gives back the table's bytes"; 5 for "import under an unsound or edition 1
+-- header block"
 unfoldable pub imported : List ℕ → List ℕ → ℕ → List ℕ → AfterList
 imported list header file area = cond (fitHeader header) (importPast list header area (firstWrong list header file)) (refusing area 5 0)

@@ -41,7 +41,9 @@ first =
 unfoldable pub second : List ℕ
 second =
     let numbers : List ℕ = sets (replicate 512 0) 0 (2 ∷ 2 ∷ 0 ∷ 0 ∷ 0 ∷ 0 ∷ 0 ∷ 2 ∷ 1 ∷ 6 ∷ 1 ∷ 2 ∷ 1 ∷ 11 ∷ 6 ∷ 5 ∷ []) in
-    let named = sets (sets (sets numbers 16 (115 ∷ 105 ∷ 112 ∷ 58 ∷ 98 ∷ 34 ∷ 64 ∷ 105 ∷ 115 ∷ 108 ∷ 101 ∷ [])) 144 (97 ∷ 64 ∷ 105 ∷ 115 ∷ 108 ∷ 101 ∷ [])) 272 (115 ∷ 105 ∷ 112 ∷ 58 ∷ 115 ∷ []) in
+    let named =
+    sets (sets (sets numbers 16 (115 ∷ 105 ∷ 112 ∷ 58 ∷ 98 ∷ 34 ∷ 64 ∷ 105 ∷ 115 ∷ 108 ∷ 101 ∷ [])) 144 (97 ∷ 64 ∷ 105 ∷ 115 ∷ 108 ∷ 101 ∷ [])) 272
+    (115 ∷ 105 ∷ 112 ∷ 58 ∷ 115 ∷ []) in
     let capable = putBe32 (putBe32 (putBe32 named 368 7) 372 4294967295) 384 9 in
     sealed (putBe32 (sets capable 400 (0 ∷ 0 ∷ 0 ∷ 3 ∷ 0 ∷ 4 ∷ 0 ∷ 7 ∷ [])) 408 5)
 
@@ -68,10 +70,10 @@ list = firstLine ++ (line1 ++ line2)
 
 -- all definitions that a computed case opens
 unfoldable pub opened : ℕ
-unfolding header first second table line1 line2 list allBelow orderOf alikeAt same be16At be32At putBe32 zeros zeroBetween over sumWords publicOf privateOf serverOf headerOf
-    soundHeader usedPlace soundPlace sameByte otherPlace newPlace soundNetworks recordOf soundRecord sameSet agreeing blockOf tableOf firstBad negated sealed
-    risesAt standsAt agreesWith agreesAt soundAt checkRecords checkTable publicAt digitsMore digitCount digitsOf decimal pastDigits valueOf numberIn listable
-    doubled quoted nameFrom nameIn numbersOf rowOf numbersLine lineOf nameAfter numberAfter numbersIn rowIn padded wordsBytes namesBytes restBytes unsealed blockFrom
-    firstLine linesOf listOf listableAt firstUnlisted writing exported stringsOf above placeOf saidAt tableSaid enoughAt holdsAt isTitled firstWrong fitHeader
-    imported
+unfolding header first second table line1 line2 list allBelow orderOf alikeAt same be16At be32At putBe32 zeros zeroBetween over sumWords publicOf privateOf
+    serverOf headerOf soundHeader usedPlace soundPlace sameByte otherPlace newPlace soundNetworks recordOf soundRecord sameSet agreeing blockOf tableOf
+    firstBad negated sealed risesAt standsAt agreesWith agreesAt soundAt checkRecords checkTable publicAt digitsMore digitCount digitsOf decimal pastDigits
+    valueOf numberIn listable doubled quoted nameFrom nameIn numbersOf rowOf numbersLine lineOf nameAfter numberAfter numbersIn rowIn padded wordsBytes
+    namesBytes restBytes unsealed blockFrom firstLine linesOf listOf listableAt firstUnlisted writing exported stringsOf above placeOf saidAt tableSaid
+    enoughAt holdsAt isTitled firstWrong fitHeader imported
 opened = 0

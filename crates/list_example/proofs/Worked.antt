@@ -1,11 +1,10 @@
 -- The list of a table, and what import makes of it and of others like it, computed by the definitions.
-use Rattle.octets.specs.Standard.{ℕ, Bool, true, false, List, [], _∷_, _++_, _≡_, refl, take, length, replicate}
+use Rattle.octets.specs.Standard.{[], _∷_, _++_, _≡_, refl, take, replicate}
 use Rattle.blocks.specs.declared.Checked.the-variants.{Sound, Bad}
 use Rattle.table.specs.Check.{checkTable}
-use Rattle.listing.specs.ListOf.{firstLine, listOf, firstUnlisted}
+use Rattle.listing.specs.ListOf.{firstLine, listOf}
 use Rattle.importing.specs.Above.{above}
 use Rattle.importing.specs.Said.{tableSaid, firstWrong}
-use Rattle.importing.specs.Import.{fitHeader}
 use Rattle.list_example.proofs.Sample.{header, table, line1, line2, list, opened}
 
 pub sound : checkTable table 7 ≡ Sound 2

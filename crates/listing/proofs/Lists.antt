@@ -1,6 +1,6 @@
 -- The list of a table, line by line: how long it is, and its turns.
 use Rattle.octets.specs.Standard.{ℕ, zero, suc, _+_, _-_, _*_, _<_, _≤_, Bool, true, false, _&&_, _≡_, refl, sym, _∙_, ap, arith, add-one, ltb, ltb-true}
-use Rattle.octets.specs.Standard.{ltb-false, List, [], _∷_, _++_, append-assoc, append-nil, length, length-append, length-take, length-drop, midOf, putMid}
+use Rattle.octets.specs.Standard.{ltb-false, List, _++_, append-nil, length, length-append, length-take, length-drop, midOf, putMid}
 use Rattle.octets.specs.Run.{over, Wrote}
 use Rattle.octets.proofs.Writes.{then, lent, back, named}
 use Rattle.record.specs.Fields.{countOf, publicOf, privateOf, serverOf}
@@ -9,8 +9,7 @@ use Rattle.record.specs.RecordBlock.{recordOf}
 use Rattle.record.proofs.Tests.{Limits}
 use Rattle.blocks.specs.Blocks.{blockOf, firstBad}
 use Rattle.table.specs.SoundTable.{SoundTable}
-use Rattle.table.proofs.Sound.{TableTests, sound-tests, sound-limits, sound-size, sound-few}
-use Rattle.blocks.specs.declared.Checked.{Checked}
+use Rattle.table.proofs.Sound.{sound-tests, sound-limits, sound-few}
 use Rattle.quoting.specs.Quoted.{listable}
 use Rattle.rows.specs.Row.{rowOf, lineOf}
 use Rattle.rows.proofs.Written.{line-short, former-room, latter-room}

@@ -1,6 +1,6 @@
 -- What each way through an export leaves.
-use Rattle.octets.specs.Standard.{ℕ, _+_, _*_, _<_, _≤_, _≡_, refl, sym, _∙_, ap, arith, List, _≢_, length, getD, getD-take, eq-eqb, ne-eqb, lt-ltb, le-ltb}
-use Rattle.octets.specs.Run.{Wrote, over}
+use Rattle.octets.specs.Standard.{ℕ, _<_, _≤_, _≡_, sym, _∙_, arith, List, _≢_, length, getD, getD-take, eq-eqb, ne-eqb, lt-ltb, le-ltb}
+use Rattle.octets.specs.Run.{Wrote}
 use Rattle.record.specs.Fields.{editionOf}
 use Rattle.blocks.specs.Blocks.{blockOf}
 use Rattle.blocks.specs.declared.Checked.{Checked}
@@ -55,7 +55,8 @@ module _ (t area : List ℕ) where
     unfolding exportChecked
     checked-bad k e = rw e
 
-  pub export-whole : (file : ℕ) {c : Checked} {r : Listed} {y : List ℕ} → c ≡ checkTable t file → came r y ≡ exportChecked t area c → came r y ≡ exported t file area
+  pub export-whole : (file : ℕ) {c : Checked} {r : Listed} {y : List ℕ} → c ≡ checkTable t file → came r y ≡ exportChecked t area c
+      → came r y ≡ exported t file area
   unfolding exported
   export-whole file e f = rw (← e) f
 

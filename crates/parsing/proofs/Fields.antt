@@ -1,16 +1,14 @@
 -- A name and a number behind a comma, and the three names of a line, as code reads them.
-use Rattle.octets.specs.Standard.{ℕ, zero, suc, _+_, _-_, _*_, _<_, _≤_, Bool, true, false, _&&_, cond, true≢false, _≡_, refl, sym, _∙_, ap, arith, add-one}
-use Rattle.octets.specs.Standard.{eqb, leb, ltb, eqb-true, eq-eqb, ne-eqb, ltb-true, lt-ltb, List, [], _∷_, _++_, length, take, drop, getD, length-drop}
+use Rattle.octets.specs.Standard.{ℕ, _+_, _-_, _*_, _<_, _≤_, Bool, true, false, _&&_, cond, _≡_, refl, _∙_, arith}
+use Rattle.octets.specs.Standard.{eqb, ltb, eq-eqb, ne-eqb, ltb-true, lt-ltb, List, [], length, take, drop, getD, length-drop}
 use Rattle.octets.specs.Standard.{and-false, getD-drop, take-all, drop-cons, drop-drop, drop-of-length-le, Option, none, some}
-use Rattle.octets.proofs.All.{and-left, and-right}
+use Rattle.octets.proofs.All.{and-right}
 use Rattle.decimals.specs.Decimal.{digitCount, numberIn, asNumber}
 use Rattle.decimals.specs.declared.Number.{Number}
 use Rattle.quoting.specs.Quoted.{doubled, quotedSize, nameIn, asName}
 use Rattle.quoting.specs.declared.Name.{Name}
-use Rattle.quoting.proofs.Names.{doubled-most}
 use Rattle.quoting.proofs.Reading as quoted
-use Rattle.rows.specs.Row.{Row}
-use Rattle.rows.specs.RowIn.{andThen, nameAfter, numberAfter, endsLine, secondAt, thirdAt, numbersAt}
+use Rattle.rows.specs.RowIn.{andThen, nameAfter, numberAfter, endsLine, secondAt, thirdAt}
 use Rattle.parsing.specs.Parsed.{asNameAfter, asNumberAfter, namesIn, asNames, Fitted}
 use Rattle.parsing.specs.declared.Names.{Names}
 
@@ -87,8 +85,16 @@ module _ (s : List ℕ) (at most : ℕ) where
 -- The three names: where each has bytes, and where one has none.
 module _ (s : List ℕ) (a b c : Name) (ea : a ≡ asName (nameIn 128 s)) (eb : b ≡ asNameAfter (nameAfter 128 (drop (a .size) s)))
     (ec : c ≡ asNameAfter (nameAfter 96 (drop (a .size + b .size) s))) where
-  abbrev together : Names
-  together = record { public = a .length; private = b .length; server = c .length; second = a .size; third = a .size + b .size; numbers = a .size + b .size + c .size }
+  abbrev pub together : Names
+  together =
+      record {
+        public = a .length;
+        private = b .length;
+        server = c .length;
+        second = a .size;
+        third = a .size + b .size;
+        numbers = a .size + b .size + c .size;
+      }
 
   abbrev nowhere : Names
   nowhere = record { public = 0; private = 0; server = 0; second = 0; third = 0; numbers = 0 }
@@ -108,7 +114,8 @@ module _ (s : List ℕ) (a b c : Name) (ea : a ≡ asName (nameIn 128 s)) (eb : 
           → answer (ltb 0 (a .size) && ltb 0 (b .size) && ltb 0 (c .size))
           ≡ asNames (andThen o (λ (z : List ℕ). some (record { public = x; private = y; server = z; numbers = [] })))
       third x y none p q r = rw (p, q, r, and-false)
-      third x y (some z) p q r = rw (p, q, r, lt-ltb 0 (quotedSize x) (omega arith), lt-ltb 0 (1 + quotedSize y) (omega arith), lt-ltb 0 (1 + quotedSize z) (omega arith))
+      third x y (some z) p q r =
+          rw (p, q, r, lt-ltb 0 (quotedSize x) (omega arith), lt-ltb 0 (1 + quotedSize y) (omega arith), lt-ltb 0 (1 + quotedSize z) (omega arith))
 
       second : (x : List ℕ) (o : Option (List ℕ)) → a ≡ asName (some x) → b ≡ asNameAfter o → nameAfter 128 (drop (secondAt x) s) ≡ o
           → answer (ltb 0 (a .size) && ltb 0 (b .size) && ltb 0 (c .size))
@@ -119,7 +126,9 @@ module _ (s : List ℕ) (a b c : Name) (ea : a ≡ asName (nameIn 128 s)) (eb : 
 
       first : (o : Option (List ℕ)) → a ≡ asName o
           → answer (ltb 0 (a .size) && ltb 0 (b .size) && ltb 0 (c .size))
-          ≡ asNames (andThen o (λ (x : List ℕ). andThen (nameAfter 128 (drop (secondAt x) s)) (λ (y : List ℕ). andThen (nameAfter 96 (drop (thirdAt x y) s)) (λ (z : List ℕ).
+          ≡ asNames
+          (andThen o
+          (λ (x : List ℕ). andThen (nameAfter 128 (drop (secondAt x) s)) (λ (y : List ℕ). andThen (nameAfter 96 (drop (thirdAt x y) s)) (λ (z : List ℕ).
           some (record { public = x; private = y; server = z; numbers = [] })))))
       first none p = rw p
       first (some x) p = second x (nameAfter 128 (drop (secondAt x) s)) p (eb ∙ rw p) refl
@@ -153,7 +162,7 @@ after-length most s n e = go (eqb (getD s 0 0) 44) e
 module _ (s : List ℕ) (a b c : Name) (ea : a ≡ asName (nameIn 128 s)) (eb : b ≡ asNameAfter (nameAfter 128 (drop (a .size) s)))
     (ec : c ≡ asNameAfter (nameAfter 96 (drop (a .size + b .size) s))) where
   pub names-fitted : a .size ≤ 2 * 128 + 2 → b .size ≤ 2 * 128 + 3
-      → Fitted (record { public = a .length; private = b .length; server = c .length; second = a .size; third = a .size + b .size; numbers = a .size + b .size + c .size })
+      → Fitted (together s a b c ea eb ec)
   names-fitted h i = record {
     public = name-length 128 s a ea;
     private = after-length 128 (drop (a .size) s) b eb;

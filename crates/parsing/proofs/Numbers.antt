@@ -1,6 +1,6 @@
 -- The numbers of a line: the turns of the loop that reads them.
-use Rattle.octets.specs.Standard.{ℕ, zero, suc, _+_, _-_, _*_, _<_, _≤_, Bool, true, false, _&&_, cond, _≡_, refl, sym, _∙_, ap, arith, add-one}
-use Rattle.octets.specs.Standard.{List, [], _∷_, _++_, append-assoc, append-nil, length, take, drop, getD, set, length-append, length-take-le, length-set}
+use Rattle.octets.specs.Standard.{ℕ, _+_, _-_, _<_, _≤_, Bool, true, false, _≡_, refl, sym, _∙_, ap, arith, add-one}
+use Rattle.octets.specs.Standard.{List, [], _∷_, _++_, append-assoc, append-nil, length, take, drop, getD, set, length-append}
 use Rattle.octets.specs.Standard.{take-all, drop-cons, drop-drop, Option, none, some}
 use lib.Seq.{take-suc-set}
 use Rattle.decimals.specs.Decimal.{digitCount, decimal}
@@ -42,7 +42,8 @@ module _ (s : List ℕ) (at : ℕ) where
 
   module _ (out : List ℕ) (i p : ℕ) (n : Number) (r : Reading s at out i p) (h : i < 18) (e : n ≡ asNumberAfter (numberAfter (getD most i 0) (drop p s))) where
     next : numbersIn (drop i most) (drop p s)
-        ≡ andThen (numberAfter (getD most i 0) (drop p s)) (λ (v : ℕ). andThen (numbersIn (drop (i + 1) most) (drop (1 + digitCount v) (drop p s))) (λ (vs : List ℕ). some (v ∷ vs)))
+        ≡ andThen (numberAfter (getD most i 0) (drop p s))
+        (λ (v : ℕ). andThen (numbersIn (drop (i + 1) most) (drop (1 + digitCount v) (drop p s))) (λ (vs : List ℕ). some (v ∷ vs)))
     unfolding numbersIn
     next = rw (add-one i, drop-cons most i 0 h)
 

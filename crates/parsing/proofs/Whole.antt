@@ -1,7 +1,7 @@
 -- A whole line: its names and its numbers are its row, and the names that are taken out of the list are the row's.
-use Rattle.octets.specs.Standard.{ℕ, zero, suc, _+_, _*_, _<_, _≤_, Bool, true, false, _≡_, refl, sym, _∙_, ap, arith, List, [], _∷_, _++_, append-assoc}
-use Rattle.octets.specs.Standard.{length, take, drop, getD, drop-at, drop-drop, length-append, Option, Option·some-injective, none, some}
-use Rattle.quoting.specs.Quoted.{doubled, quoted, quotedSize, taken}
+use Rattle.octets.specs.Standard.{ℕ, _+_, true, _≡_, refl, sym, _∙_, ap, arith, List, [], _∷_, _++_, append-assoc}
+use Rattle.octets.specs.Standard.{length, drop, drop-drop, length-append, Option, Option·some-injective, none, some}
+use Rattle.quoting.specs.Quoted.{doubled, quoted, taken}
 use Rattle.quoting.proofs.Names.{quoted-length}
 use Rattle.quoting.proofs.Reading.{taken-written}
 use Rattle.quoting.proofs.Reading as name
@@ -19,7 +19,8 @@ abbrev withNumbers : Row → List ℕ → Row
 withNumbers r ns = record { public = r .public; private = r .private; server = r .server; numbers = ns }
 
 row-parts : (s : List ℕ)
-    → rowIn s ≡ andThen (namesIn s) (λ (r : Row). andThen (numbersIn most (drop (numbersAt (r .public) (r .private) (r .server)) s)) (λ (ns : List ℕ). some (withNumbers r ns)))
+    → rowIn s ≡ andThen (namesIn s)
+    (λ (r : Row). andThen (numbersIn most (drop (numbersAt (r .public) (r .private) (r .server)) s)) (λ (ns : List ℕ). some (withNumbers r ns)))
 unfolding rowIn namesIn
 row-parts s = first (nameIn 128 s)
   where
@@ -30,22 +31,28 @@ row-parts s = first (nameIn 128 s)
     third a b c = some (record { public = a; private = b; server = c; numbers = [] })
 
     last : (a b : List ℕ) (o : Option (List ℕ))
-        → andThen o (λ (c : List ℕ). andThen (numbersIn most (drop (numbersAt a b c) s)) (λ (ns : List ℕ). some (record { public = a; private = b; server = c; numbers = ns })))
+        → andThen o
+        (λ (c : List ℕ). andThen (numbersIn most (drop (numbersAt a b c) s))
+        (λ (ns : List ℕ). some (record { public = a; private = b; server = c; numbers = ns })))
         ≡ andThen (andThen o (third a b)) on
     last a b none = refl
     last a b (some c) = refl
 
     second : (a : List ℕ) (o : Option (List ℕ))
-        → andThen o (λ (b : List ℕ). andThen (nameAfter 96 (drop (thirdAt a b) s)) (λ (c : List ℕ). andThen (numbersIn most (drop (numbersAt a b c) s)) (λ (ns : List ℕ).
+        → andThen o
+        (λ (b : List ℕ). andThen (nameAfter 96 (drop (thirdAt a b) s)) (λ (c : List ℕ). andThen (numbersIn most (drop (numbersAt a b c) s)) (λ (ns : List ℕ).
         some (record { public = a; private = b; server = c; numbers = ns }))))
         ≡ andThen (andThen o (λ (b : List ℕ). andThen (nameAfter 96 (drop (thirdAt a b) s)) (third a b))) on
     second a none = refl
     second a (some b) = last a b (nameAfter 96 (drop (thirdAt a b) s))
 
     first : (o : Option (List ℕ))
-        → andThen o (λ (a : List ℕ). andThen (nameAfter 128 (drop (secondAt a) s)) (λ (b : List ℕ). andThen (nameAfter 96 (drop (thirdAt a b) s)) (λ (c : List ℕ).
+        → andThen o
+        (λ (a : List ℕ). andThen (nameAfter 128 (drop (secondAt a) s)) (λ (b : List ℕ). andThen (nameAfter 96 (drop (thirdAt a b) s)) (λ (c : List ℕ).
         andThen (numbersIn most (drop (numbersAt a b c) s)) (λ (ns : List ℕ). some (record { public = a; private = b; server = c; numbers = ns })))))
-        ≡ andThen (andThen o (λ (a : List ℕ). andThen (nameAfter 128 (drop (secondAt a) s)) (λ (b : List ℕ). andThen (nameAfter 96 (drop (thirdAt a b) s)) (third a b)))) on
+        ≡ andThen
+        (andThen o
+        (λ (a : List ℕ). andThen (nameAfter 128 (drop (secondAt a) s)) (λ (b : List ℕ). andThen (nameAfter 96 (drop (thirdAt a b) s)) (third a b)))) on
     first none = refl
     first (some a) = second a (nameAfter 128 (drop (secondAt a) s))
 
@@ -75,7 +82,8 @@ names-say : (s : List ℕ) (r : Row) → namesIn s ≡ some r → NamesRead s r
 unfolding namesIn
 names-say s r e = first (nameIn 128 s) refl e
   where
-    third : (a b : List ℕ) → nameIn 128 s ≡ some a → nameAfter 128 (drop (secondAt a) s) ≡ some b → (o : Option (List ℕ)) → nameAfter 96 (drop (thirdAt a b) s) ≡ o
+    third : (a b : List ℕ) → nameIn 128 s ≡ some a → nameAfter 128 (drop (secondAt a) s) ≡ some b → (o : Option (List ℕ))
+        → nameAfter 96 (drop (thirdAt a b) s) ≡ o
         → andThen o (λ (c : List ℕ). some (record { public = a; private = b; server = c; numbers = [] })) ≡ some r → NamesRead s r
     third a b p q none f g = let z : _≡_ {A = ℕ} 0 1 = cc in absurd (omega arith)
     third a b p q (some c) f g =
@@ -83,13 +91,16 @@ names-say s r e = first (nameIn 128 s) refl e
         rw (← is) (record { public = p; private = q; server = f })
 
     second : (a : List ℕ) → nameIn 128 s ≡ some a → (o : Option (List ℕ)) → nameAfter 128 (drop (secondAt a) s) ≡ o
-        → andThen o (λ (b : List ℕ). andThen (nameAfter 96 (drop (thirdAt a b) s)) (λ (c : List ℕ). some (record { public = a; private = b; server = c; numbers = [] }))) ≡ some r
+        → andThen o
+        (λ (b : List ℕ). andThen (nameAfter 96 (drop (thirdAt a b) s))
+        (λ (c : List ℕ). some (record { public = a; private = b; server = c; numbers = [] }))) ≡ some r
         → NamesRead s r
     second a p none f g = let z : _≡_ {A = ℕ} 0 1 = cc in absurd (omega arith)
     second a p (some b) f g = third a b p f (nameAfter 96 (drop (thirdAt a b) s)) refl g
 
     first : (o : Option (List ℕ)) → nameIn 128 s ≡ o
-        → andThen o (λ (a : List ℕ). andThen (nameAfter 128 (drop (secondAt a) s)) (λ (b : List ℕ). andThen (nameAfter 96 (drop (thirdAt a b) s)) (λ (c : List ℕ).
+        → andThen o
+        (λ (a : List ℕ). andThen (nameAfter 128 (drop (secondAt a) s)) (λ (b : List ℕ). andThen (nameAfter 96 (drop (thirdAt a b) s)) (λ (c : List ℕ).
         some (record { public = a; private = b; server = c; numbers = [] })))) ≡ some r
         → NamesRead s r
     first none f g = let z : _≡_ {A = ℕ} 0 1 = cc in absurd (omega arith)
@@ -102,7 +113,8 @@ row-taken s r ns e =
     let q : taken (length (r .private)) (drop (secondAt (r .public) + 2) s) ≡ r .private =
     after-taken s (r .private) _ (secondAt (r .public)) (line.name-after 128 (drop (secondAt (r .public)) s) (r .private) (n .private) .2) in
     let t : taken (length (r .server)) (drop (thirdAt (r .public) (r .private) + 2) s) ≡ r .server =
-    after-taken s (r .server) _ (thirdAt (r .public) (r .private)) (line.name-after 96 (drop (thirdAt (r .public) (r .private)) s) (r .server) (n .server) .2) in
+    after-taken s (r .server) _ (thirdAt (r .public) (r .private))
+    (line.name-after 96 (drop (thirdAt (r .public) (r .private)) s) (r .server) (n .server) .2) in
     rw (p, q, t)
 
 -- The numbers that an array holds fit their bytes.
@@ -118,7 +130,8 @@ fits-sized ns e = record {
   optional = fits-at most ns e 10;
 }
 
-pub numbers-sized : (s after : List ℕ) (at end : ℕ) → end ≡ endOf at (numbersIn most (drop at s)) → (end ≡ 0 → ⊥) → Held (numbersIn most (drop at s)) after → Sized after
+pub numbers-sized : (s after : List ℕ) (at end : ℕ) → end ≡ endOf at (numbersIn most (drop at s)) → (end ≡ 0 → ⊥) → Held (numbersIn most (drop at s)) after
+    → Sized after
 unfolding line.small
 numbers-sized s after at end e z h = go (numbersIn most (drop at s)) refl e
   where
@@ -145,7 +158,8 @@ module _ (s b : List ℕ) (issue k : ℕ) (n : Names) (e : n ≡ asNames (namesI
     numberless : end ≡ 0 → (0 ≡ rowSize (rowIn s)) × (b ≡ blockOver issue k (rowIn s) b)
     numberless z = go (namesIn s) refl e
       where
-        pick : (r : Row) → namesIn s ≡ some r → n ≡ asNames (some r) → (o : Option (List ℕ)) → numbersIn most (drop (n .numbers) s) ≡ o → end ≡ endOf (n .numbers) o
+        pick : (r : Row) → namesIn s ≡ some r → n ≡ asNames (some r) → (o : Option (List ℕ)) → numbersIn most (drop (n .numbers) s) ≡ o
+            → end ≡ endOf (n .numbers) o
             → (0 ≡ rowSize (rowIn s)) × (b ≡ blockOver issue k (rowIn s) b)
         pick r g h none p q =
             let w : rowIn s ≡ none = row-parts s ∙ rw g (rw h at (ap (λ (o : Option (List ℕ)). andThen o (λ (ns : List ℕ). some (withNumbers r ns))) p)) in
@@ -162,11 +176,13 @@ module _ (s b : List ℕ) (issue k : ℕ) (n : Names) (e : n ≡ asNames (namesI
     pub numberless-block : end ≡ 0 → b ≡ blockOver issue k (rowIn s) b
     numberless-block z = numberless z .1
 
-    module _ (ns y : List ℕ) (held : Held (numbersIn most (drop (n .numbers) s)) ns) (wrote : y ≡ blockFrom issue k (rowTaken s n ns)) (some-end : end ≡ 0 → ⊥) where
+    module _ (ns y : List ℕ) (held : Held (numbersIn most (drop (n .numbers) s)) ns) (wrote : y ≡ blockFrom issue k (rowTaken s n ns))
+        (some-end : end ≡ 0 → ⊥) where
       row-whole : rowIn s ≡ some (rowTaken s n ns) × (end ≡ length (lineOf (rowTaken s n ns)))
       row-whole = go (namesIn s) refl e
         where
-          pick : (r : Row) → namesIn s ≡ some r → n ≡ asNames (some r) → (o : Option (List ℕ)) → numbersIn most (drop (n .numbers) s) ≡ o → end ≡ endOf (n .numbers) o
+          pick : (r : Row) → namesIn s ≡ some r → n ≡ asNames (some r) → (o : Option (List ℕ)) → numbersIn most (drop (n .numbers) s) ≡ o
+              → end ≡ endOf (n .numbers) o
               → rowIn s ≡ some (rowTaken s n ns) × (end ≡ length (lineOf (rowTaken s n ns)))
           pick r g h none p q = absurd (some-end q)
           pick r g h (some vs) p q =

@@ -1,14 +1,13 @@
 -- The block that a line says, written piece by piece.
 use Rattle.octets.specs.Standard.{ℕ, zero, suc, _+_, _-_, _*_, _<_, _≤_, min, Bool, true, false, _≡_, refl, sym, _∙_, ap, arith, add-one, leb, leb-true}
-use Rattle.octets.specs.Standard.{leb-false, List, [], _∷_, _++_, append-assoc, append-nil, length, take, drop, getD, replicate, length-append, length-replicate}
-use Rattle.octets.specs.Standard.{sets, drop-cons, drop-of-length-le, length-drop, length-take-le, take-all}
+use Rattle.octets.specs.Standard.{leb-false, List, [], _∷_, _++_, append-assoc, append-nil, length, take, drop, getD, replicate}
+use Rattle.octets.specs.Standard.{sets, drop-cons, drop-of-length-le, length-drop, length-take-le}
 use Rattle.octets.specs.Run.{over, Wrote}
 use Rattle.octets.proofs.Writes.{Going, going-none, going-more, going-end, over-sets, then, lent, back, named}
 use Rattle.blocks.specs.Sealed.{sealed}
 use Rattle.quoting.specs.Quoted.{taken}
-use Rattle.rows.specs.Row.{Row}
 use Rattle.rows.specs.Block.{padded, halfBytes, wordBytes, wordsBytes, frontBytes, namesBytes, restBytes, unsealed, blockFrom}
-use Rattle.parsing.specs.Parsed.{Sized, Fitted, rowTaken}
+use Rattle.parsing.specs.Parsed.{Sized, rowTaken}
 use Rattle.parsing.specs.declared.Names.{Names}
 use Rattle.parsing.proofs.Fields.{part-end}
 
@@ -31,7 +30,8 @@ drop-least s at p e = go (leb at (length s)) refl
         drop-of-length-le s {i = p} (omega arith) ∙ sym (drop-of-length-le s {i = at} (omega arith))
 
 -- A name in its field.
-pub wrote-field : (s : List ℕ) (at n field p : ℕ) {b xs ys : List ℕ} → n ≤ field → p ≡ min at (length s) → Wrote (taken n (take (length s - p) (drop p s))) b xs n
+pub wrote-field : (s : List ℕ) (at n field p : ℕ) {b xs ys : List ℕ} → n ≤ field → p ≡ min at (length s)
+    → Wrote (taken n (take (length s - p) (drop p s))) b xs n
     → Wrote (replicate (field - n) 0) (lent n xs) ys (field - n) → Wrote (padded field (taken n (drop at s))) b (back n xs ys) field
 unfolding padded
 wrote-field s at n field p h e v w =
@@ -81,7 +81,8 @@ wrote-issue issue u v = then u v
 -- The whole block.
 module _ (s : List ℕ) (n : Names) (ns : List ℕ) (k issue : ℕ) where
   pub wrote-unsealed : {b p q r t : List ℕ} → length b ≡ 512 → Wrote (frontBytes k ns (n .public) (n .private) (n .server)) b p 16
-      → Wrote (namesBytes (taken (n .public) (drop 1 s)) (taken (n .private) (drop (n .second + 2) s)) (taken (n .server) (drop (n .third + 2) s))) (lent 16 p) q 352
+      → Wrote (namesBytes (taken (n .public) (drop 1 s)) (taken (n .private) (drop (n .second + 2) s)) (taken (n .server) (drop (n .third + 2) s)))
+      (lent 16 p) q 352
       → Wrote (restBytes ns) (lent 368 (back 16 p q)) r 40
       → Wrote (wordBytes issue ++ replicate 100 0) (lent 408 (back 368 (back 16 p q) r)) t 104
       → back 408 (back 368 (back 16 p q) r) t ≡ unsealed issue k (rowTaken s n ns)
@@ -94,7 +95,8 @@ module _ (s : List ℕ) (n : Names) (ns : List ℕ) (k issue : ℕ) where
       (rw (taken-length (n .public) (drop 1 s), taken-length (n .private) (drop (n .second + 2) s), taken-length (n .server) (drop (n .third + 2) s))
       (append-assoc (a ++ c) (restBytes ns) d ∙ append-assoc a c (restBytes ns ++ d))) in
       let all : Wrote (((a ++ c) ++ restBytes ns) ++ d) b (back 408 (back 368 (back 16 p q) r) t) 512 = then (then (then u v) w) x in
-      let e : drop (length (((a ++ c) ++ restBytes ns) ++ d)) b ≡ [] = drop-of-length-le b {i = length (((a ++ c) ++ restBytes ns) ++ d)} (omega (arith, all .count)) in
+      let e : drop (length (((a ++ c) ++ restBytes ns) ++ d)) b ≡ [] =
+      drop-of-length-le b {i = length (((a ++ c) ++ restBytes ns) ++ d)} (omega (arith, all .count)) in
       all .bytes ∙ rw e (append-nil (((a ++ c) ++ restBytes ns) ++ d)) ∙ whole
 
   pub wrote-block : {x y : List ℕ} → x ≡ unsealed issue k (rowTaken s n ns) → y ≡ sealed x → y ≡ blockFrom issue k (rowTaken s n ns)

@@ -1,7 +1,6 @@
 -- Names that can be listed, and how long they are in the list: the turns of the loops.
-use Rattle.octets.specs.Standard.{ℕ, suc, _+_, _*_, _<_, _≤_, Bool, true, false, _&&_, cond, _≡_, refl, sym, _∙_, ap, arith, add-one, eqb, leb, le-leb, eq-eqb, ne-eqb}
+use Rattle.octets.specs.Standard.{ℕ, _+_, _*_, _<_, _≤_, Bool, true, false, _&&_, cond, _≡_, refl, sym, _∙_, arith, add-one, eqb, eq-eqb, ne-eqb}
 use Rattle.octets.specs.Standard.{List, [], _∷_, _++_, append-assoc, length, drop, getD, length-append, drop-cons, drop-of-length-le}
-use Rattle.octets.proofs.All.{and-left, and-right}
 use Rattle.quoting.specs.Quoted.{isListed, listable, listedByte, width, doubled, quoted, quotedSize}
 
 module _ (s : List ℕ) (i : ℕ) where

@@ -1,6 +1,6 @@
 -- Reading a name: the turns of the loop; what was written is read, and what is read is what is written.
-use Rattle.octets.specs.Standard.{ℕ, zero, suc, _+_, _*_, _<_, _≤_, Bool, true, false, _&&_, not, cond, true≢false, _≡_, refl, sym, _∙_, ap, arith, add-one}
-use Rattle.octets.specs.Standard.{eqb, leb, ltb, eqb-true, eqb-false, eq-eqb, ne-eqb, le-leb, leb-true, ltb-true, ltb-false, and-true}
+use Rattle.octets.specs.Standard.{ℕ, suc, _+_, _*_, _<_, _≤_, Bool, true, false, _&&_, not, cond, true≢false, _≡_, refl, sym, _∙_, ap, arith, add-one}
+use Rattle.octets.specs.Standard.{eqb, leb, ltb, eqb-true, eq-eqb, le-leb, leb-true, ltb-true, ltb-false}
 use Rattle.octets.specs.Standard.{List, [], _∷_, _++_, append-assoc, append-nil, length, drop, getD, length-append, drop-cons, drop-of-length-le}
 use Rattle.octets.specs.Standard.{List·getD-eq-default, drop-at, Option, none, some}
 use Rattle.octets.proofs.All.{and-left, and-right}
@@ -120,7 +120,8 @@ module _ (s : List ℕ) (i : ℕ) (h : i < length s) where
             omega (arith, b .place));
         count = omega (arith, b .count, length-append (b .done) (getD s i 0 ∷ []));
         left =
-            b .left ∙ ap (andName (b .done)) (onward (sym ex ∙ fx) (sym ey ∙ t)) ∙ and-more (b .done) (getD s i 0) (nameFrom false (drop (i + width (getD s i 0)) s))
+            b .left ∙ ap (andName (b .done)) (onward (sym ex ∙ fx) (sym ey ∙ t))
+            ∙ and-more (b .done) (getD s i 0) (nameFrom false (drop (i + width (getD s i 0)) s))
             ∙ rw e;
       }
 

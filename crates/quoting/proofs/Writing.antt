@@ -1,11 +1,11 @@
 -- A name written byte by byte, with its quotes around it; its bytes copied back.
-use Rattle.octets.specs.Standard.{ℕ, zero, suc, _+_, _-_, _<_, _≤_, Bool, true, false, cond, _≡_, refl, sym, _∙_, ap, arith, add-one, eqb, eq-eqb}
-use Rattle.octets.specs.Standard.{ne-eqb, List, [], _∷_, _++_, append-assoc, append-nil, length, take, drop, getD, set, replicate, length-append}
-use Rattle.octets.specs.Standard.{length-take, length-drop, drop-cons, drop-drop, drop-of-length-le, getD-drop, midOf, putMid}
-use Rattle.octets.specs.Run.{over, Wrote}
-use Rattle.octets.proofs.Writes.{Going, going-none, going-more, going-end, over-snoc, over-sets, then, lent, back, named}
+use Rattle.octets.specs.Standard.{ℕ, suc, _+_, _-_, _<_, _≤_, _≡_, refl, sym, _∙_, ap, arith, eq-eqb}
+use Rattle.octets.specs.Standard.{ne-eqb, List, [], _∷_, _++_, append-assoc, length, drop, getD, set, length-append}
+use Rattle.octets.specs.Standard.{length-take, length-drop, drop-drop, drop-of-length-le, getD-drop, midOf, putMid}
+use Rattle.octets.specs.Run.{Wrote}
+use Rattle.octets.proofs.Writes.{Going, going-none, going-more, going-end, over-snoc, then, lent, back, named}
 use Rattle.quoting.specs.Quoted.{listedByte, width, doubled, quoted, quotedSize, taken}
-use Rattle.quoting.proofs.Names.{doubled-next, byte-width, quoted-length}
+use Rattle.quoting.proofs.Names.{doubled-next}
 
 -- What is still to be written has room, and so has its first part.
 pub going-room : {b xs all : List ℕ} {n : ℕ} (v rest : List ℕ) → Going b xs n (v ++ rest) all → length all ≤ length b → length xs ≡ length b

@@ -1,7 +1,8 @@
 -- The block that the row of a sound record says is that record, and the row of a block that a row says is that row.
-use Rattle.octets.specs.Standard.{ℕ, zero, suc, _+_, _-_, _*_, _/_, _%_, _^_, _<_, _≤_, Bool, true, false, _&&_, _≡_, refl, sym, _∙_, ap, arith, eqb}
-use Rattle.octets.specs.Standard.{leb, le-leb, ltb, eqb-true, leb-true, ltb-true, List, [], _∷_, _++_, append-assoc, append-nil, length, getD, take, drop, replicate}
-use Rattle.octets.specs.Standard.{length-append, length-replicate, length-take-le, length-drop, replicate-append-replicate, getD-take, List·getD-append, take-at}
+use Rattle.octets.specs.Standard.{ℕ, zero, suc, _+_, _-_, _*_, _/_, _%_, _<_, _≤_, true, _&&_, _≡_, refl, sym, _∙_, ap, arith, eqb}
+use Rattle.octets.specs.Standard.{leb, le-leb, eqb-true, leb-true, List, [], _∷_, _++_, append-assoc, length, getD, take, drop, replicate}
+use Rattle.octets.specs.Standard.{length-append, length-replicate, length-take-le, length-drop, replicate-append-replicate, getD-take, List·getD-append}
+use Rattle.octets.specs.Standard.{take-at}
 use Rattle.octets.specs.Standard.{drop-at, drop-drop, take-all, getD-drop}
 use Rattle.octets.specs.Number.{be16At, be32At}
 use Rattle.octets.proofs.All.{and-left, and-right}
@@ -11,7 +12,7 @@ use Rattle.octets.proofs.Parts.{part-alike}
 use Rattle.octets.proofs.Runs.{zero-at}
 use Rattle.blocks.specs.Sealed.{sealed}
 use Rattle.blocks.proofs.Sealed.{seal-alike, sealed-held, seal-before, sealed-length}
-use Rattle.record.specs.Fields.{publicOf, privateOf, serverOf, publicSize, privateSize, serverSize, bitsOf}
+use Rattle.record.specs.Fields.{publicOf, privateOf, serverOf, publicSize, privateSize, serverSize}
 use Rattle.record.specs.RecordBlock.{recordOf, soundRecord}
 use Rattle.record.specs.declared.header.Header.{Header}
 use Rattle.record.proofs.Tests.{RecordTests, record-says, Limits, limits-say, Zeros, rest-says}
@@ -110,7 +111,8 @@ module _ (b : List ℕ) (k : ℕ) (h : Header) (file : ℕ) (size : length b ≡
       (part-two b 368 40 100 ∙ ap (λ (l : List ℕ). take 40 (drop 368 b) ++ l) (part-two b 408 4 96))))
       ∙ five (take 16 b) (take 352 (drop 16 b)) (take 40 (drop 368 b)) (take 4 (drop 408 b)) (take 96 (drop 412 b)) (replicate 4 0)) in
       let long : length (take 508 b) ≡ 508 = length-take-le 508 b (omega arith) in
-      let full : length (unsealed (h .issue) k (rowOf b)) ≡ 512 = ap length whole ∙ length-append (take 508 b) (replicate 4 0) ∙ omega (arith, length-replicate {A = ℕ} 4 0) in
+      let full : length (unsealed (h .issue) k (rowOf b)) ≡ 512 =
+      ap length whole ∙ length-append (take 508 b) (replicate 4 0) ∙ omega (arith, length-replicate {A = ℕ} 4 0) in
       seal-alike (unsealed (h .issue) k (rowOf b)) b full size
       (λ i l. ap (λ (y : List ℕ). getD y i 0) whole ∙ List·getD-append (take 508 b) (replicate 4 0) 0 i (omega arith) ∙ getD-take 508 b i 0 l)
       ∙ sealed-held b bytes (tests .sum)
@@ -190,11 +192,13 @@ module _ (issue k : ℕ) (r : Row) (fitting : Fitting r) where
 
   private-on : drop 144 raw ≡ privately
   private-on =
-      sym (drop-drop 128 16 raw) ∙ ap (drop 128) public-on ∙ drop-at (padded 128 (r .public)) privately 128 (padded-length 128 (r .public) (fitting .public-size))
+      sym (drop-drop 128 16 raw) ∙ ap (drop 128) public-on
+      ∙ drop-at (padded 128 (r .public)) privately 128 (padded-length 128 (r .public) (fitting .public-size))
 
   server-on : drop 272 raw ≡ served
   server-on =
-      sym (drop-drop 128 144 raw) ∙ ap (drop 128) private-on ∙ drop-at (padded 128 (r .private)) served 128 (padded-length 128 (r .private) (fitting .private-size))
+      sym (drop-drop 128 144 raw) ∙ ap (drop 128) private-on
+      ∙ drop-at (padded 128 (r .private)) served 128 (padded-length 128 (r .private) (fitting .private-size))
 
   rest-on : drop 368 raw ≡ restBytes ns ++ tail
   rest-on =

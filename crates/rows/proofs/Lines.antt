@@ -1,6 +1,7 @@
 -- A row's line: what was written is read, and what is read is what is written.
-use Rattle.octets.specs.Standard.{ℕ, zero, suc, _+_, _^_, _<_, _≤_, Bool, true, false, _&&_, cond, _≡_, refl, sym, _∙_, ap, arith, eqb, leb, eqb-true}
-use Rattle.octets.specs.Standard.{leb-true, le-leb, Option·some-injective, List, [], _∷_, _++_, append-assoc, length, drop, getD, length-append, drop-at, drop-drop, Option, none, some}
+use Rattle.octets.specs.Standard.{ℕ, _+_, _^_, _<_, _≤_, Bool, true, false, _&&_, cond, _≡_, refl, sym, _∙_, ap, arith, eqb, leb, eqb-true}
+use Rattle.octets.specs.Standard.{leb-true, le-leb, Option·some-injective, List, [], _∷_, _++_, append-assoc, length, drop, getD, drop-at, drop-drop, Option}
+use Rattle.octets.specs.Standard.{none, some}
 use Rattle.octets.proofs.All.{and-left, and-right}
 use Rattle.decimals.specs.Decimal.{digitCount, decimal, isDigit, numberIn}
 use Rattle.decimals.proofs.Sizes.{decimal-length}
@@ -107,7 +108,8 @@ numbers-read [] s ns t e = go (endsLine s) refl e
     go : (c : Bool) → endsLine s ≡ c → cond c (some []) none ≡ some ns → ReadNumbers [] s ns
     go false f g = let z : _≡_ {A = ℕ} 0 1 = cc in absurd (omega arith)
     go true f g = let n : ns ≡ [] = cc in rw n (record { within = refl; rest = drop 2 s; whole = end-bytes s f })
-numbers-read (m ∷ ms) s ns t e = one (numberAfter m s) refl e (λ v vs. numbers-read ms (drop (1 + digitCount v) s) vs (and-right (leb m 4294967295) (small ms) t))
+numbers-read (m ∷ ms) s ns t e =
+    one (numberAfter m s) refl e (λ v vs. numbers-read ms (drop (1 + digitCount v) s) vs (and-right (leb m 4294967295) (small ms) t))
   where
     more : (v : ℕ) → numberAfter m s ≡ some v → (o : Option (List ℕ)) → numbersIn ms (drop (1 + digitCount v) s) ≡ o
         → andThen o (λ (vs : List ℕ). some (v ∷ vs)) ≡ some ns
@@ -121,7 +123,8 @@ numbers-read (m ∷ ms) s ns t e = one (numberAfter m s) refl e (λ v vs. number
         rw n (record {
           within = rw (le-leb v m (p .0), and-left (leb m 4294967295) (small ms) t) (q .within);
           rest = q .rest;
-          whole = p .1 ∙ ap (λ (l : List ℕ). 44 ∷ l) (ap (λ (l : List ℕ). decimal v ++ l) (q .whole) ∙ sym (append-assoc (decimal v) (numbersLine vs) (q .rest)));
+          whole = p .1
+              ∙ ap (λ (l : List ℕ). 44 ∷ l) (ap (λ (l : List ℕ). decimal v ++ l) (q .whole) ∙ sym (append-assoc (decimal v) (numbersLine vs) (q .rest)));
         })
 
     one : (o : Option ℕ) → numberAfter m s ≡ o
@@ -231,13 +234,15 @@ written-read s r e = first (nameIn 128 s) refl e
     third a b p1 p2 (some c) p3 g = fourth a b c p1 p2 p3 (numbersIn most (drop (numbersAt a b c) s)) refl g
 
     second : (a : List ℕ) → nameIn 128 s ≡ some a → (o : Option (List ℕ)) → nameAfter 128 (drop (secondAt a) s) ≡ o
-        → andThen o (λ (b : List ℕ). andThen (nameAfter 96 (drop (thirdAt a b) s)) (λ (c : List ℕ). andThen (numbersIn most (drop (numbersAt a b c) s)) (λ (ns : List ℕ).
+        → andThen o
+        (λ (b : List ℕ). andThen (nameAfter 96 (drop (thirdAt a b) s)) (λ (c : List ℕ). andThen (numbersIn most (drop (numbersAt a b c) s)) (λ (ns : List ℕ).
         some (record { public = a; private = b; server = c; numbers = ns })))) ≡ some r → ReadRow s r
     second a p1 none p2 g = let z : _≡_ {A = ℕ} 0 1 = cc in absurd (omega arith)
     second a p1 (some b) p2 g = third a b p1 p2 (nameAfter 96 (drop (thirdAt a b) s)) refl g
 
     first : (o : Option (List ℕ)) → nameIn 128 s ≡ o
-        → andThen o (λ (a : List ℕ). andThen (nameAfter 128 (drop (secondAt a) s)) (λ (b : List ℕ). andThen (nameAfter 96 (drop (thirdAt a b) s)) (λ (c : List ℕ).
+        → andThen o
+        (λ (a : List ℕ). andThen (nameAfter 128 (drop (secondAt a) s)) (λ (b : List ℕ). andThen (nameAfter 96 (drop (thirdAt a b) s)) (λ (c : List ℕ).
         andThen (numbersIn most (drop (numbersAt a b c) s)) (λ (ns : List ℕ). some (record { public = a; private = b; server = c; numbers = ns }))))) ≡ some r
         → ReadRow s r
     first none p1 g = let z : _≡_ {A = ℕ} 0 1 = cc in absurd (omega arith)

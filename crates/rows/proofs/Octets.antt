@@ -1,7 +1,7 @@
 -- The block that a row says is of bytes.
-use Rattle.octets.specs.Standard.{ℕ, zero, suc, _+_, _-_, _*_, _/_, _%_, _<_, _≤_, Bool, true, false, _&&_, _≡_, refl, sym, _∙_, ap, arith, leb, ltb, eqb}
+use Rattle.octets.specs.Standard.{ℕ, zero, suc, _+_, _-_, _/_, _%_, _<_, _≤_, Bool, true, false, _≡_, refl, arith, leb, ltb, eqb}
 use Rattle.octets.specs.Standard.{leb-true, ltb-true, ltb-false, eqb-true, eqb-false, List, [], _∷_, _++_, length, getD, set, take, drop, replicate}
-use Rattle.octets.specs.Standard.{List·getD-append, getD-append-add, getD-set-same, getD-set-other, getD-replicate, List·getD-eq-default, length-replicate, length-set}
+use Rattle.octets.specs.Standard.{getD-set-same, getD-set-other, length-set}
 use mir.Syntax.{w8}
 use mir.Val.{Fits}
 use Rattle.octets.specs.Number.{putBe32}
@@ -14,7 +14,7 @@ use Rattle.quoting.specs.Quoted.{isListed, listable}
 use Rattle.rows.specs.Row.{Row}
 use Rattle.rows.specs.RowIn.{most}
 use Rattle.rows.specs.Block.{padded, halfBytes, wordBytes, wordsBytes, frontBytes, namesBytes, restBytes, unsealed, blockFrom}
-use Rattle.rows.proofs.Lines.{fits, Fitting}
+use Rattle.rows.proofs.Lines.{Fitting}
 use Rattle.rows.proofs.Blocks.{fits-at}
 
 -- a list of bytes
@@ -130,7 +130,8 @@ said-bytes issue k r f = sealed-bytes (unsealed issue k r) whole
 
     names : Octets (namesBytes (r .public) (r .private) (r .server))
     names =
-        append-bytes (padded 128 (r .public)) (padded 128 (r .private) ++ padded 96 (r .server)) (padded-bytes 128 (r .public) (name-bytes (r .public) (f .public)))
+        append-bytes (padded 128 (r .public)) (padded 128 (r .private) ++ padded 96 (r .server))
+        (padded-bytes 128 (r .public) (name-bytes (r .public) (f .public)))
         (append-bytes (padded 128 (r .private)) (padded 96 (r .server)) (padded-bytes 128 (r .private) (name-bytes (r .private) (f .private)))
         (padded-bytes 96 (r .server) (name-bytes (r .server) (f .server))))
 
@@ -145,4 +146,5 @@ said-bytes issue k r f = sealed-bytes (unsealed issue k r) whole
     whole =
         append-bytes (frontBytes k ns (length (r .public)) (length (r .private)) (length (r .server))) _ front
         (append-bytes (namesBytes (r .public) (r .private) (r .server)) (restBytes ns ++ (wordBytes issue ++ replicate 100 0)) names
-        (append-bytes (restBytes ns) (wordBytes issue ++ replicate 100 0) rest (append-bytes (wordBytes issue) (replicate 100 0) (word-bytes issue) (zeros-bytes 100))))
+        (append-bytes (restBytes ns) (wordBytes issue ++ replicate 100 0) rest
+        (append-bytes (wordBytes issue) (replicate 100 0) (word-bytes issue) (zeros-bytes 100))))

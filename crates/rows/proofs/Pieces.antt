@@ -1,8 +1,9 @@
 -- A block in pieces: runs of bytes, of words, names in their fields.
-use Rattle.octets.specs.Standard.{ℕ, zero, suc, _+_, _-_, _*_, _/_, _%_, _^_, _<_, _≤_, Bool, true, false, _≡_, refl, sym, _∙_, ap, arith, add-one, ltb}
-use Rattle.octets.specs.Standard.{ltb-true, ltb-false, List, [], _∷_, _++_, append-assoc, append-nil, length, getD, take, drop, replicate, length-append}
-use Rattle.octets.specs.Standard.{length-take, length-drop, length-take-le, length-replicate, getD-replicate, getD-take, getD-drop, ext-getD, drop-cons, drop-drop}
-use Rattle.octets.specs.Standard.{take-add, take-all, shr-shr, mod-eq-of-lt}
+use Rattle.octets.specs.Standard.{ℕ, zero, suc, _+_, _-_, _*_, _/_, _%_, _<_, _≤_, true, _≡_, refl, sym, _∙_, ap, arith, add-one}
+use Rattle.octets.specs.Standard.{List, [], _∷_, _++_, length, getD, take, drop, replicate, length-append}
+use Rattle.octets.specs.Standard.{length-take, length-drop, length-take-le, length-replicate, getD-replicate, getD-take, getD-drop, ext-getD, drop-cons}
+use Rattle.octets.specs.Standard.{drop-drop}
+use Rattle.octets.specs.Standard.{take-add, shr-shr, mod-eq-of-lt}
 use mir.Syntax.{w8}
 use mir.Val.{Fits}
 use Rattle.octets.specs.Number.{four, be16At, be32At}
@@ -30,7 +31,13 @@ part-zeros s from n h e =
     ext-getD 0 (take n (drop from s)) (replicate n 0) (simp (length-take, length-drop, length-replicate) (omega arith))
     (λ i l.
     let k : i < n = omega (arith, simp length-take at l) in
-    rw (getD-take n (drop from s) i 0 k, getD-drop from s i 0, zero-at s from (from + n) e (from + i) (omega arith) (omega arith), getD-replicate {A = ℕ} n i 0 0 k))
+    rw (
+      getD-take n (drop from s) i 0 k,
+      getD-drop from s i 0,
+      zero-at s from (from + n) e (from + i) (omega arith)
+          (omega arith),
+      getD-replicate {A = ℕ} n i 0 0 k,
+    ))
 
 -- A name in its field.
 pub part-padded : (s : List ℕ) (at m n : ℕ) → m ≤ n → at + n ≤ length s → zeroBetween s (at + m) (at + n) ≡ true

@@ -1,12 +1,13 @@
 -- A line written: a number behind its comma, the numbers one by one, the names, all of it.
-use Rattle.octets.specs.Standard.{ℕ, _+_, _-_, _*_, _/_, _%_, _<_, _≤_, _≡_, refl, sym, _∙_, ap, arith, add-one, List, [], _∷_, _++_, append-assoc, length, drop}
+use Rattle.octets.specs.Standard.{ℕ, _+_, _-_, _*_, _/_, _%_, _<_, _≤_, _≡_, refl, sym, _∙_, ap, arith, add-one, List, [], _∷_, _++_, append-assoc, length}
+use Rattle.octets.specs.Standard.{drop}
 use Rattle.octets.specs.Standard.{append-nil, getD, length-append, length-take, length-drop, drop-cons, drop-of-length-le, midOf, putMid}
 use Rattle.octets.specs.Run.{Wrote}
 use Rattle.octets.proofs.Writes.{Going, going-more, going-end, then, lent, back, named}
 use Rattle.record.specs.Fields.{publicOf, privateOf, serverOf, publicSize, privateSize, serverSize, optionalCount}
-use Rattle.decimals.specs.Decimal.{digitCount, decimal}
+use Rattle.decimals.specs.Decimal.{decimal}
 use Rattle.decimals.proofs.Sizes.{decimal-length, size-few}
-use Rattle.quoting.specs.Quoted.{doubled, quoted, quotedSize}
+use Rattle.quoting.specs.Quoted.{quoted}
 use Rattle.quoting.proofs.Names.{doubled-most, quoted-length}
 use Rattle.quoting.proofs.Writing.{going-room}
 use Rattle.rows.specs.Row.{Row, numbersOf, rowOf, numbersLine, lineOf}
@@ -97,7 +98,8 @@ module _ (b o : List ℕ) where
 
       pub last-within : length (lastNumbers b) ≤ length o → n + 2 ≤ length o
       unfolding lastNumbers
-      last-within h = let k : length (numbersBytes x ++ (13 ∷ 10 ∷ [])) ≤ length o = rw ex h in omega (arith, w .count, length-append (numbersBytes x) (13 ∷ 10 ∷ []))
+      last-within h =
+          let k : length (numbersBytes x ++ (13 ∷ 10 ∷ [])) ≤ length o = rw ex h in omega (arith, w .count, length-append (numbersBytes x) (13 ∷ 10 ∷ []))
 
       pub wrote-last : {ys : List ℕ} → Wrote (13 ∷ 10 ∷ []) (lent n xs) ys 2 → Wrote (lastNumbers b) o (back n xs ys) (n + 2)
       unfolding lastNumbers

@@ -1,4 +1,4 @@
-use Rattle.octets.specs.Standard.{_-_, _<_, _≤_, _≡_, length, needs}
+use Rattle.octets.specs.Standard.{_-_, _<_, _≤_, length, needs}
 use Rattle.quoting.proofs.Reading.{Begun, not-closing, begun-none, begun-closed, begun-more, begun-not, begun-open}
 use Rattle.quoting.proofs.behind_quote.Statement.{statement}
 use Rattle.quoting.proofs.behind_quote.Tie as tie
